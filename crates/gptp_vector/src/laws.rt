@@ -11,11 +11,9 @@ ghost use Rattle.gptp_vector.specs.Vector.{order};
 /// lower than a lower one is lower, and equal vectors compare alike with any third.
 pub fn vector_order_is_total()
     ensures { IsTotalOrder order }
-{
-}
+{}
 
 /// Vectors that compare as equal are the same vector.
 pub fn equal_vectors_are_one()
     ensures { (a b : Vector) → order a b ≡ Equal → a ≡ b }
-{
-}
+{}

@@ -1,0 +1,34 @@
+-- The common header of a message (IEEE 1588-2019, 13.3; IEEE 802.1AS-2020, 10.6.2).
+use Rattle.std.specs.Prelude.{ℕ, ◌/◌, ◌%◌, ◌==◌, List}
+use Rattle.std.specs.Int.{w8, w64, cast_signed}
+use Rattle.gptp_messages.specs.declared.head.Head.{Head}
+use Rattle.gptp_messages.specs.Frame.{octet, field, high_nibble, low_nibble}
+
+abbrev pub major_sdo_id : List ℕ → ℕ
+major_sdo_id f = high_nibble (octet 0 f)
+
+abbrev pub message_type : List ℕ → ℕ
+message_type f = low_nibble (octet 0 f)
+
+abbrev pub version_ptp : List ℕ → ℕ
+version_ptp f = low_nibble (octet 1 f)
+
+abbrev pub message_length : List ℕ → ℕ
+message_length f = field 2 2 f
+
+abbrev pub domain_number : List ℕ → ℕ
+domain_number f = octet 4 f
+
+abbrev pub minor_sdo_id : List ℕ → ℕ
+minor_sdo_id f = octet 5 f
+
+-- The fields of a header. Reserved octets, minorVersionPTP, messageTypeSpecific, controlField and the
+-- flags other than twoStep may hold anything.
+abbrev pub head_of : List ℕ → Head
+head_of f = record {
+  source = record { clock = field 8 20 f; port = field 2 28 f };
+  sequence = field 2 30 f;
+  correction = cast_signed w64 (field 8 8 f);
+  log_interval = cast_signed w8 (octet 33 f);
+  two_step = octet 6 f / 2 % 2 == 1;
+}

@@ -1,0 +1,8 @@
+-- The clockIdentities of a path trace.
+use Rattle.std.specs.Prelude.{ℕ, ◌*◌, ◌/◌, List, map, length}
+use Rattle.std.specs.List.{range_with_len}
+use Rattle.gptp_messages.specs.Frame.{field}
+
+-- the numbers that the octets spell, eight octets for each
+unfoldable pub clocks : List ℕ → List ℕ
+clocks octets = map (λ k. field 8 (8 * k) octets) (range_with_len 0 (length octets / 8))

@@ -1,0 +1,25 @@
+//! The messages of gPTP as octets.
+//!
+//! IEEE 802.1AS-2020 (10.5, 10.6, 11.4) sends the messages of IEEE 1588-2019 (clause 13) in Ethernet
+//! frames. This crate reads Announce, in place and without taking memory: the path trace is lent out
+//! of the frame.
+//!
+//! The grammar is a relation between a whole frame and the fields of a message. [`decode`] answers
+//! with a message exactly where the frame reads as it, and refuses exactly where a test fails, by the
+//! first that does. What a lent path answers are the numbers that stand in the frame.
+#![tactic(auto)]
+
+mod announce;
+mod frame;
+mod head;
+mod message;
+mod message_type;
+mod path;
+mod refused;
+mod tlv;
+
+pub use announce::{AnnounceBody, AnnounceView};
+pub use head::Head;
+pub use message::{Message, decode};
+pub use path::PathView;
+pub use refused::Refused;

@@ -1,0 +1,105 @@
+//! The path trace of an Announce, as it stands in the frame.
+
+ghost use Rattle.std.specs.Prelude.{◌≡◌, ◌↔◌, ℕ, IsTrue, Contains, length, slice_get};
+ghost use Rattle.gptp_messages.specs.Path.{clocks};
+
+use crate::frame::clock_at;
+use gptp_vector::ClockId;
+use std::marker::Model;
+
+/// The pathSequence of an Announce (IEEE 802.1AS-2020, 10.6.3.3.8 and 10.3.9.23), lent out of the
+/// frame: the clocks that the Announce passed, the root first. It is seen as the list of their numbers.
+#[derive(Debug, Drop)]
+pub struct PathView<'a> {
+    octets: &'a [u8],
+}
+
+impl<'a> Model for PathView<'a> {
+    ghost use Rattle.std.specs.Prelude.{◌≡◌, ◌%◌, ℕ, List, length};
+    ghost use Rattle.gptp_messages.specs.Path.{clocks};
+
+    ghost Value = { List ℕ };
+
+    ghost view = { λ p. clocks p.octets.now };
+
+    ghost invariant = { λ p. length p.octets.now % 8 ≡ 0 };
+}
+
+impl<'a> PathView<'a> {
+    ghost use Rattle.std.specs.Prelude.{◌≡◌, ◌%◌, ◌↔◌, IsTrue, Contains, [], length, slice_get};
+    ghost use Rattle.gptp_messages.specs.Path.{clocks};
+
+    /// The path with no clock.
+    #[tactic(auto, unfolding(crate::specs::Path::clocks))]
+    pub(crate) fn empty() -> PathView<'a>
+        ensures { result ≡ [] }
+    {
+        PathView { octets: &[] }
+    }
+
+    /// The clocks that these octets spell, eight for each.
+    pub(crate) fn of_octets(octets: &'a [u8]) -> PathView<'a>
+        requires { length octets.now % 8 ≡ 0 }
+        ensures { result ≡ clocks octets.now }
+    {
+        PathView { octets }
+    }
+
+    /// How many clocks the path has.
+    pub fn len(&self) -> usize
+        ensures { result ≡ length self.now }
+    {
+        count_of(self.octets)
+    }
+
+    /// Whether the path has no clock.
+    pub fn is_empty(&self) -> bool
+        ensures { IsTrue result ↔ (self.now ≡ []) }
+    {
+        count_of(self.octets) == 0
+    }
+
+    /// The clock at a place, counted from 0, or nothing past the end.
+    pub fn get(&self, place: usize) -> Option<ClockId>
+        ensures { result ≡ slice_get self.now place }
+    {
+        clock_of(self.octets, place)
+    }
+
+    /// Whether the path has this clock.
+    pub fn holds(&self, clock: ClockId) -> bool
+        ensures { IsTrue result ↔ Contains self.now clock }
+    {
+        has_clock(self.octets, clock)
+    }
+}
+
+/// How many clocks the octets spell.
+fn count_of(octets: &[u8]) -> usize
+    ensures { result ≡ length (clocks octets.now) }
+{
+    octets.len() / 8
+}
+
+/// The clock at a place, where there is one.
+fn clock_of(octets: &[u8], place: usize) -> Option<ClockId>
+    ensures { result ≡ slice_get (clocks octets.now) place }
+{
+    if place < octets.len() / 8 {
+        Some(clock_at(octets, 8 * place))
+    } else {
+        None
+    }
+}
+
+/// Whether the octets spell this clock somewhere.
+fn has_clock(octets: &[u8], clock: ClockId) -> bool
+    ensures { IsTrue result ↔ Contains (clocks octets.now) clock }
+{
+    for place in 0..octets.len() / 8 {
+        if clock_at(octets, 8 * place) == clock {
+            return true;
+        }
+    }
+    false
+}

@@ -1,0 +1,68 @@
+//! TLVs: typed values of any length behind the fixed part of a message (IEEE 1588-2019, 14.1).
+
+ghost use Rattle.std.specs.Prelude.{◌≡◌, IfOk, IfErr, Some, None, if◌then◌else◌};
+ghost use Rattle.std.specs.Option.{option_copied};
+ghost use Rattle.gptp_messages.specs.Tlv.{is_of_kind, IsFront, HasFront, FirstTlv, HasTlvs, either};
+
+use crate::frame::u16_at;
+use crate::refused::Refused;
+
+/// The TLVs that are looked for. All others are passed over.
+#[derive(Clone, Copy, Debug, PartialEq, Eq)]
+pub(crate) enum TlvKind {
+    /// PATH_TRACE (IEEE 1588-2019, 16.2).
+    PathTrace,
+}
+
+impl TlvKind {
+    /// Whether a TLV of this type is of the kind.
+    fn is_of(self, tlv_type: u16) -> bool
+        ensures { result ≡ is_of_kind self tlv_type }
+    {
+        match self {
+            TlvKind::PathTrace => tlv_type == 8,
+        }
+    }
+}
+
+/// The TLV at the front of the octets: its type, its value, and the octets behind it.
+fn split_tlv(octets: &[u8]) -> Result<(u16, &[u8], &[u8]), Refused>
+    ensures front { IfOk result (λ t. IsFront octets.now t.0 t.1.now t.2.now) }
+    ensures refused { IfErr result (λ e. (e ≡ Refused.Tlv) × (HasFront octets.now → ⊥)) }
+{
+    if octets.len() < 4 {
+        return Err(Refused::Tlv);
+    }
+    let length = usize::from(u16_at(octets, 2));
+    let (_, behind) = octets.split_at(4);
+    if behind.len() < length {
+        return Err(Refused::Tlv);
+    }
+    let (value, rest) = behind.split_at(length);
+    Ok((u16_at(octets, 0), value, rest))
+}
+
+/// The value of the first TLV of a kind. The octets have to be TLVs and nothing else.
+pub(crate) fn first_tlv(octets: &[u8], kind: TlvKind) -> Result<Option<&[u8]>, Refused>
+    ensures found { IfOk result (λ value. FirstTlv kind octets.now (option_copied value)) }
+    ensures refused { IfErr result (λ e. (e ≡ Refused.Tlv) × (HasTlvs octets.now → ⊥)) }
+{
+    let mut found = None;
+    let mut rest = octets;
+    while !rest.is_empty() {
+        let (tlv_type, value, behind) = split_tlv(rest)?;
+        found = first_of(found, kind.is_of(tlv_type), value);
+        rest = behind;
+    }
+    Ok(found)
+}
+
+/// What is found already, or else this value where it is wanted.
+fn first_of<'a>(found: Option<&'a [u8]>, wanted: bool, value: &'a [u8]) -> Option<&'a [u8]>
+    ensures { option_copied result ≡ either (option_copied found.entry) (if wanted then Some value.now else None) }
+{
+    match found {
+        None if wanted => Some(value),
+        known => known,
+    }
+}
