@@ -1,3 +1,4 @@
 pub mod PathLemmas
 pub mod TlvLemmas
 pub mod GrammarLemmas
+pub mod WrittenLemmas

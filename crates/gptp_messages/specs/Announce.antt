@@ -1,12 +1,17 @@
 -- The Announce message (IEEE 1588-2019, 13.5; IEEE 802.1AS-2020, 10.6.3).
-use Rattle.std.specs.Prelude.{◌≡◌, ℕ, ◌%◌, List, [], length, Option, Some, None, slice_range}
-use Rattle.std.specs.Int.{w16, cast_signed}
+use Rattle.std.specs.Prelude.{◌≡◌, ℕ, ◌+◌, ◌*◌, ◌%◌, ◌^◌, ◌<◌, ◌≤◌, List, [], ◌∷◌, ◌++◌, length, Option, Some, None, slice_range, FitsSigned}
+use Rattle.std.specs.List.{AllByRecursion}
+use Rattle.std.specs.Int.{w16, cast_signed, cast_unsigned}
+use Rattle.byteorder.specs.Endian.{big_bytes}
 use Rattle.gptp_messages.specs.declared.announce.AnnounceBody.{AnnounceBody}
+use Rattle.gptp_messages.specs.declared.announce.AnnounceView.{AnnounceView}
+use Rattle.gptp_messages.specs.declared.head.Head.{Head}
+use Rattle.gptp_messages.specs.declared.message_type.MessageType.TheVariants.{Announce}
 use Rattle.gptp_messages.specs.declared.tlv.TlvKind.TheVariants.{PathTrace}
 use Rattle.gptp_messages.specs.Frame.{octet, field}
-use Rattle.gptp_messages.specs.Head.{message_length}
-use Rattle.gptp_messages.specs.Path.{clocks}
-use Rattle.gptp_messages.specs.Tlv.{FirstTlv}
+use Rattle.gptp_messages.specs.Head.{message_length, written_head, HeadFits}
+use Rattle.gptp_messages.specs.Path.{clocks, path_octets}
+use Rattle.gptp_messages.specs.Tlv.{FirstTlv, Tlv, spelled}
 
 -- the fields between the header and the TLVs
 abbrev pub announce_body_of : List ℕ → AnnounceBody
@@ -31,3 +36,40 @@ pub record ReadsPath (octets path : List ℕ) : Type 0 where
   pub value : Option (List ℕ)
   pub first : FirstTlv PathTrace octets value
   pub is : IsPath value path
+
+-- the 30 octets between the header and the TLVs as they are written: the fields in their places, and 0
+-- in every other octet
+abbrev pub written_body : AnnounceBody → List ℕ
+written_body b =
+    (0 ∷ 0 ∷ 0 ∷ 0 ∷ 0 ∷ 0 ∷ 0 ∷ 0 ∷ 0 ∷ 0 ∷ big_bytes 2 (cast_unsigned w16 b.utc_offset))
+    ++ (0 ∷ big_bytes 14 b.root)
+    ++ (big_bytes 2 b.steps ++ b.time_source ∷ [])
+
+-- the path trace TLV of a path, also of the empty one
+abbrev pub path_trace : List ℕ → Tlv
+path_trace path = record { tlv_type = 8; value = path_octets path }
+
+-- all of an Announce but the clocks of its path, of which there are n
+abbrev pub announce_front : Head → AnnounceBody → ℕ → List ℕ
+announce_front head body n = (written_head Announce (68 + 8 * n) head ++ written_body body) ++ (big_bytes 2 8 ++ big_bytes 2 (8 * n))
+
+-- The one spelling of an Announce: header, fixed part and path trace.
+abbrev pub written_announce : Head → AnnounceBody → List ℕ → List ℕ
+written_announce head body path = (written_head Announce (68 + 8 * length path) head ++ written_body body) ++ spelled (path_trace path)
+
+-- each field of a body fits its octets
+pub record BodyFits (b : AnnounceBody) : Type 0 where
+  pub utc_offset : FitsSigned w16 b.utc_offset
+  pub root : b.root < 2 ^ 112
+  pub steps : b.steps < 2 ^ 16
+  pub time_source : b.time_source < 2 ^ 8
+
+-- clocks of eight octets, and no more of them than a trace holds
+pub record PathFits (path : List ℕ) : Type 0 where
+  pub clocks : AllByRecursion (λ c. c < 2 ^ 64) path
+  pub room : length path ≤ 256
+
+pub record AnnounceFits (a : AnnounceView) : Type 0 where
+  pub head : HeadFits a.head
+  pub body : BodyFits a.body
+  pub path : PathFits a.path

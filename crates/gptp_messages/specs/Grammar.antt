@@ -1,5 +1,5 @@
 -- Which frame reads as which message, and how every other frame is refused.
-use Rattle.std.specs.Prelude.{◌≡◌, ◌≤◌, ◌⊎◌, ℕ, ◌==◌, Bool, nat_lt, not, ◌&&◌, if◌then◌else◌, List, [], ◌∷◌, length, Option, Some, None, is_none}
+use Rattle.std.specs.Prelude.{◌≡◌, ◌≤◌, ◌⊎◌, ℕ, ◌==◌, Bool, nat_lt, not, ◌&&◌, if◌then◌else◌, List, [], ◌∷◌, length, Option, Some, None, is_none, ◌++◌}
 use Rattle.std.specs.Option.{option_map_or}
 use Rattle.gptp_messages.specs.declared.announce.AnnounceView.{AnnounceView}
 use Rattle.gptp_messages.specs.declared.message.Message.{Message}
@@ -10,7 +10,7 @@ use Rattle.gptp_messages.specs.declared.refused.Refused.{Refused}
 use Rattle.gptp_messages.specs.declared.refused.Refused.TheVariants as refusals
 use Rattle.gptp_messages.specs.Head.{head_of, major_sdo_id, message_type, version_ptp, message_length, domain_number, minor_sdo_id}
 use Rattle.gptp_messages.specs.MessageType.{type_of, least_length}
-use Rattle.gptp_messages.specs.Announce.{announce_body_of, announce_tlvs, ReadsPath}
+use Rattle.gptp_messages.specs.Announce.{announce_body_of, announce_tlvs, ReadsPath, written_announce, AnnounceFits}
 
 -- What is tested of a header, in this order: when a test fails, and how the frame is refused then
 -- (IEEE 802.1AS-2020, 10.6.2 and 11.4.2; the order is this project's choice).
@@ -62,3 +62,21 @@ pub record RefusesTlvs (f : List ℕ) (e : Refused) : Type 0 where
 -- a frame is refused by the first test that it fails
 abbrev pub Refuses : List ℕ → Refused → Type 0
 Refuses f e = (header_fault f ≡ Some e) ⊎ RefusesTlvs f e
+
+-- the one spelling of a message
+abbrev pub Written : Message → List ℕ
+Written (messages.Announce a) = written_announce a.head a.body a.path
+
+-- the path of an Announce has no more clocks than a trace holds
+abbrev pub PathHasRoom : Message → Type 0
+PathHasRoom (messages.Announce a) = length a.path ≤ 256
+
+-- a message whose fields fit their octets
+abbrev pub MessageFits : Message → Type 0
+MessageFits (messages.Announce a) = AnnounceFits a
+
+-- What is written reads as it was, whatever octets follow, and as nothing else.
+pub record ReadsBack (m : Message) (rest : List ℕ) : Type 0 where
+  pub same : Reads (Written m ++ rest) m
+  pub only : (n : Message) → Reads (Written m ++ rest) n → n ≡ m
+  pub never_refused : (e : Refused) → Refuses (Written m ++ rest) e → ⊥

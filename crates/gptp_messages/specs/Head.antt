@@ -1,7 +1,10 @@
 -- The common header of a message (IEEE 1588-2019, 13.3; IEEE 802.1AS-2020, 10.6.2).
-use Rattle.std.specs.Prelude.{ℕ, ◌/◌, ◌%◌, ◌==◌, List}
-use Rattle.std.specs.Int.{w8, w64, cast_signed}
+use Rattle.std.specs.Prelude.{ℕ, ◌+◌, ◌/◌, ◌%◌, ◌^◌, ◌<◌, ◌==◌, if◌then◌else◌, List, [], ◌∷◌, ◌++◌, FitsSigned}
+use Rattle.std.specs.Int.{w8, w64, cast_signed, cast_unsigned}
+use Rattle.byteorder.specs.Endian.{big_bytes}
 use Rattle.gptp_messages.specs.declared.head.Head.{Head}
+use Rattle.gptp_messages.specs.declared.message_type.MessageType.{MessageType}
+use Rattle.gptp_messages.specs.MessageType.{number_of}
 use Rattle.gptp_messages.specs.Frame.{octet, field, high_nibble, low_nibble}
 
 abbrev pub major_sdo_id : List ℕ → ℕ
@@ -32,3 +35,21 @@ head_of f = record {
   log_interval = cast_signed w8 (octet 33 f);
   two_step = octet 6 f / 2 % 2 == 1;
 }
+
+-- The 34 octets of a header as they are written: the fields in their places, majorSdoId 1, version 2.1,
+-- the flag ptpTimescale, and 0 in every other octet.
+abbrev pub written_head : MessageType → ℕ → Head → List ℕ
+written_head kind length h =
+    (0x10 + number_of kind) ∷ 0x12 ∷ big_bytes 2 length
+    ++ (0 ∷ 0 ∷ (if h.two_step then 2 else 0) ∷ 8 ∷ big_bytes 8 (cast_unsigned w64 h.correction))
+    ++ (0 ∷ 0 ∷ 0 ∷ 0 ∷ big_bytes 8 h.source.clock)
+    ++ (big_bytes 2 h.source.port ++ big_bytes 2 h.sequence)
+    ++ (0 ∷ cast_unsigned w8 h.log_interval ∷ [])
+
+-- each field of a header fits its octets
+pub record HeadFits (h : Head) : Type 0 where
+  pub clock : h.source.clock < 2 ^ 64
+  pub port : h.source.port < 2 ^ 16
+  pub sequence : h.sequence < 2 ^ 16
+  pub correction : FitsSigned w64 h.correction
+  pub log_interval : FitsSigned w8 h.log_interval

@@ -10,3 +10,7 @@ type_of n = if n == 0xB then Some Announce else None
 -- the least messageLength: the header and the fixed part behind it
 abbrev pub least_length : MessageType → ℕ
 least_length Announce = 64
+
+-- the messageType of a message
+abbrev pub number_of : MessageType → ℕ
+number_of Announce = 0xB

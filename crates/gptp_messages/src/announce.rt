@@ -1,14 +1,19 @@
 //! The Announce message.
 
-ghost use Rattle.std.specs.Prelude.{◌≡◌, ◌≤◌, ℕ, List, length, IfOk, IfErr};
+ghost use Rattle.std.specs.Prelude.{◌≡◌, ◌+◌, ◌*◌, ◌≤◌, ◌++◌, ℕ, List, length, vec_len, vec_capacity, IfOk, IfErr, OnOk, OnErr};
+ghost use Rattle.gptp_messages.specs.Announce.{announce_front, written_announce};
 ghost use Rattle.gptp_messages.specs.Head.{message_length};
+ghost use Rattle.gptp_messages.specs.Path.{path_octets};
 
-use crate::frame::{identity_at, u16_at};
+use crate::frame::{identity_at, put, u16_at};
 use crate::head::Head;
+use crate::message_type::MessageType;
 use crate::path::PathView;
 use crate::refused::Refused;
 use crate::tlv::{TlvKind, first_tlv};
-use gptp_vector::Identity;
+use byteorder::{BigEndian, ByteOrder};
+use gptp_vector::{ClockId, Identity, Trace};
+use std::alloc::AllocError;
 
 /// What an Announce says of the grandmaster and the way to it (IEEE 1588-2019, 13.5; IEEE
 /// 802.1AS-2020, 10.6.3).
@@ -40,7 +45,7 @@ pub struct AnnounceView<'a> {
 const FIXED_LENGTH: usize = 64;
 
 impl AnnounceBody {
-    ghost use Rattle.gptp_messages.specs.Announce.{announce_body_of};
+    ghost use Rattle.gptp_messages.specs.Announce.{announce_body_of, written_body};
 
     /// The fixed part behind the header of a frame.
     fn read(frame: &[u8]) -> AnnounceBody
@@ -53,6 +58,18 @@ impl AnnounceBody {
             steps: u16_at(frame, 61),
             time_source: frame[63],
         }
+    }
+
+    /// The octets of the fixed part.
+    fn octets(&self) -> [u8; 30]
+        ensures { result ≡ written_body self.now }
+    {
+        let mut octets = [0; 30];
+        BigEndian::write_i16(&mut octets[10..], self.utc_offset);
+        octets[13..27].copy_from_slice(&self.root.octets());
+        BigEndian::write_u16(&mut octets[27..], self.steps);
+        octets[29] = self.time_source;
+        octets
     }
 }
 
@@ -92,5 +109,58 @@ impl<'a> AnnounceView<'a> {
             body: AnnounceBody::read(frame),
             path: PathView::read(&frame[FIXED_LENGTH..length])?,
         })
+    }
+}
+
+/// Makes room for an Announce, and appends all of it but the clocks of its path, of which there are
+/// `count`. Without memory nothing is appended.
+fn put_front(head: &Head, body: &AnnounceBody, count: usize, out: &mut Vec<u8>) -> Result<(), AllocError>
+    requires { count ≤ 256 }
+    ensures ok { OnOk result (out.new.items ≡ out.old.items ++ announce_front head.now body.now count) }
+    ensures room { OnOk result (vec_len out.new + 8 * count ≤ vec_capacity out.new) }
+    ensures err { OnErr result (out.new.items ≡ out.old.items) }
+{
+    let length = 8 * count as u16;
+    out.reserve(68 + usize::from(length))?;
+    put(out, &head.octets(MessageType::Announce, 68 + length));
+    put(out, &body.octets());
+    put(out, &8u16.to_be_bytes());
+    put(out, &length.to_be_bytes());
+    Ok(())
+}
+
+/// Appends one Announce with a path trace, as the one spelling that its fields have (IEEE 1588-2019,
+/// 13.3, 13.5 and 16.2). Refused for want of memory alone, and nothing is appended then.
+pub fn encode_announce(head: &Head, body: &AnnounceBody, path: &Trace, out: &mut Vec<u8>) -> Result<(), AllocError>
+    ensures ok { OnOk result (out.new.items ≡ out.old.items ++ written_announce head.now body.now path.now) }
+    ensures err { OnErr result (out.new.items ≡ out.old.items) }
+{
+    put_front(head, body, path.len(), out)?;
+    put_clocks(path.as_slice(), out);
+    Ok(())
+}
+
+/// Appends the clocks of a path, for which there is room.
+fn put_clocks(clocks: &[ClockId], out: &mut Vec<u8>)
+    requires { vec_len out.old + 8 * length clocks.now ≤ vec_capacity out.old }
+    ensures { out.new.items ≡ out.old.items ++ path_octets clocks.now }
+{
+    for clock in clocks {
+        put(out, &clock.octets());
+    }
+}
+
+impl AnnounceView<'_> {
+    ghost use Rattle.gptp_messages.specs.Announce.{written_announce};
+
+    /// Appends the Announce in its one spelling.
+    pub(crate) fn encode(&self, out: &mut Vec<u8>) -> Result<(), AllocError>
+        requires { length self.now.path ≤ 256 }
+        ensures ok { OnOk result (out.new.items ≡ out.old.items ++ written_announce self.now.head self.now.body self.now.path) }
+        ensures err { OnErr result (out.new.items ≡ out.old.items) }
+    {
+        put_front(&self.head, &self.body, self.path.len(), out)?;
+        put(out, self.path.octets());
+        Ok(())
     }
 }

@@ -1,6 +1,6 @@
 //! Numbers in a frame: unsigned and most significant octet first.
 
-ghost use Rattle.std.specs.Prelude.{◌≡◌, ◌+◌, ◌≤◌, length};
+ghost use Rattle.std.specs.Prelude.{◌≡◌, ◌+◌, ◌≤◌, ◌++◌, length, vec_len, vec_capacity};
 ghost use Rattle.gptp_messages.specs.Frame.{field};
 
 use byteorder::{BigEndian, ByteOrder};
@@ -53,4 +53,14 @@ pub(crate) fn identity_at(frame: &[u8], at: usize) -> Identity
     let mut octets = [0; 14];
     octets.copy_from_slice(&frame[at..at + 14]);
     Identity::of_octets(octets)
+}
+
+/// Appends octets for which there is room.
+pub(crate) fn put(out: &mut Vec<u8>, octets: &[u8])
+    requires { vec_len out.old + length octets.now ≤ vec_capacity out.old }
+    ensures items { out.new.items ≡ out.old.items ++ octets.now }
+    ensures len { vec_len out.new ≡ vec_len out.old + length octets.now }
+    ensures capacity { vec_capacity out.old ≤ vec_capacity out.new }
+{
+    let _ = out.extend_from_slice(octets);
 }

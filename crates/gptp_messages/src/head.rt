@@ -3,6 +3,8 @@
 ghost use Rattle.std.specs.Prelude.{◌≡◌, ◌≤◌, length};
 
 use crate::frame::{port_at, u16_at, u64_at};
+use crate::message_type::MessageType;
+use byteorder::{BigEndian, ByteOrder};
 use gptp_vector::PortId;
 
 /// What the common header of a message says (IEEE 1588-2019, 13.3; IEEE 802.1AS-2020, 10.6.2 and
@@ -25,7 +27,7 @@ pub struct Head {
 pub(crate) const HEADER_LENGTH: usize = 34;
 
 impl Head {
-    ghost use Rattle.gptp_messages.specs.Head.{head_of};
+    ghost use Rattle.gptp_messages.specs.Head.{head_of, written_head};
     ghost use Rattle.gptp_messages.specs.declared.head.TheConstants.{HEADER_LENGTH};
 
     /// The header at the front of a frame.
@@ -40,5 +42,25 @@ impl Head {
             log_interval: frame[33].cast_signed(),
             two_step: frame[6] / 2 % 2 == 1,
         }
+    }
+
+    /// The octets of the header of a message of this type and length.
+    pub(crate) fn octets(&self, message_type: MessageType, length: u16) -> [u8; HEADER_LENGTH]
+        ensures { result ≡ written_head message_type length self.now }
+    {
+        let mut octets = [0; HEADER_LENGTH];
+        octets[0] = 0x10 + message_type as u8;
+        octets[1] = 0x12;
+        BigEndian::write_u16(&mut octets[2..], length);
+        if self.two_step {
+            octets[6] = 0x02;
+        }
+        octets[7] = 0x08;
+        BigEndian::write_i64(&mut octets[8..], self.correction);
+        octets[20..28].copy_from_slice(&self.source.clock.octets());
+        BigEndian::write_u16(&mut octets[28..], self.source.port);
+        BigEndian::write_u16(&mut octets[30..], self.sequence);
+        octets[33] = self.log_interval.cast_unsigned();
+        octets
     }
 }

@@ -12,14 +12,16 @@
 mod announce;
 mod frame;
 mod head;
+mod laws;
 mod message;
 mod message_type;
 mod path;
 mod refused;
 mod tlv;
 
-pub use announce::{AnnounceBody, AnnounceView};
+pub use announce::{AnnounceBody, AnnounceView, encode_announce};
 pub use head::Head;
-pub use message::{Message, decode};
+pub use laws::what_is_written_reads_back;
+pub use message::{Message, decode, encode};
 pub use path::PathView;
 pub use refused::Refused;

@@ -1,13 +1,14 @@
 //! Reading a frame.
 
-ghost use Rattle.std.specs.Prelude.{◌≡◌, IfOk, IfErr, MatchResult, Ok, Err, Some};
-ghost use Rattle.gptp_messages.specs.Grammar.{Reads, Refuses, PassesHeader, header_fault};
+ghost use Rattle.std.specs.Prelude.{◌≡◌, ◌++◌, IfOk, IfErr, OnOk, OnErr, MatchResult, Ok, Err, Some};
+ghost use Rattle.gptp_messages.specs.Grammar.{Reads, Refuses, PassesHeader, Written, PathHasRoom, header_fault};
 
 use crate::announce::AnnounceView;
 use crate::frame::u16_at;
 use crate::head::HEADER_LENGTH;
 use crate::message_type::MessageType;
 use crate::refused::Refused;
+use std::alloc::AllocError;
 
 /// A message as it stands in a frame.
 #[derive(Debug, Drop)]
@@ -61,5 +62,19 @@ pub fn decode(frame: &[u8]) -> Result<Message<'_>, Refused>
 {
     match check_header(frame)? {
         MessageType::Announce => Ok(Message::Announce(AnnounceView::read(frame)?)),
+    }
+}
+
+/// Appends one message in the one spelling that its fields have. A path has to fit a [`Trace`]. Refused
+/// for want of memory alone, and nothing is appended then.
+///
+/// [`Trace`]: gptp_vector::Trace
+pub fn encode(message: &Message<'_>, out: &mut Vec<u8>) -> Result<(), AllocError>
+    requires { PathHasRoom message.now }
+    ensures ok { OnOk result (out.new.items ≡ out.old.items ++ Written message.now) }
+    ensures err { OnErr result (out.new.items ≡ out.old.items) }
+{
+    match message {
+        Message::Announce(announce) => announce.encode(out),
     }
 }

@@ -1,10 +1,11 @@
 //! The path trace of an Announce, as it stands in the frame.
 
-ghost use Rattle.std.specs.Prelude.{◌≡◌, ◌↔◌, ℕ, IsTrue, Contains, length, slice_get};
-ghost use Rattle.gptp_messages.specs.Path.{clocks};
+ghost use Rattle.std.specs.Prelude.{◌≡◌, ◌+◌, ◌/◌, ◌%◌, ◌≤◌, ◌↔◌, ◌++◌, IsTrue, Contains, length, slice_get};
+ghost use Rattle.gptp_vector.specs.declared.trace.TheConstants.{TRACE_CAPACITY};
+ghost use Rattle.gptp_messages.specs.Path.{clocks, path_octets};
 
 use crate::frame::clock_at;
-use gptp_vector::ClockId;
+use gptp_vector::{ClockId, Full, TRACE_CAPACITY, Trace};
 use std::marker::Model;
 
 /// The pathSequence of an Announce (IEEE 802.1AS-2020, 10.6.3.3.8 and 10.3.9.23), lent out of the
@@ -27,7 +28,10 @@ impl<'a> Model for PathView<'a> {
 
 impl<'a> PathView<'a> {
     ghost use Rattle.std.specs.Prelude.{◌≡◌, ◌%◌, ◌↔◌, IsTrue, Contains, [], length, slice_get};
-    ghost use Rattle.gptp_messages.specs.Path.{clocks};
+    ghost use Rattle.std.specs.Prelude.{◌≤◌, IsOk, IfErr, OnOk, OnErr};
+    ghost use Rattle.gptp_vector.specs.declared.trace.TheConstants.{TRACE_CAPACITY};
+    ghost use Rattle.gptp_vector.specs.Trace.{clock_of as clock_inside};
+    ghost use Rattle.gptp_messages.specs.Path.{clocks, path_octets};
 
     /// The path with no clock.
     #[tactic(auto, unfolding(crate::specs::Path::clocks))]
@@ -43,6 +47,29 @@ impl<'a> PathView<'a> {
         ensures { result ≡ clocks octets.now }
     {
         PathView { octets }
+    }
+
+    /// The octets that spell the path, eight for each clock.
+    pub(crate) fn octets(&self) -> &'a [u8]
+        ensures { result.now ≡ path_octets self.now }
+    {
+        as_spelled(self.octets)
+    }
+
+    /// Puts the path in place of a trace. A path of more than 256 clocks is [`Full`], with the first
+    /// clock that finds no room inside, and leaves the trace as it was.
+    pub fn copy_to(&self, trace: &mut Trace) -> Result<(), Full>
+        ensures ok { OnOk result (trace.new ≡ self.now) }
+        ensures room { IsOk result ↔ (length self.now ≤ TRACE_CAPACITY) }
+        ensures full { IfErr result (λ e. slice_get self.now TRACE_CAPACITY ≡ Some (clock_inside e)) }
+        ensures err { OnErr result (trace.new ≡ trace.old) }
+    {
+        if let Some(clock) = clock_of(self.octets, TRACE_CAPACITY) {
+            return Err(Full::Full(clock));
+        }
+        trace.clear();
+        append_clocks(self.octets, trace);
+        Ok(())
     }
 
     /// How many clocks the path has.
@@ -102,4 +129,22 @@ fn has_clock(octets: &[u8], clock: ClockId) -> bool
         }
     }
     false
+}
+
+/// The same octets, as the spelling of their clocks.
+fn as_spelled(octets: &[u8]) -> &[u8]
+    requires { length octets.now % 8 ≡ 0 }
+    ensures { result.now ≡ path_octets (clocks octets.now) }
+{
+    octets
+}
+
+/// Adds the clocks at the end of a trace that has room for them.
+fn append_clocks(octets: &[u8], trace: &mut Trace)
+    requires { length trace.old + length octets.now / 8 ≤ TRACE_CAPACITY }
+    ensures { trace.new ≡ trace.old ++ clocks octets.now }
+{
+    for place in 0..octets.len() / 8 {
+        trace.append(clock_at(octets, 8 * place)).unwrap();
+    }
 }

@@ -1,2 +1,3 @@
 pub mod Identity
 pub mod Vector
+pub mod Trace

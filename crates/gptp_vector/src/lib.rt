@@ -12,9 +12,11 @@
 mod identity;
 mod laws;
 mod port;
+mod trace;
 mod vector;
 
 pub use identity::Identity;
 pub use laws::{equal_vectors_are_one, vector_order_is_total};
 pub use port::{ClockId, PortId};
+pub use trace::{Full, TRACE_CAPACITY, Trace};
 pub use vector::Vector;
