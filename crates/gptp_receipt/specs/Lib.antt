@@ -1,0 +1,2 @@
+pub mod Qualification
+pub mod Held
