@@ -1,10 +1,9 @@
 -- What a port holds, and what hearing and time do to it (profile, for IEEE 802.1AS-2020, 10.3.10 to 10.3.12).
 use Rattle.std.specs.Prelude.{◌≡◌, ◌≢◌, ℕ, ◌+◌, ◌<◌, ◌≤◌, ◌==◌, ◌&&◌, Bool, false, nat_le, if◌then◌else◌, List, length, Contains, Option, Some, None}
 use Rattle.std.specs.Option.{ForSome, option_map_or}
-use Rattle.std.specs.Ordering.{is_lt}
 use Rattle.gptp_vector.specs.declared.port.PortId.{PortId}
 use Rattle.gptp_vector.specs.declared.vector.Vector.{Vector}
-use Rattle.gptp_vector.specs.Vector.{order, master_of}
+use Rattle.gptp_vector.specs.Vector.{lower, master_of}
 use Rattle.gptp_messages.specs.declared.announce.AnnounceView.{AnnounceView}
 use Rattle.gptp_receipt.specs.declared.held.Held.{Held}
 use Rattle.gptp_receipt.specs.declared.held.Held.TheVariants.{Disabled, Aged, Mine, Received}
@@ -35,10 +34,6 @@ message_vector a port = record { root = a.body.root; steps = a.body.steps; sourc
 -- what a port receives by an Announce
 abbrev pub reception : AnnounceView → PortId → ℕ → Reception
 reception a own now = record { vector = message_vector a own.port; path = a.path; at = now }
-
--- a vector is lower, and so better, than another
-abbrev pub lower : Vector → Vector → Bool
-lower v w = is_lt (order v w)
 
 -- two vectors have the same source port
 abbrev pub same_source : Vector → Vector → Bool

@@ -3,7 +3,8 @@
 ghost use Rattle.std.specs.Prelude.{◌≡◌, ◌≢◌, ◌+◌, ◌^◌, ◌<◌, ◌≤◌, length};
 ghost use Rattle.std.specs.Option.{option_map, ForSome};
 ghost use Rattle.gptp_vector.specs.declared.port.PortId.{PortId};
-ghost use Rattle.gptp_receipt.specs.Held.{aged, comparison, comparison_of, held_after, is_due, lower, message_vector, received, reception, superior_if, HoldsFor};
+ghost use Rattle.gptp_vector.specs.Vector.{lower};
+ghost use Rattle.gptp_receipt.specs.Held.{aged, comparison, comparison_of, held_after, is_due, message_vector, received, reception, superior_if, HoldsFor};
 ghost use Rattle.gptp_receipt.specs.Qualification.{Qualified};
 
 use gptp_messages::{AnnounceView, PathView};

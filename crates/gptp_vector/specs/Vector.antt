@@ -1,8 +1,8 @@
 -- Priority vectors as lists of numbers, and what they become (IEEE 802.1AS-2020, 10.3.4 and 10.3.5).
-use Rattle.std.specs.Prelude.{ℕ, ◌+◌, ◌%◌, ◌^◌, List, [], ◌∷◌}
+use Rattle.std.specs.Prelude.{ℕ, Bool, ◌+◌, ◌%◌, ◌^◌, List, [], ◌∷◌}
 use Rattle.std.specs.declared.cmp.Ordering.{Ordering}
 use Rattle.std.specs.Cmp.Lexicographic.{slice_cmp}
-use Rattle.std.specs.Ordering.{nat_cmp}
+use Rattle.std.specs.Ordering.{nat_cmp, is_lt}
 use Rattle.gptp_vector.specs.declared.vector.Vector.{Vector}
 
 -- what a vector is compared by, the weightiest first: root, steps, source clock, source port and receiving port
@@ -12,6 +12,10 @@ parts v = v.root ∷ v.steps ∷ v.source.clock ∷ v.source.port ∷ v.receiver
 -- the first part in which two vectors differ decides, and the lower number is the better
 abbrev pub order : Vector → Vector → Ordering
 order a b = slice_cmp nat_cmp (parts a) (parts b)
+
+-- a vector goes before another: it is the better one
+abbrev pub lower : Vector → Vector → Bool
+lower a b = is_lt (order a b)
 
 -- the path vector: one step more
 abbrev pub path_of : Vector → Vector
