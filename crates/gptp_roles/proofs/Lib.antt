@@ -1,0 +1,3 @@
+pub mod ChoiceLemmas
+pub mod RoleLemmas
+pub mod RestLemmas

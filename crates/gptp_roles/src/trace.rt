@@ -1,0 +1,45 @@
+//! The path trace that a system announces.
+
+ghost use Rattle.std.specs.Prelude.{◌≡◌, ◌≤◌, Some};
+ghost use Rattle.gptp_receipt.specs.Held.{received};
+ghost use Rattle.gptp_roles.specs.SystemTrace.{SlaveReceived, path_received, slave_path, system_trace};
+
+use crate::selection::Selected;
+use gptp_receipt::Held;
+use gptp_vector::{ClockId, Trace};
+
+/// The trace of the system with this clock: the path of the Slave port with the own clock behind it, or
+/// the own clock alone (IEEE 802.1AS-2020, 10.3.9.23). The Slave port, if any, has to be one that
+/// received, with a path of at most 255 clocks.
+pub fn trace_of(clock: ClockId, held: &[Held], selected: &Selected) -> Trace
+    requires { SlaveReceived held.now selected.now.slave }
+    ensures { result ≡ system_trace clock held.now selected.now.slave }
+{
+    let mut trace = match selected.slave {
+        Some(port) => path_at(held, port),
+        None => Trace::empty(),
+    };
+    trace.append(clock).unwrap();
+    trace
+}
+
+/// The path that the port with this number received.
+fn path_at(held: &[Held], port: u8) -> Trace
+    requires { 1 ≤ port }
+    ensures { result ≡ slave_path held.now (Some port) }
+{
+    match held.get(usize::from(port) - 1) {
+        Some(one) => path_of(one),
+        None => Trace::empty(),
+    }
+}
+
+/// The path of what a port received.
+fn path_of(held: &Held) -> Trace
+    ensures { result ≡ path_received (received held.now) }
+{
+    match held {
+        Held::Received { path, .. } => path.copy(),
+        _ => Trace::empty(),
+    }
+}
