@@ -1,0 +1,4 @@
+pub mod ProductLemmas
+pub mod FloorLemmas
+pub mod RateLemmas
+pub mod MachineLemmas

@@ -1,0 +1,1 @@
+//! What follows from the definitions alone: each function does nothing, and its contract is the law.
