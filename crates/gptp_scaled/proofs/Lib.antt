@@ -1,4 +1,5 @@
 pub mod ProductLemmas
 pub mod FloorLemmas
 pub mod RateLemmas
+pub mod LawProofs
 pub mod MachineLemmas

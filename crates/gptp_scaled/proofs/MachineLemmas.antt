@@ -1,27 +1,17 @@
 use Rattle.std.proofs.Common.{◌≡◌, ℕ, ◌*◌, ◌+◌, ◌^◌, ◌≤◌, ℤ, pos, negsuc, neg_ℤ, ◌+ℤ◌, ◌-ℤ◌, ◌*ℤ◌, ◌≤ℤ◌, ◌<ℤ◌, unsigned_abs, FitsSigned, to_z, of_z, ap, ◌∙◌, refl, arith}
 use Rattle.std.specs.Int.{Width, w32, w128, int_div_euclid}
-use Rattle.std.proofs.lemmas.Int.{ints, clamps, to_z-of_z, unsigned_abs-mul}
-use Rattle.std.proofs.lemmas.Nat.{mul-le}
+use Rattle.std.proofs.lemmas.Int.{ints, clamps, to_z-of_z}
 use Rattle.std.proofs.Math.Nat.{div-le_self}
 use Rattle.gptp_scaled.specs.Floor.{floor_div}
 use Rattle.gptp_scaled.specs.Rate.{FitsRate, unit, clamped, scaled_by, unscaled_by, neighbor_rate_of}
 use Rattle.gptp_scaled.specs.ScaledNs.{FitsScaled}
+use Rattle.gptp_scaled.proofs.ProductLemmas.{IsWithin, times_within}
 use Rattle.gptp_scaled.proofs.RateLemmas.{unscaled_parts}
 use lib.Signed.{shr_z}
 
 -- a number that went to bits and is read again
 abbrev pub back : Width → ℤ → ℤ
 back w z = to_z w (of_z w z)
-
--- z is at most m away from 0
-record IsWithin (m : ℕ) (z : ℤ) : Type 0 where
-  low : neg_ℤ (pos m) ≤ℤ z
-  high : z ≤ℤ pos m
-
--- the same, by the absolute value
-within_by_abs : (m : ℕ) (z : ℤ) → unsigned_abs z ≤ m → IsWithin m z
-within_by_abs m (pos n) h = record { low = omega (arith, ints); high = omega (arith, ints) }
-within_by_abs m (negsuc n) h = record { low = omega (arith, ints); high = omega (arith, ints) }
 
 -- a floor is no further away from 0 than its dividend
 floor_within : (m : ℕ) (z d : ℤ) → pos 0 <ℤ d → IsWithin m z → IsWithin m (floor_div z d)
@@ -43,8 +33,7 @@ record Factors (q x r : ℤ) : Type 0 where
 
 factors : (q x r : ℤ) → FitsRate q → FitsScaled x → r ≡ back w32 q → Factors q x r
 factors q x r f g e =
-    let m : unsigned_abs x * unsigned_abs q ≤ 2 ^ 95 * 2 ^ 31 = mul-le (unsigned_abs x) (unsigned_abs q) (2 ^ 95) (2 ^ 31) (omega (arith, ints)) (omega (arith, ints)) in
-    let s = within_by_abs (2 ^ 126) (x *ℤ q) (omega (arith, unsigned_abs-mul x q)) in
+    let s = times_within (2 ^ 95) (2 ^ 31) x q (omega (arith, ints)) (omega (arith, ints)) in
     record {
       time = to_z-of_z w128 x (omega (arith, ints));
       rate = ap (back w128) (e ∙ to_z-of_z w32 q f) ∙ to_z-of_z w128 q (omega (arith, ints));
