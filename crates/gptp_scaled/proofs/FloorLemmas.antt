@@ -1,9 +1,8 @@
-use Rattle.std.proofs.Common.{◌≡◌, ℕ, suc, ◌*◌, ◌+◌, ◌/◌, ◌%◌, ◌<◌, ℤ, pos, negsuc, neg_ℤ, unsigned_abs, ◌+ℤ◌, ◌*ℤ◌, ◌≤ℤ◌, ◌<ℤ◌, ap, sym, arith}
+use Rattle.std.proofs.Common.{◌≡◌, ℕ, ◌*◌, ◌+◌, ◌/◌, ◌%◌, ◌<◌, ℤ, pos, negsuc, neg_ℤ, unsigned_abs, ◌+ℤ◌, ◌*ℤ◌, ◌≤ℤ◌, ◌<ℤ◌, arith}
 use Rattle.std.proofs.lemmas.Int.{ints}
 use Rattle.std.proofs.lemmas.Nat.{div-add-mod', mod_below}
 use Rattle.gptp_scaled.specs.Floor.{IsFloor, floor_div}
 use Rattle.gptp_scaled.proofs.ProductLemmas.{distribute, negated, times_grows, cancel, swap}
-use lib.Signed.{<ℤ-≤ℤ_trans}
 
 -- division with the remainder not negative rounds down
 pub floor_is : (x d : ℤ) → pos 0 <ℤ d → IsFloor x d (floor_div x d)

@@ -1,11 +1,11 @@
-use Rattle.std.proofs.Common.{◌≡◌, ℕ, ◌*◌, ◌+◌, ◌≤◌, ◌<◌, ◌^◌, ℤ, pos, ◌+ℤ◌, ◌-ℤ◌, ◌*ℤ◌, ◌≤ℤ◌, ◌<ℤ◌, unsigned_abs, ap, ◌∙◌, sym, refl, arith}
+use Rattle.std.proofs.Common.{◌≡◌, ℕ, ◌*◌, ◌+◌, ◌<◌, ◌^◌, ℤ, pos, ◌+ℤ◌, ◌-ℤ◌, ◌*ℤ◌, ◌≤ℤ◌, ◌<ℤ◌, unsigned_abs, ap, ◌∙◌, sym, refl, arith}
 use Rattle.std.proofs.lemmas.Int.{ints}
 use Rattle.std.proofs.Math.IntN.{*ℤ-zero, +ℤ_idr, *ℤ_comm}
 use Rattle.gptp_scaled.specs.Floor.{IsFloor, floor_div}
 use Rattle.gptp_scaled.specs.Laws.{FloorIsExact, FloorIsMonotone, RateRoundsDown, RateZeroIsIdentity, RateIsMonotone, NeighborRateIsNear, SplitIsExact}
-use Rattle.gptp_scaled.specs.Rate.{FitsRate, IsNeighborRate, unit, limit, scaled_by, unscaled_by}
-use Rattle.gptp_scaled.specs.Stamp.{Timestamp, IsTimestamp, FitsStamp, IsSplit, scaled_of}
-use Rattle.gptp_scaled.proofs.ProductLemmas.{IsWithin, times_within, distribute, times_grows}
+use Rattle.gptp_scaled.specs.Rate.{FitsRate, IsNeighborRate, unit, scaled_by, unscaled_by}
+use Rattle.gptp_scaled.specs.Stamp.{Timestamp, IsSplit}
+use Rattle.gptp_scaled.proofs.ProductLemmas.{times_within, distribute, times_grows}
 use Rattle.gptp_scaled.proofs.FloorLemmas.{floor_is, floor_only, floor_grows, floor_shift, floor_near}
 use Rattle.gptp_scaled.proofs.RateLemmas.{unscaled_parts}
 
@@ -28,7 +28,7 @@ rate_rounds_down = record { scaled = scaled_floor; unscaled = λ q x f. floor_is
 pub rate_zero_is_identity : RateZeroIsIdentity
 rate_zero_is_identity = record {
   scaled = λ x. rw *ℤ-zero (+ℤ_idr x);
-  unscaled = λ x. sym (floor_only (x *ℤ unit) unit x (omega (arith, ints)) (record { reached = omega (arith, ints); passed = omega (arith, ints, distribute unit x (pos 1)) }))
+  unscaled = λ x. sym (floor_only (x *ℤ unit) unit x (omega (arith, ints)) (record { reached = omega (arith, ints); passed = omega (arith, ints, distribute unit x (pos 1)) }));
 }
 
 -- products with a positive number keep the order, on the right as well
@@ -45,7 +45,7 @@ scaled_grows q x y f h =
 pub rate_is_monotone : RateIsMonotone
 rate_is_monotone = record {
   scaled = scaled_grows;
-  unscaled = λ q x y f h. floor_grows (x *ℤ unit) (y *ℤ unit) (unit +ℤ q) (omega (arith, ints)) (grows_right x y unit (omega (arith, ints)) h)
+  unscaled = λ q x y f h. floor_grows (x *ℤ unit) (y *ℤ unit) (unit +ℤ q) (omega (arith, ints)) (grows_right x y unit (omega (arith, ints)) h);
 }
 
 scaled_near : (q x : ℤ) → IsNeighborRate q → 5000 * unsigned_abs (scaled_by q x -ℤ x) < unsigned_abs x + 5000
@@ -66,7 +66,7 @@ unscaled_near q x w =
     let e : unscaled_by q x -ℤ x ≡ floor_div (pos 0 -ℤ x *ℤ q) (unit +ℤ q) = omega (arith, ints, unscaled_parts q x (omega (arith, ints))) in
     let p : pos 0 <ℤ (unit +ℤ q) = omega (arith, ints) in
     rw e (floor_near (pos 0 -ℤ x *ℤ q) (unit +ℤ q) (floor_div (pos 0 -ℤ x *ℤ q) (unit +ℤ q)) 4999 (unsigned_abs x) p (omega arith) (floor_is (pos 0 -ℤ x *ℤ q) (unit +ℤ q) p)
-        (omega (arith, ints)) (omega (arith, ints)))
+    (omega (arith, ints)) (omega (arith, ints)))
 
 pub neighbor_rate_is_near : NeighborRateIsNear
 neighbor_rate_is_near = record { scaled = scaled_near; unscaled = unscaled_near }

@@ -1,4 +1,4 @@
-use Rattle.std.proofs.Common.{◌≡◌, ℕ, ◌*◌, ◌+◌, ◌^◌, ◌≤◌, ℤ, pos, negsuc, neg_ℤ, ◌+ℤ◌, ◌-ℤ◌, ◌*ℤ◌, ◌≤ℤ◌, ◌<ℤ◌, unsigned_abs, FitsSigned, to_z, of_z, ap, ◌∙◌, refl, arith}
+use Rattle.std.proofs.Common.{◌≡◌, ℕ, ◌^◌, ℤ, pos, negsuc, neg_ℤ, ◌+ℤ◌, ◌-ℤ◌, ◌*ℤ◌, ◌<ℤ◌, FitsSigned, to_z, of_z, ap, ◌∙◌, refl, arith}
 use Rattle.std.specs.Int.{Width, w32, w128, int_div_euclid}
 use Rattle.std.proofs.lemmas.Int.{ints, clamps, to_z-of_z}
 use Rattle.std.proofs.Math.Nat.{div-le_self}
@@ -38,7 +38,7 @@ factors q x r f g e =
       time = to_z-of_z w128 x (omega (arith, ints));
       rate = ap (back w128) (e ∙ to_z-of_z w32 q f) ∙ to_z-of_z w128 q (omega (arith, ints));
       small = s;
-      product = to_z-of_z w128 (x *ℤ q) (omega (arith, ints))
+      product = to_z-of_z w128 (x *ℤ q) (omega (arith, ints));
     }
 
 -- what the machine numbers of `scaled` in src/rate.rt come to

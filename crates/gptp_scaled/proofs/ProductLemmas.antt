@@ -2,7 +2,7 @@ use Rattle.std.proofs.Common.{◌≡◌, ℕ, ◌*◌, ◌+◌, ◌≤◌, ℤ, 
 use Rattle.std.proofs.Math.Nat.{mul-le-mul_left}
 use Rattle.std.proofs.lemmas.Int.{ints, by_lt_z, unsigned_abs-mul}
 use Rattle.std.proofs.lemmas.Nat.{mul-le}
-use borrow.Author.Differences.{up, down, same_in, sum_is_lem, neg_is, product_is, le_out, at_most_in}
+use borrow.Author.Differences.{up, down, sum_is_lem, neg_is, product_is, le_out}
 use lib.Signed.{clash_ℤ}
 
 -- z is at most m away from 0

@@ -4,3 +4,4 @@ pub mod Interval
 pub mod Stamp
 pub mod Rate
 pub mod Laws
+pub mod StampError

@@ -1,6 +1,7 @@
 //! The correctionField.
 
 ghost use Rattle.std.specs.Prelude.{◌≡◌};
+ghost use Rattle.gptp_scaled.specs.Interval.{FitsInterval};
 
 use crate::ScaledNs;
 use std::marker::Model;
@@ -26,8 +27,6 @@ impl Model for Interval {
 }
 
 impl Interval {
-    ghost use Rattle.gptp_scaled.specs.Interval.{FitsInterval};
-
     /// The interval of `value` units of 2^-16 ns.
     pub const fn new(value: i64) -> Interval
         ensures { result ≡ value }

@@ -1,6 +1,8 @@
 //! Rates of clocks.
 
 ghost use Rattle.std.specs.Prelude.{◌≡◌, ◌+ℤ◌, ◌-ℤ◌, ◌*ℤ◌, ◌<ℤ◌, pos, OkIff};
+ghost use Rattle.gptp_scaled.specs.Rate.{FitsRate, IsNeighborRate, scaled_by, unscaled_by, neighbor_rate_of, rate_of};
+ghost use Rattle.gptp_scaled.specs.ScaledNs.{FitsScaled};
 
 use crate::{OutOfRange, ScaledNs};
 use std::marker::Model;
@@ -32,9 +34,6 @@ impl Model for Rate {
 }
 
 impl Rate {
-    ghost use Rattle.gptp_scaled.specs.Rate.{FitsRate, IsNeighborRate, scaled_by, unscaled_by, rate_of};
-    ghost use Rattle.gptp_scaled.specs.ScaledNs.{FitsScaled};
-
     /// The rate 1 + q/2^41.
     pub const fn new(q: i32) -> Rate
         ensures { result ≡ q }
@@ -60,7 +59,9 @@ impl Rate {
         if elapsed <= 0 {
             return Rate { q: 0 };
         }
-        Rate { q: neighbor_rate(responder.value() - elapsed, elapsed) }
+        Rate {
+            q: neighbor_rate(responder.value() - elapsed, elapsed),
+        }
     }
 
     /// The time `time` times the rate, rounded down; refused where it does not fit.
@@ -77,7 +78,7 @@ impl Rate {
         ScaledNs::new(unscaled(self.q, time.value()))
     }
 
-    /// The rate whose q is the sum of both (the product of two rates near 1, to the first order: IEEE 802.1AS-2020, 10.2.8.1.4); refused where that does not fit.
+    /// The rate whose q is the sum of both (a bridge adds the rate of its neighbour so: IEEE 802.1AS-2020, 10.2.8); refused where that does not fit.
     pub fn plus(self, other: Rate) -> Result<Rate, OutOfRange>
         ensures { OkIff result (FitsRate (self +ℤ other)) (self +ℤ other) }
     {
@@ -87,9 +88,6 @@ impl Rate {
         }
     }
 }
-
-ghost use Rattle.gptp_scaled.specs.Rate.{scaled_by, unscaled_by, neighbor_rate_of};
-ghost use Rattle.gptp_scaled.specs.ScaledNs.{FitsScaled};
 
 // x (1 + q/2^41), rounded down: the product of 96 by 32 bits fits, and so the fraction is taken apart from x.
 fn scaled(q: i32, x: i128) -> i128
@@ -109,6 +107,7 @@ fn unscaled(q: i32, x: i128) -> i128
 }
 
 // gain / elapsed in units of 2^-41, rounded down and kept within the limit. From 1/4096 on it is past the limit, and below that the product with 2^41 fits.
+#[tactic(auto, using(crate::proofs::RateLemmas::past_high, crate::proofs::RateLemmas::past_low))]
 fn neighbor_rate(gain: i128, elapsed: i128) -> i32
     requires positive { pos 0 <ℤ elapsed }
     requires fits { FitsScaled elapsed }

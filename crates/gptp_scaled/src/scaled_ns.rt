@@ -1,6 +1,9 @@
 //! Times and intervals in 2^-16 ns.
 
 ghost use Rattle.std.specs.Prelude.{◌≡◌, ◌↔◌, ◌<ℤ◌, ◌+ℤ◌, ◌-ℤ◌, pos, IsOk, IfOk, OkIff};
+ghost use Rattle.gptp_scaled.specs.Floor.{floor_div};
+ghost use Rattle.gptp_scaled.specs.ScaledNs.{FitsScaled};
+ghost use Rattle.gptp_scaled.specs.Stamp.{FitsStamp, IsSplit};
 
 use crate::{OutOfRange, Stamp};
 use std::marker::Model;
@@ -9,7 +12,7 @@ use std::marker::Model;
 const END: i128 = 1 << 95;
 
 /// A time or an interval in units of 2^-16 ns, of 96 bits with its sign (IEEE 802.1AS-2020, 6.4.3.1).
-#[derive(Clone, Copy, Debug, PartialEq, Eq, PartialOrd, Ord, Hash)]
+#[derive(Clone, Copy, Debug, PartialEq, Eq, PartialOrd, Ord, Hash, Default)]
 pub struct ScaledNs {
     value: i128,
 }
@@ -29,10 +32,6 @@ impl Model for ScaledNs {
 }
 
 impl ScaledNs {
-    ghost use Rattle.gptp_scaled.specs.ScaledNs.{FitsScaled};
-    ghost use Rattle.gptp_scaled.specs.Stamp.{FitsStamp, IsSplit};
-    ghost use Rattle.gptp_scaled.specs.Floor.{floor_div};
-
     /// The time of `value` units of 2^-16 ns; refused outside -2^95 to 2^95 - 1.
     pub const fn new(value: i128) -> Result<ScaledNs, OutOfRange>
         ensures { OkIff result (FitsScaled value) value }
@@ -78,7 +77,9 @@ impl ScaledNs {
     pub fn halve(self) -> ScaledNs
         ensures { result ≡ floor_div self (pos 2) }
     {
-        ScaledNs { value: self.value >> 1 }
+        ScaledNs {
+            value: self.value >> 1,
+        }
     }
 
     /// The whole nanoseconds as a stamp, and the rest in units of 2^-16 ns; refused where it is negative or its seconds pass 48 bits.
@@ -88,13 +89,5 @@ impl ScaledNs {
         ensures parts { IfOk result (λ r. IsSplit self r.0 r.1) }
     {
         Stamp::split(self.value)
-    }
-}
-
-impl Default for ScaledNs {
-    ghost is_default = { λ s. s ≡ pos 0 };
-
-    fn default() -> ScaledNs {
-        ScaledNs { value: 0 }
     }
 }

@@ -1,6 +1,7 @@
 //! Timestamps.
 
 ghost use Rattle.std.specs.Prelude.{◌≡◌, ◌≤◌, ◌<◌, ◌*◌, ◌^◌, ◌↔◌, ◌≤ℤ◌, ℤ, pos, IsOk, IfOk, IsErrOf};
+ghost use Rattle.gptp_scaled.specs.Stamp.{Timestamp, IsTimestamp, FitsStamp, IsSplit, nanos_of, scaled_of};
 
 use crate::{OutOfRange, ScaledNs};
 use std::error::Error;
@@ -23,6 +24,11 @@ pub enum StampError {
 }
 
 impl fmt::Display for StampError {
+    ghost use Rattle.std.specs.Prelude.{Some};
+    ghost use Rattle.gptp_scaled.specs.StampError.{text_of};
+
+    ghost output = { λ e. Some (text_of e) };
+
     fn fmt<W: fmt::Write>(&self, f: &mut fmt::Formatter<W>) -> fmt::Result {
         f.write_str(match self {
             StampError::NanosTooLarge => "a second or more of nanoseconds",
@@ -34,7 +40,7 @@ impl fmt::Display for StampError {
 impl Error for StampError {}
 
 /// A timestamp: seconds below 2^48 and nanoseconds below 10^9 (IEEE 1588-2019, 5.3.3; IEEE 802.1AS-2020, 6.4.3.4). Stamps are ordered in time.
-#[derive(Clone, Copy, Debug, PartialEq, Eq, PartialOrd, Ord, Hash)]
+#[derive(Clone, Copy, Debug, PartialEq, Eq, PartialOrd, Ord, Hash, Default)]
 pub struct Stamp {
     seconds: u64,
     nanos: u32,
@@ -53,8 +59,6 @@ impl Model for Stamp {
 }
 
 impl Stamp {
-    ghost use Rattle.gptp_scaled.specs.Stamp.{Timestamp, IsTimestamp, FitsStamp, IsSplit, nanos_of, scaled_of};
-
     /// The stamp of these seconds and nanoseconds.
     ///
     /// Refused with `NanosTooLarge` where `nanos` is 10^9 or more, and else with `SecondsTooLarge` where `seconds` is 2^48 or more.
@@ -120,17 +124,6 @@ impl Stamp {
             Ok((Stamp::of_nanos(parts >> 16), (parts & 0xffff) as u16))
         } else {
             Err(OutOfRange::OutOfRange)
-        }
-    }
-}
-
-impl Default for Stamp {
-    ghost is_default = { λ s. (s.seconds ≡ 0) × (s.nanos ≡ 0) };
-
-    fn default() -> Stamp {
-        Stamp {
-            seconds: 0,
-            nanos: 0,
         }
     }
 }
