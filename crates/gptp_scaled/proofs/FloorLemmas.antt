@@ -17,7 +17,7 @@ floor_is (negsuc a) (pos k) h =
     record { reached = omega (arith, ints); passed = omega (arith, ints) }
 floor_is x (negsuc k) h = absurd (omega (arith, ints))
 
--- a floor is at most any number whose successor times d passes x
+-- the floor of the lesser number is at most that of the greater
 floor_low : (x y d f g : ℤ) → pos 0 <ℤ d → x ≤ℤ y → IsFloor x d f → IsFloor y d g → f ≤ℤ g
 floor_low x y d f g p h i j =
     let l : (d *ℤ f) <ℤ (d *ℤ (g +ℤ pos 1)) = omega (arith, ints, i.reached, j.passed) in

@@ -31,6 +31,7 @@ record Factors (q x r : ℤ) : Type 0 where
   small : IsWithin (2 ^ 126) (x *ℤ q)
   product : back w128 (x *ℤ q) ≡ x *ℤ q
 
+-- they are so
 factors : (q x r : ℤ) → FitsRate q → FitsScaled x → r ≡ back w32 q → Factors q x r
 factors q x r f g e =
     let s = times_within (2 ^ 95) (2 ^ 31) x q (omega (arith, ints)) (omega (arith, ints)) in
@@ -50,18 +51,21 @@ scaled_back q x r f g e =
     let sum : back w128 (scaled_by q x) ≡ scaled_by q x = to_z-of_z w128 (scaled_by q x) (omega (arith, ints)) in
     rw (by.time, by.rate, by.product, shift_floors, shifted) sum
 
+-- s is the machine number that `unscaled` there divides out
+abbrev pub IsDivided : ℤ → ℤ → ℤ → Type 0
+IsDivided x r s = s ≡ int_div_euclid (back w128 (pos 0 -ℤ back w128 (back w128 x *ℤ back w128 r))) (back w128 (unit +ℤ back w128 r))
+
 -- what the quotient s of `unscaled` there is, where r is q of 32 bits
 record Quotient (q x s : ℤ) : Type 0 where
   is : s ≡ floor_div (pos 0 -ℤ x *ℤ q) (unit +ℤ q)
   held : back w128 s ≡ s
   fits : FitsSigned w128 (x +ℤ s)
 
-quotient : (q x r s : ℤ) → FitsRate q → FitsScaled x → r ≡ back w32 q
-    → s ≡ int_div_euclid (back w128 (pos 0 -ℤ back w128 (back w128 x *ℤ back w128 r))) (back w128 (unit +ℤ back w128 r)) → Quotient q x s
+-- it is so
+quotient : (q x r s : ℤ) → FitsRate q → FitsScaled x → r ≡ back w32 q → IsDivided x r s → Quotient q x s
 quotient q x r s f g e h =
     let by = factors q x r f g e in
     let small = by.small in
-    let n : ℤ = pos 0 -ℤ x *ℤ q in
     let negated : IsWithin (2 ^ 126) (pos 0 -ℤ x *ℤ q) = record { low = omega (arith, ints); high = omega (arith, ints) } in
     let dividend : back w128 (pos 0 -ℤ x *ℤ q) ≡ pos 0 -ℤ x *ℤ q = to_z-of_z w128 (pos 0 -ℤ x *ℤ q) (omega (arith, ints)) in
     let divisor : back w128 (unit +ℤ q) ≡ unit +ℤ q = to_z-of_z w128 (unit +ℤ q) (omega (arith, ints)) in
@@ -70,15 +74,13 @@ quotient q x r s f g e h =
     record { is = is; held = to_z-of_z w128 s (omega (arith, ints)); fits = omega (arith, ints) }
 
 -- its sum with x fits
-pub unscaled_fits : (q x r s : ℤ) → FitsRate q → FitsScaled x → r ≡ back w32 q
-    → s ≡ int_div_euclid (back w128 (pos 0 -ℤ back w128 (back w128 x *ℤ back w128 r))) (back w128 (unit +ℤ back w128 r)) → FitsSigned w128 (back w128 x +ℤ back w128 s)
+pub unscaled_fits : (q x r s : ℤ) → FitsRate q → FitsScaled x → r ≡ back w32 q → IsDivided x r s → FitsSigned w128 (back w128 x +ℤ back w128 s)
 unscaled_fits q x r s f g e h =
     let by = quotient q x r s f g e h in
     rw ((factors q x r f g e).time, by.held) by.fits
 
 -- and is what the contract says
-pub unscaled_back : (q x r s : ℤ) → FitsRate q → FitsScaled x → r ≡ back w32 q
-    → s ≡ int_div_euclid (back w128 (pos 0 -ℤ back w128 (back w128 x *ℤ back w128 r))) (back w128 (unit +ℤ back w128 r)) → back w128 (back w128 x +ℤ back w128 s) ≡ unscaled_by q x
+pub unscaled_back : (q x r s : ℤ) → FitsRate q → FitsScaled x → r ≡ back w32 q → IsDivided x r s → back w128 (back w128 x +ℤ back w128 s) ≡ unscaled_by q x
 unscaled_back q x r s f g e h =
     let by = quotient q x r s f g e h in
     rw ((factors q x r f g e).time, by.held) (to_z-of_z w128 (x +ℤ s) by.fits ∙ ap (λ v. x +ℤ v) by.is ∙ unscaled_parts q x f)

@@ -41,7 +41,7 @@ impl Rate {
         Rate { q }
     }
 
-    /// The q of the rate.
+    /// The q of the rate, from -2^31 to 2^31 - 1.
     pub const fn q(self) -> i32
         ensures value { result ≡ self }
         ensures fits { FitsRate self }
@@ -78,7 +78,7 @@ impl Rate {
         ScaledNs::new(unscaled(self.q, time.value()))
     }
 
-    /// The rate whose q is the sum of both (a bridge adds the rate of its neighbour so: IEEE 802.1AS-2020, 10.2.8); refused where that does not fit.
+    /// The rate whose q is the sum of both, as a bridge adds the rate of its neighbour to that of the Sync (IEEE 802.1AS-2020, 10.2.8); refused where it does not fit.
     pub fn plus(self, other: Rate) -> Result<Rate, OutOfRange>
         ensures { OkIff result (FitsRate (self +ℤ other)) (self +ℤ other) }
     {
