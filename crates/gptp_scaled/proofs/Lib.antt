@@ -1,5 +1,5 @@
 pub mod ProductLemmas
 pub mod FloorLemmas
-pub mod RateLemmas
+mod RateLemmas
 pub mod LawProofs
-pub mod MachineLemmas
+mod MachineLemmas
