@@ -1,0 +1,5 @@
+pub mod ProductLemmas
+pub mod FloorLemmas
+mod RateLemmas
+pub mod LawProofs
+mod MachineLemmas

@@ -1,0 +1,8 @@
+use Rattle.std.specs.Prelude.{ℕ, List, codes}
+use Rattle.gptp_scaled.specs.declared.stamp.StampError.{StampError}
+use Rattle.gptp_scaled.specs.declared.stamp.StampError.TheVariants.{NanosTooLarge, SecondsTooLarge}
+
+-- what is printed of a refusal
+abbrev pub text_of : StampError → List ℕ
+text_of NanosTooLarge = codes "a second or more of nanoseconds"
+text_of SecondsTooLarge = codes "seconds of more than 48 bits"

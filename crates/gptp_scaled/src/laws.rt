@@ -1,0 +1,45 @@
+//! What follows from the definitions alone. Each function does nothing, and its contract is the law; `proofs/LawProofs.antt` has each law as a lemma for the crates above.
+
+ghost use Rattle.gptp_scaled.specs.Laws.{FloorIsExact, FloorIsMonotone, RateRoundsDown, RateZeroIsIdentity, RateIsMonotone, NeighborRateIsNear, SplitIsExact};
+
+/// The quotient rounded down is the one whole number f with d f <= x < d (f + 1), for d above 0.
+#[tactic(auto, using(crate::proofs::LawProofs::floor_is_exact))]
+pub fn floor_is_exact()
+    ensures { FloorIsExact }
+{}
+
+/// Quotients rounded down keep the order of what is divided.
+#[tactic(auto, using(crate::proofs::LawProofs::floor_is_monotone))]
+pub fn floor_is_monotone()
+    ensures { FloorIsMonotone }
+{}
+
+/// A time times a rate, and a time divided by a rate, are less than one unit below the exact number.
+#[tactic(auto, using(crate::proofs::LawProofs::rate_rounds_down))]
+pub fn rate_rounds_down()
+    ensures { RateRoundsDown }
+{}
+
+/// The rate 1 changes no time.
+#[tactic(auto, using(crate::proofs::LawProofs::rate_zero_is_identity))]
+pub fn rate_zero_is_identity()
+    ensures { RateZeroIsIdentity }
+{}
+
+/// A rate keeps the order of times.
+#[tactic(auto, using(crate::proofs::LawProofs::rate_is_monotone))]
+pub fn rate_is_monotone()
+    ensures { RateIsMonotone }
+{}
+
+/// A neighbour's rate changes a time by at most 200 parts in a million and the rounding.
+#[tactic(auto, using(crate::proofs::LawProofs::neighbor_rate_is_near))]
+pub fn neighbor_rate_is_near()
+    ensures { NeighborRateIsNear }
+{}
+
+/// A time is split in one way, and what was put together is split into its parts again.
+#[tactic(auto, using(crate::proofs::LawProofs::split_is_exact))]
+pub fn split_is_exact()
+    ensures { SplitIsExact }
+{}
