@@ -1,0 +1,12 @@
+pub mod Members
+pub mod Order
+pub mod Snapshot
+pub mod Path
+pub mod Best
+pub mod Distance
+pub mod Parent
+pub mod SettledRole
+pub mod Labelling
+pub mod SettledChoice
+pub mod LocalTests
+pub mod Laws
