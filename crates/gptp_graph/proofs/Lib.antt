@@ -1,5 +1,10 @@
 pub mod MemberLemmas
 pub mod SystemLemmas
+pub mod DecisionLemmas
+pub mod OrderLemmas
 pub mod PathLemmas
 pub mod BestLemmas
 pub mod DistanceLemmas
+pub mod ExistenceLemmas
+pub mod ParentLemmas
+pub mod RoleLemmas
