@@ -8,3 +8,6 @@ pub mod DistanceLemmas
 pub mod ExistenceLemmas
 pub mod ParentLemmas
 pub mod RoleLemmas
+pub mod StatementLemmas
+pub mod SoundLemmas
+pub mod CompleteLemmas
