@@ -11,3 +11,5 @@ pub mod RoleLemmas
 pub mod StatementLemmas
 pub mod SoundLemmas
 pub mod CompleteLemmas
+pub mod RisingLemmas
+pub mod ChoiceLemmas

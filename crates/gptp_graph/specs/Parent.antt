@@ -1,5 +1,5 @@
 -- The parent of a system: the port, one step nearer to the best, that it follows.
-use Rattle.std.specs.Prelude.{ℕ, suc, List, [], ◌∷◌}
+use Rattle.std.specs.Prelude.{◌≡◌, ℕ, zero, suc, List, [], ◌∷◌}
 use Rattle.gptp_graph.specs.Order.{IsLower}
 use Rattle.gptp_graph.specs.Snapshot.{Snapshot, port_of, Joins}
 use Rattle.gptp_graph.specs.Distance.{IsDistance}
@@ -32,3 +32,8 @@ pub record LeadsNearer (g : Snapshot) (v : ℕ) (l : ParentLink) : Type 0 where
 pub record IsParent (g : Snapshot) (v : ℕ) (l : ParentLink) : Type 0 where
   pub nearer : LeadsNearer g v l
   pub least : (other : ParentLink) → LeadsNearer g v other → IsLower (key other) (key l) → ⊥
+
+-- from v, following parents n times leads to w
+abbrev pub Climbs : Snapshot → ℕ → ℕ → ℕ → Type 0
+Climbs g v w zero = v ≡ w
+Climbs g v w (suc n) = (l : ParentLink) × IsParent g v l × Climbs g l.clock w n
