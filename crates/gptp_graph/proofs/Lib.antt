@@ -13,3 +13,4 @@ pub mod SoundLemmas
 pub mod CompleteLemmas
 pub mod RisingLemmas
 pub mod ChoiceLemmas
+pub mod TreeLemmas

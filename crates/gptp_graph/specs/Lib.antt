@@ -9,4 +9,9 @@ pub mod SettledRole
 pub mod Labelling
 pub mod SettledChoice
 pub mod LocalTests
-pub mod Laws
+pub mod Once
+pub mod DistanceLaws
+pub mod ExistenceLaws
+pub mod TreeLaws
+pub mod LabellingLaws
+pub mod Examples
