@@ -1,16 +1,22 @@
--- Decisions: of two facts, over the members of a list, and of the least number with a property.
-use Rattle.std.proofs.Common.{◌≡◌, ◌⊎◌, ◌≤◌, ◌<◌, ℕ, zero, suc, List, [], ◌∷◌, refl, ap, subst, sym, inl, inr, arith}
+-- Decisions: of two facts, over the members of a list, and of the least number with a property. Those marked
+-- `unfoldable` compute at literals.
+use Rattle.std.proofs.Common.{◌≡◌, ◌⊎◌, ◌≤◌, ◌<◌, ℕ, zero, suc, Bool, true, false, List, [], ◌∷◌, refl, ap, subst, sym, inl, inr, arith}
 use native.Mathlib.Decide.{ℕ_discrete, dec_lt}
 use Rattle.gptp_graph.specs.Members.{In}
 
+-- an equivalent fact
+unfoldable pub dec_iff : {A B : Type 0} → (A → B) → (B → A) → Dec A → Dec B
+dec_iff to back (yes a) = yes (to a)
+dec_iff to back (no f) = no (λ b. f (back b))
+
 -- both of two facts
-pub dec_both : {A B : Type 0} → Dec A → Dec B → Dec (A × B)
+unfoldable pub dec_both : {A B : Type 0} → Dec A → Dec B → Dec (A × B)
 dec_both (yes a) (yes b) = yes (a, b)
 dec_both (yes a) (no f) = no (λ h. f h.1)
 dec_both (no f) d = no (λ h. f h.0)
 
 -- one of two facts
-pub dec_either : {A B : Type 0} → Dec A → Dec B → Dec (A ⊎ B)
+unfoldable pub dec_either : {A B : Type 0} → Dec A → Dec B → Dec (A ⊎ B)
 dec_either (yes a) d = yes (inl a)
 dec_either (no f) (yes b) = yes (inr b)
 dec_either (no f) (no k) = no (λ h. elim h [ inl a ↦ f a | inr b ↦ k b ])
@@ -52,3 +58,8 @@ least_number P d n p = elim (up_to (suc n)) [ inl none ↦ absurd (none n (omega
         next (inr found) t = inr found
         next (inl none) (yes q) = inr (k, q, λ m r. elim (dec_lt m k) [ yes b ↦ absurd (none m b r) | no over ↦ omega arith ])
         next (inl none) (no f) = inl (λ m b r. elim (ℕ_discrete m k) [ yes e ↦ f (subst P e r) | no other ↦ none m (omega arith) r ])
+
+-- whether a number is a member
+pub in_dec : (v : ℕ) (xs : List ℕ) → Dec (In v xs)
+in_dec v [] = no (λ h. h)
+in_dec v (x ∷ xs) = dec_either (ℕ_discrete v x) (in_dec v xs)

@@ -1,49 +1,30 @@
 -- Every system of a snapshot has a best and a distance.
 use Rattle.std.proofs.Common.{◌≡◌, ◌⊎◌, ◌≤◌, ◌<◌, ℕ, zero, suc, List, [], ◌∷◌, length, refl, sym, ap, subst, ◌∙◌, inl, inr, arith}
-use native.Mathlib.Decide.{ℕ_discrete, dec_le, map_dec}
+use native.Mathlib.Decide.{ℕ_discrete, dec_le}
 use Rattle.gptp_graph.specs.Members.{In}
 use Rattle.gptp_graph.specs.Order.{IsLower}
 use Rattle.gptp_graph.specs.Snapshot.{System, PortIdentity, Link, Snapshot, IsWellFormed, clocks, port_of, Joins, Adjacent}
 use Rattle.gptp_graph.specs.Path.{Route, IsPath, Reaches}
 use Rattle.gptp_graph.specs.Best.{IsBest}
 use Rattle.gptp_graph.specs.Distance.{IsDistanceFrom, IsDistance}
-use Rattle.gptp_graph.proofs.DecisionLemmas.{dec_both, dec_either, any_dec, below_dec, least_number}
+use Rattle.gptp_graph.proofs.DecisionLemmas.{dec_iff, dec_both, any_dec, below_dec, least_number}
+use Rattle.gptp_graph.proofs.LinkDecisions.{Adjacent-dec}
 use Rattle.gptp_graph.proofs.OrderLemmas.{IsLeastIn, least_member}
 use Rattle.gptp_graph.proofs.SystemLemmas.{system_of}
 use Rattle.gptp_graph.proofs.PathLemmas.{Adjacent-clock, path_of, path_bounded, Reaches-self, Reaches-route, Reaches-sym}
-
--- a link joins a port of v to a port of w, whichever it names first
-Crosses : ℕ → ℕ → Link → Type 0
-Crosses v w l = ((l.a.clock ≡ v) × (l.b.clock ≡ w)) ⊎ ((l.b.clock ≡ v) × (l.a.clock ≡ w))
-
-Crosses-dec : (v w : ℕ) (l : Link) → Dec (Crosses v w l)
-unfolding Crosses
-Crosses-dec v w l =
-    dec_either (dec_both (ℕ_discrete l.a.clock v) (ℕ_discrete l.b.clock w)) (dec_both (ℕ_discrete l.b.clock v) (ℕ_discrete l.a.clock w))
-
-pub Adjacent-dec : (g : Snapshot) (v w : ℕ) → Dec (Adjacent g v w)
-unfolding Crosses
-Adjacent-dec g v w = map_dec over back (any_dec (Crosses v w) g.links (λ l h. Crosses-dec v w l))
-  where
-    over : ((l : Link) × In l g.links × Crosses v w l) → Adjacent g v w
-    over (l, h, inl (a, b)) = (l.a.port, l.b.port, inl (subst (λ k. In k g.links) (λ i. record { a = port_of (a i) l.a.port; b = port_of (b i) l.b.port }) h))
-    over (l, h, inr (b, a)) = (l.b.port, l.a.port, inr (subst (λ k. In k g.links) (λ i. record { a = port_of (a i) l.a.port; b = port_of (b i) l.b.port }) h))
-    back : Adjacent g v w → (l : Link) × In l g.links × Crosses v w l
-    back (m, n, inl h) = (record { a = port_of v m; b = port_of w n }, h, inl (refl, refl))
-    back (m, n, inr h) = (record { a = port_of w n; b = port_of v m }, h, inr (refl, refl))
 
 -- a route of n steps
 abbrev RouteOf : Snapshot → ℕ → ℕ → ℕ → Type 0
 RouteOf g v w n = (us : List ℕ) × Route g v w us × (length us ≡ n)
 
 RouteOf-dec : (g : Snapshot) (v w : ℕ) → IsWellFormed g → (n : ℕ) → Dec (RouteOf g v w n)
-RouteOf-dec g v w wf zero = map_dec (λ e. ([], e, refl)) here (ℕ_discrete v w)
+RouteOf-dec g v w wf zero = dec_iff (λ e. ([], e, refl)) here (ℕ_discrete v w)
   where
     here : RouteOf g v w 0 → v ≡ w
     here ([], r, e) = r
     here (u ∷ us, r, e) = absurd (omega arith)
 RouteOf-dec g v w wf (suc n) =
-    map_dec over back (any_dec (λ u. Adjacent g v u × RouteOf g u w n) (clocks g) (λ u h. dec_both (Adjacent-dec g v u) (RouteOf-dec g u w wf n)))
+    dec_iff over back (any_dec (λ u. Adjacent g v u × RouteOf g u w n) (clocks g) (λ u h. dec_both (Adjacent-dec g v u) (RouteOf-dec g u w wf n)))
   where
     over : ((u : ℕ) × In u (clocks g) × (Adjacent g v u × RouteOf g u w n)) → RouteOf g v w (suc n)
     over (u, h, (a, (us, r, e))) = (u ∷ us, (a, r), ap suc e)
@@ -53,7 +34,7 @@ RouteOf-dec g v w wf (suc n) =
 
 -- whether a system reaches another: within as many steps as there are systems
 pub Reaches-dec : (g : Snapshot) (v w : ℕ) → IsWellFormed g → In v (clocks g) → Dec (Reaches g v w)
-Reaches-dec g v w wf here = map_dec over back (below_dec (RouteOf g v w) (RouteOf-dec g v w wf) (length g.systems))
+Reaches-dec g v w wf here = dec_iff over back (below_dec (RouteOf g v w) (RouteOf-dec g v w wf) (length g.systems))
   where
     over : ((n : ℕ) × (n < length g.systems) × RouteOf g v w n) → Reaches g v w
     over (n, b, (us, r, e)) = Reaches-route g v w us here r

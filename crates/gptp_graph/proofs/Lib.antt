@@ -1,6 +1,7 @@
 pub mod MemberLemmas
 pub mod SystemLemmas
 pub mod DecisionLemmas
+pub mod LinkDecisions
 pub mod OrderLemmas
 pub mod PathLemmas
 pub mod BestLemmas
@@ -14,3 +15,6 @@ pub mod CompleteLemmas
 pub mod RisingLemmas
 pub mod ChoiceLemmas
 pub mod TreeLemmas
+pub mod Sure
+pub mod SureTests
+mod ExampleLemmas

@@ -1,6 +1,5 @@
--- Members of lists: images, removal, the pigeonhole principle, and decisions over all members.
+-- Members of lists: images, removal, and the pigeonhole principle.
 use Rattle.std.proofs.Common.{◌≡◌, ◌⊎◌, ◌≤◌, ℕ, zero, suc, List, [], ◌∷◌, length, map, refl, sym, ap, subst, ◌∙◌, inl, inr, arith}
-use native.Mathlib.Decide.{ℕ_discrete}
 use Rattle.gptp_graph.specs.Members.{In, Different}
 
 -- a member's image is a member of the image
@@ -43,14 +42,3 @@ pigeonhole (x ∷ xs) ys d h =
     let fits : length xs ≤ length r.0 = pigeonhole xs r.0 d.1 (λ z k. r.2 z (h z (inr k)) (λ e. d.0 (subst (λ w. In w xs) e k))) in
     let longer : length ys ≡ suc (length r.0) = r.1 in
     omega arith
-
--- whether a number is a member
-pub in_dec : (v : ℕ) (xs : List ℕ) → Dec (In v xs)
-in_dec v [] = no (λ h. h)
-in_dec v (x ∷ xs) = elim (ℕ_discrete v x) [
-    | yes e ↦ yes (inl e)
-    | no other ↦ elim (in_dec v xs) [
-        | yes h ↦ yes (inr h)
-        | no out ↦ no (λ h. elim h [ inl e ↦ other e | inr k ↦ out k ])
-      ]
-  ]

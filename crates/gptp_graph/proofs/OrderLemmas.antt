@@ -19,7 +19,8 @@ IsLower-trans (x ∷ xs) (y ∷ ys) (z ∷ zs) (inl a) (inr (e, k)) = inl (omega
 IsLower-trans (x ∷ xs) (y ∷ ys) (z ∷ zs) (inr (e, h)) (inl b) = inl (omega arith)
 IsLower-trans (x ∷ xs) (y ∷ ys) (z ∷ zs) (inr (d, h)) (inr (e, k)) = inr (d ∙ e, IsLower-trans xs ys zs h k)
 
-pub IsLower-dec : (xs ys : List ℕ) → Dec (IsLower xs ys)
+unfoldable pub IsLower-dec : (xs ys : List ℕ) → Dec (IsLower xs ys)
+unfolding dec_lt ℕ_discrete dec_both dec_either
 IsLower-dec xs [] = no (λ h. h)
 IsLower-dec [] (y ∷ ys) = yes tt
 IsLower-dec (x ∷ xs) (y ∷ ys) = dec_either (dec_lt x y) (dec_both (ℕ_discrete x y) (IsLower-dec xs ys))

@@ -1,32 +1,17 @@
 -- A system that isn't best has one parent, and the parent's port is a master port.
 use Rattle.std.proofs.Common.{◌≡◌, ◌⊎◌, ◌≤◌, ◌<◌, ℕ, zero, suc, List, [], ◌∷◌, refl, sym, ap, subst, ◌∙◌, inl, inr, arith}
-use native.Mathlib.Decide.{ℕ_discrete, map_dec}
+use native.Mathlib.Decide.{ℕ_discrete}
 use Rattle.gptp_graph.specs.Members.{In}
 use Rattle.gptp_graph.specs.Order.{IsLower}
 use Rattle.gptp_graph.specs.Snapshot.{System, PortIdentity, Link, Snapshot, IsWellFormed, clocks, port_of, Joins, Adjacent}
 use Rattle.gptp_graph.specs.Best.{IsBest}
 use Rattle.gptp_graph.specs.Distance.{IsDistance}
 use Rattle.gptp_graph.specs.Parent.{ParentLink, key, JoinsAt, LeadsNearer, IsParent}
-use Rattle.gptp_graph.proofs.DecisionLemmas.{dec_both, dec_either}
+use Rattle.gptp_graph.proofs.LinkDecisions.{Joins-dec}
 use Rattle.gptp_graph.proofs.OrderLemmas.{IsLower-total, IsLeastIn, least_member}
 use Rattle.gptp_graph.proofs.PathLemmas.{Joins-sym, Joins-clock}
 use Rattle.gptp_graph.proofs.DistanceLemmas.{IsDistance-unique, nearer_neighbour}
 use Rattle.gptp_graph.proofs.ExistenceLemmas.{distance_exists}
-
-pub PortIdentity-dec : (p q : PortIdentity) → Dec (p ≡ q)
-PortIdentity-dec p q = map_dec (λ e i. record { clock = e.0 i; port = e.1 i }) (λ e. (ap (λ (r : PortIdentity). r.clock) e, ap (λ (r : PortIdentity). r.port) e))
-    (dec_both (ℕ_discrete p.clock q.clock) (ℕ_discrete p.port q.port))
-
-Link-dec : (l k : Link) → Dec (l ≡ k)
-Link-dec l k = map_dec (λ e i. record { a = e.0 i; b = e.1 i }) (λ e. (ap (λ (r : Link). r.a) e, ap (λ (r : Link). r.b) e))
-    (dec_both (PortIdentity-dec l.a k.a) (PortIdentity-dec l.b k.b))
-
-In-links-dec : (l : Link) (ls : List Link) → Dec (In l ls)
-In-links-dec l [] = no (λ h. h)
-In-links-dec l (k ∷ ls) = dec_either (Link-dec l k) (In-links-dec l ls)
-
-pub Joins-dec : (g : Snapshot) (p q : PortIdentity) → Dec (Joins g p q)
-Joins-dec g p q = dec_either (In-links-dec (record { a = p; b = q }) g.links) (In-links-dec (record { a = q; b = p }) g.links)
 
 -- the links as seen from either end
 seen : List Link → List ParentLink

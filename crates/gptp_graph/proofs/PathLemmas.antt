@@ -3,7 +3,8 @@ use Rattle.std.proofs.Common.{◌≡◌, ◌⊎◌, ◌≤◌, ◌<◌, ℕ, zer
 use Rattle.gptp_graph.specs.Members.{In, Different}
 use Rattle.gptp_graph.specs.Snapshot.{System, PortIdentity, Snapshot, IsWellFormed, clocks, Joins, Adjacent}
 use Rattle.gptp_graph.specs.Path.{Route, IsPath, Reaches}
-use Rattle.gptp_graph.proofs.MemberLemmas.{In-map, in_dec, pigeonhole, length-map}
+use Rattle.gptp_graph.proofs.MemberLemmas.{In-map}
+use Rattle.gptp_graph.proofs.DecisionLemmas.{in_dec}
 use Rattle.gptp_graph.proofs.SystemLemmas.{length-different}
 
 -- a link joins either end to the other

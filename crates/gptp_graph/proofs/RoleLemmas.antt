@@ -1,16 +1,17 @@
 -- Every port of a system has one settled role; the port at the other end of a slave port is a master port.
 use Rattle.std.proofs.Common.{◌≡◌, ◌⊎◌, ◌≤◌, ◌<◌, ℕ, zero, suc, List, [], ◌∷◌, refl, sym, ap, subst, ◌∙◌, inl, inr, arith}
-use native.Mathlib.Decide.{ℕ_discrete, dec_lt, map_dec}
+use native.Mathlib.Decide.{ℕ_discrete, dec_lt}
 use Rattle.gptp_graph.specs.Members.{In}
 use Rattle.gptp_graph.specs.Snapshot.{System, PortIdentity, Link, Snapshot, IsWellFormed, clocks, port_of, Joins, IsLinked}
 use Rattle.gptp_graph.specs.Distance.{IsDistance}
 use Rattle.gptp_graph.specs.Parent.{ParentLink, IsParent}
 use Rattle.gptp_graph.specs.SettledRole.{Role, Disabled, Master, Slave, Passive, RoleBy, IsSlavePort, IsMasterPort, IsSettledRole}
-use Rattle.gptp_graph.proofs.DecisionLemmas.{dec_both, dec_either, any_dec}
+use Rattle.gptp_graph.proofs.DecisionLemmas.{dec_iff, dec_both, dec_either}
 use Rattle.gptp_graph.proofs.PathLemmas.{Joins-sym, Joins-clock}
 use Rattle.gptp_graph.proofs.DistanceLemmas.{IsDistance-unique}
 use Rattle.gptp_graph.proofs.ExistenceLemmas.{distance_exists}
-use Rattle.gptp_graph.proofs.ParentLemmas.{PortIdentity-dec, parent_exists, IsParent-unique, no_parent_at_zero}
+use Rattle.gptp_graph.proofs.LinkDecisions.{IsLinked-dec}
+use Rattle.gptp_graph.proofs.ParentLemmas.{parent_exists, IsParent-unique, no_parent_at_zero}
 
 -- facts that can be decided give a role
 pub RoleBy-exists : {L S M : Type 0} → Dec L → Dec S → Dec M → (role : Role) × RoleBy L S M role
@@ -45,30 +46,19 @@ RoleBy-map L S M S' M' Slave s s' m m' h = (h.0, s h.1)
 RoleBy-map L S M S' M' Master s s' m m' h = (h.0, (λ x. h.1 (s' x)), m h.2)
 RoleBy-map L S M S' M' Passive s s' m m' h = (h.0, (λ x. h.1 (s' x)), (λ x. h.2 (m' x)))
 
--- whether a link is at the port
-pub IsLinked-dec : (g : Snapshot) (p : PortIdentity) → Dec (IsLinked g p)
-IsLinked-dec g p = map_dec over back (any_dec (λ (l : Link). (l.a ≡ p) ⊎ (l.b ≡ p)) g.links (λ l h. dec_either (PortIdentity-dec l.a p) (PortIdentity-dec l.b p)))
-  where
-    over : ((l : Link) × In l g.links × ((l.a ≡ p) ⊎ (l.b ≡ p))) → IsLinked g p
-    over (l, h, inl e) = (l.b, inl (subst (λ k. In k g.links) (λ i. record { a = e i; b = l.b }) h))
-    over (l, h, inr e) = (l.a, inr (subst (λ k. In k g.links) (λ i. record { a = l.a; b = e i }) h))
-    back : IsLinked g p → (l : Link) × In l g.links × ((l.a ≡ p) ⊎ (l.b ≡ p))
-    back (q, inl h) = (record { a = p; b = q }, h, inl refl)
-    back (q, inr h) = (record { a = q; b = p }, h, inr refl)
-
 IsSlavePort-dec : (g : Snapshot) (p : PortIdentity) (d : ℕ) → IsWellFormed g → IsDistance g p.clock d → Dec (IsSlavePort g p)
 IsSlavePort-dec g p zero wf here = no (λ (l, is, e). no_parent_at_zero g p.clock l wf here is)
 IsSlavePort-dec g p (suc d) wf here = by_parent (parent_exists g p.clock d wf here)
   where
     by_parent : ((l : ParentLink) × IsParent g p.clock l) → Dec (IsSlavePort g p)
-    by_parent (l, is) = map_dec (λ e. (l, is, e)) (λ (k, h, e). ap (λ (x : ParentLink). x.own_port) (IsParent-unique g p.clock l k is h) ∙ e) (ℕ_discrete l.own_port p.port)
+    by_parent (l, is) = dec_iff (λ e. (l, is, e)) (λ (k, h, e). ap (λ (x : ParentLink). x.own_port) (IsParent-unique g p.clock l k is h) ∙ e) (ℕ_discrete l.own_port p.port)
 
 IsMasterPort-dec : (g : Snapshot) (p : PortIdentity) → IsWellFormed g → Dec (IsLinked g p) → Dec (IsMasterPort g p)
 IsMasterPort-dec g p wf (no out) = no (λ h. out (h.other, h.joins))
 IsMasterPort-dec g p wf (yes (q, j)) = by_distances (distance_exists g p.clock wf (Joins-clock g p q wf j)) (distance_exists g q.clock wf (Joins-clock g q p wf (Joins-sym g p q j)))
   where
     by_distances : ((d : ℕ) × IsDistance g p.clock d) → ((e : ℕ) × IsDistance g q.clock e) → Dec (IsMasterPort g p)
-    by_distances (d, here) (e, there) = map_dec over back (dec_either (dec_lt d e) (dec_both (ℕ_discrete d e) (dec_lt p.clock q.clock)))
+    by_distances (d, here) (e, there) = dec_iff over back (dec_either (dec_lt d e) (dec_both (ℕ_discrete d e) (dec_lt p.clock q.clock)))
       where
         over : (d < e) ⊎ ((d ≡ e) × (p.clock < q.clock)) → IsMasterPort g p
         over h = record { other = q; joins = j; here = d; there = e; is_here = here; is_there = there; nearer = h }
