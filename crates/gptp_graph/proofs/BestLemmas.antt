@@ -1,6 +1,5 @@
 -- The best of a component is one system, and the same for all of its members.
-use Rattle.std.proofs.Common.{◌≡◌, ◌≤◌, ℕ, sym, subst, arith}
-use Rattle.gptp_graph.specs.Members.{In}
+use Rattle.std.proofs.Common.{◌≡◌, ◌≤◌, ℕ, arith}
 use Rattle.gptp_graph.specs.Snapshot.{System, Snapshot, IsWellFormed, Adjacent}
 use Rattle.gptp_graph.specs.Path.{Reaches}
 use Rattle.gptp_graph.specs.Best.{IsBest}
@@ -17,10 +16,10 @@ IsBest-unique g v a b wf h k =
 -- what v reaches has the same best
 pub IsBest-reached : (g : Snapshot) (v w : ℕ) (b : System) → IsWellFormed g → Reaches g v w → IsBest g v b → IsBest g w b
 IsBest-reached g v w b wf r h = record {
-    live = h.live;
-    reached = Reaches-trans g w v b.clock (Reaches-sym g v w wf r) h.reached;
-    least = λ s live at. h.least s live (Reaches-trans g v w s.clock r at)
-  }
+  live = h.live;
+  reached = Reaches-trans g w v b.clock (Reaches-sym g v w wf r) h.reached;
+  least = λ s live at. h.least s live (Reaches-trans g v w s.clock r at);
+}
 
 -- neighbours have the same best
 pub IsBest-neighbour : (g : Snapshot) (v w : ℕ) (b : System) → IsWellFormed g → Adjacent g v w → IsBest g v b → IsBest g w b

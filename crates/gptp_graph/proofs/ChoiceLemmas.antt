@@ -1,16 +1,15 @@
 -- Every snapshot has one settled choice, up to the order of its lines.
-use Rattle.std.proofs.Common.{◌≡◌, ◌⊎◌, ◌<◌, ◌+◌, ℕ, zero, suc, List, [], ◌∷◌, map, Option, Some, None, refl, sym, ap, ap₂, subst, ◌∙◌, inl, inr, arith}
+use Rattle.std.proofs.Common.{◌≡◌, ◌+◌, ℕ, zero, suc, List, [], ◌∷◌, map, Option, Some, None, refl, sym, ap, ap₂, subst, ◌∙◌, inl, inr}
 use Rattle.std.specs.List.{range_with_len}
-use Rattle.gptp_graph.specs.Members.{In, Different}
+use Rattle.gptp_graph.specs.Members.{In}
 use Rattle.gptp_graph.specs.Order.{IsRising}
 use Rattle.gptp_graph.specs.Snapshot.{System, Snapshot, IsWellFormed, clocks, port_of}
 use Rattle.gptp_graph.specs.Best.{IsBest}
 use Rattle.gptp_graph.specs.Distance.{IsDistance}
-use Rattle.gptp_graph.specs.Parent.{ParentLink, IsParent}
-use Rattle.gptp_graph.specs.SettledRole.{Role, IsSettledRole}
-use Rattle.gptp_graph.specs.Labelling.{PortLine, SystemLine, line_clocks, port_numbers, IsLineOf, HasItsSystems}
+use Rattle.gptp_graph.specs.Parent.{ParentLink}
+use Rattle.gptp_graph.specs.SettledRole.{IsSettledRole}
+use Rattle.gptp_graph.specs.Labelling.{PortLine, SystemLine, line_clocks, port_numbers, HasItsSystems}
 use Rattle.gptp_graph.specs.SettledChoice.{IsParentIfAny, IsSettledLine, IsSettledChoice}
-use Rattle.gptp_graph.proofs.MemberLemmas.{same_image}
 use Rattle.gptp_graph.proofs.RisingLemmas.{Different-rising, IsArranged, arranged, same_rising}
 use Rattle.gptp_graph.proofs.SystemLemmas.{In-clocks, same_clock}
 use Rattle.gptp_graph.proofs.BestLemmas.{IsBest-unique}
@@ -40,9 +39,9 @@ ports_exist g v k (suc n) wf here =
       ports = first ∷ rest.ports;
       numbers = ap (λ (ns : List ℕ). k ∷ ns) rest.numbers;
       roles = λ port h. elim h [
-          | inl e ↦ subst (λ (p : PortLine). IsSettledRole g (port_of v p.number) p.role) (sym e) is
-          | inr i ↦ rest.roles port i
-        ]
+        | inl e ↦ subst (λ (p : PortLine). IsSettledRole g (port_of v p.number) p.role) (sym e) is
+        | inr i ↦ rest.roles port i
+      ];
     }
 
 -- the line states the settled choice of the system s
@@ -57,12 +56,14 @@ line_exists g s wf live =
     let (best, is_best) = best_exists g s.clock wf here in
     let (d, is_distance) = distance_exists g s.clock wf here in
     let (parent, is_parent) = parent_if_any g s.clock d wf is_distance in
-    let p = ports_exist g s.clock 1 s.ports wf here in
-    (record { clock = s.clock; root = best.identity; steps = d; parent = parent; ports = p.ports }, record {
+    let p = ports_exist g s.clock 1 s.ports wf here in (
+      record { clock = s.clock; root = best.identity; steps = d; parent = parent; ports = p.ports },
+      record {
         clock = refl;
         ports = p.numbers;
-        settled = record { root = (best, is_best, refl); steps = is_distance; parent = is_parent; roles = p.roles }
-      })
+        settled = record { root = (best, is_best, refl); steps = is_distance; parent = is_parent; roles = p.roles };
+      },
+    )
 
 -- a line for each system of a list
 record HasLines (g : Snapshot) (systems : List System) : Type 0 where
@@ -77,17 +78,17 @@ lines_exist g (s ∷ systems) wf live = add (line_exists g s wf (live s (inl ref
   where
     add : ((line : SystemLine) × IsSettledLineOf g s line) → HasLines g systems → HasLines g (s ∷ systems)
     add (line, is) rest = record {
-        lines = line ∷ rest.lines;
-        clocks = ap₂ (λ (c : ℕ) (cs : List ℕ). c ∷ cs) is.clock rest.clocks;
-        all = λ t h. elim h [
-            | inl e ↦ (line, inl refl, subst (λ u. IsSettledLineOf g u line) (sym e) is)
-            | inr i ↦ (let (other, at, of) = rest.all t i in (other, inr at, of))
-          ];
-        no_other = λ other h. elim h [
-            | inl e ↦ (s, inl refl, subst (IsSettledLineOf g s) (sym e) is)
-            | inr i ↦ (let (t, at, of) = rest.no_other other i in (t, inr at, of))
-          ]
-      }
+      lines = line ∷ rest.lines;
+      clocks = ap₂ (λ (c : ℕ) (cs : List ℕ). c ∷ cs) is.clock rest.clocks;
+      all = λ t h. elim h [
+        | inl e ↦ (line, inl refl, subst (λ u. IsSettledLineOf g u line) (sym e) is)
+        | inr i ↦ (let (other, at, of) = rest.all t i in (other, inr at, of))
+      ];
+      no_other = λ other h. elim h [
+        | inl e ↦ (s, inl refl, subst (IsSettledLineOf g s) (sym e) is)
+        | inr i ↦ (let (t, at, of) = rest.no_other other i in (t, inr at, of))
+      ];
+    }
 
 -- every snapshot has a settled choice with its lines by rising clock
 pub choice_exists : (g : Snapshot) → IsWellFormed g → (lines : List SystemLine) × IsSettledChoice g lines × IsRising (line_clocks lines)
@@ -98,18 +99,20 @@ choice_exists g wf = from_systems (arranged (λ (s : System). s.clock) g.systems
       where
         made : HasLines g systems
         made = lines_exist g systems wf is.no_other
+
         rising : IsRising (line_clocks made.lines)
         rising = subst IsRising (sym made.clocks) is.rising
+
         its_systems : HasItsSystems g made.lines
         its_systems = record {
-            different = Different-rising (line_clocks made.lines) rising;
-            all = λ s live. (let (line, at, of) = made.all s (is.kept s live) in (line, record { live = live; stated = at; clock = of.clock }));
-            no_other = λ line h. (let (s, at, of) = made.no_other line h in (s, record { live = is.no_other s at; stated = h; clock = of.clock }));
-            ports = λ s line of.
-                let (t, at, is_of) = made.no_other line of.stated in
-                let same : t ≡ s = same_clock g t s wf (is.no_other t at) of.live (sym is_of.clock ∙ of.clock) in
-                subst (λ (u : System). port_numbers line ≡ range_with_len 1 u.ports) same is_of.ports
-          }
+          different = Different-rising (line_clocks made.lines) rising;
+          all = λ s live. (let (line, at, of) = made.all s (is.kept s live) in (line, record { live = live; stated = at; clock = of.clock }));
+          no_other = λ line h. (let (s, at, of) = made.no_other line h in (s, record { live = is.no_other s at; stated = h; clock = of.clock }));
+          ports = λ s line of.
+              let (t, at, is_of) = made.no_other line of.stated in
+              let same : t ≡ s = same_clock g t s wf (is.no_other t at) of.live (sym is_of.clock ∙ of.clock) in
+              subst (λ (u : System). port_numbers line ≡ range_with_len 1 u.ports) same is_of.ports;
+        }
 
 -- the parent, or none, is one
 IsParentIfAny-unique : (g : Snapshot) (v : ℕ) (o p : Option ParentLink) → IsParentIfAny g v o → IsParentIfAny g v p → o ≡ p
@@ -128,10 +131,13 @@ same_ports g v (p ∷ ps) (q ∷ qs) e h k = ap₂ (λ (x : PortLine) (xs : List
   where
     number : p.number ≡ q.number
     number = cc
+
     tails : map (λ (port : PortLine). port.number) ps ≡ map (λ (port : PortLine). port.number) qs
     tails = cc
+
     role : p.role ≡ q.role
     role = RoleBy-unique _ _ _ p.role q.role (h p (inl refl)) (subst (λ n. IsSettledRole g (port_of v n) q.role) (sym number) (k q (inl refl)))
+
     heads : p ≡ q
     heads i = record { number = number i; role = role i }
 
@@ -144,10 +150,13 @@ same_settled_line g one two wf clock numbers h k = λ i. record { clock = clock 
         let (a, is_a, ra) = h.root in
         let (b, is_b, rb) = k.root in
         ra ∙ ap (λ (s : System). s.identity) (IsBest-unique g two.clock a b wf (subst (λ v. IsBest g v a) clock is_a) is_b) ∙ sym rb
+
     steps : one.steps ≡ two.steps
     steps = IsDistance-unique g two.clock one.steps two.steps wf (subst (λ v. IsDistance g v one.steps) clock h.steps) k.steps
+
     parent : one.parent ≡ two.parent
     parent = IsParentIfAny-unique g two.clock one.parent two.parent (subst (λ v. IsParentIfAny g v one.parent) clock h.parent) k.parent
+
     ports : one.ports ≡ two.ports
     ports = same_ports g two.clock one.ports two.ports numbers (λ port i. subst (λ v. IsSettledRole g (port_of v port.number) port.role) clock (h.roles port i)) k.roles
 

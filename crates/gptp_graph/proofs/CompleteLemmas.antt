@@ -1,21 +1,20 @@
 -- The settled choice passes the local tests, where all steps are below 255.
-use Rattle.std.proofs.Common.{◌≡◌, ◌⊎◌, ◌≤◌, ◌<◌, ◌+◌, ℕ, zero, suc, List, Option, Some, None, refl, sym, ap, subst, ◌∙◌, arith}
+use Rattle.std.proofs.Common.{◌≡◌, ◌≤◌, ℕ, zero, suc, List, Some, None, refl, sym, ap, subst, ◌∙◌, arith}
 use Rattle.gptp_graph.specs.Members.{In}
-use Rattle.gptp_graph.specs.Snapshot.{System, Snapshot, IsWellFormed, clocks, Adjacent}
+use Rattle.gptp_graph.specs.Snapshot.{System, Snapshot, IsWellFormed, clocks}
 use Rattle.gptp_graph.specs.Path.{Reaches}
-use Rattle.gptp_graph.specs.Best.{IsBest}
 use Rattle.gptp_graph.specs.Distance.{IsDistance}
 use Rattle.gptp_graph.specs.Parent.{ParentLink, IsParent}
-use Rattle.gptp_graph.specs.Labelling.{SystemLine, IsLineOf}
+use Rattle.gptp_graph.specs.Labelling.{SystemLine}
 use Rattle.gptp_graph.specs.SettledChoice.{IsParentIfAny, IsSettledChoice}
-use Rattle.gptp_graph.specs.LocalTests.{StatesSteps, PassesTooFar, PassesRoot, PassesSteps, PassesParent, PassesLink, PassesIdentity, PassesTie, PassesRole, PassesLocalTests}
+use Rattle.gptp_graph.specs.LocalTests.{PassesTooFar, PassesRoot, PassesSteps, PassesParent, PassesLink, PassesIdentity, PassesTie, PassesRole, PassesLocalTests}
 use Rattle.gptp_graph.proofs.SystemLemmas.{In-clocks, same_clock}
 use Rattle.gptp_graph.proofs.PathLemmas.{Reaches-self, Adjacent-sym}
 use Rattle.gptp_graph.proofs.BestLemmas.{IsBest-agree}
 use Rattle.gptp_graph.proofs.DistanceLemmas.{IsDistance-unique, IsDistance-neighbour, best_at_zero}
 use Rattle.gptp_graph.proofs.ParentLemmas.{parent_exists}
 use Rattle.gptp_graph.proofs.RoleLemmas.{RoleBy-map}
-use Rattle.gptp_graph.proofs.StatementLemmas.{StateDistances, distance_of_stated, stated_of_distance, same_steps, master_of_stated, stated_of_master, slave_of_stated, stated_of_slave}
+use Rattle.gptp_graph.proofs.StatementLemmas.{StateDistances, distance_of_stated, stated_of_distance, master_of_stated, stated_of_master, slave_of_stated, stated_of_slave}
 
 module _ (g : Snapshot) (lines : List SystemLine) (wf : IsWellFormed g) (h : IsSettledChoice g lines) where
   stated_distances : StateDistances g lines
@@ -45,12 +44,12 @@ module _ (g : Snapshot) (lines : List SystemLine) (wf : IsWellFormed g) (h : IsS
 
   passes_steps : PassesSteps lines
   passes_steps = record {
-      none = zero_without_parent;
-      some = λ line l stated is.
-          let p = parent_of line l stated is in
-          let e : suc p.nearer.distance ≡ line.steps = IsDistance-unique g line.clock (suc p.nearer.distance) line.steps wf p.nearer.here (stated_distances line stated) in
-          omega arith
-    }
+    none = zero_without_parent;
+    some = λ line l stated is.
+        let p = parent_of line l stated is in
+        let e : suc p.nearer.distance ≡ line.steps = IsDistance-unique g line.clock (suc p.nearer.distance) line.steps wf p.nearer.here (stated_distances line stated) in
+        omega arith;
+  }
 
   passes_parent : PassesParent g lines
   passes_parent line l stated is =
@@ -79,32 +78,32 @@ module _ (g : Snapshot) (lines : List SystemLine) (wf : IsWellFormed g) (h : IsS
       let p = parent_of line l stated is in
       let e : line.steps ≡ suc d = omega arith in
       p.least other (record {
-          joins = joins;
-          distance = d;
-          there = distance_of_stated g lines other.clock d stated_distances steps;
-          here = subst (IsDistance g line.clock) e (stated_distances line stated)
-        }) lower
+        joins = joins;
+        distance = d;
+        there = distance_of_stated g lines other.clock d stated_distances steps;
+        here = subst (IsDistance g line.clock) e (stated_distances line stated);
+      }) lower
 
   passes_role : PassesRole g lines
   passes_role line port stated at =
       let s = h.settled line stated in
       RoleBy-map _ _ _ _ _ port.role
-          (stated_of_slave g line port.number s.parent)
-          (slave_of_stated g line port.number s.parent)
-          (stated_of_master g lines line port.number wf h.systems stated_distances stated)
-          (master_of_stated g lines line port.number stated_distances stated)
-          (s.roles port at)
+      (stated_of_slave g line port.number s.parent)
+      (slave_of_stated g line port.number s.parent)
+      (stated_of_master g lines line port.number wf h.systems stated_distances stated)
+      (master_of_stated g lines line port.number stated_distances stated)
+      (s.roles port at)
 
   -- the settled choice passes the local tests
   pub complete : PassesTooFar lines → PassesLocalTests g lines
   complete near = record {
-      systems = h.systems;
-      too_far = near;
-      root = passes_root;
-      steps = passes_steps;
-      parent = passes_parent;
-      link = passes_link;
-      identity = passes_identity;
-      tie = passes_tie;
-      role = passes_role
-    }
+    systems = h.systems;
+    too_far = near;
+    root = passes_root;
+    steps = passes_steps;
+    parent = passes_parent;
+    link = passes_link;
+    identity = passes_identity;
+    tie = passes_tie;
+    role = passes_role;
+  }

@@ -1,6 +1,6 @@
 -- Decisions: of two facts, over the members of a list, and of the least number with a property. Those marked
 -- `unfoldable` compute at literals.
-use Rattle.std.proofs.Common.{◌≡◌, ◌⊎◌, ◌≤◌, ◌<◌, ℕ, zero, suc, Bool, true, false, List, [], ◌∷◌, refl, ap, subst, sym, inl, inr, arith}
+use Rattle.std.proofs.Common.{◌≡◌, ◌⊎◌, ◌≤◌, ◌<◌, ℕ, zero, suc, List, [], ◌∷◌, refl, subst, inl, inr, arith}
 use native.Mathlib.Decide.{ℕ_discrete, dec_lt}
 use Rattle.gptp_graph.specs.Members.{In}
 

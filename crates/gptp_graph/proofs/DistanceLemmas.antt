@@ -1,13 +1,13 @@
 -- Distances: each is one number, below the number of systems, and falls by one step at a time toward the best.
-use Rattle.std.proofs.Common.{◌≡◌, ◌≤◌, ◌<◌, ◌+◌, ◌++◌, ℕ, zero, suc, List, [], ◌∷◌, length, refl, sym, ap, subst, ◌∙◌, arith, length-append}
+use Rattle.std.proofs.Common.{◌≡◌, ◌≤◌, ◌<◌, ◌++◌, ℕ, suc, List, [], ◌∷◌, length, refl, subst, ◌∙◌, arith, length-append}
 use Rattle.gptp_graph.specs.Members.{In}
 use Rattle.gptp_graph.specs.Snapshot.{System, Snapshot, IsWellFormed, clocks, Adjacent}
-use Rattle.gptp_graph.specs.Path.{Route, IsPath, Reaches}
+use Rattle.gptp_graph.specs.Path.{Route}
 use Rattle.gptp_graph.specs.Best.{IsBest}
 use Rattle.gptp_graph.specs.Distance.{IsDistanceFrom, IsDistance}
 use Rattle.gptp_graph.proofs.SystemLemmas.{In-clocks}
-use Rattle.gptp_graph.proofs.PathLemmas.{Route-append, Route-reverse, path_of, path_bounded, IsPath-self, Reaches-sym, Reaches-clock, Adjacent-sym}
-use Rattle.gptp_graph.proofs.BestLemmas.{IsBest-unique, IsBest-reached, IsBest-agree, IsBest-neighbour}
+use Rattle.gptp_graph.proofs.PathLemmas.{Route-append, Route-reverse, path_of, path_bounded, IsPath-self, Reaches-clock, Adjacent-sym}
+use Rattle.gptp_graph.proofs.BestLemmas.{IsBest-unique, IsBest-neighbour}
 
 -- no route is shorter than the distance
 pub least_route : (g : Snapshot) (b v d : ℕ) (us : List ℕ) → IsDistanceFrom g b v d → Route g b v us → d ≤ length us
@@ -61,6 +61,7 @@ step_before g b v n us r long = go back.0 back.1 (back.2 ∙ long)
   where
     back : (ts : List ℕ) × Route g v b ts × (length ts ≡ length us)
     back = Route-reverse g b v us r
+
     go : (ts : List ℕ) → Route g v b ts → length ts ≡ suc n → (w : ℕ) × Adjacent g v w × ((xs : List ℕ) × Route g b w xs × (length xs ≡ n))
     go [] r e = absurd cc
     go (w ∷ ts) r e =

@@ -1,15 +1,15 @@
 -- Every system of a snapshot has a best and a distance.
-use Rattle.std.proofs.Common.{◌≡◌, ◌⊎◌, ◌≤◌, ◌<◌, ℕ, zero, suc, List, [], ◌∷◌, length, refl, sym, ap, subst, ◌∙◌, inl, inr, arith}
+use Rattle.std.proofs.Common.{◌≡◌, ◌≤◌, ◌<◌, ℕ, zero, suc, List, [], ◌∷◌, length, refl, sym, ap, subst, inl, inr, arith}
 use native.Mathlib.Decide.{ℕ_discrete, dec_le}
 use Rattle.gptp_graph.specs.Members.{In}
 use Rattle.gptp_graph.specs.Order.{IsLower}
-use Rattle.gptp_graph.specs.Snapshot.{System, PortIdentity, Link, Snapshot, IsWellFormed, clocks, port_of, Joins, Adjacent}
-use Rattle.gptp_graph.specs.Path.{Route, IsPath, Reaches}
+use Rattle.gptp_graph.specs.Snapshot.{System, Snapshot, IsWellFormed, clocks, Adjacent}
+use Rattle.gptp_graph.specs.Path.{Route, Reaches}
 use Rattle.gptp_graph.specs.Best.{IsBest}
 use Rattle.gptp_graph.specs.Distance.{IsDistanceFrom, IsDistance}
 use Rattle.gptp_graph.proofs.DecisionLemmas.{dec_iff, dec_both, any_dec, below_dec, least_number}
 use Rattle.gptp_graph.proofs.LinkDecisions.{Adjacent-dec}
-use Rattle.gptp_graph.proofs.OrderLemmas.{IsLeastIn, least_member}
+use Rattle.gptp_graph.proofs.OrderLemmas.{least_member}
 use Rattle.gptp_graph.proofs.SystemLemmas.{system_of}
 use Rattle.gptp_graph.proofs.PathLemmas.{Adjacent-clock, path_of, path_bounded, Reaches-self, Reaches-route, Reaches-sym}
 
@@ -28,6 +28,7 @@ RouteOf-dec g v w wf (suc n) =
   where
     over : ((u : ℕ) × In u (clocks g) × (Adjacent g v u × RouteOf g u w n)) → RouteOf g v w (suc n)
     over (u, h, (a, (us, r, e))) = (u ∷ us, (a, r), ap suc e)
+
     back : RouteOf g v w (suc n) → (u : ℕ) × In u (clocks g) × (Adjacent g v u × RouteOf g u w n)
     back ([], r, e) = absurd (omega arith)
     back (u ∷ us, (a, r), e) = (u, Adjacent-clock g v u wf a, (a, (us, r, omega arith)))
@@ -38,6 +39,7 @@ Reaches-dec g v w wf here = dec_iff over back (below_dec (RouteOf g v w) (RouteO
   where
     over : ((n : ℕ) × (n < length g.systems) × RouteOf g v w n) → Reaches g v w
     over (n, b, (us, r, e)) = Reaches-route g v w us here r
+
     back : Reaches g v w → (n : ℕ) × (n < length g.systems) × RouteOf g v w n
     back (us, p) = (length us, path_bounded g v w us wf p, (us, p.route, refl))
 
@@ -57,16 +59,19 @@ distance_from_exists g b v wf (us, p) =
 -- every system has a best
 pub best_exists : (g : Snapshot) (v : ℕ) → IsWellFormed g → In v (clocks g) → (best : System) × IsBest g v best
 best_exists g v wf here = elim (least_member identity_key reached g.systems (λ s h. Reaches-dec g v s.clock wf here)) [
-    | inl none ↦ absurd (self (system_of g v here) none)
-    | inr (best, is) ↦ (best, record { live = is.member; reached = is.holds; least = λ s h r. at_most (best.identity) (s.identity) (is.least s h r) })
-  ]
+  | inl none ↦ absurd (self (system_of g v here) none)
+  | inr (best, is) ↦ (best, record { live = is.member; reached = is.holds; least = λ s h r. at_most (best.identity) (s.identity) (is.least s h r) })
+]
   where
     identity_key : System → List ℕ
     identity_key s = s.identity ∷ []
+
     reached : System → Type 0
     reached s = Reaches g v s.clock
+
     self : ((s : System) × In s g.systems × (s.clock ≡ v)) → ((s : System) → In s g.systems → Reaches g v s.clock → ⊥) → ⊥
     self (s, h, e) none = none s h (subst (λ w. Reaches g v w) (sym e) (Reaches-self g v here))
+
     at_most : (i j : ℕ) → (IsLower (j ∷ []) (i ∷ []) → ⊥) → i ≤ j
     at_most i j not_lower = elim (dec_le i j) [ yes b ↦ b | no over ↦ absurd (not_lower (inl (omega arith))) ]
 

@@ -28,6 +28,7 @@ IsLinked-dec g p = dec_iff over back (any_dec (λ (l : Link). (l.a ≡ p) ⊎ (l
     over : ((l : Link) × In l g.links × ((l.a ≡ p) ⊎ (l.b ≡ p))) → IsLinked g p
     over (l, h, inl e) = (l.b, inl (subst (λ k. In k g.links) (λ i. record { a = e i; b = l.b }) h))
     over (l, h, inr e) = (l.a, inr (subst (λ k. In k g.links) (λ i. record { a = l.a; b = e i }) h))
+
     back : IsLinked g p → (l : Link) × In l g.links × ((l.a ≡ p) ⊎ (l.b ≡ p))
     back (q, inl h) = (record { a = p; b = q }, h, inl refl)
     back (q, inr h) = (record { a = q; b = p }, h, inr refl)
@@ -46,7 +47,7 @@ Adjacent-dec g v w = dec_iff over back (any_dec (Crosses v w) g.links (λ l h. C
     over : ((l : Link) × In l g.links × Crosses v w l) → Adjacent g v w
     over (l, h, inl (a, b)) = (l.a.port, l.b.port, inl (subst (λ k. In k g.links) (λ i. record { a = port_of (a i) l.a.port; b = port_of (b i) l.b.port }) h))
     over (l, h, inr (b, a)) = (l.b.port, l.a.port, inr (subst (λ k. In k g.links) (λ i. record { a = port_of (a i) l.a.port; b = port_of (b i) l.b.port }) h))
+
     back : Adjacent g v w → (l : Link) × In l g.links × Crosses v w l
     back (m, n, inl h) = (record { a = port_of v m; b = port_of w n }, h, inl (refl, refl))
     back (m, n, inr h) = (record { a = port_of w n; b = port_of v m }, h, inr (refl, refl))
-

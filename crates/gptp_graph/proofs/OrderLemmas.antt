@@ -1,5 +1,5 @@
 -- The order of lists by their first difference is total on lists of one length, and lists have a member that is least.
-use Rattle.std.proofs.Common.{◌≡◌, ◌⊎◌, ◌≤◌, ◌<◌, ℕ, zero, suc, List, [], ◌∷◌, length, refl, ap, subst, sym, ◌∙◌, inl, inr, arith}
+use Rattle.std.proofs.Common.{◌≡◌, ◌⊎◌, ℕ, List, [], ◌∷◌, length, refl, subst, sym, ◌∙◌, inl, inr, arith}
 use native.Mathlib.Decide.{ℕ_discrete, dec_lt}
 use Rattle.gptp_graph.specs.Members.{In}
 use Rattle.gptp_graph.specs.Order.{IsLower}
@@ -52,30 +52,43 @@ least_member {X} key P (x ∷ xs) d = add (d x (inl refl)) (least_member key P x
   where
     among : X → Type 0
     among = IsLeastIn key P (x ∷ xs)
+
     add : Dec (P x) → ((y : X) → In y xs → P y → ⊥) ⊎ ((y : X) × IsLeastIn key P xs y) → ((y : X) → In y (x ∷ xs) → P y → ⊥) ⊎ ((y : X) × among y)
     add (no f) (inl none) = inl (λ y h p. elim h [ inl e ↦ f (subst P e p) | inr k ↦ none y k p ])
-    add (no f) (inr (m, is)) = inr (m, record {
+    add (no f) (inr (m, is)) = inr (
+      m,
+      record {
         member = inr is.member;
         holds = is.holds;
-        least = λ y h p below. elim h [ inl e ↦ f (subst P e p) | inr k ↦ is.least y k p below ]
-      })
-    add (yes q) (inl none) = inr (x, record {
+        least = λ y h p below. elim h [ inl e ↦ f (subst P e p) | inr k ↦ is.least y k p below ];
+      },
+    )
+    add (yes q) (inl none) = inr (
+      x,
+      record {
         member = inl refl;
         holds = q;
-        least = λ y h p below. elim h [ inl e ↦ IsLower-irrefl (key x) (subst (λ z. IsLower (key z) (key x)) e below) | inr k ↦ none y k p ]
-      })
+        least = λ y h p below. elim h [ inl e ↦ IsLower-irrefl (key x) (subst (λ z. IsLower (key z) (key x)) e below) | inr k ↦ none y k p ];
+      },
+    )
     add (yes q) (inr (m, is)) = elim (IsLower-dec (key x) (key m)) [
-        | yes lower ↦ inr (x, record {
-            member = inl refl;
-            holds = q;
-            least = λ y h p below. elim h [
-                | inl e ↦ IsLower-irrefl (key x) (subst (λ z. IsLower (key z) (key x)) e below)
-                | inr k ↦ is.least y k p (IsLower-trans (key y) (key x) (key m) below lower)
-              ]
-          })
-        | no not_lower ↦ inr (m, record {
-            member = inr is.member;
-            holds = is.holds;
-            least = λ y h p below. elim h [ inl e ↦ not_lower (subst (λ z. IsLower (key z) (key m)) e below) | inr k ↦ is.least y k p below ]
-          })
-      ]
+      | yes lower ↦ inr (
+        x,
+        record {
+          member = inl refl;
+          holds = q;
+          least = λ y h p below. elim h [
+            | inl e ↦ IsLower-irrefl (key x) (subst (λ z. IsLower (key z) (key x)) e below)
+            | inr k ↦ is.least y k p (IsLower-trans (key y) (key x) (key m) below lower)
+          ];
+        },
+      )
+      | no not_lower ↦ inr (
+        m,
+        record {
+          member = inr is.member;
+          holds = is.holds;
+          least = λ y h p below. elim h [ inl e ↦ not_lower (subst (λ z. IsLower (key z) (key m)) e below) | inr k ↦ is.least y k p below ];
+        },
+      )
+    ]

@@ -1,14 +1,12 @@
 -- A system that isn't best has one parent, and the parent's port is a master port.
-use Rattle.std.proofs.Common.{◌≡◌, ◌⊎◌, ◌≤◌, ◌<◌, ℕ, zero, suc, List, [], ◌∷◌, refl, sym, ap, subst, ◌∙◌, inl, inr, arith}
+use Rattle.std.proofs.Common.{◌≡◌, ◌⊎◌, ℕ, suc, List, [], ◌∷◌, refl, subst, inl, inr, arith}
 use native.Mathlib.Decide.{ℕ_discrete}
 use Rattle.gptp_graph.specs.Members.{In}
-use Rattle.gptp_graph.specs.Order.{IsLower}
-use Rattle.gptp_graph.specs.Snapshot.{System, PortIdentity, Link, Snapshot, IsWellFormed, clocks, port_of, Joins, Adjacent}
-use Rattle.gptp_graph.specs.Best.{IsBest}
+use Rattle.gptp_graph.specs.Snapshot.{Link, Snapshot, IsWellFormed, clocks, port_of, Adjacent}
 use Rattle.gptp_graph.specs.Distance.{IsDistance}
 use Rattle.gptp_graph.specs.Parent.{ParentLink, key, JoinsAt, LeadsNearer, IsParent}
 use Rattle.gptp_graph.proofs.LinkDecisions.{Joins-dec}
-use Rattle.gptp_graph.proofs.OrderLemmas.{IsLower-total, IsLeastIn, least_member}
+use Rattle.gptp_graph.proofs.OrderLemmas.{IsLower-total, least_member}
 use Rattle.gptp_graph.proofs.PathLemmas.{Joins-sym, Joins-clock}
 use Rattle.gptp_graph.proofs.DistanceLemmas.{IsDistance-unique, nearer_neighbour}
 use Rattle.gptp_graph.proofs.ExistenceLemmas.{distance_exists}
@@ -35,15 +33,15 @@ JoinsAt-clock g v l wf j = Joins-clock g (port_of l.clock l.port) (port_of v l.o
 -- whether a link leads nearer
 LeadsNearer-dec : (g : Snapshot) (v d : ℕ) (l : ParentLink) → IsWellFormed g → IsDistance g v (suc d) → Dec (LeadsNearer g v l)
 LeadsNearer-dec g v d l wf here = elim (Joins-dec g (port_of v l.own_port) (port_of l.clock l.port)) [
-    | no apart ↦ no (λ h. apart h.joins)
-    | yes j ↦ by_distance j (distance_exists g l.clock wf (JoinsAt-clock g v l wf j))
-  ]
+  | no apart ↦ no (λ h. apart h.joins)
+  | yes j ↦ by_distance j (distance_exists g l.clock wf (JoinsAt-clock g v l wf j))
+]
   where
     by_distance : JoinsAt g v l → ((e : ℕ) × IsDistance g l.clock e) → Dec (LeadsNearer g v l)
     by_distance j (e, there) = elim (ℕ_discrete e d) [
-        | yes same ↦ yes (record { joins = j; distance = d; there = subst (IsDistance g l.clock) same there; here = here })
-        | no other ↦ no (λ h. other (as_far h))
-      ]
+      | yes same ↦ yes (record { joins = j; distance = d; there = subst (IsDistance g l.clock) same there; here = here })
+      | no other ↦ no (λ h. other (as_far h))
+    ]
       where
         as_far : LeadsNearer g v l → e ≡ d
         as_far h =
@@ -54,9 +52,9 @@ LeadsNearer-dec g v d l wf here = elim (Joins-dec g (port_of v l.own_port) (port
 -- a system that isn't at distance zero has a parent
 pub parent_exists : (g : Snapshot) (v d : ℕ) → IsWellFormed g → IsDistance g v (suc d) → (l : ParentLink) × IsParent g v l
 parent_exists g v d wf here = elim (least_member key (LeadsNearer g v) (seen g.links) (λ l h. LeadsNearer-dec g v d l wf here)) [
-    | inl none ↦ absurd (some (nearer_neighbour g v d wf here) none)
-    | inr (l, is) ↦ (l, record { nearer = is.holds; least = λ other h. is.least other (In-seen v other g.links h.joins) h })
-  ]
+  | inl none ↦ absurd (some (nearer_neighbour g v d wf here) none)
+  | inr (l, is) ↦ (l, record { nearer = is.holds; least = λ other h. is.least other (In-seen v other g.links h.joins) h })
+]
   where
     some : ((w : ℕ) × Adjacent g v w × IsDistance g w d) → ((l : ParentLink) → In l (seen g.links) → LeadsNearer g v l → ⊥) → ⊥
     some (w, (m, n, j), there) none =
@@ -74,10 +72,10 @@ key-injective l k e =
 -- a system has one parent at most
 pub IsParent-unique : (g : Snapshot) (v : ℕ) (l k : ParentLink) → IsParent g v l → IsParent g v k → l ≡ k
 IsParent-unique g v l k h j = elim (IsLower-total (key l) (key k) refl) [
-    | inl same ↦ key-injective l k same
-    | inr (inl lower) ↦ absurd (j.least l h.nearer lower)
-    | inr (inr higher) ↦ absurd (h.least k j.nearer higher)
-  ]
+  | inl same ↦ key-injective l k same
+  | inr (inl lower) ↦ absurd (j.least l h.nearer lower)
+  | inr (inr higher) ↦ absurd (h.least k j.nearer higher)
+]
 
 -- the best has no parent: it is at distance zero
 pub no_parent_at_zero : (g : Snapshot) (v : ℕ) (l : ParentLink) → IsWellFormed g → IsDistance g v 0 → IsParent g v l → ⊥

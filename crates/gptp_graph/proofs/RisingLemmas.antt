@@ -1,5 +1,5 @@
 -- Lists in rising order: every list with different keys has one, and two with the same members are one.
-use Rattle.std.proofs.Common.{◌≡◌, ◌⊎◌, ◌≤◌, ◌<◌, ℕ, List, [], ◌∷◌, map, refl, sym, ap, ap₂, subst, ◌∙◌, inl, inr, arith}
+use Rattle.std.proofs.Common.{◌≡◌, ◌<◌, ℕ, List, [], ◌∷◌, map, refl, sym, ap, ap₂, subst, ◌∙◌, inl, inr, arith}
 use native.Mathlib.Decide.{dec_lt}
 use Rattle.gptp_graph.specs.Members.{In, Different}
 use Rattle.gptp_graph.specs.Order.{IsRising}
@@ -20,28 +20,35 @@ pub record IsArranged {X : Type 0} (key : X → ℕ) (xs ys : List X) : Type 0 w
 insert : {X : Type 0} (key : X → ℕ) (x : X) (ys : List X) → IsRising (map key ys) → (In (key x) (map key ys) → ⊥) → (zs : List X) × IsArranged key (x ∷ ys) zs
 insert key x [] h new = (x ∷ [], record { rising = ((λ y k. absurd k), tt); kept = λ y k. k; no_other = λ y k. k })
 insert {X} key x (y ∷ ys) h new = elim (dec_lt (key x) (key y)) [
-    | yes below ↦ (x ∷ y ∷ ys, record {
-        rising = ((λ n k. elim k [ inl e ↦ subst (λ m. key x < m) (sym e) below | inr i ↦ (let b : key y < n = h.0 n i in omega arith) ]), h);
-        kept = λ z k. k;
-        no_other = λ z k. k
-      })
-    | no over ↦ behind (let b : key y < key x = above (λ e. new (inl e)) over in b) (insert key x ys h.1 (λ k. new (inr k)))
-  ]
+  | yes below ↦ (
+    x ∷ y ∷ ys,
+    record {
+      rising = ((λ n k. elim k [ inl e ↦ subst (λ m. key x < m) (sym e) below | inr i ↦ (let b : key y < n = h.0 n i in omega arith) ]), h);
+      kept = λ z k. k;
+      no_other = λ z k. k;
+    },
+  )
+  | no over ↦ behind (let b : key y < key x = above (λ e. new (inl e)) over in b) (insert key x ys h.1 (λ k. new (inr k)))
+]
   where
     above : (key x ≡ key y → ⊥) → (key x < key y → ⊥) → key y < key x
     above other over = omega arith
+
     behind : key y < key x → ((zs : List X) × IsArranged key (x ∷ ys) zs) → (zs : List X) × IsArranged key (x ∷ y ∷ ys) zs
-    behind below (zs, is) = (y ∷ zs, record {
+    behind below (zs, is) = (
+      y ∷ zs,
+      record {
         rising = ((λ n k. let (z, at, e) = from_map key n zs k in first z n e (is.no_other z at)), is.rising);
         kept = λ z k. elim k [
-            | inl e ↦ inr (is.kept z (inl e))
-            | inr i ↦ elim i [ inl e ↦ inl e | inr j ↦ inr (is.kept z (inr j)) ]
-          ];
+          | inl e ↦ inr (is.kept z (inl e))
+          | inr i ↦ elim i [ inl e ↦ inl e | inr j ↦ inr (is.kept z (inr j)) ]
+        ];
         no_other = λ z k. elim k [
-            | inl e ↦ inr (inl e)
-            | inr i ↦ elim (is.no_other z i) [ inl e ↦ inl e | inr j ↦ inr (inr j) ]
-          ]
-      })
+          | inl e ↦ inr (inl e)
+          | inr i ↦ elim (is.no_other z i) [ inl e ↦ inl e | inr j ↦ inr (inr j) ]
+        ];
+      },
+    )
       where
         first : (z : X) (n : ℕ) → key z ≡ n → In z (x ∷ ys) → key y < n
         first z n e (inl same) = subst (λ m. key y < m) e (subst (λ w. key y < key w) (sym same) below)
@@ -56,11 +63,14 @@ arranged {X} key (x ∷ xs) d = add (arranged key xs d.1)
     add (ys, is) = joined (insert key x ys is.rising (λ k. let (z, at, e) = from_map key (key x) ys k in d.0 (subst (λ m. In m (map key xs)) e (In-map key z xs (is.no_other z at)))))
       where
         joined : ((zs : List X) × IsArranged key (x ∷ ys) zs) → (zs : List X) × IsArranged key (x ∷ xs) zs
-        joined (zs, more) = (zs, record {
+        joined (zs, more) = (
+          zs,
+          record {
             rising = more.rising;
             kept = λ z k. elim k [ inl e ↦ more.kept z (inl e) | inr i ↦ more.kept z (inr (is.kept z i)) ];
-            no_other = λ z k. elim (more.no_other z k) [ inl e ↦ inl e | inr i ↦ inr (is.no_other z i) ]
-          })
+            no_other = λ z k. elim (more.no_other z k) [ inl e ↦ inl e | inr i ↦ inr (is.no_other z i) ];
+          },
+        )
 
 -- two rising lists with the same members are one
 pub same_rising : {X : Type 0} (key : X → ℕ) (xs ys : List X) → IsRising (map key xs) → IsRising (map key ys)
@@ -72,16 +82,18 @@ same_rising {X} key (x ∷ xs) (y ∷ ys) h k to back = ap₂ (λ (z : X) (zs : 
   where
     after : (a z : X) (zs : List X) → ((n : ℕ) → In n (map key zs) → key a < n) → In z zs → key a < key z
     after a z zs low at = low (key z) (In-map key z zs at)
+
     heads : x ≡ y
     heads = elim (to x (inl refl)) [
-        | inl e ↦ e
-        | inr i ↦ elim (back y (inl refl)) [
-            | inl e ↦ sym e
-            | inr j ↦ absurd (let a : key y < key x = after y x ys k.0 i in let b : key x < key y = after x y xs h.0 j in omega arith)
-          ]
+      | inl e ↦ e
+      | inr i ↦ elim (back y (inl refl)) [
+        | inl e ↦ sym e
+        | inr j ↦ absurd (let a : key y < key x = after y x ys k.0 i in let b : key x < key y = after x y xs h.0 j in omega arith)
       ]
+    ]
+
     tail : (a b : X) (ms ns : List X) → a ≡ b → ((n : ℕ) → In n (map key ms) → key a < n) → ((z : X) → In z (a ∷ ms) → In z (b ∷ ns)) → (z : X) → In z ms → In z ns
     tail a b ms ns e low over z at = elim (over z (inr at)) [
-        | inl same ↦ absurd (let l : key a < key z = after a z ms low at in let m : key z ≡ key a = ap key (same ∙ sym e) in omega arith)
-        | inr i ↦ i
-      ]
+      | inl same ↦ absurd (let l : key a < key z = after a z ms low at in let m : key z ≡ key a = ap key (same ∙ sym e) in omega arith)
+      | inr i ↦ i
+    ]

@@ -1,8 +1,8 @@
 -- Every port of a system has one settled role; the port at the other end of a slave port is a master port.
-use Rattle.std.proofs.Common.{◌≡◌, ◌⊎◌, ◌≤◌, ◌<◌, ℕ, zero, suc, List, [], ◌∷◌, refl, sym, ap, subst, ◌∙◌, inl, inr, arith}
+use Rattle.std.proofs.Common.{◌≡◌, ◌⊎◌, ◌<◌, ℕ, zero, suc, refl, ap, subst, ◌∙◌, inl, arith}
 use native.Mathlib.Decide.{ℕ_discrete, dec_lt}
 use Rattle.gptp_graph.specs.Members.{In}
-use Rattle.gptp_graph.specs.Snapshot.{System, PortIdentity, Link, Snapshot, IsWellFormed, clocks, port_of, Joins, IsLinked}
+use Rattle.gptp_graph.specs.Snapshot.{PortIdentity, Snapshot, IsWellFormed, clocks, port_of, Joins, IsLinked}
 use Rattle.gptp_graph.specs.Distance.{IsDistance}
 use Rattle.gptp_graph.specs.Parent.{ParentLink, IsParent}
 use Rattle.gptp_graph.specs.SettledRole.{Role, Disabled, Master, Slave, Passive, RoleBy, IsSlavePort, IsMasterPort, IsSettledRole}
@@ -62,14 +62,15 @@ IsMasterPort-dec g p wf (yes (q, j)) = by_distances (distance_exists g p.clock w
       where
         over : (d < e) ⊎ ((d ≡ e) × (p.clock < q.clock)) → IsMasterPort g p
         over h = record { other = q; joins = j; here = d; there = e; is_here = here; is_there = there; nearer = h }
+
         back : IsMasterPort g p → (d < e) ⊎ ((d ≡ e) × (p.clock < q.clock))
         back h =
             let same_end : h.other ≡ q = wf.one_link p h.other q h.joins j in
             let dd : h.here ≡ d = IsDistance-unique g p.clock h.here d wf h.is_here here in
             let ee : h.there ≡ e = IsDistance-unique g q.clock h.there e wf (subst (λ (r : PortIdentity). IsDistance g r.clock h.there) same_end h.is_there) there in
             subst (λ x. (x < e) ⊎ ((x ≡ e) × (p.clock < q.clock))) dd
-                (subst (λ x. (h.here < x) ⊎ ((h.here ≡ x) × (p.clock < q.clock))) ee
-                    (subst (λ (r : PortIdentity). (h.here < h.there) ⊎ ((h.here ≡ h.there) × (p.clock < r.clock))) same_end h.nearer))
+            (subst (λ x. (h.here < x) ⊎ ((h.here ≡ x) × (p.clock < q.clock))) ee
+            (subst (λ (r : PortIdentity). (h.here < h.there) ⊎ ((h.here ≡ h.there) × (p.clock < r.clock))) same_end h.nearer))
 
 -- every port of a system has a settled role
 pub settled_role_exists : (g : Snapshot) (p : PortIdentity) → IsWellFormed g → In p.clock (clocks g) → (role : Role) × IsSettledRole g p role
@@ -83,20 +84,24 @@ parent_is_master g v l wf h = ((own, back), not_slave, master)
   where
     own : PortIdentity
     own = port_of v l.own_port
+
     there : PortIdentity
     there = port_of l.clock l.port
+
     back : Joins g there own
     back = Joins-sym g own there h.nearer.joins
+
     master : IsMasterPort g there
     master = record {
-        other = own;
-        joins = back;
-        here = h.nearer.distance;
-        there = suc h.nearer.distance;
-        is_here = h.nearer.there;
-        is_there = h.nearer.here;
-        nearer = inl (omega arith)
-      }
+      other = own;
+      joins = back;
+      here = h.nearer.distance;
+      there = suc h.nearer.distance;
+      is_here = h.nearer.there;
+      is_there = h.nearer.here;
+      nearer = inl (omega arith);
+    }
+
     -- its own parent is nearer still, and so isn't at the other end of this link
     not_slave : IsSlavePort g there → ⊥
     not_slave (k, is, e) =

@@ -1,20 +1,19 @@
 -- A labelling that passes the local tests is the settled choice.
-use Rattle.std.proofs.Common.{◌≡◌, ◌⊎◌, ◌≤◌, ◌<◌, ◌+◌, ℕ, zero, suc, List, [], ◌∷◌, length, Option, Some, None, refl, sym, ap, subst, ◌∙◌, inl, inr, arith}
+use Rattle.std.proofs.Common.{◌≡◌, ◌≤◌, ◌<◌, ◌+◌, ℕ, zero, suc, List, [], ◌∷◌, length, Option, Some, None, refl, sym, ap, subst, ◌∙◌, arith}
 use Rattle.gptp_graph.specs.Members.{In}
-use Rattle.gptp_graph.specs.Snapshot.{System, Snapshot, IsWellFormed, clocks, port_of, Adjacent, IsLinked}
-use Rattle.gptp_graph.specs.Path.{Route, IsPath, Reaches}
+use Rattle.gptp_graph.specs.Snapshot.{System, Snapshot, IsWellFormed, Adjacent}
+use Rattle.gptp_graph.specs.Path.{Route, Reaches}
 use Rattle.gptp_graph.specs.Best.{IsBest}
 use Rattle.gptp_graph.specs.Distance.{IsDistance}
-use Rattle.gptp_graph.specs.Parent.{ParentLink, IsParent}
-use Rattle.gptp_graph.specs.SettledRole.{IsSlavePort, IsMasterPort, IsSettledRole}
-use Rattle.gptp_graph.specs.Labelling.{PortLine, SystemLine, IsLineOf}
+use Rattle.gptp_graph.specs.Parent.{ParentLink}
+use Rattle.gptp_graph.specs.Labelling.{SystemLine}
 use Rattle.gptp_graph.specs.SettledChoice.{IsParentIfAny, IsSettledLine, IsSettledChoice}
-use Rattle.gptp_graph.specs.LocalTests.{StatesSlave, StatesMaster, PassesLocalTests}
+use Rattle.gptp_graph.specs.LocalTests.{PassesLocalTests}
 use Rattle.gptp_graph.proofs.PathLemmas.{Adjacent-clock, Route-reverse, path_of, Reaches-route}
 use Rattle.gptp_graph.proofs.SystemLemmas.{In-clocks}
 use Rattle.gptp_graph.proofs.DistanceLemmas.{IsDistance-unique}
 use Rattle.gptp_graph.proofs.RoleLemmas.{RoleBy-map}
-use Rattle.gptp_graph.proofs.StatementLemmas.{HasLine, line_of, line_clock, same_line, same_steps, StateDistances, distance_of_stated, stated_of_distance, master_of_stated, stated_of_master, slave_of_stated, stated_of_slave}
+use Rattle.gptp_graph.proofs.StatementLemmas.{line_of, line_clock, same_line, StateDistances, distance_of_stated, stated_of_distance, master_of_stated, stated_of_master, slave_of_stated, stated_of_slave}
 
 -- a line with no parent, with the same root, which a route of as many steps as are stated reaches
 record HasTop (g : Snapshot) (lines : List SystemLine) (line : SystemLine) : Type 0 where
@@ -64,7 +63,7 @@ module _ (g : Snapshot) (lines : List SystemLine) (wf : IsWellFormed g) (h : Pas
         stated = t.stated;
         alone = t.alone;
         root = up.root ∙ t.root;
-        route = (up.next.clock ∷ us, (up.adjacent, route), ap suc (long ∙ up.steps) ∙ sym e)
+        route = (up.next.clock ∷ us, (up.adjacent, route), ap suc (long ∙ up.steps) ∙ sym e);
       }
 
   -- along a route the root stays, and the steps grow by one at most
@@ -100,7 +99,7 @@ module _ (g : Snapshot) (lines : List SystemLine) (wf : IsWellFormed g) (h : Pas
         is_best = record { live = of.live; reached = Reaches-route g line.clock best.clock us here to_best; least = no_lower line stated best root };
         root = root;
         route = (down.0, down.1, down.2 ∙ long);
-        least = λ ts r. no_shorter line stated t.top t.stated t.alone ts (subst (λ v. Route g v line.clock ts) (sym of.clock) r)
+        least = λ ts r. no_shorter line stated t.top t.stated t.alone ts (subst (λ v. Route g v line.clock ts) (sym of.clock) r);
       }
     where
       no_lower : (line : SystemLine) → In line lines → (best : System) → line.root ≡ best.identity → (s : System) → In s g.systems → Reaches g line.clock s.clock → best.identity ≤ s.identity
@@ -109,6 +108,7 @@ module _ (g : Snapshot) (lines : List SystemLine) (wf : IsWellFormed g) (h : Pas
           let same : line.root ≡ other.root = (along us line other stated of.stated (subst (λ v. Route g line.clock v us) (sym of.clock) p.route)).0 in
           let below : other.root ≤ s.identity = h.identity s other of in
           omega arith
+
       no_shorter : (line : SystemLine) → In line lines → (top : SystemLine) → In top lines → top.parent ≡ None → (us : List ℕ) → Route g top.clock line.clock us → line.steps ≤ length us
       no_shorter line stated top top_stated alone us r =
           let grown : line.steps ≤ top.steps + length us = (along us top line top_stated stated r).1 in
@@ -126,7 +126,7 @@ module _ (g : Snapshot) (lines : List SystemLine) (wf : IsWellFormed g) (h : Pas
       record {
         best = b.best;
         is_best = b.is_best;
-        from_best = record { path = (p.0, p.1, omega arith); least = λ ts q. b.least ts q.route }
+        from_best = record { path = (p.0, p.1, omega arith); least = λ ts q. b.least ts q.route };
       }
 
   -- the stated parents are the parents
@@ -145,11 +145,11 @@ module _ (g : Snapshot) (lines : List SystemLine) (wf : IsWellFormed g) (h : Pas
               joins = joins;
               distance = d;
               there = distance_of_stated g lines l.clock d stated_distances steps;
-              here = subst (IsDistance g line.clock) (let e : line.steps ≡ suc d = omega arith in e) (stated_distances line stated)
+              here = subst (IsDistance g line.clock) (let e : line.steps ≡ suc d = omega arith in e) (stated_distances line stated);
             };
             least = λ other n lower.
                 let more : suc n.distance ≡ line.steps = IsDistance-unique g line.clock (suc n.distance) line.steps wf n.here (stated_distances line stated) in
-                h.tie line l other n.distance stated is n.joins (stated_of_distance g lines other.clock n.distance wf h.systems stated_distances n.there) (omega arith) lower
+                h.tie line l other n.distance stated is n.joins (stated_of_distance g lines other.clock n.distance wf h.systems stated_distances n.there) (omega arith) lower;
           }
 
   -- a labelling that passes the local tests is the settled choice
@@ -158,16 +158,16 @@ module _ (g : Snapshot) (lines : List SystemLine) (wf : IsWellFormed g) (h : Pas
     where
       settled : (line : SystemLine) → In line lines → IsSettledLine g line
       settled line stated = record {
-          root = (let b = stated_best line stated in (b.best, b.is_best, b.root));
-          steps = stated_distances line stated;
-          parent = parent;
-          roles = λ port at. RoleBy-map _ _ _ _ _ port.role
-              (slave_of_stated g line port.number parent)
-              (stated_of_slave g line port.number parent)
-              (master_of_stated g lines line port.number stated_distances stated)
-              (stated_of_master g lines line port.number wf h.systems stated_distances stated)
-              (h.role line port stated at)
-        }
+        root = (let b = stated_best line stated in (b.best, b.is_best, b.root));
+        steps = stated_distances line stated;
+        parent = parent;
+        roles = λ port at. RoleBy-map _ _ _ _ _ port.role
+            (slave_of_stated g line port.number parent)
+            (stated_of_slave g line port.number parent)
+            (master_of_stated g lines line port.number stated_distances stated)
+            (stated_of_master g lines line port.number wf h.systems stated_distances stated)
+            (h.role line port stated at);
+      }
         where
           parent : IsParentIfAny g line.clock line.parent
           parent = stated_parents line stated

@@ -1,18 +1,17 @@
 -- Where the stated steps are the distances, what the lines state of ports is what holds of them.
-use Rattle.std.proofs.Common.{◌≡◌, ◌⊎◌, ◌≤◌, ◌<◌, ℕ, zero, suc, List, Option, Some, None, refl, sym, ap, subst, ◌∙◌, inl, inr, arith}
+use Rattle.std.proofs.Common.{◌≡◌, ◌⊎◌, ◌<◌, ℕ, List, Option, Some, None, refl, sym, ap, subst, ◌∙◌}
 use Rattle.gptp_graph.specs.Members.{In}
-use Rattle.gptp_graph.specs.Snapshot.{System, PortIdentity, Snapshot, IsWellFormed, clocks, port_of, Joins, Adjacent}
+use Rattle.gptp_graph.specs.Snapshot.{Snapshot, IsWellFormed, clocks, port_of}
 use Rattle.gptp_graph.specs.Distance.{IsDistance}
-use Rattle.gptp_graph.specs.Parent.{ParentLink, JoinsAt, LeadsNearer, IsParent}
+use Rattle.gptp_graph.specs.Parent.{ParentLink}
 use Rattle.gptp_graph.specs.SettledRole.{IsSlavePort, IsMasterPort}
-use Rattle.gptp_graph.specs.Labelling.{SystemLine, IsLineOf, HasItsSystems}
+use Rattle.gptp_graph.specs.Labelling.{SystemLine, HasItsSystems}
 use Rattle.gptp_graph.specs.SettledChoice.{IsParentIfAny}
 use Rattle.gptp_graph.specs.LocalTests.{StatesSteps, StatesSlave, StatesMaster}
 use Rattle.gptp_graph.proofs.MemberLemmas.{same_image}
 use Rattle.gptp_graph.proofs.SystemLemmas.{In-clocks, system_of}
-use Rattle.gptp_graph.proofs.PathLemmas.{Joins-sym, Joins-clock}
 use Rattle.gptp_graph.proofs.DistanceLemmas.{IsDistance-unique, IsDistance-clock}
-use Rattle.gptp_graph.proofs.ParentLemmas.{IsParent-unique, JoinsAt-clock}
+use Rattle.gptp_graph.proofs.ParentLemmas.{IsParent-unique}
 
 -- a clock's line
 pub record HasLine (lines : List SystemLine) (v : ℕ) : Type 0 where
@@ -57,24 +56,24 @@ stated_of_distance g lines v d wf h are at =
 pub master_of_stated : (g : Snapshot) (lines : List SystemLine) (line : SystemLine) (n : ℕ) → StateDistances g lines → In line lines
     → StatesMaster g lines line n → IsMasterPort g (port_of line.clock n)
 master_of_stated g lines line n are stated m = record {
-    other = m.other;
-    joins = m.joins;
-    here = line.steps;
-    there = m.there;
-    is_here = are line stated;
-    is_there = distance_of_stated g lines m.other.clock m.there are m.is_there;
-    nearer = m.nearer
-  }
+  other = m.other;
+  joins = m.joins;
+  here = line.steps;
+  there = m.there;
+  is_here = are line stated;
+  is_there = distance_of_stated g lines m.other.clock m.there are m.is_there;
+  nearer = m.nearer;
+}
 
 pub stated_of_master : (g : Snapshot) (lines : List SystemLine) (line : SystemLine) (n : ℕ) → IsWellFormed g → HasItsSystems g lines → StateDistances g lines → In line lines
     → IsMasterPort g (port_of line.clock n) → StatesMaster g lines line n
 stated_of_master g lines line n wf h are stated m = record {
-    other = m.other;
-    joins = m.joins;
-    there = m.there;
-    is_there = stated_of_distance g lines m.other.clock m.there wf h are m.is_there;
-    nearer = subst (λ d. (d < m.there) ⊎ ((d ≡ m.there) × (line.clock < m.other.clock))) (IsDistance-unique g line.clock m.here line.steps wf m.is_here (are line stated)) m.nearer
-  }
+  other = m.other;
+  joins = m.joins;
+  there = m.there;
+  is_there = stated_of_distance g lines m.other.clock m.there wf h are m.is_there;
+  nearer = subst (λ d. (d < m.there) ⊎ ((d ≡ m.there) × (line.clock < m.other.clock))) (IsDistance-unique g line.clock m.here line.steps wf m.is_here (are line stated)) m.nearer;
+}
 
 -- stated to be the slave port, and one
 pub slave_of_stated : (g : Snapshot) (line : SystemLine) (n : ℕ) → IsParentIfAny g line.clock line.parent → StatesSlave line n → IsSlavePort g (port_of line.clock n)

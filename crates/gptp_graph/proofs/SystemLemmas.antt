@@ -1,5 +1,5 @@
 -- Systems of a snapshot by their clocks and identities.
-use Rattle.std.proofs.Common.{◌≡◌, ◌≤◌, ℕ, List, length, map, ap, subst, sym, ◌∙◌, ◌%◌, ◌^◌}
+use Rattle.std.proofs.Common.{◌≡◌, ◌≤◌, ℕ, List, length, ap, subst, sym, ◌∙◌, ◌%◌, ◌^◌}
 use Rattle.gptp_graph.specs.Members.{In, Different}
 use Rattle.gptp_graph.specs.Snapshot.{System, Snapshot, IsWellFormed, clocks}
 use Rattle.gptp_graph.proofs.MemberLemmas.{In-map, from_map, same_image, pigeonhole, length-map}

@@ -1,17 +1,15 @@
 -- Slave ports form a tree: following parents leads to the best, and each parent's port is a master port.
-use Rattle.std.proofs.Common.{◌≡◌, ◌≢◌, ◌+◌, ℕ, zero, suc, refl, sym, ap, subst, ◌∙◌, arith}
+use Rattle.std.proofs.Common.{◌≡◌, ◌≢◌, ℕ, zero, suc, refl, sym, ap, subst, ◌∙◌, arith}
 use Rattle.gptp_graph.specs.Once.{ExistsOnce}
-use Rattle.gptp_graph.specs.Snapshot.{System, Snapshot, IsWellFormed, port_of, Adjacent}
+use Rattle.gptp_graph.specs.Snapshot.{System, Snapshot, IsWellFormed, port_of}
 use Rattle.gptp_graph.specs.Best.{IsBest}
 use Rattle.gptp_graph.specs.Distance.{IsDistance}
 use Rattle.gptp_graph.specs.Parent.{ParentLink, IsParent, Climbs}
-use Rattle.gptp_graph.specs.SettledRole.{Slave, Master, IsSettledRole}
-use Rattle.gptp_graph.proofs.PathLemmas.{Reaches-clock}
+use Rattle.gptp_graph.specs.SettledRole.{Slave, IsSettledRole}
 use Rattle.gptp_graph.proofs.BestLemmas.{IsBest-neighbour}
 use Rattle.gptp_graph.proofs.DistanceLemmas.{IsDistance-unique, IsDistance-best, best_at_zero}
 use Rattle.gptp_graph.proofs.ExistenceLemmas.{distance_exists}
 use Rattle.gptp_graph.proofs.ParentLemmas.{parent_exists, IsParent-unique, no_parent_at_zero}
-use Rattle.gptp_graph.proofs.RoleLemmas.{parent_is_master}
 
 -- following parents leads to the best in as many steps as the distance says
 pub climbs : (g : Snapshot) (v d : ℕ) (best : System) → IsWellFormed g → IsBest g v best → IsDistance g v d → Climbs g v best.clock d

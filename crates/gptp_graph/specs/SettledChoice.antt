@@ -7,7 +7,7 @@ use Rattle.gptp_graph.specs.Best.{IsBest}
 use Rattle.gptp_graph.specs.Distance.{IsDistance}
 use Rattle.gptp_graph.specs.Parent.{ParentLink, IsParent}
 use Rattle.gptp_graph.specs.SettledRole.{IsSettledRole}
-use Rattle.gptp_graph.specs.Labelling.{PortLine, SystemLine, IsLineOf, HasItsSystems}
+use Rattle.gptp_graph.specs.Labelling.{PortLine, SystemLine, HasItsSystems}
 
 -- the parent of v, or none where it has none
 abbrev pub IsParentIfAny : Snapshot → ℕ → Option ParentLink → Type 0

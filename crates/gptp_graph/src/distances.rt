@@ -8,24 +8,20 @@ pub fn distances_bounded()
     ensures members { DifferentAreBounded }
     ensures paths { PathsAreBounded }
     ensures distances { DistancesAreBounded }
-{
-}
+{}
 
 /// Over a link the distances differ by one at most.
 pub fn neighbours_differ_by_one()
     ensures { NeighboursDifferByOne }
-{
-}
+{}
 
 /// A system of distance d + 1 has a neighbour of distance d.
 pub fn nearer_neighbour_exists()
     ensures { NearerNeighbourExists }
-{
-}
+{}
 
 /// A route from any system to another, as a path trace names it, has at least the length of the shortest path between
 /// them, also where it comes to a system again.
 pub fn routes_no_shorter()
     ensures { RoutesAreNoShorter }
-{
-}
+{}

@@ -6,11 +6,9 @@ ghost use Rattle.gptp_graph.specs.LabellingLaws.{LocalTestsDecide, OneLabellingP
 /// than 255 steps.
 pub fn local_tests_decide()
     ensures { LocalTestsDecide }
-{
-}
+{}
 
 /// Of all certificates with their lines by rising clock one passes at most.
 pub fn one_labelling_passes()
     ensures { OneLabellingPasses }
-{
-}
+{}

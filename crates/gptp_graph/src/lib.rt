@@ -18,7 +18,9 @@ mod existence;
 mod labelling;
 mod tree;
 
-pub use distances::{distances_bounded, nearer_neighbour_exists, neighbours_differ_by_one, routes_no_shorter};
+pub use distances::{
+    distances_bounded, nearer_neighbour_exists, neighbours_differ_by_one, routes_no_shorter,
+};
 pub use examples::{chain_with_a_ring, parallel_links, triangle};
 pub use existence::{best_exists, choice_exists, distance_exists, parent_exists, role_exists};
 pub use labelling::{local_tests_decide, one_labelling_passes};
