@@ -3,7 +3,7 @@ use Rattle.std.proofs.Common.{◌≡◌, true, List, refl}
 use native.Mathlib.Decide.{ℕ_discrete, dec_le, dec_lt}
 use Rattle.gptp_graph.specs.Snapshot.{Snapshot}
 use Rattle.gptp_graph.specs.Labelling.{SystemLine}
-use Rattle.gptp_graph.specs.Examples.{SettlesAt, ring_network, ring_lines, parallel_network, parallel_lines, triangle_network, triangle_lines}
+use Rattle.gptp_graph.specs.Examples.{SettlesAt, ring_network, ring_lines, parallel_network, parallel_lines, triangle_network, triangle_lines, square_network, square_lines}
 use Rattle.gptp_graph.proofs.DecisionLemmas.{dec_both, dec_either}
 use Rattle.gptp_graph.proofs.OrderLemmas.{IsLower-dec}
 use Rattle.gptp_graph.proofs.LinkDecisions.{PortIdentity-dec}
@@ -27,3 +27,7 @@ parallel_settles = settles_at parallel_network parallel_lines refl refl
 pub triangle_settles : SettlesAt triangle_network triangle_lines
 unfolding ℕ_discrete dec_le dec_lt dec_both dec_either IsLower-dec PortIdentity-dec
 triangle_settles = settles_at triangle_network triangle_lines refl refl
+
+pub square_settles : SettlesAt square_network square_lines
+unfolding ℕ_discrete dec_le dec_lt dec_both dec_either IsLower-dec PortIdentity-dec
+square_settles = settles_at square_network square_lines refl refl

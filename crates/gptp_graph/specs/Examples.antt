@@ -1,4 +1,4 @@
--- Three networks and their settled choices, clock by clock and port by port.
+-- Four networks and their settled choices, clock by clock and port by port.
 use Rattle.std.specs.Prelude.{List, [], ◌∷◌, Some, None}
 use Rattle.gptp_graph.specs.Snapshot.{Snapshot, port_of, IsWellFormed}
 use Rattle.gptp_graph.specs.SettledRole.{Disabled, Master, Slave, Passive}
@@ -143,6 +143,68 @@ triangle_lines =
       ports =
           record { number = 1; role = Slave }
           ∷ record { number = 2; role = Passive }
+          ∷ [];
+    }
+    ∷ []
+
+-- Clocks 1, 2, 4 and 3 in a ring, where clock 4 has the lower priority1, 16, and so is best. Clock 1 is two steps from it
+-- over clock 2 and over clock 3: the clock decides, though port there and own port are lower over clock 3.
+abbrev pub square_network : Snapshot
+square_network = record {
+  systems =
+      record { clock = 1; identity = 0xf6f8fe436af80000000000000001; ports = 2 }
+      ∷ record { clock = 2; identity = 0xf6f8fe436af80000000000000002; ports = 2 }
+      ∷ record { clock = 3; identity = 0xf6f8fe436af80000000000000003; ports = 2 }
+      ∷ record { clock = 4; identity = 0x10f8fe436af80000000000000004; ports = 2 }
+      ∷ [];
+  links =
+      record { a = port_of 1 1; b = port_of 3 1 }
+      ∷ record { a = port_of 1 2; b = port_of 2 2 }
+      ∷ record { a = port_of 2 1; b = port_of 4 1 }
+      ∷ record { a = port_of 3 2; b = port_of 4 2 }
+      ∷ [];
+}
+
+abbrev pub square_lines : List SystemLine
+square_lines =
+    record {
+      clock = 1;
+      root = 0x10f8fe436af80000000000000004;
+      steps = 2;
+      parent = Some (record { own_port = 2; clock = 2; port = 2 });
+      ports =
+          record { number = 1; role = Passive }
+          ∷ record { number = 2; role = Slave }
+          ∷ [];
+    }
+    ∷ record {
+      clock = 2;
+      root = 0x10f8fe436af80000000000000004;
+      steps = 1;
+      parent = Some (record { own_port = 1; clock = 4; port = 1 });
+      ports =
+          record { number = 1; role = Slave }
+          ∷ record { number = 2; role = Master }
+          ∷ [];
+    }
+    ∷ record {
+      clock = 3;
+      root = 0x10f8fe436af80000000000000004;
+      steps = 1;
+      parent = Some (record { own_port = 2; clock = 4; port = 2 });
+      ports =
+          record { number = 1; role = Master }
+          ∷ record { number = 2; role = Slave }
+          ∷ [];
+    }
+    ∷ record {
+      clock = 4;
+      root = 0x10f8fe436af80000000000000004;
+      steps = 0;
+      parent = None;
+      ports =
+          record { number = 1; role = Master }
+          ∷ record { number = 2; role = Master }
           ∷ [];
     }
     ∷ []

@@ -8,7 +8,7 @@
 //! The definitions stand in `specs/`. Each function of this crate is a law: it does nothing, and its contract is a
 //! theorem about the definitions. The laws say that distances are bounded and fall by one step at a time toward the
 //! best, that best, distance, parent, role and choice exist once each, and that slave ports form a tree; that the local
-//! tests pass exactly for the settled choice of a network in which all systems are near; and what the choice of three
+//! tests pass exactly for the settled choice of a network in which all systems are near; and what the choice of four
 //! small networks is. Lemmas for the crates above are in the public modules of `proofs/`.
 #![tactic(auto)]
 
@@ -21,7 +21,7 @@ mod tree;
 pub use distances::{
     distances_bounded, nearer_neighbour_exists, neighbours_differ_by_one, routes_no_shorter,
 };
-pub use examples::{chain_with_a_ring, parallel_links, triangle};
+pub use examples::{chain_with_a_ring, parallel_links, square, triangle};
 pub use existence::{best_exists, choice_exists, distance_exists, parent_exists, role_exists};
 pub use labelling::{local_tests_decide, one_labelling_passes};
 pub use tree::{one_slave_port, parent_is_master, parents_lead_to_best};
