@@ -136,19 +136,23 @@ module _ (g : Snapshot) (lines : List SystemLine) where
   abbrev pub sure_identity : Sure (PassesIdentity g lines)
   sure_identity = for_lines_of (λ s line. line.root ≤ s.identity) (λ s line. decided (dec_le line.root s.identity))
 
+  -- the link from p to q as p's system sees it
+  abbrev pub seen : PortIdentity → PortIdentity → ParentLink
+  seen p q = record { own_port = p.port; clock = q.clock; port = q.port }
+
   abbrev pub sure_tie : Sure (PassesTie g lines)
   sure_tie = so (λ h line l other d at e joins (up, up_at, c, steps) less. h line at l e (port_of line.clock other.own_port) (port_of other.clock other.port) joins refl up up_at c (ap (λ n. n + 1) steps ∙ less))
       (for_all (λ line. (l : ParentLink) → line.parent ≡ Some l → IsLeast line l) lines (λ line. if_parent line.parent (IsLeast line) (λ l. least line l)))
     where
       IsLeast : SystemLine → ParentLink → Type 0
       IsLeast line l = (p q : PortIdentity) → Joins g p q → p.clock ≡ line.clock → (up : SystemLine) → In up lines → up.clock ≡ q.clock → up.steps + 1 ≡ line.steps
-          → IsLower (q.clock ∷ q.port ∷ p.port ∷ []) (key l) → ⊥
+          → IsLower (key (seen p q)) (key l) → ⊥
 
       least : (line : SystemLine) (l : ParentLink) → Sure (IsLeast line l)
-      least line l = for_links g (λ p q. p.clock ≡ line.clock → (up : SystemLine) → In up lines → up.clock ≡ q.clock → up.steps + 1 ≡ line.steps → IsLower (q.clock ∷ q.port ∷ p.port ∷ []) (key l) → ⊥)
+      least line l = for_links g (λ p q. p.clock ≡ line.clock → (up : SystemLine) → In up lines → up.clock ≡ q.clock → up.steps + 1 ≡ line.steps → IsLower (key (seen p q)) (key l) → ⊥)
           (λ p q. where_holds (ℕ_discrete p.clock line.clock)
-          (for_all (λ up. up.clock ≡ q.clock → up.steps + 1 ≡ line.steps → IsLower (q.clock ∷ q.port ∷ p.port ∷ []) (key l) → ⊥) lines
-          (λ up. where_holds (ℕ_discrete up.clock q.clock) (where_holds (ℕ_discrete (up.steps + 1) line.steps) (denied (IsLower-dec (q.clock ∷ q.port ∷ p.port ∷ []) (key l)))))))
+          (for_all (λ up. up.clock ≡ q.clock → up.steps + 1 ≡ line.steps → IsLower (key (seen p q)) (key l) → ⊥) lines
+          (λ up. where_holds (ℕ_discrete up.clock q.clock) (where_holds (ℕ_discrete (up.steps + 1) line.steps) (denied (IsLower-dec (key (seen p q)) (key l)))))))
 
   -- the port is the own port of the stated parent, and isn't
   abbrev pub slave_port : (line : SystemLine) (n : ℕ) → Sure (StatesSlave line n)
