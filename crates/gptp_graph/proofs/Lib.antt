@@ -14,6 +14,7 @@ pub mod SoundLemmas
 pub mod CompleteLemmas
 pub mod RisingLemmas
 pub mod ChoiceLemmas
+pub mod NearLemmas
 pub mod TreeLemmas
 pub mod Sure
 pub mod SureTests

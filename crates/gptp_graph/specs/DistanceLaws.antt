@@ -1,8 +1,9 @@
 -- Laws on paths and distances.
 use Rattle.std.specs.Prelude.{◌+◌, ◌<◌, ◌≤◌, ℕ, List, length}
 use Rattle.gptp_graph.specs.Members.{In, Different}
-use Rattle.gptp_graph.specs.Snapshot.{Snapshot, clocks, Adjacent, IsWellFormed}
+use Rattle.gptp_graph.specs.Snapshot.{System, Snapshot, clocks, Adjacent, IsWellFormed}
 use Rattle.gptp_graph.specs.Path.{Route, IsPath}
+use Rattle.gptp_graph.specs.Best.{IsBest}
 use Rattle.gptp_graph.specs.Distance.{IsDistanceFrom, IsDistance}
 
 -- a list of different systems has no more members than the snapshot has systems
@@ -28,3 +29,8 @@ NearerNeighbourExists = (g : Snapshot) (v d : ℕ) → IsWellFormed g → IsDist
 -- no route from b to v, in which systems may come again, is shorter than the least path from b to v, whatever system b is
 abbrev pub RoutesAreNoShorter : Type 0
 RoutesAreNoShorter = (g : Snapshot) (b v d : ℕ) (us : List ℕ) → IsDistanceFrom g b v d → Route g b v us → d ≤ length us
+
+-- so no route from the best to v is shorter than the distance of v
+abbrev pub RoutesFromBestAreNoShorter : Type 0
+RoutesFromBestAreNoShorter = (g : Snapshot) (v d : ℕ) (best : System) (us : List ℕ)
+    → IsWellFormed g → IsBest g v best → IsDistance g v d → Route g best.clock v us → d ≤ length us

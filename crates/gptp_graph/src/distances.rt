@@ -1,6 +1,6 @@
 //! Laws on paths and distances.
 
-ghost use Rattle.gptp_graph.specs.DistanceLaws.{DifferentAreBounded, PathsAreBounded, DistancesAreBounded, NeighboursDifferByOne, NearerNeighbourExists, RoutesAreNoShorter};
+ghost use Rattle.gptp_graph.specs.DistanceLaws.{DifferentAreBounded, PathsAreBounded, DistancesAreBounded, NeighboursDifferByOne, NearerNeighbourExists, RoutesAreNoShorter, RoutesFromBestAreNoShorter};
 
 /// In a snapshot of n systems no list of different systems has more than n members, no path is of length n or more, and
 /// no distance is n or more.
@@ -21,7 +21,8 @@ pub fn nearer_neighbour_exists()
 {}
 
 /// A route from any system to another, as a path trace names it, has at least the length of the shortest path between
-/// them, also where it comes to a system again.
+/// them, also where it comes to a system again. So a route from the best is no shorter than the distance.
 pub fn routes_no_shorter()
-    ensures { RoutesAreNoShorter }
+    ensures any { RoutesAreNoShorter }
+    ensures best { RoutesFromBestAreNoShorter }
 {}

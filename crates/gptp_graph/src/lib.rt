@@ -23,5 +23,5 @@ pub use distances::{
 };
 pub use examples::{chain_with_a_ring, parallel_links, square, triangle};
 pub use existence::{best_exists, choice_exists, distance_exists, parent_exists, role_exists};
-pub use labelling::{local_tests_decide, one_labelling_passes};
+pub use labelling::{local_tests_decide, near_networks_pass, one_labelling_passes};
 pub use tree::{one_slave_port, parent_is_master, parents_lead_to_best};
