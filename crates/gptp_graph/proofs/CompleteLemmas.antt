@@ -8,8 +8,9 @@ use Rattle.gptp_graph.specs.Parent.{ParentLink, IsParent}
 use Rattle.gptp_graph.specs.Labelling.{SystemLine}
 use Rattle.gptp_graph.specs.SettledChoice.{IsParentIfAny, IsSettledChoice}
 use Rattle.gptp_graph.specs.LocalTests.{PassesTooFar, PassesRoot, PassesSteps, PassesParent, PassesLink, PassesIdentity, PassesTie, PassesRole, PassesLocalTests}
+use Rattle.gptp_graph.proofs.LinkLemmas.{Adjacent-sym}
 use Rattle.gptp_graph.proofs.SystemLemmas.{In-clocks, same_clock}
-use Rattle.gptp_graph.proofs.PathLemmas.{Reaches-self, Adjacent-sym}
+use Rattle.gptp_graph.proofs.PathLemmas.{Reaches-self}
 use Rattle.gptp_graph.proofs.BestLemmas.{IsBest-agree}
 use Rattle.gptp_graph.proofs.DistanceLemmas.{IsDistance-unique, IsDistance-neighbour, best_at_zero}
 use Rattle.gptp_graph.proofs.ParentLemmas.{parent_exists}

@@ -5,8 +5,9 @@ use Rattle.gptp_graph.specs.Snapshot.{System, Snapshot, IsWellFormed, clocks, Ad
 use Rattle.gptp_graph.specs.Path.{Route}
 use Rattle.gptp_graph.specs.Best.{IsBest}
 use Rattle.gptp_graph.specs.Distance.{IsDistanceFrom, IsDistance}
+use Rattle.gptp_graph.proofs.LinkLemmas.{Adjacent-sym}
 use Rattle.gptp_graph.proofs.SystemLemmas.{In-clocks}
-use Rattle.gptp_graph.proofs.PathLemmas.{Route-append, Route-reverse, path_of, path_bounded, IsPath-self, Reaches-clock, Adjacent-sym}
+use Rattle.gptp_graph.proofs.PathLemmas.{Route-append, Route-reverse, path_of, path_bounded, IsPath-self, Reaches-clock}
 use Rattle.gptp_graph.proofs.BestLemmas.{IsBest-unique, IsBest-neighbour}
 
 -- no route is shorter than the distance

@@ -7,11 +7,12 @@ use Rattle.gptp_graph.specs.Snapshot.{System, Snapshot, IsWellFormed, clocks, Ad
 use Rattle.gptp_graph.specs.Path.{Route, Reaches}
 use Rattle.gptp_graph.specs.Best.{IsBest}
 use Rattle.gptp_graph.specs.Distance.{IsDistanceFrom, IsDistance}
+use Rattle.gptp_graph.proofs.LinkLemmas.{Adjacent-clock}
 use Rattle.gptp_graph.proofs.DecisionLemmas.{dec_iff, dec_both, any_dec, below_dec, least_number}
 use Rattle.gptp_graph.proofs.LinkDecisions.{Adjacent-dec}
 use Rattle.gptp_graph.proofs.OrderLemmas.{least_member}
 use Rattle.gptp_graph.proofs.SystemLemmas.{system_of}
-use Rattle.gptp_graph.proofs.PathLemmas.{Adjacent-clock, path_of, path_bounded, Reaches-self, Reaches-route, Reaches-sym}
+use Rattle.gptp_graph.proofs.PathLemmas.{path_of, path_bounded, Reaches-self, Reaches-route, Reaches-sym}
 
 -- a route of n steps
 abbrev RouteOf : Snapshot → ℕ → ℕ → ℕ → Type 0

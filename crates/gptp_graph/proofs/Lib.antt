@@ -3,6 +3,7 @@ pub mod SystemLemmas
 pub mod DecisionLemmas
 pub mod LinkDecisions
 pub mod OrderLemmas
+pub mod LinkLemmas
 pub mod PathLemmas
 pub mod BestLemmas
 pub mod DistanceLemmas

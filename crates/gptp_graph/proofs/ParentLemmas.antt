@@ -5,9 +5,9 @@ use Rattle.gptp_graph.specs.Members.{In}
 use Rattle.gptp_graph.specs.Snapshot.{Link, Snapshot, IsWellFormed, clocks, port_of, Adjacent}
 use Rattle.gptp_graph.specs.Distance.{IsDistance}
 use Rattle.gptp_graph.specs.Parent.{ParentLink, key, JoinsAt, LeadsNearer, IsParent}
+use Rattle.gptp_graph.proofs.LinkLemmas.{Joins-clock, Joins-sym, JoinsAt-clock}
 use Rattle.gptp_graph.proofs.LinkDecisions.{Joins-dec}
 use Rattle.gptp_graph.proofs.OrderLemmas.{IsLower-total, least_member}
-use Rattle.gptp_graph.proofs.PathLemmas.{Joins-sym, Joins-clock}
 use Rattle.gptp_graph.proofs.DistanceLemmas.{IsDistance-unique, nearer_neighbour}
 use Rattle.gptp_graph.proofs.ExistenceLemmas.{distance_exists}
 
@@ -25,10 +25,6 @@ In-seen v l (k ∷ ls) (inl (inl e)) = inl (λ i. record { own_port = (e i).a.po
 In-seen v l (k ∷ ls) (inl (inr h)) = inr (inr (In-seen v l ls (inl h)))
 In-seen v l (k ∷ ls) (inr (inl e)) = inr (inl (λ i. record { own_port = (e i).b.port; clock = (e i).a.clock; port = (e i).a.port }))
 In-seen v l (k ∷ ls) (inr (inr h)) = inr (inr (In-seen v l ls (inr h)))
-
--- the other end of a link is a system's
-pub JoinsAt-clock : (g : Snapshot) (v : ℕ) (l : ParentLink) → IsWellFormed g → JoinsAt g v l → In l.clock (clocks g)
-JoinsAt-clock g v l wf j = Joins-clock g (port_of l.clock l.port) (port_of v l.own_port) wf (Joins-sym g (port_of v l.own_port) (port_of l.clock l.port) j)
 
 -- whether a link leads nearer
 LeadsNearer-dec : (g : Snapshot) (v d : ℕ) (l : ParentLink) → IsWellFormed g → IsDistance g v (suc d) → Dec (LeadsNearer g v l)

@@ -3,26 +3,10 @@ use Rattle.std.proofs.Common.{◌≡◌, ◌≤◌, ◌<◌, ℕ, List, [], ◌�
 use Rattle.gptp_graph.specs.Members.{In, Different}
 use Rattle.gptp_graph.specs.Snapshot.{System, PortIdentity, Snapshot, IsWellFormed, clocks, Joins, Adjacent}
 use Rattle.gptp_graph.specs.Path.{Route, IsPath, Reaches}
+use Rattle.gptp_graph.proofs.LinkLemmas.{Adjacent-clock, Adjacent-sym}
 use Rattle.gptp_graph.proofs.MemberLemmas.{In-map}
 use Rattle.gptp_graph.proofs.DecisionLemmas.{in_dec}
 use Rattle.gptp_graph.proofs.SystemLemmas.{length-different}
-
--- a link joins either end to the other
-pub Joins-sym : (g : Snapshot) (p q : PortIdentity) → Joins g p q → Joins g q p
-Joins-sym g p q (inl h) = inr h
-Joins-sym g p q (inr h) = inl h
-
-pub Adjacent-sym : (g : Snapshot) (v w : ℕ) → Adjacent g v w → Adjacent g w v
-Adjacent-sym g v w (m, n, joins) = (n, m, Joins-sym g (record { clock = v; port = m }) (record { clock = w; port = n }) joins)
-
--- the end of a link is a system's
-pub Joins-clock : (g : Snapshot) (p q : PortIdentity) → IsWellFormed g → Joins g p q → In p.clock (clocks g)
-Joins-clock g p q wf joins =
-    let at = wf.ends p q joins in
-    subst (λ v. In v (clocks g)) at.2.clock (In-map (λ (s : System). s.clock) at.0 g.systems at.1)
-
-pub Adjacent-clock : (g : Snapshot) (v w : ℕ) → IsWellFormed g → Adjacent g v w → In w (clocks g)
-Adjacent-clock g v w wf (m, n, joins) = Joins-clock g (record { clock = w; port = n }) (record { clock = v; port = m }) wf (Joins-sym g (record { clock = v; port = m }) (record { clock = w; port = n }) joins)
 
 -- one route after another
 pub Route-append : (g : Snapshot) (v w x : ℕ) (us ts : List ℕ) → Route g v w us → Route g w x ts → Route g v x (us ++ ts)

@@ -6,8 +6,8 @@ use Rattle.gptp_graph.specs.Snapshot.{PortIdentity, Snapshot, IsWellFormed, cloc
 use Rattle.gptp_graph.specs.Distance.{IsDistance}
 use Rattle.gptp_graph.specs.Parent.{ParentLink, IsParent}
 use Rattle.gptp_graph.specs.SettledRole.{Role, Disabled, Master, Slave, Passive, RoleBy, IsSlavePort, IsMasterPort, IsSettledRole}
+use Rattle.gptp_graph.proofs.LinkLemmas.{Joins-clock, Joins-sym}
 use Rattle.gptp_graph.proofs.DecisionLemmas.{dec_iff, dec_both, dec_either}
-use Rattle.gptp_graph.proofs.PathLemmas.{Joins-sym, Joins-clock}
 use Rattle.gptp_graph.proofs.DistanceLemmas.{IsDistance-unique}
 use Rattle.gptp_graph.proofs.ExistenceLemmas.{distance_exists}
 use Rattle.gptp_graph.proofs.LinkDecisions.{IsLinked-dec}

@@ -9,7 +9,8 @@ use Rattle.gptp_graph.specs.Parent.{ParentLink}
 use Rattle.gptp_graph.specs.Labelling.{SystemLine}
 use Rattle.gptp_graph.specs.SettledChoice.{IsParentIfAny, IsSettledLine, IsSettledChoice}
 use Rattle.gptp_graph.specs.LocalTests.{PassesLocalTests}
-use Rattle.gptp_graph.proofs.PathLemmas.{Adjacent-clock, Route-reverse, path_of, Reaches-route}
+use Rattle.gptp_graph.proofs.LinkLemmas.{Adjacent-clock}
+use Rattle.gptp_graph.proofs.PathLemmas.{Route-reverse, path_of, Reaches-route}
 use Rattle.gptp_graph.proofs.SystemLemmas.{In-clocks}
 use Rattle.gptp_graph.proofs.DistanceLemmas.{IsDistance-unique}
 use Rattle.gptp_graph.proofs.RoleLemmas.{RoleBy-map}

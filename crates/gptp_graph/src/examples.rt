@@ -22,5 +22,4 @@ pub fn triangle()
 /// whose clock is lower than that of the other way's clock 3, though its port numbers are higher.
 pub fn square()
     ensures { SettlesAt square_network square_lines }
-{
-}
+{}

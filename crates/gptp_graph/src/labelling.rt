@@ -16,5 +16,4 @@ pub fn one_labelling_passes()
 /// A network has a certificate that passes exactly where each of its systems is fewer than 255 steps from its best.
 pub fn near_networks_pass()
     ensures { PassesWhereNear }
-{
-}
+{}

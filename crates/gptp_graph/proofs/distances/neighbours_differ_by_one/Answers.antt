@@ -1,5 +1,5 @@
 use Rattle.std.proofs.Common.{suc, ◌≤◌, arith}
-use Rattle.gptp_graph.proofs.PathLemmas.{Adjacent-sym}
+use Rattle.gptp_graph.proofs.LinkLemmas.{Adjacent-sym}
 use Rattle.gptp_graph.proofs.DistanceLemmas.{IsDistance-neighbour}
 use Rattle.gptp_graph.proofs.distances.neighbours_differ_by_one.Goals as goal
 
