@@ -14,7 +14,8 @@ IsBest-unique g v a b wf h k =
     same_identity g a b wf h.live k.live (omega arith)
 
 -- what v reaches has the same best
-pub IsBest-reached : (g : Snapshot) (v w : ℕ) (b : System) → IsWellFormed g → Reaches g v w → IsBest g v b → IsBest g w b
+pub IsBest-reached : (g : Snapshot) (v w : ℕ) (b : System) → IsWellFormed g → Reaches g v w → IsBest g v b
+    → IsBest g w b
 IsBest-reached g v w b wf r h = record {
   live = h.live;
   reached = Reaches-trans g w v b.clock (Reaches-sym g v w wf r) h.reached;
@@ -22,9 +23,11 @@ IsBest-reached g v w b wf r h = record {
 }
 
 -- neighbours have the same best
-pub IsBest-neighbour : (g : Snapshot) (v w : ℕ) (b : System) → IsWellFormed g → Adjacent g v w → IsBest g v b → IsBest g w b
+pub IsBest-neighbour : (g : Snapshot) (v w : ℕ) (b : System) → IsWellFormed g → Adjacent g v w → IsBest g v b
+    → IsBest g w b
 IsBest-neighbour g v w b wf a h = IsBest-reached g v w b wf (Reaches-neighbour g v w wf a) h
 
 -- the two bests of neighbours are one
-pub IsBest-agree : (g : Snapshot) (v w : ℕ) (a b : System) → IsWellFormed g → Adjacent g v w → IsBest g v a → IsBest g w b → a ≡ b
+pub IsBest-agree : (g : Snapshot) (v w : ℕ) (a b : System) → IsWellFormed g → Adjacent g v w → IsBest g v a
+    → IsBest g w b → a ≡ b
 IsBest-agree g v w a b wf at h k = IsBest-unique g w a b wf (IsBest-neighbour g v w a wf at h) k

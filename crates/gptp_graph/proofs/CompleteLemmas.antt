@@ -22,7 +22,8 @@ module _ (g : Snapshot) (lines : List SystemLine) (wf : IsWellFormed g) (h : IsS
   stated_distances line stated = (h.settled line stated).steps
 
   -- the parent that is stated is one
-  parent_of : (line : SystemLine) (l : ParentLink) → In line lines → line.parent ≡ Some l → IsParent g line.clock l
+  parent_of : (line : SystemLine) (l : ParentLink) → In line lines → line.parent ≡ Some l
+      → IsParent g line.clock l
   parent_of line l stated is = subst (IsParentIfAny g line.clock) is (h.settled line stated).parent
 
   -- a system that states no parent is at distance zero

@@ -22,7 +22,8 @@ dec_either (no f) (yes b) = yes (inr b)
 dec_either (no f) (no k) = no (λ h. elim h [ inl a ↦ f a | inr b ↦ k b ])
 
 -- some member of a list
-pub any_dec : {X : Type 0} (P : X → Type 0) (xs : List X) → ((x : X) → In x xs → Dec (P x)) → Dec ((x : X) × In x xs × P x)
+pub any_dec : {X : Type 0} (P : X → Type 0) (xs : List X) → ((x : X) → In x xs → Dec (P x))
+    → Dec ((x : X) × In x xs × P x)
 any_dec P [] d = no (λ h. h.1)
 any_dec {X} P (x ∷ xs) d = one (d x (inl refl)) (any_dec P xs (λ y h. d y (inr h)))
   where
@@ -46,7 +47,8 @@ below_dec P d (suc n) = one (d n) (below_dec P d n)
         split k b p (no other) = out (k, omega arith, p)
 
 -- where a number has the property, a least one has it
-pub least_number : (P : ℕ → Type 0) → ((n : ℕ) → Dec (P n)) → (n : ℕ) → P n → (k : ℕ) × P k × ((m : ℕ) → P m → k ≤ m)
+pub least_number : (P : ℕ → Type 0) → ((n : ℕ) → Dec (P n)) → (n : ℕ) → P n
+    → (k : ℕ) × P k × ((m : ℕ) → P m → k ≤ m)
 least_number P d n p = elim (up_to (suc n)) [ inl none ↦ absurd (none n (omega arith) p) | inr found ↦ found ]
   where
     up_to : (k : ℕ) → ((m : ℕ) → m < k → P m → ⊥) ⊎ ((k : ℕ) × P k × ((m : ℕ) → P m → k ≤ m))
@@ -56,8 +58,10 @@ least_number P d n p = elim (up_to (suc n)) [ inl none ↦ absurd (none n (omega
         next : ((m : ℕ) → m < k → P m → ⊥) ⊎ ((k : ℕ) × P k × ((m : ℕ) → P m → k ≤ m)) → Dec (P k)
             → ((m : ℕ) → m < suc k → P m → ⊥) ⊎ ((k : ℕ) × P k × ((m : ℕ) → P m → k ≤ m))
         next (inr found) t = inr found
-        next (inl none) (yes q) = inr (k, q, λ m r. elim (dec_lt m k) [ yes b ↦ absurd (none m b r) | no over ↦ omega arith ])
-        next (inl none) (no f) = inl (λ m b r. elim (ℕ_discrete m k) [ yes e ↦ f (subst P e r) | no other ↦ none m (omega arith) r ])
+        next (inl none) (yes q) =
+            inr (k, q, λ m r. elim (dec_lt m k) [ yes b ↦ absurd (none m b r) | no over ↦ omega arith ])
+        next (inl none) (no f) =
+            inl (λ m b r. elim (ℕ_discrete m k) [ yes e ↦ f (subst P e r) | no other ↦ none m (omega arith) r ])
 
 -- whether a number is a member
 pub in_dec : (v : ℕ) (xs : List ℕ) → Dec (In v xs)

@@ -11,7 +11,8 @@ use Rattle.gptp_graph.proofs.SoundLemmas.{sound}
 use Rattle.gptp_graph.proofs.SureTests.{sure_well_formed, sure_passes}
 
 -- where the tests compute to true, the lines are the settled choice
-settles_at : (g : Snapshot) (lines : List SystemLine) → (sure_well_formed g).0 ≡ true → (sure_passes g lines).0 ≡ true → SettlesAt g lines
+settles_at : (g : Snapshot) (lines : List SystemLine) → (sure_well_formed g).0 ≡ true
+    → (sure_passes g lines).0 ≡ true → SettlesAt g lines
 settles_at g lines network passes =
     let wf = (sure_well_formed g).1 network in
     record { network = wf; choice = sound g lines wf ((sure_passes g lines).1 passes) }

@@ -36,7 +36,8 @@ RouteOf-dec g v w wf (suc n) =
 
 -- whether a system reaches another: within as many steps as there are systems
 pub Reaches-dec : (g : Snapshot) (v w : ℕ) → IsWellFormed g → In v (clocks g) → Dec (Reaches g v w)
-Reaches-dec g v w wf here = dec_iff over back (below_dec (RouteOf g v w) (RouteOf-dec g v w wf) (length g.systems))
+Reaches-dec g v w wf here =
+    dec_iff over back (below_dec (RouteOf g v w) (RouteOf-dec g v w wf) (length g.systems))
   where
     over : ((n : ℕ) × (n < length g.systems) × RouteOf g v w n) → Reaches g v w
     over (n, b, (us, r, e)) = Reaches-route g v w us here r
@@ -45,12 +46,14 @@ Reaches-dec g v w wf here = dec_iff over back (below_dec (RouteOf g v w) (RouteO
     back (us, p) = (length us, path_bounded g v w us wf p, (us, p.route, refl))
 
 -- where a path leads, there is a least length
-pub distance_from_exists : (g : Snapshot) (b v : ℕ) → IsWellFormed g → Reaches g b v → (d : ℕ) × IsDistanceFrom g b v d
+pub distance_from_exists : (g : Snapshot) (b v : ℕ) → IsWellFormed g → Reaches g b v
+    → (d : ℕ) × IsDistanceFrom g b v d
 distance_from_exists g b v wf (us, p) =
     let r = least_number (RouteOf g b v) (RouteOf-dec g b v wf) (length us) (us, p.route, refl) in
     shortest r.0 r.1 r.2
   where
-    shortest : (d : ℕ) → RouteOf g b v d → ((m : ℕ) → RouteOf g b v m → d ≤ m) → (d : ℕ) × IsDistanceFrom g b v d
+    shortest : (d : ℕ) → RouteOf g b v d → ((m : ℕ) → RouteOf g b v m → d ≤ m)
+        → (d : ℕ) × IsDistanceFrom g b v d
     shortest d (ts, r, e) least =
         let q = path_of g b v ts p.begins r in
         let below : length q.0 ≤ length ts = q.2 in
@@ -70,7 +73,8 @@ best_exists g v wf here = elim (least_member identity_key reached g.systems (λ 
     reached : System → Type 0
     reached s = Reaches g v s.clock
 
-    self : ((s : System) × In s g.systems × (s.clock ≡ v)) → ((s : System) → In s g.systems → Reaches g v s.clock → ⊥) → ⊥
+    self : ((s : System) × In s g.systems × (s.clock ≡ v))
+        → ((s : System) → In s g.systems → Reaches g v s.clock → ⊥) → ⊥
     self (s, h, e) none = none s h (subst (λ w. Reaches g v w) (sym e) (Reaches-self g v here))
 
     at_most : (i j : ℕ) → (IsLower (j ∷ []) (i ∷ []) → ⊥) → i ≤ j

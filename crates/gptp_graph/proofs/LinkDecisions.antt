@@ -7,11 +7,13 @@ use Rattle.gptp_graph.proofs.DecisionLemmas.{dec_iff, dec_both, dec_either, any_
 
 unfoldable pub PortIdentity-dec : (p q : PortIdentity) → Dec (p ≡ q)
 unfolding dec_iff dec_both ℕ_discrete
-PortIdentity-dec p q = dec_iff (λ e i. record { clock = e.0 i; port = e.1 i }) (λ e. (ap (λ (r : PortIdentity). r.clock) e, ap (λ (r : PortIdentity). r.port) e))
+PortIdentity-dec p q =
+    dec_iff (λ e i. record { clock = e.0 i; port = e.1 i }) (λ e. (ap (λ (r : PortIdentity). r.clock) e, ap (λ (r : PortIdentity). r.port) e))
     (dec_both (ℕ_discrete p.clock q.clock) (ℕ_discrete p.port q.port))
 
 Link-dec : (l k : Link) → Dec (l ≡ k)
-Link-dec l k = dec_iff (λ e i. record { a = e.0 i; b = e.1 i }) (λ e. (ap (λ (r : Link). r.a) e, ap (λ (r : Link). r.b) e))
+Link-dec l k =
+    dec_iff (λ e i. record { a = e.0 i; b = e.1 i }) (λ e. (ap (λ (r : Link). r.a) e, ap (λ (r : Link). r.b) e))
     (dec_both (PortIdentity-dec l.a k.a) (PortIdentity-dec l.b k.b))
 
 In-links-dec : (l : Link) (ls : List Link) → Dec (In l ls)
@@ -19,11 +21,13 @@ In-links-dec l [] = no (λ h. h)
 In-links-dec l (k ∷ ls) = dec_either (Link-dec l k) (In-links-dec l ls)
 
 pub Joins-dec : (g : Snapshot) (p q : PortIdentity) → Dec (Joins g p q)
-Joins-dec g p q = dec_either (In-links-dec (record { a = p; b = q }) g.links) (In-links-dec (record { a = q; b = p }) g.links)
+Joins-dec g p q =
+    dec_either (In-links-dec (record { a = p; b = q }) g.links) (In-links-dec (record { a = q; b = p }) g.links)
 
 -- whether a link is at the port
 pub IsLinked-dec : (g : Snapshot) (p : PortIdentity) → Dec (IsLinked g p)
-IsLinked-dec g p = dec_iff over back (any_dec (λ (l : Link). (l.a ≡ p) ⊎ (l.b ≡ p)) g.links (λ l h. dec_either (PortIdentity-dec l.a p) (PortIdentity-dec l.b p)))
+IsLinked-dec g p =
+    dec_iff over back (any_dec (λ (l : Link). (l.a ≡ p) ⊎ (l.b ≡ p)) g.links (λ l h. dec_either (PortIdentity-dec l.a p) (PortIdentity-dec l.b p)))
   where
     over : ((l : Link) × In l g.links × ((l.a ≡ p) ⊎ (l.b ≡ p))) → IsLinked g p
     over (l, h, inl e) = (l.b, inl (subst (λ k. In k g.links) (λ i. record { a = e i; b = l.b }) h))
@@ -45,8 +49,10 @@ pub Adjacent-dec : (g : Snapshot) (v w : ℕ) → Dec (Adjacent g v w)
 Adjacent-dec g v w = dec_iff over back (any_dec (Crosses v w) g.links (λ l h. Crosses-dec v w l))
   where
     over : ((l : Link) × In l g.links × Crosses v w l) → Adjacent g v w
-    over (l, h, inl (a, b)) = (l.a.port, l.b.port, inl (subst (λ k. In k g.links) (λ i. record { a = port_of (a i) l.a.port; b = port_of (b i) l.b.port }) h))
-    over (l, h, inr (b, a)) = (l.b.port, l.a.port, inr (subst (λ k. In k g.links) (λ i. record { a = port_of (a i) l.a.port; b = port_of (b i) l.b.port }) h))
+    over (l, h, inl (a, b)) =
+        (l.a.port, l.b.port, inl (subst (λ k. In k g.links) (λ i. record { a = port_of (a i) l.a.port; b = port_of (b i) l.b.port }) h))
+    over (l, h, inr (b, a)) =
+        (l.b.port, l.a.port, inr (subst (λ k. In k g.links) (λ i. record { a = port_of (a i) l.a.port; b = port_of (b i) l.b.port }) h))
 
     back : Adjacent g v w → (l : Link) × In l g.links × Crosses v w l
     back (m, n, inl h) = (record { a = port_of v m; b = port_of w n }, h, inl (refl, refl))

@@ -11,7 +11,8 @@ Joins-sym g p q (inl h) = inr h
 Joins-sym g p q (inr h) = inl h
 
 pub Adjacent-sym : (g : Snapshot) (v w : ℕ) → Adjacent g v w → Adjacent g w v
-Adjacent-sym g v w (m, n, joins) = (n, m, Joins-sym g (record { clock = v; port = m }) (record { clock = w; port = n }) joins)
+Adjacent-sym g v w (m, n, joins) =
+    (n, m, Joins-sym g (record { clock = v; port = m }) (record { clock = w; port = n }) joins)
 
 -- the end of a link is a system's
 pub Joins-clock : (g : Snapshot) (p q : PortIdentity) → IsWellFormed g → Joins g p q → In p.clock (clocks g)
@@ -20,11 +21,14 @@ Joins-clock g p q wf joins =
     subst (λ v. In v (clocks g)) at.2.clock (In-map (λ (s : System). s.clock) at.0 g.systems at.1)
 
 pub Adjacent-clock : (g : Snapshot) (v w : ℕ) → IsWellFormed g → Adjacent g v w → In w (clocks g)
-Adjacent-clock g v w wf (m, n, joins) = Joins-clock g (record { clock = w; port = n }) (record { clock = v; port = m }) wf (Joins-sym g (record { clock = v; port = m }) (record { clock = w; port = n }) joins)
+Adjacent-clock g v w wf (m, n, joins) =
+    Joins-clock g (record { clock = w; port = n }) (record { clock = v; port = m }) wf (Joins-sym g (record { clock = v; port = m }) (record { clock = w; port = n }) joins)
 
 -- the other end of a link is a system's
-pub JoinsAt-clock : (g : Snapshot) (v : ℕ) (l : ParentLink) → IsWellFormed g → JoinsAt g v l → In l.clock (clocks g)
-JoinsAt-clock g v l wf j = Joins-clock g (port_of l.clock l.port) (port_of v l.own_port) wf (Joins-sym g (port_of v l.own_port) (port_of l.clock l.port) j)
+pub JoinsAt-clock : (g : Snapshot) (v : ℕ) (l : ParentLink) → IsWellFormed g → JoinsAt g v l
+    → In l.clock (clocks g)
+JoinsAt-clock g v l wf j =
+    Joins-clock g (port_of l.clock l.port) (port_of v l.own_port) wf (Joins-sym g (port_of v l.own_port) (port_of l.clock l.port) j)
 
 -- the ends of links, in order
 abbrev pub link_ends : List Link → List PortIdentity
@@ -54,7 +58,8 @@ place l ls p q (inl (inr h)) = inr (inr (inl h))
 place l ls p q (inr (inl e)) = inr (inl (ap (λ (k : Link). k.b) e, ap (λ (k : Link). k.a) e))
 place l ls p q (inr (inr h)) = inr (inr (inr h))
 
-one_link_of : (ls : List Link) → Different (link_ends ls) → (p q r : PortIdentity) → JoinedIn ls p q → JoinedIn ls p r → q ≡ r
+one_link_of : (ls : List Link) → Different (link_ends ls) → (p q r : PortIdentity) → JoinedIn ls p q
+    → JoinedIn ls p r → q ≡ r
 unfolding Place
 one_link_of [] d p q r (inl h) k = absurd h
 one_link_of [] d p q r (inr h) k = absurd h
@@ -81,5 +86,6 @@ one_link_of (l ∷ ls) d p q r h k = both (one_link_of ls d.1.1 p q r) (place l 
     both later (inr (inr i)) (inr (inr j)) = later i j
 
 -- where no port is named twice among the ends, a port has one link at most
-pub one_link-different_ends : (g : Snapshot) → Different (link_ends g.links) → (p q r : PortIdentity) → Joins g p q → Joins g p r → q ≡ r
+pub one_link-different_ends : (g : Snapshot) → Different (link_ends g.links) → (p q r : PortIdentity)
+    → Joins g p q → Joins g p r → q ≡ r
 one_link-different_ends g d = one_link_of g.links d

@@ -9,17 +9,21 @@ In-map f x (y ∷ ys) (inl e) = inl (ap f e)
 In-map f x (y ∷ ys) (inr h) = inr (In-map f x ys h)
 
 -- a member of the image is a member's image
-pub from_map : {X Y : Type 0} (f : X → Y) (y : Y) (xs : List X) → In y (map f xs) → (x : X) × In x xs × (f x ≡ y)
+pub from_map : {X Y : Type 0} (f : X → Y) (y : Y) (xs : List X) → In y (map f xs)
+    → (x : X) × In x xs × (f x ≡ y)
 from_map f y [] h = absurd h
 from_map f y (x ∷ xs) (inl e) = (x, inl refl, sym e)
 from_map f y (x ∷ xs) (inr h) = let r = from_map f y xs h in (r.0, inr r.1, r.2)
 
 -- two members with one image are one, where images differ
-pub same_image : {X Y : Type 0} (f : X → Y) (x y : X) (xs : List X) → Different (map f xs) → In x xs → In y xs → f x ≡ f y → x ≡ y
+pub same_image : {X Y : Type 0} (f : X → Y) (x y : X) (xs : List X) → Different (map f xs) → In x xs → In y xs
+    → f x ≡ f y → x ≡ y
 same_image f x y [] d h k e = absurd h
 same_image f x y (z ∷ zs) d (inl a) (inl b) e = a ∙ sym b
-same_image f x y (z ∷ zs) d (inl a) (inr k) e = absurd (d.0 (subst (λ w. In w (map f zs)) (sym e ∙ ap f a) (In-map f y zs k)))
-same_image f x y (z ∷ zs) d (inr h) (inl b) e = absurd (d.0 (subst (λ w. In w (map f zs)) (e ∙ ap f b) (In-map f x zs h)))
+same_image f x y (z ∷ zs) d (inl a) (inr k) e =
+    absurd (d.0 (subst (λ w. In w (map f zs)) (sym e ∙ ap f a) (In-map f y zs k)))
+same_image f x y (z ∷ zs) d (inr h) (inl b) e =
+    absurd (d.0 (subst (λ w. In w (map f zs)) (e ∙ ap f b) (In-map f x zs h)))
 same_image f x y (z ∷ zs) d (inr h) (inr k) e = same_image f x y zs d.1 h k e
 
 pub length-map : {X Y : Type 0} (f : X → Y) (xs : List X) → length (map f xs) ≡ length xs
@@ -27,7 +31,8 @@ length-map f [] = refl
 length-map f (x ∷ xs) = ap suc (length-map f xs)
 
 -- without a member the list is one shorter, and keeps all others
-pub dropped : {X : Type 0} (x : X) (ys : List X) → In x ys → (zs : List X) × (length ys ≡ suc (length zs)) × ((z : X) → In z ys → (z ≡ x → ⊥) → In z zs)
+pub dropped : {X : Type 0} (x : X) (ys : List X) → In x ys
+    → (zs : List X) × (length ys ≡ suc (length zs)) × ((z : X) → In z ys → (z ≡ x → ⊥) → In z zs)
 dropped x [] h = absurd h
 dropped x (y ∷ ys) (inl e) = (ys, refl, λ z k other. elim k [ inl a ↦ absurd (other (a ∙ sym e)) | inr b ↦ b ])
 dropped x (y ∷ ys) (inr h) =
@@ -35,7 +40,8 @@ dropped x (y ∷ ys) (inr h) =
     (y ∷ r.0, ap suc r.1, λ z k other. elim k [ inl a ↦ inl a | inr b ↦ inr (r.2 z b other) ])
 
 -- the pigeonhole principle: different members of a list are no more than it has
-pub pigeonhole : {X : Type 0} (xs ys : List X) → Different xs → ((z : X) → In z xs → In z ys) → length xs ≤ length ys
+pub pigeonhole : {X : Type 0} (xs ys : List X) → Different xs → ((z : X) → In z xs → In z ys)
+    → length xs ≤ length ys
 pigeonhole [] ys d h = omega arith
 pigeonhole (x ∷ xs) ys d h =
     let r = dropped x ys (h x (inl refl)) in

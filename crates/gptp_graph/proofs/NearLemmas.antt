@@ -25,7 +25,8 @@ pub passed_where_near : (g : Snapshot) → IsWellFormed g → ((v : ℕ) → In 
     → (lines : List SystemLine) × PassesLocalTests g lines
 passed_where_near g wf near = of_choice (choice_exists g wf).0 (choice_exists g wf).1
   where
-    of_choice : (lines : List SystemLine) → IsSettledChoice g lines → (lines : List SystemLine) × PassesLocalTests g lines
+    of_choice : (lines : List SystemLine) → IsSettledChoice g lines
+        → (lines : List SystemLine) × PassesLocalTests g lines
     of_choice lines is = (lines, complete g lines wf is not_far)
       where
         not_far : PassesTooFar lines

@@ -32,7 +32,8 @@ IsLower-total [] (y ∷ ys) e = absurd (omega arith)
 IsLower-total (x ∷ xs) [] e = absurd (omega arith)
 IsLower-total (x ∷ xs) (y ∷ ys) e = heads (ℕ_discrete x y) (IsLower-total xs ys (omega arith))
   where
-    heads : Dec (x ≡ y) → (xs ≡ ys) ⊎ (IsLower xs ys ⊎ IsLower ys xs) → (x ∷ xs ≡ y ∷ ys) ⊎ (IsLower (x ∷ xs) (y ∷ ys) ⊎ IsLower (y ∷ ys) (x ∷ xs))
+    heads : Dec (x ≡ y) → (xs ≡ ys) ⊎ (IsLower xs ys ⊎ IsLower ys xs)
+        → (x ∷ xs ≡ y ∷ ys) ⊎ (IsLower (x ∷ xs) (y ∷ ys) ⊎ IsLower (y ∷ ys) (x ∷ xs))
     heads (no other) rest = elim (dec_lt x y) [ yes b ↦ inr (inl (inl b)) | no over ↦ inr (inr (inl (omega arith))) ]
     heads (yes same) (inl rest) = inl cc
     heads (yes same) (inr (inl lower)) = inr (inl (inr (same, lower)))
@@ -45,7 +46,8 @@ pub record IsLeastIn {X : Type 0} (key : X → List ℕ) (P : X → Type 0) (xs 
   pub least : (y : X) → In y xs → P y → IsLower (key y) (key x) → ⊥
 
 -- whether members have the property, and then which of them has the least key
-pub least_member : {X : Type 0} (key : X → List ℕ) (P : X → Type 0) (xs : List X) → ((x : X) → In x xs → Dec (P x))
+pub least_member : {X : Type 0} (key : X → List ℕ) (P : X → Type 0) (xs : List X)
+    → ((x : X) → In x xs → Dec (P x))
     → ((x : X) → In x xs → P x → ⊥) ⊎ ((x : X) × IsLeastIn key P xs x)
 least_member key P [] d = inl (λ x h p. h)
 least_member {X} key P (x ∷ xs) d = add (d x (inl refl)) (least_member key P xs (λ y h. d y (inr h)))
@@ -53,7 +55,8 @@ least_member {X} key P (x ∷ xs) d = add (d x (inl refl)) (least_member key P x
     among : X → Type 0
     among = IsLeastIn key P (x ∷ xs)
 
-    add : Dec (P x) → ((y : X) → In y xs → P y → ⊥) ⊎ ((y : X) × IsLeastIn key P xs y) → ((y : X) → In y (x ∷ xs) → P y → ⊥) ⊎ ((y : X) × among y)
+    add : Dec (P x) → ((y : X) → In y xs → P y → ⊥) ⊎ ((y : X) × IsLeastIn key P xs y)
+        → ((y : X) → In y (x ∷ xs) → P y → ⊥) ⊎ ((y : X) × among y)
     add (no f) (inl none) = inl (λ y h p. elim h [ inl e ↦ f (subst P e p) | inr k ↦ none y k p ])
     add (no f) (inr (m, is)) = inr (
       m,
@@ -68,7 +71,8 @@ least_member {X} key P (x ∷ xs) d = add (d x (inl refl)) (least_member key P x
       record {
         member = inl refl;
         holds = q;
-        least = λ y h p below. elim h [ inl e ↦ IsLower-irrefl (key x) (subst (λ z. IsLower (key z) (key x)) e below) | inr k ↦ none y k p ];
+        least =
+            λ y h p below. elim h [ inl e ↦ IsLower-irrefl (key x) (subst (λ z. IsLower (key z) (key x)) e below) | inr k ↦ none y k p ];
       },
     )
     add (yes q) (inr (m, is)) = elim (IsLower-dec (key x) (key m)) [
@@ -88,7 +92,8 @@ least_member {X} key P (x ∷ xs) d = add (d x (inl refl)) (least_member key P x
         record {
           member = inr is.member;
           holds = is.holds;
-          least = λ y h p below. elim h [ inl e ↦ not_lower (subst (λ z. IsLower (key z) (key m)) e below) | inr k ↦ is.least y k p below ];
+          least =
+              λ y h p below. elim h [ inl e ↦ not_lower (subst (λ z. IsLower (key z) (key m)) e below) | inr k ↦ is.least y k p below ];
         },
       )
     ]

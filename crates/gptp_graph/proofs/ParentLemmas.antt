@@ -21,13 +21,16 @@ In-seen : (v : ℕ) (l : ParentLink) (ls : List Link)
 unfolding seen
 In-seen v l [] (inl h) = absurd h
 In-seen v l [] (inr h) = absurd h
-In-seen v l (k ∷ ls) (inl (inl e)) = inl (λ i. record { own_port = (e i).a.port; clock = (e i).b.clock; port = (e i).b.port })
+In-seen v l (k ∷ ls) (inl (inl e)) =
+    inl (λ i. record { own_port = (e i).a.port; clock = (e i).b.clock; port = (e i).b.port })
 In-seen v l (k ∷ ls) (inl (inr h)) = inr (inr (In-seen v l ls (inl h)))
-In-seen v l (k ∷ ls) (inr (inl e)) = inr (inl (λ i. record { own_port = (e i).b.port; clock = (e i).a.clock; port = (e i).a.port }))
+In-seen v l (k ∷ ls) (inr (inl e)) =
+    inr (inl (λ i. record { own_port = (e i).b.port; clock = (e i).a.clock; port = (e i).a.port }))
 In-seen v l (k ∷ ls) (inr (inr h)) = inr (inr (In-seen v l ls (inr h)))
 
 -- whether a link leads nearer
-LeadsNearer-dec : (g : Snapshot) (v d : ℕ) (l : ParentLink) → IsWellFormed g → IsDistance g v (suc d) → Dec (LeadsNearer g v l)
+LeadsNearer-dec : (g : Snapshot) (v d : ℕ) (l : ParentLink) → IsWellFormed g → IsDistance g v (suc d)
+    → Dec (LeadsNearer g v l)
 LeadsNearer-dec g v d l wf here = elim (Joins-dec g (port_of v l.own_port) (port_of l.clock l.port)) [
   | no apart ↦ no (λ h. apart h.joins)
   | yes j ↦ by_distance j (distance_exists g l.clock wf (JoinsAt-clock g v l wf j))
@@ -46,13 +49,15 @@ LeadsNearer-dec g v d l wf here = elim (Joins-dec g (port_of v l.own_port) (port
             omega arith
 
 -- a system that isn't at distance zero has a parent
-pub parent_exists : (g : Snapshot) (v d : ℕ) → IsWellFormed g → IsDistance g v (suc d) → (l : ParentLink) × IsParent g v l
+pub parent_exists : (g : Snapshot) (v d : ℕ) → IsWellFormed g → IsDistance g v (suc d)
+    → (l : ParentLink) × IsParent g v l
 parent_exists g v d wf here = elim (least_member key (LeadsNearer g v) (seen g.links) (λ l h. LeadsNearer-dec g v d l wf here)) [
   | inl none ↦ absurd (some (nearer_neighbour g v d wf here) none)
   | inr (l, is) ↦ (l, record { nearer = is.holds; least = λ other h. is.least other (In-seen v other g.links h.joins) h })
 ]
   where
-    some : ((w : ℕ) × Adjacent g v w × IsDistance g w d) → ((l : ParentLink) → In l (seen g.links) → LeadsNearer g v l → ⊥) → ⊥
+    some : ((w : ℕ) × Adjacent g v w × IsDistance g w d)
+        → ((l : ParentLink) → In l (seen g.links) → LeadsNearer g v l → ⊥) → ⊥
     some (w, (m, n, j), there) none =
         let l : ParentLink = record { own_port = m; clock = w; port = n } in
         none l (In-seen v l g.links j) (record { joins = j; distance = d; there = there; here = here })
@@ -74,7 +79,8 @@ IsParent-unique g v l k h j = elim (IsLower-total (key l) (key k) refl) [
 ]
 
 -- the best has no parent: it is at distance zero
-pub no_parent_at_zero : (g : Snapshot) (v : ℕ) (l : ParentLink) → IsWellFormed g → IsDistance g v 0 → IsParent g v l → ⊥
+pub no_parent_at_zero : (g : Snapshot) (v : ℕ) (l : ParentLink) → IsWellFormed g → IsDistance g v 0
+    → IsParent g v l → ⊥
 no_parent_at_zero g v l wf here h =
     let e : 0 ≡ suc h.nearer.distance = IsDistance-unique g v 0 (suc h.nearer.distance) wf here h.nearer.here in
     absurd (omega arith)

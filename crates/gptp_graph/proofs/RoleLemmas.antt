@@ -40,25 +40,32 @@ RoleBy-unique L S M Passive Master h k = absurd (h.2 k.2)
 RoleBy-unique L S M Passive Passive h k = refl
 
 -- the same role by equivalent facts
-pub RoleBy-map : (L S M S' M' : Type 0) (role : Role) → (S → S') → (S' → S) → (M → M') → (M' → M) → RoleBy L S M role → RoleBy L S' M' role
+pub RoleBy-map : (L S M S' M' : Type 0) (role : Role) → (S → S') → (S' → S) → (M → M') → (M' → M)
+    → RoleBy L S M role → RoleBy L S' M' role
 RoleBy-map L S M S' M' Disabled s s' m m' h = h
 RoleBy-map L S M S' M' Slave s s' m m' h = (h.0, s h.1)
 RoleBy-map L S M S' M' Master s s' m m' h = (h.0, (λ x. h.1 (s' x)), m h.2)
 RoleBy-map L S M S' M' Passive s s' m m' h = (h.0, (λ x. h.1 (s' x)), (λ x. h.2 (m' x)))
 
-IsSlavePort-dec : (g : Snapshot) (p : PortIdentity) (d : ℕ) → IsWellFormed g → IsDistance g p.clock d → Dec (IsSlavePort g p)
+IsSlavePort-dec : (g : Snapshot) (p : PortIdentity) (d : ℕ) → IsWellFormed g → IsDistance g p.clock d
+    → Dec (IsSlavePort g p)
 IsSlavePort-dec g p zero wf here = no (λ (l, is, e). no_parent_at_zero g p.clock l wf here is)
 IsSlavePort-dec g p (suc d) wf here = by_parent (parent_exists g p.clock d wf here)
   where
     by_parent : ((l : ParentLink) × IsParent g p.clock l) → Dec (IsSlavePort g p)
-    by_parent (l, is) = dec_iff (λ e. (l, is, e)) (λ (k, h, e). ap (λ (x : ParentLink). x.own_port) (IsParent-unique g p.clock l k is h) ∙ e) (ℕ_discrete l.own_port p.port)
+    by_parent (l, is) =
+        dec_iff (λ e. (l, is, e)) (λ (k, h, e). ap (λ (x : ParentLink). x.own_port) (IsParent-unique g p.clock l k is h) ∙ e) (ℕ_discrete l.own_port p.port)
 
-IsMasterPort-dec : (g : Snapshot) (p : PortIdentity) → IsWellFormed g → Dec (IsLinked g p) → Dec (IsMasterPort g p)
+IsMasterPort-dec : (g : Snapshot) (p : PortIdentity) → IsWellFormed g → Dec (IsLinked g p)
+    → Dec (IsMasterPort g p)
 IsMasterPort-dec g p wf (no out) = no (λ h. out (h.other, h.joins))
-IsMasterPort-dec g p wf (yes (q, j)) = by_distances (distance_exists g p.clock wf (Joins-clock g p q wf j)) (distance_exists g q.clock wf (Joins-clock g q p wf (Joins-sym g p q j)))
+IsMasterPort-dec g p wf (yes (q, j)) =
+    by_distances (distance_exists g p.clock wf (Joins-clock g p q wf j)) (distance_exists g q.clock wf (Joins-clock g q p wf (Joins-sym g p q j)))
   where
-    by_distances : ((d : ℕ) × IsDistance g p.clock d) → ((e : ℕ) × IsDistance g q.clock e) → Dec (IsMasterPort g p)
-    by_distances (d, here) (e, there) = dec_iff over back (dec_either (dec_lt d e) (dec_both (ℕ_discrete d e) (dec_lt p.clock q.clock)))
+    by_distances : ((d : ℕ) × IsDistance g p.clock d) → ((e : ℕ) × IsDistance g q.clock e)
+        → Dec (IsMasterPort g p)
+    by_distances (d, here) (e, there) =
+        dec_iff over back (dec_either (dec_lt d e) (dec_both (ℕ_discrete d e) (dec_lt p.clock q.clock)))
       where
         over : (d < e) ⊎ ((d ≡ e) × (p.clock < q.clock)) → IsMasterPort g p
         over h = record { other = q; joins = j; here = d; there = e; is_here = here; is_there = there; nearer = h }
@@ -73,13 +80,15 @@ IsMasterPort-dec g p wf (yes (q, j)) = by_distances (distance_exists g p.clock w
             (subst (λ (r : PortIdentity). (h.here < h.there) ⊎ ((h.here ≡ h.there) × (p.clock < r.clock))) same_end h.nearer))
 
 -- every port of a system has a settled role
-pub settled_role_exists : (g : Snapshot) (p : PortIdentity) → IsWellFormed g → In p.clock (clocks g) → (role : Role) × IsSettledRole g p role
+pub settled_role_exists : (g : Snapshot) (p : PortIdentity) → IsWellFormed g → In p.clock (clocks g)
+    → (role : Role) × IsSettledRole g p role
 settled_role_exists g p wf here =
     let d = distance_exists g p.clock wf here in
     RoleBy-exists (IsLinked-dec g p) (IsSlavePort-dec g p d.0 wf d.1) (IsMasterPort-dec g p wf (IsLinked-dec g p))
 
 -- the port at the other end of a slave port is a master port
-pub parent_is_master : (g : Snapshot) (v : ℕ) (l : ParentLink) → IsWellFormed g → IsParent g v l → IsSettledRole g (port_of l.clock l.port) Master
+pub parent_is_master : (g : Snapshot) (v : ℕ) (l : ParentLink) → IsWellFormed g → IsParent g v l
+    → IsSettledRole g (port_of l.clock l.port) Master
 parent_is_master g v l wf h = ((own, back), not_slave, master)
   where
     own : PortIdentity

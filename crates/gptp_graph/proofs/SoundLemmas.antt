@@ -68,7 +68,8 @@ module _ (g : Snapshot) (lines : List SystemLine) (wf : IsWellFormed g) (h : Pas
       }
 
   -- along a route the root stays, and the steps grow by one at most
-  along : (us : List ℕ) (one other : SystemLine) → In one lines → In other lines → Route g one.clock other.clock us → (one.root ≡ other.root) × (other.steps ≤ one.steps + length us)
+  along : (us : List ℕ) (one other : SystemLine) → In one lines → In other lines
+      → Route g one.clock other.clock us → (one.root ≡ other.root) × (other.steps ≤ one.steps + length us)
   along [] one other a b r =
       let e = same_line g lines one other h.systems a b r in
       (ap (λ (l : SystemLine). l.root) e, let s = ap (λ (l : SystemLine). l.steps) e in omega arith)
@@ -100,17 +101,20 @@ module _ (g : Snapshot) (lines : List SystemLine) (wf : IsWellFormed g) (h : Pas
         is_best = record { live = of.live; reached = Reaches-route g line.clock best.clock us here to_best; least = no_lower line stated best root };
         root = root;
         route = (down.0, down.1, down.2 ∙ long);
-        least = λ ts r. no_shorter line stated t.top t.stated t.alone ts (subst (λ v. Route g v line.clock ts) (sym of.clock) r);
+        least =
+            λ ts r. no_shorter line stated t.top t.stated t.alone ts (subst (λ v. Route g v line.clock ts) (sym of.clock) r);
       }
     where
-      no_lower : (line : SystemLine) → In line lines → (best : System) → line.root ≡ best.identity → (s : System) → In s g.systems → Reaches g line.clock s.clock → best.identity ≤ s.identity
+      no_lower : (line : SystemLine) → In line lines → (best : System) → line.root ≡ best.identity
+          → (s : System) → In s g.systems → Reaches g line.clock s.clock → best.identity ≤ s.identity
       no_lower line stated best root s live (us, p) =
           let (other, of) = h.systems.all s live in
           let same : line.root ≡ other.root = (along us line other stated of.stated (subst (λ v. Route g line.clock v us) (sym of.clock) p.route)).0 in
           let below : other.root ≤ s.identity = h.identity s other of in
           omega arith
 
-      no_shorter : (line : SystemLine) → In line lines → (top : SystemLine) → In top lines → top.parent ≡ None → (us : List ℕ) → Route g top.clock line.clock us → line.steps ≤ length us
+      no_shorter : (line : SystemLine) → In line lines → (top : SystemLine) → In top lines → top.parent ≡ None
+          → (us : List ℕ) → Route g top.clock line.clock us → line.steps ≤ length us
       no_shorter line stated top top_stated alone us r =
           let grown : line.steps ≤ top.steps + length us = (along us top line top_stated stated r).1 in
           let zero : top.steps ≡ 0 = h.steps.none top top_stated alone in
@@ -146,7 +150,8 @@ module _ (g : Snapshot) (lines : List SystemLine) (wf : IsWellFormed g) (h : Pas
               joins = joins;
               distance = d;
               there = distance_of_stated g lines l.clock d stated_distances steps;
-              here = subst (IsDistance g line.clock) (let e : line.steps ≡ suc d = omega arith in e) (stated_distances line stated);
+              here =
+                  subst (IsDistance g line.clock) (let e : line.steps ≡ suc d = omega arith in e) (stated_distances line stated);
             };
             least = λ other n lower.
                 let more : suc n.distance ≡ line.steps = IsDistance-unique g line.clock (suc n.distance) line.steps wf n.here (stated_distances line stated) in

@@ -46,32 +46,41 @@ where_holds (yes a) b = (b.0, λ e h. b.1 e)
 where_holds (no f) b = (true, λ e h. absurd (f h))
 
 -- a fact about all members
-abbrev pub for_all : {X : Type 0} (P : X → Type 0) (xs : List X) → ((x : X) → Sure (P x)) → Sure ((x : X) → In x xs → P x)
+abbrev pub for_all : {X : Type 0} (P : X → Type 0) (xs : List X) → ((x : X) → Sure (P x))
+    → Sure ((x : X) → In x xs → P x)
 for_all P [] t = (true, λ e x h. absurd h)
-for_all P (x ∷ xs) t = so (λ a y h. elim h [ inl e ↦ subst P (sym e) a.0 | inr k ↦ a.1 y k ]) (both (t x) (for_all P xs t))
+for_all P (x ∷ xs) t =
+    so (λ a y h. elim h [ inl e ↦ subst P (sym e) a.0 | inr k ↦ a.1 y k ]) (both (t x) (for_all P xs t))
 
 -- a fact about some member
-abbrev pub for_some : {X : Type 0} (P : X → Type 0) (xs : List X) → ((x : X) → Sure (P x)) → Sure ((x : X) × In x xs × P x)
+abbrev pub for_some : {X : Type 0} (P : X → Type 0) (xs : List X) → ((x : X) → Sure (P x))
+    → Sure ((x : X) × In x xs × P x)
 for_some P [] t = (false, failed)
-for_some P (x ∷ xs) t = so (λ a. elim a [ inl p ↦ (x, inl refl, p) | inr (y, h, p) ↦ (y, inr h, p) ]) (either (t x) (for_some P xs t))
+for_some P (x ∷ xs) t =
+    so (λ a. elim a [ inl p ↦ (x, inl refl, p) | inr (y, h, p) ↦ (y, inr h, p) ]) (either (t x) (for_some P xs t))
 
 -- a fact about the two ends of each link
-abbrev pub for_links : (g : Snapshot) (P : PortIdentity → PortIdentity → Type 0) → ((p q : PortIdentity) → Sure (P p q)) → Sure ((p q : PortIdentity) → Joins g p q → P p q)
-for_links g P t = so ends (for_all (λ (l : Link). P l.a l.b × P l.b l.a) g.links (λ l. both (t l.a l.b) (t l.b l.a)))
+abbrev pub for_links : (g : Snapshot) (P : PortIdentity → PortIdentity → Type 0)
+    → ((p q : PortIdentity) → Sure (P p q)) → Sure ((p q : PortIdentity) → Joins g p q → P p q)
+for_links g P t =
+    so ends (for_all (λ (l : Link). P l.a l.b × P l.b l.a) g.links (λ l. both (t l.a l.b) (t l.b l.a)))
   where
     ends : ((l : Link) → In l g.links → P l.a l.b × P l.b l.a) → (p q : PortIdentity) → Joins g p q → P p q
     ends h p q (inl at) = (h (record { a = p; b = q }) at).0
     ends h p q (inr at) = (h (record { a = q; b = p }) at).1
 
 -- a fact about the other end of a port's link
-abbrev pub for_end : (g : Snapshot) (p : PortIdentity) (P : PortIdentity → Type 0) → ((q : PortIdentity) → Sure (P q)) → Sure ((q : PortIdentity) × Joins g p q × P q)
+abbrev pub for_end : (g : Snapshot) (p : PortIdentity) (P : PortIdentity → Type 0)
+    → ((q : PortIdentity) → Sure (P q)) → Sure ((q : PortIdentity) × Joins g p q × P q)
 for_end g p P t = so other (for_some (λ (l : Link). ((l.a ≡ p) × P l.b) ⊎ ((l.b ≡ p) × P l.a)) g.links
     (λ l. either (both (decided (PortIdentity-dec l.a p)) (t l.b)) (both (decided (PortIdentity-dec l.b p)) (t l.a))))
   where
-    other : ((l : Link) × In l g.links × (((l.a ≡ p) × P l.b) ⊎ ((l.b ≡ p) × P l.a))) → (q : PortIdentity) × Joins g p q × P q
+    other : ((l : Link) × In l g.links × (((l.a ≡ p) × P l.b) ⊎ ((l.b ≡ p) × P l.a)))
+        → (q : PortIdentity) × Joins g p q × P q
     other (l, at, inl (e, h)) = (l.b, inl (subst (λ k. In k g.links) (λ i. record { a = e i; b = l.b }) at), h)
     other (l, at, inr (e, h)) = (l.a, inr (subst (λ k. In k g.links) (λ i. record { a = l.a; b = e i }) at), h)
 
 -- a link joins the ports
 abbrev pub sure_joins : (g : Snapshot) (p q : PortIdentity) → Sure (Joins g p q)
-sure_joins g p q = so (λ (r, joins, e). subst (Joins g p) e joins) (for_end g p (λ r. r ≡ q) (λ r. decided (PortIdentity-dec r q)))
+sure_joins g p q =
+    so (λ (r, joins, e). subst (Joins g p) e joins) (for_end g p (λ r. r ≡ q) (λ r. decided (PortIdentity-dec r q)))

@@ -25,14 +25,16 @@ same_some l k e = cc
 -- the members differ
 abbrev pub sure_different : (xs : List ℕ) → Sure (Different xs)
 sure_different [] = (true, λ e. tt)
-sure_different (x ∷ xs) = both (so (λ h k. h x k refl) (for_all (λ y. x ≡ y → ⊥) xs (λ y. denied (ℕ_discrete x y)))) (sure_different xs)
+sure_different (x ∷ xs) =
+    both (so (λ h k. h x k refl) (for_all (λ y. x ≡ y → ⊥) xs (λ y. denied (ℕ_discrete x y)))) (sure_different xs)
 
 -- two lists of numbers are one
 abbrev pub sure_same : (xs ys : List ℕ) → Sure (xs ≡ ys)
 sure_same [] [] = (true, λ e. refl)
 sure_same [] (y ∷ ys) = (false, failed)
 sure_same (x ∷ xs) [] = (false, failed)
-sure_same (x ∷ xs) (y ∷ ys) = so (λ h. ap₂ (λ (z : ℕ) (zs : List ℕ). z ∷ zs) h.0 h.1) (both (decided (ℕ_discrete x y)) (sure_same xs ys))
+sure_same (x ∷ xs) (y ∷ ys) =
+    so (λ h. ap₂ (λ (z : ℕ) (zs : List ℕ). z ∷ zs) h.0 h.1) (both (decided (ℕ_discrete x y)) (sure_same xs ys))
 
 -- the port is one of the system's
 abbrev pub sure_port : (s : System) (p : PortIdentity) → Sure (IsPortOf s p)
@@ -41,14 +43,17 @@ sure_port s p = so (λ h. record { clock = h.0; first = h.1.0; last = h.1.1 })
 
 -- the snapshot is a network's
 abbrev pub sure_well_formed : (g : Snapshot) → Sure (IsWellFormed g)
-sure_well_formed g = so (λ h. record { different = h.0; identified = h.1.0; ends = h.1.1.0; one_link = h.1.1.1.0; apart = h.1.1.1.1 })
+sure_well_formed g =
+    so (λ h. record { different = h.0; identified = h.1.0; ends = h.1.1.0; one_link = h.1.1.1.0; apart = h.1.1.1.1 })
     (both (sure_different (clocks g)) (both identified (both ends (both one_link apart))))
   where
     identified : Sure ((s : System) → In s g.systems → IsIdentified s)
-    identified = for_all IsIdentified g.systems (λ s. so (λ h. record { octets = h.0; clock = h.1 }) (both (decided (dec_lt s.identity (2 ^ 112))) (decided (ℕ_discrete (s.identity % 2 ^ 64) s.clock))))
+    identified =
+        for_all IsIdentified g.systems (λ s. so (λ h. record { octets = h.0; clock = h.1 }) (both (decided (dec_lt s.identity (2 ^ 112))) (decided (ℕ_discrete (s.identity % 2 ^ 64) s.clock))))
 
     ends : Sure ((p q : PortIdentity) → Joins g p q → (s : System) × In s g.systems × IsPortOf s p)
-    ends = for_links g (λ p q. (s : System) × In s g.systems × IsPortOf s p) (λ p q. for_some (λ s. IsPortOf s p) g.systems (λ s. sure_port s p))
+    ends =
+        for_links g (λ p q. (s : System) × In s g.systems × IsPortOf s p) (λ p q. for_some (λ s. IsPortOf s p) g.systems (λ s. sure_port s p))
 
     one_link : Sure ((p q r : PortIdentity) → Joins g p q → Joins g p r → q ≡ r)
     one_link = so (λ h p q r j k. h p q j p r k refl)
@@ -59,7 +64,9 @@ sure_well_formed g = so (λ h. record { different = h.0; identified = h.1.0; end
 
 module _ (g : Snapshot) (lines : List SystemLine) where
   -- a fact about each system and its line
-  abbrev pub for_lines_of : (P : System → SystemLine → Type 0) → ((s : System) (line : SystemLine) → Sure (P s line)) → Sure ((s : System) (line : SystemLine) → IsLineOf g lines s line → P s line)
+  abbrev pub for_lines_of : (P : System → SystemLine → Type 0)
+      → ((s : System) (line : SystemLine) → Sure (P s line))
+      → Sure ((s : System) (line : SystemLine) → IsLineOf g lines s line → P s line)
   for_lines_of P t = so (λ h s line of. h s of.live line of.stated of.clock)
       (for_all (λ s. (line : SystemLine) → In line lines → line.clock ≡ s.clock → P s line) g.systems
       (λ s. for_all (λ line. line.clock ≡ s.clock → P s line) lines (λ line. where_holds (ℕ_discrete line.clock s.clock) (t s line))))
@@ -70,36 +77,44 @@ module _ (g : Snapshot) (lines : List SystemLine) where
   if_none (Some l) A t = (true, λ e h. none_is_none l h)
 
   -- a fact about the parent that is stated
-  abbrev pub if_parent : (o : Option ParentLink) (P : ParentLink → Type 0) → ((l : ParentLink) → Sure (P l)) → Sure ((l : ParentLink) → o ≡ Some l → P l)
+  abbrev pub if_parent : (o : Option ParentLink) (P : ParentLink → Type 0) → ((l : ParentLink) → Sure (P l))
+      → Sure ((l : ParentLink) → o ≡ Some l → P l)
   if_parent None P t = (true, λ e l h. none_is_none l (sym h))
   if_parent (Some k) P t = ((t k).0, λ e l h. subst P (same_some k l h) ((t k).1 e))
 
   -- these steps are stated of the system
   abbrev pub sure_steps : (v d : ℕ) → Sure (StatesSteps lines v d)
-  sure_steps v d = so (λ (line, at, (c, e)). (line, at, c, e)) (for_some (λ line. (line.clock ≡ v) × (line.steps ≡ d)) lines (λ line. both (decided (ℕ_discrete line.clock v)) (decided (ℕ_discrete line.steps d))))
+  sure_steps v d =
+      so (λ (line, at, (c, e)). (line, at, c, e)) (for_some (λ line. (line.clock ≡ v) × (line.steps ≡ d)) lines (λ line. both (decided (ℕ_discrete line.clock v)) (decided (ℕ_discrete line.steps d))))
 
   abbrev pub sure_systems : Sure (PassesSystems g lines)
-  sure_systems = so (λ h. record { different = h.0; all = h.1.0; no_other = h.1.1.0; ports = h.1.1.1 }) (both (sure_different (line_clocks lines)) (both all (both no_other ports)))
+  sure_systems =
+      so (λ h. record { different = h.0; all = h.1.0; no_other = h.1.1.0; ports = h.1.1.1 }) (both (sure_different (line_clocks lines)) (both all (both no_other ports)))
     where
       all : Sure ((s : System) → In s g.systems → (line : SystemLine) × IsLineOf g lines s line)
-      all = so (λ h s live. let (line, stated, clock) = h s live in (line, record { live = live; stated = stated; clock = clock }))
+      all =
+          so (λ h s live. let (line, stated, clock) = h s live in (line, record { live = live; stated = stated; clock = clock }))
           (for_all (λ s. (line : SystemLine) × In line lines × (line.clock ≡ s.clock)) g.systems (λ s. for_some (λ line. line.clock ≡ s.clock) lines (λ line. decided (ℕ_discrete line.clock s.clock))))
 
       no_other : Sure ((line : SystemLine) → In line lines → (s : System) × IsLineOf g lines s line)
-      no_other = so (λ h line stated. let (s, live, clock) = h line stated in (s, record { live = live; stated = stated; clock = clock }))
+      no_other =
+          so (λ h line stated. let (s, live, clock) = h line stated in (s, record { live = live; stated = stated; clock = clock }))
           (for_all (λ line. (s : System) × In s g.systems × (line.clock ≡ s.clock)) lines (λ line. for_some (λ s. line.clock ≡ s.clock) g.systems (λ s. decided (ℕ_discrete line.clock s.clock))))
 
       ports : Sure ((s : System) (line : SystemLine) → IsLineOf g lines s line → port_numbers line ≡ range_with_len 1 s.ports)
-      ports = for_lines_of (λ s line. port_numbers line ≡ range_with_len 1 s.ports) (λ s line. sure_same (port_numbers line) (range_with_len 1 s.ports))
+      ports =
+          for_lines_of (λ s line. port_numbers line ≡ range_with_len 1 s.ports) (λ s line. sure_same (port_numbers line) (range_with_len 1 s.ports))
 
   abbrev pub sure_too_far : Sure (PassesTooFar lines)
   sure_too_far = for_all (λ line. line.steps < 255) lines (λ line. decided (dec_lt line.steps 255))
 
   abbrev pub sure_root : Sure (PassesRoot g lines)
-  sure_root = for_lines_of (λ s line. line.parent ≡ None → line.root ≡ s.identity) (λ s line. if_none line.parent (line.root ≡ s.identity) (decided (ℕ_discrete line.root s.identity)))
+  sure_root =
+      for_lines_of (λ s line. line.parent ≡ None → line.root ≡ s.identity) (λ s line. if_none line.parent (line.root ≡ s.identity) (decided (ℕ_discrete line.root s.identity)))
 
   abbrev pub sure_steps_stated : Sure (PassesSteps lines)
-  sure_steps_stated = so (λ h. record { none = (λ line at e. (h line at).0 e); some = λ line l at e. (h line at).1 l e })
+  sure_steps_stated =
+      so (λ h. record { none = (λ line at e. (h line at).0 e); some = λ line l at e. (h line at).1 l e })
       (for_all (λ line. (line.parent ≡ None → line.steps ≡ 0) × ((l : ParentLink) → line.parent ≡ Some l → 0 < line.steps)) lines
       (λ line. both (if_none line.parent (line.steps ≡ 0) (decided (ℕ_discrete line.steps 0))) (if_parent line.parent (λ l. 0 < line.steps) (λ l. decided (dec_lt 0 line.steps)))))
 
@@ -116,14 +131,16 @@ module _ (g : Snapshot) (lines : List SystemLine) where
           (for_some (λ other. (other.clock ≡ l.clock) × (other.steps + 1 ≡ line.steps)) lines (λ other. both (decided (ℕ_discrete other.clock l.clock)) (decided (ℕ_discrete (other.steps + 1) line.steps)))))
 
   abbrev pub sure_link : Sure (PassesLink g lines)
-  sure_link = so (λ h one other a b (m, n, joins). h one a other b (port_of one.clock m) (port_of other.clock n) joins refl refl)
+  sure_link =
+      so (λ h one other a b (m, n, joins). h one a other b (port_of one.clock m) (port_of other.clock n) joins refl refl)
       (for_all (λ one. (other : SystemLine) → In other lines → Across one other) lines (λ one. for_all (Across one) lines (λ other. across one other)))
     where
       Agree : SystemLine → SystemLine → Type 0
       Agree one other = (one.root ≡ other.root) × (one.steps ≤ other.steps + 1) × (other.steps ≤ one.steps + 1)
 
       Across : SystemLine → SystemLine → Type 0
-      Across one other = (p q : PortIdentity) → Joins g p q → p.clock ≡ one.clock → q.clock ≡ other.clock → Agree one other
+      Across one other =
+          (p q : PortIdentity) → Joins g p q → p.clock ≡ one.clock → q.clock ≡ other.clock → Agree one other
 
       agree : (one other : SystemLine) → Sure (Agree one other)
       agree one other = so (λ h. (h.0, h.1.0, h.1.1))
@@ -134,22 +151,26 @@ module _ (g : Snapshot) (lines : List SystemLine) where
           (λ p q. where_holds (ℕ_discrete p.clock one.clock) (where_holds (ℕ_discrete q.clock other.clock) (agree one other)))
 
   abbrev pub sure_identity : Sure (PassesIdentity g lines)
-  sure_identity = for_lines_of (λ s line. line.root ≤ s.identity) (λ s line. decided (dec_le line.root s.identity))
+  sure_identity =
+      for_lines_of (λ s line. line.root ≤ s.identity) (λ s line. decided (dec_le line.root s.identity))
 
   -- the link from p to q as p's system sees it
   abbrev pub seen : PortIdentity → PortIdentity → ParentLink
   seen p q = record { own_port = p.port; clock = q.clock; port = q.port }
 
   abbrev pub sure_tie : Sure (PassesTie g lines)
-  sure_tie = so (λ h line l other d at e joins (up, up_at, c, steps) less. h line at l e (port_of line.clock other.own_port) (port_of other.clock other.port) joins refl up up_at c (ap (λ n. n + 1) steps ∙ less))
+  sure_tie =
+      so (λ h line l other d at e joins (up, up_at, c, steps) less. h line at l e (port_of line.clock other.own_port) (port_of other.clock other.port) joins refl up up_at c (ap (λ n. n + 1) steps ∙ less))
       (for_all (λ line. (l : ParentLink) → line.parent ≡ Some l → IsLeast line l) lines (λ line. if_parent line.parent (IsLeast line) (λ l. least line l)))
     where
       IsLeast : SystemLine → ParentLink → Type 0
-      IsLeast line l = (p q : PortIdentity) → Joins g p q → p.clock ≡ line.clock → (up : SystemLine) → In up lines → up.clock ≡ q.clock → up.steps + 1 ≡ line.steps
+      IsLeast line l =
+          (p q : PortIdentity) → Joins g p q → p.clock ≡ line.clock → (up : SystemLine) → In up lines → up.clock ≡ q.clock → up.steps + 1 ≡ line.steps
           → IsLower (key (seen p q)) (key l) → ⊥
 
       least : (line : SystemLine) (l : ParentLink) → Sure (IsLeast line l)
-      least line l = for_links g (λ p q. p.clock ≡ line.clock → (up : SystemLine) → In up lines → up.clock ≡ q.clock → up.steps + 1 ≡ line.steps → IsLower (key (seen p q)) (key l) → ⊥)
+      least line l =
+          for_links g (λ p q. p.clock ≡ line.clock → (up : SystemLine) → In up lines → up.clock ≡ q.clock → up.steps + 1 ≡ line.steps → IsLower (key (seen p q)) (key l) → ⊥)
           (λ p q. where_holds (ℕ_discrete p.clock line.clock)
           (for_all (λ up. up.clock ≡ q.clock → up.steps + 1 ≡ line.steps → IsLower (key (seen p q)) (key l) → ⊥) lines
           (λ up. where_holds (ℕ_discrete up.clock q.clock) (where_holds (ℕ_discrete (up.steps + 1) line.steps) (denied (IsLower-dec (key (seen p q)) (key l)))))))
@@ -163,18 +184,21 @@ module _ (g : Snapshot) (lines : List SystemLine) where
       of_parent (Some l) = so (λ e. (l, refl, e)) (decided (ℕ_discrete l.own_port n))
 
   abbrev pub no_slave_port : (line : SystemLine) (n : ℕ) → Sure (StatesSlave line n → ⊥)
-  no_slave_port line n = so (λ h (l, e, own). h l e own) (if_parent line.parent (λ l. l.own_port ≡ n → ⊥) (λ l. denied (ℕ_discrete l.own_port n)))
+  no_slave_port line n =
+      so (λ h (l, e, own). h l e own) (if_parent line.parent (λ l. l.own_port ≡ n → ⊥) (λ l. denied (ℕ_discrete l.own_port n)))
 
   -- fewer steps here than on the line at the other end, or as many and the lower clock
   abbrev pub IsNearer : SystemLine → SystemLine → PortIdentity → Type 0
   IsNearer line other q = (line.steps < other.steps) ⊎ ((line.steps ≡ other.steps) × (line.clock < q.clock))
 
   abbrev pub nearer_dec : (line other : SystemLine) (q : PortIdentity) → Dec (IsNearer line other q)
-  nearer_dec line other q = dec_either (dec_lt line.steps other.steps) (dec_both (ℕ_discrete line.steps other.steps) (dec_lt line.clock q.clock))
+  nearer_dec line other q =
+      dec_either (dec_lt line.steps other.steps) (dec_both (ℕ_discrete line.steps other.steps) (dec_lt line.clock q.clock))
 
   -- the port is a master port by the stated steps, and isn't
   abbrev pub master_port : (line : SystemLine) (n : ℕ) → Sure (StatesMaster g lines line n)
-  master_port line n = so (λ (q, joins, (other, at, (c, nearer))). record { other = q; joins = joins; there = other.steps; is_there = (other, at, c, refl); nearer = nearer })
+  master_port line n =
+      so (λ (q, joins, (other, at, (c, nearer))). record { other = q; joins = joins; there = other.steps; is_there = (other, at, c, refl); nearer = nearer })
       (for_end g (port_of line.clock n) (λ q. (other : SystemLine) × In other lines × ((other.clock ≡ q.clock) × IsNearer line other q))
       (λ q. for_some (λ other. (other.clock ≡ q.clock) × IsNearer line other q) lines (λ other. both (decided (ℕ_discrete other.clock q.clock)) (decided (nearer_dec line other q)))))
 
@@ -198,13 +222,17 @@ module _ (g : Snapshot) (lines : List SystemLine) where
       (λ line. for_all (λ port. HasRole line port.number port.role) line.ports (λ port. has_role line port.number port.role)))
     where
       HasRole : SystemLine → ℕ → Role → Type 0
-      HasRole line n role = RoleBy (IsLinked g (port_of line.clock n)) (StatesSlave line n) (StatesMaster g lines line n) role
+      HasRole line n role =
+          RoleBy (IsLinked g (port_of line.clock n)) (StatesSlave line n) (StatesMaster g lines line n) role
 
       has_role : (line : SystemLine) (n : ℕ) (role : Role) → Sure (HasRole line n role)
-      has_role line n Disabled = so (λ h (q, joins). h (port_of line.clock n) q joins refl) (for_links g (λ p q. p ≡ port_of line.clock n → ⊥) (λ p q. denied (PortIdentity-dec p (port_of line.clock n))))
+      has_role line n Disabled =
+          so (λ h (q, joins). h (port_of line.clock n) q joins refl) (for_links g (λ p q. p ≡ port_of line.clock n → ⊥) (λ p q. denied (PortIdentity-dec p (port_of line.clock n))))
       has_role line n Slave = both (sure_linked (port_of line.clock n)) (slave_port line n)
-      has_role line n Master = so (λ h. (h.0, h.1.0, h.1.1)) (both (sure_linked (port_of line.clock n)) (both (no_slave_port line n) (master_port line n)))
-      has_role line n Passive = so (λ h. (h.0, h.1.0, h.1.1)) (both (sure_linked (port_of line.clock n)) (both (no_slave_port line n) (no_master_port line n)))
+      has_role line n Master =
+          so (λ h. (h.0, h.1.0, h.1.1)) (both (sure_linked (port_of line.clock n)) (both (no_slave_port line n) (master_port line n)))
+      has_role line n Passive =
+          so (λ h. (h.0, h.1.0, h.1.1)) (both (sure_linked (port_of line.clock n)) (both (no_slave_port line n) (no_master_port line n)))
 
   -- the lines pass the local tests
   abbrev pub sure_passes : Sure (PassesLocalTests g lines)

@@ -40,4 +40,5 @@ pub record HasItsSystems (g : Snapshot) (lines : List SystemLine) : Type 0 where
   pub different : Different (line_clocks lines)
   pub all : (s : System) → In s g.systems → (line : SystemLine) × IsLineOf g lines s line
   pub no_other : (line : SystemLine) → In line lines → (s : System) × IsLineOf g lines s line
-  pub ports : (s : System) (line : SystemLine) → IsLineOf g lines s line → port_numbers line ≡ range_with_len 1 s.ports
+  pub ports : (s : System) (line : SystemLine) → IsLineOf g lines s line
+      → port_numbers line ≡ range_with_len 1 s.ports

@@ -23,7 +23,8 @@ PassesTooFar lines = (line : SystemLine) → In line lines → line.steps < 255
 
 -- a system with no parent states its own identity as root
 abbrev pub PassesRoot : Snapshot → List SystemLine → Type 0
-PassesRoot g lines = (s : System) (line : SystemLine) → IsLineOf g lines s line → line.parent ≡ None → line.root ≡ s.identity
+PassesRoot g lines =
+    (s : System) (line : SystemLine) → IsLineOf g lines s line → line.parent ≡ None → line.root ≡ s.identity
 
 -- a system with no parent has steps 0, and one with a parent has more
 pub record PassesSteps (lines : List SystemLine) : Type 0 where

@@ -23,7 +23,8 @@ pub record IsSettledLine (g : Snapshot) (line : SystemLine) : Type 0 where
   pub root : IsBestIdentity g line.clock line.root
   pub steps : IsDistance g line.clock line.steps
   pub parent : IsParentIfAny g line.clock line.parent
-  pub roles : (port : PortLine) → In port line.ports → IsSettledRole g (port_of line.clock port.number) port.role
+  pub roles : (port : PortLine) → In port line.ports
+      → IsSettledRole g (port_of line.clock port.number) port.role
 
 -- the lines are the settled choice of the snapshot
 pub record IsSettledChoice (g : Snapshot) (lines : List SystemLine) : Type 0 where

@@ -5,4 +5,5 @@ pub returns-clause-others : goal.returns-clause-others
 returns-clause-others c = slave_exists_once
 
 pub returns-clause-best : goal.returns-clause-best
-returns-clause-best c = λ g v n best wf is e (linked, (l, parent, own)). best_has_no_parent g v best l wf is e parent
+returns-clause-best c =
+    λ g v n best wf is e (linked, (l, parent, own)). best_has_no_parent g v best l wf is e parent
