@@ -13,7 +13,7 @@ use Rattle.gptp_graph.proofs.SystemLemmas.{In-clocks, same_clock}
 use Rattle.gptp_graph.proofs.PathLemmas.{Reaches-self}
 use Rattle.gptp_graph.proofs.BestLemmas.{IsBest-agree}
 use Rattle.gptp_graph.proofs.DistanceLemmas.{IsDistance-unique, IsDistance-neighbour, best_at_zero}
-use Rattle.gptp_graph.proofs.ParentLemmas.{parent_exists}
+use Rattle.gptp_graph.proofs.ParentLemmas.{LeadsNearer-distance, parent_exists}
 use Rattle.gptp_graph.proofs.RoleLemmas.{RoleBy-map}
 use Rattle.gptp_graph.proofs.StatementLemmas.{StateDistances, distance_of_stated, stated_of_distance, master_of_stated, stated_of_master, slave_of_stated, stated_of_slave}
 
@@ -49,14 +49,14 @@ module _ (g : Snapshot) (lines : List SystemLine) (wf : IsWellFormed g) (h : IsS
     none = zero_without_parent;
     some = λ line l stated is.
         let p = parent_of line l stated is in
-        let e : suc p.nearer.distance ≡ line.steps = IsDistance-unique g line.clock (suc p.nearer.distance) line.steps wf p.nearer.here (stated_distances line stated) in
+        let e : line.steps ≡ suc p.nearer.distance = LeadsNearer-distance g line.clock line.steps l wf (stated_distances line stated) p.nearer in
         omega arith;
   }
 
   passes_parent : PassesParent g lines
   passes_parent line l stated is =
       let p = parent_of line l stated is in
-      let e : suc p.nearer.distance ≡ line.steps = IsDistance-unique g line.clock (suc p.nearer.distance) line.steps wf p.nearer.here (stated_distances line stated) in
+      let e : line.steps ≡ suc p.nearer.distance = LeadsNearer-distance g line.clock line.steps l wf (stated_distances line stated) p.nearer in
       (p.nearer.joins, (p.nearer.distance, stated_of_distance g lines l.clock p.nearer.distance wf h.systems stated_distances p.nearer.there, omega arith))
 
   passes_link : PassesLink g lines

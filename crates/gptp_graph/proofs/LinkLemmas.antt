@@ -12,7 +12,7 @@ Joins-sym g p q (inr h) = inl h
 
 pub Adjacent-sym : (g : Snapshot) (v w : ℕ) → Adjacent g v w → Adjacent g w v
 Adjacent-sym g v w (m, n, joins) =
-    (n, m, Joins-sym g (record { clock = v; port = m }) (record { clock = w; port = n }) joins)
+    (n, m, Joins-sym g (port_of v m) (port_of w n) joins)
 
 -- the end of a link is a system's
 pub Joins-clock : (g : Snapshot) (p q : PortIdentity) → IsWellFormed g → Joins g p q → In p.clock (clocks g)
@@ -22,7 +22,7 @@ Joins-clock g p q wf joins =
 
 pub Adjacent-clock : (g : Snapshot) (v w : ℕ) → IsWellFormed g → Adjacent g v w → In w (clocks g)
 Adjacent-clock g v w wf (m, n, joins) =
-    Joins-clock g (record { clock = w; port = n }) (record { clock = v; port = m }) wf (Joins-sym g (record { clock = v; port = m }) (record { clock = w; port = n }) joins)
+    Joins-clock g (port_of w n) (port_of v m) wf (Joins-sym g (port_of v m) (port_of w n) joins)
 
 -- the other end of a link is a system's
 pub JoinsAt-clock : (g : Snapshot) (v : ℕ) (l : ParentLink) → IsWellFormed g → JoinsAt g v l

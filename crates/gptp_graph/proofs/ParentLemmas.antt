@@ -28,6 +28,11 @@ In-seen v l (k ∷ ls) (inr (inl e)) =
     inr (inl (λ i. record { own_port = (e i).b.port; clock = (e i).a.clock; port = (e i).a.port }))
 In-seen v l (k ∷ ls) (inr (inr h)) = inr (inr (In-seen v l ls (inr h)))
 
+-- a system from which a link leads nearer is one step farther
+pub LeadsNearer-distance : (g : Snapshot) (v d : ℕ) (l : ParentLink)
+    → IsWellFormed g → IsDistance g v d → (h : LeadsNearer g v l) → d ≡ suc h.distance
+LeadsNearer-distance g v d l wf here h = IsDistance-unique g v d (suc h.distance) wf here h.here
+
 -- whether a link leads nearer
 LeadsNearer-dec : (g : Snapshot) (v d : ℕ) (l : ParentLink) → IsWellFormed g → IsDistance g v (suc d)
     → Dec (LeadsNearer g v l)
@@ -45,7 +50,7 @@ LeadsNearer-dec g v d l wf here = elim (Joins-dec g (port_of v l.own_port) (port
         as_far : LeadsNearer g v l → e ≡ d
         as_far h =
             let a : e ≡ h.distance = IsDistance-unique g l.clock e h.distance wf there h.there in
-            let b : suc h.distance ≡ suc d = IsDistance-unique g v (suc h.distance) (suc d) wf h.here here in
+            let b : suc d ≡ suc h.distance = LeadsNearer-distance g v (suc d) l wf here h in
             omega arith
 
 -- a system that isn't at distance zero has a parent
@@ -82,5 +87,5 @@ IsParent-unique g v l k h j = elim (IsLower-total (key l) (key k) refl) [
 pub no_parent_at_zero : (g : Snapshot) (v : ℕ) (l : ParentLink) → IsWellFormed g → IsDistance g v 0
     → IsParent g v l → ⊥
 no_parent_at_zero g v l wf here h =
-    let e : 0 ≡ suc h.nearer.distance = IsDistance-unique g v 0 (suc h.nearer.distance) wf here h.nearer.here in
+    let e : 0 ≡ suc h.nearer.distance = LeadsNearer-distance g v 0 l wf here h.nearer in
     absurd (omega arith)

@@ -11,7 +11,7 @@ use Rattle.gptp_graph.proofs.DecisionLemmas.{dec_iff, dec_both, dec_either}
 use Rattle.gptp_graph.proofs.DistanceLemmas.{IsDistance-unique}
 use Rattle.gptp_graph.proofs.ExistenceLemmas.{distance_exists}
 use Rattle.gptp_graph.proofs.LinkDecisions.{IsLinked-dec}
-use Rattle.gptp_graph.proofs.ParentLemmas.{parent_exists, IsParent-unique, no_parent_at_zero}
+use Rattle.gptp_graph.proofs.ParentLemmas.{LeadsNearer-distance, parent_exists, IsParent-unique, no_parent_at_zero}
 
 -- facts that can be decided give a role
 pub RoleBy-exists : {L S M : Type 0} → Dec L → Dec S → Dec M → (role : Role) × RoleBy L S M role
@@ -114,8 +114,16 @@ parent_is_master g v l wf h = ((own, back), not_slave, master)
     -- its own parent is nearer still, and so isn't at the other end of this link
     not_slave : IsSlavePort g there → ⊥
     not_slave (k, is, e) =
-        let same : port_of k.clock k.port ≡ own = wf.one_link there (port_of k.clock k.port) own (subst (λ n. Joins g (port_of l.clock n) (port_of k.clock k.port)) e is.nearer.joins) back in
-        let nearer : IsDistance g v is.nearer.distance = subst (λ (r : PortIdentity). IsDistance g r.clock is.nearer.distance) same is.nearer.there in
-        let a : is.nearer.distance ≡ suc h.nearer.distance = IsDistance-unique g v is.nearer.distance (suc h.nearer.distance) wf nearer h.nearer.here in
-        let b : suc is.nearer.distance ≡ h.nearer.distance = IsDistance-unique g l.clock (suc is.nearer.distance) h.nearer.distance wf is.nearer.here h.nearer.there in
+        let up : port_of k.clock k.port ≡ own = one_up k is e in
+        let nearer : IsDistance g v is.nearer.distance =
+            subst (λ (r : PortIdentity). IsDistance g r.clock is.nearer.distance) up is.nearer.there in
+        let a : is.nearer.distance ≡ suc h.nearer.distance = LeadsNearer-distance g v is.nearer.distance l wf nearer h.nearer in
+        let b : h.nearer.distance ≡ suc is.nearer.distance =
+            LeadsNearer-distance g l.clock h.nearer.distance k wf h.nearer.there is.nearer in
         absurd (omega arith)
+      where
+        one_up : (k : ParentLink) → IsParent g l.clock k → k.own_port ≡ l.port → port_of k.clock k.port ≡ own
+        one_up k is e =
+            let over : Joins g there (port_of k.clock k.port) =
+                subst (λ n. Joins g (port_of l.clock n) (port_of k.clock k.port)) e is.nearer.joins in
+            wf.one_link there (port_of k.clock k.port) own over back

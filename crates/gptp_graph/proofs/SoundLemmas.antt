@@ -13,6 +13,7 @@ use Rattle.gptp_graph.proofs.LinkLemmas.{Adjacent-clock}
 use Rattle.gptp_graph.proofs.PathLemmas.{Route-reverse, path_of, Reaches-route}
 use Rattle.gptp_graph.proofs.SystemLemmas.{In-clocks}
 use Rattle.gptp_graph.proofs.DistanceLemmas.{IsDistance-unique}
+use Rattle.gptp_graph.proofs.ParentLemmas.{LeadsNearer-distance}
 use Rattle.gptp_graph.proofs.RoleLemmas.{RoleBy-map}
 use Rattle.gptp_graph.proofs.StatementLemmas.{line_of, line_clock, same_line, StateDistances, distance_of_stated, stated_of_distance, master_of_stated, stated_of_master, slave_of_stated, stated_of_slave}
 
@@ -141,7 +142,7 @@ module _ (g : Snapshot) (lines : List SystemLine) (wf : IsWellFormed g) (h : Pas
       by_parent : (o : Option ParentLink) → line.parent ≡ o → IsParentIfAny g line.clock o
       by_parent None is = λ l p.
           let zero : line.steps ≡ 0 = h.steps.none line stated is in
-          let more : suc p.nearer.distance ≡ line.steps = IsDistance-unique g line.clock (suc p.nearer.distance) line.steps wf p.nearer.here (stated_distances line stated) in
+          let more : line.steps ≡ suc p.nearer.distance = LeadsNearer-distance g line.clock line.steps l wf (stated_distances line stated) p.nearer in
           absurd (omega arith)
       by_parent (Some l) is =
           let (joins, (d, steps, less)) = h.parent line l stated is in
@@ -154,7 +155,7 @@ module _ (g : Snapshot) (lines : List SystemLine) (wf : IsWellFormed g) (h : Pas
                   subst (IsDistance g line.clock) (let e : line.steps ≡ suc d = omega arith in e) (stated_distances line stated);
             };
             least = λ other n lower.
-                let more : suc n.distance ≡ line.steps = IsDistance-unique g line.clock (suc n.distance) line.steps wf n.here (stated_distances line stated) in
+                let more : line.steps ≡ suc n.distance = LeadsNearer-distance g line.clock line.steps other wf (stated_distances line stated) n in
                 h.tie line l other n.distance stated is n.joins (stated_of_distance g lines other.clock n.distance wf h.systems stated_distances n.there) (omega arith) lower;
           }
 

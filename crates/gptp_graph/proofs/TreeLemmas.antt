@@ -9,7 +9,7 @@ use Rattle.gptp_graph.specs.SettledRole.{Slave, IsSettledRole}
 use Rattle.gptp_graph.proofs.BestLemmas.{IsBest-neighbour}
 use Rattle.gptp_graph.proofs.DistanceLemmas.{IsDistance-unique, IsDistance-best, best_at_zero}
 use Rattle.gptp_graph.proofs.ExistenceLemmas.{distance_exists}
-use Rattle.gptp_graph.proofs.ParentLemmas.{parent_exists, IsParent-unique, no_parent_at_zero}
+use Rattle.gptp_graph.proofs.ParentLemmas.{LeadsNearer-distance, parent_exists, IsParent-unique, no_parent_at_zero}
 
 -- following parents leads to the best in as many steps as the distance says
 pub climbs : (g : Snapshot) (v d : ℕ) (best : System) → IsWellFormed g → IsBest g v best → IsDistance g v d
@@ -17,7 +17,7 @@ pub climbs : (g : Snapshot) (v d : ℕ) (best : System) → IsWellFormed g → I
 climbs g v zero best wf is here = sym (best_at_zero g v best wf is here)
 climbs g v (suc d) best wf is here =
     let (l, parent) = parent_exists g v d wf here in
-    let e : suc parent.nearer.distance ≡ suc d = IsDistance-unique g v (suc parent.nearer.distance) (suc d) wf parent.nearer.here here in
+    let e : suc d ≡ suc parent.nearer.distance = LeadsNearer-distance g v (suc d) l wf here parent.nearer in
     let there : IsDistance g l.clock d = subst (IsDistance g l.clock) (let same : parent.nearer.distance ≡ d = omega arith in same) parent.nearer.there in
     (l, parent, climbs g l.clock d best wf (IsBest-neighbour g v l.clock best wf (l.own_port, l.port, parent.nearer.joins) is) there)
 
