@@ -134,12 +134,14 @@ IsParentIfAny-unique g v None None h j = refl
 -- ports with the same numbers and settled roles are the same
 same_ports : (g : Snapshot) (v : ℕ) (ps qs : List PortLine)
     → map (λ (port : PortLine). port.number) ps ≡ map (λ (port : PortLine). port.number) qs
-    → ((port : PortLine) → In port ps → IsSettledRole g (port_of v port.number) port.role) → ((port : PortLine) → In port qs → IsSettledRole g (port_of v port.number) port.role) → ps ≡ qs
+    → ((port : PortLine) → In port ps → IsSettledRole g (port_of v port.number) port.role)
+    → ((port : PortLine) → In port qs → IsSettledRole g (port_of v port.number) port.role) → ps ≡ qs
 same_ports g v [] [] e h k = refl
 same_ports g v [] (q ∷ qs) e h k = absurd cc
 same_ports g v (p ∷ ps) [] e h k = absurd cc
 same_ports g v (p ∷ ps) (q ∷ qs) e h k =
-    ap₂ (λ (x : PortLine) (xs : List PortLine). x ∷ xs) heads (same_ports g v ps qs tails (λ port i. h port (inr i)) (λ port i. k port (inr i)))
+    ap₂ (λ (x : PortLine) (xs : List PortLine). x ∷ xs) heads
+    (same_ports g v ps qs tails (λ port i. h port (inr i)) (λ port i. k port (inr i)))
   where
     number : p.number ≡ q.number
     number = cc
@@ -149,7 +151,8 @@ same_ports g v (p ∷ ps) (q ∷ qs) e h k =
 
     role : p.role ≡ q.role
     role =
-        RoleBy-unique _ _ _ p.role q.role (h p (inl refl)) (subst (λ n. IsSettledRole g (port_of v n) q.role) (sym number) (k q (inl refl)))
+        RoleBy-unique _ _ _ p.role q.role (h p (inl refl))
+        (subst (λ n. IsSettledRole g (port_of v n) q.role) (sym number) (k q (inl refl)))
 
     heads : p ≡ q
     heads i = record { number = number i; role = role i }
@@ -164,19 +167,24 @@ same_settled_line g one two wf clock numbers h k =
     root =
         let (a, is_a, ra) = h.root in
         let (b, is_b, rb) = k.root in
-        ra ∙ ap (λ (s : System). s.identity) (IsBest-unique g two.clock a b wf (subst (λ v. IsBest g v a) clock is_a) is_b) ∙ sym rb
+        ra ∙ ap (λ (s : System). s.identity)
+        (IsBest-unique g two.clock a b wf (subst (λ v. IsBest g v a) clock is_a) is_b) ∙ sym rb
 
     steps : one.steps ≡ two.steps
     steps =
-        IsDistance-unique g two.clock one.steps two.steps wf (subst (λ v. IsDistance g v one.steps) clock h.steps) k.steps
+        IsDistance-unique g two.clock one.steps two.steps wf
+        (subst (λ v. IsDistance g v one.steps) clock h.steps) k.steps
 
     parent : one.parent ≡ two.parent
     parent =
-        IsParentIfAny-unique g two.clock one.parent two.parent (subst (λ v. IsParentIfAny g v one.parent) clock h.parent) k.parent
+        IsParentIfAny-unique g two.clock one.parent two.parent
+        (subst (λ v. IsParentIfAny g v one.parent) clock h.parent) k.parent
 
     ports : one.ports ≡ two.ports
     ports =
-        same_ports g two.clock one.ports two.ports numbers (λ port i. subst (λ v. IsSettledRole g (port_of v port.number) port.role) clock (h.roles port i)) k.roles
+        same_ports g two.clock one.ports two.ports numbers
+        (λ port i. subst (λ v. IsSettledRole g (port_of v port.number) port.role) clock
+        (h.roles port i)) k.roles
 
 -- two settled choices have the same lines
 pub same_lines : (g : Snapshot) (xs ys : List SystemLine) → IsWellFormed g → IsSettledChoice g xs
@@ -184,8 +192,11 @@ pub same_lines : (g : Snapshot) (xs ys : List SystemLine) → IsWellFormed g →
 same_lines g xs ys wf h k line at =
     let (s, of) = h.systems.no_other line at in
     let (other, of_other) = k.systems.all s of.live in
-    let numbers : port_numbers line ≡ port_numbers other = h.systems.ports s line of ∙ sym (k.systems.ports s other of_other) in
-    let same = same_settled_line g line other wf (of.clock ∙ sym of_other.clock) numbers (h.settled line at) (k.settled other of_other.stated) in
+    let numbers : port_numbers line ≡ port_numbers other =
+    h.systems.ports s line of ∙ sym (k.systems.ports s other of_other) in
+    let same =
+    same_settled_line g line other wf (of.clock ∙ sym of_other.clock) numbers (h.settled line at)
+    (k.settled other of_other.stated) in
     subst (λ l. In l ys) (sym same) of_other.stated
 
 -- two settled choices by rising clock are one

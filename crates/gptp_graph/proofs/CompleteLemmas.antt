@@ -33,15 +33,22 @@ module _ (g : Snapshot) (lines : List SystemLine) (wf : IsWellFormed g) (h : IsS
       by_steps : (d : ℕ) → line.steps ≡ d → line.steps ≡ 0
       by_steps zero e = e
       by_steps (suc d) e =
-          let some = parent_exists g line.clock d wf (subst (IsDistance g line.clock) e (stated_distances line stated)) in
-          let none : IsParentIfAny g line.clock None = subst (IsParentIfAny g line.clock) is (h.settled line stated).parent in
+          let some =
+          parent_exists g line.clock d wf
+          (subst (IsDistance g line.clock) e (stated_distances line stated)) in
+          let none : IsParentIfAny g line.clock None =
+          subst (IsParentIfAny g line.clock) is (h.settled line stated).parent in
           absurd (none some.0 some.1)
 
   passes_root : PassesRoot g lines
   passes_root s line of is =
       let (best, is_best, root) = (h.settled line of.stated).root in
-      let here : IsDistance g line.clock 0 = subst (IsDistance g line.clock) (zero_without_parent line of.stated is) (stated_distances line of.stated) in
-      let same = same_clock g best s wf is_best.live of.live (best_at_zero g line.clock best wf is_best here ∙ of.clock) in
+      let here : IsDistance g line.clock 0 =
+      subst (IsDistance g line.clock) (zero_without_parent line of.stated is)
+      (stated_distances line of.stated) in
+      let same =
+      same_clock g best s wf is_best.live of.live
+      (best_at_zero g line.clock best wf is_best here ∙ of.clock) in
       root ∙ ap (λ (t : System). t.identity) same
 
   passes_steps : PassesSteps lines
@@ -49,14 +56,16 @@ module _ (g : Snapshot) (lines : List SystemLine) (wf : IsWellFormed g) (h : IsS
     none = zero_without_parent;
     some = λ line l stated is.
         let p = parent_of line l stated is in
-        let e : line.steps ≡ suc p.nearer.distance = LeadsNearer-distance g line.clock line.steps l wf (stated_distances line stated) p.nearer in
+        let e : line.steps ≡ suc p.nearer.distance =
+        LeadsNearer-distance g line.clock line.steps l wf (stated_distances line stated) p.nearer in
         omega arith;
   }
 
   passes_parent : PassesParent g lines
   passes_parent line l stated is =
       let p = parent_of line l stated is in
-      let e : line.steps ≡ suc p.nearer.distance = LeadsNearer-distance g line.clock line.steps l wf (stated_distances line stated) p.nearer in
+      let e : line.steps ≡ suc p.nearer.distance =
+      LeadsNearer-distance g line.clock line.steps l wf (stated_distances line stated) p.nearer in
       (p.nearer.joins, (p.nearer.distance, stated_of_distance g lines l.clock p.nearer.distance wf h.systems stated_distances p.nearer.there, omega arith))
 
   passes_link : PassesLink g lines
@@ -64,15 +73,22 @@ module _ (g : Snapshot) (lines : List SystemLine) (wf : IsWellFormed g) (h : IsS
       let (best, is_best, root) = (h.settled one a).root in
       let (best', is_best', root') = (h.settled other b).root in
       let same = IsBest-agree g one.clock other.clock best best' wf adjacent is_best is_best' in
-      let there : other.steps ≤ suc one.steps = IsDistance-neighbour g one.clock other.clock one.steps other.steps wf adjacent (stated_distances one a) (stated_distances other b) in
-      let back : one.steps ≤ suc other.steps = IsDistance-neighbour g other.clock one.clock other.steps one.steps wf (Adjacent-sym g one.clock other.clock adjacent) (stated_distances other b) (stated_distances one a) in
+      let there : other.steps ≤ suc one.steps =
+      IsDistance-neighbour g one.clock other.clock one.steps other.steps wf adjacent (stated_distances one a)
+      (stated_distances other b) in
+      let back : one.steps ≤ suc other.steps =
+      IsDistance-neighbour g other.clock one.clock other.steps one.steps wf
+      (Adjacent-sym g one.clock other.clock adjacent) (stated_distances other b)
+      (stated_distances one a) in
       (root ∙ ap (λ (t : System). t.identity) same ∙ sym root', omega arith, omega arith)
 
   passes_identity : PassesIdentity g lines
   passes_identity s line of =
       let (best, is_best, root) = (h.settled line of.stated).root in
       let self = subst (λ v. In v (clocks g)) (sym of.clock) (In-clocks g s of.live) in
-      let below : best.identity ≤ s.identity = is_best.least s of.live (subst (λ v. Reaches g line.clock v) of.clock (Reaches-self g line.clock self)) in
+      let below : best.identity ≤ s.identity =
+      is_best.least s of.live (subst (λ v. Reaches g line.clock v) of.clock
+      (Reaches-self g line.clock self)) in
       omega arith
 
   passes_tie : PassesTie g lines

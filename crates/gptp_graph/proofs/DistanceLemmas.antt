@@ -57,7 +57,8 @@ IsDistance-neighbour g v w d e wf a h k =
     let b = k.best in
     let from = distance_from g v d b wf (IsBest-neighbour g w v b wf (Adjacent-sym g v w a) k.is_best) h in
     let path = from.path in
-    let on : Route g b.clock w (path.0 ++ w ∷ []) = Route-append g b.clock v w path.0 (w ∷ []) path.1.route (a, refl) in
+    let on : Route g b.clock w (path.0 ++ w ∷ []) =
+    Route-append g b.clock v w path.0 (w ∷ []) path.1.route (a, refl) in
     let least : e ≤ length (path.0 ++ w ∷ []) = least_route g b.clock w e (path.0 ++ w ∷ []) k.from_best on in
     let long : length path.0 ≡ d = path.2 in
     omega (arith, length-append path.0 (w ∷ []))

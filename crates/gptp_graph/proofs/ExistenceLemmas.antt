@@ -25,7 +25,8 @@ RouteOf-dec g v w wf zero = dec_iff (λ e. ([], e, refl)) here (ℕ_discrete v w
     here ([], r, e) = r
     here (u ∷ us, r, e) = absurd (omega arith)
 RouteOf-dec g v w wf (suc n) =
-    dec_iff over back (any_dec (λ u. Adjacent g v u × RouteOf g u w n) (clocks g) (λ u h. dec_both (Adjacent-dec g v u) (RouteOf-dec g u w wf n)))
+    dec_iff over back (any_dec (λ u. Adjacent g v u × RouteOf g u w n) (clocks g)
+    (λ u h. dec_both (Adjacent-dec g v u) (RouteOf-dec g u w wf n)))
   where
     over : ((u : ℕ) × In u (clocks g) × (Adjacent g v u × RouteOf g u w n)) → RouteOf g v w (suc n)
     over (u, h, (a, (us, r, e))) = (u ∷ us, (a, r), ap suc e)

@@ -27,7 +27,8 @@ Joins-dec g p q =
 -- whether a link is at the port
 pub IsLinked-dec : (g : Snapshot) (p : PortIdentity) → Dec (IsLinked g p)
 IsLinked-dec g p =
-    dec_iff over back (any_dec (λ (l : Link). (l.a ≡ p) ⊎ (l.b ≡ p)) g.links (λ l h. dec_either (PortIdentity-dec l.a p) (PortIdentity-dec l.b p)))
+    dec_iff over back (any_dec (λ (l : Link). (l.a ≡ p) ⊎ (l.b ≡ p)) g.links
+    (λ l h. dec_either (PortIdentity-dec l.a p) (PortIdentity-dec l.b p)))
   where
     over : ((l : Link) × In l g.links × ((l.a ≡ p) ⊎ (l.b ≡ p))) → IsLinked g p
     over (l, h, inl e) = (l.b, inl (subst (λ k. In k g.links) (λ i. record { a = e i; b = l.b }) h))
@@ -43,7 +44,8 @@ Crosses v w l = ((l.a.clock ≡ v) × (l.b.clock ≡ w)) ⊎ ((l.b.clock ≡ v) 
 
 Crosses-dec : (v w : ℕ) (l : Link) → Dec (Crosses v w l)
 Crosses-dec v w l =
-    dec_either (dec_both (ℕ_discrete l.a.clock v) (ℕ_discrete l.b.clock w)) (dec_both (ℕ_discrete l.b.clock v) (ℕ_discrete l.a.clock w))
+    dec_either (dec_both (ℕ_discrete l.a.clock v) (ℕ_discrete l.b.clock w))
+    (dec_both (ℕ_discrete l.b.clock v) (ℕ_discrete l.a.clock w))
 
 pub Adjacent-dec : (g : Snapshot) (v w : ℕ) → Dec (Adjacent g v w)
 Adjacent-dec g v w = dec_iff over back (any_dec (Crosses v w) g.links (λ l h. Crosses-dec v w l))

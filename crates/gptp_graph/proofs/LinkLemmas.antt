@@ -28,7 +28,8 @@ Adjacent-clock g v w wf (m, n, joins) =
 pub JoinsAt-clock : (g : Snapshot) (v : ℕ) (l : ParentLink) → IsWellFormed g → JoinsAt g v l
     → In l.clock (clocks g)
 JoinsAt-clock g v l wf j =
-    Joins-clock g (port_of l.clock l.port) (port_of v l.own_port) wf (Joins-sym g (port_of v l.own_port) (port_of l.clock l.port) j)
+    Joins-clock g (port_of l.clock l.port) (port_of v l.own_port) wf
+    (Joins-sym g (port_of v l.own_port) (port_of l.clock l.port) j)
 
 -- the ends of links, in order
 abbrev pub link_ends : List Link → List PortIdentity

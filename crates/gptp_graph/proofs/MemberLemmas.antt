@@ -45,6 +45,7 @@ pub pigeonhole : {X : Type 0} (xs ys : List X) → Different xs → ((z : X) →
 pigeonhole [] ys d h = omega arith
 pigeonhole (x ∷ xs) ys d h =
     let r = dropped x ys (h x (inl refl)) in
-    let fits : length xs ≤ length r.0 = pigeonhole xs r.0 d.1 (λ z k. r.2 z (h z (inr k)) (λ e. d.0 (subst (λ w. In w xs) e k))) in
+    let fits : length xs ≤ length r.0 =
+    pigeonhole xs r.0 d.1 (λ z k. r.2 z (h z (inr k)) (λ e. d.0 (subst (λ w. In w xs) e k))) in
     let longer : length ys ≡ suc (length r.0) = r.1 in
     omega arith

@@ -32,4 +32,5 @@ passed_where_near g wf near = of_choice (choice_exists g wf).0 (choice_exists g 
         not_far : PassesTooFar lines
         not_far line stated =
             let (d, here, below) = near line.clock (line_clock g lines line is.systems stated) in
-            subst (λ n. n < 255) (IsDistance-unique g line.clock d line.steps wf here (is.settled line stated).steps) below
+            subst (λ n. n < 255) (IsDistance-unique g line.clock d line.steps wf here
+            (is.settled line stated).steps) below

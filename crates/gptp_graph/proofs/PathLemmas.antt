@@ -20,8 +20,12 @@ pub Route-reverse : (g : Snapshot) (v w : ℕ) (us : List ℕ) → Route g v w u
 Route-reverse g v w [] here = ([], sym here, refl)
 Route-reverse g v w (u ∷ us) (first, rest) =
     let back = Route-reverse g u w us rest in
-    let as_long : length back.0 ≡ length us = back.2 in
-    (back.0 ++ v ∷ [], Route-append g w u v back.0 (v ∷ []) back.1 (Adjacent-sym g v u first, refl), omega (arith, length-append back.0 (v ∷ [])))
+    let as_long : length back.0 ≡ length us = back.2 in (
+      back.0 ++ v ∷ [],
+      Route-append g w u v back.0 (v ∷ []) back.1 (Adjacent-sym g v u first, refl),
+      omega
+          (arith, length-append back.0 (v ∷ [])),
+    )
 
 -- all systems of a route that begins at a system are systems
 pub Route-clocks : (g : Snapshot) (v w : ℕ) (us : List ℕ) → IsWellFormed g → Route g v w us → (u : ℕ) → In u us

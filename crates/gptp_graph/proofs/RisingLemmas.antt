@@ -31,7 +31,8 @@ insert {X} key x (y ∷ ys) h new = elim (dec_lt (key x) (key y)) [
       no_other = λ z k. k;
     },
   )
-  | no over ↦ behind (let b : key y < key x = above (λ e. new (inl e)) over in b) (insert key x ys h.1 (λ k. new (inr k)))
+  | no over ↦ behind (let b : key y < key x = above (λ e. new (inl e)) over in b)
+      (insert key x ys h.1 (λ k. new (inr k)))
 ]
   where
     above : (key x ≡ key y → ⊥) → (key x < key y → ⊥) → key y < key x
@@ -66,7 +67,9 @@ arranged {X} key (x ∷ xs) d = add (arranged key xs d.1)
   where
     add : ((ys : List X) × IsArranged key xs ys) → (ys : List X) × IsArranged key (x ∷ xs) ys
     add (ys, is) =
-        joined (insert key x ys is.rising (λ k. let (z, at, e) = from_map key (key x) ys k in d.0 (subst (λ m. In m (map key xs)) e (In-map key z xs (is.no_other z at)))))
+        joined (insert key x ys is.rising
+        (λ k. let (z, at, e) = from_map key (key x) ys k in d.0
+        (subst (λ m. In m (map key xs)) e (In-map key z xs (is.no_other z at)))))
       where
         joined : ((zs : List X) × IsArranged key (x ∷ ys) zs) → (zs : List X) × IsArranged key (x ∷ xs) zs
         joined (zs, more) = (
@@ -85,7 +88,8 @@ same_rising key [] [] h k to back = refl
 same_rising key [] (y ∷ ys) h k to back = absurd (back y (inl refl))
 same_rising key (x ∷ xs) [] h k to back = absurd (to x (inl refl))
 same_rising {X} key (x ∷ xs) (y ∷ ys) h k to back =
-    ap₂ (λ (z : X) (zs : List X). z ∷ zs) heads (same_rising key xs ys h.1 k.1 (tail x y xs ys heads h.0 to) (tail y x ys xs (sym heads) k.0 back))
+    ap₂ (λ (z : X) (zs : List X). z ∷ zs) heads
+    (same_rising key xs ys h.1 k.1 (tail x y xs ys heads h.0 to) (tail y x ys xs (sym heads) k.0 back))
   where
     after : (a z : X) (zs : List X) → ((n : ℕ) → In n (map key zs) → key a < n) → In z zs → key a < key z
     after a z zs low at = low (key z) (In-map key z zs at)
@@ -102,6 +106,7 @@ same_rising {X} key (x ∷ xs) (y ∷ ys) h k to back =
     tail : (a b : X) (ms ns : List X) → a ≡ b → ((n : ℕ) → In n (map key ms) → key a < n)
         → ((z : X) → In z (a ∷ ms) → In z (b ∷ ns)) → (z : X) → In z ms → In z ns
     tail a b ms ns e low over z at = elim (over z (inr at)) [
-      | inl same ↦ absurd (let l : key a < key z = after a z ms low at in let m : key z ≡ key a = ap key (same ∙ sym e) in omega arith)
+      | inl same ↦ absurd (let l : key a < key z = after a z ms low at in let m : key z ≡ key a = ap key
+          (same ∙ sym e) in omega arith)
       | inr i ↦ i
     ]

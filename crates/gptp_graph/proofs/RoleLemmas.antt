@@ -54,13 +54,15 @@ IsSlavePort-dec g p (suc d) wf here = by_parent (parent_exists g p.clock d wf he
   where
     by_parent : ((l : ParentLink) × IsParent g p.clock l) → Dec (IsSlavePort g p)
     by_parent (l, is) =
-        dec_iff (λ e. (l, is, e)) (λ (k, h, e). ap (λ (x : ParentLink). x.own_port) (IsParent-unique g p.clock l k is h) ∙ e) (ℕ_discrete l.own_port p.port)
+        dec_iff (λ e. (l, is, e)) (λ (k, h, e). ap (λ (x : ParentLink). x.own_port)
+        (IsParent-unique g p.clock l k is h) ∙ e) (ℕ_discrete l.own_port p.port)
 
 IsMasterPort-dec : (g : Snapshot) (p : PortIdentity) → IsWellFormed g → Dec (IsLinked g p)
     → Dec (IsMasterPort g p)
 IsMasterPort-dec g p wf (no out) = no (λ h. out (h.other, h.joins))
 IsMasterPort-dec g p wf (yes (q, j)) =
-    by_distances (distance_exists g p.clock wf (Joins-clock g p q wf j)) (distance_exists g q.clock wf (Joins-clock g q p wf (Joins-sym g p q j)))
+    by_distances (distance_exists g p.clock wf (Joins-clock g p q wf j))
+    (distance_exists g q.clock wf (Joins-clock g q p wf (Joins-sym g p q j)))
   where
     by_distances : ((d : ℕ) × IsDistance g p.clock d) → ((e : ℕ) × IsDistance g q.clock e)
         → Dec (IsMasterPort g p)
@@ -74,10 +76,13 @@ IsMasterPort-dec g p wf (yes (q, j)) =
         back h =
             let same_end : h.other ≡ q = wf.one_link p h.other q h.joins j in
             let dd : h.here ≡ d = IsDistance-unique g p.clock h.here d wf h.is_here here in
-            let ee : h.there ≡ e = IsDistance-unique g q.clock h.there e wf (subst (λ (r : PortIdentity). IsDistance g r.clock h.there) same_end h.is_there) there in
+            let ee : h.there ≡ e =
+            IsDistance-unique g q.clock h.there e wf
+            (subst (λ (r : PortIdentity). IsDistance g r.clock h.there) same_end h.is_there) there in
             subst (λ x. (x < e) ⊎ ((x ≡ e) × (p.clock < q.clock))) dd
             (subst (λ x. (h.here < x) ⊎ ((h.here ≡ x) × (p.clock < q.clock))) ee
-            (subst (λ (r : PortIdentity). (h.here < h.there) ⊎ ((h.here ≡ h.there) × (p.clock < r.clock))) same_end h.nearer))
+            (subst (λ (r : PortIdentity). (h.here < h.there)
+            ⊎ ((h.here ≡ h.there) × (p.clock < r.clock))) same_end h.nearer))
 
 -- every port of a system has a settled role
 pub settled_role_exists : (g : Snapshot) (p : PortIdentity) → IsWellFormed g → In p.clock (clocks g)
@@ -116,14 +121,15 @@ parent_is_master g v l wf h = ((own, back), not_slave, master)
     not_slave (k, is, e) =
         let up : port_of k.clock k.port ≡ own = one_up k is e in
         let nearer : IsDistance g v is.nearer.distance =
-            subst (λ (r : PortIdentity). IsDistance g r.clock is.nearer.distance) up is.nearer.there in
-        let a : is.nearer.distance ≡ suc h.nearer.distance = LeadsNearer-distance g v is.nearer.distance l wf nearer h.nearer in
+        subst (λ (r : PortIdentity). IsDistance g r.clock is.nearer.distance) up is.nearer.there in
+        let a : is.nearer.distance ≡ suc h.nearer.distance =
+        LeadsNearer-distance g v is.nearer.distance l wf nearer h.nearer in
         let b : h.nearer.distance ≡ suc is.nearer.distance =
-            LeadsNearer-distance g l.clock h.nearer.distance k wf h.nearer.there is.nearer in
+        LeadsNearer-distance g l.clock h.nearer.distance k wf h.nearer.there is.nearer in
         absurd (omega arith)
       where
         one_up : (k : ParentLink) → IsParent g l.clock k → k.own_port ≡ l.port → port_of k.clock k.port ≡ own
         one_up k is e =
             let over : Joins g there (port_of k.clock k.port) =
-                subst (λ n. Joins g (port_of l.clock n) (port_of k.clock k.port)) e is.nearer.joins in
+            subst (λ n. Joins g (port_of l.clock n) (port_of k.clock k.port)) e is.nearer.joins in
             wf.one_link there (port_of k.clock k.port) own over back

@@ -50,7 +50,8 @@ module _ (g : Snapshot) (lines : List SystemLine) (wf : IsWellFormed g) (h : Pas
       by_parent None is = absurd (let zero : line.steps ≡ 0 = h.steps.none line stated is in omega arith)
       by_parent (Some l) is =
           let (joins, (d, (up, up_stated, up_clock, up_steps), less)) = h.parent line l stated is in
-          let at : Adjacent g line.clock up.clock = subst (Adjacent g line.clock) (sym up_clock) (l.own_port, l.port, joins) in
+          let at : Adjacent g line.clock up.clock =
+          subst (Adjacent g line.clock) (sym up_clock) (l.own_port, l.port, joins) in
           record { next = up; stated = up_stated; steps = omega arith; adjacent = at; root = (h.link line up stated up_stated at).0 }
 
   -- by its parents each system comes to one with none
@@ -77,7 +78,8 @@ module _ (g : Snapshot) (lines : List SystemLine) (wf : IsWellFormed g) (h : Pas
   along (u ∷ us) one other a b r =
       let next = line_of g lines u h.systems (Adjacent-clock g one.clock u wf r.0) in
       let first = h.link one next.line a next.stated (subst (Adjacent g one.clock) (sym next.clock) r.0) in
-      let rest = along us next.line other next.stated b (subst (λ v. Route g v other.clock us) (sym next.clock) r.1) in
+      let rest =
+      along us next.line other next.stated b (subst (λ v. Route g v other.clock us) (sym next.clock) r.1) in
       (first.0 ∙ rest.0, let s = first.2 in let t = rest.1 in omega arith)
 
   -- the system at the top is the best, by a route of the stated steps
@@ -103,14 +105,17 @@ module _ (g : Snapshot) (lines : List SystemLine) (wf : IsWellFormed g) (h : Pas
         root = root;
         route = (down.0, down.1, down.2 ∙ long);
         least =
-            λ ts r. no_shorter line stated t.top t.stated t.alone ts (subst (λ v. Route g v line.clock ts) (sym of.clock) r);
+            λ ts r. no_shorter line stated t.top t.stated t.alone ts
+            (subst (λ v. Route g v line.clock ts) (sym of.clock) r);
       }
     where
       no_lower : (line : SystemLine) → In line lines → (best : System) → line.root ≡ best.identity
           → (s : System) → In s g.systems → Reaches g line.clock s.clock → best.identity ≤ s.identity
       no_lower line stated best root s live (us, p) =
           let (other, of) = h.systems.all s live in
-          let same : line.root ≡ other.root = (along us line other stated of.stated (subst (λ v. Route g line.clock v us) (sym of.clock) p.route)).0 in
+          let same : line.root ≡ other.root =
+          (along us line other stated of.stated
+          (subst (λ v. Route g line.clock v us) (sym of.clock) p.route)).0 in
           let below : other.root ≤ s.identity = h.identity s other of in
           omega arith
 
@@ -142,7 +147,8 @@ module _ (g : Snapshot) (lines : List SystemLine) (wf : IsWellFormed g) (h : Pas
       by_parent : (o : Option ParentLink) → line.parent ≡ o → IsParentIfAny g line.clock o
       by_parent None is = λ l p.
           let zero : line.steps ≡ 0 = h.steps.none line stated is in
-          let more : line.steps ≡ suc p.nearer.distance = LeadsNearer-distance g line.clock line.steps l wf (stated_distances line stated) p.nearer in
+          let more : line.steps ≡ suc p.nearer.distance =
+          LeadsNearer-distance g line.clock line.steps l wf (stated_distances line stated) p.nearer in
           absurd (omega arith)
       by_parent (Some l) is =
           let (joins, (d, steps, less)) = h.parent line l stated is in
@@ -152,11 +158,15 @@ module _ (g : Snapshot) (lines : List SystemLine) (wf : IsWellFormed g) (h : Pas
               distance = d;
               there = distance_of_stated g lines l.clock d stated_distances steps;
               here =
-                  subst (IsDistance g line.clock) (let e : line.steps ≡ suc d = omega arith in e) (stated_distances line stated);
+                  subst (IsDistance g line.clock) (let e : line.steps ≡ suc d = omega arith in e)
+                  (stated_distances line stated);
             };
             least = λ other n lower.
-                let more : line.steps ≡ suc n.distance = LeadsNearer-distance g line.clock line.steps other wf (stated_distances line stated) n in
-                h.tie line l other n.distance stated is n.joins (stated_of_distance g lines other.clock n.distance wf h.systems stated_distances n.there) (omega arith) lower;
+                let more : line.steps ≡ suc n.distance =
+                LeadsNearer-distance g line.clock line.steps other wf (stated_distances line stated) n in
+                h.tie line l other n.distance stated is n.joins
+                (stated_of_distance g lines other.clock n.distance wf h.systems stated_distances n.there)
+                (omega arith) lower;
           }
 
   -- a labelling that passes the local tests is the settled choice

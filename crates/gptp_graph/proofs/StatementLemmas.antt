@@ -57,8 +57,13 @@ distance_of_stated g lines v d are (line, stated, c, e) =
 pub stated_of_distance : (g : Snapshot) (lines : List SystemLine) (v d : ℕ) → IsWellFormed g
     → HasItsSystems g lines → StateDistances g lines → IsDistance g v d → StatesSteps lines v d
 stated_of_distance g lines v d wf h are at =
-    let l = line_of g lines v h (IsDistance-clock g v d wf at) in
-    (l.line, l.stated, l.clock, IsDistance-unique g v l.line.steps d wf (subst (λ w. IsDistance g w l.line.steps) l.clock (are l.line l.stated)) at)
+    let l = line_of g lines v h (IsDistance-clock g v d wf at) in (
+      l.line,
+      l.stated,
+      l.clock,
+      IsDistance-unique g v l.line.steps d wf
+          (subst (λ w. IsDistance g w l.line.steps) l.clock (are l.line l.stated)) at,
+    )
 
 -- stated to be a master port, and one
 pub master_of_stated : (g : Snapshot) (lines : List SystemLine) (line : SystemLine) (n : ℕ)
@@ -83,7 +88,8 @@ stated_of_master g lines line n wf h are stated m = record {
   there = m.there;
   is_there = stated_of_distance g lines m.other.clock m.there wf h are m.is_there;
   nearer =
-      subst (λ d. (d < m.there) ⊎ ((d ≡ m.there) × (line.clock < m.other.clock))) (IsDistance-unique g line.clock m.here line.steps wf m.is_here (are line stated)) m.nearer;
+      subst (λ d. (d < m.there) ⊎ ((d ≡ m.there) × (line.clock < m.other.clock)))
+      (IsDistance-unique g line.clock m.here line.steps wf m.is_here (are line stated)) m.nearer;
 }
 
 -- stated to be the slave port, and one

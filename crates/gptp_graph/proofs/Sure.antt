@@ -73,7 +73,8 @@ for_links g P t =
 abbrev pub for_end : (g : Snapshot) (p : PortIdentity) (P : PortIdentity → Type 0)
     → ((q : PortIdentity) → Sure (P q)) → Sure ((q : PortIdentity) × Joins g p q × P q)
 for_end g p P t = so other (for_some (λ (l : Link). ((l.a ≡ p) × P l.b) ⊎ ((l.b ≡ p) × P l.a)) g.links
-    (λ l. either (both (decided (PortIdentity-dec l.a p)) (t l.b)) (both (decided (PortIdentity-dec l.b p)) (t l.a))))
+    (λ l. either (both (decided (PortIdentity-dec l.a p)) (t l.b))
+    (both (decided (PortIdentity-dec l.b p)) (t l.a))))
   where
     other : ((l : Link) × In l g.links × (((l.a ≡ p) × P l.b) ⊎ ((l.b ≡ p) × P l.a)))
         → (q : PortIdentity) × Joins g p q × P q
@@ -83,4 +84,5 @@ for_end g p P t = so other (for_some (λ (l : Link). ((l.a ≡ p) × P l.b) ⊎ 
 -- a link joins the ports
 abbrev pub sure_joins : (g : Snapshot) (p q : PortIdentity) → Sure (Joins g p q)
 sure_joins g p q =
-    so (λ (r, joins, e). subst (Joins g p) e joins) (for_end g p (λ r. r ≡ q) (λ r. decided (PortIdentity-dec r q)))
+    so (λ (r, joins, e). subst (Joins g p) e joins)
+    (for_end g p (λ r. r ≡ q) (λ r. decided (PortIdentity-dec r q)))

@@ -18,8 +18,13 @@ climbs g v zero best wf is here = sym (best_at_zero g v best wf is here)
 climbs g v (suc d) best wf is here =
     let (l, parent) = parent_exists g v d wf here in
     let e : suc d ≡ suc parent.nearer.distance = LeadsNearer-distance g v (suc d) l wf here parent.nearer in
-    let there : IsDistance g l.clock d = subst (IsDistance g l.clock) (let same : parent.nearer.distance ≡ d = omega arith in same) parent.nearer.there in
-    (l, parent, climbs g l.clock d best wf (IsBest-neighbour g v l.clock best wf (l.own_port, l.port, parent.nearer.joins) is) there)
+    let there : IsDistance g l.clock d = subst (IsDistance g l.clock)
+    (let same : parent.nearer.distance ≡ d = omega arith in same) parent.nearer.there in (
+      l,
+      parent,
+      climbs g l.clock d best wf
+          (IsBest-neighbour g v l.clock best wf (l.own_port, l.port, parent.nearer.joins) is) there,
+    )
 
 -- the best of its own component has no parent
 pub best_has_no_parent : (g : Snapshot) (v : ℕ) (best : System) (l : ParentLink) → IsWellFormed g
@@ -46,5 +51,9 @@ parent_is_slave g v l p = ((port_of l.clock l.port, p.nearer.joins), (l, p, refl
 pub slave_exists_once : (g : Snapshot) (v : ℕ) (best : System) → IsWellFormed g → IsBest g v best
     → best.clock ≢ v → ExistsOnce (λ (n : ℕ). IsSettledRole g (port_of v n) Slave)
 slave_exists_once g v best wf is other =
-    let (l, parent) = parent_of_other g v best wf is other in
-    (l.own_port, parent_is_slave g v l parent, λ n (linked, (k, is_parent, own)). sym own ∙ ap (λ (x : ParentLink). x.own_port) (IsParent-unique g v k l is_parent parent))
+    let (l, parent) = parent_of_other g v best wf is other in (
+      l.own_port,
+      parent_is_slave g v l parent,
+      λ n (linked, (k, is_parent, own)). sym own ∙ ap
+          (λ (x : ParentLink). x.own_port) (IsParent-unique g v k l is_parent parent),
+    )

@@ -9,7 +9,8 @@ use Rattle.gptp_graph.specs.Distance.{IsDistanceFrom, IsDistance}
 -- a list of different systems has no more members than the snapshot has systems
 abbrev pub DifferentAreBounded : Type 0
 DifferentAreBounded =
-    (g : Snapshot) (vs : List ℕ) → Different vs → ((v : ℕ) → In v vs → In v (clocks g)) → length vs ≤ length g.systems
+    (g : Snapshot) (vs : List ℕ) → Different vs → ((v : ℕ) → In v vs → In v (clocks g))
+    → length vs ≤ length g.systems
 
 -- a path is shorter than there are systems
 abbrev pub PathsAreBounded : Type 0
@@ -23,12 +24,14 @@ DistancesAreBounded = (g : Snapshot) (v d : ℕ) → IsWellFormed g → IsDistan
 -- the distances of neighbours differ by one at most
 abbrev pub NeighboursDifferByOne : Type 0
 NeighboursDifferByOne =
-    (g : Snapshot) (v w d e : ℕ) → IsWellFormed g → Adjacent g v w → IsDistance g v d → IsDistance g w e → (d ≤ e + 1) × (e ≤ d + 1)
+    (g : Snapshot) (v w d e : ℕ) → IsWellFormed g → Adjacent g v w → IsDistance g v d → IsDistance g w e
+    → (d ≤ e + 1) × (e ≤ d + 1)
 
 -- a system of distance d + 1 has a neighbour of distance d
 abbrev pub NearerNeighbourExists : Type 0
 NearerNeighbourExists =
-    (g : Snapshot) (v d : ℕ) → IsWellFormed g → IsDistance g v (d + 1) → (w : ℕ) × Adjacent g v w × IsDistance g w d
+    (g : Snapshot) (v d : ℕ) → IsWellFormed g → IsDistance g v (d + 1) → (w : ℕ) × Adjacent g v w
+    × IsDistance g w d
 
 -- no route from b to v, in which systems may come again, is shorter than the least path from b to v, whatever system b is
 abbrev pub RoutesAreNoShorter : Type 0

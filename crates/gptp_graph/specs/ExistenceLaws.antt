@@ -21,12 +21,14 @@ DistanceExistsOnce = (g : Snapshot) (v : ℕ) → IsWellFormed g → In v (clock
 -- a system that isn't the best of its component has one parent
 abbrev pub ParentExistsOnce : Type 0
 ParentExistsOnce =
-    (g : Snapshot) (v : ℕ) (best : System) → IsWellFormed g → IsBest g v best → best.clock ≢ v → ExistsOnce (IsParent g v)
+    (g : Snapshot) (v : ℕ) (best : System) → IsWellFormed g → IsBest g v best → best.clock ≢ v → ExistsOnce
+    (IsParent g v)
 
 -- the best of a component has none
 abbrev pub BestHasNoParent : Type 0
 BestHasNoParent =
-    (g : Snapshot) (v : ℕ) (best : System) (l : ParentLink) → IsWellFormed g → IsBest g v best → best.clock ≡ v → IsParent g v l → ⊥
+    (g : Snapshot) (v : ℕ) (best : System) (l : ParentLink) → IsWellFormed g → IsBest g v best → best.clock ≡ v
+    → IsParent g v l → ⊥
 
 abbrev pub RoleExistsOnce : Type 0
 RoleExistsOnce =
@@ -35,9 +37,11 @@ RoleExistsOnce =
 -- one settled choice has its lines by rising clock
 abbrev pub ChoiceExistsOnce : Type 0
 ChoiceExistsOnce =
-    (g : Snapshot) → IsWellFormed g → ExistsOnce (λ (lines : List SystemLine). IsSettledChoice g lines × IsRising (line_clocks lines))
+    (g : Snapshot) → IsWellFormed g → ExistsOnce
+    (λ (lines : List SystemLine). IsSettledChoice g lines × IsRising (line_clocks lines))
 
 -- in whichever order their lines stand, two settled choices have the same lines
 abbrev pub ChoicesHaveTheSameLines : Type 0
 ChoicesHaveTheSameLines =
-    (g : Snapshot) (xs ys : List SystemLine) (line : SystemLine) → IsWellFormed g → IsSettledChoice g xs → IsSettledChoice g ys → In line xs → In line ys
+    (g : Snapshot) (xs ys : List SystemLine) (line : SystemLine) → IsWellFormed g → IsSettledChoice g xs
+    → IsSettledChoice g ys → In line xs → In line ys

@@ -48,7 +48,8 @@ PassesIdentity g lines = (s : System) (line : SystemLine) → IsLineOf g lines s
 -- no link to a system with steps one less has a lower clock there, port there, own port than the parent's
 abbrev pub PassesTie : Snapshot → List SystemLine → Type 0
 PassesTie g lines = (line : SystemLine) (l other : ParentLink) (d : ℕ) → In line lines → line.parent ≡ Some l
-    → JoinsAt g line.clock other → StatesSteps lines other.clock d → d + 1 ≡ line.steps → IsLower (key other) (key l) → ⊥
+    → JoinsAt g line.clock other → StatesSteps lines other.clock d → d + 1 ≡ line.steps → IsLower (key other)
+    (key l) → ⊥
 
 -- the port is the own port of the parent that is stated
 abbrev pub StatesSlave : SystemLine → ℕ → Type 0
@@ -65,7 +66,8 @@ pub record StatesMaster (g : Snapshot) (lines : List SystemLine) (line : SystemL
 -- each role is the one that links, parent and steps give the port
 abbrev pub PassesRole : Snapshot → List SystemLine → Type 0
 PassesRole g lines = (line : SystemLine) (port : PortLine) → In line lines → In port line.ports
-    → RoleBy (IsLinked g (port_of line.clock port.number)) (StatesSlave line port.number) (StatesMaster g lines line port.number) port.role
+    → RoleBy (IsLinked g (port_of line.clock port.number)) (StatesSlave line port.number)
+    (StatesMaster g lines line port.number) port.role
 
 -- all tests
 pub record PassesLocalTests (g : Snapshot) (lines : List SystemLine) : Type 0 where

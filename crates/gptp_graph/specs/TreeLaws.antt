@@ -10,7 +10,8 @@ use Rattle.gptp_graph.specs.SettledRole.{Slave, Master, IsSettledRole}
 -- following parents leads to the best in as many steps as the distance says
 abbrev pub ParentsLeadToBest : Type 0
 ParentsLeadToBest =
-    (g : Snapshot) (v d : ℕ) (best : System) → IsWellFormed g → IsBest g v best → IsDistance g v d → Climbs g v best.clock d
+    (g : Snapshot) (v d : ℕ) (best : System) → IsWellFormed g → IsBest g v best → IsDistance g v d
+    → Climbs g v best.clock d
 
 -- a system that isn't the best of its component has one slave port
 abbrev pub SlavePortExistsOnce : Type 0
@@ -20,7 +21,8 @@ SlavePortExistsOnce = (g : Snapshot) (v : ℕ) (best : System) → IsWellFormed 
 -- the best of a component has none
 abbrev pub BestHasNoSlavePort : Type 0
 BestHasNoSlavePort =
-    (g : Snapshot) (v n : ℕ) (best : System) → IsWellFormed g → IsBest g v best → best.clock ≡ v → IsSettledRole g (port_of v n) Slave → ⊥
+    (g : Snapshot) (v n : ℕ) (best : System) → IsWellFormed g → IsBest g v best → best.clock ≡ v → IsSettledRole g
+    (port_of v n) Slave → ⊥
 
 -- the own port of a system's parent is its slave port, and the port at the other end is a master port, one step nearer
 abbrev pub ParentIsMaster : Type 0
