@@ -114,9 +114,11 @@ choice_exists g wf = from_systems (arranged (λ (s : System). s.clock) g.systems
         its_systems = record {
           different = Different-rising (line_clocks made.lines) rising;
           all =
-              λ s live. (let (line, at, of) = made.all s (is.kept s live) in (line, record { live = live; stated = at; clock = of.clock }));
+              λ s live. (let (line, at, of) = made.all s (is.kept s live) in
+              (line, record { live = live; stated = at; clock = of.clock }));
           no_other =
-              λ line h. (let (s, at, of) = made.no_other line h in (s, record { live = is.no_other s at; stated = h; clock = of.clock }));
+              λ line h. (let (s, at, of) = made.no_other line h in
+              (s, record { live = is.no_other s at; stated = h; clock = of.clock }));
           ports = λ s line of.
               let (t, at, is_of) = made.no_other line of.stated in
               let same : t ≡ s = same_clock g t s wf (is.no_other t at) of.live (sym is_of.clock ∙ of.clock) in

@@ -66,7 +66,8 @@ module _ (g : Snapshot) (lines : List SystemLine) (wf : IsWellFormed g) (h : IsS
       let p = parent_of line l stated is in
       let e : line.steps ≡ suc p.nearer.distance =
       LeadsNearer-distance g line.clock line.steps l wf (stated_distances line stated) p.nearer in
-      (p.nearer.joins, (p.nearer.distance, stated_of_distance g lines l.clock p.nearer.distance wf h.systems stated_distances p.nearer.there, omega arith))
+      let d = p.nearer.distance in
+      (p.nearer.joins, (d, stated_of_distance g lines l.clock d wf h.systems stated_distances p.nearer.there, omega arith))
 
   passes_link : PassesLink g lines
   passes_link one other a b adjacent =

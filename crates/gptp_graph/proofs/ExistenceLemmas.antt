@@ -65,7 +65,14 @@ distance_from_exists g b v wf (us, p) =
 pub best_exists : (g : Snapshot) (v : ℕ) → IsWellFormed g → In v (clocks g) → (best : System) × IsBest g v best
 best_exists g v wf here = elim (least_member identity_key reached g.systems (λ s h. Reaches-dec g v s.clock wf here)) [
   | inl none ↦ absurd (self (system_of g v here) none)
-  | inr (best, is) ↦ (best, record { live = is.member; reached = is.holds; least = λ s h r. at_most (best.identity) (s.identity) (is.least s h r) })
+  | inr (best, is) ↦ (
+    best,
+    record {
+      live = is.member;
+      reached = is.holds;
+      least = λ s h r. at_most best.identity s.identity (is.least s h r);
+    },
+  )
 ]
   where
     identity_key : System → List ℕ

@@ -8,7 +8,8 @@ use Rattle.gptp_graph.proofs.DecisionLemmas.{dec_iff, dec_both, dec_either, any_
 unfoldable pub PortIdentity-dec : (p q : PortIdentity) → Dec (p ≡ q)
 unfolding dec_iff dec_both ℕ_discrete
 PortIdentity-dec p q =
-    dec_iff (λ e i. record { clock = e.0 i; port = e.1 i }) (λ e. (ap (λ (r : PortIdentity). r.clock) e, ap (λ (r : PortIdentity). r.port) e))
+    dec_iff (λ e i. record { clock = e.0 i; port = e.1 i })
+    (λ e. (ap (λ (r : PortIdentity). r.clock) e, ap (λ (r : PortIdentity). r.port) e))
     (dec_both (ℕ_discrete p.clock q.clock) (ℕ_discrete p.port q.port))
 
 Link-dec : (l k : Link) → Dec (l ≡ k)
@@ -52,9 +53,13 @@ Adjacent-dec g v w = dec_iff over back (any_dec (Crosses v w) g.links (λ l h. C
   where
     over : ((l : Link) × In l g.links × Crosses v w l) → Adjacent g v w
     over (l, h, inl (a, b)) =
-        (l.a.port, l.b.port, inl (subst (λ k. In k g.links) (λ i. record { a = port_of (a i) l.a.port; b = port_of (b i) l.b.port }) h))
+        let e : l ≡ record { a = port_of v l.a.port; b = port_of w l.b.port } =
+        λ i. record { a = port_of (a i) l.a.port; b = port_of (b i) l.b.port } in
+        (l.a.port, l.b.port, inl (subst (λ k. In k g.links) e h))
     over (l, h, inr (b, a)) =
-        (l.b.port, l.a.port, inr (subst (λ k. In k g.links) (λ i. record { a = port_of (a i) l.a.port; b = port_of (b i) l.b.port }) h))
+        let e : l ≡ record { a = port_of w l.a.port; b = port_of v l.b.port } =
+        λ i. record { a = port_of (a i) l.a.port; b = port_of (b i) l.b.port } in
+        (l.b.port, l.a.port, inr (subst (λ k. In k g.links) e h))
 
     back : Adjacent g v w → (l : Link) × In l g.links × Crosses v w l
     back (m, n, inl h) = (record { a = port_of v m; b = port_of w n }, h, inl (refl, refl))

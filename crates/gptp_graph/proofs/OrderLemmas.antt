@@ -1,4 +1,4 @@
--- The order of lists by their first difference is total on lists of one length, and lists have a member that is least.
+-- The order of lists by their first difference is total on lists of one length, and lists have a least member.
 use Rattle.std.proofs.Common.{◌≡◌, ◌⊎◌, ℕ, List, [], ◌∷◌, length, refl, subst, sym, ◌∙◌, inl, inr, arith}
 use native.Mathlib.Decide.{ℕ_discrete, dec_lt}
 use Rattle.gptp_graph.specs.Members.{In}
@@ -72,7 +72,10 @@ least_member {X} key P (x ∷ xs) d = add (d x (inl refl)) (least_member key P x
         member = inl refl;
         holds = q;
         least =
-            λ y h p below. elim h [ inl e ↦ IsLower-irrefl (key x) (subst (λ z. IsLower (key z) (key x)) e below) | inr k ↦ none y k p ];
+            λ y h p below. elim h [
+              | inl e ↦ IsLower-irrefl (key x) (subst (λ z. IsLower (key z) (key x)) e below)
+              | inr k ↦ none y k p
+            ];
       },
     )
     add (yes q) (inr (m, is)) = elim (IsLower-dec (key x) (key m)) [
@@ -93,7 +96,10 @@ least_member {X} key P (x ∷ xs) d = add (d x (inl refl)) (least_member key P x
           member = inr is.member;
           holds = is.holds;
           least =
-              λ y h p below. elim h [ inl e ↦ not_lower (subst (λ z. IsLower (key z) (key m)) e below) | inr k ↦ is.least y k p below ];
+              λ y h p below. elim h [
+                | inl e ↦ not_lower (subst (λ z. IsLower (key z) (key m)) e below)
+                | inr k ↦ is.least y k p below
+              ];
         },
       )
     ]

@@ -14,10 +14,15 @@ use Rattle.gptp_graph.proofs.ExistenceLemmas.{distance_exists}
 -- the links as seen from either end
 seen : List Link → List ParentLink
 seen [] = []
-seen (l ∷ ls) = record { own_port = l.a.port; clock = l.b.clock; port = l.b.port } ∷ record { own_port = l.b.port; clock = l.a.clock; port = l.a.port } ∷ seen ls
+seen (l ∷ ls) =
+    record { own_port = l.a.port; clock = l.b.clock; port = l.b.port }
+    ∷ record { own_port = l.b.port; clock = l.a.clock; port = l.a.port }
+    ∷ seen ls
 
 In-seen : (v : ℕ) (l : ParentLink) (ls : List Link)
-    → In (record { a = port_of v l.own_port; b = port_of l.clock l.port }) ls ⊎ In (record { a = port_of l.clock l.port; b = port_of v l.own_port }) ls → In l (seen ls)
+    → In (record { a = port_of v l.own_port; b = port_of l.clock l.port }) ls
+    ⊎ In (record { a = port_of l.clock l.port; b = port_of v l.own_port }) ls
+    → In l (seen ls)
 unfolding seen
 In-seen v l [] (inl h) = absurd h
 In-seen v l [] (inr h) = absurd h
@@ -43,7 +48,12 @@ LeadsNearer-dec g v d l wf here = elim (Joins-dec g (port_of v l.own_port) (port
   where
     by_distance : JoinsAt g v l → ((e : ℕ) × IsDistance g l.clock e) → Dec (LeadsNearer g v l)
     by_distance j (e, there) = elim (ℕ_discrete e d) [
-      | yes same ↦ yes (record { joins = j; distance = d; there = subst (IsDistance g l.clock) same there; here = here })
+      | yes same ↦ yes (record {
+        joins = j;
+        distance = d;
+        there = subst (IsDistance g l.clock) same there;
+        here = here;
+      })
       | no other ↦ no (λ h. other (as_far h))
     ]
       where
@@ -56,11 +66,20 @@ LeadsNearer-dec g v d l wf here = elim (Joins-dec g (port_of v l.own_port) (port
 -- a system that isn't at distance zero has a parent
 pub parent_exists : (g : Snapshot) (v d : ℕ) → IsWellFormed g → IsDistance g v (suc d)
     → (l : ParentLink) × IsParent g v l
-parent_exists g v d wf here = elim (least_member key (LeadsNearer g v) (seen g.links) (λ l h. LeadsNearer-dec g v d l wf here)) [
+parent_exists g v d wf here = elim (least_member key (LeadsNearer g v) (seen g.links) nearer) [
   | inl none ↦ absurd (some (nearer_neighbour g v d wf here) none)
-  | inr (l, is) ↦ (l, record { nearer = is.holds; least = λ other h. is.least other (In-seen v other g.links h.joins) h })
+  | inr (l, is) ↦ (
+    l,
+    record {
+      nearer = is.holds;
+      least = λ other h. is.least other (In-seen v other g.links h.joins) h;
+    },
+  )
 ]
   where
+    nearer : (l : ParentLink) → In l (seen g.links) → Dec (LeadsNearer g v l)
+    nearer l h = LeadsNearer-dec g v d l wf here
+
     some : ((w : ℕ) × Adjacent g v w × IsDistance g w d)
         → ((l : ParentLink) → In l (seen g.links) → LeadsNearer g v l → ⊥) → ⊥
     some (w, (m, n, j), there) none =

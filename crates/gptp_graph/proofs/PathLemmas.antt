@@ -73,7 +73,10 @@ path_of g v w us here r =
 pub path_bounded : (g : Snapshot) (v w : ℕ) (us : List ℕ) → IsWellFormed g → IsPath g v w us
     → length us < length g.systems
 path_bounded g v w us wf p =
-    length-different g (v ∷ us) p.different (λ u h. elim h [ inl e ↦ subst (λ x. In x (clocks g)) (sym e) p.begins | inr k ↦ Route-clocks g v w us wf p.route u k ])
+    length-different g (v ∷ us) p.different (λ u h. elim h [
+      | inl e ↦ subst (λ x. In x (clocks g)) (sym e) p.begins
+      | inr k ↦ Route-clocks g v w us wf p.route u k
+    ])
 
 -- the path that stays at a system
 pub IsPath-self : (g : Snapshot) (v : ℕ) → In v (clocks g) → IsPath g v v []

@@ -25,8 +25,13 @@ insert {X} key x (y ∷ ys) h new = elim (dec_lt (key x) (key y)) [
   | yes below ↦ (
     x ∷ y ∷ ys,
     record {
-      rising =
-          ((λ n k. elim k [ inl e ↦ subst (λ m. key x < m) (sym e) below | inr i ↦ (let b : key y < n = h.0 n i in omega arith) ]), h);
+      rising = (
+        (λ n k. elim k [
+          | inl e ↦ subst (λ m. key x < m) (sym e) below
+          | inr i ↦ (let b : key y < n = h.0 n i in omega arith)
+        ]),
+        h,
+      );
       kept = λ z k. k;
       no_other = λ z k. k;
     },
@@ -94,12 +99,15 @@ same_rising {X} key (x ∷ xs) (y ∷ ys) h k to back =
     after : (a z : X) (zs : List X) → ((n : ℕ) → In n (map key zs) → key a < n) → In z zs → key a < key z
     after a z zs low at = low (key z) (In-map key z zs at)
 
+    crossed : key y < key x → key x < key y → ⊥
+    crossed a b = omega arith
+
     heads : x ≡ y
     heads = elim (to x (inl refl)) [
       | inl e ↦ e
       | inr i ↦ elim (back y (inl refl)) [
         | inl e ↦ sym e
-        | inr j ↦ absurd (let a : key y < key x = after y x ys k.0 i in let b : key x < key y = after x y xs h.0 j in omega arith)
+        | inr j ↦ absurd (crossed (after y x ys k.0 i) (after x y xs h.0 j))
       ]
     ]
 

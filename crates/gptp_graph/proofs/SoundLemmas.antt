@@ -52,11 +52,23 @@ module _ (g : Snapshot) (lines : List SystemLine) (wf : IsWellFormed g) (h : Pas
           let (joins, (d, (up, up_stated, up_clock, up_steps), less)) = h.parent line l stated is in
           let at : Adjacent g line.clock up.clock =
           subst (Adjacent g line.clock) (sym up_clock) (l.own_port, l.port, joins) in
-          record { next = up; stated = up_stated; steps = omega arith; adjacent = at; root = (h.link line up stated up_stated at).0 }
+          record {
+            next = up;
+            stated = up_stated;
+            steps = omega arith;
+            adjacent = at;
+            root = (h.link line up stated up_stated at).0;
+          }
 
   -- by its parents each system comes to one with none
   climb : (n : ℕ) (line : SystemLine) → In line lines → line.steps ≡ n → HasTop g lines line
-  climb zero line stated e = record { top = line; stated = stated; alone = alone_at_zero line stated e; root = refl; route = ([], refl, sym e) }
+  climb zero line stated e = record {
+    top = line;
+    stated = stated;
+    alone = alone_at_zero line stated e;
+    root = refl;
+    route = ([], refl, sym e);
+  }
   climb (suc n) line stated e =
       let up = next_of n line stated e in
       let t = climb n up.next up.stated up.steps in
@@ -101,7 +113,11 @@ module _ (g : Snapshot) (lines : List SystemLine) (wf : IsWellFormed g) (h : Pas
       let here = line_clock g lines line h.systems stated in
       record {
         best = best;
-        is_best = record { live = of.live; reached = Reaches-route g line.clock best.clock us here to_best; least = no_lower line stated best root };
+        is_best = record {
+          live = of.live;
+          reached = Reaches-route g line.clock best.clock us here to_best;
+          least = no_lower line stated best root;
+        };
         root = root;
         route = (down.0, down.1, down.2 ∙ long);
         least =

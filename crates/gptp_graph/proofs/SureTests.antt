@@ -50,7 +50,8 @@ sure_well_formed g =
   where
     identified : Sure ((s : System) → In s g.systems → IsIdentified s)
     identified =
-        for_all IsIdentified g.systems (λ s. so (λ h. record { octets = h.0; clock = h.1 }) (both (decided (dec_lt s.identity (2 ^ 112))) (decided (ℕ_discrete (s.identity % 2 ^ 64) s.clock))))
+        for_all IsIdentified g.systems (λ s. so (λ h. record { octets = h.0; clock = h.1 })
+        (both (decided (dec_lt s.identity (2 ^ 112))) (decided (ℕ_discrete (s.identity % 2 ^ 64) s.clock))))
 
     ends : Sure ((p q : PortIdentity) → Joins g p q → (s : System) × In s g.systems × IsPortOf s p)
     ends =
@@ -96,18 +97,21 @@ module _ (g : Snapshot) (lines : List SystemLine) where
 
   abbrev pub sure_systems : Sure (PassesSystems g lines)
   sure_systems =
-      so (λ h. record { different = h.0; all = h.1.0; no_other = h.1.1.0; ports = h.1.1.1 }) (both (sure_different (line_clocks lines)) (both all (both no_other ports)))
+      so (λ h. record { different = h.0; all = h.1.0; no_other = h.1.1.0; ports = h.1.1.1 })
+      (both (sure_different (line_clocks lines)) (both all (both no_other ports)))
     where
       all : Sure ((s : System) → In s g.systems → (line : SystemLine) × IsLineOf g lines s line)
       all =
-          so (λ h s live. let (line, stated, clock) = h s live in (line, record { live = live; stated = stated; clock = clock }))
+          so (λ h s live. let (line, stated, clock) = h s live in
+          (line, record { live = live; stated = stated; clock = clock }))
           (for_all (λ s. (line : SystemLine) × In line lines × (line.clock ≡ s.clock)) g.systems
           (λ s. for_some (λ line. line.clock ≡ s.clock) lines
           (λ line. decided (ℕ_discrete line.clock s.clock))))
 
       no_other : Sure ((line : SystemLine) → In line lines → (s : System) × IsLineOf g lines s line)
       no_other =
-          so (λ h line stated. let (s, live, clock) = h line stated in (s, record { live = live; stated = stated; clock = clock }))
+          so (λ h line stated. let (s, live, clock) = h line stated in
+          (s, record { live = live; stated = stated; clock = clock }))
           (for_all (λ line. (s : System) × In s g.systems × (line.clock ≡ s.clock)) lines
           (λ line. for_some (λ s. line.clock ≡ s.clock) g.systems
           (λ s. decided (ℕ_discrete line.clock s.clock))))
@@ -232,7 +236,13 @@ module _ (g : Snapshot) (lines : List SystemLine) where
   -- the port is a master port by the stated steps, and isn't
   abbrev pub master_port : (line : SystemLine) (n : ℕ) → Sure (StatesMaster g lines line n)
   master_port line n =
-      so (λ (q, joins, (other, at, (c, nearer))). record { other = q; joins = joins; there = other.steps; is_there = (other, at, c, refl); nearer = nearer })
+      so (λ (q, joins, (other, at, (c, nearer))). record {
+        other = q;
+        joins = joins;
+        there = other.steps;
+        is_there = (other, at, c, refl);
+        nearer = nearer;
+      })
       (for_end g (port_of line.clock n)
       (λ q. (other : SystemLine) × In other lines × ((other.clock ≡ q.clock) × IsNearer line other q))
       (λ q. for_some (λ other. (other.clock ≡ q.clock) × IsNearer line other q) lines
