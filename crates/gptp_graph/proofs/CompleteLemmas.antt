@@ -12,7 +12,7 @@ use Rattle.gptp_graph.proofs.LinkLemmas.{Adjacent-sym}
 use Rattle.gptp_graph.proofs.SystemLemmas.{In-clocks, same_clock}
 use Rattle.gptp_graph.proofs.PathLemmas.{Reaches-self}
 use Rattle.gptp_graph.proofs.BestLemmas.{IsBest-agree}
-use Rattle.gptp_graph.proofs.DistanceLemmas.{IsDistance-unique, IsDistance-neighbour, best_at_zero}
+use Rattle.gptp_graph.proofs.DistanceLemmas.{IsDistance-neighbour, best_at_zero}
 use Rattle.gptp_graph.proofs.ParentLemmas.{LeadsNearer-distance, parent_exists}
 use Rattle.gptp_graph.proofs.RoleLemmas.{RoleBy-map}
 use Rattle.gptp_graph.proofs.StatementLemmas.{StateDistances, distance_of_stated, stated_of_distance, master_of_stated, stated_of_master, slave_of_stated, stated_of_slave}

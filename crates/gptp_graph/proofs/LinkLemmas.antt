@@ -1,5 +1,5 @@
 -- Links: they turn round, end at systems, and leave each port one other end where no port is named twice.
-use Rattle.std.proofs.Common.{◌≡◌, ◌⊎◌, ℕ, List, [], ◌∷◌, refl, sym, ap, subst, ◌∙◌, inl, inr}
+use Rattle.std.proofs.Common.{◌≡◌, ◌⊎◌, ℕ, List, [], ◌∷◌, sym, ap, subst, ◌∙◌, inl, inr}
 use Rattle.gptp_graph.specs.Members.{In, Different}
 use Rattle.gptp_graph.specs.Snapshot.{System, PortIdentity, Link, Snapshot, IsWellFormed, clocks, port_of, Joins, Adjacent}
 use Rattle.gptp_graph.specs.Parent.{ParentLink, JoinsAt}

@@ -1,5 +1,5 @@
 -- A labelling passes the local tests exactly where all systems are near.
-use Rattle.std.proofs.Common.{◌≡◌, ◌<◌, ℕ, List, subst}
+use Rattle.std.proofs.Common.{◌<◌, ℕ, List, subst}
 use Rattle.gptp_graph.specs.Members.{In}
 use Rattle.gptp_graph.specs.Snapshot.{Snapshot, IsWellFormed, clocks}
 use Rattle.gptp_graph.specs.Distance.{IsDistance, IsNear}

@@ -2,10 +2,10 @@
 use Rattle.std.proofs.Common.{◌≡◌, ◌⊎◌, ℕ, suc, List, [], ◌∷◌, refl, subst, inl, inr, arith}
 use native.Mathlib.Decide.{ℕ_discrete}
 use Rattle.gptp_graph.specs.Members.{In}
-use Rattle.gptp_graph.specs.Snapshot.{Link, Snapshot, IsWellFormed, clocks, port_of, Adjacent}
+use Rattle.gptp_graph.specs.Snapshot.{Link, Snapshot, IsWellFormed, port_of, Adjacent}
 use Rattle.gptp_graph.specs.Distance.{IsDistance}
 use Rattle.gptp_graph.specs.Parent.{ParentLink, key, JoinsAt, LeadsNearer, IsParent}
-use Rattle.gptp_graph.proofs.LinkLemmas.{Joins-clock, Joins-sym, JoinsAt-clock}
+use Rattle.gptp_graph.proofs.LinkLemmas.{JoinsAt-clock}
 use Rattle.gptp_graph.proofs.LinkDecisions.{Joins-dec}
 use Rattle.gptp_graph.proofs.OrderLemmas.{IsLower-total, least_member}
 use Rattle.gptp_graph.proofs.DistanceLemmas.{IsDistance-unique, nearer_neighbour}

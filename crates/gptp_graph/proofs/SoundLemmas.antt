@@ -12,7 +12,6 @@ use Rattle.gptp_graph.specs.LocalTests.{PassesLocalTests}
 use Rattle.gptp_graph.proofs.LinkLemmas.{Adjacent-clock}
 use Rattle.gptp_graph.proofs.PathLemmas.{Route-reverse, path_of, Reaches-route}
 use Rattle.gptp_graph.proofs.SystemLemmas.{In-clocks}
-use Rattle.gptp_graph.proofs.DistanceLemmas.{IsDistance-unique}
 use Rattle.gptp_graph.proofs.ParentLemmas.{LeadsNearer-distance}
 use Rattle.gptp_graph.proofs.RoleLemmas.{RoleBy-map}
 use Rattle.gptp_graph.proofs.StatementLemmas.{line_of, line_clock, same_line, StateDistances, distance_of_stated, stated_of_distance, master_of_stated, stated_of_master, slave_of_stated, stated_of_slave}

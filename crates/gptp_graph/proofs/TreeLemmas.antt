@@ -7,7 +7,7 @@ use Rattle.gptp_graph.specs.Distance.{IsDistance}
 use Rattle.gptp_graph.specs.Parent.{ParentLink, IsParent, Climbs}
 use Rattle.gptp_graph.specs.SettledRole.{Slave, IsSettledRole}
 use Rattle.gptp_graph.proofs.BestLemmas.{IsBest-neighbour}
-use Rattle.gptp_graph.proofs.DistanceLemmas.{IsDistance-unique, IsDistance-best, best_at_zero}
+use Rattle.gptp_graph.proofs.DistanceLemmas.{IsDistance-best, best_at_zero}
 use Rattle.gptp_graph.proofs.ExistenceLemmas.{distance_exists}
 use Rattle.gptp_graph.proofs.ParentLemmas.{LeadsNearer-distance, parent_exists, IsParent-unique, no_parent_at_zero}
 

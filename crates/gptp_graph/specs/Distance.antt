@@ -9,13 +9,14 @@ pub record IsDistanceFrom (g : Snapshot) (b v d : ℕ) : Type 0 where
   pub path : (us : List ℕ) × IsPath g b v us × (length us ≡ d)
   pub least : (us : List ℕ) → IsPath g b v us → d ≤ length us
 
--- d is the distance of v: the least length of a path from the best of its component to v (stepsRemoved, IEEE
--- 802.1AS-2020, 10.3.3)
+-- d is the distance of v: the least length of a path from the best of its component to v
+-- (stepsRemoved, IEEE 802.1AS-2020, 10.3.3)
 pub record IsDistance (g : Snapshot) (v d : ℕ) : Type 0 where
   pub best : System
   pub is_best : IsBest g v best
   pub from_best : IsDistanceFrom g best.clock v d
 
--- v is near: its distance is below 255, so that what its parent announces is qualified (IEEE 802.1AS-2020, 10.3.11.2.1)
+-- v is near: its distance is below 255, so that what its parent announces is qualified (IEEE 802.1AS-2020,
+-- 10.3.11.2.1)
 abbrev pub IsNear : Snapshot → ℕ → Type 0
 IsNear g v = (d : ℕ) × IsDistance g v d × (d < 255)

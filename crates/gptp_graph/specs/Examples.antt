@@ -11,7 +11,8 @@ pub record SettlesAt (g : Snapshot) (lines : List SystemLine) : Type 0 where
   pub choice : IsSettledChoice g lines
 
 -- Clocks 2, 3 and 4 in a ring. Port 1 of clock 2 led to a system that has failed. The systemIdentity of clock x is
--- f6f8fe436af8 before the 16 digits of x: priority1 246, clockClass 248, clockAccuracy 254, variance 436a, priority2 248.
+-- f6f8fe436af8 before the 16 digits of x: priority1 246, clockClass 248, clockAccuracy 254, offsetScaledLogVariance
+-- 436a, priority2 248.
 abbrev pub ring_network : Snapshot
 ring_network = record {
   systems =
@@ -147,8 +148,8 @@ triangle_lines =
     }
     ∷ []
 
--- Clocks 1, 2, 4 and 3 in a ring, where clock 4 has the lower priority1, 16, and so is best. Clock 1 is two steps from it
--- over clock 2 and over clock 3: the clock decides, though port there and own port are lower over clock 3.
+-- Clocks 1, 2, 4 and 3 in a ring, where clock 4 has the lower priority1, 16, and so is best. Clock 1 is two steps from
+-- it over clock 2 and over clock 3: the clock decides, though port there and own port are lower over clock 3.
 abbrev pub square_network : Snapshot
 square_network = record {
   systems =

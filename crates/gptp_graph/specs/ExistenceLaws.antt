@@ -12,36 +12,44 @@ use Rattle.gptp_graph.specs.SettledRole.{IsSettledRole}
 use Rattle.gptp_graph.specs.Labelling.{SystemLine, line_clocks}
 use Rattle.gptp_graph.specs.SettledChoice.{IsSettledChoice}
 
+-- the component of a system has one best
 abbrev pub BestExistsOnce : Type 0
-BestExistsOnce = (g : Snapshot) (v : ℕ) → IsWellFormed g → In v (clocks g) → ExistsOnce (IsBest g v)
+BestExistsOnce = (g : Snapshot) (v : ℕ)
+    → IsWellFormed g → In v (clocks g)
+    → ExistsOnce (IsBest g v)
 
+-- a system has one distance
 abbrev pub DistanceExistsOnce : Type 0
-DistanceExistsOnce = (g : Snapshot) (v : ℕ) → IsWellFormed g → In v (clocks g) → ExistsOnce (IsDistance g v)
+DistanceExistsOnce = (g : Snapshot) (v : ℕ)
+    → IsWellFormed g → In v (clocks g)
+    → ExistsOnce (IsDistance g v)
 
 -- a system that isn't the best of its component has one parent
 abbrev pub ParentExistsOnce : Type 0
-ParentExistsOnce =
-    (g : Snapshot) (v : ℕ) (best : System) → IsWellFormed g → IsBest g v best → best.clock ≢ v → ExistsOnce
-    (IsParent g v)
+ParentExistsOnce = (g : Snapshot) (v : ℕ) (best : System)
+    → IsWellFormed g → IsBest g v best → best.clock ≢ v
+    → ExistsOnce (IsParent g v)
 
 -- the best of a component has none
 abbrev pub BestHasNoParent : Type 0
-BestHasNoParent =
-    (g : Snapshot) (v : ℕ) (best : System) (l : ParentLink) → IsWellFormed g → IsBest g v best → best.clock ≡ v
+BestHasNoParent = (g : Snapshot) (v : ℕ) (best : System) (l : ParentLink)
+    → IsWellFormed g → IsBest g v best → best.clock ≡ v
     → IsParent g v l → ⊥
 
+-- a port of a system has one settled role
 abbrev pub RoleExistsOnce : Type 0
-RoleExistsOnce =
-    (g : Snapshot) (p : PortIdentity) → IsWellFormed g → In p.clock (clocks g) → ExistsOnce (IsSettledRole g p)
+RoleExistsOnce = (g : Snapshot) (p : PortIdentity)
+    → IsWellFormed g → In p.clock (clocks g)
+    → ExistsOnce (IsSettledRole g p)
 
 -- one settled choice has its lines by rising clock
 abbrev pub ChoiceExistsOnce : Type 0
-ChoiceExistsOnce =
-    (g : Snapshot) → IsWellFormed g → ExistsOnce
-    (λ (lines : List SystemLine). IsSettledChoice g lines × IsRising (line_clocks lines))
+ChoiceExistsOnce = (g : Snapshot)
+    → IsWellFormed g
+    → ExistsOnce (λ (lines : List SystemLine). IsSettledChoice g lines × IsRising (line_clocks lines))
 
 -- in whichever order their lines stand, two settled choices have the same lines
 abbrev pub ChoicesHaveTheSameLines : Type 0
-ChoicesHaveTheSameLines =
-    (g : Snapshot) (xs ys : List SystemLine) (line : SystemLine) → IsWellFormed g → IsSettledChoice g xs
-    → IsSettledChoice g ys → In line xs → In line ys
+ChoicesHaveTheSameLines = (g : Snapshot) (xs ys : List SystemLine) (line : SystemLine)
+    → IsWellFormed g → IsSettledChoice g xs → IsSettledChoice g ys
+    → In line xs → In line ys

@@ -1,5 +1,5 @@
--- What a certificate states of a network: for each system the root that it follows, its steps, its parent and the role
--- of each port (profile).
+-- What a certificate states of a network: for each system the root that it follows, its steps, its parent and the
+-- role of each port (profile).
 use Rattle.std.specs.Prelude.{◌≡◌, ℕ, List, Option, map}
 use Rattle.std.specs.List.{range_with_len}
 use Rattle.gptp_graph.specs.Members.{In, Different}

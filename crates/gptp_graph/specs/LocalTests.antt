@@ -6,7 +6,7 @@ use Rattle.gptp_graph.specs.Members.{In}
 use Rattle.gptp_graph.specs.Order.{IsLower}
 use Rattle.gptp_graph.specs.Snapshot.{System, Snapshot, PortIdentity, port_of, Joins, Adjacent, IsLinked}
 use Rattle.gptp_graph.specs.Parent.{ParentLink, key, JoinsAt}
-use Rattle.gptp_graph.specs.SettledRole.{RoleBy}
+use Rattle.gptp_graph.specs.SettledRole.{Role, RoleBy}
 use Rattle.gptp_graph.specs.Labelling.{PortLine, SystemLine, IsLineOf, HasItsSystems}
 
 -- the lines state these steps of the system
@@ -48,14 +48,14 @@ PassesIdentity g lines = (s : System) (line : SystemLine) → IsLineOf g lines s
 -- no link to a system with steps one less has a lower clock there, port there, own port than the parent's
 abbrev pub PassesTie : Snapshot → List SystemLine → Type 0
 PassesTie g lines = (line : SystemLine) (l other : ParentLink) (d : ℕ) → In line lines → line.parent ≡ Some l
-    → JoinsAt g line.clock other → StatesSteps lines other.clock d → d + 1 ≡ line.steps → IsLower (key other)
-    (key l) → ⊥
+    → JoinsAt g line.clock other → StatesSteps lines other.clock d → d + 1 ≡ line.steps
+    → IsLower (key other) (key l) → ⊥
 
 -- the port is the own port of the parent that is stated
 abbrev pub StatesSlave : SystemLine → ℕ → Type 0
 StatesSlave line n = (l : ParentLink) × (line.parent ≡ Some l) × (l.own_port ≡ n)
 
--- over the port's link fewer steps are stated here than at the other end, or as many and the clock here is the lower
+-- over the port's link fewer steps are stated here than at the other end, or as many and the clock here is lower
 pub record StatesMaster (g : Snapshot) (lines : List SystemLine) (line : SystemLine) (n : ℕ) : Type 0 where
   pub other : PortIdentity
   pub joins : Joins g (port_of line.clock n) other
@@ -63,11 +63,14 @@ pub record StatesMaster (g : Snapshot) (lines : List SystemLine) (line : SystemL
   pub is_there : StatesSteps lines other.clock there
   pub nearer : (line.steps < there) ⊎ ((line.steps ≡ there) × (line.clock < other.clock))
 
+-- the role that links, parent and steps give the port of that number
+abbrev pub HasStatedRole : Snapshot → List SystemLine → SystemLine → ℕ → Role → Type 0
+HasStatedRole g lines line n = RoleBy (IsLinked g (port_of line.clock n)) (StatesSlave line n) (StatesMaster g lines line n)
+
 -- each role is the one that links, parent and steps give the port
 abbrev pub PassesRole : Snapshot → List SystemLine → Type 0
 PassesRole g lines = (line : SystemLine) (port : PortLine) → In line lines → In port line.ports
-    → RoleBy (IsLinked g (port_of line.clock port.number)) (StatesSlave line port.number)
-    (StatesMaster g lines line port.number) port.role
+    → HasStatedRole g lines line port.number port.role
 
 -- all tests
 pub record PassesLocalTests (g : Snapshot) (lines : List SystemLine) : Type 0 where

@@ -1,10 +1,10 @@
--- Paths of a snapshot.
+-- Routes and paths over the links of a snapshot, and the components that they make.
 use Rattle.std.specs.Prelude.{◌≡◌, ℕ, List, [], ◌∷◌}
 use Rattle.gptp_graph.specs.Members.{In, Different}
 use Rattle.gptp_graph.specs.Snapshot.{Snapshot, clocks, Adjacent}
 
--- from v over the systems of the list in turn, each joined by a link to the one before it, the last of them w; systems
--- may come again, and the empty list stays at v
+-- from v over the systems of the list in turn, each joined by a link to the one before it, the last of them w;
+-- systems may come again, and the empty list stays at v
 abbrev pub Route : Snapshot → ℕ → ℕ → List ℕ → Type 0
 Route g v w [] = v ≡ w
 Route g v w (u ∷ us) = Adjacent g v u × Route g u w us

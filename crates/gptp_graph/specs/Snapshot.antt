@@ -24,6 +24,7 @@ pub record Snapshot : Type 0 where
   pub systems : List System
   pub links : List Link
 
+-- port n of the system with clock v
 abbrev pub port_of : ℕ → ℕ → PortIdentity
 port_of v n = record { clock = v; port = n }
 

@@ -1,9 +1,11 @@
 //! Laws on paths and distances.
 
-ghost use Rattle.gptp_graph.specs.DistanceLaws.{DifferentAreBounded, PathsAreBounded, DistancesAreBounded, NeighboursDifferByOne, NearerNeighbourExists, RoutesAreNoShorter, RoutesFromBestAreNoShorter};
+ghost use Rattle.gptp_graph.specs.DistanceLaws.{DifferentAreBounded, PathsAreBounded, DistancesAreBounded};
+ghost use Rattle.gptp_graph.specs.DistanceLaws.{NeighboursDifferByOne, NearerNeighbourExists};
+ghost use Rattle.gptp_graph.specs.DistanceLaws.{RoutesAreNoShorter, RoutesFromBestAreNoShorter};
 
-/// In a snapshot of n systems no list of different systems has more than n members, no path is of length n or more, and
-/// no distance is n or more.
+/// In a snapshot of n systems no list of different systems has more than n members, no path is of length n or more,
+/// and no distance is n or more.
 pub fn distances_bounded()
     ensures members { DifferentAreBounded }
     ensures paths { PathsAreBounded }

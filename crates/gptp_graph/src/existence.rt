@@ -1,6 +1,8 @@
 //! Laws on what a snapshot has once.
 
-ghost use Rattle.gptp_graph.specs.ExistenceLaws.{BestExistsOnce, DistanceExistsOnce, ParentExistsOnce, BestHasNoParent, RoleExistsOnce, ChoiceExistsOnce, ChoicesHaveTheSameLines};
+ghost use Rattle.gptp_graph.specs.ExistenceLaws.{BestExistsOnce, DistanceExistsOnce, ParentExistsOnce};
+ghost use Rattle.gptp_graph.specs.ExistenceLaws.{BestHasNoParent, RoleExistsOnce};
+ghost use Rattle.gptp_graph.specs.ExistenceLaws.{ChoiceExistsOnce, ChoicesHaveTheSameLines};
 
 /// Every system's component has one best system.
 pub fn best_exists()

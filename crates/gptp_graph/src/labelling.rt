@@ -2,8 +2,8 @@
 
 ghost use Rattle.gptp_graph.specs.LabellingLaws.{LocalTestsDecide, OneLabellingPasses, PassesWhereNear};
 
-/// The lines of a certificate pass all local tests exactly where they are the settled choice and each system has fewer
-/// than 255 steps.
+/// The lines of a certificate pass all local tests exactly where they are the settled choice and each system has
+/// fewer than 255 steps.
 pub fn local_tests_decide()
     ensures { LocalTestsDecide }
 {}

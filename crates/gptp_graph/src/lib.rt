@@ -1,15 +1,15 @@
 //! What a settled network of gPTP is, over a finite graph.
 //!
-//! A snapshot is a network's live systems and the links that are up between two of them. Over it stand the choice that
-//! the best master clock algorithm settles at (IEEE 802.1AS-2020, 10.3): the best system of each component, the distance,
-//! the parent and the role of each port; and the tests by which a certificate of that choice is checked (profile). There
-//! are no frames, no time and no types of Rust in it.
+//! A snapshot is a network's live systems and the links that are up between two of them. Over it stand the choice
+//! that the best master clock algorithm settles at (IEEE 802.1AS-2020, 10.3), which is the best system of each
+//! component and the distance, the parent and the port roles of each system; and the tests by which a certificate of
+//! that choice is checked (profile). There are no frames, no time and no types of Rust in it.
 //!
 //! The definitions stand in `specs/`. Each function of this crate is a law: it does nothing, and its contract is a
-//! theorem about the definitions. The laws say that distances are bounded and fall by one step at a time toward the
-//! best, that best, distance, parent, role and choice exist once each, and that slave ports form a tree; that the local
-//! tests pass exactly for the settled choice of a network in which all systems are near; and what the choice of four
-//! small networks is. Lemmas for the crates above are in the public modules of `proofs/`.
+//! theorem about the definitions. Distances are bounded and fall by one step at a time toward the best; best,
+//! distance, parent, role and choice exist once each, and slave ports form a tree. The local tests pass exactly for
+//! the settled choice of a network in which all systems are near. The choice of four small networks is the one
+//! written out for each. Lemmas for the crates above are in the public modules of `proofs/`.
 #![tactic(auto)]
 
 mod distances;

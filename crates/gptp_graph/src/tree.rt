@@ -1,6 +1,7 @@
 //! Laws on the tree that slave ports form.
 
-ghost use Rattle.gptp_graph.specs.TreeLaws.{ParentsLeadToBest, SlavePortExistsOnce, BestHasNoSlavePort, ParentIsMaster};
+ghost use Rattle.gptp_graph.specs.TreeLaws.{ParentsLeadToBest, ParentIsMaster};
+ghost use Rattle.gptp_graph.specs.TreeLaws.{SlavePortExistsOnce, BestHasNoSlavePort};
 
 /// Following parents leads to the best system in as many steps as the distance says.
 pub fn parents_lead_to_best()
