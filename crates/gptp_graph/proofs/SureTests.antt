@@ -6,9 +6,9 @@ use Rattle.gptp_graph.specs.Members.{In, Different}
 use Rattle.gptp_graph.specs.Order.{IsLower}
 use Rattle.gptp_graph.specs.Snapshot.{System, PortIdentity, Snapshot, clocks, port_of, Joins, IsLinked, IsPortOf, IsIdentified, IsWellFormed}
 use Rattle.gptp_graph.specs.Parent.{ParentLink, key, JoinsAt}
-use Rattle.gptp_graph.specs.SettledRole.{Role, Disabled, Master, Slave, Passive, RoleBy}
+use Rattle.gptp_graph.specs.SettledRole.{Role, Disabled, Master, Slave, Passive}
 use Rattle.gptp_graph.specs.Labelling.{PortLine, SystemLine, line_clocks, port_numbers, IsLineOf}
-use Rattle.gptp_graph.specs.LocalTests.{StatesSteps, StatesSlave, StatesMaster, PassesSystems, PassesTooFar, PassesRoot, PassesSteps, PassesParent, PassesLink, PassesIdentity, PassesTie, PassesRole, PassesLocalTests}
+use Rattle.gptp_graph.specs.LocalTests.{StatesSteps, StatesSlave, StatesMaster, HasStatedRole, PassesSystems, PassesTooFar, PassesRoot, PassesSteps, PassesParent, PassesLink, PassesIdentity, PassesTie, PassesRole, PassesLocalTests}
 use Rattle.gptp_graph.proofs.DecisionLemmas.{dec_both, dec_either}
 use Rattle.gptp_graph.proofs.OrderLemmas.{IsLower-dec}
 use Rattle.gptp_graph.proofs.LinkDecisions.{PortIdentity-dec}
@@ -267,15 +267,11 @@ module _ (g : Snapshot) (lines : List SystemLine) where
 
   abbrev pub sure_role : Sure (PassesRole g lines)
   sure_role = so (λ h line port at i. h line at port i)
-      (for_all (λ line. (port : PortLine) → In port line.ports → HasRole line port.number port.role) lines
-      (λ line. for_all (λ port. HasRole line port.number port.role) line.ports
+      (for_all (λ line. (port : PortLine) → In port line.ports → HasStatedRole g lines line port.number port.role) lines
+      (λ line. for_all (λ port. HasStatedRole g lines line port.number port.role) line.ports
       (λ port. has_role line port.number port.role)))
     where
-      HasRole : SystemLine → ℕ → Role → Type 0
-      HasRole line n role =
-          RoleBy (IsLinked g (port_of line.clock n)) (StatesSlave line n) (StatesMaster g lines line n) role
-
-      has_role : (line : SystemLine) (n : ℕ) (role : Role) → Sure (HasRole line n role)
+      has_role : (line : SystemLine) (n : ℕ) (role : Role) → Sure (HasStatedRole g lines line n role)
       has_role line n Disabled =
           so (λ h (q, joins). h (port_of line.clock n) q joins refl)
           (for_links g (λ p q. p ≡ port_of line.clock n → ⊥)
