@@ -30,6 +30,7 @@ record HasPorts (g : Snapshot) (v k n : ℕ) : Type 0 where
   numbers : map (λ (port : PortLine). port.number) ports ≡ range_with_len k n
   roles : (port : PortLine) → In port ports → IsSettledRole g (port_of v port.number) port.role
 
+-- every system has such ports
 ports_exist : (g : Snapshot) (v k n : ℕ) → IsWellFormed g → In v (clocks g) → HasPorts g v k n
 ports_exist g v k zero wf here = record { ports = []; numbers = refl; roles = λ port h. absurd h }
 ports_exist g v k (suc n) wf here =
@@ -51,6 +52,7 @@ record IsSettledLineOf (g : Snapshot) (s : System) (line : SystemLine) : Type 0 
   ports : port_numbers line ≡ range_with_len 1 s.ports
   settled : IsSettledLine g line
 
+-- every system has such a line
 line_exists : (g : Snapshot) (s : System) → IsWellFormed g → In s g.systems
     → (line : SystemLine) × IsSettledLineOf g s line
 line_exists g s wf live =
@@ -74,6 +76,7 @@ record HasLines (g : Snapshot) (systems : List System) : Type 0 where
   all : (s : System) → In s systems → (line : SystemLine) × In line lines × IsSettledLineOf g s line
   no_other : (line : SystemLine) → In line lines → (s : System) × In s systems × IsSettledLineOf g s line
 
+-- every list of live systems has such lines
 lines_exist : (g : Snapshot) (systems : List System) → IsWellFormed g
     → ((s : System) → In s systems → In s g.systems) → HasLines g systems
 lines_exist g [] wf live = record { lines = []; clocks = refl; all = λ s h. absurd h; no_other = λ line h. absurd h }

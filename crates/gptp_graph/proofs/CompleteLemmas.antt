@@ -18,6 +18,7 @@ use Rattle.gptp_graph.proofs.RoleLemmas.{RoleBy-map}
 use Rattle.gptp_graph.proofs.StatementLemmas.{StateDistances, distance_of_stated, stated_of_distance, master_of_stated, stated_of_master, slave_of_stated, stated_of_slave}
 
 module _ (g : Snapshot) (lines : List SystemLine) (wf : IsWellFormed g) (h : IsSettledChoice g lines) where
+  -- the stated steps are the distances
   stated_distances : StateDistances g lines
   stated_distances line stated = (h.settled line stated).steps
 
@@ -40,6 +41,7 @@ module _ (g : Snapshot) (lines : List SystemLine) (wf : IsWellFormed g) (h : IsS
           subst (IsParentIfAny g line.clock) is (h.settled line stated).parent in
           absurd (none some.0 some.1)
 
+  -- the best is at distance zero, and no other system states no parent
   passes_root : PassesRoot g lines
   passes_root s line of is =
       let (best, is_best, root) = (h.settled line of.stated).root in
@@ -51,6 +53,7 @@ module _ (g : Snapshot) (lines : List SystemLine) (wf : IsWellFormed g) (h : IsS
       (best_at_zero g line.clock best wf is_best here ∙ of.clock) in
       root ∙ ap (λ (t : System). t.identity) same
 
+  -- no parent is stated at distance zero alone
   passes_steps : PassesSteps lines
   passes_steps = record {
     none = zero_without_parent;
@@ -61,6 +64,7 @@ module _ (g : Snapshot) (lines : List SystemLine) (wf : IsWellFormed g) (h : IsS
         omega arith;
   }
 
+  -- the parent is at the other end of a link, one step nearer
   passes_parent : PassesParent g lines
   passes_parent line l stated is =
       let p = parent_of line l stated is in
@@ -69,6 +73,7 @@ module _ (g : Snapshot) (lines : List SystemLine) (wf : IsWellFormed g) (h : IsS
       let d = p.nearer.distance in
       (p.nearer.joins, (d, stated_of_distance g lines l.clock d wf h.systems stated_distances p.nearer.there, omega arith))
 
+  -- neighbours have one best, and distances that differ by one at most
   passes_link : PassesLink g lines
   passes_link one other a b adjacent =
       let (best, is_best, root) = (h.settled one a).root in
@@ -83,6 +88,7 @@ module _ (g : Snapshot) (lines : List SystemLine) (wf : IsWellFormed g) (h : IsS
       (stated_distances one a) in
       (root ∙ ap (λ (t : System). t.identity) same ∙ sym root', omega arith, omega arith)
 
+  -- no identity of the component is lower than its best's
   passes_identity : PassesIdentity g lines
   passes_identity s line of =
       let (best, is_best, root) = (h.settled line of.stated).root in
@@ -92,6 +98,7 @@ module _ (g : Snapshot) (lines : List SystemLine) (wf : IsWellFormed g) (h : IsS
       (Reaches-self g line.clock self)) in
       omega arith
 
+  -- no link that leads nearer is lower than the parent's
   passes_tie : PassesTie g lines
   passes_tie line l other d stated is joins steps less lower =
       let p = parent_of line l stated is in
@@ -103,6 +110,7 @@ module _ (g : Snapshot) (lines : List SystemLine) (wf : IsWellFormed g) (h : IsS
         here = subst (IsDistance g line.clock) e (stated_distances line stated);
       }) lower
 
+  -- the settled roles are those that steps and parents give
   passes_role : PassesRole g lines
   passes_role line port stated at =
       let s = h.settled line stated in

@@ -35,6 +35,7 @@ pub distance_from : (g : Snapshot) (v d : ℕ) (b : System) → IsWellFormed g �
 distance_from g v d b wf h k =
     subst (λ (s : System). IsDistanceFrom g s.clock v d) (IsBest-unique g v k.best b wf k.is_best h) k.from_best
 
+-- a system has one distance at most
 pub IsDistance-unique : (g : Snapshot) (v d e : ℕ) → IsWellFormed g → IsDistance g v d → IsDistance g v e
     → d ≡ e
 IsDistance-unique g v d e wf h k =

@@ -17,18 +17,22 @@ settles_at g lines network passes =
     let wf = (sure_well_formed g).1 network in
     record { network = wf; choice = sound g lines wf ((sure_passes g lines).1 passes) }
 
+-- the ring of clocks 2, 3 and 4
 pub ring_settles : SettlesAt ring_network ring_lines
 unfolding ℕ_discrete dec_le dec_lt dec_both dec_either IsLower-dec PortIdentity-dec
 ring_settles = settles_at ring_network ring_lines refl refl
 
+-- two crossed links
 pub parallel_settles : SettlesAt parallel_network parallel_lines
 unfolding ℕ_discrete dec_le dec_lt dec_both dec_either IsLower-dec PortIdentity-dec
 parallel_settles = settles_at parallel_network parallel_lines refl refl
 
+-- the triangle
 pub triangle_settles : SettlesAt triangle_network triangle_lines
 unfolding ℕ_discrete dec_le dec_lt dec_both dec_either IsLower-dec PortIdentity-dec
 triangle_settles = settles_at triangle_network triangle_lines refl refl
 
+-- the ring with two ways from the best to the far corner
 pub square_settles : SettlesAt square_network square_lines
 unfolding ℕ_discrete dec_le dec_lt dec_both dec_either IsLower-dec PortIdentity-dec
 square_settles = settles_at square_network square_lines refl refl

@@ -18,6 +18,7 @@ use Rattle.gptp_graph.proofs.PathLemmas.{path_of, path_bounded, Reaches-self, Re
 abbrev RouteOf : Snapshot → ℕ → ℕ → ℕ → Type 0
 RouteOf g v w n = (us : List ℕ) × Route g v w us × (length us ≡ n)
 
+-- whether there is a route of n steps: by its first step
 RouteOf-dec : (g : Snapshot) (v w : ℕ) → IsWellFormed g → (n : ℕ) → Dec (RouteOf g v w n)
 RouteOf-dec g v w wf zero = dec_iff (λ e. ([], e, refl)) here (ℕ_discrete v w)
   where

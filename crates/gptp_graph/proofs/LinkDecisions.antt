@@ -5,6 +5,7 @@ use Rattle.gptp_graph.specs.Members.{In}
 use Rattle.gptp_graph.specs.Snapshot.{PortIdentity, Link, Snapshot, port_of, Joins, Adjacent, IsLinked}
 use Rattle.gptp_graph.proofs.DecisionLemmas.{dec_iff, dec_both, dec_either, any_dec}
 
+-- whether two ports are one
 unfoldable pub PortIdentity-dec : (p q : PortIdentity) → Dec (p ≡ q)
 unfolding dec_iff dec_both ℕ_discrete
 PortIdentity-dec p q =
@@ -12,15 +13,18 @@ PortIdentity-dec p q =
     (λ e. (ap (λ (r : PortIdentity). r.clock) e, ap (λ (r : PortIdentity). r.port) e))
     (dec_both (ℕ_discrete p.clock q.clock) (ℕ_discrete p.port q.port))
 
+-- whether two links name the same ports in the same order
 Link-dec : (l k : Link) → Dec (l ≡ k)
 Link-dec l k =
     dec_iff (λ e i. record { a = e.0 i; b = e.1 i }) (λ e. (ap (λ (r : Link). r.a) e, ap (λ (r : Link). r.b) e))
     (dec_both (PortIdentity-dec l.a k.a) (PortIdentity-dec l.b k.b))
 
+-- whether a link is in a list
 In-links-dec : (l : Link) (ls : List Link) → Dec (In l ls)
 In-links-dec l [] = no (λ h. h)
 In-links-dec l (k ∷ ls) = dec_either (Link-dec l k) (In-links-dec l ls)
 
+-- whether a link joins two ports
 pub Joins-dec : (g : Snapshot) (p q : PortIdentity) → Dec (Joins g p q)
 Joins-dec g p q =
     dec_either (In-links-dec (record { a = p; b = q }) g.links) (In-links-dec (record { a = q; b = p }) g.links)
@@ -43,11 +47,13 @@ IsLinked-dec g p =
 abbrev Crosses : ℕ → ℕ → Link → Type 0
 Crosses v w l = ((l.a.clock ≡ v) × (l.b.clock ≡ w)) ⊎ ((l.b.clock ≡ v) × (l.a.clock ≡ w))
 
+-- whether it does
 Crosses-dec : (v w : ℕ) (l : Link) → Dec (Crosses v w l)
 Crosses-dec v w l =
     dec_either (dec_both (ℕ_discrete l.a.clock v) (ℕ_discrete l.b.clock w))
     (dec_both (ℕ_discrete l.b.clock v) (ℕ_discrete l.a.clock w))
 
+-- whether a link joins two systems
 pub Adjacent-dec : (g : Snapshot) (v w : ℕ) → Dec (Adjacent g v w)
 Adjacent-dec g v w = dec_iff over back (any_dec (Crosses v w) g.links (λ l h. Crosses-dec v w l))
   where

@@ -10,6 +10,7 @@ pub Joins-sym : (g : Snapshot) (p q : PortIdentity) → Joins g p q → Joins g 
 Joins-sym g p q (inl h) = inr h
 Joins-sym g p q (inr h) = inl h
 
+-- neighbours are each other's
 pub Adjacent-sym : (g : Snapshot) (v w : ℕ) → Adjacent g v w → Adjacent g w v
 Adjacent-sym g v w (m, n, joins) =
     (n, m, Joins-sym g (port_of v m) (port_of w n) joins)
@@ -20,6 +21,7 @@ Joins-clock g p q wf joins =
     let at = wf.ends p q joins in
     subst (λ v. In v (clocks g)) at.2.clock (In-map (λ (s : System). s.clock) at.0 g.systems at.1)
 
+-- a neighbour is a system
 pub Adjacent-clock : (g : Snapshot) (v w : ℕ) → IsWellFormed g → Adjacent g v w → In w (clocks g)
 Adjacent-clock g v w wf (m, n, joins) =
     Joins-clock g (port_of w n) (port_of v m) wf (Joins-sym g (port_of v m) (port_of w n) joins)
@@ -40,6 +42,7 @@ link_ends (l ∷ ls) = l.a ∷ l.b ∷ link_ends ls
 abbrev JoinedIn : List Link → PortIdentity → PortIdentity → Type 0
 JoinedIn ls p q = In (record { a = p; b = q }) ls ⊎ In (record { a = q; b = p }) ls
 
+-- a joined port is one of the ends
 In-link_ends : (ls : List Link) (p q : PortIdentity) → JoinedIn ls p q → In p (link_ends ls)
 In-link_ends [] p q (inl h) = absurd h
 In-link_ends [] p q (inr h) = absurd h
@@ -52,6 +55,7 @@ In-link_ends (l ∷ ls) p q (inr (inr h)) = inr (inr (In-link_ends ls p q (inr h
 Place : Link → List Link → PortIdentity → PortIdentity → Type 0
 Place l ls p q = ((p ≡ l.a) × (q ≡ l.b)) ⊎ (((p ≡ l.b) × (q ≡ l.a)) ⊎ JoinedIn ls p q)
 
+-- a port that joins has its place
 place : (l : Link) (ls : List Link) (p q : PortIdentity) → JoinedIn (l ∷ ls) p q → Place l ls p q
 unfolding Place
 place l ls p q (inl (inl e)) = inl (ap (λ (k : Link). k.a) e, ap (λ (k : Link). k.b) e)
@@ -59,6 +63,7 @@ place l ls p q (inl (inr h)) = inr (inr (inl h))
 place l ls p q (inr (inl e)) = inr (inl (ap (λ (k : Link). k.b) e, ap (λ (k : Link). k.a) e))
 place l ls p q (inr (inr h)) = inr (inr (inr h))
 
+-- where all ends of the list differ, a port has one other end
 one_link_of : (ls : List Link) → Different (link_ends ls) → (p q r : PortIdentity) → JoinedIn ls p q
     → JoinedIn ls p r → q ≡ r
 unfolding Place

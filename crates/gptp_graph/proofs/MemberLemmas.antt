@@ -26,10 +26,6 @@ same_image f x y (z ∷ zs) d (inr h) (inl b) e =
     absurd (d.0 (subst (λ w. In w (map f zs)) (e ∙ ap f b) (In-map f x zs h)))
 same_image f x y (z ∷ zs) d (inr h) (inr k) e = same_image f x y zs d.1 h k e
 
-pub length-map : {X Y : Type 0} (f : X → Y) (xs : List X) → length (map f xs) ≡ length xs
-length-map f [] = refl
-length-map f (x ∷ xs) = ap suc (length-map f xs)
-
 -- without a member the list is one shorter, and keeps all others
 pub dropped : {X : Type 0} (x : X) (ys : List X) → In x ys
     → (zs : List X) × (length ys ≡ suc (length zs)) × ((z : X) → In z ys → (z ≡ x → ⊥) → In z zs)

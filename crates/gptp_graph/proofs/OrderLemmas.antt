@@ -5,11 +5,13 @@ use Rattle.gptp_graph.specs.Members.{In}
 use Rattle.gptp_graph.specs.Order.{IsLower}
 use Rattle.gptp_graph.proofs.DecisionLemmas.{dec_both, dec_either}
 
+-- no list is lower than itself
 pub IsLower-irrefl : (xs : List ℕ) → IsLower xs xs → ⊥
 IsLower-irrefl [] h = h
 IsLower-irrefl (x ∷ xs) (inl below) = absurd (omega arith)
 IsLower-irrefl (x ∷ xs) (inr (e, h)) = IsLower-irrefl xs h
 
+-- what is lower than a lower list is lower
 pub IsLower-trans : (xs ys zs : List ℕ) → IsLower xs ys → IsLower ys zs → IsLower xs zs
 IsLower-trans xs [] zs h k = absurd h
 IsLower-trans xs (y ∷ ys) [] h k = k
@@ -19,6 +21,7 @@ IsLower-trans (x ∷ xs) (y ∷ ys) (z ∷ zs) (inl a) (inr (e, k)) = inl (omega
 IsLower-trans (x ∷ xs) (y ∷ ys) (z ∷ zs) (inr (e, h)) (inl b) = inl (omega arith)
 IsLower-trans (x ∷ xs) (y ∷ ys) (z ∷ zs) (inr (d, h)) (inr (e, k)) = inr (d ∙ e, IsLower-trans xs ys zs h k)
 
+-- whether a list is lower than another
 unfoldable pub IsLower-dec : (xs ys : List ℕ) → Dec (IsLower xs ys)
 unfolding dec_lt ℕ_discrete dec_both dec_either
 IsLower-dec xs [] = no (λ h. h)

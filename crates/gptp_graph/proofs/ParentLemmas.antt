@@ -19,6 +19,7 @@ seen (l ∷ ls) =
     ∷ record { own_port = l.b.port; clock = l.a.clock; port = l.a.port }
     ∷ seen ls
 
+-- each link of v is among them as v sees it
 In-seen : (v : ℕ) (l : ParentLink) (ls : List Link)
     → In (record { a = port_of v l.own_port; b = port_of l.clock l.port }) ls
     ⊎ In (record { a = port_of l.clock l.port; b = port_of v l.own_port }) ls

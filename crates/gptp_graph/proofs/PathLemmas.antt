@@ -81,6 +81,7 @@ path_bounded g v w us wf p =
 pub IsPath-self : (g : Snapshot) (v : ℕ) → In v (clocks g) → IsPath g v v []
 IsPath-self g v here = record { begins = here; route = refl; different = (λ h. h, tt) }
 
+-- a system reaches itself
 pub Reaches-self : (g : Snapshot) (v : ℕ) → In v (clocks g) → Reaches g v v
 Reaches-self g v here = ([], IsPath-self g v here)
 
@@ -88,15 +89,18 @@ Reaches-self g v here = ([], IsPath-self g v here)
 pub Reaches-route : (g : Snapshot) (v w : ℕ) (us : List ℕ) → In v (clocks g) → Route g v w us → Reaches g v w
 Reaches-route g v w us here r = let p = path_of g v w us here r in (p.0, p.1)
 
+-- what a reached system reaches is reached
 pub Reaches-trans : (g : Snapshot) (u v w : ℕ) → Reaches g u v → Reaches g v w → Reaches g u w
 Reaches-trans g u v w (us, p) (ts, q) =
     Reaches-route g u w (us ++ ts) p.begins (Route-append g u v w us ts p.route q.route)
 
+-- what is reached reaches back
 pub Reaches-sym : (g : Snapshot) (v w : ℕ) → IsWellFormed g → Reaches g v w → Reaches g w v
 Reaches-sym g v w wf (us, p) =
     let back = Route-reverse g v w us p.route in
     Reaches-route g w v back.0 (Route-end g v w us wf p.begins p.route) back.1
 
+-- what is reached is a system
 pub Reaches-clock : (g : Snapshot) (v w : ℕ) → IsWellFormed g → Reaches g v w → In w (clocks g)
 Reaches-clock g v w wf (us, p) = Route-end g v w us wf p.begins p.route
 

@@ -47,6 +47,7 @@ RoleBy-map L S M S' M' Slave s s' m m' h = (h.0, s h.1)
 RoleBy-map L S M S' M' Master s s' m m' h = (h.0, (λ x. h.1 (s' x)), m h.2)
 RoleBy-map L S M S' M' Passive s s' m m' h = (h.0, (λ x. h.1 (s' x)), (λ x. h.2 (m' x)))
 
+-- whether a port is a slave port
 IsSlavePort-dec : (g : Snapshot) (p : PortIdentity) (d : ℕ) → IsWellFormed g → IsDistance g p.clock d
     → Dec (IsSlavePort g p)
 IsSlavePort-dec g p zero wf here = no (λ (l, is, e). no_parent_at_zero g p.clock l wf here is)
@@ -57,6 +58,7 @@ IsSlavePort-dec g p (suc d) wf here = by_parent (parent_exists g p.clock d wf he
         dec_iff (λ e. (l, is, e)) (λ (k, h, e). ap (λ (x : ParentLink). x.own_port)
         (IsParent-unique g p.clock l k is h) ∙ e) (ℕ_discrete l.own_port p.port)
 
+-- whether a port is a master port
 IsMasterPort-dec : (g : Snapshot) (p : PortIdentity) → IsWellFormed g → Dec (IsLinked g p)
     → Dec (IsMasterPort g p)
 IsMasterPort-dec g p wf (no out) = no (λ h. out (h.other, h.joins))

@@ -101,6 +101,7 @@ module _ (g : Snapshot) (lines : List SystemLine) (wf : IsWellFormed g) (h : Pas
     route : (us : List ℕ) × Route g best.clock line.clock us × (length us ≡ line.steps)
     least : (us : List ℕ) → Route g best.clock line.clock us → line.steps ≤ length us
 
+  -- each line has such a best: the system at the top
   stated_best : (line : SystemLine) → In line lines → HasStatedBest line
   stated_best line stated =
       let t = climb line.steps line stated refl in

@@ -49,11 +49,13 @@ same_steps g lines line d h stated (other, k, c, e) =
 abbrev pub StateDistances : Snapshot → List SystemLine → Type 0
 StateDistances g lines = (line : SystemLine) → In line lines → IsDistance g line.clock line.steps
 
+-- then what is stated of a clock is its distance
 pub distance_of_stated : (g : Snapshot) (lines : List SystemLine) (v d : ℕ) → StateDistances g lines
     → StatesSteps lines v d → IsDistance g v d
 distance_of_stated g lines v d are (line, stated, c, e) =
     subst (λ w. IsDistance g w d) c (subst (IsDistance g line.clock) e (are line stated))
 
+-- and a distance is stated
 pub stated_of_distance : (g : Snapshot) (lines : List SystemLine) (v d : ℕ) → IsWellFormed g
     → HasItsSystems g lines → StateDistances g lines → IsDistance g v d → StatesSteps lines v d
 stated_of_distance g lines v d wf h are at =
@@ -79,6 +81,7 @@ master_of_stated g lines line n are stated m = record {
   nearer = m.nearer;
 }
 
+-- a master port is stated to be one
 pub stated_of_master : (g : Snapshot) (lines : List SystemLine) (line : SystemLine) (n : ℕ) → IsWellFormed g
     → HasItsSystems g lines → StateDistances g lines → In line lines
     → IsMasterPort g (port_of line.clock n) → StatesMaster g lines line n
@@ -97,6 +100,7 @@ pub slave_of_stated : (g : Snapshot) (line : SystemLine) (n : ℕ) → IsParentI
     → StatesSlave line n → IsSlavePort g (port_of line.clock n)
 slave_of_stated g line n parent (l, e, own) = (l, subst (IsParentIfAny g line.clock) e parent, own)
 
+-- the slave port is stated to be it
 pub stated_of_slave : (g : Snapshot) (line : SystemLine) (n : ℕ) → IsParentIfAny g line.clock line.parent
     → IsSlavePort g (port_of line.clock n) → StatesSlave line n
 stated_of_slave g line n parent (l, is, own) = by_parent line.parent refl parent

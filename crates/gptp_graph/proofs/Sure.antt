@@ -12,10 +12,12 @@ Sure A = (test : Bool) × (test ≡ true → A)
 pub failed : {A : Type 0} → false ≡ true → A
 failed e = absurd cc
 
+-- both of two tests that are true together
 pub and_true : (a b : Bool) → (a && b) ≡ true → (a ≡ true) × (b ≡ true)
 and_true true b e = (refl, e)
 and_true false b e = failed e
 
+-- one of two tests
 pub or_true : (a b : Bool) → (a || b) ≡ true → (a ≡ true) ⊎ (b ≡ true)
 or_true true b e = inl refl
 or_true false b e = inr e
@@ -24,9 +26,11 @@ or_true false b e = inr e
 abbrev pub so : {A B : Type 0} → (A → B) → Sure A → Sure B
 so f a = (a.0, λ e. f (a.1 e))
 
+-- two facts
 abbrev pub both : {A B : Type 0} → Sure A → Sure B → Sure (A × B)
 both a b = (a.0 && b.0, λ e. let h = and_true a.0 b.0 e in (a.1 h.0, b.1 h.1))
 
+-- one of two facts
 abbrev pub either : {A B : Type 0} → Sure A → Sure B → Sure (A ⊎ B)
 either a b = (a.0 || b.0, λ e. elim (or_true a.0 b.0 e) [ inl h ↦ inl (a.1 h) | inr h ↦ inr (b.1 h) ])
 

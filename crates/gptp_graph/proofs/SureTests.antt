@@ -95,6 +95,7 @@ module _ (g : Snapshot) (lines : List SystemLine) where
       (for_some (λ line. (line.clock ≡ v) × (line.steps ≡ d)) lines
       (λ line. both (decided (ℕ_discrete line.clock v)) (decided (ℕ_discrete line.steps d))))
 
+  -- the systems are those of the snapshot
   abbrev pub sure_systems : Sure (PassesSystems g lines)
   sure_systems =
       so (λ h. record { different = h.0; all = h.1.0; no_other = h.1.1.0; ports = h.1.1.1 })
@@ -122,14 +123,17 @@ module _ (g : Snapshot) (lines : List SystemLine) where
           for_lines_of (λ s line. port_numbers line ≡ range_with_len 1 s.ports)
           (λ s line. sure_same (port_numbers line) (range_with_len 1 s.ports))
 
+  -- all steps are below 255
   abbrev pub sure_too_far : Sure (PassesTooFar lines)
   sure_too_far = for_all (λ line. line.steps < 255) lines (λ line. decided (dec_lt line.steps 255))
 
+  -- a system with no parent is its own root
   abbrev pub sure_root : Sure (PassesRoot g lines)
   sure_root =
       for_lines_of (λ s line. line.parent ≡ None → line.root ≡ s.identity)
       (λ s line. if_none line.parent (line.root ≡ s.identity) (decided (ℕ_discrete line.root s.identity)))
 
+  -- no parent is stated with steps 0 alone
   abbrev pub sure_steps_stated : Sure (PassesSteps lines)
   sure_steps_stated =
       so (λ h. record { none = (λ line at e. (h line at).0 e); some = λ line l at e. (h line at).1 l e })
@@ -138,6 +142,7 @@ module _ (g : Snapshot) (lines : List SystemLine) where
       (λ line. both (if_none line.parent (line.steps ≡ 0) (decided (ℕ_discrete line.steps 0)))
       (if_parent line.parent (λ l. 0 < line.steps) (λ l. decided (dec_lt 0 line.steps)))))
 
+  -- the parent is over a link, with steps one less
   abbrev pub sure_parent : Sure (PassesParent g lines)
   sure_parent = so (λ h line l at e. h line at l e)
       (for_all (λ line. (l : ParentLink) → line.parent ≡ Some l → IsUp line l) lines
@@ -153,6 +158,7 @@ module _ (g : Snapshot) (lines : List SystemLine) where
           (λ other. both (decided (ℕ_discrete other.clock l.clock))
           (decided (ℕ_discrete (other.steps + 1) line.steps)))))
 
+  -- over a link roots agree, and steps differ by one at most
   abbrev pub sure_link : Sure (PassesLink g lines)
   sure_link =
       so (λ h one other a b (m, n, joins). h one a other b (port_of one.clock m)
@@ -178,6 +184,7 @@ module _ (g : Snapshot) (lines : List SystemLine) where
           (λ p q. where_holds (ℕ_discrete p.clock one.clock)
           (where_holds (ℕ_discrete q.clock other.clock) (agree one other)))
 
+  -- no identity is lower than its root
   abbrev pub sure_identity : Sure (PassesIdentity g lines)
   sure_identity =
       for_lines_of (λ s line. line.root ≤ s.identity) (λ s line. decided (dec_le line.root s.identity))
@@ -186,6 +193,7 @@ module _ (g : Snapshot) (lines : List SystemLine) where
   abbrev pub seen : PortIdentity → PortIdentity → ParentLink
   seen p q = record { own_port = p.port; clock = q.clock; port = q.port }
 
+  -- no link to steps one less is lower than the parent's
   abbrev pub sure_tie : Sure (PassesTie g lines)
   sure_tie =
       so (λ h line l other d at e joins (up, up_at, c, steps) less. h line at l e
@@ -211,7 +219,7 @@ module _ (g : Snapshot) (lines : List SystemLine) where
           (where_holds (ℕ_discrete (up.steps + 1) line.steps)
           (denied (IsLower-dec (key (seen p q)) (key l)))))))
 
-  -- the port is the own port of the stated parent, and isn't
+  -- the port is the own port of the stated parent
   abbrev pub slave_port : (line : SystemLine) (n : ℕ) → Sure (StatesSlave line n)
   slave_port line n = of_parent line.parent
     where
@@ -219,6 +227,7 @@ module _ (g : Snapshot) (lines : List SystemLine) where
       of_parent None = (false, failed)
       of_parent (Some l) = so (λ e. (l, refl, e)) (decided (ℕ_discrete l.own_port n))
 
+  -- the port isn't the own port of the stated parent
   abbrev pub no_slave_port : (line : SystemLine) (n : ℕ) → Sure (StatesSlave line n → ⊥)
   no_slave_port line n =
       so (λ h (l, e, own). h l e own)
@@ -228,12 +237,13 @@ module _ (g : Snapshot) (lines : List SystemLine) where
   abbrev pub IsNearer : SystemLine → SystemLine → PortIdentity → Type 0
   IsNearer line other q = (line.steps < other.steps) ⊎ ((line.steps ≡ other.steps) × (line.clock < q.clock))
 
+  -- whether it is so
   abbrev pub nearer_dec : (line other : SystemLine) (q : PortIdentity) → Dec (IsNearer line other q)
   nearer_dec line other q =
       dec_either (dec_lt line.steps other.steps)
       (dec_both (ℕ_discrete line.steps other.steps) (dec_lt line.clock q.clock))
 
-  -- the port is a master port by the stated steps, and isn't
+  -- the port is a master port by the stated steps
   abbrev pub master_port : (line : SystemLine) (n : ℕ) → Sure (StatesMaster g lines line n)
   master_port line n =
       so (λ (q, joins, (other, at, (c, nearer))). record {
@@ -248,6 +258,7 @@ module _ (g : Snapshot) (lines : List SystemLine) where
       (λ q. for_some (λ other. (other.clock ≡ q.clock) × IsNearer line other q) lines
       (λ other. both (decided (ℕ_discrete other.clock q.clock)) (decided (nearer_dec line other q)))))
 
+  -- the port is no master port by the stated steps
   abbrev pub no_master_port : (line : SystemLine) (n : ℕ) → Sure (StatesMaster g lines line n → ⊥)
   no_master_port line n = so (λ h m. refuted h m m.is_there)
       (for_links g (λ p q. p ≡ port_of line.clock n → (other : SystemLine) → In other lines
@@ -262,9 +273,11 @@ module _ (g : Snapshot) (lines : List SystemLine) where
       refuted h m (other, at, c, e) = h (port_of line.clock n) m.other m.joins refl other at c
           (subst (λ d. (line.steps < d) ⊎ ((line.steps ≡ d) × (line.clock < m.other.clock))) (sym e) m.nearer)
 
+  -- a link is at the port
   abbrev pub sure_linked : (p : PortIdentity) → Sure (IsLinked g p)
   sure_linked p = so (λ (q, joins, u). (q, joins)) (for_end g p (λ q. Unit {0}) (λ q. (true, λ e. tt)))
 
+  -- each role is the stated one
   abbrev pub sure_role : Sure (PassesRole g lines)
   sure_role = so (λ h line port at i. h line at port i)
       (for_all (λ line. (port : PortLine) → In port line.ports → HasStatedRole g lines line port.number port.role) lines

@@ -1,14 +1,15 @@
 -- Systems of a snapshot by their clocks and identities.
 use Rattle.std.proofs.Common.{◌≡◌, ◌≤◌, ℕ, List, length, ap, subst, sym, ◌∙◌, ◌%◌, ◌^◌}
+use Rattle.std.proofs.lemmas.List.{length-map}
 use Rattle.gptp_graph.specs.Members.{In, Different}
 use Rattle.gptp_graph.specs.Snapshot.{System, Snapshot, IsWellFormed, clocks}
-use Rattle.gptp_graph.proofs.MemberLemmas.{In-map, from_map, same_image, pigeonhole, length-map}
+use Rattle.gptp_graph.proofs.MemberLemmas.{In-map, from_map, same_image, pigeonhole}
 
 -- different clocks of a snapshot are no more than it has systems
 pub length-different : (g : Snapshot) (vs : List ℕ) → Different vs → ((v : ℕ) → In v vs → In v (clocks g))
     → length vs ≤ length g.systems
 length-different g vs d h =
-    subst (λ n. length vs ≤ n) (length-map (λ (s : System). s.clock) g.systems) (pigeonhole vs (clocks g) d h)
+    subst (λ n. length vs ≤ n) (length-map g.systems (λ (s : System). s.clock)) (pigeonhole vs (clocks g) d h)
 
 -- a system's clock is one of the clocks
 pub In-clocks : (g : Snapshot) (s : System) → In s g.systems → In s.clock (clocks g)

@@ -27,6 +27,7 @@ ring_network = record {
       ∷ [];
 }
 
+-- 3 and 4 follow 2
 abbrev pub ring_lines : List SystemLine
 ring_lines =
     record {
@@ -75,6 +76,7 @@ parallel_network = record {
       ∷ [];
 }
 
+-- 2 follows 1 by its port 2, which leads to port 1
 abbrev pub parallel_lines : List SystemLine
 parallel_lines =
     record {
@@ -114,6 +116,7 @@ triangle_network = record {
       ∷ [];
 }
 
+-- 2 and 3 follow 1
 abbrev pub triangle_lines : List SystemLine
 triangle_lines =
     record {
@@ -166,6 +169,7 @@ square_network = record {
       ∷ [];
 }
 
+-- all follow 4
 abbrev pub square_lines : List SystemLine
 square_lines =
     record {

@@ -20,6 +20,7 @@ pub record Link : Type 0 where
   pub a : PortIdentity
   pub b : PortIdentity
 
+-- the live systems, and the links that are up between two of them
 pub record Snapshot : Type 0 where
   pub systems : List System
   pub links : List Link
