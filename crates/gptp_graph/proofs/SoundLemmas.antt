@@ -116,18 +116,18 @@ module _ (g : Snapshot) (lines : List SystemLine) (wf : IsWellFormed g) (h : Pas
         is_best = record {
           live = of.live;
           reached = Reaches-route g line.clock best.clock us here to_best;
-          least = no_lower line stated best root;
+          least = no_lower best root;
         };
         root = root;
         route = (down.0, down.1, down.2 ∙ long);
         least =
-            λ ts r. no_shorter line stated t.top t.stated t.alone ts
+            λ ts r. no_shorter t.top t.stated t.alone ts
             (subst (λ v. Route g v line.clock ts) (sym of.clock) r);
       }
     where
-      no_lower : (line : SystemLine) → In line lines → (best : System) → line.root ≡ best.identity
+      no_lower : (best : System) → line.root ≡ best.identity
           → (s : System) → In s g.systems → Reaches g line.clock s.clock → best.identity ≤ s.identity
-      no_lower line stated best root s live (us, p) =
+      no_lower best root s live (us, p) =
           let (other, of) = h.systems.all s live in
           let same : line.root ≡ other.root =
           (along us line other stated of.stated
@@ -135,9 +135,9 @@ module _ (g : Snapshot) (lines : List SystemLine) (wf : IsWellFormed g) (h : Pas
           let below : other.root ≤ s.identity = h.identity s other of in
           omega arith
 
-      no_shorter : (line : SystemLine) → In line lines → (top : SystemLine) → In top lines → top.parent ≡ None
+      no_shorter : (top : SystemLine) → In top lines → top.parent ≡ None
           → (us : List ℕ) → Route g top.clock line.clock us → line.steps ≤ length us
-      no_shorter line stated top top_stated alone us r =
+      no_shorter top top_stated alone us r =
           let grown : line.steps ≤ top.steps + length us = (along us top line top_stated stated r).1 in
           let zero : top.steps ≡ 0 = h.steps.none top top_stated alone in
           omega arith
