@@ -1,5 +1,5 @@
--- Members of lists: images, removal, and the pigeonhole principle.
-use Rattle.std.proofs.Common.{◌≡◌, ◌≤◌, suc, List, [], ◌∷◌, length, map, refl, sym, ap, subst, ◌∙◌, inl, inr, arith}
+-- Members of lists: images, places, removal, and the pigeonhole principle.
+use Rattle.std.proofs.Common.{◌≡◌, ◌≤◌, ℕ, zero, suc, List, [], ◌∷◌, length, map, refl, sym, ap, subst, ◌∙◌, inl, inr, arith, Some, slice_get}
 use Rattle.gptp_graph.specs.Members.{In, Different}
 
 -- a member's image is a member of the image
@@ -45,3 +45,15 @@ pigeonhole (x ∷ xs) ys d h =
     pigeonhole xs r.0 d.1 (λ z k. r.2 z (h z (inr k)) (λ e. d.0 (subst (λ w. In w xs) e k))) in
     let longer : length ys ≡ suc (length r.0) = r.1 in
     omega arith
+
+-- what stands at a place is a member
+pub In-slice_get : {X : Type 0} (x : X) (xs : List X) (i : ℕ) → slice_get xs i ≡ Some x → In x xs
+In-slice_get x [] i e = absurd cc
+In-slice_get x (y ∷ ys) zero e = inl cc
+In-slice_get x (y ∷ ys) (suc i) e = inr (In-slice_get x ys i e)
+
+-- a member stands at some place
+pub slice_get-In : {X : Type 0} (x : X) (xs : List X) → In x xs → (i : ℕ) × (slice_get xs i ≡ Some x)
+slice_get-In x [] h = absurd h
+slice_get-In x (y ∷ ys) (inl e) = (0, ap (λ z. Some z) (sym e))
+slice_get-In x (y ∷ ys) (inr h) = let r = slice_get-In x ys h in (suc r.0, r.1)

@@ -1,4 +1,4 @@
--- A system that isn't best has one parent, and the parent's port is a master port.
+-- A system that is not the best of its component has one parent, and the best has none.
 use Rattle.std.proofs.Common.{◌≡◌, ◌⊎◌, ℕ, suc, List, [], ◌∷◌, refl, subst, inl, inr, arith}
 use native.Mathlib.Decide.{ℕ_discrete}
 use Rattle.gptp_graph.specs.Members.{In}
