@@ -39,12 +39,6 @@ pub same_line : (g : Snapshot) (lines : List SystemLine) (one two : SystemLine) 
     → In one lines → In two lines → one.clock ≡ two.clock → one ≡ two
 same_line g lines one two h a b e = same_image (λ (l : SystemLine). l.clock) one two lines h.different a b e
 
--- a line's steps are what is stated of its clock
-pub same_steps : (g : Snapshot) (lines : List SystemLine) (line : SystemLine) (d : ℕ) → HasItsSystems g lines
-    → In line lines → StatesSteps lines line.clock d → d ≡ line.steps
-same_steps g lines line d h stated (other, k, c, e) =
-    sym e ∙ ap (λ (l : SystemLine). l.steps) (same_line g lines other line h k stated c)
-
 -- all stated steps are distances
 abbrev pub StateDistances : Snapshot → List SystemLine → Type 0
 StateDistances g lines = (line : SystemLine) → In line lines → IsDistance g line.clock line.steps

@@ -88,13 +88,6 @@ module _ (g : Snapshot) (lines : List SystemLine) where
   if_parent None P t = (true, λ e l h. none_is_none l (sym h))
   if_parent (Some k) P t = ((t k).0, λ e l h. subst P (same_some k l h) ((t k).1 e))
 
-  -- these steps are stated of the system
-  abbrev pub sure_steps : (v d : ℕ) → Sure (StatesSteps lines v d)
-  sure_steps v d =
-      so (λ (line, at, (c, e)). (line, at, c, e))
-      (for_some (λ line. (line.clock ≡ v) × (line.steps ≡ d)) lines
-      (λ line. both (decided (ℕ_discrete line.clock v)) (decided (ℕ_discrete line.steps d))))
-
   -- the systems are those of the snapshot
   abbrev pub sure_systems : Sure (PassesSystems g lines)
   sure_systems =
