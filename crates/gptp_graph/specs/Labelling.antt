@@ -1,0 +1,44 @@
+-- What a certificate states of a network: for each system the root that it follows, its steps, its parent and the
+-- role of each port (profile).
+use Rattle.std.specs.Prelude.{◌≡◌, ℕ, List, Option, map}
+use Rattle.std.specs.List.{range_with_len}
+use Rattle.gptp_graph.specs.Members.{In, Different}
+use Rattle.gptp_graph.specs.Snapshot.{System, Snapshot}
+use Rattle.gptp_graph.specs.Parent.{ParentLink}
+use Rattle.gptp_graph.specs.SettledRole.{Role}
+
+-- a port line
+pub record PortLine : Type 0 where
+  pub number : ℕ
+  pub role : Role
+
+-- a system line with the port lines after it: the root is a systemIdentity, the steps are the stepsRemoved
+pub record SystemLine : Type 0 where
+  pub clock : ℕ
+  pub root : ℕ
+  pub steps : ℕ
+  pub parent : Option ParentLink
+  pub ports : List PortLine
+
+-- the clocks of the lines
+abbrev pub line_clocks : List SystemLine → List ℕ
+line_clocks lines = map (λ (line : SystemLine). line.clock) lines
+
+-- the numbers of a line's ports
+abbrev pub port_numbers : SystemLine → List ℕ
+port_numbers line = map (λ (port : PortLine). port.number) line.ports
+
+-- the line is that of the live system s
+pub record IsLineOf (g : Snapshot) (lines : List SystemLine) (s : System) (line : SystemLine) : Type 0 where
+  pub live : In s g.systems
+  pub stated : In line lines
+  pub clock : line.clock ≡ s.clock
+
+-- the systems are those of the snapshot, with one line each, in whichever order, and the ports of each are all its
+-- ports, from 1 on
+pub record HasItsSystems (g : Snapshot) (lines : List SystemLine) : Type 0 where
+  pub different : Different (line_clocks lines)
+  pub all : (s : System) → In s g.systems → (line : SystemLine) × IsLineOf g lines s line
+  pub no_other : (line : SystemLine) → In line lines → (s : System) × IsLineOf g lines s line
+  pub ports : (s : System) (line : SystemLine) → IsLineOf g lines s line
+      → port_numbers line ≡ range_with_len 1 s.ports

@@ -1,0 +1,17 @@
+pub mod Members
+pub mod Order
+pub mod Snapshot
+pub mod Path
+pub mod Best
+pub mod Distance
+pub mod Parent
+pub mod SettledRole
+pub mod Labelling
+pub mod SettledChoice
+pub mod LocalTests
+pub mod Once
+pub mod DistanceLaws
+pub mod ExistenceLaws
+pub mod TreeLaws
+pub mod LabellingLaws
+pub mod Examples
