@@ -1,8 +1,8 @@
 -- Selecting again changes nothing, and one port is the Slave.
-use Rattle.std.proofs.Common.{◌≡◌, ◌≢◌, ◌⊎◌, ℕ, ◌+◌, ◌<◌, Bool, true, false, List, [], ◌∷◌, Option, Some, None, refl, sym, ap, ◌∙◌, inl, inr, arith, eq-eqb}
-use Rattle.std.specs.Prelude.{◌==◌, if◌then◌else◌, IsSome}
+use Rattle.std.proofs.Common.{◌≡◌, ◌≢◌, ◌⊎◌, ℕ, suc, ◌+◌, ◌-◌, ◌<◌, ◌≤◌, Bool, true, false, List, [], ◌∷◌, length, Option, Some, None, refl, sym, ap, ◌∙◌, inl, inr, arith, eq-eqb}
+use Rattle.std.specs.Prelude.{◌==◌, if◌then◌else◌, IsSome, slice_get}
 use Rattle.std.specs.List.{AllByRecursion}
-use Rattle.std.specs.Option.{ForSome, option_map_or}
+use Rattle.std.specs.Option.{ForSome, option_and_then, option_map_or}
 use Rattle.std.specs.Cmp.{nat_cmp_is}
 use Rattle.std.specs.declared.cmp.Ordering.TheVariants.{Less, Equal}
 use Rattle.std.specs.Ordering.{nat_cmp}
@@ -20,6 +20,7 @@ use Rattle.gptp_roles.specs.declared.role.Role.TheVariants.{Disabled, Master, Sl
 use Rattle.gptp_roles.specs.Choice.{ArePlaced, IsChosen, IsIn, IsPlaced, path_vectors, slave_port}
 use Rattle.gptp_roles.specs.Role.{each_from, each_port, held_after, is_fresh, is_master, is_slave, role_of}
 use Rattle.gptp_roles.specs.Selection.{HasOneSlave, IsAtRest, clock_of, slaves}
+use Rattle.gptp_roles.specs.SystemTrace.{SlaveReceived}
 use Rattle.gptp_roles.proofs.ChoiceLemmas.{from_port, port_of_path}
 
 -- a number equals itself
@@ -108,7 +109,7 @@ none_fresh v clock port [] = tt
 none_fresh v clock port (h ∷ hs) = (is_fresh-held_after v clock port h, none_fresh v clock (port + 1) hs)
 
 -- what the ports hold was received where it is
-placed_after : (v : Vector) (clock port : ℕ) (hs : List Held) → ArePlaced port hs → ArePlaced port (each_from (held_after v clock) port hs)
+pub placed_after : (v : Vector) (clock port : ℕ) (hs : List Held) → ArePlaced port hs → ArePlaced port (each_from (held_after v clock) port hs)
 placed_after v clock port [] placed = tt
 placed_after v clock port (h ∷ hs) placed = (here (received-held_after v clock port h), placed_after v clock (port + 1) hs placed.1)
   where
@@ -258,3 +259,36 @@ has_one_slave identity held v placed chosen = record {
         let within = port_of_path 1 held v placed path in
         let some : (v.receiver == 0) ≡ false = grind (arith, nat_tests) in
         (rw some refl, one_slave v (clock_of identity) 1 held placed path)
+
+received_there-step : (v : Vector) (port : ℕ) (h : Held) (hs : List Held) → ArePlaced port (h ∷ hs)
+    → ((r : Reception) × (received h ≡ Some r) × (v ≡ path_of r.vector)) ⊎ IsIn v (path_vectors hs)
+    → (IsIn v (path_vectors hs) → (r : Reception) × (option_and_then received (slice_get hs (v.receiver - (port + 1))) ≡ Some r) × (length r.path ≤ 255))
+    → (r : Reception) × (option_and_then received (slice_get (h ∷ hs) (v.receiver - port)) ≡ Some r) × (length r.path ≤ 255)
+received_there-step v port h hs placed (inl (r, is, path)) others =
+    let here : v.receiver ≡ port = ap (λ (x : Vector). x.receiver) path ∙ (placed.0 r is).receiver in
+    let first : v.receiver - port ≡ 0 = omega arith in
+    (r, rw first is, (placed.0 r is).short)
+received_there-step v port h hs placed (inr there) others =
+    let above = port_of_path (port + 1) hs v placed.1 there in
+    let later : v.receiver - port ≡ suc (v.receiver - (port + 1)) = omega arith in
+    let ih = others there in
+    (ih.0, rw later ih.1, ih.2)
+
+-- a port whose path vector is chosen is a port that received, over at most 255 clocks
+received_there : (v : Vector) (port : ℕ) (hs : List Held) → ArePlaced port hs → IsIn v (path_vectors hs)
+    → (r : Reception) × (option_and_then received (slice_get hs (v.receiver - port)) ≡ Some r) × (length r.path ≤ 255)
+received_there v port [] placed member = absurd member
+received_there v port (h ∷ hs) placed member =
+    received_there-step v port h hs placed (from_port v h hs member) (received_there v (port + 1) hs placed.1)
+
+-- the Slave of a choice is a port that received, over at most 255 clocks
+pub slave_received : (identity : ℕ) (held : List Held) (v : Vector) → ArePlaced 1 held → IsChosen identity held v → SlaveReceived held (slave_port v)
+slave_received identity held v placed chosen = go chosen.member
+  where
+    go : IsIn v (system_of identity ∷ path_vectors held) → SlaveReceived held (slave_port v)
+    go (inl system) = let none : v.receiver ≡ 0 = ap (λ (x : Vector). x.receiver) system in rw none tt
+    go (inr path) =
+        let within = port_of_path 1 held v placed path in
+        let some : (v.receiver == 0) ≡ false = grind (arith, nat_tests) in
+        let there = received_there v 1 held placed path in
+        rw some (there.0, omega arith, there.1, there.2)

@@ -1,6 +1,6 @@
 -- Going over the ports one by one.
-use Rattle.std.proofs.Common.{◌≡◌, ℕ, ◌+◌, ◌-◌, ◌<◌, List, [], ◌∷◌, ◌++◌, length, get_or, set, take, drop, refl, sym, ap, ◌∙◌, append_assoc, arith}
-use Rattle.std.proofs.lemmas.List.{drop_more, get_or-append_right, length-take, set_at, take_more}
+use Rattle.std.proofs.Common.{◌≡◌, ℕ, ◌+◌, ◌-◌, ◌<◌, ◌≤◌, List, [], ◌∷◌, ◌++◌, length, get_or, set, take, drop, refl, sym, ap, ◌∙◌, append_assoc, arith}
+use Rattle.std.proofs.lemmas.List.{append-nil, drop_all, drop_more, get_or-append_right, length-take, set_at, take_all, take_more}
 use Rattle.gptp_receipt.specs.declared.held.Held.{Held}
 use Rattle.gptp_roles.specs.Role.{each_from, each_port}
 
@@ -47,3 +47,9 @@ set-half_done f hs i d y within =
     ap (λ (xs : List Held). set (each_port f (take i hs) ++ xs) i y) (drop_more hs i d within)
         ∙ set_at (each_port f (take i hs)) (get_or hs i d) (drop (i + 1) hs) y i (length-front f hs i within)
         ∙ sym (append_assoc (each_port f (take i hs)) (y ∷ []) (drop (i + 1) hs))
+
+-- all ports are done
+pub each_port-done : (f : ℕ → Held → Held) (hs : List Held) (i : ℕ) (xs : List Held) → length hs ≤ i → xs ≡ each_port f (take i hs) ++ drop i hs → xs ≡ each_port f hs
+each_port-done f hs i xs past so_far =
+    so_far ∙ ap (λ (ys : List Held). each_port f (take i hs) ++ ys) (drop_all i hs past) ∙ append-nil (each_port f (take i hs))
+        ∙ ap (λ (ys : List Held). each_port f ys) (take_all i hs past)

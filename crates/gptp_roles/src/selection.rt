@@ -5,6 +5,7 @@ ghost use Rattle.std.specs.Option.{ForSome};
 ghost use Rattle.gptp_receipt.specs.Held.{received};
 ghost use Rattle.gptp_roles.specs.Choice.{ArePlaced, IsChosen, slave_port, with_held};
 ghost use Rattle.gptp_roles.specs.Selection.{IsSelection};
+ghost use Rattle.gptp_roles.specs.SystemTrace.{SlaveReceived};
 
 use crate::role::{Role, assign};
 use arrayvec::ArrayVec;
@@ -39,7 +40,11 @@ pub struct Selected {
 pub fn select(identity: &Identity, held: &mut [Held]) -> Selected
     requires ports { length held.old ≤ PORTS }
     requires placed { ArePlaced 1 held.old }
-    ensures { IsSelection identity.now held.old result held.new }
+    ensures selection { IsSelection identity.now held.old result held.new }
+
+    // So the call can be made again, and the trace of the choice be asked for.
+    ensures placed { ArePlaced 1 held.new }
+    ensures slave { SlaveReceived held.new result.slave }
 {
     let chosen = best_vector(*identity, held);
     let clock = identity.clock();

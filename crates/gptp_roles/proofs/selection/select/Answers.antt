@@ -2,8 +2,10 @@ use Rattle.std.proofs.Common.{◌≡◌, ◌+◌, ◌++◌, List, ℕ, length, g
 use Rattle.std.proofs.lemmas.List.{length-take}
 use Rattle.gptp_receipt.specs.declared.held.Held.{Held}
 use Rattle.gptp_roles.specs.Role.{each_port, held_after, is_fresh, role_of}
+use Rattle.gptp_roles.specs.Selection.{clock_of}
 use Rattle.gptp_roles.proofs.ChoiceLemmas.{receiver_of_chosen}
-use Rattle.gptp_roles.proofs.RoleLemmas.{each_port-push, get_or-half_done, length-each_from, set-half_done}
+use Rattle.gptp_roles.proofs.RoleLemmas.{each_port-done, each_port-push, get_or-half_done, length-each_from, set-half_done}
+use Rattle.gptp_roles.proofs.RestLemmas.{at_rest, placed_after, slave_received}
 use Rattle.gptp_roles.proofs.selection.select.Goals as goal
 
 pub push-requires : goal.push-requires
@@ -47,3 +49,18 @@ pub slave_of-requires : goal.slave_of-requires
 slave_of-requires c =
     let within = receiver_of_chosen c.args.identity.now c.args.held.now c.best_vector-chosen.result c.requires.placed c.best_vector-chosen.ensures in
     omega (arith, c.requires.ports)
+
+pub returns-clause-placed : goal.returns-clause-placed
+returns-clause-placed c =
+    let after = held_after c.best_vector-chosen.result c.clock-clock.result in
+    let held = each_port-done after c.args.held.now c.loop-one.one-index c.loop-one.held c.loop-one-test.false c.loop-one.invariant.held in
+    rw held (placed_after c.best_vector-chosen.result c.clock-clock.result 1 c.args.held.now c.requires.placed)
+
+pub returns-clause-slave : goal.returns-clause-slave
+returns-clause-slave c =
+    let chosen = c.best_vector-chosen.result in
+    let after = held_after chosen c.clock-clock.result in
+    let held = each_port-done after c.args.held.now c.loop-one.one-index c.loop-one.held c.loop-one-test.false c.loop-one.invariant.held in
+    let rest = at_rest c.args.identity.now c.args.held.now chosen c.requires.placed c.best_vector-chosen.ensures in
+    rw (held, c.slave_of.ensures, c.clock-clock.ensures)
+    (slave_received c.args.identity.now (each_port (held_after chosen (clock_of c.args.identity.now)) c.args.held.now) chosen rest.placed rest.is_chosen)
