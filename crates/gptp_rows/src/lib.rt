@@ -7,4 +7,8 @@
 #[cfg(test)]
 mod announces;
 #[cfg(test)]
+mod messages;
+#[cfg(test)]
+mod receipt;
+#[cfg(test)]
 mod vector;
