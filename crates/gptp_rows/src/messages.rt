@@ -1,11 +1,11 @@
 //! Announce messages read, refused and written.
 
-use crate::announces::{FIRST, body, frame, head, identity, port, read, trace};
+use crate::announces::{M1, body, frame, head, identity, port, read, trace};
 use gptp_messages::{
     Message, PathView, Refused, decode, encode, encode_announce, what_is_written_reads_back,
 };
 use gptp_vector::{ClockId, Full, Identity, Trace};
-use std::alloc::Global;
+use std::alloc::{AllocError, Global};
 use std::process::Abort;
 use std::test::Fail;
 
@@ -37,7 +37,7 @@ fn with_tlvs(alloc: Global, tlvs: &[u8]) -> Result<Vec<u8>, Fail> {
     let length = u16::try_from(tlvs.len())?
         .checked_add(64)
         .ok_or("too long")?;
-    let mut frame = FIRST[..64].to_vec(alloc)?;
+    let mut frame = M1[..64].to_vec(alloc)?;
     frame[2..4].copy_from_slice(&length.to_be_bytes());
     frame.extend_from_slice(tlvs)?;
     Ok(frame)
@@ -59,11 +59,11 @@ fn assert_path(rt: &impl Abort, path: &PathView<'_>, want: &[u64], what: &str) {
 
 #[test]
 fn the_first_announce_reads_as_its_fields(rt: HostRuntime) {
-    let announce = read(&rt, &FIRST);
+    let announce = read(&rt, &M1);
     assert_eq!(rt; announce.head, head(port(1, 1)));
     assert_eq!(rt; announce.head.log_interval, 0);
     assert_eq!(rt; announce.body, body(identity(246, 1), 0));
-    assert_eq!(rt; announce.body.root.octets()[..], FIRST[47..61]);
+    assert_eq!(rt; announce.body.root.octets()[..], M1[47..61]);
     assert_path(&rt, &announce.path, &[1], "the path");
 }
 
@@ -90,14 +90,14 @@ fn each_field_stands_at_its_place(rt: HostRuntime) {
 
 #[test]
 fn octets_behind_the_message_are_ignored(rt: HostRuntime) -> Result<(), Fail> {
-    let mut padded = FIRST.to_vec(rt.alloc())?;
+    let mut padded = M1.to_vec(rt.alloc())?;
     padded.extend_from_slice(&[0xaa; 4])?;
     let announce = read(&rt, &padded);
     assert_eq!(rt; announce.head, head(port(1, 1)));
     assert_eq!(rt; announce.body, body(identity(246, 1), 0));
     assert_path(&rt, &announce.path, &[1], "padded");
 
-    let cut = spoiled(&rt, FIRST, 2, &[0x00, 0x40]);
+    let cut = spoiled(&rt, M1, 2, &[0x00, 0x40]);
     assert_path(
         &rt,
         &read(&rt, &cut).path,
@@ -138,7 +138,7 @@ fn a_frame_is_refused_by_the_first_test_that_fails(rt: HostRuntime) -> Result<()
         (2, &[0x00, 0x4b, 0x01], 76, Refused::Domain),
     ];
     for (place, octets, length, want) in cases {
-        let frame = spoiled(&rt, FIRST, place, octets);
+        let frame = spoiled(&rt, M1, place, octets);
         let given = frame.get(..length).ok_or("at most 76 octets")?;
         assert_eq!(rt;
             decode(given).err(),
@@ -269,7 +269,7 @@ fn a_path_of_256_clocks_is_copied_and_one_of_257_is_full(rt: HostRuntime) -> Res
         );
     }
 
-    assert_eq!(rt; read(&rt, &FIRST).path.copy_to(&mut copy), Ok(()));
+    assert_eq!(rt; read(&rt, &M1).path.copy_to(&mut copy), Ok(()));
     assert_eq!(rt; copy.as_slice(), trace(&[1])?.as_slice());
     Ok(())
 }
@@ -277,14 +277,14 @@ fn a_path_of_256_clocks_is_copied_and_one_of_257_is_full(rt: HostRuntime) -> Res
 #[test]
 fn the_fields_of_the_first_announce_are_written_as_its_octets(rt: HostRuntime) -> Result<(), Fail> {
     let first = frame(rt.alloc(), port(1, 1), identity(246, 1), 0, &trace(&[1])?)?;
-    assert_eq!(rt; first.as_slice(), FIRST.as_slice());
+    assert_eq!(rt; first.as_slice(), M1.as_slice());
 
     let pathless = frame(rt.alloc(), port(1, 1), identity(246, 1), 0, &Trace::empty())?;
     let octets = with_tlvs(rt.alloc(), &[0x00, 0x08, 0x00, 0x00])?;
     assert_eq!(rt; pathless.len(), 68);
     assert_eq!(rt; pathless.as_slice(), octets.as_slice());
 
-    let mut text = FIRST[..3].to_vec(rt.alloc())?;
+    let mut text = M1[..3].to_vec(rt.alloc())?;
     encode_announce(
         &head(port(1, 1)),
         &body(identity(246, 1), 0),
@@ -292,25 +292,26 @@ fn the_fields_of_the_first_announce_are_written_as_its_octets(rt: HostRuntime) -
         &mut text,
     )?;
     assert_eq!(rt; text.len(), 79);
-    assert_eq!(rt; text[..3], FIRST[..3]);
-    assert_eq!(rt; text[3..], FIRST[..]);
+    assert_eq!(rt; text[..3], M1[..3]);
+    assert_eq!(rt; text[3..], M1[..]);
     Ok(())
 }
 
-/// The message in a frame, written again behind a text.
-fn written_again(rt: &impl Abort, frame: &[u8], text: &mut Vec<u8>) -> Result<(), Fail> {
-    let message = decode(frame)?;
+/// Appends the Announce that a frame reads as.
+fn written_again(rt: &impl Abort, frame: &[u8], text: &mut Vec<u8>) -> Result<(), AllocError> {
+    let Ok(message) = decode(frame) else {
+        panic!(rt; "no message");
+    };
     let Message::Announce(announce) = &message;
     assert!(rt; announce.path.len() <= 256);
-    encode(&message, text)?;
-    Ok(())
+    encode(&message, text)
 }
 
 #[test]
 fn what_is_read_is_written_again(rt: HostRuntime) -> Result<(), Fail> {
     let mut text = Vec::new(rt.alloc());
-    written_again(&rt, &FIRST, &mut text)?;
-    assert_eq!(rt; text.as_slice(), FIRST.as_slice());
+    written_again(&rt, &M1, &mut text)?;
+    assert_eq!(rt; text.as_slice(), M1.as_slice());
 
     let mut plain = DISTINCT;
     plain[1] = 0x12;
@@ -319,7 +320,7 @@ fn what_is_read_is_written_again(rt: HostRuntime) -> Result<(), Fail> {
     plain[32] = 0;
     plain[34..44].copy_from_slice(&[0; 10]);
     plain[46] = 0;
-    let mut both = FIRST.to_vec(rt.alloc())?;
+    let mut both = M1.to_vec(rt.alloc())?;
     both.extend_from_slice(&plain)?;
     written_again(&rt, &DISTINCT, &mut text)?;
     assert_eq!(rt;
@@ -328,6 +329,39 @@ fn what_is_read_is_written_again(rt: HostRuntime) -> Result<(), Fail> {
         "what is ignored is written as 0"
     );
     what_is_written_reads_back();
+    Ok(())
+}
+
+/// The text is 1, 2, 3 and so many times the first Announce.
+fn assert_announces(rt: &impl Abort, text: &[u8], count: usize) {
+    assert_eq!(rt; text.get(..3), Some([1, 2, 3].as_slice()));
+    let announces = text.get(3..).unwrap_or_default();
+    assert_eq!(rt; announces.chunks(76).count(), count);
+    for announce in announces.chunks(76) {
+        assert_eq!(rt; announce, M1.as_slice());
+    }
+}
+
+/// Passes also where one allocation is refused, and tells which call was.
+/// `tools/refuse_test_allocations` refuses each in turn.
+#[test]
+fn a_refused_allocation_leaves_the_text(rt: HostRuntime) -> Result<(), Fail> {
+    let Ok(mut text) = [1, 2, 3].to_vec(rt.alloc()) else {
+        println!(rt; "refused: to_vec")?;
+        return Ok(());
+    };
+    let mut count = 0;
+    let (head, body, path) = (head(port(1, 1)), body(identity(246, 1), 0), trace(&[1])?);
+    match encode_announce(&head, &body, &path, &mut text) {
+        Ok(()) => count += 1,
+        Err(_) => println!(rt; "refused: encode_announce")?,
+    }
+    assert_announces(&rt, &text, count);
+    match written_again(&rt, &M1, &mut text) {
+        Ok(()) => count += 1,
+        Err(_) => println!(rt; "refused: encode")?,
+    }
+    assert_announces(&rt, &text, count);
     Ok(())
 }
 
