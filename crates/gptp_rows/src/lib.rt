@@ -1,0 +1,14 @@
+//! Worked rows of the crates below, as an outside caller sees them.
+//!
+//! Each module has the rows of one crate, as tables. What they expect was written down before the
+//! code.
+#![tactic(auto)]
+
+#[cfg(test)]
+mod announces;
+#[cfg(test)]
+mod messages;
+#[cfg(test)]
+mod receipt;
+#[cfg(test)]
+mod vector;
