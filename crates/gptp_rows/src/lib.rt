@@ -11,4 +11,8 @@ mod messages;
 #[cfg(test)]
 mod receipt;
 #[cfg(test)]
+mod roles;
+#[cfg(test)]
+mod scaled;
+#[cfg(test)]
 mod vector;
