@@ -18,6 +18,8 @@ mod laws;
 mod lines;
 mod output;
 mod reading;
+#[cfg(test)]
+mod tests;
 mod words;
 mod writing;
 
