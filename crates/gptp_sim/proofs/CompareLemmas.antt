@@ -1,0 +1,92 @@
+-- The text of `compare`, one line after the other, and what of it follows from the octets that were read.
+use Rattle.std.proofs.Common.{◌≡◌, ℕ, ◌≤◌, Bool, true, false, nat_le, ◌||◌, List, [], ◌∷◌, ◌++◌, length, map, Option, Some, None, refl, ap, ◌∙◌, append_assoc, append-nil, length-append, arith}
+use Rattle.std.specs.Prelude.{IfSome}
+use Rattle.std.specs.List.{list_any}
+use Rattle.std.specs.Str.Lines.{lines}
+use Rattle.std.proofs.lemmas.Bool.{leb-true, leb-false, lt-leb}
+use Rattle.std.proofs.lemmas.List.{map_push}
+use Rattle.std.proofs.lemmas.List.Concat.{flat_map-append}
+use Rattle.std.proofs.lemmas.List.Folds.{list_any-append}
+use Rattle.gptp_sim.specs.declared.answer.Answer.{Answer}
+use Rattle.gptp_sim.specs.declared.compare.TheConstants.{LIMIT}
+use Rattle.gptp_sim.specs.declared.failure.Status.{Status}
+use Rattle.gptp_sim.specs.Answer.{Answers, answer_text, is_refusal}
+use Rattle.gptp_sim.specs.Device.{ReadsWhole}
+use Rattle.gptp_sim.specs.Output.{text_of, status_by}
+use Rattle.gptp_sim.specs.CompareText.{AreAnswers, AnswersLines, CompareText}
+
+-- some answers are in the text, and with the answers to the lines that are left they are the answers to all lines
+pub record Answered (input rest text : List ℕ) (refused : Bool) : Type 0 where
+  pub answers : List Answer
+  pub more : (others : List Answer) → AreAnswers (lines rest) others → AreAnswers (lines input) (answers ++ others)
+  pub text_is : text ≡ text_of (map answer_text answers)
+  pub refused_is : refused ≡ list_any is_refusal answers
+
+-- one line more in the text
+text_push : (answers : List Answer) (answer : Answer) → text_of (map answer_text (answers ++ answer ∷ [])) ≡ text_of (map answer_text answers) ++ (answer_text answer ++ 10 ∷ [])
+text_push answers answer = rw map_push (flat_map-append (λ line. line ++ 10 ∷ []) (map answer_text answers) (answer_text answer ∷ []) ∙ rw append-nil refl)
+
+or-false : (test : Bool) → test || false ≡ test
+or-false true = refl
+or-false false = refl
+
+-- one answer more refuses or doesn't
+refusal_push : (answers : List Answer) (answer : Answer) → list_any is_refusal (answers ++ answer ∷ []) ≡ list_any is_refusal answers || is_refusal answer
+refusal_push answers answer = list_any-append is_refusal answers (answer ∷ []) ∙ ap (λ refusal. list_any is_refusal answers || refusal) (or-false (is_refusal answer))
+
+-- one line more is answered
+pub answered_more : (input rest line after text shown : List ℕ) (refused refusal : Bool) (answer : Answer) → Answered input rest text refused
+    → lines rest ≡ line ∷ lines after → Answers line answer → shown ≡ text ++ (answer_text answer ++ 10 ∷ []) → refusal ≡ is_refusal answer
+    → Answered input after shown (refused || refusal)
+answered_more input rest line after text shown refused refusal answer so_far split one shown-is refusal-is = record {
+  answers = so_far.answers ++ answer ∷ [];
+  more = λ others are. rw append_assoc (so_far.more (answer ∷ others) (rw split (one, are)));
+  text_is = rw (text_push, ← so_far.text_is) shown-is;
+  refused_is = rw (refusal_push, ← so_far.refused_is, refusal-is) refl;
+}
+
+-- where no line is left, the answers are the answers to all lines
+pub answered_all : (input rest text : List ℕ) (refused : Bool) → Answered input rest text refused → rest ≡ []
+    → (output : List (List ℕ)) × AnswersLines input output (status_by refused) × (text ≡ text_of output)
+answered_all input rest text refused so_far none =
+    let are : AreAnswers (lines input) so_far.answers = rw append-nil at (so_far.more [] (rw none refl)) in (
+      map answer_text so_far.answers,
+      record {
+        answers = so_far.answers;
+        are = are;
+        shown = refl;
+        status_is = ap status_by so_far.refused_is;
+      },
+      so_far.text_is,
+    )
+
+-- what is said of known octets
+pub if_some : (P Q : List ℕ → Type 0) (known : Option (List ℕ)) → ((octets : List ℕ) → P octets → Q octets) → IfSome known P → IfSome known Q
+if_some P Q None step holds = tt
+if_some P Q (Some octets) step holds = step octets holds
+
+-- a front of the input that is all of it, or too long by itself
+fronts : (input octets rest : List ℕ) (fits : Bool) → input ≡ octets ++ rest → nat_le (length octets) LIMIT ≡ fits → (length octets ≤ LIMIT → rest ≡ [])
+    → (output : List (List ℕ)) (status : Status) → CompareText octets output status → CompareText input output status
+fronts input octets rest true split test whole output status text =
+    let none : rest ≡ [] = whole (leb-true (length octets) LIMIT test) in
+    let all : input ≡ octets = split ∙ rw none (append-nil octets) in
+    rw all text
+fronts input octets rest false split test whole output status text =
+    let long = leb-false (length octets) LIMIT test in
+    let longer : nat_le (length input) LIMIT ≡ false = lt-leb (length input) LIMIT (omega (arith, ap length split, length-append octets rest)) in
+    rw longer (rw test at text)
+
+-- the text for the octets that were read is the text for all there are
+pub same_text : (left rest : Option (List ℕ)) (octets : List ℕ) → ReadsWhole LIMIT left rest octets
+    → IfSome left (λ input. (output : List (List ℕ)) (status : Status) → CompareText octets output status → CompareText input output status)
+same_text None rest octets reads = tt
+same_text (Some xs) None octets reads = absurd reads.taken
+same_text (Some xs) (Some ys) octets reads = fronts xs octets ys (nat_le (length octets) LIMIT) reads.taken refl reads.whole
+
+-- what holds of the text for the octets that were read holds of the text for the input
+pub text_holds : (left rest : Option (List ℕ)) (octets text : List ℕ) (status : Status) (Q : List ℕ → Type 0) → ReadsWhole LIMIT left rest octets
+    → (output : List (List ℕ)) × CompareText octets output status × (text ≡ text_of output) → Q text
+    → IfSome left (λ input. (output : List (List ℕ)) × CompareText input output status × Q (text_of output))
+text_holds left rest octets text status Q reads (output, compares, text-is) holds =
+    if_some _ _ left (λ input same. (output, same output status compares, rw text-is at holds)) (same_text left rest octets reads)

@@ -1,0 +1,29 @@
+-- What a word of hexadecimal announces.
+use Rattle.std.specs.Prelude.{◌≡◌, ℕ, List, codes, Result, Ok, Err, IsErr}
+use Rattle.hex.specs.Hex.{decode_of}
+use Rattle.gptp_vector.specs.declared.vector.Vector.{Vector}
+use Rattle.gptp_messages.specs.declared.announce.AnnounceView.{AnnounceView}
+use Rattle.gptp_messages.specs.declared.message.Message.TheVariants.{Announce}
+use Rattle.gptp_messages.specs.Grammar.{Reads, Refuses}
+use Rattle.gptp_messages.specs.Refused.{refusal_text}
+use Rattle.gptp_sim.specs.declared.announced.WordFault.{WordFault}
+use Rattle.gptp_sim.specs.declared.announced.WordFault.TheVariants as faults
+
+-- The message priority vector of an Announce (IEEE 802.1AS-2020, 10.3.5). No port hears it, so the receiving port is 0 (profile).
+abbrev pub vector_of : AnnounceView → Vector
+vector_of a = record { root = a.body.root; steps = a.body.steps; source = a.head.source; receiver = 0 }
+
+-- the octets of a word read as an Announce with this vector
+abbrev pub Announces : List ℕ → Vector → Type 0
+Announces word v = (frame : List ℕ) × (a : AnnounceView) × (decode_of word ≡ Ok frame) × Reads frame (Announce a) × (v ≡ vector_of a)
+
+-- A word announces a vector. Else it isn't hexadecimal, or its octets are refused as a message.
+abbrev pub Says : List ℕ → Result Vector WordFault → Type 0
+Says word (Ok v) = Announces word v
+Says word (Err faults.Hex) = IsErr (decode_of word)
+Says word (Err (faults.Message refused)) = (frame : List ℕ) × (decode_of word ≡ Ok frame) × Refuses frame refused
+
+-- how a fault of a word is shown
+abbrev pub fault_text : WordFault → List ℕ
+fault_text faults.Hex = codes "hex"
+fault_text (faults.Message refused) = refusal_text refused

@@ -1,0 +1,94 @@
+//! The command `compare`: which of two announced vectors is better, line by line.
+
+ghost use Rattle.std.specs.Prelude.{◌≡◌, ◌≢◌, ◌+◌, List, ℕ, IfOk, OnOk, IfErr, IfSome, string_bytes};
+ghost use Rattle.std.specs.Io.KnownBytes.{Appends, Keeps};
+ghost use Rattle.gptp_sim.specs.Device.{ReadsWhole, TakesAtMost, AppendsFront};
+ghost use Rattle.gptp_sim.specs.Output.{text_of};
+ghost use Rattle.gptp_sim.specs.CompareText.{AnswersLines, CompareText};
+
+use crate::answer::answer_to;
+use crate::device::{Sink, Source};
+use crate::failure::{SimError, Status};
+use crate::lines::first_line;
+use crate::output::Output;
+use crate::reading::read_whole;
+use crate::writing::write_whole;
+use std::alloc::Global;
+
+/// How many octets an input may have.
+const LIMIT: usize = 1_048_576;
+
+/// The answers to the lines of an input.
+fn answer_lines(alloc: Global, input: &[u8]) -> Result<Output, SimError>
+    ensures answers { IfOk result (λ o. (output : List (List ℕ)) × AnswersLines input.now output o.status × (string_bytes o.text ≡ text_of output)) }
+    ensures memory { IfErr result (λ e. e ≡ SimError.Memory) }
+{
+    let mut text = String::new(alloc);
+    let mut refused = false;
+    let mut rest = input;
+    while !rest.is_empty() {
+        let (line, after) = first_line(rest);
+        let answer = answer_to(alloc, line)?;
+        writeln!(text, "{answer}")?;
+        refused |= answer.is_refusal();
+        rest = after;
+    }
+    Ok(Output {
+        text,
+        status: Status::of(refused),
+    })
+}
+
+/// What is written for an input. The only error is [`SimError::Memory`].
+fn compare_text(alloc: Global, input: &[u8]) -> Result<Output, SimError>
+    ensures text { IfOk result (λ o. (output : List (List ℕ)) × CompareText input.now output o.status × (string_bytes o.text ≡ text_of output)) }
+    ensures memory { IfErr result (λ e. e ≡ SimError.Memory) }
+{
+    if input.len() <= LIMIT {
+        return answer_lines(alloc, input);
+    }
+    Ok(Output {
+        text: String::from_str(alloc, "refused size\n")?,
+        status: Status::Refused,
+    })
+}
+
+/// Reads lines of two words of hexadecimal, two Announces, and writes which of them announces the
+/// better priority vector (IEEE 802.1AS-2020, 10.3.4).
+///
+/// For each line it writes `first`, `second` or `equal` and the 28 digits of the better one's root;
+/// `refused words` where the line hasn't two words; or `refused first` or `refused second` with `hex`
+/// where that word isn't hexadecimal and the number and name of [`gptp_messages::Refused`] where its
+/// octets are no Announce, a fault of the first word going before one of the second. Words are what
+/// spaces and tabs separate. Of an input of more than 1,048,576 octets no more than one further octet is
+/// read, and the one line `refused size` is written.
+///
+/// The answer is [`Status::Refused`] where any line was refused, or the size. Errors:
+/// [`SimError::Read`] only where a read failed, with nothing written; [`SimError::Memory`] with nothing
+/// written; [`SimError::Write`] only where a write failed, with a front of the text written.
+pub fn compare_lines<S: Source, K: Sink>(
+    alloc: Global,
+    source: &mut S,
+    sink: &mut K,
+) -> Result<Status, SimError>
+    ensures done { IfOk result (λ status. IfSome (S.left source.old) (λ input.
+        (output : List (List ℕ)) × CompareText input output status × Appends (K.written sink.old) (K.written sink.new) (text_of output))) }
+    ensures whole { OnOk result ((octets : List ℕ) × ReadsWhole LIMIT (S.left source.old) (S.left source.new) octets) }
+    ensures no_further { TakesAtMost (LIMIT + 1) (S.left source.old) (S.left source.new) }
+
+    // no failure of a device is passed over, and none is made up
+    ensures source_works { OnOk result (S.failures source.new ≡ S.failures source.old) }
+    ensures sink_works { OnOk result (K.failures sink.new ≡ K.failures sink.old) }
+    ensures read { result ≡ Err SimError.Read → S.failures source.new ≢ S.failures source.old }
+    ensures write { result ≡ Err SimError.Write → K.failures sink.new ≢ K.failures sink.old }
+
+    // what stands written after an error
+    ensures nothing { IfErr result (λ e. e ≢ SimError.Write → Keeps (K.written sink.old) (K.written sink.new)) }
+    ensures front { result ≡ Err SimError.Write → (status : Status) × IfSome (S.left source.old) (λ input.
+        (output : List (List ℕ)) × CompareText input output status × AppendsFront (K.written sink.old) (K.written sink.new) (text_of output)) }
+{
+    let input = read_whole(alloc, source, LIMIT)?;
+    let output = compare_text(alloc, &input)?;
+    write_whole(sink, output.text.as_bytes())?;
+    Ok(output.status)
+}

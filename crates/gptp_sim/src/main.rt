@@ -1,0 +1,30 @@
+//! The simulator's program.
+//!
+//! `gptp_sim compare` reads lines of two Announces in hexadecimal and writes which of the two announces
+//! the better priority vector, by the order of IEEE 802.1AS-2020, 10.3.4.
+//!
+//! [`compare::compare_lines`] works over any devices that tell their octets and count their failures.
+//! Its contract says that it writes the text that is defined for the octets it read and nothing else,
+//! that no failure of a device is passed over or made up, and what stands written after an error.
+#![tactic(auto)]
+
+mod announced;
+mod answer;
+mod command;
+mod compare;
+mod device;
+mod failure;
+mod laws;
+mod lines;
+mod output;
+mod reading;
+#[cfg(test)]
+mod tests;
+mod words;
+mod writing;
+
+use std::process::ExitCode;
+
+fn main(rt: HostRuntime) -> ExitCode {
+    command::run(&rt)
+}

@@ -1,0 +1,354 @@
+//! Whole runs of `compare` over memory, and over devices that fail.
+
+use crate::compare::compare_lines;
+use crate::device::{CountedReader, CountedWriter};
+use crate::failure::{SimError, Status};
+use std::alloc::{AllocError, Global};
+use std::io::{self, Read, Write};
+use std::test::Fail;
+
+/// An Announce as digits, in the parts that the rows below change.
+#[derive(Clone, Copy)]
+struct Frame {
+    message_type: &'static str,
+    version: &'static str,
+    message_length: &'static str,
+    domain: &'static str,
+    priority1: &'static str,
+    steps: &'static str,
+    tlv_length: &'static str,
+    last_octet: &'static str,
+}
+
+/// The first Announce of the system with clock 1, its own root, at port 1.
+const ANNOUNCE: Frame = Frame {
+    message_type: "1b",
+    version: "12",
+    message_length: "004c",
+    domain: "00",
+    priority1: "f6",
+    steps: "0000",
+    tlv_length: "0008",
+    last_octet: "01",
+};
+
+/// What stands between domainNumber and grandmasterPriority1, and between that and stepsRemoved.
+const BEFORE_ROOT: &str =
+    "000008000000000000000000000000000000000000000100010000000000000000000000000000002500";
+
+const ROOT: &str = "f8fe436af80000000000000001";
+
+impl Frame {
+    fn digits(&self, alloc: Global) -> Result<String, AllocError> {
+        let Frame {
+            message_type,
+            version,
+            message_length,
+            domain,
+            priority1,
+            steps,
+            tlv_length,
+            last_octet,
+        } = *self;
+        let header = format!(in alloc; "{message_type}{version}{message_length}{domain}")?;
+        let root = format!(in alloc; "{BEFORE_ROOT}{priority1}{ROOT}{steps}a0")?;
+        format!(in alloc; "{header}{root}0008{tlv_length}00000000000000{last_octet}")
+    }
+}
+
+/// What `compare` writes for an input, and its status.
+fn compared(alloc: Global, input: &[u8]) -> Result<(Vec<u8>, Status), SimError> {
+    let mut written = Vec::new(alloc);
+    let mut source = CountedReader::new(input);
+    let mut sink = CountedWriter::new(&mut written);
+    let status = compare_lines(alloc, &mut source, &mut sink)?;
+    Ok((written, status))
+}
+
+#[test]
+fn announces_the_better_root(rt: HostRuntime) -> Result<(), Fail> {
+    let alloc = rt.alloc();
+    let one_step = Frame {
+        steps: "0001",
+        ..ANNOUNCE
+    };
+    let two_steps = Frame {
+        steps: "0002",
+        ..ANNOUNCE
+    };
+    let worse_root = Frame {
+        priority1: "f7",
+        ..ANNOUNCE
+    };
+    for (first, second, want) in [
+        (one_step, two_steps, "first f6f8fe436af80000000000000001\n"),
+        (ANNOUNCE, ANNOUNCE, "equal f6f8fe436af80000000000000001\n"),
+        (
+            worse_root,
+            ANNOUNCE,
+            "second f6f8fe436af80000000000000001\n",
+        ),
+        (
+            worse_root,
+            worse_root,
+            "equal f7f8fe436af80000000000000001\n",
+        ),
+    ] {
+        let first = first.digits(alloc)?;
+        let second = second.digits(alloc)?;
+        let line = format!(in alloc; "{first} {second}\n")?;
+        let (text, status) = compared(alloc, line.as_bytes())?;
+        assert_eq!(rt; text.as_slice(), want.as_bytes(), "at {want}");
+        assert_eq!(rt; status, Status::Done, "at {want}");
+    }
+    Ok(())
+}
+
+/// Announces that are refused, and how.
+const SPOILED: [(Frame, &str); 7] = [
+    (
+        Frame {
+            last_octet: "",
+            ..ANNOUNCE
+        },
+        "1 Short",
+    ),
+    (
+        Frame {
+            message_type: "0b",
+            ..ANNOUNCE
+        },
+        "2 NotGptp",
+    ),
+    (
+        Frame {
+            version: "11",
+            ..ANNOUNCE
+        },
+        "3 Version",
+    ),
+    (
+        Frame {
+            message_type: "1c",
+            ..ANNOUNCE
+        },
+        "4 UnknownType",
+    ),
+    (
+        Frame {
+            message_length: "003f",
+            ..ANNOUNCE
+        },
+        "5 LengthField",
+    ),
+    (
+        Frame {
+            domain: "01",
+            ..ANNOUNCE
+        },
+        "6 Domain",
+    ),
+    (
+        Frame {
+            tlv_length: "0009",
+            ..ANNOUNCE
+        },
+        "7 Tlv",
+    ),
+];
+
+#[test]
+fn names_the_refusal(rt: HostRuntime) -> Result<(), Fail> {
+    let alloc = rt.alloc();
+    let whole = ANNOUNCE.digits(alloc)?;
+    for (frame, name) in SPOILED {
+        let spoiled = frame.digits(alloc)?;
+        let input = format!(in alloc;
+            "{spoiled} {whole}\n{whole} {spoiled}\n{spoiled} 0\n0 {spoiled}\n"
+        )?;
+        let want = format!(in alloc;
+            "refused first {name}\nrefused second {name}\nrefused first {name}\nrefused first hex\n"
+        )?;
+        let (text, status) = compared(alloc, input.as_bytes())?;
+        assert_eq!(rt; text.as_slice(), want.as_bytes(), "at {name}");
+        assert_eq!(rt; status, Status::Refused, "at {name}");
+    }
+    Ok(())
+}
+
+#[test]
+fn splits_lines_and_words(rt: HostRuntime) -> Result<(), Fail> {
+    let alloc = rt.alloc();
+    let word = ANNOUNCE.digits(alloc)?;
+    let mut upper = ANNOUNCE.digits(alloc)?;
+    upper.make_ascii_uppercase();
+    let equal = "equal f6f8fe436af80000000000000001\n";
+    for (input, want) in [
+        (format!(in alloc; "")?, ""),
+        (format!(in alloc; "\n")?, "refused words\n"),
+        (format!(in alloc; " \t \n")?, "refused words\n"),
+        (format!(in alloc; "{word}\n")?, "refused words\n"),
+        (
+            format!(in alloc; "{word} {word} {word}\n")?,
+            "refused words\n",
+        ),
+        (format!(in alloc; "\t {word} \t  {word}\t\n")?, equal),
+        (format!(in alloc; "{upper} {word}\n")?, equal),
+        (format!(in alloc; "{word} {word}\r\n")?, equal),
+        (format!(in alloc; "{word} {word}")?, equal),
+        (
+            format!(in alloc; "{word} {word}\r")?,
+            "refused second hex\n",
+        ),
+        (
+            format!(in alloc; "{word}\r {word}\n")?,
+            "refused first hex\n",
+        ),
+        (
+            format!(in alloc; "{word}0 {word}\n")?,
+            "refused first hex\n",
+        ),
+        (
+            format!(in alloc; "{word}0g {word}\n")?,
+            "refused first hex\n",
+        ),
+        (format!(in alloc; "{word} 0\n")?, "refused second hex\n"),
+        (
+            format!(in alloc; "\n\n{word}")?,
+            "refused words\nrefused words\nrefused words\n",
+        ),
+    ] {
+        let (text, status) = compared(alloc, input.as_bytes())?;
+        assert_eq!(rt; text.as_slice(), want.as_bytes(), "at {input}");
+        let is_done = want == "" || want == equal;
+        assert_eq!(rt; status == Status::Done, is_done, "at {input}");
+    }
+    Ok(())
+}
+
+#[test]
+fn refuses_one_octet_past_the_size(rt: HostRuntime) -> Result<(), Fail> {
+    let alloc = rt.alloc();
+    for (length, want, left) in [
+        (1_048_576, "refused words\n", 0),
+        (1_048_577, "refused size\n", 0),
+        (1_048_600, "refused size\n", 23),
+    ] {
+        let octets = vec![in alloc; b'0'; length]?;
+        let mut rest = octets.as_slice();
+        let mut written = Vec::new(alloc);
+        let mut source = CountedReader::new(&mut rest);
+        let mut sink = CountedWriter::new(&mut written);
+        let status = compare_lines(alloc, &mut source, &mut sink)?;
+        assert_eq!(rt; written.as_slice(), want.as_bytes(), "at {length}");
+        assert_eq!(rt; status, Status::Refused, "at {length}");
+        assert_eq!(rt; rest.len(), left, "at {length}");
+    }
+    Ok(())
+}
+
+/// A device of which one call fails. Every other call moves at most `most` octets.
+#[derive(Drop)]
+struct FailsOnce<D> {
+    device: D,
+    calls_before: u64,
+    most: usize,
+}
+
+impl<D: Read> Read for FailsOnce<D> {
+    fn read(&mut self, buffer: &mut [u8]) -> io::Result<usize> {
+        if self.calls_before == 0 {
+            return Err(io::Error::from(io::ErrorKind::Other));
+        }
+        self.calls_before -= 1;
+        let length = self.most.min(buffer.len());
+        self.device.read(&mut buffer[..length])
+    }
+}
+
+impl<D: Write> Write for FailsOnce<D> {
+    fn write(&mut self, text: &[u8]) -> io::Result<usize> {
+        if self.calls_before == 0 {
+            return Ok(0);
+        }
+        self.calls_before -= 1;
+        let length = self.most.min(text.len());
+        self.device.write(&text[..length])
+    }
+
+    fn flush(&mut self) -> io::Result<()> {
+        self.device.flush()
+    }
+}
+
+/// 306 octets by 20 take 16 reads, and one more finds the end.
+const READS: u64 = 17;
+
+#[test]
+fn read_fails_with_nothing_written(rt: HostRuntime) -> Result<(), Fail> {
+    let alloc = rt.alloc();
+    let word = ANNOUNCE.digits(alloc)?;
+    let line = format!(in alloc; "{word} {word}\n")?;
+    for calls_before in 0..=READS {
+        let mut written = Vec::new(alloc);
+        let device = FailsOnce {
+            device: line.as_bytes(),
+            calls_before,
+            most: 20,
+        };
+        let mut source = CountedReader::new(device);
+        let mut sink = CountedWriter::new(&mut written);
+        let outcome = compare_lines(alloc, &mut source, &mut sink);
+        let (want, length) = if calls_before < READS {
+            (Err(SimError::Read), 0)
+        } else {
+            (Ok(Status::Done), 35)
+        };
+        assert_eq!(rt; outcome, want, "at {calls_before}");
+        assert_eq!(rt; written.len(), length, "at {calls_before}");
+    }
+    Ok(())
+}
+
+/// 49 octets by 10.
+const WRITES: u64 = 5;
+
+#[test]
+fn write_fails_with_a_front_written(rt: HostRuntime) -> Result<(), Fail> {
+    let alloc = rt.alloc();
+    let word = ANNOUNCE.digits(alloc)?;
+    let line = format!(in alloc; "{word} {word}\n\n")?;
+    let text = b"equal f6f8fe436af80000000000000001\nrefused words\n";
+    for calls_before in 0..=WRITES {
+        let mut written = Vec::new(alloc);
+        let device = FailsOnce {
+            device: &mut written,
+            calls_before,
+            most: 10,
+        };
+        let mut source = CountedReader::new(line.as_bytes());
+        let mut sink = CountedWriter::new(device);
+        let outcome = compare_lines(alloc, &mut source, &mut sink);
+        let (want, length) = if calls_before < WRITES {
+            (Err(SimError::Write), 10 * calls_before as usize)
+        } else {
+            (Ok(Status::Refused), 49)
+        };
+        assert_eq!(rt; outcome, want, "at {calls_before}");
+        assert_eq!(rt;
+            Some(written.as_slice()),
+            text.get(..length),
+            "at {calls_before}"
+        );
+    }
+    Ok(())
+}
+
+#[test]
+fn program_never_wants_memory(rt: HostRuntime) -> Result<(), Fail> {
+    let alloc = rt.alloc();
+    let word = ANNOUNCE.digits(alloc)?;
+    let line = format!(in alloc; "{word} {word}\n")?;
+    assert!(rt; compared(alloc, line.as_bytes()).is_ok());
+    Ok(())
+}
