@@ -56,7 +56,7 @@ clocks-path_octets path fit =
     let octets = length-path_octets path in
     let count : length path ≡ length (path_octets path) / 8 = omega arith in
     sym (fill_by_all (λ k. field 8 (8 * k) (path_octets path)) path (length (path_octets path) / 8) 0 count
-        (λ k within. sym (field-path_octets path k fit (omega arith))))
+    (λ k within. sym (field-path_octets path k fit (omega arith))))
 
 -- ---- octets that are spelled again
 
@@ -83,14 +83,14 @@ path_octets-map (suc n) f whole octets =
     let split : front ++ behind ≡ f = take-append-drop 8 f in
     let eight : length front ≡ 8 = omega (arith, length-take 8 f) in
     let first : big_bytes 8 (field 8 (8 * 0) f) ≡ front =
-        ap (λ (x : List ℕ). big_bytes 8 (field 8 0 x)) (sym split) ∙ big_bytes-field front behind eight (octets_of_front 8 f octets) in
+    ap (λ (x : List ℕ). big_bytes 8 (field 8 0 x)) (sym split) ∙ big_bytes-field front behind eight (octets_of_front 8 f octets) in
     let others : map (λ (k : ℕ). field 8 (8 * k) f) (range_with_len 1 n) ≡ map (λ k. field 8 (8 * k) behind) (range_with_len 0 n) =
-        map-range_later (λ k. field 8 (8 * k) f) (λ k. field 8 (8 * k) behind) 0 n
-            (λ k. let one_on : 8 * (k + 1) ≡ 8 + 8 * k = omega arith in rw one_on (field-drop 8 8 (8 * k) f)) in
+    map-range_later (λ k. field 8 (8 * k) f) (λ k. field 8 (8 * k) behind) 0 n
+    (λ k. let one_on : 8 * (k + 1) ≡ 8 + 8 * k = omega arith in rw one_on (field-drop 8 8 (8 * k) f)) in
     let ih : path_octets (map (λ k. field 8 (8 * k) behind) (range_with_len 0 n)) ≡ behind =
-        path_octets-map n behind (omega (arith, length-drop 8 f)) (λ i. rw get_or-drop (octets (8 + i))) in
+    path_octets-map n behind (omega (arith, length-drop 8 f)) (λ i. rw get_or-drop (octets (8 + i))) in
     ap (λ (x : List ℕ). big_bytes 8 (field 8 (8 * 0) f) ++ path_octets x) others ∙ ap (λ (x : List ℕ). big_bytes 8 (field 8 (8 * 0) f) ++ x) ih
-        ∙ ap (λ (x : List ℕ). x ++ behind) first ∙ split
+    ∙ ap (λ (x : List ℕ). x ++ behind) first ∙ split
   where
     octets_of_front : (m : ℕ) (xs : List ℕ) → ((i : ℕ) → get_or xs i 0 < 256) → (i : ℕ) → get_or (take m xs) i 0 < 256
     octets_of_front m xs fit i =

@@ -13,6 +13,7 @@ use Rattle.gptp_messages.specs.declared.head.Head.{Head}
 use Rattle.gptp_messages.specs.declared.message.Message.{Message}
 use Rattle.gptp_messages.specs.declared.message.Message.TheVariants as messages
 use Rattle.gptp_messages.specs.declared.message_type.MessageType.TheVariants.{Announce}
+use Rattle.gptp_messages.specs.declared.tlv.TheConstants.{PATH_TRACE}
 use Rattle.gptp_messages.specs.Frame.{octet, field}
 use Rattle.gptp_messages.specs.Head.{head_of, message_length, written_head}
 use Rattle.gptp_messages.specs.Path.{path_octets}
@@ -26,8 +27,8 @@ use Rattle.gptp_messages.proofs.GrammarLemmas.{one_reading, never_both}
 pub written_announce-front : (head : Head) (body : AnnounceBody) (path : List ℕ) → written_announce head body path ≡ announce_front head body (length path) ++ path_octets path
 written_announce-front head body path =
     let fixed = written_head Announce (68 + 8 * length path) head ++ written_body body in
-    ap (λ (n : ℕ). fixed ++ ((big_bytes 2 8 ++ big_bytes 2 n) ++ path_octets path)) (length-path_octets path)
-        ∙ sym (append_assoc fixed (big_bytes 2 8 ++ big_bytes 2 (8 * length path)) (path_octets path))
+    ap (λ (n : ℕ). fixed ++ ((big_bytes 2 PATH_TRACE ++ big_bytes 2 n) ++ path_octets path)) (length-path_octets path)
+    ∙ sym (append_assoc fixed (big_bytes 2 PATH_TRACE ++ big_bytes 2 (8 * length path)) (path_octets path))
 
 -- a number is read where its octets stand
 field_at : (n i x : ℕ) (f behind : List ℕ) → drop i f ≡ big_bytes n x ++ behind → x < 256 ^ n → field n i f ≡ x
@@ -53,8 +54,8 @@ module _ (a : AnnounceView) (rest : List ℕ) (fits : AnnounceFits a) where
       let port : field 2 28 f ≡ a.head.source.port = field_at 2 28 a.head.source.port f _ refl fits.head.port in
       let sequence : field 2 30 f ≡ a.head.sequence = field_at 2 30 a.head.sequence f _ refl fits.head.sequence in
       let correction : cast_signed w64 (field 8 8 f) ≡ a.head.correction =
-          ap (cast_signed w64) (field_at 8 8 (cast_unsigned w64 a.head.correction) f _ refl (Fits-of_z fits.head.correction).fits)
-              ∙ to_z-of_z w64 a.head.correction fits.head.correction in
+      ap (cast_signed w64) (field_at 8 8 (cast_unsigned w64 a.head.correction) f _ refl (Fits-of_z fits.head.correction).fits)
+      ∙ to_z-of_z w64 a.head.correction fits.head.correction in
       let log_interval : cast_signed w8 (octet 33 f) ≡ a.head.log_interval = to_z-of_z w8 a.head.log_interval fits.head.log_interval in
       λ i. record {
         source = record { clock = clock i; port = port i };
@@ -67,8 +68,8 @@ module _ (a : AnnounceView) (rest : List ℕ) (fits : AnnounceFits a) where
   body_is : announce_body_of f ≡ a.body
   body_is =
       let utc_offset : cast_signed w16 (field 2 44 f) ≡ a.body.utc_offset =
-          ap (cast_signed w16) (field_at 2 44 (cast_unsigned w16 a.body.utc_offset) f _ refl (Fits-of_z fits.body.utc_offset).fits)
-              ∙ to_z-of_z w16 a.body.utc_offset fits.body.utc_offset in
+      ap (cast_signed w16) (field_at 2 44 (cast_unsigned w16 a.body.utc_offset) f _ refl (Fits-of_z fits.body.utc_offset).fits)
+      ∙ to_z-of_z w16 a.body.utc_offset fits.body.utc_offset in
       let root : field 14 47 f ≡ a.body.root = field_at 14 47 a.body.root f _ refl fits.body.root in
       let steps : field 2 61 f ≡ a.body.steps = field_at 2 61 a.body.steps f _ refl fits.body.steps in
       λ i. record { utc_offset = utc_offset i; root = root i; steps = steps i; time_source = a.body.time_source }

@@ -2,6 +2,7 @@
 use Rattle.std.specs.Prelude.{◌≡◌, ℕ, ◌<◌, ◌^◌, ◌==◌, Bool, if◌then◌else◌, List, [], ◌∷◌, ◌++◌, length, Option, Some, None}
 use Rattle.std.specs.List.{flat_map, AllByRecursion}
 use Rattle.byteorder.specs.Endian.{big_bytes}
+use Rattle.gptp_messages.specs.declared.tlv.TheConstants.{PATH_TRACE}
 use Rattle.gptp_messages.specs.declared.tlv.TlvKind.{TlvKind}
 use Rattle.gptp_messages.specs.declared.tlv.TlvKind.TheVariants.{PathTrace}
 
@@ -38,7 +39,7 @@ HasFront octets = (tlv_type : ℕ) × (value : List ℕ) × (rest : List ℕ) ×
 
 -- what marks a TLV of a kind
 abbrev pub is_of_kind : TlvKind → ℕ → Bool
-is_of_kind PathTrace tlv_type = tlv_type == 8
+is_of_kind PathTrace tlv_type = tlv_type == PATH_TRACE
 
 -- the value of the first of the TLVs that is of a kind
 abbrev pub first_value : TlvKind → List Tlv → Option (List ℕ)

@@ -10,7 +10,7 @@ use crate::head::Head;
 use crate::message_type::MessageType;
 use crate::path::PathView;
 use crate::refused::Refused;
-use crate::tlv::{TlvKind, first_tlv};
+use crate::tlv::{PATH_TRACE, TlvKind, first_tlv};
 use byteorder::{BigEndian, ByteOrder};
 use gptp_vector::{ClockId, Identity, Trace};
 use std::alloc::AllocError;
@@ -114,7 +114,12 @@ impl<'a> AnnounceView<'a> {
 
 /// Makes room for an Announce, and appends all of it but the clocks of its path, of which there are
 /// `count`. Without memory nothing is appended.
-fn put_front(head: &Head, body: &AnnounceBody, count: usize, out: &mut Vec<u8>) -> Result<(), AllocError>
+fn put_front(
+    head: &Head,
+    body: &AnnounceBody,
+    count: usize,
+    out: &mut Vec<u8>,
+) -> Result<(), AllocError>
     requires { count ≤ 256 }
     ensures ok { OnOk result (out.new.items ≡ out.old.items ++ announce_front head.now body.now count) }
     ensures room { OnOk result (vec_len out.new + 8 * count ≤ vec_capacity out.new) }
@@ -124,14 +129,19 @@ fn put_front(head: &Head, body: &AnnounceBody, count: usize, out: &mut Vec<u8>) 
     out.reserve(68 + usize::from(length))?;
     put(out, &head.octets(MessageType::Announce, 68 + length));
     put(out, &body.octets());
-    put(out, &8u16.to_be_bytes());
+    put(out, &PATH_TRACE.to_be_bytes());
     put(out, &length.to_be_bytes());
     Ok(())
 }
 
 /// Appends one Announce with a path trace, as the one spelling that its fields have (IEEE 1588-2019,
 /// 13.3, 13.5 and 16.2). Refused for want of memory alone, and nothing is appended then.
-pub fn encode_announce(head: &Head, body: &AnnounceBody, path: &Trace, out: &mut Vec<u8>) -> Result<(), AllocError>
+pub fn encode_announce(
+    head: &Head,
+    body: &AnnounceBody,
+    path: &Trace,
+    out: &mut Vec<u8>,
+) -> Result<(), AllocError>
     ensures ok { OnOk result (out.new.items ≡ out.old.items ++ written_announce head.now body.now path.now) }
     ensures err { OnErr result (out.new.items ≡ out.old.items) }
 {

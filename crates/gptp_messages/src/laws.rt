@@ -8,5 +8,4 @@ ghost use Rattle.gptp_messages.specs.Grammar.{MessageFits, ReadsBack};
 /// message and as nothing else.
 pub fn what_is_written_reads_back()
     ensures { (m : Message) (rest : List ℕ) → MessageFits m → ReadsBack m rest }
-{
-}
+{}

@@ -7,10 +7,13 @@ ghost use Rattle.gptp_messages.specs.Tlv.{is_of_kind, IsFront, HasFront, FirstTl
 use crate::frame::u16_at;
 use crate::refused::Refused;
 
+/// The tlvType of a path trace (IEEE 1588-2019, 16.2 and table 52).
+pub(crate) const PATH_TRACE: u16 = 0x0008;
+
 /// The TLVs that are looked for. All others are passed over.
 #[derive(Clone, Copy, Debug, PartialEq, Eq)]
 pub(crate) enum TlvKind {
-    /// PATH_TRACE (IEEE 1588-2019, 16.2).
+    /// The clocks that an Announce passed.
     PathTrace,
 }
 
@@ -20,7 +23,7 @@ impl TlvKind {
         ensures { result ≡ is_of_kind self tlv_type }
     {
         match self {
-            TlvKind::PathTrace => tlv_type == 8,
+            TlvKind::PathTrace => tlv_type == PATH_TRACE,
         }
     }
 }

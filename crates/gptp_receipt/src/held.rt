@@ -18,9 +18,16 @@ pub enum Held {
     /// Nothing: it heard nothing, or what it heard is too old.
     Aged,
     /// What it announces itself: root and steps of its master vector.
-    Mine { root: Identity, steps: u16 },
+    Mine {
+        root: Identity,
+        steps: u16,
+    },
     /// What it heard: the message vector, the path sequence, and when that was, in ns.
-    Received { vector: Vector, path: Trace, at: u64 },
+    Received {
+        vector: Vector,
+        path: Trace,
+        at: u64,
+    },
 }
 
 /// What a qualified Announce is to a port.
@@ -135,7 +142,11 @@ fn store(held: &mut Held, vector: Vector, path: &PathView<'_>, now: u64)
     ensures { held.new ≡ Held.Received vector path.now now }
 {
     match held {
-        Held::Received { vector: known, path: trace, at } => {
+        Held::Received {
+            vector: known,
+            path: trace,
+            at,
+        } => {
             *known = vector;
             path.copy_to(trace).unwrap();
             *at = now;

@@ -101,7 +101,7 @@ pub each_from-each_from : {X : Type 0} (f g : ℕ → Held → X) (change : ℕ 
 each_from-each_from f g change same port [] = refl
 each_from-each_from {X} f g change same port (h ∷ hs) =
     ap (λ (x : X). x ∷ each_from f (port + 1) (each_from change (port + 1) hs)) (same port h)
-        ∙ ap (λ (xs : List X). g port h ∷ xs) (each_from-each_from f g change same (port + 1) hs)
+    ∙ ap (λ (xs : List X). g port h ∷ xs) (each_from-each_from f g change same (port + 1) hs)
 
 -- no port is fresh
 none_fresh : (v : Vector) (clock port : ℕ) (hs : List Held) → AllByRecursion (λ b. b ≡ false) (each_from (is_fresh v clock) port (each_from (held_after v clock) port hs))
@@ -201,7 +201,7 @@ no_slave : (v : Vector) (clock port : ℕ) (hs : List Held) → v.receiver < por
 no_slave v clock port [] above = refl
 no_slave v clock port (h ∷ hs) above =
     slaves-other (role_of v clock port h) (each_from (role_of v clock) (port + 1) hs) (is_slave-other v clock port h (λ e. omega arith))
-        ∙ no_slave v clock (port + 1) hs (omega arith)
+    ∙ no_slave v clock (port + 1) hs (omega arith)
 
 one_slave-step : (v : Vector) (clock port : ℕ) (h : Held) (hs : List Held) → ArePlaced port (h ∷ hs)
     → ((r : Reception) × (received h ≡ Some r) × (v ≡ path_of r.vector)) ⊎ IsIn v (path_vectors hs)
@@ -210,11 +210,11 @@ one_slave-step : (v : Vector) (clock port : ℕ) (h : Held) (hs : List Held) →
 one_slave-step v clock port h hs placed (inl (r, is, path)) others =
     let here : v.receiver ≡ port = ap (λ (x : Vector). x.receiver) path ∙ (placed.0 r is).receiver in
     slaves-slave (role_of v clock port h) (each_from (role_of v clock) (port + 1) hs) (role_of-slave v clock port h r is here)
-        ∙ ap (λ (n : ℕ). 1 + n) (no_slave v clock (port + 1) hs (omega arith))
+    ∙ ap (λ (n : ℕ). 1 + n) (no_slave v clock (port + 1) hs (omega arith))
 one_slave-step v clock port h hs placed (inr there) others =
     let above = port_of_path (port + 1) hs v placed.1 there in
     slaves-other (role_of v clock port h) (each_from (role_of v clock) (port + 1) hs) (is_slave-other v clock port h (λ e. omega arith))
-        ∙ others there
+    ∙ others there
 
 -- one port is the Slave where the vector came from one of them
 one_slave : (v : Vector) (clock port : ℕ) (hs : List Held) → ArePlaced port hs → IsIn v (path_vectors hs) → slaves (each_from (role_of v clock) port hs) ≡ 1
@@ -252,6 +252,7 @@ has_one_slave identity held v placed chosen = record {
         let none : v.receiver ≡ 0 = ap (λ (x : Vector). x.receiver) system in
         (rw none refl, no_slave v (clock_of identity) 1 held (omega arith))
     own_root own (inr path) = absurd (let nearer = own_is_lower identity v own (steps_of_path v held path) in let behind = chosen.least.0 in cc)
+
     other_root : (v.root ≢ identity) → IsIn v (system_of identity ∷ path_vectors held)
         → IsSome (slave_port v) × (slaves (each_port (role_of v (clock_of identity)) held) ≡ 1)
     other_root other (inl system) = absurd (other (ap (λ (x : Vector). x.root) system))

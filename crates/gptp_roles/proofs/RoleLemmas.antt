@@ -21,7 +21,7 @@ pub each_port-take : {X : Type 0} (f : ℕ → Held → X) (hs : List Held) (i :
 each_port-take {X} f hs i d within =
     let number : 1 + length (take i hs) ≡ i + 1 = omega (arith, length-take i hs) in
     ap (λ (xs : List Held). each_port f xs) (take_more hs i d within) ∙ each_from-append f 1 (take i hs) (get_or hs i d ∷ [])
-        ∙ ap (λ (p : ℕ). each_port f (take i hs) ++ f p (get_or hs i d) ∷ []) number
+    ∙ ap (λ (p : ℕ). each_port f (take i hs) ++ f p (get_or hs i d) ∷ []) number
 
 -- what was made of the ports so far, and of the next one, is what is made of one port more
 pub each_port-push : {X : Type 0} (f : ℕ → Held → X) (hs : List Held) (i : ℕ) (d : Held) (xs : List X) (x : X) → i < length hs
@@ -38,18 +38,18 @@ get_or-half_done f hs i d within =
     let none : i - i ≡ 0 = omega arith in
     let here = drop_more hs i d within in
     get_or-append_right (each_port f (take i hs)) (drop i hs) i i d (length-front f hs i within) (omega arith)
-        ∙ ap (λ (n : ℕ). get_or (drop i hs) n d) none ∙ ap (λ (xs : List Held). get_or xs 0 d) here
+    ∙ ap (λ (n : ℕ). get_or (drop i hs) n d) none ∙ ap (λ (xs : List Held). get_or xs 0 d) here
 
 -- the next port is done
 pub set-half_done : (f : ℕ → Held → Held) (hs : List Held) (i : ℕ) (d y : Held) → i < length hs
     → set (each_port f (take i hs) ++ drop i hs) i y ≡ (each_port f (take i hs) ++ y ∷ []) ++ drop (i + 1) hs
 set-half_done f hs i d y within =
     ap (λ (xs : List Held). set (each_port f (take i hs) ++ xs) i y) (drop_more hs i d within)
-        ∙ set_at (each_port f (take i hs)) (get_or hs i d) (drop (i + 1) hs) y i (length-front f hs i within)
-        ∙ sym (append_assoc (each_port f (take i hs)) (y ∷ []) (drop (i + 1) hs))
+    ∙ set_at (each_port f (take i hs)) (get_or hs i d) (drop (i + 1) hs) y i (length-front f hs i within)
+    ∙ sym (append_assoc (each_port f (take i hs)) (y ∷ []) (drop (i + 1) hs))
 
 -- all ports are done
 pub each_port-done : (f : ℕ → Held → Held) (hs : List Held) (i : ℕ) (xs : List Held) → length hs ≤ i → xs ≡ each_port f (take i hs) ++ drop i hs → xs ≡ each_port f hs
 each_port-done f hs i xs past so_far =
     so_far ∙ ap (λ (ys : List Held). each_port f (take i hs) ++ ys) (drop_all i hs past) ∙ append-nil (each_port f (take i hs))
-        ∙ ap (λ (ys : List Held). each_port f ys) (take_all i hs past)
+    ∙ ap (λ (ys : List Held). each_port f ys) (take_all i hs past)

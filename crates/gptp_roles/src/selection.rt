@@ -86,7 +86,11 @@ fn with_port(best: Vector, held: &Held) -> Vector
     match held {
         Held::Received { vector, .. } => {
             let path = vector.path();
-            if path.compare(&best).is_lt() { path } else { best }
+            if path.compare(&best).is_lt() {
+                path
+            } else {
+                best
+            }
         }
         _ => best,
     }

@@ -19,7 +19,7 @@ loop-place-preserved c =
     let appended : c.append.new.self ≡ c.loop-place.trace ++ c.clock_at.result ∷ [] = rw c.unwrap.ensures at c.append.ensures.ok in
     let one_more = take-clocks c.args.octets.now place c.loop-place-test.true in
     appended ∙ ap (λ (x : List ℕ). x ++ c.clock_at.result ∷ []) c.loop-place.invariant ∙ append_assoc c.args.trace.now (take place path) (c.clock_at.result ∷ [])
-        ∙ ap (λ (n : ℕ). c.args.trace.now ++ (take place path ++ n ∷ [])) c.clock_at.ensures ∙ ap (λ (x : List ℕ). c.args.trace.now ++ x) (sym one_more)
+    ∙ ap (λ (n : ℕ). c.args.trace.now ++ (take place path ++ n ∷ [])) c.clock_at.ensures ∙ ap (λ (x : List ℕ). c.args.trace.now ++ x) (sym one_more)
 
 pub returns : goal.returns
 returns c =

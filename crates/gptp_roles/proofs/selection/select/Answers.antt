@@ -31,9 +31,9 @@ loop-one-preserved c =
     let port : c.loop-one.port + 1 ≡ place + 1 = ap (λ (n : ℕ). n + 1) c.loop-one.invariant.port in
     let within = c.loop-one-test.true in
     let held : get_or c.loop-one.held place one ≡ get_or before place one =
-        ap (λ (hs : List Held). get_or hs place one) c.loop-one.invariant.held ∙ get_or-half_done after before place one within in
+    ap (λ (hs : List Held). get_or hs place one) c.loop-one.invariant.held ∙ get_or-half_done after before place one within in
     let new_held : c.assign-role.new.held ≡ after (place + 1) (get_or before place one) =
-        c.assign-role.ensures.held ∙ ap (λ (p : ℕ). after p (get_or c.loop-one.held place one)) port ∙ ap (after (place + 1)) held in
+    c.assign-role.ensures.held ∙ ap (λ (p : ℕ). after p (get_or c.loop-one.held place one)) port ∙ ap (after (place + 1)) held in
     record {
       port = port;
       roles = c.push.ensures.items ∙ each_port-push role before place one c.loop-one.roles.items c.assign-role.result.0 within c.loop-one.invariant.roles

@@ -11,5 +11,10 @@ put-requires c =
 
 pub returns-clause-ok : goal.returns-clause-ok
 returns-clause-ok c =
-    rw (c.put.ensures.items, c.in_ok-put_front.ensures.ok, c.octets.ensures, c.len.ensures,
-        written_announce-front c.args.self.now.head c.args.self.now.body c.args.self.now.path) (simp append_assoc)
+    rw (
+      c.put.ensures.items,
+      c.in_ok-put_front.ensures.ok,
+      c.octets.ensures,
+      c.len.ensures,
+      written_announce-front c.args.self.now.head c.args.self.now.body c.args.self.now.path,
+    ) (simp append_assoc)
