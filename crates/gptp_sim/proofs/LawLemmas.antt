@@ -9,12 +9,11 @@ use Rattle.gptp_messages.proofs.GrammarLemmas.{one_reading, never_both, one_refu
 use Rattle.gptp_sim.specs.declared.announced.WordFault.{WordFault}
 use Rattle.gptp_sim.specs.declared.announced.WordFault.TheVariants as faults
 use Rattle.gptp_sim.specs.declared.answer.Answer.{Answer}
-use Rattle.gptp_sim.specs.declared.compare.TheConstants.{LIMIT}
 use Rattle.gptp_sim.specs.declared.failure.Status.{Status}
 use Rattle.gptp_sim.specs.Announced.{Says, vector_of}
 use Rattle.gptp_sim.specs.Answer.{AnswersWords, answer_of, answer_text, is_refusal}
-use Rattle.gptp_sim.specs.Output.{status_by}
-use Rattle.gptp_sim.specs.CompareText.{AreAnswers, AnswersLines, RefusesSize, CompareText}
+use Rattle.gptp_sim.specs.Failure.{status_by}
+use Rattle.gptp_sim.specs.CompareText.{size_limit, AreAnswers, AnswersLines, RefusesSize, CompareText}
 
 -- a word says one thing
 one_saying : (word : List ℕ) (a b : Result Vector WordFault) → Says word a → Says word b → a ≡ b
@@ -66,4 +65,4 @@ one_by_size input a b s t false x y = (x.shown ∙ sym y.shown, x.status_is ∙ 
 
 -- an input has one text and one status
 pub one_text : (input : List ℕ) (a b : List (List ℕ)) (s t : Status) → CompareText input a s → CompareText input b t → (a ≡ b) × (s ≡ t)
-one_text input a b s t x y = one_by_size input a b s t (nat_le (length input) LIMIT) x y
+one_text input a b s t x y = one_by_size input a b s t (nat_le (length input) size_limit) x y

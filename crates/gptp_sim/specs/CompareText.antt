@@ -4,11 +4,14 @@ use Rattle.std.specs.Bool.{MatchBool}
 use Rattle.std.specs.List.{list_any}
 use Rattle.std.specs.Str.Lines.{lines}
 use Rattle.gptp_sim.specs.declared.answer.Answer.{Answer}
-use Rattle.gptp_sim.specs.declared.compare.TheConstants.{LIMIT}
 use Rattle.gptp_sim.specs.declared.failure.Status.{Status}
 use Rattle.gptp_sim.specs.declared.failure.Status.TheVariants.{Refused}
 use Rattle.gptp_sim.specs.Answer.{Answers, answer_text, is_refusal}
-use Rattle.gptp_sim.specs.Output.{status_by}
+use Rattle.gptp_sim.specs.Failure.{status_by}
+
+-- how many octets an input may have
+abbrev pub size_limit : ℕ
+size_limit = 1048576
 
 -- every line has its answer, in order
 abbrev pub AreAnswers : List (List ℕ) → List Answer → Type 0
@@ -29,4 +32,4 @@ pub record RefusesSize (output : List (List ℕ)) (status : Status) : Type 0 whe
   pub status_is : status ≡ Refused
 
 abbrev pub CompareText : List ℕ → List (List ℕ) → Status → Type 0
-CompareText input output status = MatchBool (nat_le (length input) LIMIT) (AnswersLines input output status) (RefusesSize output status)
+CompareText input output status = MatchBool (nat_le (length input) size_limit) (AnswersLines input output status) (RefusesSize output status)

@@ -1,11 +1,8 @@
 //! The command line: which command runs, and how the process ends.
 
-ghost use Rattle.std.specs.Prelude.{◌≡◌};
-ghost use Rattle.gptp_sim.specs.ExitStatus.{exit_status};
-
 use crate::compare::compare_lines;
 use crate::device::{CountedReader, CountedWriter};
-use crate::failure::{SimError, Status};
+use crate::failure::{SimError, Status, exit_status};
 use clap::Command;
 use clap::error::ErrorKind;
 use std::alloc::{AllocError, Global};
@@ -74,17 +71,6 @@ fn read_line<R: Env + AllocGlobal>(rt: &R) -> Result<(), LineError> {
     let words: Vec<String> = env::args(rt)?.collect(alloc)?;
     grammar(alloc)?.try_get_matches_from(words.as_slice())?;
     Ok(())
-}
-
-/// The exit status of a command that ran.
-fn exit_status(outcome: &Result<Status, SimError>) -> u8
-    ensures { result ≡ exit_status outcome.now }
-{
-    match outcome {
-        Ok(Status::Done) => 0,
-        Ok(Status::Refused) => 1,
-        Err(_) => 3,
-    }
 }
 
 /// Runs `compare` from standard input to standard output.

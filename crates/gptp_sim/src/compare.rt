@@ -4,7 +4,7 @@ ghost use Rattle.std.specs.Prelude.{◌≡◌, ◌≢◌, ◌+◌, List, ℕ, If
 ghost use Rattle.std.specs.Io.KnownBytes.{Appends, Keeps};
 ghost use Rattle.gptp_sim.specs.Device.{ReadsWhole, TakesAtMost, AppendsFront};
 ghost use Rattle.gptp_sim.specs.Output.{text_of};
-ghost use Rattle.gptp_sim.specs.CompareText.{AnswersLines, CompareText};
+ghost use Rattle.gptp_sim.specs.CompareText.{size_limit, AnswersLines, CompareText};
 
 use crate::answer::answer_to;
 use crate::device::{Sink, Source};
@@ -35,7 +35,7 @@ fn answer_lines(alloc: Global, input: &[u8]) -> Result<Output, SimError>
     }
     Ok(Output {
         text,
-        status: Status::of(refused),
+        status: Status::of_refusal(refused),
     })
 }
 
@@ -73,8 +73,8 @@ pub fn compare_lines<S: Source, K: Sink>(
 ) -> Result<Status, SimError>
     ensures done { IfOk result (λ status. IfSome (S.left source.old) (λ input.
         (output : List (List ℕ)) × CompareText input output status × Appends (K.written sink.old) (K.written sink.new) (text_of output))) }
-    ensures whole { OnOk result ((octets : List ℕ) × ReadsWhole LIMIT (S.left source.old) (S.left source.new) octets) }
-    ensures no_further { TakesAtMost (LIMIT + 1) (S.left source.old) (S.left source.new) }
+    ensures whole { OnOk result ((octets : List ℕ) × ReadsWhole size_limit (S.left source.old) (S.left source.new) octets) }
+    ensures no_further { TakesAtMost (size_limit + 1) (S.left source.old) (S.left source.new) }
 
     // no failure of a device is passed over, and none is made up
     ensures source_works { OnOk result (S.failures source.new ≡ S.failures source.old) }

@@ -14,6 +14,9 @@ pub struct ReadFailed;
 #[derive(Clone, Copy, Debug, PartialEq, Eq)]
 pub struct WriteFailed;
 
+/// What a device counts at first.
+const NO_FAILURE: u64 = 0;
+
 /// A device that gives octets.
 pub trait Source {
     // the octets that are left, where they are known
@@ -66,7 +69,7 @@ impl<R: Read> CountedReader<R> {
     {
         CountedReader {
             reader,
-            failures: 0,
+            failures: NO_FAILURE,
         }
     }
 }
@@ -103,7 +106,7 @@ impl<W: Write> CountedWriter<W> {
     {
         CountedWriter {
             writer,
-            failures: 0,
+            failures: NO_FAILURE,
         }
     }
 }

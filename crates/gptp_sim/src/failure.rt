@@ -2,6 +2,7 @@
 
 ghost use Rattle.std.specs.Prelude.{◌≡◌};
 ghost use Rattle.gptp_sim.specs.declared.failure.SimError.TheVariants.{Memory, Read, Write};
+ghost use Rattle.gptp_sim.specs.Failure.{status_by, exit_status};
 
 use crate::device::{ReadFailed, WriteFailed};
 use std::alloc::{AllocError, AllocFailed};
@@ -14,6 +15,19 @@ pub enum Status {
     Done,
     /// Some of it was refused; the output says what and why.
     Refused,
+}
+
+impl Status {
+    /// The status of an input of which something was refused, or nothing.
+    pub fn of_refusal(refused: bool) -> Status
+        ensures { result ≡ status_by refused }
+    {
+        if refused {
+            Status::Refused
+        } else {
+            Status::Done
+        }
+    }
 }
 
 /// Why a command stopped before its output was written.
@@ -59,5 +73,16 @@ impl From<WriteFailed> for SimError {
 
     fn from(_error: WriteFailed) -> SimError {
         SimError::Write
+    }
+}
+
+/// The exit status of the process, by what became of its command.
+pub fn exit_status(outcome: &Result<Status, SimError>) -> u8
+    ensures { result ≡ exit_status outcome.now }
+{
+    match outcome {
+        Ok(Status::Done) => 0,
+        Ok(Status::Refused) => 1,
+        Err(_) => 3,
     }
 }

@@ -1,9 +1,15 @@
--- How the process ends where a command ran (profile).
-use Rattle.std.specs.Prelude.{ℕ, Result, Ok, Err}
+-- How a command ends, and the process with it (profile).
+use Rattle.std.specs.Prelude.{ℕ, Bool, true, false, Result, Ok, Err}
 use Rattle.gptp_sim.specs.declared.failure.SimError.{SimError}
 use Rattle.gptp_sim.specs.declared.failure.Status.{Status}
 use Rattle.gptp_sim.specs.declared.failure.Status.TheVariants.{Done, Refused}
 
+-- the status where something was refused, or nothing
+abbrev pub status_by : Bool → Status
+status_by true = Refused
+status_by false = Done
+
+-- the exit status of the process
 abbrev pub exit_status : Result Status SimError → ℕ
 exit_status (Ok Done) = 0
 exit_status (Ok Refused) = 1
