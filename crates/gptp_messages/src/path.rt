@@ -1,7 +1,6 @@
 //! The path trace of an Announce, as it stands in the frame.
 
 ghost use Rattle.std.specs.Prelude.{◌≡◌, ◌+◌, ◌/◌, ◌%◌, ◌≤◌, ◌↔◌, ◌++◌, IsTrue, Contains, length, slice_get};
-ghost use Rattle.gptp_vector.specs.declared.trace.TheConstants.{TRACE_CAPACITY};
 ghost use Rattle.gptp_messages.specs.Path.{clocks, path_octets};
 
 use crate::frame::clock_at;
@@ -29,7 +28,6 @@ impl<'a> Model for PathView<'a> {
 impl<'a> PathView<'a> {
     ghost use Rattle.std.specs.Prelude.{◌≡◌, ◌%◌, ◌↔◌, IsTrue, Contains, [], length, slice_get};
     ghost use Rattle.std.specs.Prelude.{◌≤◌, IsOk, IfErr, OnOk, OnErr};
-    ghost use Rattle.gptp_vector.specs.declared.trace.TheConstants.{TRACE_CAPACITY};
     ghost use Rattle.gptp_vector.specs.Trace.{clock_of as clock_inside};
     ghost use Rattle.gptp_messages.specs.Path.{clocks, path_octets};
 
@@ -60,8 +58,8 @@ impl<'a> PathView<'a> {
     /// clock that finds no room inside, and leaves the trace as it was.
     pub fn copy_to(&self, trace: &mut Trace) -> Result<(), Full>
         ensures ok { OnOk result (trace.new ≡ self.now) }
-        ensures room { IsOk result ↔ (length self.now ≤ TRACE_CAPACITY) }
-        ensures full { IfErr result (λ e. slice_get self.now TRACE_CAPACITY ≡ Some (clock_inside e)) }
+        ensures room { IsOk result ↔ (length self.now ≤ 256) }
+        ensures full { IfErr result (λ e. slice_get self.now 256 ≡ Some (clock_inside e)) }
         ensures err { OnErr result (trace.new ≡ trace.old) }
     {
         if let Some(clock) = clock_of(self.octets, TRACE_CAPACITY) {
@@ -141,7 +139,7 @@ fn as_spelled(octets: &[u8]) -> &[u8]
 
 /// Adds the clocks at the end of a trace that has room for them.
 fn append_clocks(octets: &[u8], trace: &mut Trace)
-    requires { length trace.old + length octets.now / 8 ≤ TRACE_CAPACITY }
+    requires { length trace.old + length octets.now / 8 ≤ 256 }
     ensures { trace.new ≡ trace.old ++ clocks octets.now }
 {
     for place in 0..octets.len() / 8 {

@@ -38,7 +38,7 @@ pub struct Selected {
 /// A vector that a port received has that port's number as receiving port, steps below 255 and a path
 /// of at most 255 clocks.
 pub fn select(identity: &Identity, held: &mut [Held]) -> Selected
-    requires ports { length held.old ≤ PORTS }
+    requires ports { length held.old ≤ 16 }
     requires placed { ArePlaced 1 held.old }
     ensures selection { IsSelection identity.now held.old result held.new }
 
@@ -98,7 +98,7 @@ fn with_port(best: Vector, held: &Held) -> Vector
 
 /// The port that the chosen vector came from, if it came from any.
 fn slave_of(chosen: &Vector) -> Option<u8>
-    requires { chosen.now.receiver ≤ PORTS }
+    requires { chosen.now.receiver ≤ 16 }
     ensures { result ≡ slave_port chosen.now }
 {
     if chosen.receiver == 0 {

@@ -1,7 +1,6 @@
 //! The clocks that an announcement passed.
 
 ghost use Rattle.std.specs.Prelude.{◌≡◌, ◌<◌, ◌≤◌, ◌↔◌, ℕ, [], ◌∷◌, ◌++◌, length, slice_get, Contains, IsTrue, IsOk, IfErr, OnOk, OnErr};
-ghost use Rattle.gptp_vector.specs.declared.trace.TheConstants.{TRACE_CAPACITY};
 
 use crate::port::ClockId;
 use arrayvec::ArrayVec;
@@ -61,7 +60,7 @@ impl Trace {
     /// How many clocks the trace has.
     pub fn len(&self) -> usize
         ensures count { result ≡ length self.now }
-        ensures bound { length self.now ≤ TRACE_CAPACITY }
+        ensures bound { length self.now ≤ 256 }
     {
         self.clocks.len()
     }
@@ -98,7 +97,7 @@ impl Trace {
     /// inside, and unchanged.
     pub fn append(&mut self, clock: ClockId) -> Result<(), Full>
         ensures ok { OnOk result (self.new ≡ self.old ++ clock ∷ []) }
-        ensures room { IsOk result ↔ (length self.old < TRACE_CAPACITY) }
+        ensures room { IsOk result ↔ (length self.old < 256) }
         ensures full { IfErr result (λ e. e ≡ Full.Full clock) }
         ensures err { OnErr result (self.new ≡ self.old) }
     {
