@@ -95,7 +95,7 @@ fn an_announce_is_refused_by_the_first_test_that_fails(rt: HostRuntime) -> Resul
         ),
         ("over the receiver", 1, 0, trace(&[1, 9])?, Err(Why::Loop)),
         (
-            "from the receiver's root",
+            "first over the receiver",
             1,
             0,
             trace(&[9, 1])?,
