@@ -5,9 +5,9 @@ use gptp_vector::{ClockId, Full, Identity, PortId, Trace};
 use std::alloc::{AllocError, Global};
 use std::process::Abort;
 
-/// M1, the first Announce of clock 1 at its port 1, with itself as the root and all defaults: common
+/// The first Announce of clock 1 at its port 1, with itself as the root and all defaults: common
 /// header, fixed part and path trace.
-pub const M1: [u8; 76] = [
+pub const FIRST_ANNOUNCE: [u8; 76] = [
     0x1b, 0x12, 0x00, 0x4c, 0x00, 0x00, 0x00, 0x08, // type 0xB, version 2.1, 76 octets, ptpTimescale
     0x00, 0x00, 0x00, 0x00, 0x00, 0x00, 0x00, 0x00, // correctionField
     0x00, 0x00, 0x00, 0x00, // messageTypeSpecific

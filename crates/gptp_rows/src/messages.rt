@@ -1,6 +1,6 @@
 //! Announce messages read, refused and written.
 
-use crate::announces::{M1, body, frame, head, identity, port, read, trace};
+use crate::announces::{FIRST_ANNOUNCE, body, frame, head, identity, port, read, trace};
 use gptp_messages::{
     Message, PathView, Refused, decode, encode, encode_announce, what_is_written_reads_back,
 };
@@ -37,7 +37,7 @@ fn with_tlvs(alloc: Global, tlvs: &[u8]) -> Result<Vec<u8>, Fail> {
     let length = u16::try_from(tlvs.len())?
         .checked_add(64)
         .ok_or("too long")?;
-    let mut frame = M1[..64].to_vec(alloc)?;
+    let mut frame = FIRST_ANNOUNCE[..64].to_vec(alloc)?;
     frame[2..4].copy_from_slice(&length.to_be_bytes());
     frame.extend_from_slice(tlvs)?;
     Ok(frame)
@@ -59,11 +59,11 @@ fn assert_path(rt: &impl Abort, path: &PathView<'_>, want: &[u64], what: &str) {
 
 #[test]
 fn the_first_announce_reads_as_its_fields(rt: HostRuntime) {
-    let announce = read(&rt, &M1);
+    let announce = read(&rt, &FIRST_ANNOUNCE);
     assert_eq!(rt; announce.head, head(port(1, 1)));
     assert_eq!(rt; announce.head.log_interval, 0);
     assert_eq!(rt; announce.body, body(identity(246, 1), 0));
-    assert_eq!(rt; announce.body.root.octets()[..], M1[47..61]);
+    assert_eq!(rt; announce.body.root.octets()[..], FIRST_ANNOUNCE[47..61]);
     assert_path(&rt, &announce.path, &[1], "the path");
 }
 
@@ -90,14 +90,14 @@ fn each_field_stands_at_its_place(rt: HostRuntime) {
 
 #[test]
 fn octets_behind_the_message_are_ignored(rt: HostRuntime) -> Result<(), Fail> {
-    let mut padded = M1.to_vec(rt.alloc())?;
+    let mut padded = FIRST_ANNOUNCE.to_vec(rt.alloc())?;
     padded.extend_from_slice(&[0xaa; 4])?;
     let announce = read(&rt, &padded);
     assert_eq!(rt; announce.head, head(port(1, 1)));
     assert_eq!(rt; announce.body, body(identity(246, 1), 0));
     assert_path(&rt, &announce.path, &[1], "padded");
 
-    let cut = spoiled(&rt, M1, 2, &[0x00, 0x40]);
+    let cut = spoiled(&rt, FIRST_ANNOUNCE, 2, &[0x00, 0x40]);
     assert_path(
         &rt,
         &read(&rt, &cut).path,
@@ -138,7 +138,7 @@ fn a_frame_is_refused_by_the_first_test_that_fails(rt: HostRuntime) -> Result<()
         (2, &[0x00, 0x4b, 0x01], 76, Refused::Domain),
     ];
     for (place, octets, length, want) in cases {
-        let frame = spoiled(&rt, M1, place, octets);
+        let frame = spoiled(&rt, FIRST_ANNOUNCE, place, octets);
         let given = frame.get(..length).ok_or("at most 76 octets")?;
         assert_eq!(rt;
             decode(given).err(),
@@ -269,7 +269,7 @@ fn a_path_of_256_clocks_is_copied_and_one_of_257_is_full(rt: HostRuntime) -> Res
         );
     }
 
-    assert_eq!(rt; read(&rt, &M1).path.copy_to(&mut copy), Ok(()));
+    assert_eq!(rt; read(&rt, &FIRST_ANNOUNCE).path.copy_to(&mut copy), Ok(()));
     assert_eq!(rt; copy.as_slice(), trace(&[1])?.as_slice());
     Ok(())
 }
@@ -277,14 +277,14 @@ fn a_path_of_256_clocks_is_copied_and_one_of_257_is_full(rt: HostRuntime) -> Res
 #[test]
 fn the_fields_of_the_first_announce_are_written_as_its_octets(rt: HostRuntime) -> Result<(), Fail> {
     let first = frame(rt.alloc(), port(1, 1), identity(246, 1), 0, &trace(&[1])?)?;
-    assert_eq!(rt; first.as_slice(), M1.as_slice());
+    assert_eq!(rt; first.as_slice(), FIRST_ANNOUNCE.as_slice());
 
     let pathless = frame(rt.alloc(), port(1, 1), identity(246, 1), 0, &Trace::empty())?;
     let octets = with_tlvs(rt.alloc(), &[0x00, 0x08, 0x00, 0x00])?;
     assert_eq!(rt; pathless.len(), 68);
     assert_eq!(rt; pathless.as_slice(), octets.as_slice());
 
-    let mut text = M1[..3].to_vec(rt.alloc())?;
+    let mut text = FIRST_ANNOUNCE[..3].to_vec(rt.alloc())?;
     encode_announce(
         &head(port(1, 1)),
         &body(identity(246, 1), 0),
@@ -292,8 +292,8 @@ fn the_fields_of_the_first_announce_are_written_as_its_octets(rt: HostRuntime) -
         &mut text,
     )?;
     assert_eq!(rt; text.len(), 79);
-    assert_eq!(rt; text[..3], M1[..3]);
-    assert_eq!(rt; text[3..], M1[..]);
+    assert_eq!(rt; text[..3], FIRST_ANNOUNCE[..3]);
+    assert_eq!(rt; text[3..], FIRST_ANNOUNCE[..]);
     Ok(())
 }
 
@@ -310,8 +310,8 @@ fn written_again(rt: &impl Abort, frame: &[u8], text: &mut Vec<u8>) -> Result<()
 #[test]
 fn what_is_read_is_written_again(rt: HostRuntime) -> Result<(), Fail> {
     let mut text = Vec::new(rt.alloc());
-    written_again(&rt, &M1, &mut text)?;
-    assert_eq!(rt; text.as_slice(), M1.as_slice());
+    written_again(&rt, &FIRST_ANNOUNCE, &mut text)?;
+    assert_eq!(rt; text.as_slice(), FIRST_ANNOUNCE.as_slice());
 
     let mut plain = DISTINCT;
     plain[1] = 0x12;
@@ -320,7 +320,7 @@ fn what_is_read_is_written_again(rt: HostRuntime) -> Result<(), Fail> {
     plain[32] = 0;
     plain[34..44].copy_from_slice(&[0; 10]);
     plain[46] = 0;
-    let mut both = M1.to_vec(rt.alloc())?;
+    let mut both = FIRST_ANNOUNCE.to_vec(rt.alloc())?;
     both.extend_from_slice(&plain)?;
     written_again(&rt, &DISTINCT, &mut text)?;
     assert_eq!(rt;
@@ -338,7 +338,7 @@ fn assert_announces(rt: &impl Abort, text: &[u8], count: usize) {
     let announces = text.get(3..).unwrap_or_default();
     assert_eq!(rt; announces.chunks(76).count(), count);
     for announce in announces.chunks(76) {
-        assert_eq!(rt; announce, M1.as_slice());
+        assert_eq!(rt; announce, FIRST_ANNOUNCE.as_slice());
     }
 }
 
@@ -357,7 +357,7 @@ fn a_refused_allocation_leaves_the_text(rt: HostRuntime) -> Result<(), Fail> {
         Err(_) => println!(rt; "refused: encode_announce")?,
     }
     assert_announces(&rt, &text, count);
-    match written_again(&rt, &M1, &mut text) {
+    match written_again(&rt, &FIRST_ANNOUNCE, &mut text) {
         Ok(()) => count += 1,
         Err(_) => println!(rt; "refused: encode")?,
     }

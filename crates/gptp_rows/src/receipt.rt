@@ -1,6 +1,6 @@
 //! What the port 1 of clock 9 makes of the Announces that it hears.
 
-use crate::announces::{M1, frame, identity, port, read, trace};
+use crate::announces::{FIRST_ANNOUNCE, frame, identity, port, read, trace};
 use gptp_receipt::{Heard, Held, Why, age, due, hear, qualify};
 use gptp_vector::{ClockId, Full, Identity, PortId, Trace, Vector};
 use std::process::Abort;
@@ -132,9 +132,12 @@ fn an_announce_is_held_until_it_is_too_old(rt: HostRuntime) -> Result<(), Fail> 
     let (first, path) = (vector(identity(246, 1), 0, 1), trace(&[1])?);
     let mut held = Held::Aged;
     assert_eq!(rt; end_of(&rt, &held), None);
-    assert_eq!(rt; heard(&rt, &mut held, &M1, 0), Heard::Superior);
+    assert_eq!(rt; heard(&rt, &mut held, &FIRST_ANNOUNCE, 0), Heard::Superior);
     assert_received(&rt, &held, first, &path, 0);
-    assert_eq!(rt; heard(&rt, &mut held, &M1, 1_000_000_000), Heard::Repeated);
+    assert_eq!(rt;
+        heard(&rt, &mut held, &FIRST_ANNOUNCE, 1_000_000_000),
+        Heard::Repeated
+    );
     assert_received(&rt, &held, first, &path, 1_000_000_000);
 
     assert_eq!(rt; end_of(&rt, &held), Some(4_000_000_000));
@@ -164,13 +167,13 @@ fn what_is_not_received_has_no_age(rt: HostRuntime) {
 fn the_held_sender_is_heard_also_where_it_is_worse(rt: HostRuntime) -> Result<(), Fail> {
     let path = trace(&[1])?;
     let mut held = Held::Aged;
-    heard(&rt, &mut held, &M1, 0);
+    heard(&rt, &mut held, &FIRST_ANNOUNCE, 0);
 
-    let mut worse = M1;
+    let mut worse = FIRST_ANNOUNCE;
     worse[47] = 0xf7;
     assert_eq!(rt; heard(&rt, &mut held, &worse, 1), Heard::Repeated);
     assert_received(&rt, &held, vector(identity(247, 1), 0, 1), &path, 1);
-    assert_eq!(rt; heard(&rt, &mut held, &M1, 2), Heard::Repeated);
+    assert_eq!(rt; heard(&rt, &mut held, &FIRST_ANNOUNCE, 2), Heard::Repeated);
     assert_received(&rt, &held, vector(identity(246, 1), 0, 1), &path, 2);
     Ok(())
 }
@@ -245,7 +248,7 @@ fn a_master_hears_what_is_better_than_it_announces(rt: HostRuntime) -> Result<()
     ];
     for (what, root, steps, want) in cases {
         let mut held = Held::Mine { root, steps };
-        assert_eq!(rt; heard(&rt, &mut held, &M1, 7), want, "{what}");
+        assert_eq!(rt; heard(&rt, &mut held, &FIRST_ANNOUNCE, 7), want, "{what}");
         if want == Heard::Superior {
             assert_received(&rt, &held, vector(identity(246, 1), 0, 1), &trace(&[1])?, 7);
         } else {
