@@ -1,12 +1,12 @@
 -- Selecting again changes nothing, and one port is the Slave.
-use Rattle.std.proofs.Common.{◌≡◌, ◌≢◌, ◌⊎◌, ℕ, suc, ◌+◌, ◌-◌, ◌<◌, ◌≤◌, Bool, true, false, List, [], ◌∷◌, length, Option, Some, None, refl, sym, ap, ◌∙◌, inl, inr, arith, eq-eqb}
+use Rattle.std.proofs.Common.{◌≡◌, ◌≢◌, ◌⊎◌, ℕ, suc, ◌+◌, ◌-◌, ◌<◌, ◌≤◌, Bool, true, false, List, [], ◌∷◌, length, Option, Some, None, refl, sym, ap, subst, ◌∙◌, inl, inr, arith, eq-eqb}
 use Rattle.std.specs.Prelude.{◌==◌, if◌then◌else◌, IsSome, slice_get}
 use Rattle.std.specs.List.{AllByRecursion}
 use Rattle.std.specs.Option.{ForSome, option_and_then, option_map_or}
 use Rattle.std.specs.Cmp.{nat_cmp_is}
 use Rattle.std.specs.declared.cmp.Ordering.TheVariants.{Less, Equal}
 use Rattle.std.specs.Ordering.{nat_cmp}
-use Rattle.std.proofs.lemmas.Bool.{cases_Bool}
+use Rattle.std.proofs.lemmas.Bool.{cases_Bool, eqb-true}
 use Rattle.std.proofs.lemmas.Bool.Decides.{nat_tests}
 use Rattle.std.proofs.lemmas.List.Sums.{sum_by-cons}
 use Rattle.std.proofs.lemmas.Cmp.{nat_cmp_total, tied_itself}
@@ -18,7 +18,7 @@ use Rattle.gptp_receipt.specs.Held.{Reception, received}
 use Rattle.gptp_roles.specs.declared.role.Role.{Role}
 use Rattle.gptp_roles.specs.declared.role.Role.TheVariants.{Disabled, Master, Slave, Passive}
 use Rattle.gptp_roles.specs.Choice.{ArePlaced, IsChosen, IsIn, IsPlaced, path_vectors, slave_port}
-use Rattle.gptp_roles.specs.Role.{each_from, each_port, held_after, is_fresh, is_master, is_slave, role_of}
+use Rattle.gptp_roles.specs.Role.{each_from, each_port, held_after, is_fresh, is_master, is_slave, role_of, role_of_received}
 use Rattle.gptp_roles.specs.Selection.{HasOneSlave, IsAtRest, clock_of, slaves}
 use Rattle.gptp_roles.specs.SystemTrace.{SlaveReceived}
 use Rattle.gptp_roles.proofs.ChoiceLemmas.{from_port, port_of_path}
@@ -92,6 +92,40 @@ is_slave-other v clock port (helds.Received known path at) elsewhere =
     by_order : (b : Bool) → is_slave (if b then Master else Passive) ≡ false
     by_order true = refl
     by_order false = refl
+
+-- what a port that received is, by what its role says
+abbrev OfReceived : Vector → ℕ → ℕ → Vector → Role → Type 0
+OfReceived v clock port known Disabled = ⊥
+OfReceived v clock port known Slave = v.receiver ≡ port
+OfReceived v clock port known Master = lower (master_of v.root v.steps clock port) known ≡ true
+OfReceived v clock port known Passive = lower (master_of v.root v.steps clock port) known ≡ false
+
+of_received : (v : Vector) (clock port : ℕ) (known : Vector) → OfReceived v clock port known (role_of_received v clock port known)
+of_received v clock port known = by_port (cases_Bool (v.receiver == port)) (cases_Bool (lower (master_of v.root v.steps clock port) known))
+  where
+    by_port : (((v.receiver == port) ≡ true) ⊎ ((v.receiver == port) ≡ false))
+        → ((lower (master_of v.root v.steps clock port) known ≡ true) ⊎ (lower (master_of v.root v.steps clock port) known ≡ false))
+        → OfReceived v clock port known (role_of_received v clock port known)
+    by_port (inl here) order = rw here (eqb-true v.receiver port here)
+    by_port (inr elsewhere) (inl is_lower) = rw (elsewhere, is_lower) is_lower
+    by_port (inr elsewhere) (inr not_lower) = rw (elsewhere, not_lower) not_lower
+
+role_is_of_received : (v : Vector) (clock port : ℕ) (h : Held) (r : Reception) → received h ≡ Some r → OfReceived v clock port r.vector (role_of v clock port h)
+role_is_of_received v clock port h r is = rw is (of_received v clock port r.vector)
+
+-- the chosen vector came from the Slave port
+pub slave_is_receiver : (v : Vector) (clock port : ℕ) (h : Held) (r : Reception) → received h ≡ Some r → role_of v clock port h ≡ Slave → v.receiver ≡ port
+slave_is_receiver v clock port h r is slave = subst (OfReceived v clock port r.vector) slave (role_is_of_received v clock port h r is)
+
+-- what a Master port drops its master vector was lower than
+pub master_is_lower : (v : Vector) (clock port : ℕ) (h : Held) (r : Reception) → received h ≡ Some r → role_of v clock port h ≡ Master
+    → lower (master_of v.root v.steps clock port) r.vector ≡ true
+master_is_lower v clock port h r is master = subst (OfReceived v clock port r.vector) master (role_is_of_received v clock port h r is)
+
+-- what a Passive port keeps its master vector isn't lower than
+pub passive_is_not_lower : (v : Vector) (clock port : ℕ) (h : Held) (r : Reception) → received h ≡ Some r → role_of v clock port h ≡ Passive
+    → lower (master_of v.root v.steps clock port) r.vector ≡ false
+passive_is_not_lower v clock port h r is passive = subst (OfReceived v clock port r.vector) passive (role_is_of_received v clock port h r is)
 
 -- ---- all ports
 
