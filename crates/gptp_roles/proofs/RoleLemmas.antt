@@ -1,55 +1,115 @@
--- Going over the ports one by one.
-use Rattle.std.proofs.Common.{◌≡◌, ℕ, ◌+◌, ◌-◌, ◌<◌, ◌≤◌, List, [], ◌∷◌, ◌++◌, length, get_or, set, take, drop, refl, sym, ap, ◌∙◌, append_assoc, arith}
-use Rattle.std.proofs.lemmas.List.{append-nil, drop_all, drop_more, get_or-append_right, length-take, set_at, take_all, take_more}
+-- The role of one port and what it leaves.
+use Rattle.std.proofs.Common.{◌≡◌, ◌≢◌, ◌⊎◌, ℕ, Bool, true, false, Some, None, refl, sym, ap, subst, ◌∙◌, inl, inr, arith, eq-eqb}
+use Rattle.std.specs.Prelude.{◌==◌, if◌then◌else◌}
+use Rattle.std.proofs.lemmas.Bool.{cases_Bool, eqb-true}
+use Rattle.std.proofs.lemmas.Bool.Decides.{nat_tests}
+use Rattle.gptp_vector.specs.declared.vector.Vector.{Vector}
+use Rattle.gptp_vector.specs.Vector.{lower, master_of}
 use Rattle.gptp_receipt.specs.declared.held.Held.{Held}
-use Rattle.gptp_roles.specs.Role.{each_from, each_port}
+use Rattle.gptp_receipt.specs.declared.held.Held.TheVariants as helds
+use Rattle.gptp_receipt.specs.Held.{Reception, received}
+use Rattle.gptp_roles.specs.declared.role.Role.{Role}
+use Rattle.gptp_roles.specs.declared.role.Role.TheVariants.{Disabled, Master, Slave, Passive}
+use Rattle.gptp_roles.specs.Role.{held_after, is_fresh, is_master, is_slave, role_of, role_of_received}
 
-pub length-each_from : {X : Type 0} (f : ℕ → Held → X) (port : ℕ) (hs : List Held) → length (each_from f port hs) ≡ length hs
-length-each_from f port [] = refl
-length-each_from f port (h ∷ hs) = let ih = length-each_from f (port + 1) hs in omega (arith, ih)
+-- a number equals itself
+equal_itself : (n : ℕ) → (n == n) ≡ true
+equal_itself n = eq-eqb n n refl
 
--- the ports behind others are numbered behind them
-pub each_from-append : {X : Type 0} (f : ℕ → Held → X) (port : ℕ) (gs hs : List Held) → each_from f port (gs ++ hs) ≡ each_from f port gs ++ each_from f (port + length gs) hs
-each_from-append f port [] hs = let here : port ≡ port + 0 = omega arith in ap (λ (p : ℕ). each_from f p hs) here
-each_from-append {X} f port (g ∷ gs) hs =
-    let number : port + 1 + length gs ≡ port + length (g ∷ gs) = omega arith in
-    ap (λ (xs : List X). f port g ∷ xs) (each_from-append f (port + 1) gs hs) ∙ ap (λ (p : ℕ). f port g ∷ (each_from f (port + 1) gs ++ each_from f p hs)) number
+-- a port that isn't Master keeps what it holds
+pub held_after-kept : (v : Vector) (clock port : ℕ) (h : Held) → is_master (role_of v clock port h) ≡ false → held_after v clock port h ≡ h
+held_after-kept v clock port h other = rw other refl
 
--- one port more
-pub each_port-take : {X : Type 0} (f : ℕ → Held → X) (hs : List Held) (i : ℕ) (d : Held) → i < length hs
-    → each_port f (take (i + 1) hs) ≡ each_port f (take i hs) ++ f (i + 1) (get_or hs i d) ∷ []
-each_port-take {X} f hs i d within =
-    let number : 1 + length (take i hs) ≡ i + 1 = omega (arith, length-take i hs) in
-    ap (λ (xs : List Held). each_port f xs) (take_more hs i d within) ∙ each_from-append f 1 (take i hs) (get_or hs i d ∷ [])
-    ∙ ap (λ (p : ℕ). each_port f (take i hs) ++ f p (get_or hs i d) ∷ []) number
+-- a Master port holds the chosen root and steps
+pub held_after-master : (v : Vector) (clock port : ℕ) (h : Held) → is_master (role_of v clock port h) ≡ true → held_after v clock port h ≡ helds.Mine v.root v.steps
+held_after-master v clock port h master = rw master refl
 
--- what was made of the ports so far, and of the next one, is what is made of one port more
-pub each_port-push : {X : Type 0} (f : ℕ → Held → X) (hs : List Held) (i : ℕ) (d : Held) (xs : List X) (x : X) → i < length hs
-    → xs ≡ each_port f (take i hs) → x ≡ f (i + 1) (get_or hs i d) → xs ++ x ∷ [] ≡ each_port f (take (i + 1) hs)
-each_port-push {X} f hs i d xs x within so_far next =
-    ap (λ (ys : List X). ys ++ x ∷ []) so_far ∙ ap (λ (y : X). each_port f (take i hs) ++ y ∷ []) next ∙ sym (each_port-take f hs i d within)
+-- a role that is Master
+master_is : (r : Role) → is_master r ≡ true → r ≡ Master
+master_is Disabled e = absurd cc
+master_is Master e = refl
+master_is Slave e = absurd cc
+master_is Passive e = absurd cc
 
-length-front : (f : ℕ → Held → Held) (hs : List Held) (i : ℕ) → i < length hs → length (each_port f (take i hs)) ≡ i
-length-front f hs i within = omega (arith, length-each_from f 1 (take i hs), length-take i hs)
+-- a port keeps its role
+pub role_of-held_after : (v : Vector) (clock port : ℕ) (h : Held) → role_of v clock port (held_after v clock port h) ≡ role_of v clock port h
+role_of-held_after v clock port h =
+    elim (cases_Bool (is_master (role_of v clock port h))) [
+      | inl master ↦ ap (role_of v clock port) (held_after-master v clock port h master) ∙ sym (master_is (role_of v clock port h) master)
+      | inr other ↦ ap (role_of v clock port) (held_after-kept v clock port h other)
+    ]
 
--- behind the ports that are done each port holds what it held
-pub get_or-half_done : (f : ℕ → Held → Held) (hs : List Held) (i : ℕ) (d : Held) → i < length hs → get_or (each_port f (take i hs) ++ drop i hs) i d ≡ get_or hs i d
-get_or-half_done f hs i d within =
-    let none : i - i ≡ 0 = omega arith in
-    let here = drop_more hs i d within in
-    get_or-append_right (each_port f (take i hs)) (drop i hs) i i d (length-front f hs i within) (omega arith)
-    ∙ ap (λ (n : ℕ). get_or (drop i hs) n d) none ∙ ap (λ (xs : List Held). get_or xs 0 d) here
+-- what a port holds after a selection it holds after the next
+pub held_after-twice : (v : Vector) (clock port : ℕ) (h : Held) → held_after v clock port (held_after v clock port h) ≡ held_after v clock port h
+held_after-twice v clock port h =
+    elim (cases_Bool (is_master (role_of v clock port h))) [
+      | inl master ↦ ap (held_after v clock port) (held_after-master v clock port h master) ∙ sym (held_after-master v clock port h master)
+      | inr other ↦ ap (held_after v clock port) (held_after-kept v clock port h other)
+    ]
 
--- the next port is done
-pub set-half_done : (f : ℕ → Held → Held) (hs : List Held) (i : ℕ) (d y : Held) → i < length hs
-    → set (each_port f (take i hs) ++ drop i hs) i y ≡ (each_port f (take i hs) ++ y ∷ []) ++ drop (i + 1) hs
-set-half_done f hs i d y within =
-    ap (λ (xs : List Held). set (each_port f (take i hs) ++ xs) i y) (drop_more hs i d within)
-    ∙ set_at (each_port f (take i hs)) (get_or hs i d) (drop (i + 1) hs) y i (length-front f hs i within)
-    ∙ sym (append_assoc (each_port f (take i hs)) (y ∷ []) (drop (i + 1) hs))
+-- and it isn't fresh again
+pub is_fresh-held_after : (v : Vector) (clock port : ℕ) (h : Held) → is_fresh v clock port (held_after v clock port h) ≡ false
+is_fresh-held_after v clock port h =
+    elim (cases_Bool (is_master (role_of v clock port h))) [
+      | inl master ↦ ap (is_fresh v clock port) (held_after-master v clock port h master) ∙ rw (equal_itself v.root, equal_itself v.steps) refl
+      | inr other ↦ ap (is_fresh v clock port) (held_after-kept v clock port h other) ∙ rw other refl
+    ]
 
--- all ports are done
-pub each_port-done : (f : ℕ → Held → Held) (hs : List Held) (i : ℕ) (xs : List Held) → length hs ≤ i → xs ≡ each_port f (take i hs) ++ drop i hs → xs ≡ each_port f hs
-each_port-done f hs i xs past so_far =
-    so_far ∙ ap (λ (ys : List Held). each_port f (take i hs) ++ ys) (drop_all i hs past) ∙ append-nil (each_port f (take i hs))
-    ∙ ap (λ (ys : List Held). each_port f ys) (take_all i hs past)
+-- a port then holds as received what it received before, or nothing
+pub received-held_after : (v : Vector) (clock port : ℕ) (h : Held) → (received (held_after v clock port h) ≡ received h) ⊎ (received (held_after v clock port h) ≡ None)
+received-held_after v clock port h =
+    elim (cases_Bool (is_master (role_of v clock port h))) [
+      | inl master ↦ inr (ap received (held_after-master v clock port h master))
+      | inr other ↦ inl (ap received (held_after-kept v clock port h other))
+    ]
+
+-- the port that a vector came from is the Slave
+pub role_of-slave : (v : Vector) (clock port : ℕ) (h : Held) (r : Reception) → received h ≡ Some r → v.receiver ≡ port → role_of v clock port h ≡ Slave
+role_of-slave v clock port h r is here = rw (is, here, equal_itself port) refl
+
+-- no other port is
+pub is_slave-other : (v : Vector) (clock port : ℕ) (h : Held) → (v.receiver ≢ port) → is_slave (role_of v clock port h) ≡ false
+is_slave-other v clock port helds.Disabled elsewhere = refl
+is_slave-other v clock port helds.Aged elsewhere = refl
+is_slave-other v clock port (helds.Mine root steps) elsewhere = refl
+is_slave-other v clock port (helds.Received known path at) elsewhere =
+    let there : (v.receiver == port) ≡ false = grind (arith, nat_tests) in
+    rw there (by_order (lower (master_of v.root v.steps clock port) known))
+  where
+    by_order : (b : Bool) → is_slave (if b then Master else Passive) ≡ false
+    by_order true = refl
+    by_order false = refl
+
+-- what a port that received is, by what its role says
+abbrev OfReceived : Vector → ℕ → ℕ → Vector → Role → Type 0
+OfReceived v clock port known Disabled = ⊥
+OfReceived v clock port known Slave = v.receiver ≡ port
+OfReceived v clock port known Master = lower (master_of v.root v.steps clock port) known ≡ true
+OfReceived v clock port known Passive = lower (master_of v.root v.steps clock port) known ≡ false
+
+of_received : (v : Vector) (clock port : ℕ) (known : Vector) → OfReceived v clock port known (role_of_received v clock port known)
+of_received v clock port known = by_port (cases_Bool (v.receiver == port)) (cases_Bool (lower (master_of v.root v.steps clock port) known))
+  where
+    by_port : (((v.receiver == port) ≡ true) ⊎ ((v.receiver == port) ≡ false))
+        → ((lower (master_of v.root v.steps clock port) known ≡ true) ⊎ (lower (master_of v.root v.steps clock port) known ≡ false))
+        → OfReceived v clock port known (role_of_received v clock port known)
+    by_port (inl here) order = rw here (eqb-true v.receiver port here)
+    by_port (inr elsewhere) (inl is_lower) = rw (elsewhere, is_lower) is_lower
+    by_port (inr elsewhere) (inr not_lower) = rw (elsewhere, not_lower) not_lower
+
+role_is_of_received : (v : Vector) (clock port : ℕ) (h : Held) (r : Reception) → received h ≡ Some r → OfReceived v clock port r.vector (role_of v clock port h)
+role_is_of_received v clock port h r is = rw is (of_received v clock port r.vector)
+
+-- the chosen vector came from the Slave port
+pub slave_is_receiver : (v : Vector) (clock port : ℕ) (h : Held) (r : Reception) → received h ≡ Some r → role_of v clock port h ≡ Slave → v.receiver ≡ port
+slave_is_receiver v clock port h r is slave = subst (OfReceived v clock port r.vector) slave (role_is_of_received v clock port h r is)
+
+-- what a Master port drops its master vector was lower than
+pub master_is_lower : (v : Vector) (clock port : ℕ) (h : Held) (r : Reception) → received h ≡ Some r → role_of v clock port h ≡ Master
+    → lower (master_of v.root v.steps clock port) r.vector ≡ true
+master_is_lower v clock port h r is master = subst (OfReceived v clock port r.vector) master (role_is_of_received v clock port h r is)
+
+-- what a Passive port keeps its master vector isn't lower than
+pub passive_is_not_lower : (v : Vector) (clock port : ℕ) (h : Held) (r : Reception) → received h ≡ Some r → role_of v clock port h ≡ Passive
+    → lower (master_of v.root v.steps clock port) r.vector ≡ false
+passive_is_not_lower v clock port h r is passive = subst (OfReceived v clock port r.vector) passive (role_is_of_received v clock port h r is)

@@ -4,8 +4,9 @@ use Rattle.gptp_receipt.specs.declared.held.Held.{Held}
 use Rattle.gptp_roles.specs.Role.{each_port, held_after, is_fresh, role_of}
 use Rattle.gptp_roles.specs.Selection.{clock_of}
 use Rattle.gptp_roles.proofs.ChoiceLemmas.{receiver_of_chosen}
-use Rattle.gptp_roles.proofs.RoleLemmas.{each_port-done, each_port-push, get_or-half_done, length-each_from, set-half_done}
-use Rattle.gptp_roles.proofs.RestLemmas.{at_rest, placed_after, slave_received}
+use Rattle.gptp_roles.proofs.EachLemmas.{each_port-done, each_port-push, get_or-half_done, length-each_from, set-half_done}
+use Rattle.gptp_roles.proofs.RestLemmas.{at_rest, placed_after}
+use Rattle.gptp_roles.proofs.SlaveLemmas.{slave_received}
 use Rattle.gptp_roles.proofs.selection.select.Goals as goal
 
 pub push-requires : goal.push-requires
