@@ -64,8 +64,8 @@ fn compare_text(alloc: Global, input: &[u8]) -> Result<Output, SimError>
 /// read, and the one line `refused size` is written.
 ///
 /// The answer is [`Status::Refused`] where any line was refused, or the size. Errors:
-/// [`SimError::Read`] only where a read failed, with nothing written; [`SimError::Memory`] with nothing
-/// written; [`SimError::Write`] only where a write failed, with a front of the text written.
+/// [`SimError::Read`] exactly where a read failed, with nothing written; [`SimError::Memory`] with
+/// nothing written; [`SimError::Write`] exactly where a write failed, with a front of the text written.
 pub fn compare_lines<S: Source, K: Sink>(
     alloc: Global,
     source: &mut S,
@@ -76,9 +76,9 @@ pub fn compare_lines<S: Source, K: Sink>(
     ensures whole { OnOk result ((octets : List ℕ) × ReadsWhole size_limit (S.left source.old) (S.left source.new) octets) }
     ensures no_further { TakesAtMost (size_limit + 1) (S.left source.old) (S.left source.new) }
 
-    // no failure of a device is passed over, and none is made up
-    ensures source_works { OnOk result (S.failures source.new ≡ S.failures source.old) }
-    ensures sink_works { OnOk result (K.failures sink.new ≡ K.failures sink.old) }
+    // every failure of a device is told as such, and none is made up
+    ensures source_works { result ≢ Err SimError.Read → S.failures source.new ≡ S.failures source.old }
+    ensures sink_works { result ≢ Err SimError.Write → K.failures sink.new ≡ K.failures sink.old }
     ensures read { result ≡ Err SimError.Read → S.failures source.new ≢ S.failures source.old }
     ensures write { result ≡ Err SimError.Write → K.failures sink.new ≢ K.failures sink.old }
 

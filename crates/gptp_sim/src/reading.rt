@@ -1,6 +1,6 @@
 //! Reading an input whole.
 
-ghost use Rattle.std.specs.Prelude.{◌≡◌, ◌≢◌, ◌+◌, ◌<◌, IfOk, OnOk};
+ghost use Rattle.std.specs.Prelude.{◌≡◌, ◌≢◌, ◌+◌, ◌<◌, IfOk};
 ghost use Rattle.gptp_sim.specs.Device.{ReadsWhole, TakesAtMost};
 
 use crate::device::Source;
@@ -13,8 +13,8 @@ const CHUNK: usize = 8192;
 /// All that a source has left, or its first `limit + 1` octets where it has more than `limit`. No
 /// further octet is read.
 ///
-/// [`SimError::Read`] is answered only where a read failed, [`SimError::Memory`] where memory ran out;
-/// the octets read so far are lost then.
+/// [`SimError::Read`] is answered exactly where a read failed, [`SimError::Memory`] where memory ran
+/// out; the octets read so far are lost then.
 pub fn read_whole<S: Source>(
     alloc: Global,
     source: &mut S,
@@ -23,7 +23,7 @@ pub fn read_whole<S: Source>(
     requires { limit < usize.MAX }
     ensures whole { IfOk result (λ octets. ReadsWhole limit (S.left source.old) (S.left source.new) octets.items) }
     ensures no_further { TakesAtMost (limit + 1) (S.left source.old) (S.left source.new) }
-    ensures works { OnOk result (S.failures source.new ≡ S.failures source.old) }
+    ensures works { result ≢ Err SimError.Read → S.failures source.new ≡ S.failures source.old }
     ensures read { result ≡ Err SimError.Read → S.failures source.new ≢ S.failures source.old }
     ensures no_write { result ≢ Err SimError.Write }
 {
