@@ -48,7 +48,7 @@ impl Default for Held {
     ghost is_default = { λ held. held ≡ Disabled };
 
     fn default() -> Self {
-        Held::Disabled
+        Self::Disabled
     }
 }
 

@@ -83,7 +83,7 @@ impl Trace {
     pub fn as_slice(&self) -> &[ClockId]
         ensures { result.now ≡ self.now }
     {
-        self.clocks.as_slice()
+        &self.clocks
     }
 
     /// Whether the trace has this clock.
