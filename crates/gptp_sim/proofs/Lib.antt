@@ -5,3 +5,4 @@ pub mod LinesLemmas
 pub mod AnswerLemmas
 pub mod CompareLemmas
 pub mod LawLemmas
+pub mod CommandLemmas

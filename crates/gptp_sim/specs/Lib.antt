@@ -5,3 +5,4 @@ pub mod Announced
 pub mod Answer
 pub mod Output
 pub mod CompareText
+pub mod Command

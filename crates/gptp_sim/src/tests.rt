@@ -217,6 +217,10 @@ fn splits_lines_and_words(rt: HostRuntime) -> Result<(), Fail> {
             format!(in alloc; "\n\n{word}")?,
             "refused words\nrefused words\nrefused words\n",
         ),
+        (
+            format!(in alloc; "{word}\n{word} {word}\n")?,
+            "refused words\nequal f6f8fe436af80000000000000001\n",
+        ),
     ] {
         let (text, status) = compared(alloc, input.as_bytes())?;
         assert_eq!(rt; text.as_slice(), want.as_bytes(), "at {input}");

@@ -1,0 +1,221 @@
+-- The words that the parser takes of the program's command line: what it finds wrong with any others.
+use Rattle.std.proofs.Common.{◌≡◌, ◌⊎◌, inl, inr, ℕ, suc, Bool, true, false, ◌==◌, List, [], ◌∷◌, Option, Some, None, length, codes, bytes_eq, refl, sym, ap, arith, chars, slice_get, drop}
+use Rattle.std.proofs.lemmas.Slice.Eq.{bytes_eq-Decides}
+use Rattle.std.specs.Option.{option_map_or}
+use Rattle.clap.specs.Words.{App, HasKind, Kinds, kind_of}
+use Rattle.clap.specs.Kinds.{or_else}
+use Rattle.clap.specs.declared.error.Error.{Error}
+use Rattle.clap.specs.declared.error.kind.ErrorKind.{ErrorKind}
+use Rattle.clap.specs.declared.error.kind.ErrorKind.TheVariants.{OutOfMemory}
+use Rattle.clap.specs.Lexer.{long_of}
+use Rattle.clap.specs.Walk.{Held, Names, Rule, Step, Text, Walk, arg_by_long, arg_by_short, bundle_met, bundle_step, after_flag, idle, long_or_other, nothing_held, plain, short_or_plain, subcommand_met, walk, walk_from, walked}
+use Rattle.clap.specs.Simple.{Shape, built, built_leaf, filled_from, help_rule, names_of, new_shape}
+use Rattle.clap.specs.Faults.{built_fault, bundle_fault, bundle_step_fault, entered_fault, flag_word_fault, fault_of, flags_fault, is_simple_and_free, long_fault, short_fault, step_fault, stray_fault, turn_fault, walk_fault}
+use Rattle.clap.proofs.WalkLemmas.{walk_stopped}
+use Rattle.clap.proofs.OnLiterals.{clap_on_literals}
+use Rattle.gptp_sim.specs.Command.{IsCompare, NamesCompare, program}
+
+-- ---- faults, of which the first that there is counts
+
+some_fault : (kind : ErrorKind) (others : Kinds) → kind ∷ others ≡ [] → ⊥
+some_fault kind others none =
+    let count : suc (length others) ≡ 0 = ap length none in
+    absurd (omega arith)
+
+first_none : (first second : Kinds) → or_else first second ≡ [] → first ≡ []
+first_none [] second none = refl
+first_none (kind ∷ others) second none = none
+
+second_none : (first second : Kinds) → or_else first second ≡ [] → second ≡ []
+second_none [] second none = none
+second_none (kind ∷ others) second none = absurd (some_fault kind others none)
+
+-- ---- a level whose rules are those that building adds: `-h` and `--help`
+
+abbrev help_rules : List Rule
+help_rules = filled_from 1 (help_rule ∷ [])
+
+abbrev with_help : Shape → Shape
+with_help level = record level { rules = help_rules; args_override_self = false }
+
+-- a value is no argument of it
+stray_by : (leaf : Bool) (s : Shape) → s.is_leaf ≡ leaf → stray_fault s ≡ [] → ⊥
+stray_by true s is none = some_fault _ _ (rw is at none)
+stray_by false s is none = some_fault _ _ (rw is at none)
+
+stray : (s : Shape) → stray_fault s ≡ [] → ⊥
+stray s = stray_by s.is_leaf s refl
+
+-- a short flag calls for help or isn't known
+short_wrong : (is_help : Bool) (flag : ℕ) (rest : Text) (next : Held → Kinds) → (104 == flag) ≡ is_help
+    → short_fault help_rules false (arg_by_short help_rules flag) rest nothing_held next ≡ [] → ⊥
+short_wrong true flag rest next is none = some_fault _ _ (rw is at none)
+short_wrong false flag rest next is none = some_fault _ _ (rw is at none)
+
+-- so does a long one
+long_wrong : (is_help : Bool) (name : Text) (value : Option Text) → bytes_eq (codes "help") name ≡ is_help
+    → long_fault help_rules false (arg_by_long help_rules name) value nothing_held ≡ [] → ⊥
+long_wrong true name None is none = some_fault _ _ (rw is at none)
+long_wrong true name (Some text) is none = some_fault _ _ (rw is at none)
+long_wrong false name value is none = some_fault _ _ (rw is at none)
+
+-- ---- a word that names no command and isn't `--`: as a flag it is wrong, and so it is as a value
+
+-- its faults, by those that it has as a flag and by the step that it takes then
+abbrev wrong : Shape → Kinds → Held × Step → Kinds
+wrong s as_flag step = or_else as_flag (step_fault (with_help s) 1 step.0 step.1)
+
+wrong_character : (s : Shape) (word flags : Text) (others : ℕ) (flag : Option ℕ)
+    → wrong s (bundle_step_fault help_rules false flag flags 0 nothing_held (flags_fault help_rules false others))
+    (after_flag help_rules idle word (bundle_step help_rules flag flags 0 plain nothing_held (bundle_met help_rules others)).0
+    (bundle_step help_rules flag flags 0 plain nothing_held (bundle_met help_rules others)).1) ≡ [] → ⊥
+wrong_character s word flags others None none = stray (with_help s) none
+wrong_character s word flags others (Some flag) none = short_wrong (104 == flag) flag _ _ refl (first_none _ _ none)
+
+wrong_bundle : (s : Shape) (word flags : Text)
+    → wrong s (bundle_fault help_rules false flags nothing_held) (short_or_plain help_rules idle word (Some flags) nothing_held) ≡ [] → ⊥
+unfolding flags_fault bundle_met
+wrong_bundle s word [] none = stray (with_help s) none
+wrong_bundle s word (x ∷ xs) none = wrong_character s word (x ∷ xs) (length xs) (slice_get (chars (x ∷ xs)) 0) none
+
+wrong_short : (s : Shape) (word : Text) (short : Option Text)
+    → wrong s (option_map_or (λ flags. bundle_fault help_rules false flags nothing_held) short []) (short_or_plain help_rules idle word short nothing_held) ≡ [] → ⊥
+wrong_short s word None none = stray (with_help s) none
+wrong_short s word (Some flags) none = wrong_bundle s word flags none
+
+wrong_word : (s : Shape) (word : Text) (long : Option (Text × Option Text))
+    → wrong s (flag_word_fault help_rules false long word nothing_held) (long_or_other help_rules idle word long nothing_held) ≡ [] → ⊥
+wrong_word s word None none = wrong_short s word _ none
+wrong_word s word (Some parts) none = long_wrong (bytes_eq (codes "help") parts.0) parts.0 parts.1 refl (first_none _ _ none)
+
+-- where a level begins
+strange : (s : Shape) (names : Names) (word : Text) → subcommand_met names idle word ≡ None → bytes_eq word (codes "--") ≡ false
+    → turn_fault (with_help s) names (walk_from nothing_held) word ≡ [] → ⊥
+strange s names word no-name no-mark none = wrong_word s word (long_of word) (rw (no-name, no-mark) at none)
+
+-- nothing may follow the mark `--`
+trailing_words : (s : Shape) (names : Names) (words : List Text)
+    → walk_fault (with_help s) names (record (walk_from nothing_held) { is_trailing = true }) words ≡ [] → words ≡ []
+unfolding walk_fault
+trailing_words s names [] none = refl
+trailing_words s names (word ∷ words) none = absurd (stray (with_help s) (first_none _ _ none))
+
+-- ---- the words behind `compare`
+
+abbrev below : Shape
+below = with_help (built_leaf (new_shape (codes "compare")))
+
+word_below : (is_mark : Bool) (word : Text) (words : List Text) → bytes_eq word (codes "--") ≡ is_mark
+    → walk_fault below [] (walk_from nothing_held) (word ∷ words) ≡ [] → word ∷ words ≡ codes "--" ∷ []
+unfolding walk_fault walked
+word_below true word words mark none =
+    let word_is : word ≡ codes "--" = (bytes_eq-Decides word (codes "--")).0 mark in
+    let rest : words ≡ [] = trailing_words below [] words (rw word_is at none) in
+    rw (word_is, rest) refl
+word_below false word words mark none = absurd (strange below [] word refl mark (first_none _ _ none))
+
+words_below : (words : List Text) → walk_fault below [] (walk_from nothing_held) words ≡ []
+    → (words ≡ []) ⊎ (words ≡ codes "--" ∷ [])
+words_below [] none = inl refl
+words_below (word ∷ words) none = inr (word_below (bytes_eq word (codes "--")) word words refl none)
+
+-- ---- the words behind the program's name
+
+abbrev top : Shape
+top = with_help (built program).top
+
+abbrev names : Names
+names = names_of (built program)
+
+-- what is wrong with them
+abbrev fault : List Text → Kinds
+fault = built_fault (built program) nothing_held
+
+walk_finds_none : (words : List Text) → fault words ≡ [] → walk_fault top names (walk_from nothing_held) words ≡ []
+walk_finds_none words none = first_none (walk_fault top names (walk_from nothing_held) words) _ none
+
+-- where the walk over them stopped at a command
+abbrev stop : List Text → Option (Text × List Text)
+stop words = (walk help_rules names nothing_held words).stopped
+
+stops_at_compare : (words : List Text) → stop (codes "compare" ∷ words) ≡ Some (codes "compare", words)
+unfolding walked
+stops_at_compare words =
+    ap (λ (w : Walk). w.stopped) (sym (walk_stopped help_rules names (walk_from nothing_held) (codes "compare") [] words))
+
+-- the words behind `compare` are left to it
+words_behind : (words : List Text) → fault (codes "compare" ∷ words) ≡ [] → (words ≡ []) ⊎ (words ≡ codes "--" ∷ [])
+words_behind words none =
+    let later = second_none (walk_fault top names (walk_from nothing_held) (codes "compare" ∷ words)) _ none in
+    let entered : entered_fault (built program) (stop (codes "compare" ∷ words)) ≡ [] = first_none _ _ later in
+    words_below words (first_none (walk_fault below [] (walk_from nothing_held) words) _ (rw (stops_at_compare words) at entered))
+
+-- the mark `--` in place of a command
+mark_alone : (words : List Text) → fault (codes "--" ∷ words) ≡ [] → ⊥
+unfolding clap_on_literals
+mark_alone [] none = some_fault _ _ none
+mark_alone (word ∷ words) none =
+    let nothing : word ∷ words ≡ [] = trailing_words top names (word ∷ words) (walk_finds_none (codes "--" ∷ word ∷ words) none) in
+    let count : suc (length words) ≡ 0 = ap length nothing in
+    absurd (omega arith)
+
+-- a call for help
+help_asked : (words : List Text) → fault (codes "help" ∷ words) ≡ [] → ⊥
+unfolding walk_fault
+help_asked words none = some_fault _ _ (walk_finds_none (codes "help" ∷ words) none)
+
+-- `compare`, and what may stand behind it
+named : (words : List Text) → (words ≡ []) ⊎ (words ≡ codes "--" ∷ []) → IsCompare (codes "compare" ∷ words)
+named words (inl nothing) = inl (rw nothing refl)
+named words (inr mark) = inr (rw mark refl)
+
+-- by what the first word is
+first_word : (is_compare is_help is_mark : Bool) (word : Text) (words : List Text)
+    → bytes_eq (codes "compare") word ≡ is_compare → bytes_eq (codes "help") word ≡ is_help → bytes_eq word (codes "--") ≡ is_mark
+    → fault (word ∷ words) ≡ [] → IsCompare (word ∷ words)
+unfolding walk_fault
+first_word true is_help is_mark word words compare help mark none =
+    let word_is : codes "compare" ≡ word = (bytes_eq-Decides (codes "compare") word).0 compare in
+    rw (← word_is) (named words (words_behind words (rw (← word_is) at none)))
+first_word false true is_mark word words compare help mark none =
+    let word_is : codes "help" ≡ word = (bytes_eq-Decides (codes "help") word).0 help in
+    absurd (help_asked words (rw (← word_is) at none))
+first_word false false true word words compare help mark none =
+    let word_is : word ≡ codes "--" = (bytes_eq-Decides word (codes "--")).0 mark in
+    absurd (mark_alone words (rw word_is at none))
+first_word false false false word words compare help mark none =
+    let no_name : subcommand_met names idle word ≡ None = rw (compare, help) refl in
+    absurd (strange top names word no_name mark (first_none _ _ (walk_finds_none (word ∷ words) none)))
+
+-- no word at all
+nothing_named : fault [] ≡ [] → ⊥
+unfolding clap_on_literals
+nothing_named none = some_fault _ _ none
+
+words_named : (words : List Text) → fault words ≡ [] → IsCompare words
+words_named [] none = absurd (nothing_named none)
+words_named (word ∷ words) none =
+    first_word (bytes_eq (codes "compare") word) (bytes_eq (codes "help") word) (bytes_eq word (codes "--")) word words refl refl refl none
+
+-- ---- a parse of the command line, by the clauses of the parser
+
+-- one that succeeds
+pub accepted_words : (parsed : App) (words : List Text) → parsed ≡ program
+    → (is_simple_and_free parsed ≡ true → fault_of parsed words ≡ []) → NamesCompare words
+accepted_words parsed words is accepted = words_named (drop 1 words) (rw is at accepted refl)
+
+none_wrong : (words : List Text) → NamesCompare words → fault_of program words ≡ []
+unfolding clap_on_literals
+none_wrong words (inl named) = rw named refl
+none_wrong words (inr named) = rw named refl
+
+no_kind : (error : Error) → HasKind [] error → kind_of error ≡ OutOfMemory
+no_kind error (inl memory) = memory
+no_kind error (inr none) = absurd none
+
+-- one that fails
+pub refused_words : (parsed : App) (words : List Text) (error : Error) → parsed ≡ program
+    → (is_simple_and_free parsed ≡ true → HasKind (fault_of parsed words) error) → NamesCompare words → kind_of error ≡ OutOfMemory
+refused_words parsed words error is refused named =
+    let kinds : HasKind (fault_of program words) error = rw is at refused refl in
+    no_kind error (rw (none_wrong words named) at kinds)
