@@ -171,6 +171,36 @@ fn a_root_that_is_not_capable_is_followed_too(rt: HostRuntime) -> Result<(), Fai
 }
 
 #[test]
+fn the_last_of_sixteen_ports_is_followed(rt: HostRuntime) -> Result<(), Fail> {
+    let (own, root) = (identity(246, 3), identity(246, 1));
+    let mut held = [
+        Held::Aged,
+        Held::Aged,
+        Held::Aged,
+        Held::Aged,
+        Held::Aged,
+        Held::Aged,
+        Held::Aged,
+        Held::Aged,
+        Held::Aged,
+        Held::Aged,
+        Held::Aged,
+        Held::Aged,
+        Held::Aged,
+        Held::Aged,
+        Held::Aged,
+        heard(16, root, 0, (1, 1)),
+    ];
+    let selected = select(&own, &mut held);
+    assert_eq!(rt; selected.slave, Some(16));
+    assert_eq!(rt; selected.roles.len(), 16);
+    assert_eq!(rt; selected.roles[0], Role::Master);
+    assert_eq!(rt; selected.roles[15], Role::Slave);
+    assert_mine(&rt, &held[14], root, 1);
+    Ok(())
+}
+
+#[test]
 fn laws_run() {
     chosen_vector_is_one();
     selection_is_at_rest();
