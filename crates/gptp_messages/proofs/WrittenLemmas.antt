@@ -13,11 +13,11 @@ use Rattle.gptp_messages.specs.declared.head.Head.{Head}
 use Rattle.gptp_messages.specs.declared.message.Message.{Message}
 use Rattle.gptp_messages.specs.declared.message.Message.TheVariants as messages
 use Rattle.gptp_messages.specs.declared.message_type.MessageType.TheVariants.{Announce}
-use Rattle.gptp_messages.specs.declared.tlv.TheConstants.{PATH_TRACE}
+use Rattle.gptp_messages.specs.declared.tlv.TlvKind.TheVariants.{PathTrace}
 use Rattle.gptp_messages.specs.Frame.{octet, field}
 use Rattle.gptp_messages.specs.Head.{head_of, message_length, written_head}
 use Rattle.gptp_messages.specs.Path.{path_octets}
-use Rattle.gptp_messages.specs.Tlv.{spelled}
+use Rattle.gptp_messages.specs.Tlv.{spelled, tlv_type_of}
 use Rattle.gptp_messages.specs.Announce.{announce_body_of, announce_tlvs, ReadsPath, path_trace, announce_front, written_body, written_announce, AnnounceFits}
 use Rattle.gptp_messages.specs.Grammar.{header_fault, ReadsAnnounce, Written, MessageFits, ReadsBack}
 use Rattle.gptp_messages.proofs.PathLemmas.{field-big_bytes, length-path_octets, clocks-path_octets}
@@ -27,8 +27,8 @@ use Rattle.gptp_messages.proofs.GrammarLemmas.{one_reading, never_both}
 pub written_announce-front : (head : Head) (body : AnnounceBody) (path : List ℕ) → written_announce head body path ≡ announce_front head body (length path) ++ path_octets path
 written_announce-front head body path =
     let fixed = written_head Announce (68 + 8 * length path) head ++ written_body body in
-    ap (λ (n : ℕ). fixed ++ ((big_bytes 2 PATH_TRACE ++ big_bytes 2 n) ++ path_octets path)) (length-path_octets path)
-    ∙ sym (append_assoc fixed (big_bytes 2 PATH_TRACE ++ big_bytes 2 (8 * length path)) (path_octets path))
+    ap (λ (n : ℕ). fixed ++ ((big_bytes 2 (tlv_type_of PathTrace) ++ big_bytes 2 n) ++ path_octets path)) (length-path_octets path)
+    ∙ sym (append_assoc fixed (big_bytes 2 (tlv_type_of PathTrace) ++ big_bytes 2 (8 * length path)) (path_octets path))
 
 -- a number is read where its octets stand
 field_at : (n i x : ℕ) (f behind : List ℕ) → drop i f ≡ big_bytes n x ++ behind → x < 256 ^ n → field n i f ≡ x

@@ -7,12 +7,11 @@ use Rattle.gptp_messages.specs.declared.announce.AnnounceBody.{AnnounceBody}
 use Rattle.gptp_messages.specs.declared.announce.AnnounceView.{AnnounceView}
 use Rattle.gptp_messages.specs.declared.head.Head.{Head}
 use Rattle.gptp_messages.specs.declared.message_type.MessageType.TheVariants.{Announce}
-use Rattle.gptp_messages.specs.declared.tlv.TheConstants.{PATH_TRACE}
 use Rattle.gptp_messages.specs.declared.tlv.TlvKind.TheVariants.{PathTrace}
 use Rattle.gptp_messages.specs.Frame.{octet, field}
 use Rattle.gptp_messages.specs.Head.{message_length, written_head, HeadFits}
 use Rattle.gptp_messages.specs.Path.{clocks, path_octets}
-use Rattle.gptp_messages.specs.Tlv.{FirstTlv, Tlv, spelled}
+use Rattle.gptp_messages.specs.Tlv.{FirstTlv, Tlv, spelled, tlv_type_of}
 
 -- the fields between the header and the TLVs
 abbrev pub announce_body_of : List ℕ → AnnounceBody
@@ -48,11 +47,11 @@ written_body b =
 
 -- the path trace TLV of a path, also of the empty one
 abbrev pub path_trace : List ℕ → Tlv
-path_trace path = record { tlv_type = PATH_TRACE; value = path_octets path }
+path_trace path = record { tlv_type = tlv_type_of PathTrace; value = path_octets path }
 
 -- all of an Announce but the clocks of its path, of which there are n
 abbrev pub announce_front : Head → AnnounceBody → ℕ → List ℕ
-announce_front head body n = (written_head Announce (68 + 8 * n) head ++ written_body body) ++ (big_bytes 2 PATH_TRACE ++ big_bytes 2 (8 * n))
+announce_front head body n = (written_head Announce (68 + 8 * n) head ++ written_body body) ++ (big_bytes 2 (tlv_type_of PathTrace) ++ big_bytes 2 (8 * n))
 
 -- The one spelling of an Announce: header, fixed part and path trace.
 abbrev pub written_announce : Head → AnnounceBody → List ℕ → List ℕ

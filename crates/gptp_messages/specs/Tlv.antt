@@ -2,7 +2,6 @@
 use Rattle.std.specs.Prelude.{◌≡◌, ℕ, ◌<◌, ◌^◌, ◌==◌, Bool, if◌then◌else◌, List, [], ◌∷◌, ◌++◌, length, Option, Some, None}
 use Rattle.std.specs.List.{flat_map, AllByRecursion}
 use Rattle.byteorder.specs.Endian.{big_bytes}
-use Rattle.gptp_messages.specs.declared.tlv.TheConstants.{PATH_TRACE}
 use Rattle.gptp_messages.specs.declared.tlv.TlvKind.{TlvKind}
 use Rattle.gptp_messages.specs.declared.tlv.TlvKind.TheVariants.{PathTrace}
 
@@ -37,9 +36,12 @@ pub record IsFront (octets : List ℕ) (tlv_type : ℕ) (value rest : List ℕ) 
 abbrev pub HasFront : List ℕ → Type 0
 HasFront octets = (tlv_type : ℕ) × (value : List ℕ) × (rest : List ℕ) × IsFront octets tlv_type value rest
 
--- what marks a TLV of a kind
+-- the tlvType of each kind that is looked for (IEEE 1588-2019, table 52)
+abbrev pub tlv_type_of : TlvKind → ℕ
+tlv_type_of PathTrace = 0x0008
+
 abbrev pub is_of_kind : TlvKind → ℕ → Bool
-is_of_kind PathTrace tlv_type = tlv_type == PATH_TRACE
+is_of_kind kind tlv_type = tlv_type == tlv_type_of kind
 
 -- the value of the first of the TLVs that is of a kind
 abbrev pub first_value : TlvKind → List Tlv → Option (List ℕ)

@@ -1,12 +1,13 @@
 //! The messages of gPTP as octets.
 //!
 //! IEEE 802.1AS-2020 (10.5, 10.6, 11.4) sends the messages of IEEE 1588-2019 (clause 13) in Ethernet
-//! frames. This crate reads Announce, in place and without taking memory: the path trace is lent out
-//! of the frame.
+//! frames. This crate reads Announce, in place and without taking memory, the path trace lent out of
+//! the frame, and writes it.
 //!
 //! The grammar is a relation between a whole frame and the fields of a message. [`decode`] answers
 //! with a message exactly where the frame reads as it, and refuses exactly where a test fails, by the
-//! first that does. What a lent path answers are the numbers that stand in the frame.
+//! first that does. What a lent path answers are the numbers that stand in the frame. [`encode`]
+//! appends the one spelling of a message, which reads as that message and as nothing else.
 #![tactic(auto)]
 
 mod announce;

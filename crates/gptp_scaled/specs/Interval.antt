@@ -1,3 +1,4 @@
+-- The range of the correctionField.
 use Rattle.std.specs.Prelude.{ℤ, FitsSigned}
 use Rattle.std.specs.Int.{w64}
 

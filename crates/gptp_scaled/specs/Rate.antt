@@ -1,3 +1,4 @@
+-- Rates, and times that they change.
 use Rattle.std.specs.Prelude.{ℤ, pos, neg_ℤ, ◌+ℤ◌, ◌-ℤ◌, ◌*ℤ◌, ◌^◌, ◌≤ℤ◌, int_lt, FitsSigned, if◌then◌else◌}
 use Rattle.std.specs.Int.{w32, int_min, int_max}
 use Rattle.gptp_scaled.specs.Floor.{floor_div}

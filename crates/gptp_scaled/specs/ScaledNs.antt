@@ -1,3 +1,4 @@
+-- The range of times.
 use Rattle.std.specs.Prelude.{ℤ, pos, neg_ℤ, ◌^◌, ◌≤ℤ◌, ◌<ℤ◌}
 
 -- z is a signed number of 96 bits (ScaledNs, IEEE 802.1AS-2020, 6.4.3.1)

@@ -1,3 +1,4 @@
+-- Timestamps, and times taken apart into a timestamp and a rest.
 use Rattle.std.specs.Prelude.{◌≡◌, ℕ, ◌+◌, ◌*◌, ◌^◌, ◌<◌, ℤ, pos, ◌+ℤ◌, ◌≤ℤ◌, ◌<ℤ◌}
 
 -- a Timestamp (IEEE 1588-2019, 5.3.3): secondsField and nanosecondsField

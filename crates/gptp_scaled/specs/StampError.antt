@@ -1,3 +1,4 @@
+-- How a refusal of a timestamp is shown.
 use Rattle.std.specs.Prelude.{ℕ, List, codes}
 use Rattle.gptp_scaled.specs.declared.stamp.StampError.{StampError}
 use Rattle.gptp_scaled.specs.declared.stamp.StampError.TheVariants.{NanosTooLarge, SecondsTooLarge}
