@@ -10,7 +10,7 @@ use Rattle.std.proofs.lemmas.List.Folds.{list_any-append}
 use Rattle.gptp_sim.specs.declared.answer.Answer.{Answer}
 use Rattle.gptp_sim.specs.declared.failure.Status.{Status}
 use Rattle.gptp_sim.specs.Answer.{Answers, answer_text, is_refusal}
-use Rattle.gptp_sim.specs.Device.{ReadsWhole}
+use Rattle.gptp_sim.specs.Source.{ReadsWhole}
 use Rattle.gptp_sim.specs.Failure.{status_by}
 use Rattle.gptp_sim.specs.Output.{text_of}
 use Rattle.gptp_sim.specs.CompareText.{size_limit, AreAnswers, AnswersLines, CompareText}

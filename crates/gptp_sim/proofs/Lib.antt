@@ -1,4 +1,5 @@
-pub mod DeviceLemmas
+pub mod SourceLemmas
+pub mod SinkLemmas
 pub mod SplitLemmas
 pub mod WordsLemmas
 pub mod LinesLemmas

@@ -1,4 +1,5 @@
-pub mod Device
+pub mod Source
+pub mod Sink
 pub mod Failure
 pub mod Words
 pub mod Announced

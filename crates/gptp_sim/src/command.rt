@@ -7,8 +7,9 @@ ghost use Rattle.gptp_sim.specs.Command.{NamesCompare, line_status, program};
 ghost use Rattle.gptp_sim.specs.declared.command.LineError.TheVariants.{Memory};
 
 use crate::compare::compare_lines;
-use crate::device::{CountedReader, CountedWriter};
 use crate::failure::{SimError, Status, exit_status};
+use crate::sink::CountedWriter;
+use crate::source::CountedReader;
 use clap::Command;
 use clap::error::ErrorKind;
 use std::alloc::{AllocError, Global};

@@ -2,16 +2,18 @@
 
 ghost use Rattle.std.specs.Prelude.{◌≡◌, ◌≢◌, ◌+◌, List, ℕ, IfOk, OnOk, IfErr, IfSome, string_bytes};
 ghost use Rattle.std.specs.Io.KnownBytes.{Appends, Keeps};
-ghost use Rattle.gptp_sim.specs.Device.{ReadsWhole, TakesAtMost, AppendsFront};
+ghost use Rattle.gptp_sim.specs.Source.{ReadsWhole, TakesAtMost};
+ghost use Rattle.gptp_sim.specs.Sink.{AppendsFront};
 ghost use Rattle.gptp_sim.specs.Output.{text_of};
 ghost use Rattle.gptp_sim.specs.CompareText.{size_limit, AnswersLines, CompareText};
 
 use crate::answer::answer_to;
-use crate::device::{Sink, Source};
 use crate::failure::{SimError, Status};
 use crate::lines::first_line;
 use crate::output::Output;
 use crate::reading::read_whole;
+use crate::sink::Sink;
+use crate::source::Source;
 use crate::writing::write_whole;
 use std::alloc::Global;
 

@@ -4,7 +4,8 @@ ghost use Rattle.std.specs.Prelude.{◌≡◌};
 ghost use Rattle.gptp_sim.specs.declared.failure.SimError.TheVariants.{Memory, Read, Write};
 ghost use Rattle.gptp_sim.specs.Failure.{status_by, exit_status};
 
-use crate::device::{ReadFailed, WriteFailed};
+use crate::sink::WriteFailed;
+use crate::source::ReadFailed;
 use std::alloc::{AllocError, AllocFailed};
 use thiserror::Error;
 

@@ -12,12 +12,13 @@ mod announced;
 mod answer;
 mod command;
 mod compare;
-mod device;
 mod failure;
 mod laws;
 mod lines;
 mod output;
 mod reading;
+mod sink;
+mod source;
 #[cfg(test)]
 mod tests;
 mod words;

@@ -1,10 +1,10 @@
 //! Reading an input whole.
 
 ghost use Rattle.std.specs.Prelude.{◌≡◌, ◌≢◌, ◌+◌, ◌<◌, IfOk};
-ghost use Rattle.gptp_sim.specs.Device.{ReadsWhole, TakesAtMost};
+ghost use Rattle.gptp_sim.specs.Source.{ReadsWhole, TakesAtMost};
 
-use crate::device::Source;
 use crate::failure::SimError;
+use crate::source::Source;
 use std::alloc::Global;
 
 /// How many octets are asked for at once.

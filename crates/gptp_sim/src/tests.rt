@@ -1,8 +1,9 @@
 //! Whole runs of `compare` over memory, and over devices that fail.
 
 use crate::compare::compare_lines;
-use crate::device::{CountedReader, CountedWriter};
 use crate::failure::{SimError, Status};
+use crate::sink::CountedWriter;
+use crate::source::CountedReader;
 use std::alloc::{AllocError, Global};
 use std::io::{self, Read, Write};
 use std::test::Fail;

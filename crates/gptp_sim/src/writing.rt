@@ -2,9 +2,9 @@
 
 ghost use Rattle.std.specs.Prelude.{◌≡◌, ◌≢◌, OnOk, OnErr};
 ghost use Rattle.std.specs.Io.KnownBytes.{Appends};
-ghost use Rattle.gptp_sim.specs.Device.{AppendsFront};
+ghost use Rattle.gptp_sim.specs.Sink.{AppendsFront};
 
-use crate::device::{Sink, WriteFailed};
+use crate::sink::{Sink, WriteFailed};
 
 /// Writes a text, by single writes one after the other.
 ///

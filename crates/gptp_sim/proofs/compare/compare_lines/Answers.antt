@@ -1,6 +1,6 @@
 use Rattle.std.specs.Prelude.{string_bytes}
 use Rattle.std.specs.Io.KnownBytes.{Appends}
-use Rattle.gptp_sim.specs.Device.{AppendsFront}
+use Rattle.gptp_sim.specs.Sink.{AppendsFront}
 use Rattle.gptp_sim.proofs.CompareLemmas.{text_holds}
 use Rattle.gptp_sim.proofs.compare.compare_lines.Goals as goal
 

@@ -1,6 +1,6 @@
 use Rattle.std.proofs.Common.{◌+◌, take, arith}
 use Rattle.std.proofs.lemmas.Grind.{common_steps}
-use Rattle.gptp_sim.proofs.DeviceLemmas.{takes_both}
+use Rattle.gptp_sim.proofs.SourceLemmas.{takes_both}
 use Rattle.gptp_sim.proofs.reading.read_whole.Goals as goal
 
 pub returns-in_err-extend_from_slice-clause-no_further : goal.returns-in_err-extend_from_slice-clause-no_further

@@ -1,6 +1,6 @@
 use Rattle.std.proofs.Common.{rules, ◌∙◌, take, drop, arith}
 use Rattle.std.proofs.Math.Seq.{take-add}
-use Rattle.gptp_sim.proofs.DeviceLemmas.{appends_both}
+use Rattle.gptp_sim.proofs.SinkLemmas.{appends_both}
 use Rattle.gptp_sim.proofs.writing.write_whole.Goals as goal
 
 pub loop-start-preserved : goal.loop-start-preserved

@@ -1,7 +1,7 @@
--- What several calls of a device do, taken together.
+-- What several reads take, together.
 use Rattle.std.proofs.Common.{◌≡◌, ℕ, ◌+◌, ◌≤◌, List, ◌++◌, length, Option, Some, None, arith, append_assoc, length-append}
-use Rattle.std.specs.Io.KnownBytes.{Consumes, Appends}
-use Rattle.gptp_sim.specs.Device.{TakesAtMost}
+use Rattle.std.specs.Io.KnownBytes.{Consumes}
+use Rattle.gptp_sim.specs.Source.{TakesAtMost}
 
 -- what two reads took, the second behind the first, is no more than both together
 pub takes_both : (most : ℕ) (old between new : Option (List ℕ)) (first second : List ℕ) → Consumes old between first → Consumes between new second
@@ -12,12 +12,3 @@ takes_both most (Some xs) (Some ys) None first second one two few = absurd two
 takes_both most (Some xs) (Some ys) (Some zs) first second one two few =
     let e : xs ≡ (first ++ second) ++ zs = rw append_assoc (cc) in
     (first ++ second, e, simp length-append few)
-
--- two fronts written one behind the other are one front
-pub appends_both : (old between new : Option (List ℕ)) (first second : List ℕ) → Appends old between first → Appends between new second
-    → Appends old new (first ++ second)
-appends_both None between new first second one two = tt
-appends_both (Some xs) None new first second one two = absurd one
-appends_both (Some xs) (Some ys) None first second one two = absurd two
-appends_both (Some xs) (Some ys) (Some zs) first second one two =
-    let e : zs ≡ xs ++ (first ++ second) = rw (← append_assoc) (cc) in e
