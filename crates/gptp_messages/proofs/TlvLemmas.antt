@@ -129,7 +129,7 @@ one_first kind octets v w first also =
 
 -- ---- a walk over TLVs
 
-first_value-step : (kind : TlvKind) (t : Tlv) (ts us : List Tlv) (b : Bool) → is_of_kind kind t.tlv_type ≡ b
+first_value-step : (kind : TlvKind) (t : Tlv) (ts us : List Tlv) (b : Bool) → is_of_kind kind t ≡ b
     → first_value kind (ts ++ us) ≡ either (first_value kind ts) (first_value kind us)
     → first_value kind (t ∷ (ts ++ us)) ≡ either (first_value kind (t ∷ ts)) (first_value kind us)
 first_value-step kind t ts us true is behind = rw is refl
@@ -138,7 +138,7 @@ first_value-step kind t ts us false is behind = rw is behind
 -- the first of a kind is looked for in the front, and then behind it
 first_value-append : (kind : TlvKind) (ts us : List Tlv) → first_value kind (ts ++ us) ≡ either (first_value kind ts) (first_value kind us)
 first_value-append kind [] us = refl
-first_value-append kind (t ∷ ts) us = first_value-step kind t ts us (is_of_kind kind t.tlv_type) refl (first_value-append kind ts us)
+first_value-append kind (t ∷ ts) us = first_value-step kind t ts us (is_of_kind kind t) refl (first_value-append kind ts us)
 
 -- the octets are some TLVs that fit and then the rest, and `found` is the first value of a kind among them
 pub record Walked (kind : TlvKind) (octets rest : List ℕ) (found : Option (List ℕ)) : Type 0 where
@@ -168,7 +168,7 @@ spelled-push ts t = ap (λ (x : List ℕ). flat_map spelled ts ++ x) (sym (appen
 
 pub walk_goes_on : (kind : TlvKind) (octets rest : List ℕ) (found : Option (List ℕ)) (tlv_type : ℕ) (value behind : List ℕ)
     → Walked kind octets rest found → IsFront rest tlv_type value behind
-    → Walked kind octets behind (either found (if is_of_kind kind tlv_type then Some value else None))
+    → Walked kind octets behind (either found (if is_of_kind kind (record { tlv_type = tlv_type; value = value }) then Some value else None))
 walk_goes_on kind octets rest found tlv_type value behind walked front =
     let t : Tlv = record { tlv_type = tlv_type; value = value } in
     record {

@@ -1,11 +1,11 @@
 -- The common header of a message (IEEE 1588-2019, 13.3; IEEE 802.1AS-2020, 10.6.2).
-use Rattle.std.specs.Prelude.{ℕ, ◌+◌, ◌/◌, ◌%◌, ◌^◌, ◌<◌, ◌==◌, if◌then◌else◌, List, [], ◌∷◌, ◌++◌, FitsSigned}
+use Rattle.std.specs.Prelude.{ℕ, ◌+◌, ◌/◌, ◌%◌, ◌^◌, ◌<◌, ◌==◌, if◌then◌else◌, List, [], ◌∷◌, ◌++◌, length, FitsSigned}
 use Rattle.std.specs.Int.{w8, w64, cast_signed, cast_unsigned}
 use Rattle.byteorder.specs.Endian.{big_bytes}
 use Rattle.gptp_messages.specs.declared.head.Head.{Head}
 use Rattle.gptp_messages.specs.declared.message_type.MessageType.{MessageType}
 use Rattle.gptp_messages.specs.MessageType.{number_of}
-use Rattle.gptp_messages.specs.Frame.{octet, field, high_nibble, low_nibble}
+use Rattle.gptp_messages.specs.Frame.{octet, field, high_nibble, low_nibble, port_at, written_port, PortFits}
 
 abbrev pub major_sdo_id : List ℕ → ℕ
 major_sdo_id f = high_nibble (octet 0 f)
@@ -29,7 +29,7 @@ minor_sdo_id f = octet 5 f
 -- flags other than twoStep may hold anything.
 abbrev pub head_of : List ℕ → Head
 head_of f = record {
-  source = record { clock = field 8 20 f; port = field 2 28 f };
+  source = port_at 20 f;
   sequence = field 2 30 f;
   correction = cast_signed w64 (field 8 8 f);
   log_interval = cast_signed w8 (octet 33 f);
@@ -42,14 +42,17 @@ abbrev pub written_head : MessageType → ℕ → Head → List ℕ
 written_head kind length h =
     (0x10 + number_of kind) ∷ 0x12 ∷ big_bytes 2 length
     ++ (0 ∷ 0 ∷ (if h.two_step then 2 else 0) ∷ 8 ∷ big_bytes 8 (cast_unsigned w64 h.correction))
-    ++ (0 ∷ 0 ∷ 0 ∷ 0 ∷ big_bytes 8 h.source.clock)
-    ++ (big_bytes 2 h.source.port ++ big_bytes 2 h.sequence)
+    ++ (0 ∷ 0 ∷ 0 ∷ 0 ∷ written_port h.source)
+    ++ big_bytes 2 h.sequence
     ++ (0 ∷ cast_unsigned w8 h.log_interval ∷ [])
 
 -- each field of a header fits its octets
 pub record HeadFits (h : Head) : Type 0 where
-  pub clock : h.source.clock < 2 ^ 64
-  pub port : h.source.port < 2 ^ 16
+  pub source : PortFits h.source
   pub sequence : h.sequence < 2 ^ 16
   pub correction : FitsSigned w64 h.correction
   pub log_interval : FitsSigned w8 h.log_interval
+
+-- The one spelling of a message: its header, whose messageLength is that of the whole, and what stands behind it.
+abbrev pub written_message : MessageType → Head → List ℕ → List ℕ
+written_message kind head behind = written_head kind (34 + length behind) head ++ behind

@@ -1,9 +1,10 @@
 -- TLVs (IEEE 1588-2019, 14.1): tlvType, lengthField and valueField, one after the other.
-use Rattle.std.specs.Prelude.{◌≡◌, ℕ, ◌<◌, ◌^◌, ◌==◌, Bool, if◌then◌else◌, List, [], ◌∷◌, ◌++◌, length, Option, Some, None}
+use Rattle.std.specs.Prelude.{◌≡◌, ℕ, ◌<◌, ◌^◌, ◌==◌, Bool, nat_lt, not, ◌&&◌, if◌then◌else◌, List, [], ◌∷◌, ◌++◌, length, Option, Some, None}
 use Rattle.std.specs.List.{flat_map, AllByRecursion}
 use Rattle.byteorder.specs.Endian.{big_bytes}
 use Rattle.gptp_messages.specs.declared.tlv.TlvKind.{TlvKind}
-use Rattle.gptp_messages.specs.declared.tlv.TlvKind.TheVariants.{PathTrace}
+use Rattle.gptp_messages.specs.declared.tlv.TlvKind.TheVariants.{PathTrace, Information}
+use Rattle.gptp_messages.specs.Frame.{field}
 
 pub record Tlv : Type 0 where
   pub tlv_type : ℕ
@@ -39,14 +40,21 @@ HasFront octets = (tlv_type : ℕ) × (value : List ℕ) × (rest : List ℕ) ×
 -- the tlvType of each kind that is looked for (IEEE 1588-2019, table 52)
 abbrev pub tlv_type_of : TlvKind → ℕ
 tlv_type_of PathTrace = 0x0008
+tlv_type_of Information = 0x0003
 
-abbrev pub is_of_kind : TlvKind → ℕ → Bool
-is_of_kind kind tlv_type = tlv_type == tlv_type_of kind
+-- organizationId 00-80-C2 and organizationSubType 00-00-01 stand in front (IEEE 802.1AS-2020, 11.4.4.3.3 and 11.4.4.3.4)
+abbrev pub is_information : List ℕ → Bool
+is_information value = not (nat_lt (length value) 6) && field 6 0 value == 0x0080C2000001
+
+-- A TLV of an organization is the information TLV where organization and subtype are; all others are passed over.
+abbrev pub is_of_kind : TlvKind → Tlv → Bool
+is_of_kind PathTrace t = t.tlv_type == tlv_type_of PathTrace
+is_of_kind Information t = t.tlv_type == tlv_type_of Information && is_information t.value
 
 -- the value of the first of the TLVs that is of a kind
 abbrev pub first_value : TlvKind → List Tlv → Option (List ℕ)
 first_value kind [] = None
-first_value kind (t ∷ ts) = if is_of_kind kind t.tlv_type then Some t.value else first_value kind ts
+first_value kind (t ∷ ts) = if is_of_kind kind t then Some t.value else first_value kind ts
 
 -- the first of two values, where there is one
 abbrev pub either : Option (List ℕ) → Option (List ℕ) → Option (List ℕ)

@@ -1,8 +1,9 @@
 //! The Announce message.
 
-ghost use Rattle.std.specs.Prelude.{◌≡◌, ◌+◌, ◌*◌, ◌≤◌, ◌++◌, ℕ, List, length, vec_len, vec_capacity, IfOk, IfErr, OnOk, OnErr};
+ghost use Rattle.std.specs.Prelude.{◌≡◌, ◌+◌, ◌*◌, ◌≤◌, ◌<◌, ◌++◌, ℕ, List, length, vec_len, vec_capacity, IfOk, IfErr, OnOk, OnErr};
 ghost use Rattle.gptp_messages.specs.Announce.{announce_front, written_announce};
-ghost use Rattle.gptp_messages.specs.Head.{message_length};
+ghost use Rattle.gptp_messages.specs.Head.{message_length, written_message};
+ghost use Rattle.gptp_messages.specs.declared.message_type.MessageType.TheVariants.{Announce};
 ghost use Rattle.gptp_messages.specs.Path.{path_octets};
 
 use crate::frame::{identity_at, put, u16_at};
@@ -124,6 +125,7 @@ fn put_front(
     ensures ok { OnOk result (out.new.items ≡ out.old.items ++ announce_front head.now body.now count) }
     ensures room { OnOk result (vec_len out.new + 8 * count ≤ vec_capacity out.new) }
     ensures err { OnErr result (out.new.items ≡ out.old.items) }
+    ensures full { OnErr result (vec_capacity out.old < vec_len out.old + (68 + 8 * count)) }
 {
     let length = 8 * count as u16;
     out.reserve(68 + usize::from(length))?;
@@ -135,15 +137,17 @@ fn put_front(
 }
 
 /// Appends one Announce with a path trace, as the one spelling that its fields have (IEEE 1588-2019,
-/// 13.3, 13.5 and 16.2). Refused for want of memory alone, and nothing is appended then.
+/// 13.3, 13.5 and 16.2), 68 octets and 8 for each clock. Refused for want of memory alone, and only where the
+/// capacity doesn't suffice; nothing is appended then.
 pub fn encode_announce(
     head: &Head,
     body: &AnnounceBody,
     path: &Trace,
     out: &mut Vec<u8>,
 ) -> Result<(), AllocError>
-    ensures ok { OnOk result (out.new.items ≡ out.old.items ++ written_announce head.now body.now path.now) }
+    ensures ok { OnOk result (out.new.items ≡ out.old.items ++ written_message Announce head.now (written_announce body.now path.now)) }
     ensures err { OnErr result (out.new.items ≡ out.old.items) }
+    ensures full { OnErr result (vec_capacity out.old < vec_len out.old + (68 + 8 * length path.now)) }
 {
     put_front(head, body, path.len(), out)?;
     put_clocks(path.as_slice(), out);
@@ -162,12 +166,15 @@ fn put_clocks(clocks: &[ClockId], out: &mut Vec<u8>)
 
 impl AnnounceView<'_> {
     ghost use Rattle.gptp_messages.specs.Announce.{written_announce};
+    ghost use Rattle.gptp_messages.specs.Head.{written_message};
+    ghost use Rattle.gptp_messages.specs.declared.message_type.MessageType.TheVariants.{Announce};
 
     /// Appends the Announce in its one spelling.
     pub(crate) fn encode(&self, out: &mut Vec<u8>) -> Result<(), AllocError>
         requires { length self.now.path ≤ 256 }
-        ensures ok { OnOk result (out.new.items ≡ out.old.items ++ written_announce self.now.head self.now.body self.now.path) }
+        ensures ok { OnOk result (out.new.items ≡ out.old.items ++ written_message Announce self.now.head (written_announce self.now.body self.now.path)) }
         ensures err { OnErr result (out.new.items ≡ out.old.items) }
+        ensures full { OnErr result (vec_capacity out.old < vec_len out.old + (68 + 8 * length self.now.path)) }
     {
         put_front(&self.head, &self.body, self.path.len(), out)?;
         put(out, self.path.octets());

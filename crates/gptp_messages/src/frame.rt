@@ -1,7 +1,7 @@
 //! Numbers in a frame: unsigned and most significant octet first.
 
-ghost use Rattle.std.specs.Prelude.{◌≡◌, ◌+◌, ◌≤◌, ◌++◌, length, vec_len, vec_capacity};
-ghost use Rattle.gptp_messages.specs.Frame.{field};
+ghost use Rattle.std.specs.Prelude.{◌≡◌, ◌+◌, ◌≤◌, ◌<◌, ◌^◌, ◌++◌, length, vec_len, vec_capacity};
+ghost use Rattle.gptp_messages.specs.Frame.{field, port_at, written_port};
 
 use byteorder::{BigEndian, ByteOrder};
 use gptp_vector::{ClockId, Identity, PortId};
@@ -13,6 +13,25 @@ pub(crate) fn u16_at(frame: &[u8], at: usize) -> u16
     ensures { result ≡ field 2 at frame.now }
 {
     BigEndian::read_u16(&frame[at..])
+}
+
+/// The number in four octets.
+#[tactic(auto, unfolding(crate::specs::Frame::field))]
+pub(crate) fn u32_at(frame: &[u8], at: usize) -> u32
+    requires { at + 4 ≤ length frame.now }
+    ensures { result ≡ field 4 at frame.now }
+{
+    BigEndian::read_u32(&frame[at..])
+}
+
+/// The number in six octets.
+#[tactic(auto, unfolding(crate::specs::Frame::field))]
+pub(crate) fn u48_at(frame: &[u8], at: usize) -> u64
+    requires { at + 6 ≤ length frame.now }
+    ensures number { result ≡ field 6 at frame.now }
+    ensures fits { result < 2 ^ 48 }
+{
+    BigEndian::read_u48(&frame[at..])
 }
 
 /// The number in eight octets.
@@ -35,13 +54,22 @@ pub(crate) fn clock_at(frame: &[u8], at: usize) -> ClockId
 /// The portIdentity in ten octets.
 pub(crate) fn port_at(frame: &[u8], at: usize) -> PortId
     requires { at + 10 ≤ length frame.now }
-    ensures clock { result.clock ≡ field 8 at frame.now }
-    ensures port { result.port ≡ field 2 (at + 8) frame.now }
+    ensures { result ≡ port_at at frame.now }
 {
     PortId {
         clock: clock_at(frame, at),
         port: u16_at(frame, at + 8),
     }
+}
+
+/// The octets of a portIdentity.
+pub(crate) fn port_octets(port: PortId) -> [u8; 10]
+    ensures { result ≡ written_port port }
+{
+    let mut octets = [0; 10];
+    octets[..8].copy_from_slice(&port.clock.octets());
+    BigEndian::write_u16(&mut octets[8..], port.port);
+    octets
 }
 
 /// The system identity in fourteen octets.

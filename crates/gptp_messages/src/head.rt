@@ -1,15 +1,17 @@
 //! The common header of every message.
 
-ghost use Rattle.std.specs.Prelude.{◌≡◌, ◌≤◌, length};
+ghost use Rattle.std.specs.Prelude.{◌≡◌, ◌+◌, ◌≤◌, ◌<◌, ◌++◌, length, vec_len, vec_capacity, OnOk, OnErr};
+ghost use Rattle.gptp_messages.specs.Head.{written_message};
 
-use crate::frame::{port_at, u16_at, u64_at};
+use crate::frame::{port_at, port_octets, put, u16_at, u64_at};
 use crate::message_type::MessageType;
 use byteorder::{BigEndian, ByteOrder};
 use gptp_vector::PortId;
+use std::alloc::AllocError;
 
 /// What the common header of a message says (IEEE 1588-2019, 13.3; IEEE 802.1AS-2020, 10.6.2 and
 /// 11.4.2), but for what is the same in all messages of one type.
-#[derive(Clone, Copy, Debug, PartialEq, Eq)]
+#[derive(Clone, Copy, Debug, PartialEq, Eq, Default)]
 pub struct Head {
     /// The sourcePortIdentity.
     pub source: PortId,
@@ -57,10 +59,28 @@ impl Head {
         }
         octets[7] = 0x08;
         BigEndian::write_i64(&mut octets[8..], self.correction);
-        octets[20..28].copy_from_slice(&self.source.clock.octets());
-        BigEndian::write_u16(&mut octets[28..], self.source.port);
+        octets[20..30].copy_from_slice(&port_octets(self.source));
         BigEndian::write_u16(&mut octets[30..], self.sequence);
         octets[33] = self.log_interval.cast_unsigned();
         octets
     }
+}
+
+/// Appends a message: its header, and the octets behind it. Without memory nothing is appended.
+pub(crate) fn put_message(
+    head: &Head,
+    message_type: MessageType,
+    behind: &[u8],
+    out: &mut Vec<u8>,
+) -> Result<(), AllocError>
+    requires { length behind.now < 65000 }
+    ensures ok { OnOk result (out.new.items ≡ out.old.items ++ written_message message_type head.now behind.now) }
+    ensures err { OnErr result (out.new.items ≡ out.old.items) }
+    ensures full { OnErr result (vec_capacity out.old < vec_len out.old + (34 + length behind.now)) }
+{
+    let length = HEADER_LENGTH + behind.len();
+    out.reserve(length)?;
+    put(out, &head.octets(message_type, length as u16));
+    put(out, behind);
+    Ok(())
 }

@@ -6,6 +6,11 @@ ghost use Rattle.gptp_messages.specs.MessageType.{least_length, type_of};
 /// A messageType that is read (IEEE 1588-2019, table 36).
 #[derive(Clone, Copy, Debug, PartialEq, Eq)]
 pub(crate) enum MessageType {
+    Sync = 0x0,
+    PdelayReq = 0x2,
+    PdelayResp = 0x3,
+    FollowUp = 0x8,
+    PdelayRespFollowUp = 0xA,
     Announce = 0xB,
 }
 
@@ -15,6 +20,11 @@ impl MessageType {
         ensures { result ≡ type_of number }
     {
         match number {
+            0x0 => Some(MessageType::Sync),
+            0x2 => Some(MessageType::PdelayReq),
+            0x3 => Some(MessageType::PdelayResp),
+            0x8 => Some(MessageType::FollowUp),
+            0xA => Some(MessageType::PdelayRespFollowUp),
             0xB => Some(MessageType::Announce),
             _ => None,
         }
@@ -25,6 +35,10 @@ impl MessageType {
         ensures { result ≡ least_length self }
     {
         match self {
+            MessageType::Sync => 44,
+            MessageType::PdelayReq | MessageType::PdelayResp | MessageType::PdelayRespFollowUp =>
+                54,
+            MessageType::FollowUp => 76,
             MessageType::Announce => 64,
         }
     }

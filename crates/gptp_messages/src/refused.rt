@@ -19,7 +19,8 @@ pub enum Refused {
     LengthField = 5,
     /// domainNumber isn't 0.
     Domain = 6,
-    /// The TLVs don't fill their place, or the first path trace isn't a list of clockIdentities.
+    /// The TLVs don't fill their place, the first path trace of an Announce isn't a list of
+    /// clockIdentities, or a Follow_Up has no information TLV or a first one that hasn't 28 octets.
     Tlv = 7,
     /// A timestamp has a whole second or more of nanoseconds.
     StampRange = 8,

@@ -2,30 +2,46 @@
 
 ghost use Rattle.std.specs.Prelude.{◌≡◌, IfOk, IfErr, Some, None, if◌then◌else◌};
 ghost use Rattle.std.specs.Option.{option_copied};
-ghost use Rattle.gptp_messages.specs.Tlv.{is_of_kind, IsFront, HasFront, FirstTlv, HasTlvs, either};
+ghost use Rattle.gptp_messages.specs.Tlv.{is_information, is_of_kind, IsFront, HasFront, FirstTlv, HasTlvs, either};
 
-use crate::frame::u16_at;
+use crate::frame::{u16_at, u48_at};
 use crate::refused::Refused;
 
 /// The tlvType of a path trace (IEEE 1588-2019, 16.2 and table 52).
 pub(crate) const PATH_TRACE: u16 = 0x0008;
+
+/// The tlvType of an organization's TLV (IEEE 1588-2019, 14.3.2 and table 52).
+pub(crate) const ORGANIZATION_EXTENSION: u16 = 0x0003;
+
+/// organizationId 00-80-C2 and organizationSubType 00-00-01 (IEEE 802.1AS-2020, 11.4.4.3.3 and 11.4.4.3.4).
+pub(crate) const INFORMATION: u64 = 0x0080_C200_0001;
 
 /// The TLVs that are looked for. All others are passed over.
 #[derive(Clone, Copy, Debug, PartialEq, Eq)]
 pub(crate) enum TlvKind {
     /// The clocks that an Announce passed.
     PathTrace,
+    /// The Follow_Up information TLV, with the rate.
+    Information,
 }
 
 impl TlvKind {
-    /// Whether a TLV of this type is of the kind.
-    fn is_of(self, tlv_type: u16) -> bool
-        ensures { result ≡ is_of_kind self tlv_type }
+    /// Whether a TLV is of the kind.
+    fn is_of(self, tlv_type: u16, value: &[u8]) -> bool
+        ensures { result ≡ is_of_kind self (record { tlv_type = tlv_type; value = value.now }) }
     {
         match self {
             TlvKind::PathTrace => tlv_type == PATH_TRACE,
+            TlvKind::Information => tlv_type == ORGANIZATION_EXTENSION && is_information(value),
         }
     }
+}
+
+/// Whether an organization's TLV is the information TLV of a Follow_Up. One of fewer than six octets is none.
+fn is_information(value: &[u8]) -> bool
+    ensures { result ≡ is_information value.now }
+{
+    value.len() >= 6 && u48_at(value, 0) == INFORMATION
 }
 
 /// The TLV at the front of the octets: its type, its value, and the octets behind it.
@@ -54,7 +70,7 @@ pub(crate) fn first_tlv(octets: &[u8], kind: TlvKind) -> Result<Option<&[u8]>, R
     let mut rest = octets;
     while !rest.is_empty() {
         let (tlv_type, value, behind) = split_tlv(rest)?;
-        found = first_of(found, kind.is_of(tlv_type), value);
+        found = first_of(found, kind.is_of(tlv_type, value), value);
         rest = behind;
     }
     Ok(found)

@@ -1,11 +1,17 @@
 //! Worked rows of the crates below, as an outside caller sees them.
 //!
-//! Each module has the rows of one crate, as tables. What they expect was written down before the
-//! code.
+//! Each module has the rows of one crate, or of some of the messages, as tables. What they expect was
+//! written down before the code.
 #![tactic(auto)]
 
 #[cfg(test)]
+mod all_messages;
+#[cfg(test)]
 mod announces;
+#[cfg(test)]
+mod frames;
+#[cfg(test)]
+mod link_messages;
 #[cfg(test)]
 mod messages;
 #[cfg(test)]
@@ -14,5 +20,7 @@ mod receipt;
 mod roles;
 #[cfg(test)]
 mod scaled;
+#[cfg(test)]
+mod sync_messages;
 #[cfg(test)]
 mod vector;

@@ -1,11 +1,10 @@
 //! Announce messages read, refused and written.
 
 use crate::announces::{FIRST_ANNOUNCE, body, frame, head, identity, port, read, trace};
-use gptp_messages::{
-    Message, PathView, Refused, decode, encode, encode_announce, what_is_written_reads_back,
-};
+use crate::frames::{lengthened, spoiled, written_again};
+use gptp_messages::{PathView, Refused, decode, encode_announce, what_is_written_reads_back};
 use gptp_vector::{ClockId, Full, Identity, Trace};
-use std::alloc::{AllocError, Global};
+use std::alloc::Global;
 use std::process::Abort;
 use std::test::Fail;
 
@@ -24,23 +23,9 @@ const DISTINCT: [u8; 76] = [
     0x00, 0x08, 0x00, 0x08, 0x71, 0x72, 0x73, 0x74, 0x75, 0x76, 0x77, 0x78, // path trace
 ];
 
-/// A frame with other octets from a place on.
-fn spoiled(rt: &impl Abort, frame: [u8; 76], place: usize, octets: &[u8]) -> [u8; 76] {
-    let mut frame = frame;
-    assert!(rt; place <= 76 && octets.len() <= 76 - place, "at {place}");
-    frame[place..place + octets.len()].copy_from_slice(octets);
-    frame
-}
-
 /// The first Announce with these octets as its TLVs.
-fn with_tlvs(alloc: Global, tlvs: &[u8]) -> Result<Vec<u8>, Fail> {
-    let length = u16::try_from(tlvs.len())?
-        .checked_add(64)
-        .ok_or("too long")?;
-    let mut frame = FIRST_ANNOUNCE[..64].to_vec(alloc)?;
-    frame[2..4].copy_from_slice(&length.to_be_bytes());
-    frame.extend_from_slice(tlvs)?;
-    Ok(frame)
+fn with_tlvs(rt: &impl Abort, alloc: Global, tlvs: &[u8]) -> Result<Vec<u8>, Fail> {
+    lengthened(rt, alloc, &FIRST_ANNOUNCE[..64], tlvs)
 }
 
 /// The path has these clocks and no other.
@@ -68,7 +53,7 @@ fn the_first_announce_reads_as_its_fields(rt: HostRuntime) {
 }
 
 #[test]
-fn each_field_stands_at_its_place(rt: HostRuntime) {
+fn each_field_stands_at_its_place(rt: HostRuntime) -> Result<(), Fail> {
     let announce = read(&rt, &DISTINCT);
     assert_eq!(rt; announce.head.source, port(0x1112_1314_1516_1718, 0x2122));
     assert_eq!(rt; announce.head.sequence, 0x3132);
@@ -84,8 +69,9 @@ fn each_field_stands_at_its_place(rt: HostRuntime) {
     assert_eq!(rt; announce.body.time_source, 0x63);
     assert_path(&rt, &announce.path, &[0x7172_7374_7576_7778], "the path");
 
-    let two_step = spoiled(&rt, DISTINCT, 6, &[0x02]);
+    let two_step = spoiled(&rt, rt.alloc(), &DISTINCT, 6, &[0x02])?;
     assert!(rt; read(&rt, &two_step).head.two_step);
+    Ok(())
 }
 
 #[test]
@@ -97,7 +83,7 @@ fn octets_behind_the_message_are_ignored(rt: HostRuntime) -> Result<(), Fail> {
     assert_eq!(rt; announce.body, body(identity(246, 1), 0));
     assert_path(&rt, &announce.path, &[1], "padded");
 
-    let cut = spoiled(&rt, FIRST_ANNOUNCE, 2, &[0x00, 0x40]);
+    let cut = spoiled(&rt, rt.alloc(), &FIRST_ANNOUNCE, 2, &[0x00, 0x40])?;
     assert_path(
         &rt,
         &read(&rt, &cut).path,
@@ -123,7 +109,7 @@ fn a_frame_is_refused_by_the_first_test_that_fails(rt: HostRuntime) -> Result<()
         (1, &[0x11], 76, Refused::Version),
         (1, &[0x10], 76, Refused::Version),
         (0, &[0x1c], 76, Refused::UnknownType),
-        (0, &[0x10], 76, Refused::UnknownType),
+        (0, &[0x11], 76, Refused::UnknownType),
         (2, &[0x00, 0x3f], 76, Refused::LengthField),
         (2, &[0x00, 0x00], 76, Refused::LengthField),
         (4, &[0x01], 76, Refused::Domain),
@@ -138,7 +124,7 @@ fn a_frame_is_refused_by_the_first_test_that_fails(rt: HostRuntime) -> Result<()
         (2, &[0x00, 0x4b, 0x01], 76, Refused::Domain),
     ];
     for (place, octets, length, want) in cases {
-        let frame = spoiled(&rt, FIRST_ANNOUNCE, place, octets);
+        let frame = spoiled(&rt, rt.alloc(), &FIRST_ANNOUNCE, place, octets)?;
         let given = frame.get(..length).ok_or("at most 76 octets")?;
         assert_eq!(rt;
             decode(given).err(),
@@ -198,7 +184,7 @@ fn the_first_path_trace_among_the_tlvs_counts(rt: HostRuntime) -> Result<(), Fai
     ];
     for (what, tlvs, want) in cases {
         let tlvs = hex::decode(rt.alloc(), tlvs)?;
-        let frame = with_tlvs(rt.alloc(), &tlvs)?;
+        let frame = with_tlvs(&rt, rt.alloc(), &tlvs)?;
         assert_path(&rt, &read(&rt, &frame).path, want, what);
     }
     Ok(())
@@ -228,14 +214,14 @@ fn octets_that_are_no_tlvs_are_refused(rt: HostRuntime) -> Result<(), Fail> {
     ];
     for (what, tlvs) in cases {
         let tlvs = hex::decode(rt.alloc(), tlvs)?;
-        let frame = with_tlvs(rt.alloc(), &tlvs)?;
+        let frame = with_tlvs(&rt, rt.alloc(), &tlvs)?;
         assert_eq!(rt; decode(&frame).err(), Some(Refused::Tlv), "{what}");
     }
     Ok(())
 }
 
 /// The first Announce with the clocks below `count` as its path.
-fn with_clocks_below(alloc: Global, count: u64) -> Result<Vec<u8>, Fail> {
+pub fn with_clocks_below(rt: &impl Abort, alloc: Global, count: u64) -> Result<Vec<u8>, Fail> {
     let mut clocks = Vec::new(alloc);
     for clock in 0..count {
         clocks.extend_from_slice(&clock.to_be_bytes())?;
@@ -243,13 +229,13 @@ fn with_clocks_below(alloc: Global, count: u64) -> Result<Vec<u8>, Fail> {
     let mut tlvs = [0x00, 0x08].to_vec(alloc)?;
     tlvs.extend_from_slice(&u16::try_from(clocks.len())?.to_be_bytes())?;
     tlvs.extend_from_slice(&clocks)?;
-    with_tlvs(alloc, &tlvs)
+    with_tlvs(rt, alloc, &tlvs)
 }
 
 #[test]
 fn a_path_of_256_clocks_is_copied_and_one_of_257_is_full(rt: HostRuntime) -> Result<(), Fail> {
     let mut copy = trace(&[7, 3])?;
-    let frame = with_clocks_below(rt.alloc(), 257)?;
+    let frame = with_clocks_below(&rt, rt.alloc(), 257)?;
     let announce = read(&rt, &frame);
     assert_eq!(rt; announce.path.len(), 257);
     assert_eq!(rt;
@@ -258,7 +244,7 @@ fn a_path_of_256_clocks_is_copied_and_one_of_257_is_full(rt: HostRuntime) -> Res
     );
     assert_eq!(rt; copy.as_slice(), trace(&[7, 3])?.as_slice());
 
-    let frame = with_clocks_below(rt.alloc(), 256)?;
+    let frame = with_clocks_below(&rt, rt.alloc(), 256)?;
     assert_eq!(rt; read(&rt, &frame).path.copy_to(&mut copy), Ok(()));
     assert_eq!(rt; copy.len(), 256);
     for place in 0..256 {
@@ -280,7 +266,7 @@ fn the_fields_of_the_first_announce_are_written_as_its_octets(rt: HostRuntime) -
     assert_eq!(rt; first.as_slice(), FIRST_ANNOUNCE.as_slice());
 
     let pathless = frame(rt.alloc(), port(1, 1), identity(246, 1), 0, &Trace::empty())?;
-    let octets = with_tlvs(rt.alloc(), &[0x00, 0x08, 0x00, 0x00])?;
+    let octets = with_tlvs(&rt, rt.alloc(), &[0x00, 0x08, 0x00, 0x00])?;
     assert_eq!(rt; pathless.len(), 68);
     assert_eq!(rt; pathless.as_slice(), octets.as_slice());
 
@@ -295,16 +281,6 @@ fn the_fields_of_the_first_announce_are_written_as_its_octets(rt: HostRuntime) -
     assert_eq!(rt; text[..3], FIRST_ANNOUNCE[..3]);
     assert_eq!(rt; text[3..], FIRST_ANNOUNCE[..]);
     Ok(())
-}
-
-/// Appends the Announce that a frame reads as.
-fn written_again(rt: &impl Abort, frame: &[u8], text: &mut Vec<u8>) -> Result<(), AllocError> {
-    let Ok(message) = decode(frame) else {
-        panic!(rt; "no message");
-    };
-    let Message::Announce(announce) = &message;
-    assert!(rt; announce.path.len() <= 256);
-    encode(&message, text)
 }
 
 #[test]

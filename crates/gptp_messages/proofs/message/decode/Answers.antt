@@ -2,9 +2,6 @@ use Rattle.std.proofs.Common.{rules}
 use Rattle.gptp_messages.proofs.GrammarLemmas.{only_reading, only_refusal}
 use Rattle.gptp_messages.proofs.message.decode.Goals as goal
 
-pub returns-in_err-read-clause-only : goal.returns-in_err-read-clause-only
-returns-in_err-read-clause-only c = only_reading c.args.frame.now c.from_residual-in_err-read.result (search rules) (search rules)
-
 pub returns-clause-only : goal.returns-clause-only
 returns-clause-only c = only_reading c.args.frame.now _ (search rules) (search rules)
 

@@ -1,0 +1,254 @@
+//! Sync and Follow_Up read, refused and written.
+
+use crate::announces::port;
+use crate::frames::{lengthened, spoiled};
+use gptp_messages::{FollowUp, Head, Message, Refused, decode, encode};
+use gptp_scaled::{Rate, Stamp};
+use std::alloc::Global;
+use std::process::Abort;
+use std::test::Fail;
+
+/// The first Sync of clock 1 at its port 1, eight of which are sent in a second.
+pub const SYNC: [u8; 44] = [
+    0x10, 0x12, 0x00, 0x2c, 0x00, 0x00, 0x02, 0x08, // type 0x0, 44 octets, twoStep, ptpTimescale
+    0x00, 0x00, 0x00, 0x00, 0x00, 0x00, 0x00, 0x00, // correctionField
+    0x00, 0x00, 0x00, 0x00, // messageTypeSpecific
+    0x00, 0x00, 0x00, 0x00, 0x00, 0x00, 0x00, 0x01, 0x00, 0x01, // sourcePortIdentity
+    0x00, 0x00, 0x00, 0xfd, // sequenceId, controlField, logMessageInterval
+    0x00, 0x00, 0x00, 0x00, 0x00, 0x00, 0x00, 0x00, 0x00, 0x00, // reserved
+];
+
+/// A Follow_Up in which no two fields are alike.
+pub const FOLLOW_UP: [u8; 76] = [
+    0x18, 0x12, 0x00, 0x4c, 0x00, 0x00, 0x00, 0x08, // type 0x8, 76 octets, ptpTimescale
+    0x00, 0x00, 0x00, 0x00, 0x15, 0x7c, 0x00, 0x00, // correctionField, 5,500 ns
+    0x00, 0x00, 0x00, 0x00, // messageTypeSpecific
+    0x11, 0x12, 0x13, 0x14, 0x15, 0x16, 0x17, 0x18, 0x21, 0x22, // sourcePortIdentity
+    0x31, 0x32, 0x00, 0xfd, // sequenceId, controlField, logMessageInterval
+    0x41, 0x42, 0x43, 0x44, 0x45, 0x46, 0x1b, 0x2c, 0x3d, 0x4e, // preciseOriginTimestamp
+    0x00, 0x03, 0x00, 0x1c, // Follow_Up information TLV of 28 octets
+    0x00, 0x80, 0xc2, 0x00, 0x00, 0x01, // organizationId, organizationSubType
+    0x01, 0x02, 0x03, 0x04, // cumulativeScaledRateOffset
+    0x00, 0x00, // gmTimeBaseIndicator
+    0x00, 0x00, 0x00, 0x00, 0x00, 0x00, 0x00, 0x00, 0x00, 0x00, 0x00, 0x00, // lastGmPhaseChange
+    0x00, 0x00, 0x00, 0x00, // scaledLastGmFreqChange
+];
+
+/// The fields of the Follow_Up, but for its rate.
+fn with_rate(q: i32) -> Result<FollowUp, Fail> {
+    Ok(FollowUp {
+        head: Head {
+            source: port(0x1112_1314_1516_1718, 0x2122),
+            sequence: 0x3132,
+            correction: 360_448_000,
+            log_interval: -3,
+            two_step: false,
+        },
+        origin: Stamp::new(0x4142_4344_4546, 0x1b2c_3d4e)?,
+        rate: Rate::new(q),
+    })
+}
+
+/// The Follow_Up that a frame reads as.
+fn follow_up(rt: &impl Abort, frame: &[u8], what: &str) -> FollowUp {
+    let Ok(Message::FollowUp(follow_up)) = decode(frame) else {
+        panic!(rt; "no Follow_Up: {what}");
+    };
+    follow_up
+}
+
+#[test]
+fn the_first_sync_is_read_and_written(rt: HostRuntime) -> Result<(), Fail> {
+    let want = Head {
+        source: port(1, 1),
+        sequence: 0,
+        correction: 0,
+        log_interval: -3,
+        two_step: true,
+    };
+    let Ok(Message::Sync { head }) = decode(&SYNC) else {
+        panic!(rt; "no Sync");
+    };
+    assert_eq!(rt; head, want);
+
+    let mut text = Vec::new(rt.alloc());
+    encode(&Message::Sync { head: want }, &mut text)?;
+    assert_eq!(rt; text.as_slice(), SYNC.as_slice());
+    Ok(())
+}
+
+#[test]
+fn a_sync_of_one_step_is_told_apart(rt: HostRuntime) -> Result<(), Fail> {
+    let frame = spoiled(&rt, rt.alloc(), &SYNC, 6, &[0xfd])?;
+    let Ok(Message::Sync { head }) = decode(&frame) else {
+        panic!(rt; "no Sync");
+    };
+    assert!(rt; !head.two_step);
+
+    let mut text = Vec::new(rt.alloc());
+    encode(&Message::Sync { head }, &mut text)?;
+    let plain = spoiled(&rt, rt.alloc(), &SYNC, 6, &[0x00])?;
+    assert_eq!(rt; text.as_slice(), plain.as_slice());
+    Ok(())
+}
+
+#[test]
+fn a_follow_up_is_read_and_written(rt: HostRuntime) -> Result<(), Fail> {
+    let cases = [
+        ("faster", 0x0102_0304, [0x01, 0x02, 0x03, 0x04]),
+        ("slower", -3, [0xff, 0xff, 0xff, 0xfd]),
+        ("much slower", -65_538, [0xff, 0xfe, 0xff, 0xfe]),
+        ("as fast", 0, [0x00, 0x00, 0x00, 0x00]),
+        ("fastest", i32::MAX, [0x7f, 0xff, 0xff, 0xff]),
+        ("slowest", i32::MIN, [0x80, 0x00, 0x00, 0x00]),
+    ];
+    for (what, q, octets) in cases {
+        let frame = spoiled(&rt, rt.alloc(), &FOLLOW_UP, 54, &octets)?;
+        assert_eq!(rt; follow_up(&rt, &frame, what), with_rate(q)?, "{what}");
+
+        let mut text = Vec::new(rt.alloc());
+        encode(&Message::FollowUp(with_rate(q)?), &mut text)?;
+        assert_eq!(rt; text.as_slice(), frame.as_slice(), "{what}");
+    }
+    Ok(())
+}
+
+#[test]
+fn the_first_information_tlv_counts(rt: HostRuntime) -> Result<(), Fail> {
+    // the TLVs before that of the Follow_Up, and those behind it
+    let cases = [
+        ("no other TLV", "", ""),
+        ("a TLV of another type", "00090003aabbcc", ""),
+        ("a TLV without a value", "00090000", ""),
+        ("a path trace of seven octets", "000800070000000000000a", ""),
+        (
+            "a TLV of another type with the octets of an information TLV",
+            "010300060080c2000001",
+            "",
+        ),
+        (
+            "a TLV of another organization",
+            "0003000a0080c3000001aabbccdd",
+            "",
+        ),
+        (
+            "a TLV of another subtype",
+            "0003000a0080c2000002aabbccdd",
+            "",
+        ),
+        (
+            "a TLV of another subtype that ends alike",
+            "0003000a0080c2010001aabbccdd",
+            "",
+        ),
+        ("a TLV of five octets", "000300050080c20000", ""),
+        ("a TLV of an organization without a value", "00030000", ""),
+        ("two TLVs of an organization", "00030001aa000300020080", ""),
+        ("a TLV of another type behind", "", "00080003aabbcc"),
+        (
+            "an information TLV of another rate behind",
+            "",
+            "0003001c0080c200000100000005000000000000000000000000000000000000",
+        ),
+        (
+            "an information TLV of six octets behind",
+            "",
+            "000300060080c2000001",
+        ),
+        (
+            "an information TLV of 29 octets behind",
+            "0003000100",
+            "0003001d0080c20000010000000500000000000000000000000000000000000000",
+        ),
+    ];
+    for (what, before, behind) in cases {
+        let mut tlvs = hex::decode(rt.alloc(), before)?;
+        tlvs.extend_from_slice(&FOLLOW_UP[44..])?;
+        tlvs.extend_from_slice(&hex::decode(rt.alloc(), behind)?)?;
+        let frame = lengthened(&rt, rt.alloc(), &FOLLOW_UP[..44], &tlvs)?;
+        assert_eq!(rt;
+            follow_up(&rt, &frame, what),
+            with_rate(0x0102_0304)?,
+            "{what}"
+        );
+    }
+    Ok(())
+}
+
+/// An information TLV's octets behind the lengthField, but for the last.
+const INFORMATION: &str = "0080c2000001010203040000000000000000000000000000000000";
+
+#[test]
+fn a_follow_up_without_its_rate_is_refused(rt: HostRuntime) -> Result<(), Fail> {
+    // what stands before those octets, and what behind
+    let cases = [
+        ("the one TLV is a path trace", "0008001c", "00"),
+        ("the one TLV is of a type that ends alike", "0103001c", "00"),
+        ("27 octets", "0003001b", "0009000100"),
+        ("29 octets", "0003001d", "0000"),
+        ("six octets", "000300060080c20000010009001b", ""),
+        (
+            "27 octets before 28",
+            "0003001b",
+            "0003001c0080c200000100000005000000000000000000000000000000000000",
+        ),
+        ("past the end", "000900000003001c", ""),
+        ("the longest TLV", "0003ffff", "00"),
+        ("one octet left over", "0003001c", "0000"),
+        ("three octets left over", "0003001c", "00000900"),
+        ("another TLV past the end behind", "0003001c", "0000090001"),
+        (
+            "an information TLV past the end behind",
+            "0003001c",
+            "000003001c0080c2000001",
+        ),
+        ("another TLV past the end before", "000900210003001c", "00"),
+        ("inside of another TLV", "000900200003001c", "00"),
+    ];
+    for (what, before, behind) in cases {
+        let digits = format!(in rt.alloc(); "{before}{INFORMATION}{behind}")?;
+        let tlvs = hex::decode(rt.alloc(), digits.as_str())?;
+        let frame = lengthened(&rt, rt.alloc(), &FOLLOW_UP[..44], &tlvs)?;
+        assert_eq!(rt; decode(&frame).err(), Some(Refused::Tlv), "{what}");
+    }
+    Ok(())
+}
+
+/// The frame with a second of nanoseconds in its timestamp.
+fn with_a_second(rt: &impl Abort, alloc: Global, frame: &[u8]) -> Result<Vec<u8>, Fail> {
+    Ok(spoiled(rt, alloc, frame, 40, &[0x3b, 0x9a, 0xca, 0x00])?)
+}
+
+#[test]
+fn tlvs_are_tested_behind_the_lengths_and_before_the_timestamp(
+    rt: HostRuntime,
+) -> Result<(), Fail> {
+    let alloc = rt.alloc();
+    let without = lengthened(&rt, alloc, &FOLLOW_UP[..44], &[])?;
+    assert_eq!(rt;
+        decode(&without).err(),
+        Some(Refused::LengthField),
+        "44 octets"
+    );
+
+    // the path trace ends where the message does, the information TLV stands in the padding
+    let mut padded = spoiled(&rt, alloc, &FOLLOW_UP, 44, &[0x00, 0x08])?;
+    padded.extend_from_slice(&FOLLOW_UP[44..])?;
+    assert_eq!(rt; decode(&padded).err(), Some(Refused::Tlv), "in the padding");
+
+    let late = with_a_second(&rt, alloc, &FOLLOW_UP)?;
+    assert_eq!(rt; decode(&late).err(), Some(Refused::StampRange), "a second");
+    let both = with_a_second(&rt, alloc, &padded)?;
+    assert_eq!(rt;
+        decode(&both).err(),
+        Some(Refused::Tlv),
+        "no rate, and a second"
+    );
+    let neither = with_a_second(&rt, alloc, &without)?;
+    assert_eq!(rt;
+        decode(&neither).err(),
+        Some(Refused::LengthField),
+        "44 octets, and a second"
+    );
+    Ok(())
+}
