@@ -1,40 +1,55 @@
 -- A word says one thing, a line has one answer, and an input one text.
-use Rattle.std.proofs.Common.{◌≡◌, ℕ, Bool, true, false, nat_le, List, [], ◌∷◌, length, map, Result, Ok, Err, refl, sym, ap, ◌∙◌}
+use Rattle.std.proofs.Common.{◌≡◌, ℕ, Bool, true, false, nat_le, List, [], ◌∷◌, length, map, Result, Ok, Err, refl, sym, ap, ◌∙◌, inl, inr}
 use Rattle.std.specs.Bool.{MatchBool}
 use Rattle.std.specs.List.{list_any}
 use Rattle.std.specs.Str.Lines.{lines}
 use Rattle.gptp_vector.specs.declared.vector.Vector.{Vector}
 use Rattle.gptp_messages.specs.declared.message.Message.TheVariants.{Announce}
+use Rattle.gptp_messages.specs.declared.announce.AnnounceView.{AnnounceView}
+use Rattle.gptp_messages.specs.declared.refused.Refused.{Refused}
+use Rattle.gptp_messages.specs.Grammar.{Reads}
 use Rattle.gptp_messages.proofs.GrammarLemmas.{one_reading, never_both, one_refusal}
 use Rattle.gptp_sim.specs.declared.announced.WordFault.{WordFault}
 use Rattle.gptp_sim.specs.declared.announced.WordFault.TheVariants as faults
 use Rattle.gptp_sim.specs.declared.answer.Answer.{Answer}
 use Rattle.gptp_sim.specs.declared.failure.Status.{Status}
-use Rattle.gptp_sim.specs.Announced.{Says, vector_of}
+use Rattle.gptp_sim.specs.Announced.{AnnouncesNothing, Says, vector_of}
 use Rattle.gptp_sim.specs.Answer.{AnswersWords, answer_of, answer_text, is_refusal}
 use Rattle.gptp_sim.specs.Failure.{status_by}
 use Rattle.gptp_sim.specs.CompareText.{size_limit, AreAnswers, AnswersLines, RefusesSize, CompareText}
 
+-- what reads as an Announce doesn't announce nothing
+not_nothing : (f : List ℕ) (a : AnnounceView) (e : Refused) → Reads f (Announce a) → AnnouncesNothing f e → ⊥
+not_nothing f a e reads (inl refuses) = never_both f (Announce a) e reads refuses
+not_nothing f a e reads (inr ((m, other, is-other), _)) = is-other a (one_reading f m (Announce a) other reads)
+
+-- octets announce nothing in one way
+one_nothing : (f : List ℕ) (d e : Refused) → AnnouncesNothing f d → AnnouncesNothing f e → d ≡ e
+one_nothing f d e (inl d-refuses) (inl e-refuses) = one_refusal f d e d-refuses e-refuses
+one_nothing f d e (inl d-refuses) (inr ((m, reads, _), _)) = absurd (never_both f m d reads d-refuses)
+one_nothing f d e (inr ((m, reads, _), _)) (inl e-refuses) = absurd (never_both f m e reads e-refuses)
+one_nothing f d e (inr (_, d-is)) (inr (_, e-is)) = d-is ∙ sym e-is
+
 -- a word says one thing
 one_saying : (word : List ℕ) (a b : Result Vector WordFault) → Says word a → Says word b → a ≡ b
-one_saying word (Ok v) (Ok w) (f, a, f-is, a-reads, v-is) (g, b, g-is, b-reads, w-is) =
+one_saying word (Ok v) (Ok w) (f, f-is, (a, a-reads, v-is)) (g, g-is, (b, b-reads, w-is)) =
     let same : g ≡ f = let e = sym g-is ∙ f-is in cc in
     let views : a ≡ b = let e = one_reading f (Announce a) (Announce b) a-reads (rw same at b-reads) in cc in
     ap Ok (v-is ∙ ap vector_of views ∙ sym w-is)
-one_saying word (Ok v) (Err faults.Hex) (f, a, f-is, reads, v-is) none = absurd (let no = rw f-is at none in cc)
-one_saying word (Ok v) (Err (faults.Message e)) (f, a, f-is, reads, v-is) (g, g-is, refuses) =
+one_saying word (Ok v) (Err faults.Hex) (f, f-is, (a, reads, v-is)) none = absurd (let no = rw f-is at none in cc)
+one_saying word (Ok v) (Err (faults.Message e)) (f, f-is, (a, reads, v-is)) (g, g-is, refuses) =
     let same : g ≡ f = let e = sym g-is ∙ f-is in cc in
-    absurd (never_both f (Announce a) e reads (rw same at refuses))
-one_saying word (Err faults.Hex) (Ok w) none (g, b, g-is, reads, w-is) = absurd (let no = rw g-is at none in cc)
+    absurd (not_nothing f a e reads (rw same at refuses))
+one_saying word (Err faults.Hex) (Ok w) none (g, g-is, (b, reads, w-is)) = absurd (let no = rw g-is at none in cc)
 one_saying word (Err faults.Hex) (Err faults.Hex) none also = refl
 one_saying word (Err faults.Hex) (Err (faults.Message e)) none (g, g-is, refuses) = absurd (let no = rw g-is at none in cc)
-one_saying word (Err (faults.Message d)) (Ok w) (f, f-is, refuses) (g, b, g-is, reads, w-is) =
+one_saying word (Err (faults.Message d)) (Ok w) (f, f-is, refuses) (g, g-is, (b, reads, w-is)) =
     let same : g ≡ f = let e = sym g-is ∙ f-is in cc in
-    absurd (never_both f (Announce b) d (rw same at reads) refuses)
+    absurd (not_nothing f b d (rw same at reads) refuses)
 one_saying word (Err (faults.Message d)) (Err faults.Hex) (f, f-is, refuses) none = absurd (let no = rw f-is at none in cc)
 one_saying word (Err (faults.Message d)) (Err (faults.Message e)) (f, f-is, d-refuses) (g, g-is, e-refuses) =
     let same : g ≡ f = let e = sym g-is ∙ f-is in cc in
-    ap (λ refused. Err (faults.Message refused)) (one_refusal f d e d-refuses (rw same at e-refuses))
+    ap (λ refused. Err (faults.Message refused)) (one_nothing f d e d-refuses (rw same at e-refuses))
 
 -- words have one answer
 one_answer : (words : List (List ℕ)) (a b : Answer) → AnswersWords words a → AnswersWords words b → a ≡ b

@@ -1,7 +1,7 @@
 //! The priority vector that a word of hexadecimal announces.
 
 ghost use Rattle.std.specs.Prelude.{◌≡◌, IfOk, IfErr};
-ghost use Rattle.gptp_sim.specs.Announced.{vector_of, Says};
+ghost use Rattle.gptp_sim.specs.Announced.{vector_of, AnnouncesVector, AnnouncesNothing, Says};
 
 use crate::failure::SimError;
 use gptp_messages::{AnnounceView, Message, Refused, decode};
@@ -15,7 +15,7 @@ use std::fmt;
 pub enum WordFault {
     /// It isn't hexadecimal: its length is odd, or it has another character than a digit.
     Hex,
-    /// Its octets are no Announce.
+    /// Its octets are no Announce: no message, or one of another type.
     Message(Refused),
 }
 
@@ -45,6 +45,17 @@ fn vector_of(announce: &AnnounceView<'_>) -> Vector
     }
 }
 
+/// The vector that octets announce, or why they announce none.
+fn announced_by(frame: &[u8]) -> Result<Vector, Refused>
+    ensures vector { IfOk result (AnnouncesVector frame.now) }
+    ensures nothing { IfErr result (AnnouncesNothing frame.now) }
+{
+    match decode(frame)? {
+        Message::Announce(announce) => Ok(vector_of(&announce)),
+        _ => Err(Refused::UnknownType),
+    }
+}
+
 /// The vector that a word announces, or why it announces none. The only error is
 /// [`SimError::Memory`].
 pub fn announced(alloc: Global, word: &[u8]) -> Result<Result<Vector, WordFault>, SimError>
@@ -56,8 +67,8 @@ pub fn announced(alloc: Global, word: &[u8]) -> Result<Result<Vector, WordFault>
         Err(FromHexError::OutOfMemory) => return Err(SimError::Memory),
         Err(_) => return Ok(Err(WordFault::Hex)),
     };
-    Ok(match decode(&frame) {
-        Ok(Message::Announce(announce)) => Ok(vector_of(&announce)),
-        Err(refused) => Err(WordFault::Message(refused)),
-    })
+    match announced_by(&frame) {
+        Ok(vector) => Ok(Ok(vector)),
+        Err(refused) => Ok(Err(WordFault::Message(refused))),
+    }
 }

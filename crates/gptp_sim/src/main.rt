@@ -17,6 +17,8 @@ mod laws;
 mod lines;
 mod output;
 mod reading;
+#[cfg(test)]
+mod refusal_tests;
 mod sink;
 mod source;
 #[cfg(test)]

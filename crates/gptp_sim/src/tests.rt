@@ -10,19 +10,19 @@ use std::test::Fail;
 
 /// An Announce as digits, in the parts that the rows below change.
 #[derive(Clone, Copy)]
-struct Frame {
-    message_type: &'static str,
-    version: &'static str,
-    message_length: &'static str,
-    domain: &'static str,
-    priority1: &'static str,
-    steps: &'static str,
-    tlv_length: &'static str,
-    last_octet: &'static str,
+pub struct Frame {
+    pub message_type: &'static str,
+    pub version: &'static str,
+    pub message_length: &'static str,
+    pub domain: &'static str,
+    pub priority1: &'static str,
+    pub steps: &'static str,
+    pub tlv_length: &'static str,
+    pub last_octet: &'static str,
 }
 
 /// The first Announce of the system with clock 1, its own root, at port 1.
-const ANNOUNCE: Frame = Frame {
+pub const ANNOUNCE: Frame = Frame {
     message_type: "1b",
     version: "12",
     message_length: "004c",
@@ -40,7 +40,8 @@ const BEFORE_ROOT: &str =
 const ROOT: &str = "f8fe436af80000000000000001";
 
 impl Frame {
-    fn digits(&self, alloc: Global) -> Result<String, AllocError> {
+    /// The digits of the whole frame.
+    pub fn digits(&self, alloc: Global) -> Result<String, AllocError> {
         let Frame {
             message_type,
             version,
@@ -58,7 +59,7 @@ impl Frame {
 }
 
 /// What `compare` writes for an input, and its status.
-fn compared(alloc: Global, input: &[u8]) -> Result<(Vec<u8>, Status), SimError> {
+pub fn compared(alloc: Global, input: &[u8]) -> Result<(Vec<u8>, Status), SimError> {
     let mut written = Vec::new(alloc);
     let mut source = CountedReader::new(input);
     let mut sink = CountedWriter::new(&mut written);
@@ -101,78 +102,6 @@ fn announces_the_better_root(rt: HostRuntime) -> Result<(), Fail> {
         let (text, status) = compared(alloc, line.as_bytes())?;
         assert_eq!(rt; text.as_slice(), want.as_bytes(), "at {want}");
         assert_eq!(rt; status, Status::Done, "at {want}");
-    }
-    Ok(())
-}
-
-/// Announces that are refused, and how.
-const SPOILED: [(Frame, &str); 7] = [
-    (
-        Frame {
-            last_octet: "",
-            ..ANNOUNCE
-        },
-        "1 Short",
-    ),
-    (
-        Frame {
-            message_type: "0b",
-            ..ANNOUNCE
-        },
-        "2 NotGptp",
-    ),
-    (
-        Frame {
-            version: "11",
-            ..ANNOUNCE
-        },
-        "3 Version",
-    ),
-    (
-        Frame {
-            message_type: "1c",
-            ..ANNOUNCE
-        },
-        "4 UnknownType",
-    ),
-    (
-        Frame {
-            message_length: "003f",
-            ..ANNOUNCE
-        },
-        "5 LengthField",
-    ),
-    (
-        Frame {
-            domain: "01",
-            ..ANNOUNCE
-        },
-        "6 Domain",
-    ),
-    (
-        Frame {
-            tlv_length: "0009",
-            ..ANNOUNCE
-        },
-        "7 Tlv",
-    ),
-];
-
-#[test]
-fn names_the_refusal(rt: HostRuntime) -> Result<(), Fail> {
-    let alloc = rt.alloc();
-    let whole = ANNOUNCE.digits(alloc)?;
-    for (frame, name) in SPOILED {
-        let spoiled = frame.digits(alloc)?;
-        let input = format!(in alloc;
-            "{spoiled} {whole}\n{whole} {spoiled}\n{spoiled} 0\n0 {spoiled}\n"
-        )?;
-        let want = format!(in alloc;
-            "refused first {name}\nrefused second {name}\nrefused first {name}\nrefused first hex\n"
-        )?;
-        let (text, status) = compared(alloc, input.as_bytes())?;
-        assert_eq!(rt; text.as_slice(), want.as_bytes(), "at {name}");
-        assert_eq!(rt; status, Status::Refused, "at {name}");
     }
     Ok(())
 }
