@@ -15,7 +15,15 @@ pub fn trace_of(clock: ClockId, held: &[Held], selected: &Selected) -> Trace
     requires { SlaveReceived held.now selected.now.slave }
     ensures { result ≡ system_trace clock held.now selected.now.slave }
 {
-    let mut trace = match selected.slave {
+    slave_trace(clock, held, selected.slave)
+}
+
+/// The same where the Slave port, if there is one, is known by its number.
+pub fn slave_trace(clock: ClockId, held: &[Held], slave: Option<u8>) -> Trace
+    requires { SlaveReceived held.now slave }
+    ensures { result ≡ system_trace clock held.now slave }
+{
+    let mut trace = match slave {
         Some(port) => path_at(held, port),
         None => Trace::empty(),
     };
