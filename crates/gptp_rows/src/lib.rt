@@ -15,6 +15,8 @@ mod link_messages;
 #[cfg(test)]
 mod messages;
 #[cfg(test)]
+mod pdelay;
+#[cfg(test)]
 mod receipt;
 #[cfg(test)]
 mod roles;

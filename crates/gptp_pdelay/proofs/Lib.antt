@@ -1,0 +1,4 @@
+pub mod ClockLemmas
+pub mod ExchangeLemmas
+pub mod GoodLinkLemmas
+pub mod CapabilityLemmas

@@ -1,0 +1,55 @@
+//! What follows from the definitions alone. Each function does nothing, and its contract is the law; the crates
+//! above find each as a lemma of the same name in the public modules of `proofs/`.
+
+ghost use Rattle.gptp_pdelay.specs.Capability.{CapabilityTurns, CapableByTwoExchanges, LostStaysAllowed};
+ghost use Rattle.gptp_pdelay.specs.Clock.{ClockElapses, ClockShowsTime};
+ghost use Rattle.gptp_pdelay.specs.Exchange.{NeighborRateIsWithin};
+ghost use Rattle.gptp_pdelay.specs.GoodLink.{GoodLink, GoodLinkByElapsed, GoodLinkShowsNeighbor};
+
+/// A clock within its limit counts, in any span of time, what the slowest and the fastest allow, and less than one
+/// unit of rounding.
+pub fn clock_elapses()
+    ensures { ClockElapses }
+{}
+
+/// A clock within its limit shows a time that the calls of a `Peer` take.
+pub fn clock_shows_time()
+    ensures { ClockShowsTime }
+{}
+
+/// The neighbour rate is within 200 parts in a million, whatever the times.
+pub fn neighbor_rate_is_within()
+    ensures { NeighborRateIsWithin }
+{}
+
+/// The core of the law of good links, over what the two clocks count.
+pub fn good_link_by_elapsed()
+    ensures { GoodLinkByElapsed }
+{}
+
+/// The law of good links: an exchange over a good link gives a delay of at most the threshold.
+pub fn good_link()
+    ensures { GoodLink }
+{}
+
+/// Each exchange over a good link but the first since the reset shows the neighbour.
+pub fn good_link_shows_neighbor()
+    ensures { GoodLinkShowsNeighbor }
+{}
+
+/// Whatever came to a port since it was made, it is capable exactly where at least two full exchanges have come
+/// since its reset and the last of them gave a delay of at most the threshold.
+pub fn capable_by_two_exchanges()
+    ensures { CapableByTwoExchanges }
+{}
+
+/// A port becomes capable by such an exchange alone, and stops being so by a reset, by an exchange above the
+/// threshold, or by one lost request in a row too many.
+pub fn capability_turns()
+    ensures { CapabilityTurns }
+{}
+
+/// The requests that count as lost in a row are never more than are allowed.
+pub fn lost_stays_allowed()
+    ensures { LostStaysAllowed }
+{}
