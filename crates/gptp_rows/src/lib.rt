@@ -9,6 +9,8 @@ mod all_messages;
 #[cfg(test)]
 mod announces;
 #[cfg(test)]
+mod correction;
+#[cfg(test)]
 mod frames;
 #[cfg(test)]
 mod link_messages;
