@@ -5,6 +5,8 @@
 #![tactic(auto)]
 
 #[cfg(test)]
+mod agenda;
+#[cfg(test)]
 mod all_messages;
 #[cfg(test)]
 mod announces;

@@ -1,0 +1,4 @@
+pub mod AgendaLemmas
+pub mod EntryLemmas
+pub mod OrderLemmas
+pub mod SlotLemmas

@@ -1,0 +1,159 @@
+//! An agenda of what is to be done.
+
+ghost use Rattle.std.specs.Prelude.{◌≡◌, ℕ, ◌+◌, ◌-◌, ◌^◌, ◌<◌, ◌≤◌, [], ◌∷◌, ◌++◌, length, take, drop, true, false, IsOk, OnOk, OnErr, IfOk, IfSome, IfNone, Some, None};
+ghost use Rattle.std.specs.List.{AllByRecursion};
+ghost use Rattle.std.specs.Option.{option_map};
+ghost use Rattle.gptp_scheduler.specs.Pending.{entry, entry_at, without, IsFirst, NothingDue, RiseFrom};
+ghost use Rattle.gptp_scheduler.specs.Order.{is_earlier, AreInOrder};
+
+use crate::slots::Slots;
+use std::alloc::{AllocError, Global};
+use std::collections::VecDeque;
+use std::marker::Model;
+
+/// When an entry is due, and its number.
+#[derive(Clone, Copy, Debug)]
+pub(crate) struct Due {
+    time: u64,
+    number: u64,
+}
+
+/// What is to be done, each entry at a time of its own, in ns. An entry gets a number when it is put,
+/// rising from 0. The least entry is the first of least time.
+///
+/// It is seen as the number of the next entry, the list of the entries in order of putting, and how many
+/// more can be put without being refused.
+#[derive(Drop)]
+pub struct Agenda<T> {
+    // The times and numbers of all entries, least first.
+    order: VecDeque<Due>,
+    entries: Slots<T>,
+}
+
+impl<T> Model for Agenda<T> {
+    ghost use Rattle.std.specs.Prelude.{◌-◌};
+    ghost use Rattle.std.specs.Prelude.{min};
+    ghost use Rattle.std.specs.VecDeque.{deque_len, deque_capacity};
+    ghost use Rattle.gptp_scheduler.specs.Pending.{Pending, pending_code};
+
+    ghost Value = { Pending T };
+
+    ghost coded = { pending_code T.code };
+
+    ghost use Rattle.gptp_scheduler.specs.Order.{Orders};
+
+    ghost view = { λ a. record {
+      next = a.entries.next;
+      entries = a.entries.entries;
+      room = min a.entries.room (deque_capacity a.order - deque_len a.order);
+    } };
+
+    ghost invariant = { λ a. Orders a.order.items a.entries.next a.entries.entries };
+}
+
+impl<T: Drop> Agenda<T> {
+    /// An agenda with no entry, whose first number is 0. Takes no memory.
+    pub fn new(alloc: Global) -> Self
+        ensures next { result.next ≡ 0 }
+        ensures entries { result.entries ≡ [] }
+    {
+        Agenda {
+            order: VecDeque::new(alloc),
+            entries: Slots::new(alloc),
+        }
+    }
+
+    /// Makes room for so many more entries: after `Ok` the next so many calls of [`put`](Self::put)
+    /// aren't refused. Refused where there is no memory for them, or where the numbers below 2^64 - 1
+    /// don't suffice. No entry changes.
+    pub fn reserve(&mut self, additional: usize) -> Result<(), AllocError>
+        ensures kept { self.new ≡ record self.old { room = self.new.room } }
+        ensures room { self.old.room ≤ self.new.room }
+        ensures ok { OnOk result (additional ≤ self.new.room) }
+        ensures numbers { OnOk result (self.old.next + additional < 2 ^ 64) }
+        ensures succeeds { additional ≤ self.old.room → IsOk result }
+    {
+        self.entries.reserve(additional)?;
+        self.order.reserve(additional)
+    }
+
+    /// Puts an entry, and answers its number. Refused where there is no memory for it, or no number
+    /// below 2^64 - 1; the item is dropped then, and no entry changes.
+    pub fn put(&mut self, time: u64, item: T) -> Result<u64, AllocError>
+        ensures number { IfOk result (λ number. number ≡ self.old.next) }
+        ensures numbers { OnOk result (self.new.next < 2 ^ 64) }
+        ensures next { OnOk result (self.new.next ≡ self.old.next + 1) }
+        ensures entries { OnOk result (self.new.entries ≡ self.old.entries ++ entry time self.old.next item ∷ []) }
+        ensures room { self.old.room ≤ self.new.room + 1 }
+        ensures refused { OnErr result (self.new ≡ record self.old { room = self.new.room }) }
+        ensures succeeds { 0 < self.old.room → IsOk result }
+    {
+        self.reserve(1)?;
+        let number = self.entries.next_number();
+        let place = place_of(&self.order, Due { time, number });
+        self.order.insert(place, Due { time, number })?;
+        self.entries.push(time, item);
+        Ok(number)
+    }
+
+    /// The time and the number of the least entry, if there is one.
+    pub fn next(&self) -> Option<(u64, u64)>
+        ensures first { IfSome result (λ due. IsFirst self.now.entries due.0 due.1) }
+        ensures empty { IfNone result (self.now.entries ≡ []) }
+    {
+        let due = *self.order.front()?;
+        Some((due.time, due.number))
+    }
+
+    /// Takes the least entry out, where it is due: its time, its number and its item.
+    pub fn take_due(&mut self, now: u64) -> Option<(u64, u64, T)>
+        ensures first { IfSome result (λ due. IsFirst self.old.entries due.0 due.1) }
+        ensures due { IfSome result (λ due. due.0 ≤ now) }
+        ensures item { IfSome result (λ due. entry_at self.old.entries due.1 ≡ Some (entry due.0 due.1 due.2)) }
+        ensures taken { IfSome result (λ due. self.new.entries ≡ without due.1 self.old.entries) }
+        ensures nothing { IfNone result (NothingDue self.old.entries now) }
+        ensures kept { IfNone result (self.new ≡ self.old) }
+        ensures next { self.new.next ≡ self.old.next }
+        ensures room { self.old.room ≤ self.new.room }
+    {
+        let due = *self.order.front()?;
+        if now < due.time {
+            return None;
+        }
+        self.order.pop_front();
+        let (_, item) = self.entries.remove(due.number).unwrap();
+        Some((due.time, due.number, item))
+    }
+
+    /// Takes the entry of a number out, wherever it stands, and answers its item, if it is there.
+    pub fn cancel(&mut self, number: u64) -> Option<T>
+        ensures item { result ≡ option_map (λ e. e.item) (entry_at self.old.entries number) }
+        ensures taken { self.new.entries ≡ without number self.old.entries }
+        ensures next { self.new.next ≡ self.old.next }
+        ensures room { self.old.room ≤ self.new.room }
+    {
+        let (time, item) = self.entries.remove(number)?;
+        let place = place_of(&self.order, Due { time, number });
+        self.order.remove(place);
+        Some(item)
+    }
+
+    /// Numbers rise in order of putting, from 0 on, and all lie below the next.
+    pub fn numbers_rise(&self)
+        ensures { RiseFrom 0 self.now.entries self.now.next }
+    {
+        let _ = &self.order;
+    }
+}
+
+/// Where something due then stands or would stand: behind all that is earlier.
+fn place_of(order: &VecDeque<Due>, due: Due) -> usize
+    requires { AreInOrder order.now.items }
+    ensures bound { result ≤ length order.now.items }
+    ensures before { AllByRecursion (λ other. is_earlier other due ≡ true) (take result order.now.items) }
+    ensures behind { AllByRecursion (λ other. is_earlier other due ≡ false) (drop result order.now.items) }
+{
+    order.partition_point(|other| {
+        other.time < due.time || (other.time == due.time && other.number < due.number)
+    })
+}
