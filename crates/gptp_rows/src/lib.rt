@@ -17,6 +17,8 @@ mod frames;
 #[cfg(test)]
 mod link_messages;
 #[cfg(test)]
+mod links;
+#[cfg(test)]
 mod messages;
 #[cfg(test)]
 mod pdelay;
