@@ -1,0 +1,306 @@
+-- A system answers: what that does to the stage of a link.
+use Rattle.std.proofs.Common.{◌≡◌, ◌≢◌, ◌⊎◌, ◌<◌, ◌≤◌, ◌+◌, ◌++◌, ℕ, suc, List, ◌∷◌, Some, length, slice_get, refl, sym, ap, subst, ◌∙◌, inl, inr, arith}
+use Rattle.gptp_graph.specs.Members.{In}
+use Rattle.gptp_graph.specs.Snapshot.{PortIdentity, port_of}
+use Rattle.gptp_settling.specs.Frame.{Announce, Says, Frame, Lane, Send}
+use Rattle.gptp_settling.specs.Station.{Reception, Held, Disabled, Aged, Mine, Received, Port, Station, State}
+use Rattle.gptp_settling.specs.Touch.{Touch, Hear, Grow, Mid}
+use Rattle.gptp_settling.specs.Reacts.{IsKept, IsOwn, IsMasterAt, PortStep}
+use Rattle.gptp_settling.specs.Acts.{LaneStep, Calls}
+use Rattle.gptp_settling.specs.Stage.{Wiring, from_port, IsFinal, AllFinal, IsSaid, Stays, Stage}
+use Rattle.gptp_settling.specs.Link.{TellsSettled, HearsSettled, IsLaneOf, Ends, Stand, LinkSettles}
+use Rattle.gptp_settling.proofs.ListLemmas.{In-right}
+use Rattle.gptp_settling.proofs.PlaceLemmas.{same_mine}
+use Rattle.gptp_settling.proofs.StageLemmas.{enters, tells, keeps, hears, young}
+use Rattle.gptp_settling.proofs.HearingLemmas.{mid_stays, final_taken, mid_on, final_kept}
+
+module _ (says : Says) (k : Wiring) (touch : Touch) (w w' : State) (call : Calls says touch w w') (ends : Ends k w)
+    (ends' : Ends k w') (since : k.since ≤ w.time) where
+  since' : k.since ≤ w'.time
+  since' = subst (λ t. k.since ≤ t) (sym call.time) since
+
+  -- it is the teller that answers, where the clocks are one
+  answers_teller : call.s.clock ≡ k.teller → call.place ≡ k.teller_place
+  answers_teller e = (ends.teller_stands call.place call.s call.here).1 e
+
+  -- its clock then is the teller's, at its place
+  teller_answers : k.teller_place ≡ call.place → call.s.clock ≡ k.teller
+  teller_answers e = (ends.teller_stands call.place call.s call.here).0 (sym e)
+
+  hearer_answers : k.hearer_place ≡ call.place → call.s.clock ≡ k.hearer
+  hearer_answers e = (ends.hearer_stands call.place call.s call.here).0 (sym e)
+
+  -- what the teller's port sends is final
+  sent_final : (x : Send) (a : Announce) → In x call.sends → from_port k ≡ port_of call.s.clock x.port
+      → says x.octets a → IsFinal k a
+  sent_final x a at from said = go (call.reacts.tells x a at said)
+    where
+      teller : call.s.clock ≡ k.teller
+      teller = ap (λ (p : PortIdentity). p.clock) (sym from)
+
+      go : IsOwn call.s' x.port a × IsMasterAt call.s' x.port → IsFinal k a
+      go (own, (i, q, number, port, mine)) = record {
+        root = own.root ∙ sym same.0;
+        steps = own.steps ∙ sym same.1;
+        source = source;
+        qualified = record {
+          foreign = λ e. ends.apart (ap (λ (p : PortIdentity). p.clock) (sym source) ∙ e);
+          near = subst (λ n. n < 255) (same.1 ∙ sym own.steps) tells.near;
+          no_loop = λ h. tells.foreign (subst (In k.hearer) own.path h);
+          short = subst (λ (xs : List ℕ). length xs ≤ 255) (sym own.path) tells.short;
+        };
+      }
+        where
+          source : a.source ≡ from_port k
+          source = own.source ∙ (λ j. port_of (call.reacts.clock j) x.port) ∙ sym from
+
+          here : slice_get w'.stations k.teller_place ≡ Some call.s'
+          here = subst (λ n. slice_get w'.stations n ≡ Some call.s') (answers_teller teller) call.there
+
+          place : i ≡ k.teller_port
+          place = suc_injective (sym number ∙ ap (λ (p : PortIdentity). p.port) (sym from))
+            where
+              suc_injective : {m n : ℕ} → suc m ≡ suc n → m ≡ n
+              suc_injective e = omega arith
+
+          tells : TellsSettled k call.s' q
+          tells =
+              (ends'.teller call.s' q here (subst (λ n. slice_get call.s'.ports n ≡ Some q) place port)).settled since'
+
+          same : (k.root ≡ call.s'.root) × (k.steps ≡ call.s'.steps)
+          same = same_mine k.root k.steps call.s'.root call.s'.steps (sym tells.mine ∙ mine)
+
+  -- so is what enters the lane
+  news_final : (l l' : Lane) → slice_get w.lanes k.lane ≡ Some l → (step : LaneStep call.s.clock call.sends l l')
+      → AllFinal says k step.news
+  news_final l l' at step f a new said = go (step.sent f new)
+    where
+      go : ((x : Send) × In x call.sends × (l.from ≡ port_of call.s.clock x.port) × (f.octets ≡ x.octets))
+          → IsFinal k a
+      go (x, sent, from, octets) =
+          sent_final x a sent (sym (ends.lane l at).from ∙ from) (subst (λ (o : List ℕ). says o a) octets said)
+
+  -- the teller's timer stays, or what it tells enters the lane
+  abbrev TellerStep : Port → List Frame → Type 0
+  TellerStep pv' news = (v : Station) × (pv : Port) × (slice_get w.stations k.teller_place ≡ Some v)
+      × (slice_get v.ports k.teller_port ≡ Some pv)
+      × ((pv'.announce ≡ pv.announce) ⊎ ((f : Frame) × In f news × IsSaid says f))
+
+  teller_step : (v' : Station) (pv' : Port) (l l' : Lane) → slice_get w'.stations k.teller_place ≡ Some v'
+      → slice_get v'.ports k.teller_port ≡ Some pv' → slice_get w.lanes k.lane ≡ Some l
+      → (step : LaneStep call.s.clock call.sends l l') → TellerStep pv' step.news
+  teller_step v' pv' l l' at port lane_at step = elim (call.stations k.teller_place v' at) [
+    | inl (same, is) ↦ answered same is
+        (call.reacts.ports k.teller_port pv'
+        (subst (λ (s : Station). slice_get s.ports k.teller_port ≡ Some pv') is port))
+    | inr (other, stood) ↦ (v', pv', stood, port, inl refl)
+  ]
+    where
+      lane_is : IsLaneOf k l
+      lane_is = ends.lane l lane_at
+
+      told : k.teller_place ≡ call.place
+          → ((x : Send) × In x call.sends × (x.port ≡ suc k.teller_port) × ((a : Announce) × says x.octets a))
+          → (f : Frame) × In f step.news × IsSaid says f
+      told same (x, sent, number, (a, said)) =
+          let from : l.from ≡ port_of call.s.clock x.port =
+          lane_is.from ∙ (λ j. port_of (sym (teller_answers same) j) (sym number j)) in
+          let (f, new, octets) = step.arrives lane_is.loss lane_is.is_up x sent from in
+          (f, new, (a, subst (λ (o : List ℕ). says o a) (sym octets) said))
+
+      answered : k.teller_place ≡ call.place → v' ≡ call.s'
+          → ((pv : Port) × (slice_get call.s.ports k.teller_port ≡ Some pv)
+          × PortStep says call.s.clock (suc k.teller_port) w.time touch call.s'.root call.s'.steps pv pv' call.sends)
+          → TellerStep pv' step.news
+      answered same is (pv, stood, answer) = (
+        call.s,
+        pv,
+        subst (λ n. slice_get w.stations n ≡ Some call.s) (sym same) call.here,
+        stood,
+        elim answer.after [
+          | inl (kept, is_kept) ↦ absurd (not_kept answer.mid
+              (sym kept ∙ ((ends'.teller v' pv' at port).settled since').mine) is_kept)
+          | inr becomes ↦ elim becomes.timing [
+            | inl (already, timer) ↦ inl timer
+            | inr tells ↦ inr (told same tells.sent)
+          ]
+        ],
+      )
+        where
+          not_kept : (mid : Held) → mid ≡ Mine k.root k.steps → IsKept mid → ⊥
+          not_kept Disabled e h = absurd cc
+          not_kept Aged e h = h
+          not_kept (Mine root steps) e h = h
+          not_kept (Received r) e h = absurd cc
+
+  -- the hearer's port holds what it held, or it is the hearer that answers
+  abbrev Hearing : Station → Port → Port → Type 0
+  Hearing u pu pu' = ((k.hearer_place ≢ call.place) × (pu'.held ≡ pu.held))
+      ⊎ ((k.hearer_place ≡ call.place) × (u ≡ call.s)
+      × PortStep says k.hearer (suc k.hearer_port) w.time touch call.s'.root call.s'.steps pu pu' call.sends)
+
+  -- what the hearer's port held, and its step
+  abbrev HearerStep : Port → Type 0
+  HearerStep pu' = (u : Station) × (pu : Port) × (slice_get w.stations k.hearer_place ≡ Some u)
+      × (slice_get u.ports k.hearer_port ≡ Some pu) × Hearing u pu pu'
+
+  hearer_step : (u' : Station) (pu' : Port) → slice_get w'.stations k.hearer_place ≡ Some u'
+      → slice_get u'.ports k.hearer_port ≡ Some pu' → HearerStep pu'
+  hearer_step u' pu' at port = elim (call.stations k.hearer_place u' at) [
+    | inl (same, is) ↦ answered same
+        (call.reacts.ports k.hearer_port pu'
+        (subst (λ (s : Station). slice_get s.ports k.hearer_port ≡ Some pu') is port))
+    | inr (other, stood) ↦ (u', pu', stood, port, inl (other, refl))
+  ]
+    where
+      answered : k.hearer_place ≡ call.place
+          → ((pu : Port) × (slice_get call.s.ports k.hearer_port ≡ Some pu)
+          × PortStep says call.s.clock (suc k.hearer_port) w.time touch call.s'.root call.s'.steps pu pu' call.sends)
+          → HearerStep pu'
+      answered same (pu, stood, answer) = (
+        call.s,
+        pu,
+        subst (λ n. slice_get w.stations n ≡ Some call.s) (sym same) call.here,
+        stood,
+        inr (
+          same,
+          refl,
+          subst
+              (λ c. PortStep says c (suc k.hearer_port) w.time touch call.s'.root call.s'.steps pu pu' call.sends)
+              (hearer_answers same) answer,
+        ),
+      )
+
+  -- the teller's timer isn't over
+  timer_left : (v : Station) (pv : Port) → slice_get w.stations k.teller_place ≡ Some v
+      → slice_get v.ports k.teller_port ≡ Some pv → w.time ≤ pv.announce
+  timer_left v pv at port =
+      let teller = ends.teller v pv at port in
+      (teller.timer k.root k.steps (teller.settled since).mine).0
+
+  -- and is due within an interval
+  timer_soon : (v : Station) (pv : Port) → slice_get w.stations k.teller_place ≡ Some v
+      → slice_get v.ports k.teller_port ≡ Some pv → pv.announce ≤ w.time + k.interval
+  timer_soon v pv at port =
+      let teller = ends.teller v pv at port in
+      (teller.timer k.root k.steps (teller.settled since).mine).1
+
+  -- the hearer's own step leaves a final Announce that it holds, where it hears none
+  held_on : (pv pu pu' : Port) (l : Lane) → Stand k w pv pu l → HearsSettled k pu'
+      → PortStep says k.hearer (suc k.hearer_port) w.time touch call.s'.root call.s'.steps pu pu' call.sends
+      → ((a : Announce) → touch ≡ Hear (suc k.hearer_port) a → ⊥)
+      → ((r : Reception) → touch ≡ Grow (suc k.hearer_port) → pu.held ≡ Received r → r.at + r.span ≤ w.time)
+      → (stays : Stays says k pv.announce pu.held l.frames) → pu'.held ≡ Received stays.what
+  held_on pv pu pu' l stand settles' step deaf ages stays =
+      final_kept k says w.time touch call.s'.root call.s'.steps pu pu' call.sends step settles' stays.what stays.final
+      (mid_stays k.hearer (suc k.hearer_port) w.time touch pu.held step.mid stays.what deaf not_aged
+      (mid_on k says w.time touch call.s'.root call.s'.steps pu pu' call.sends step settles') step.before stays.holds)
+    where
+      not_aged : touch ≡ Grow (suc k.hearer_port) → ⊥
+      not_aged e =
+          let old : stays.what.at + stays.what.span ≤ w.time = ages stays.what e stays.holds in
+          let fresh : w.time < stays.what.at + stays.what.span =
+          young says k w.time pv.announce pu.held l.frames stays
+          (timer_left stand.v pv stand.teller stand.teller_port)
+          (λ f h. (ends.frames l f stand.lane h).left)
+          ((ends.hearer stand.u pu stand.hearer stand.hearer_port since).long stays.what stays.holds stays.came) in
+          absurd (omega arith)
+
+  -- what the teller's timer and the lane come to
+  sent_on : (v : Station) (pv pv' : Port) (held : Held) (l l' : Lane) → slice_get w.stations k.teller_place ≡ Some v
+      → slice_get v.ports k.teller_port ≡ Some pv → slice_get w.lanes k.lane ≡ Some l
+      → slice_get w'.lanes k.lane ≡ Some l' → (step : LaneStep call.s.clock call.sends l l')
+      → (pv'.announce ≡ pv.announce) ⊎ ((f : Frame) × In f step.news × IsSaid says f)
+      → Stage says k pv.announce held l.frames → Stage says k pv'.announce held l'.frames
+  sent_on v pv pv' held l l' at port lane_at lane_at' step timing stage =
+      subst (Stage says k pv'.announce held) (sym step.behind) (go timing)
+    where
+      final : AllFinal says k step.news
+      final = news_final l l' lane_at step
+
+      go : (pv'.announce ≡ pv.announce) ⊎ ((f : Frame) × In f step.news × IsSaid says f)
+          → Stage says k pv'.announce held (l.frames ++ step.news)
+      go (inl same) =
+          subst (λ t. Stage says k t held (l.frames ++ step.news)) (sym same)
+          (enters says k pv.announce held l.frames step.news final stage)
+      go (inr (f, new, said)) =
+          tells says k w.time pv.announce pv'.announce held l.frames step.news f final new said due
+          (timer_left v pv at port) stage
+        where
+          due : f.due ≤ w.time + k.most
+          due =
+              subst (λ t. f.due ≤ t + k.most) call.time
+              ((ends'.frames l' f lane_at' (subst (In f) (sym step.behind) (In-right f l.frames step.news new))).due
+              since')
+
+  -- an answer keeps the link at a stage, where what it does to the hearer's port alone does
+  answered : ((pv pu pu' : Port) (l : Lane) (stood : Stand k w pv pu l) → HearsSettled k pu' → Hearing stood.u pu pu'
+      → Stage says k pv.announce pu'.held l.frames)
+      → LinkSettles says k w'
+  answered hearing late pv' pu' l' stand =
+      by_parts (call.lanes k.lane l' stand.lane) (hearer_step stand.u pu' stand.hearer stand.hearer_port)
+    where
+      settles' : HearsSettled k pu'
+      settles' = ends'.hearer stand.u pu' stand.hearer stand.hearer_port since'
+
+      by_parts : ((l : Lane) × (slice_get w.lanes k.lane ≡ Some l) × LaneStep call.s.clock call.sends l l')
+          → HearerStep pu' → Stage says k pv'.announce pu'.held l'.frames
+      by_parts (l, lane_at, step) (u, pu, u_at, pu_at, hears) =
+          by_teller (teller_step stand.v pv' l l' stand.teller stand.teller_port lane_at step)
+        where
+          by_teller : TellerStep pv' step.news → Stage says k pv'.announce pu'.held l'.frames
+          by_teller (v, pv, v_at, pv_at, timing) =
+              sent_on v pv pv' pu'.held l l' v_at pv_at lane_at stand.lane step timing
+              (hearing pv pu pu' l stood settles' hears)
+            where
+              stood : Stand k w pv pu l
+              stood = record {
+                v = v;
+                u = u;
+                teller = v_at;
+                teller_port = pv_at;
+                hearer = u_at;
+                hearer_port = pu_at;
+                lane = lane_at;
+              }
+
+  -- so does an answer to anything but an Announce over this link
+  pub called : LinkSettles says k w
+      → ((a : Announce) → k.hearer_place ≡ call.place → touch ≡ Hear (suc k.hearer_port) a → ⊥)
+      → ((i : ℕ) (q : Port) (r : Reception) → touch ≡ Grow (suc i) → slice_get call.s.ports i ≡ Some q
+      → q.held ≡ Received r → r.at + r.span ≤ w.time)
+      → LinkSettles says k w'
+  called link deaf ages = answered (λ pv pu pu' l stood settles' hearing. elim hearing [
+    | inl (other, same) ↦ subst (λ h. Stage says k pv.announce h l.frames) (sym same) (link since pv pu l stood)
+    | inr (here, is, answer) ↦ keeps says k pv.announce pu.held pu'.held l.frames
+        (held_on pv pu pu' l stood settles' answer (λ a. deaf a here)
+        (λ r grown. ages k.hearer_port pu r grown
+        (subst (λ (s : Station). slice_get s.ports k.hearer_port ≡ Some pu) is stood.hearer_port)))
+        (link since pv pu l stood)
+  ])
+
+  -- and the hearer's to the oldest frame of the lane, which has been taken off it
+  pub heard : (f : Frame) (a : Announce) → touch ≡ Hear (suc k.hearer_port) a → says f.octets a
+      → k.hearer_place ≡ call.place
+      → ((pv pu : Port) (l : Lane) → Stand k w pv pu l → Stage says k pv.announce pu.held (f ∷ l.frames))
+      → LinkSettles says k w'
+  heard f a touched said place link =
+      answered (λ pv pu pu' l stood settles' hearing. elim hearing [
+        | inl (other, same) ↦ absurd (other place)
+        | inr (here, is, answer) ↦ hears says k w.time pv.announce pu.held pu'.held f l.frames a said since
+            (timer_soon stood.v pv stood.teller stood.teller_port) (taken pv pu pu' l stood settles' answer)
+            (link pv pu l stood)
+      ])
+    where
+      taken : (pv pu pu' : Port) (l : Lane) (stood : Stand k w pv pu l) → HearsSettled k pu'
+          → PortStep says k.hearer (suc k.hearer_port) w.time touch call.s'.root call.s'.steps pu pu' call.sends
+          → IsFinal k a → (span : ℕ) × (pu'.held ≡ Received (record { said = a; at = w.time; span = span }))
+      taken pv pu pu' l stood settles' answer final =
+          let (span, mid) =
+          final_taken k w.time a pu answer.mid final (ends.hearer stood.u pu stood.hearer stood.hearer_port since)
+          (subst (λ t. Mid k.hearer (suc k.hearer_port) t w.time pu.held answer.mid) touched answer.before) in
+          let r : Reception = record { said = a; at = w.time; span = span } in (
+            span,
+            final_kept k says w.time touch call.s'.root call.s'.steps pu pu' call.sends answer settles'
+                r final mid,
+          )

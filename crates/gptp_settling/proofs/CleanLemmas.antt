@@ -1,0 +1,268 @@
+-- Traces become clean: each step keeps how clean they are by when they were sent, and in the end all that is held is
+-- wholly clean.
+use Rattle.std.proofs.Common.{◌≡◌, ◌⊎◌, ◌≤◌, ◌<◌, ◌+◌, ◌*◌, ◌++◌, ℕ, zero, suc, true, List, [], ◌∷◌, Some, length, slice_get, reverse, refl, sym, ap, subst, ◌∙◌, inl, inr, arith}
+use Rattle.gptp_graph.specs.Members.{In}
+use Rattle.gptp_graph.specs.Snapshot.{System, PortIdentity, IsWellFormed, clocks, port_of, Joins, Adjacent}
+use Rattle.gptp_graph.proofs.LinkLemmas.{Joins-sym}
+use Rattle.gptp_graph.proofs.SystemLemmas.{In-clocks}
+use Rattle.gptp_settling.specs.Frame.{Announce, Says, Frame, Lane, Send}
+use Rattle.gptp_settling.specs.Station.{Station, State}
+use Rattle.gptp_settling.specs.Touch.{Touch, Hear}
+use Rattle.gptp_settling.specs.Reacts.{IsOwn, Reacts}
+use Rattle.gptp_settling.specs.Acts.{LaneStep, Calls, Pops, Arrives, Acts, Waits, Steps}
+use Rattle.gptp_settling.specs.Clean.{Clean, Whole, Good, Came, CameWhole}
+use Rattle.gptp_settling.specs.Facts.{Setting, turn, Late, system_of, FollowsPort, IsInTime, IsStation, Facts}
+use Rattle.gptp_settling.specs.CleanInvariant.{LaneIsClean, StationIsClean, TracesAreClean}
+use Rattle.gptp_settling.specs.CleanLaws.{HeldIsWhole}
+use Rattle.gptp_settling.proofs.ListLemmas.{In-parts, reverse-end}
+use Rattle.gptp_settling.proofs.TraceLemmas.{clean_first, clean_on, whole_own, whole_on, not_all_clean}
+use Rattle.gptp_settling.proofs.ReactsLemmas.{JustHeard, held_from}
+
+-- both ends of a link are joined, seen from either
+joined_back : (k : Setting) (from : PortIdentity) (c n : ℕ) → Joins k.graph from (port_of c n)
+    → Adjacent k.graph c from.clock
+joined_back k from c n joins = (n, from.port, Joins-sym k.graph from (port_of c n) joins)
+
+-- a live system's clock is one of the snapshot
+known_clock : (k : Setting) (now : ℕ) (s : Station) → IsStation k now s → In s.clock (clocks k.graph)
+known_clock k now s is = In-clocks k.graph (system_of s) is.known
+
+module _ (k : Setting) (now : ℕ) (s : Station) (is : IsStation k now s) (clean : StationIsClean k s) where
+  -- what follows a port goes on what the port received, which was sent a turn earlier at most
+  follows_clean : (c : ℕ) (p : FollowsPort s) (n : ℕ) (a : Announce) → IsOwn s n a → k.start + c * turn k ≤ now
+      → Clean k.graph (suc c) s.clock a.path ⊎ Whole k.graph s.clock a
+  follows_clean zero p n a own late =
+      inl (clean_first k.graph s.clock a.path (reverse p.r.said.path) (known_clock k now s is)
+      (ap (λ (xs : List ℕ). reverse xs) (own.path ∙ p.trace) ∙ reverse-end s.clock p.r.said.path _ refl))
+  follows_clean (suc c) p n a own late =
+      on (clean p.place p.r c p.holds (sent_before in_time))
+    where
+      in_time : IsInTime k now s.clock p.r
+      in_time = is.held p.place p.r p.holds
+
+      sent_before : IsInTime k now s.clock p.r → Late k c p.r.at
+      sent_before t =
+          let stays : now ≤ p.r.at + p.r.span = t.stays in
+          let short : p.r.span ≤ k.span = t.short in
+          omega arith
+
+      on : Came k.graph (suc c) s.clock (suc p.place) p.r
+          → Clean k.graph (suc (suc c)) s.clock a.path ⊎ Whole k.graph s.clock a
+      on came =
+          let joined = joined_back k came.from s.clock (suc p.place) came.joins in
+          let here = known_clock k now s is in
+          let path : a.path ≡ p.r.said.path ++ s.clock ∷ [] = own.path ∙ p.trace in
+          elim came.good.clean [
+            | inl c' ↦ inl (subst (Clean k.graph (suc (suc c)) s.clock) (sym path)
+                (clean_on k.graph (suc c) s.clock came.from.clock p.r.said.path c' here joined in_time.no_loop))
+            | inr whole ↦ inr (whole_on k.graph s.clock came.from.clock p.r.said a whole here joined in_time.no_loop
+                (own.root ∙ p.root) (own.steps ∙ p.steps) path)
+          ]
+
+  -- what a live system may say c turns after the start is clean by c + 1 members, or wholly
+  pub may_say : (c n : ℕ) (a : Announce) → IsOwn s n a → k.start + c * turn k ≤ now
+      → Good k.graph (suc c) (port_of s.clock n) a
+  may_say c n a own late = record {
+    source = own.source;
+    clean = elim is.follows [
+      | inl itself ↦ inr (whole_own k.graph (system_of s) a is.known (own.root ∙ itself.root)
+          (own.steps ∙ itself.steps) (own.path ∙ itself.trace))
+      | inr port ↦ follows_clean c port n a own late
+    ];
+  }
+
+-- what a system is about to hear at its port n came over that port's link, and is clean by when it is due
+HeardIsClean : Setting → Station → ℕ → Touch → Type 0
+HeardIsClean k s now touch = (n : ℕ) (a : Announce) (c : ℕ) → touch ≡ Hear n a → Late k c now
+    → (from : PortIdentity) × Joins k.graph from (port_of s.clock n) × Good k.graph (suc c) from a
+
+module _ (says : Says) (k : Setting) (s s' : Station) (touch : Touch) (now : ℕ) (sends : List Send)
+    (reacts : Reacts says s touch now s' sends) where
+  -- what a system has received after an answer is as clean as it was, or as what it heard
+  reacted : StationIsClean k s → HeardIsClean k s now touch → StationIsClean k s'
+  unfolding HeardIsClean
+  reacted clean heard i r c holds late =
+      subst (λ v. Came k.graph (suc c) v (suc i) r) (sym reacts.clock)
+      (elim (held_from says s s' touch now sends reacts i r holds) [
+        | inl before ↦ clean i r c before late
+        | inr just ↦ came just (heard (suc i) just.said c just.touched (subst (λ t. Late k c t) just.at late))
+      ])
+    where
+      came : (just : JustHeard s.clock (suc i) now touch r)
+          → ((from : PortIdentity) × Joins k.graph from (port_of s.clock (suc i)) × Good k.graph (suc c) from just.said)
+          → Came k.graph (suc c) s.clock (suc i) r
+      came just (from, joins, good) = record {
+        from = from;
+        joins = joins;
+        good = subst (Good k.graph (suc c) from) (sym just.is_said) good;
+      }
+
+  -- what enters a lane is as clean as what its sender may say
+  lane_sent : (l l' : Lane) → LaneIsClean says k l → LaneStep s.clock sends l l' → IsStation k now s'
+      → StationIsClean k s' → ((f : Frame) → In f l'.frames → f.due ≤ now + k.interval) → LaneIsClean says k l'
+  lane_sent l l' clean step is' clean' near f a c at said late =
+      elim (In-parts f l.frames step.news (subst (In f) step.behind at)) [
+        | inl old ↦ let (known, good) = clean f a c old said late in (
+          subst (λ (p : PortIdentity). In p.clock (clocks k.graph)) (sym step.from) known,
+          subst (λ p. Good k.graph (suc c) p a) (sym step.from) good,
+        )
+        | inr new ↦ fresh (step.sent f new)
+      ]
+    where
+      sent_late : f.due ≤ now + k.interval → k.start + c * turn k ≤ now
+      sent_late h = omega arith
+
+      fresh : ((x : Send) × In x sends × (l.from ≡ port_of s.clock x.port) × (f.octets ≡ x.octets))
+          → In l'.from.clock (clocks k.graph) × Good k.graph (suc c) l'.from a
+      fresh (x, x_in, from, octets) =
+          let own : IsOwn s' x.port a =
+          (reacts.tells x a x_in (subst (λ (o : List ℕ). says o a) octets said)).0 in
+          let at_port : port_of s'.clock x.port ≡ l'.from =
+          (λ i. port_of (reacts.clock i) x.port) ∙ sym (step.from ∙ from) in (
+            subst (λ (p : PortIdentity). In p.clock (clocks k.graph)) at_port (known_clock k now s' is'),
+            subst (λ p. Good k.graph (suc c) p a) at_port
+                (may_say k now s' is' clean' c x.port a own (sent_late (near f at))),
+          )
+
+module _ (says : Says) (k : Setting) where
+  -- one system answers
+  called : (touch : Touch) (w w' : State) (call : Calls says touch w w') → Facts k w' → TracesAreClean says k w
+      → HeardIsClean k call.s w.time touch → TracesAreClean says k w'
+  called touch w w' call facts' clean heard = record { lanes = lanes; stations = stations }
+    where
+      live' : call.s'.live ≡ true
+      live' = call.reacts.live ∙ call.live
+
+      is' : IsStation k w.time call.s'
+      is' = subst (λ t. IsStation k t call.s') call.time (facts'.stations call.place call.s' call.there live')
+
+      clean' : StationIsClean k call.s'
+      clean' =
+          reacted says k call.s call.s' touch w.time call.sends call.reacts
+          (clean.stations call.place call.s call.here call.live) heard
+
+      stations : (j : ℕ) (m : Station) → slice_get w'.stations j ≡ Some m → m.live ≡ true → StationIsClean k m
+      stations j m at live = elim (call.stations j m at) [
+        | inl (same, is) ↦ subst (StationIsClean k) (sym is) clean'
+        | inr (other, stood) ↦ clean.stations j m stood live
+      ]
+
+      lanes : (j : ℕ) (l' : Lane) → slice_get w'.lanes j ≡ Some l' → LaneIsClean says k l'
+      lanes j l' at =
+          let (l, stood, step) = call.lanes j l' at in
+          lane_sent says k call.s call.s' touch w.time call.sends call.reacts l l' (clean.lanes j l stood) step
+          is' clean' (λ f h. subst (λ t. f.due ≤ t + k.interval) call.time (facts'.near j l' f at h))
+
+  -- a frame is taken off its lane
+  popped : (j : ℕ) (l : Lane) (f : Frame) (fs : List Frame) (w w' : State) → Pops j l f fs w w'
+      → TracesAreClean says k w → TracesAreClean says k w'
+  popped j l f fs w w' pops clean = record {
+    lanes = λ n m at. elim (pops.lanes n m at) [
+      | inl (same, is) ↦ subst (LaneIsClean says k) (sym is) rest
+      | inr (other, stood) ↦ clean.lanes n m stood
+    ];
+    stations = λ i m at. clean.stations i m (pops.stations i m at);
+  }
+    where
+      rest : LaneIsClean says k (record l { frames = fs })
+      rest g a c at = clean.lanes j l pops.here g a c (subst (In g) (sym pops.frames) (inr at))
+
+  -- what arrives is as clean as its lane
+  arrived : (w w' : State) (act : Arrives says w w') → Facts k w → TracesAreClean says k w
+      → HeardIsClean k act.call.s act.mid.time act.touch
+  unfolding HeardIsClean
+  arrived w w' act facts clean n a c touched late =
+      let (to, said) = act.heard n a touched in
+      let frame : In act.f act.l.frames = subst (In act.f) (sym act.pops.frames) (inl refl) in
+      let due : act.mid.time ≡ act.f.due = act.pops.time ∙ sym act.pops.due in
+      let (from_known, good) =
+      clean.lanes act.j act.l act.pops.here act.f a c frame said (subst (Late k c) due late) in
+      let is : IsStation k w.time act.call.s =
+      facts.stations act.call.place act.call.s
+      (act.pops.stations act.call.place act.call.s act.call.here) act.call.live in
+      let to_known : In act.l.to.clock (clocks k.graph) =
+      subst (λ v. In v (clocks k.graph)) act.owner (known_clock k w.time act.call.s is) in
+      let joins : Joins k.graph act.l.from act.l.to =
+      facts.linked act.j act.l act.f act.pops.here frame from_known to_known in
+      (act.l.from, subst (Joins k.graph act.l.from) (λ i. port_of (sym act.owner i) (sym to i)) joins, good)
+
+  -- nothing is heard
+  heard_none : (s : Station) (now : ℕ) (touch : Touch) → ((n : ℕ) (a : Announce) → touch ≡ Hear n a → ⊥)
+      → HeardIsClean k s now touch
+  unfolding HeardIsClean
+  heard_none s now touch deaf n a c touched late = absurd (deaf n a touched)
+
+  -- what happens keeps how clean traces are
+  acts : (w w' : State) → Facts k w → Facts k w' → Acts says w w' → TracesAreClean says k w → TracesAreClean says k w'
+  acts w w' facts facts' (inl act) clean =
+      called act.touch act.mid w' act.call facts'
+      (popped act.j act.l act.f act.fs w act.mid act.pops clean) (arrived w w' act facts clean)
+  acts w w' facts facts' (inr (inl act)) clean = popped act.j act.l act.f act.fs w w' act.pops clean
+  acts w w' facts facts' (inr (inr act)) clean =
+      called act.touch w w' act.call facts' clean (heard_none act.call.s w.time act.touch act.deaf)
+
+  -- so does the passing of time
+  waits : (w w' : State) → Waits w w' → TracesAreClean says k w → TracesAreClean says k w'
+  waits w w' wait clean = subst (TracesAreClean says k) (sym wait.is)
+      (let later : TracesAreClean says k (record w { time = wait.time }) =
+      record { lanes = clean.lanes; stations = clean.stations } in later)
+
+  -- every step keeps how clean traces are
+  pub clean_kept : (w w' : State) → Facts k w → Facts k w' → Steps says w w' → TracesAreClean says k w
+      → TracesAreClean says k w'
+  clean_kept w w' facts facts' (inl wait) clean = waits w w' wait clean
+  clean_kept w w' facts facts' (inr act) clean = acts w w' facts facts' act clean
+
+  -- before the start nothing is claimed
+  pub clean_begins : (w : State) → Facts k w → w.time < k.start → TracesAreClean says k w
+  clean_begins w facts early = record {
+    lanes = λ j l at f a c h said late.
+        let near : f.due ≤ w.time + k.interval = facts.near j l f at h in
+        absurd (omega arith);
+    stations = λ i s at live place r c holds late.
+        let came : r.at ≤ w.time = ((facts.stations i s at live).held place r holds).came in
+        absurd (omega arith);
+  }
+
+  -- as many turns after the start as there are systems, all that is held is wholly clean
+  pub held_whole : (w : State) → IsWellFormed k.graph → Facts k w → TracesAreClean says k w
+      → k.start + length k.graph.systems * turn k ≤ w.time → HeldIsWhole k w
+  held_whole w wf facts clean late i s place r at live holds =
+      go (length k.graph.systems) refl late
+    where
+      is : IsStation k w.time s
+      is = facts.stations i s at live
+
+      in_time : IsInTime k w.time s.clock r
+      in_time = is.held place r holds
+
+      here : In s.clock (clocks k.graph)
+      here = known_clock k w.time s is
+
+      go : (count : ℕ) → length k.graph.systems ≡ count → k.start + count * turn k ≤ w.time
+          → CameWhole k.graph s.clock (suc place) r
+      go zero e late' = absurd (no_system k.graph.systems e is.known)
+        where
+          no_system : (xs : List System) → length xs ≡ 0 → In (system_of s) xs → ⊥
+          no_system [] e h = h
+          no_system (x ∷ xs) e h = absurd (omega arith)
+      go (suc m) e late' = whole (clean.stations i s at live place r m holds (since in_time))
+        where
+          since : IsInTime k w.time s.clock r → Late k m r.at
+          since t =
+              let stays : w.time ≤ r.at + r.span = t.stays in
+              let short : r.span ≤ k.span = t.short in
+              omega arith
+
+          whole : Came k.graph (suc m) s.clock (suc place) r → CameWhole k.graph s.clock (suc place) r
+          whole came = record {
+            from = came.from;
+            joins = came.joins;
+            source = came.good.source;
+            whole = elim came.good.clean [
+              | inl c ↦ absurd (not_all_clean k.graph s.clock came.from.clock r.said.path wf
+                  (subst (λ n. Clean k.graph n came.from.clock r.said.path) (sym e) c) here
+                  (joined_back k came.from s.clock (suc place) came.joins) in_time.no_loop)
+              | inr h ↦ h
+            ];
+          }

@@ -1,0 +1,275 @@
+-- The links of a calm network: what is known of their ends, once the system that tells has settled.
+use Rattle.std.proofs.Common.{◌≡◌, ◌≢◌, ◌⊎◌, ◌≤◌, ◌<◌, ℕ, suc, true, List, [], ◌∷◌, Some, length, slice_get, sym, ap, subst, ◌∙◌, inl, inr, arith}
+use Rattle.std.proofs.lemmas.List.{length-append}
+use native.Mathlib.Decide.{dec_le}
+use Rattle.gptp_graph.specs.Members.{In}
+use Rattle.gptp_graph.specs.Order.{IsLower}
+use Rattle.gptp_graph.specs.Snapshot.{System, port_of, Joins, IsLinked, clocks}
+use Rattle.gptp_graph.specs.Best.{IsBest}
+use Rattle.gptp_graph.specs.Distance.{IsDistance}
+use Rattle.gptp_graph.proofs.LinkLemmas.{Joins-sym, Joins-clock}
+use Rattle.gptp_graph.proofs.SystemLemmas as systems
+use Rattle.gptp_graph.proofs.BestLemmas.{IsBest-neighbour}
+use Rattle.gptp_settling.specs.Frame.{Frame, Lane}
+use Rattle.gptp_settling.specs.Station.{Reception, Disabled, Mine, Received, Port, Station, State}
+use Rattle.gptp_settling.specs.Vectors.{master}
+use Rattle.gptp_settling.specs.Clean.{CameWhole}
+use Rattle.gptp_settling.specs.Facts.{FollowsItself, FollowsPort}
+use Rattle.gptp_settling.specs.CleanLaws.{HeldIsWhole}
+use Rattle.gptp_settling.specs.Stage.{Wiring}
+use Rattle.gptp_settling.specs.Link.{final_vector, StandsAt, TellsSettled, HearsSettled, IsLaneOf, IsOnTime, Ends}
+use Rattle.gptp_settling.specs.Network.{Network, IsNetwork, setting, clean_from, since, wiring}
+use Rattle.gptp_settling.specs.Calm.{IsCalmPort, HasLane, Calm}
+use Rattle.gptp_settling.specs.Levels.{LeadsFarther}
+use Rattle.gptp_settling.proofs.ListLemmas.{In-parts}
+use Rattle.gptp_settling.proofs.PlaceLemmas.{same_there}
+use Rattle.gptp_settling.proofs.NearestLemmas.{steps_not_fewer, on_way, path_length}
+use Rattle.gptp_settling.proofs.RestLemmas.{Chooses, IsClear, best_there, root_above, steps_above, is_master}
+
+-- a settled system's trace has no system that is as far or farther, and is of the length of its distance and one
+module _ (n : Network) (net : IsNetwork n) (s : Station) (clear : IsClear n.graph s) (best : System)
+    (is_best : IsBest n.graph s.clock best) (d : ℕ) (chooses : Chooses s best d) where
+  no_farther : (u far : ℕ) → IsBest n.graph u best → IsDistance n.graph u far → d ≤ far → s.clock ≢ u
+      → FollowsItself s ⊎ FollowsPort s → In u s.trace → ⊥
+  no_farther u far is_best' there as_far apart (inl itself) h =
+      elim (subst (In u) itself.trace h) [ inl e ↦ apart (sym e) | inr none ↦ none ]
+  no_farther u far is_best' there as_far apart (inr port) h =
+      elim (In-parts u port.r.said.path (s.clock ∷ []) (subst (In u) port.trace h)) [
+        | inl before ↦
+            let few : far ≤ port.r.said.steps =
+            steps_not_fewer n.graph net.graph came.from.clock port.r.said came.whole best
+            (best_there n.graph net.graph s clear best is_best port.place port.r port.holds) u far
+            (on_way n.graph net.graph came.from.clock port.r.said came.whole best
+            (best_there n.graph net.graph s clear best is_best port.place port.r port.holds) u before)
+            is_best' there (sym port.root ∙ chooses.root) in
+            let more : s.steps ≡ suc port.r.said.steps = port.steps in
+            let own : s.steps ≡ d = chooses.steps in
+            absurd (omega arith)
+        | inr (inl e) ↦ apart (sym e)
+        | inr (inr none) ↦ none
+      ]
+    where
+      came : CameWhole n.graph s.clock (suc port.place) port.r
+      came = clear.held port.place port.r port.holds
+
+  trace_short : FollowsItself s ⊎ FollowsPort s → length s.trace ≤ suc d
+  trace_short (inl itself) = subst (λ (xs : List ℕ). length xs ≤ suc d) (sym itself.trace) (omega arith)
+  trace_short (inr port) =
+      subst (λ (xs : List ℕ). length xs ≤ suc d) (sym port.trace)
+      (let came = clear.held port.place port.r port.holds in
+      let path : length port.r.said.path ≡ suc port.r.said.steps =
+      path_length n.graph net.graph came.from.clock port.r.said came.whole best
+      (best_there n.graph net.graph s clear best is_best port.place port.r port.holds) in
+      let more : s.steps ≡ suc port.r.said.steps = port.steps in
+      let own : s.steps ≡ d = chooses.steps in
+      omega (arith, length-append port.r.said.path (s.clock ∷ [])))
+
+module _ (n : Network) (net : IsNetwork n) (w : State) (calm : Calm n w)
+    (whole : clean_from n ≤ w.time → HeldIsWhole (setting n) w) where
+  -- a live system is at rest, and all it holds is wholly clean
+  pub clear_at : (i : ℕ) (s : Station) → slice_get w.stations i ≡ Some s → s.live ≡ true → clean_from n ≤ w.time
+      → IsClear n.graph s
+  clear_at i s at live late = record {
+    rest = (calm.stations i s at live).at_rest;
+    known = (calm.facts.stations i s at live).known;
+    held = λ place r holds. whole late i s place r at live holds;
+  }
+
+  -- where a system of the snapshot stands
+  pub station_of : (v : ℕ) → In v (clocks n.graph)
+      → (s : Station) × (slice_get w.stations (n.place v) ≡ Some s) × (s.live ≡ true) × (s.clock ≡ v)
+  station_of v known =
+      let (x, live, clock) = systems.system_of n.graph v known in
+      let has = calm.there x live in (
+        has.station,
+        subst (λ c. slice_get w.stations (n.place c) ≡ Some has.station) clock has.there,
+        has.live,
+        ap (λ (y : System). y.clock) has.is ∙ clock,
+      )
+
+  pub is_station : (v : ℕ) (s : Station) → In v (clocks n.graph) → slice_get w.stations (n.place v) ≡ Some s
+      → (s.live ≡ true) × (s.clock ≡ v)
+  is_station v s known at =
+      let (x, there, live, clock) = station_of v known in
+      let same : x ≡ s = same_there w.stations (n.place v) x s there at in
+      (subst (λ (y : Station). y.live ≡ true) same live, subst (λ (y : Station). y.clock ≡ v) same clock)
+
+  stands : (v : ℕ) → In v (clocks n.graph) → StandsAt w v (n.place v)
+  stands v known i m at = (
+    λ here. (is_station v m known (subst (λ j. slice_get w.stations j ≡ Some m) here at)).1,
+    λ clock. calm.placed i m at ∙ ap n.place clock,
+  )
+
+  module _ (d : ℕ) (best : System) (v p u q : ℕ) (near : d < 255) (leads : LeadsFarther n.graph d best v p u q)
+      (settled : since n d ≤ w.time → (s : Station) → slice_get w.stations (n.place v) ≡ Some s
+      → Chooses s best d) where
+    k : Wiring
+    k = wiring n d best v p u q
+
+    from_known : In v (clocks n.graph)
+    from_known = Joins-clock n.graph (port_of v (suc p)) (port_of u (suc q)) net.graph leads.joins
+
+    back : Joins n.graph (port_of u (suc q)) (port_of v (suc p))
+    back = Joins-sym n.graph (port_of v (suc p)) (port_of u (suc q)) leads.joins
+
+    to_known : In u (clocks n.graph)
+    to_known = Joins-clock n.graph (port_of u (suc q)) (port_of v (suc p)) net.graph back
+
+    best_to : IsBest n.graph u best
+    best_to = IsBest-neighbour n.graph v u best net.graph (suc p, suc q, leads.joins) leads.is_best
+
+    has_lane : HasLane n w (port_of v (suc p)) (port_of u (suc q))
+    has_lane = calm.lanes (port_of v (suc p)) (port_of u (suc q)) leads.joins
+
+    lane_is : (l : Lane) → slice_get w.lanes (n.lane (port_of v (suc p))) ≡ Some l
+        → IsLaneOf (wiring n d best v p u q) l
+    lane_is l at =
+        subst (IsLaneOf (wiring n d best v p u q))
+        (same_there w.lanes (n.lane (port_of v (suc p))) has_lane.lane l has_lane.there at)
+        (record { from = has_lane.from; to = has_lane.to; loss = has_lane.loss; is_up = has_lane.is_up })
+
+    on_time : (l : Lane) (f : Frame) → slice_get w.lanes (n.lane (port_of v (suc p))) ≡ Some l → In f l.frames
+        → IsOnTime (wiring n d best v p u q) w.time f
+    on_time l f at h = record {
+      left = calm.left (n.lane (port_of v (suc p))) l f at h;
+      due = λ late. calm.due (n.lane (port_of v (suc p))) l f at h (omega arith)
+          (subst (λ x. Joins n.graph x l.to) (sym (lane_is l at).from)
+          (subst (Joins n.graph (port_of v (suc p))) (sym (lane_is l at).to) leads.joins));
+    }
+
+    module _ (late : since n d ≤ w.time) where
+      cleaned : clean_from n ≤ w.time
+      cleaned = omega arith
+
+      started : n.start ≤ w.time
+      started = omega arith
+
+      -- the system that tells has settled
+      tells_settled : (s : Station) (pv : Port) → slice_get w.stations (n.place v) ≡ Some s
+          → slice_get s.ports p ≡ Some pv → TellsSettled (wiring n d best v p u q) s pv
+      tells_settled s pv at port = go (is_station v s from_known at)
+        where
+          go : (s.live ≡ true) × (s.clock ≡ v) → TellsSettled (wiring n d best v p u q) s pv
+          go (live, clock) = record {
+            mine = is_master n.graph net.graph s clear best is_best d leads.far p pv (port_of u (suc q)) chooses port on
+                (subst (λ c. Joins n.graph (port_of c (suc p)) (port_of u (suc q))) (sym clock) leads.joins) leads.there
+                (subst (λ c. (d < leads.far) ⊎ ((d ≡ leads.far) × (c < u))) (sym clock) leads.farther);
+            near = near;
+            foreign = no_farther n net s clear best is_best d chooses u leads.far best_to leads.there as_far
+                apart follows;
+            short = let long : length s.trace ≤ suc d = trace_short n net s clear best is_best d chooses follows in
+                omega arith;
+          }
+            where
+              clear : IsClear n.graph s
+              clear = clear_at (n.place v) s at live cleaned
+
+              is_best : IsBest n.graph s.clock best
+              is_best = subst (λ c. IsBest n.graph c best) (sym clock) leads.is_best
+
+              chooses : Chooses s best d
+              chooses = settled late s at
+
+              follows : FollowsItself s ⊎ FollowsPort s
+              follows = (calm.facts.stations (n.place v) s at live).follows
+
+              on : pv.held ≢ Disabled
+              on =
+                  ((calm.stations (n.place v) s at live).ports p pv port).capable started
+                  (subst (λ c. IsLinked n.graph (port_of c (suc p))) (sym clock) (port_of u (suc q), leads.joins))
+
+              apart : s.clock ≢ u
+              apart e = net.graph.apart (port_of v (suc p)) (port_of u (suc q)) leads.joins (sym clock ∙ e)
+
+              as_far : d ≤ leads.far
+              as_far = elim leads.farther [ inl less ↦ omega arith | inr (same, lower) ↦ omega arith ]
+
+      -- what the system that hears would announce itself is worse
+      hears_weaker : (s : Station) (pu : Port) (root steps : ℕ) → slice_get w.stations (n.place u) ≡ Some s
+          → slice_get s.ports q ≡ Some pu → pu.held ≡ Mine root steps
+          → IsLower (final_vector (wiring n d best v p u q)) (master root steps u (suc q))
+      hears_weaker s pu root steps at port mine = go (is_station u s to_known at)
+        where
+          go : (s.live ≡ true) × (s.clock ≡ u)
+              → IsLower (final_vector (wiring n d best v p u q)) (master root steps u (suc q))
+          go (live, clock) = by_root own.0 own.1 (root_above n.graph net.graph s clear best is_best)
+              (steps_above n.graph net.graph s clear best is_best leads.far
+              (subst (λ c. IsDistance n.graph c leads.far) (sym clock) leads.there)) leads.farther
+            where
+              clear : IsClear n.graph s
+              clear = clear_at (n.place u) s at live cleaned
+
+              is_best : IsBest n.graph s.clock best
+              is_best = subst (λ c. IsBest n.graph c best) (sym clock) best_to
+
+              own : (root ≡ s.root) × (steps ≡ s.steps)
+              own = clear.rest.mine q pu root steps port mine
+
+              by_root : root ≡ s.root → steps ≡ s.steps → best.identity ≤ s.root
+                  → (s.root ≡ best.identity → leads.far ≤ s.steps) → (d < leads.far) ⊎ ((d ≡ leads.far) × (v < u))
+                  → IsLower (final_vector (wiring n d best v p u q)) (master root steps u (suc q))
+              by_root e f above more farther = elim (dec_le s.root best.identity) [
+                | no better ↦ inl (omega arith)
+                | yes same ↦ inr (omega arith, by_steps (more (omega arith)) farther)
+              ]
+                where
+                  by_steps : leads.far ≤ s.steps → (d < leads.far) ⊎ ((d ≡ leads.far) × (v < u))
+                      → IsLower (d ∷ v ∷ suc p ∷ suc q ∷ []) (steps ∷ u ∷ suc q ∷ suc q ∷ [])
+                  by_steps h (inl less) = inl (omega arith)
+                  by_steps h (inr (as_far, lower)) = elim (dec_le s.steps d) [
+                    | yes least ↦ inr (omega arith, inl lower)
+                    | no over ↦ inl (omega arith)
+                  ]
+
+      -- the system that hears is ready
+      hears_settled : (s : Station) (pu : Port) → slice_get w.stations (n.place u) ≡ Some s
+          → slice_get s.ports q ≡ Some pu → HearsSettled (wiring n d best v p u q) pu
+      hears_settled s pu at port = go (is_station u s to_known at)
+        where
+          go : (s.live ≡ true) × (s.clock ≡ u) → HearsSettled (wiring n d best v p u q) pu
+          go (live, clock) = record {
+            on = is_port.capable started (port_of v (suc p), back);
+            weaker = λ root steps mine. hears_weaker s pu root steps at port mine;
+            source = source;
+            long = λ r e came. is_port.long r (port_of v (suc p)) e (began r came) leads.joins (source r e);
+          }
+            where
+              is_port : IsCalmPort n w.time (port_of u (suc q)) pu
+              is_port =
+                  subst (λ c. IsCalmPort n w.time (port_of c (suc q)) pu) clock
+                  ((calm.stations (n.place u) s at live).ports q pu port)
+
+              began : (r : Reception) → since n d ≤ r.at → n.start ≤ r.at
+              began r came = omega arith
+
+              source : (r : Reception) → pu.held ≡ Received r → r.said.source ≡ port_of v (suc p)
+              source r e =
+                  let came = whole cleaned (n.place u) s q r at live (pu, port, e) in
+                  came.source
+                  ∙ net.graph.one_link (port_of u (suc q)) came.from (port_of v (suc p))
+                  (Joins-sym n.graph came.from (port_of u (suc q))
+                  (subst (λ c. Joins n.graph came.from (port_of c (suc q))) clock came.joins)) back
+
+    -- what the machine keeps of a link holds of it
+    pub ends : Ends (wiring n d best v p u q) w
+    ends = record {
+      apart = net.graph.apart (port_of v (suc p)) (port_of u (suc q)) leads.joins;
+      teller_stands = stands v from_known;
+      hearer_stands = stands u to_known;
+      hearer_lives = λ s at. (is_station u s to_known at).0;
+      lane = lane_is;
+      only_lane = λ j l at to. calm.apart j (n.lane (port_of v (suc p))) l has_lane.lane at has_lane.there
+          (to ∙ sym has_lane.to);
+      frames = on_time;
+      teller = λ s pv at port.
+          let (live, clock) = is_station v s from_known at in
+          let is_port : IsCalmPort n w.time (port_of v (suc p)) pv =
+          subst (λ c. IsCalmPort n w.time (port_of c (suc p)) pv) clock
+          ((calm.stations (n.place v) s at live).ports p pv port) in
+          record {
+            interval = is_port.interval;
+            timer = is_port.timer;
+            settled = λ late. tells_settled late s pv at port;
+          };
+      hearer = λ s pu at port late. hears_settled late s pu at port;
+    }

@@ -1,0 +1,195 @@
+-- Settling by distance: systems at one distance settle by what those one step nearer tell, and every step keeps that.
+use Rattle.std.proofs.Common.{◌≡◌, ◌≤◌, ◌<◌, ◌+◌, ℕ, zero, suc, true, Some, length, slice_get, refl, sym, subst, ◌∙◌, inl, arith}
+use native.Mathlib.Decide.{dec_lt}
+use Rattle.gptp_graph.specs.Members.{In}
+use Rattle.gptp_graph.specs.Snapshot.{System, PortIdentity, Snapshot, IsWellFormed, port_of, Joins, Adjacent, clocks}
+use Rattle.gptp_graph.specs.Best.{IsBest}
+use Rattle.gptp_graph.specs.Distance.{IsDistance}
+use Rattle.gptp_graph.proofs.LinkLemmas.{Joins-sym, Joins-clock}
+use Rattle.gptp_graph.proofs.SystemLemmas.{same_clock}
+use Rattle.gptp_graph.proofs.BestLemmas.{IsBest-neighbour}
+use Rattle.gptp_graph.proofs.DistanceLemmas.{IsDistance-clock, nearer_neighbour}
+use Rattle.gptp_settling.specs.Frame.{Says}
+use Rattle.gptp_settling.specs.Station.{Reception, Port, Station, State, HoldsAt}
+use Rattle.gptp_settling.specs.Acts.{Steps}
+use Rattle.gptp_settling.specs.Facts.{system_of}
+use Rattle.gptp_settling.specs.CleanInvariant.{TracesAreClean}
+use Rattle.gptp_settling.specs.CleanLaws.{HeldIsWhole}
+use Rattle.gptp_settling.specs.Stage.{IsFinal}
+use Rattle.gptp_settling.specs.Link.{Stand, LinkSettles}
+use Rattle.gptp_settling.specs.Network.{Network, IsNetwork, setting, clean_from, since, wiring}
+use Rattle.gptp_settling.specs.Calm.{Calm}
+use Rattle.gptp_settling.specs.Levels.{LeadsFarther, LevelSettles, Invariant}
+use Rattle.gptp_settling.proofs.PlaceLemmas.{there_within}
+use Rattle.gptp_settling.proofs.LinkLemmas.{link_kept, link_settled}
+use Rattle.gptp_settling.proofs.CleanLemmas.{clean_kept, clean_begins, held_whole}
+use Rattle.gptp_settling.proofs.RestLemmas.{Chooses, zero_settles, suc_settles}
+use Rattle.gptp_settling.proofs.EndsLemmas.{clear_at, station_of, is_station, ends}
+
+-- a port's number is one more than its place
+pub place_of : (m : ℕ) → 1 ≤ m → (p : ℕ) × (m ≡ suc p)
+place_of zero h = absurd (omega arith)
+place_of (suc p) h = (p, refl)
+
+-- so are those of both ends of a link
+pub places_of : (g : Snapshot) (v m u k : ℕ) → IsWellFormed g → Joins g (port_of v m) (port_of u k)
+    → (p : ℕ) × (q : ℕ) × (m ≡ suc p) × (k ≡ suc q)
+places_of g v m u k wf joins =
+    let (x, in_x, first) = wf.ends (port_of v m) (port_of u k) joins in
+    let (y, in_y, second) = wf.ends (port_of u k) (port_of v m) (Joins-sym g (port_of v m) (port_of u k) joins) in
+    let (p, is_p) = place_of m first.first in
+    let (q, is_q) = place_of k second.first in
+    (p, q, is_p, is_q)
+
+module _ (says : Says) (n : Network) (net : IsNetwork n) (w : State) (calm : Calm n w)
+    (whole : clean_from n ≤ w.time → HeldIsWhole (setting n) w) where
+  -- a linked port of a live system stands at its place
+  pub port_there : (v p : ℕ) (to : PortIdentity) (s : Station) → slice_get w.stations (n.place v) ≡ Some s
+      → Joins n.graph (port_of v (suc p)) to → (q : Port) × (slice_get s.ports p ≡ Some q)
+  port_there v p to s at joins = there_within s.ports p within
+    where
+      known : In v (clocks n.graph)
+      known = Joins-clock n.graph (port_of v (suc p)) to net.graph joins
+
+      within : p < length s.ports
+      within =
+          let (live, clock) = is_station n net w calm whole v s known at in
+          let (x, in_x, is_port) = net.graph.ends (port_of v (suc p)) to joins in
+          let same : x ≡ system_of s =
+          same_clock n.graph x (system_of s) net.graph in_x (calm.facts.stations (n.place v) s at live).known
+          (is_port.clock ∙ sym clock) in
+          subst (λ (y : System). suc p ≤ y.ports) same is_port.last
+
+  -- two intervals after a system has settled those that its links lead to hold what it tells
+  pub told : (d : ℕ) (best : System) (v p u q : ℕ) → d < 255 → LeadsFarther n.graph d best v p u q
+      → (since n d ≤ w.time → (s : Station) → slice_get w.stations (n.place v) ≡ Some s → Chooses s best d)
+      → LinkSettles says (wiring n d best v p u q) w → since n (suc d) ≤ w.time
+      → (s : Station) → slice_get w.stations (n.place u) ≡ Some s
+      → (r : Reception) × HoldsAt s q r × IsFinal (wiring n d best v p u q) r.said
+  told d best v p u q near leads settled link late s at =
+      by_port (station_of n net w calm whole v from_known)
+    where
+      from_known : In v (clocks n.graph)
+      from_known = Joins-clock n.graph (port_of v (suc p)) (port_of u (suc q)) net.graph leads.joins
+
+      in_time : since n d + n.interval_of (port_of v (suc p)) + n.most ≤ w.time
+      in_time =
+          let round : n.interval_of (port_of v (suc p)) + n.most ≤ n.interval + n.interval =
+          net.round (port_of v (suc p)) (port_of u (suc q), leads.joins) in
+          omega arith
+
+      by_port : ((v' : Station) × (slice_get w.stations (n.place v) ≡ Some v') × (v'.live ≡ true) × (v'.clock ≡ v))
+          → (r : Reception) × HoldsAt s q r × IsFinal (wiring n d best v p u q) r.said
+      by_port (v', v_at, live, clock) =
+          let (pv, pv_at) = port_there v p (port_of u (suc q)) v' v_at leads.joins in
+          let (pu, pu_at) = port_there u q (port_of v (suc p)) s at
+          (Joins-sym n.graph (port_of v (suc p)) (port_of u (suc q)) leads.joins) in
+          let has = calm.lanes (port_of v (suc p)) (port_of u (suc q)) leads.joins in
+          let stand : Stand (wiring n d best v p u q) w pv pu has.lane =
+          record {
+            v = v';
+            u = s;
+            teller = v_at;
+            teller_port = pv_at;
+            hearer = at;
+            hearer_port = pu_at;
+            lane = has.there;
+          } in
+          let (r, holds, final) = link_settled says (wiring n d best v p u q) w pv pu has.lane
+          (ends n net w calm whole d best v p u q near leads settled) link stand in_time in
+          (r, (pu, pu_at, holds), final)
+
+  -- a system chooses the best by its distance, where the links from all nearer systems are at their stages
+  pub chooses : (d : ℕ) → ((e : ℕ) → e < d → LevelSettles says n e w) → d < 255 → since n d ≤ w.time
+      → (v : ℕ) (best : System) (s : Station) → slice_get w.stations (n.place v) ≡ Some s → IsBest n.graph v best
+      → IsDistance n.graph v d → Chooses s best d
+  chooses zero levels near late v best s at is_best here =
+      go (is_station n net w calm whole v s (IsDistance-clock n.graph v 0 net.graph here) at)
+    where
+      go : (s.live ≡ true) × (s.clock ≡ v) → Chooses s best 0
+      go (live, clock) =
+          zero_settles n.graph net.graph s (clear_at n net w calm whole (n.place v) s at live (omega arith)) best
+          (subst (λ c. IsBest n.graph c best) (sym clock) is_best)
+          (subst (λ c. IsDistance n.graph c 0) (sym clock) here)
+  chooses (suc e) levels near late v best s at is_best here =
+      by_neighbour (nearer_neighbour n.graph v e net.graph here)
+      (λ x there best_x s' at'. chooses e (λ f below. levels f (omega arith)) (omega arith) (omega arith) x best s' at'
+      best_x there)
+    where
+      by_neighbour : ((x : ℕ) × Adjacent n.graph v x × IsDistance n.graph x e)
+          → ((x : ℕ) → IsDistance n.graph x e → IsBest n.graph x best → (s' : Station)
+          → slice_get w.stations (n.place x) ≡ Some s' → Chooses s' best e)
+          → Chooses s best (suc e)
+      by_neighbour (x, (m, k, joins), there) ih = go (places_of n.graph v m x k net.graph joins)
+          (is_station n net w calm whole v s (IsDistance-clock n.graph v (suc e) net.graph here) at)
+        where
+          best_x : IsBest n.graph x best
+          best_x = IsBest-neighbour n.graph v x best net.graph (m, k, joins) is_best
+
+          go : ((p : ℕ) × (q : ℕ) × (m ≡ suc p) × (k ≡ suc q)) → (s.live ≡ true) × (s.clock ≡ v)
+              → Chooses s best (suc e)
+          go (p, q, is_p, is_q) (live, clock) =
+              let over : Joins n.graph (port_of v (suc p)) (port_of x (suc q)) =
+              subst (λ j. Joins n.graph (port_of v (suc p)) (port_of x j)) is_q
+              (subst (λ j. Joins n.graph (port_of v j) (port_of x k)) is_p joins) in
+              let leads : LeadsFarther n.graph e best x q v p =
+              record {
+                is_best = best_x;
+                here = there;
+                joins = Joins-sym n.graph (port_of v (suc p)) (port_of x (suc q)) over;
+                far = suc e;
+                there = here;
+                farther = inl (omega arith);
+              } in
+              let (r, holds, final) =
+              told e best x q v p (omega arith) leads (λ before s' at'. ih x there best_x s' at')
+              (levels e (omega arith) best x q v p (omega arith) leads) late s at in
+              suc_settles n.graph net.graph s (clear_at n net w calm whole (n.place v) s at live (omega arith)) best
+              (subst (λ c. IsBest n.graph c best) (sym clock) is_best) e p r
+              (subst (λ c. IsDistance n.graph c (suc e)) (sym clock) here) holds final.root final.steps
+
+module _ (says : Says) (n : Network) (net : IsNetwork n) where
+  -- once all that is held is wholly clean it stays so
+  pub whole_from : (w : State) → Calm n w → Invariant says n w → clean_from n ≤ w.time → HeldIsWhole (setting n) w
+  whole_from w calm invariant late = held_whole says (setting n) w net.graph calm.facts invariant.traces late
+
+  module _ (w w' : State) (calm : Calm n w) (calm' : Calm n w') (step : Steps says w w')
+      (invariant : Invariant says n w) (traces' : TracesAreClean says (setting n) w') where
+    whole' : clean_from n ≤ w'.time → HeldIsWhole (setting n) w'
+    whole' late = held_whole says (setting n) w' net.graph calm'.facts traces' late
+
+    -- one level is kept, where those below it are
+    level_kept : (d : ℕ) → ((e : ℕ) → e < d → LevelSettles says n e w') → LevelSettles says n d w'
+    level_kept d below best v p u q near leads =
+        link_kept says (wiring n d best v p u q) w w'
+        (ends n net w calm (whole_from w calm invariant) d best v p u q near leads
+        (λ late s at. chooses says n net w calm (whole_from w calm invariant) d (λ e less. invariant.levels e) near late
+        v best s at leads.is_best leads.here))
+        (ends n net w' calm' whole' d best v p u q near leads
+        (λ late s at. chooses says n net w' calm' whole' d below near late v best s at leads.is_best leads.here))
+        step (invariant.levels d best v p u q near leads)
+
+    -- so all are
+    levels_below : (d e : ℕ) → e < d → LevelSettles says n e w'
+    levels_below zero e h = absurd (omega arith)
+    levels_below (suc d) e h = elim (dec_lt e d) [
+      | yes less ↦ levels_below d e less
+      | no not_less ↦ level_kept e (λ f below. levels_below d f (omega arith))
+    ]
+
+  -- every step from a calm state to a calm state keeps the invariant
+  pub invariant_kept : (w w' : State) → Calm n w → Calm n w' → Steps says w w' → Invariant says n w
+      → Invariant says n w'
+  invariant_kept w w' calm calm' step invariant =
+      let traces' = clean_kept says (setting n) w w' calm.facts calm'.facts step invariant.traces in
+      record {
+        traces = traces';
+        levels = λ d. levels_below w w' calm calm' step invariant traces' (suc d) d (omega arith);
+      }
+
+-- before the start it claims nothing
+pub invariant_begins : (says : Says) (n : Network) (w : State) → Calm n w → w.time < n.start → Invariant says n w
+invariant_begins says n w calm early = record {
+  traces = clean_begins says (setting n) w calm.facts early;
+  levels = λ d best v p u q near leads late. absurd (omega arith);
+}

@@ -1,0 +1,21 @@
+pub mod ListLemmas
+pub mod PlaceLemmas
+pub mod TraceLemmas
+pub mod ReactsLemmas
+pub mod EachLiveLemmas
+pub mod HeldLemmas
+pub mod SelectedLemmas
+pub mod CleanLemmas
+pub mod StageLemmas
+pub mod HearingLemmas
+pub mod PopLemmas
+pub mod AnswerLemmas
+pub mod LinkLemmas
+pub mod NearestLemmas
+pub mod RestLemmas
+pub mod EndsLemmas
+pub mod LevelLemmas
+pub mod SettledLemmas
+pub mod RunLemmas
+mod ExampleLemmas
+mod ExampleRun

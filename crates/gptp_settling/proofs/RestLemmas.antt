@@ -1,0 +1,324 @@
+-- A system at rest of which all that is held is wholly clean: what it has chosen, and which of its ports are master.
+use Rattle.std.proofs.Common.{◌≡◌, ◌≢◌, ◌⊎◌, ◌≤◌, ◌<◌, ℕ, zero, suc, List, [], ◌∷◌, Some, None, slice_get, refl, sym, ap, subst, ◌∙◌, inl, inr, arith}
+use native.Mathlib.Decide.{dec_le}
+use Rattle.gptp_graph.specs.Members.{In}
+use Rattle.gptp_graph.specs.Order.{IsLower}
+use Rattle.gptp_graph.specs.Snapshot.{System, PortIdentity, Snapshot, IsWellFormed, port_of, Joins, Adjacent}
+use Rattle.gptp_graph.specs.Best.{IsBest}
+use Rattle.gptp_graph.specs.Distance.{IsDistance}
+use Rattle.gptp_graph.proofs.LinkLemmas.{Joins-sym, Adjacent-sym, Adjacent-clock}
+use Rattle.gptp_graph.proofs.SystemLemmas.{In-clocks, same_clock, same_identity}
+use Rattle.gptp_graph.proofs.PathLemmas.{Reaches-self}
+use Rattle.gptp_graph.proofs.BestLemmas.{IsBest-neighbour}
+use Rattle.gptp_graph.proofs.ExistenceLemmas.{distance_exists}
+use Rattle.gptp_graph.proofs.DistanceLemmas.{IsDistance-unique, IsDistance-neighbour, IsDistance-best, best_at_zero}
+use Rattle.gptp_settling.specs.Station.{Reception, Held, Disabled, Aged, Mine, Received, Port, Station, HoldsAt}
+use Rattle.gptp_settling.specs.Vectors.{message, path_vector, master, system_vector}
+use Rattle.gptp_settling.specs.Clean.{CameWhole}
+use Rattle.gptp_settling.specs.Facts.{system_of}
+use Rattle.gptp_settling.specs.AtRest.{ChoosesItself, ChoosesPort, IsAtRest}
+use Rattle.gptp_settling.proofs.PlaceLemmas.{same_place, same_holds}
+use Rattle.gptp_settling.proofs.NearestLemmas.{root_not_better, steps_not_fewer}
+
+-- a system that has the best's identity as its root, and so many steps
+pub record Chooses (s : Station) (best : System) (d : ℕ) : Type 0 where
+  pub root : s.root ≡ best.identity
+  pub steps : s.steps ≡ d
+
+-- it is at rest, the snapshot has it, and all it holds is wholly clean
+pub record IsClear (g : Snapshot) (s : Station) : Type 0 where
+  pub rest : IsAtRest s
+  pub known : In (system_of s) g.systems
+  pub held : (i : ℕ) (r : Reception) → HoldsAt s i r → CameWhole g s.clock (suc i) r
+
+-- a list's first two members are those of its parts
+first_two : (a b c d : ℕ) (xs ys : List ℕ) → a ∷ b ∷ xs ≡ c ∷ d ∷ ys → (a ≡ c) × (b ≡ d)
+first_two a b c d xs ys e = (cc, cc)
+
+module _ (g : Snapshot) (wf : IsWellFormed g) (s : Station) (clear : IsClear g s) (best : System)
+    (is_best : IsBest g s.clock best) where
+  -- the link that a port received over, seen from the system
+  pub joined : (i : ℕ) (r : Reception) (holds : HoldsAt s i r) → Adjacent g s.clock (clear.held i r holds).from.clock
+  joined i r holds =
+      let came = clear.held i r holds in
+      (suc i, came.from.port, Joins-sym g came.from (port_of s.clock (suc i)) came.joins)
+
+  -- the system at its other end has the same best
+  pub best_there : (i : ℕ) (r : Reception) (holds : HoldsAt s i r) → IsBest g (clear.held i r holds).from.clock best
+  best_there i r holds =
+      IsBest-neighbour g s.clock (clear.held i r holds).from.clock best wf (joined i r holds) is_best
+
+  -- no root that is held is better than the best
+  pub held_root : (i : ℕ) (r : Reception) → HoldsAt s i r → best.identity ≤ r.said.root
+  held_root i r holds =
+      let came = clear.held i r holds in
+      root_not_better g wf came.from.clock r.said came.whole best (best_there i r holds)
+
+  -- and for the best no steps are below the distance of the sender
+  pub held_steps : (i : ℕ) (r : Reception) (holds : HoldsAt s i r) (e : ℕ)
+      → IsDistance g (clear.held i r holds).from.clock e → r.said.root ≡ best.identity → e ≤ r.said.steps
+  held_steps i r holds e there root =
+      let came = clear.held i r holds in
+      steps_not_fewer g wf came.from.clock r.said came.whole best (best_there i r holds) came.from.clock e (inl refl)
+      (best_there i r holds) there root
+
+  -- nor is its own
+  pub own_root : best.identity ≤ s.identity
+  own_root =
+      is_best.least (system_of s) clear.known (Reaches-self g s.clock (In-clocks g (system_of s) clear.known))
+
+  -- a system with the identity of the best is the best
+  pub own_best : best.identity ≡ s.identity → IsDistance g s.clock 0
+  own_best e =
+      let same : best ≡ system_of s = same_identity g best (system_of s) wf is_best.live clear.known e in
+      let clock : best.clock ≡ s.clock = ap (λ (x : System). x.clock) same in
+      subst (λ v. IsDistance g v 0) clock
+      (IsDistance-best g best (subst (λ v. IsBest g v best) (sym clock) is_best))
+
+  -- the best chooses itself
+  pub zero_settles : IsDistance g s.clock 0 → Chooses s best 0
+  zero_settles here = by_choice clear.rest.chosen
+    where
+      same : best ≡ system_of s
+      same =
+          same_clock g best (system_of s) wf is_best.live clear.known
+          (best_at_zero g s.clock best wf is_best here)
+
+      identity : best.identity ≡ s.identity
+      identity = ap (λ (x : System). x.identity) same
+
+      by_choice : ChoosesItself s clear.rest.vector ⊎ ChoosesPort s clear.rest.vector → Chooses s best 0
+      by_choice (inl (own, none)) =
+          let (root, steps) = first_two s.identity 0 s.root s.steps (s.clock ∷ 0 ∷ 0 ∷ []) clear.rest.source
+          (sym own ∙ clear.rest.is) in
+          record { root = sym root ∙ sym identity; steps = sym steps }
+      by_choice (inr (i, r, holds, path, slave)) =
+          absurd (clear.rest.own_not_lower (subst (IsLower (system_vector s)) (sym path) (lower (held_root i r holds))))
+        where
+          lower : best.identity ≤ r.said.root → IsLower (system_vector s) (path_vector r.said (suc i))
+          lower h = let own : best.identity ≡ s.identity = identity in elim (dec_le r.said.root s.identity) [
+            | yes below ↦ inr (omega arith, inl (omega arith))
+            | no above ↦ inl (omega arith)
+          ]
+
+  -- a system one step farther than one that has told it so follows the best by its distance
+  pub suc_settles : (d i : ℕ) (r : Reception) → IsDistance g s.clock (suc d) → HoldsAt s i r
+      → r.said.root ≡ best.identity → r.said.steps ≡ d → Chooses s best (suc d)
+  suc_settles d i r here holds root steps = by_choice clear.rest.chosen
+    where
+      not_best : best.identity ≢ s.identity
+      not_best e =
+          let same : suc d ≡ 0 = IsDistance-unique g s.clock (suc d) 0 wf here (own_best e) in
+          absurd (omega arith)
+
+      by_choice : ChoosesItself s clear.rest.vector ⊎ ChoosesPort s clear.rest.vector → Chooses s best (suc d)
+      by_choice (inl (own, none)) =
+          absurd (clear.rest.held_not_lower i r holds
+          (subst (IsLower (path_vector r.said (suc i))) (sym own) (inl (lower own_root not_best))))
+        where
+          lower : best.identity ≤ s.identity → best.identity ≢ s.identity → r.said.root < s.identity
+          lower h other = elim (dec_le s.identity best.identity) [
+            | yes below ↦ absurd (other (omega arith))
+            | no above ↦ omega arith
+          ]
+      by_choice (inr (j, x, holds_x, path, slave)) = record {
+        root = sym chosen.0 ∙ best_root;
+        steps = sym chosen.1 ∙ ap suc best_steps;
+      }
+        where
+          chosen : (x.said.root ≡ s.root) × (suc x.said.steps ≡ s.steps)
+          chosen =
+              first_two x.said.root (suc x.said.steps) s.root s.steps
+              (x.said.source.clock ∷ x.said.source.port ∷ suc j ∷ []) clear.rest.source (sym path ∙ clear.rest.is)
+
+          not_lower : IsLower (path_vector r.said (suc i)) (path_vector x.said (suc j)) → ⊥
+          not_lower h =
+              clear.rest.held_not_lower i r holds (subst (IsLower (path_vector r.said (suc i))) (sym path) h)
+
+          best_root : x.said.root ≡ best.identity
+          best_root = from (held_root j x holds_x)
+            where
+              from : best.identity ≤ x.said.root → x.said.root ≡ best.identity
+              from h = elim (dec_le x.said.root best.identity) [
+                | yes below ↦ omega arith
+                | no above ↦ absurd (not_lower (inl (omega arith)))
+              ]
+
+          best_steps : x.said.steps ≡ d
+          best_steps =
+              from (distance_exists g came.from.clock wf (Adjacent-clock g s.clock came.from.clock wf adjacent))
+            where
+              came : CameWhole g s.clock (suc j) x
+              came = clear.held j x holds_x
+
+              adjacent : Adjacent g s.clock came.from.clock
+              adjacent = joined j x holds_x
+
+              from : ((e : ℕ) × IsDistance g came.from.clock e) → x.said.steps ≡ d
+              from (e, there) =
+                  let least : e ≤ x.said.steps = held_steps j x holds_x e there best_root in
+                  let near : suc d ≤ suc e =
+                  IsDistance-neighbour g came.from.clock s.clock e (suc d) wf
+                  (Adjacent-sym g s.clock came.from.clock adjacent) there here in
+                  elim (dec_le x.said.steps d) [
+                    | yes below ↦ omega arith
+                    | no above ↦ absurd (not_lower (inr (root ∙ sym best_root, inl (omega arith))))
+                  ]
+
+  -- what it has chosen came from its parent's distance: a system of distance d + 1 chose what a port received
+  pub chosen_port : (d : ℕ) → Chooses s best (suc d) → ChoosesPort s clear.rest.vector
+  chosen_port d chooses = elim clear.rest.chosen [
+    | inl (own, none) ↦
+        let (root, steps) = first_two s.identity 0 s.root s.steps (s.clock ∷ 0 ∷ 0 ∷ []) clear.rest.source
+        (sym own ∙ clear.rest.is) in
+        let more : s.steps ≡ suc d = chooses.steps in
+        absurd (omega arith)
+    | inr port ↦ port
+  ]
+
+  -- and a system of distance 0 itself
+  pub chosen_itself : Chooses s best 0 → ChoosesItself s clear.rest.vector
+  chosen_itself chooses = elim clear.rest.chosen [
+    | inl own ↦ own
+    | inr (i, r, holds, path, slave) ↦
+        let (root, steps) = first_two r.said.root (suc r.said.steps) s.root s.steps
+        (r.said.source.clock ∷ r.said.source.port ∷ suc i ∷ []) clear.rest.source (sym path ∙ clear.rest.is) in
+        let none : s.steps ≡ 0 = chooses.steps in
+        absurd (omega arith)
+  ]
+
+  -- what it has chosen names the best and one step less
+  pub chosen_said : (d i : ℕ) (r : Reception) → Chooses s best (suc d)
+      → clear.rest.vector ≡ path_vector r.said (suc i) → (r.said.root ≡ best.identity) × (r.said.steps ≡ d)
+  chosen_said d i r chooses path =
+      let (root, steps) = first_two r.said.root (suc r.said.steps) s.root s.steps
+      (r.said.source.clock ∷ r.said.source.port ∷ suc i ∷ []) clear.rest.source (sym path ∙ clear.rest.is) in
+      (root ∙ chooses.root, let more : s.steps ≡ suc d = chooses.steps in omega arith)
+
+  -- whatever it has chosen, its root is no better than the best, and for the best its steps are no fewer than its
+  -- distance
+  pub root_above : best.identity ≤ s.root
+  root_above = elim clear.rest.chosen [
+    | inl (own, none) ↦ subst (λ n. best.identity ≤ n)
+        (first_two s.identity 0 s.root s.steps (s.clock ∷ 0 ∷ 0 ∷ []) clear.rest.source (sym own ∙ clear.rest.is)).0
+        own_root
+    | inr (i, r, holds, path, slave) ↦ subst (λ n. best.identity ≤ n)
+        (first_two r.said.root (suc r.said.steps) s.root s.steps (r.said.source.clock ∷ r.said.source.port ∷ suc i ∷ [])
+        clear.rest.source (sym path ∙ clear.rest.is)).0
+        (held_root i r holds)
+  ]
+
+  pub steps_above : (far : ℕ) → IsDistance g s.clock far → s.root ≡ best.identity → far ≤ s.steps
+  steps_above far here root = by_choice clear.rest.chosen
+    where
+      by_choice : ChoosesItself s clear.rest.vector ⊎ ChoosesPort s clear.rest.vector → far ≤ s.steps
+      by_choice (inl (own, none)) =
+          let (identity, steps) = first_two s.identity 0 s.root s.steps (s.clock ∷ 0 ∷ 0 ∷ []) clear.rest.source
+          (sym own ∙ clear.rest.is) in
+          let none : far ≡ 0 =
+          IsDistance-unique g s.clock far 0 wf here (own_best (sym (identity ∙ root))) in
+          omega arith
+      by_choice (inr (i, r, holds, path, slave)) =
+          from (distance_exists g came.from.clock wf (Adjacent-clock g s.clock came.from.clock wf adjacent))
+        where
+          came : CameWhole g s.clock (suc i) r
+          came = clear.held i r holds
+
+          adjacent : Adjacent g s.clock came.from.clock
+          adjacent = joined i r holds
+
+          chosen : (r.said.root ≡ s.root) × (suc r.said.steps ≡ s.steps)
+          chosen =
+              first_two r.said.root (suc r.said.steps) s.root s.steps
+              (r.said.source.clock ∷ r.said.source.port ∷ suc i ∷ []) clear.rest.source (sym path ∙ clear.rest.is)
+
+          from : ((e : ℕ) × IsDistance g came.from.clock e) → far ≤ s.steps
+          from (e, there) =
+              let least : e ≤ r.said.steps = held_steps i r holds e there (chosen.0 ∙ root) in
+              let near : far ≤ suc e =
+              IsDistance-neighbour g came.from.clock s.clock e far wf
+              (Adjacent-sym g s.clock came.from.clock adjacent) there here in
+              let more : suc r.said.steps ≡ s.steps = chosen.1 in
+              omega arith
+
+  -- A port towards a system that is farther, or as far with the higher clock, is master once the system has settled:
+  -- what it may have received is no better than what it would announce.
+  pub is_master : (d far i : ℕ) (q : Port) (u : PortIdentity) → Chooses s best d → slice_get s.ports i ≡ Some q
+      → q.held ≢ Disabled → Joins g (port_of s.clock (suc i)) u → IsDistance g u.clock far
+      → (d < far) ⊎ ((d ≡ far) × (s.clock < u.clock)) → q.held ≡ Mine best.identity d
+  is_master d far i q u chooses at on joins there farther = by_held q.held refl
+    where
+      mine : (root steps : ℕ) → q.held ≡ Mine root steps → Mine root steps ≡ Mine best.identity d
+      mine root steps e =
+          let (root_is, steps_are) = clear.rest.mine i q root steps at e in
+          λ j. Mine ((root_is ∙ chooses.root) j) ((steps_are ∙ chooses.steps) j)
+
+      none_received : (r : Reception) → q.held ≡ Received r → ⊥
+      none_received r e = elim (clear.rest.passive i r holds) [
+        | inl slave ↦ not_slave d chooses farther slave
+        | inr not_lower ↦ not_lower lower
+      ]
+        where
+          holds : HoldsAt s i r
+          holds = (q, at, e)
+
+          came : CameWhole g s.clock (suc i) r
+          came = clear.held i r holds
+
+          from_is : came.from ≡ u
+          from_is =
+              wf.one_link (port_of s.clock (suc i)) came.from u
+              (Joins-sym g came.from (port_of s.clock (suc i)) came.joins) joins
+
+          steps : r.said.root ≡ best.identity → far ≤ r.said.steps
+          steps = held_steps i r holds far (subst (λ (p : PortIdentity). IsDistance g p.clock far) (sym from_is) there)
+
+          source : r.said.source ≡ u
+          source = came.source ∙ from_is
+
+          lower : IsLower (master s.root s.steps s.clock (suc i)) (message r.said (suc i))
+          lower = by_root (held_root i r holds)
+            where
+              by_root : best.identity ≤ r.said.root
+                  → IsLower (master s.root s.steps s.clock (suc i)) (message r.said (suc i))
+              by_root h =
+                  let root : s.root ≡ best.identity = chooses.root in
+                  elim (dec_le r.said.root best.identity) [
+                    | yes below ↦ inr (omega arith, by_steps (steps (omega arith)) chooses.steps farther)
+                    | no above ↦ inl (omega arith)
+                  ]
+                where
+                  by_steps : far ≤ r.said.steps → s.steps ≡ d → (d < far) ⊎ ((d ≡ far) × (s.clock < u.clock))
+                      → IsLower (s.steps ∷ s.clock ∷ suc i ∷ suc i ∷ [])
+                      (r.said.steps ∷ r.said.source.clock ∷ r.said.source.port ∷ suc i ∷ [])
+                  by_steps more own (inl less) = inl (omega arith)
+                  by_steps more own (inr (same, clock)) = elim (dec_le r.said.steps d) [
+                    | yes below ↦ inr (
+                      omega arith,
+                      inl (subst (λ (p : PortIdentity). s.clock < p.clock) (sym source) clock),
+                    )
+                    | no above ↦ inl (omega arith)
+                  ]
+
+          not_slave : (d : ℕ) → Chooses s best d → (d < far) ⊎ ((d ≡ far) × (s.clock < u.clock))
+              → s.slave ≡ Some (suc i) → ⊥
+          not_slave zero chosen farther slave =
+              let none : s.slave ≡ None = (chosen_itself chosen).1 in
+              absurd (let x : Some (suc i) ≡ None = sym slave ∙ none in cc)
+          not_slave (suc e) chosen farther slave = by_port (chosen_port e chosen)
+            where
+              by_port : ChoosesPort s clear.rest.vector → ⊥
+              by_port (j, x, holds_x, path, slave_x) =
+                  let (root, said) = chosen_said e j x chosen path in
+                  let port : j ≡ i = same_place j i (sym slave_x ∙ slave) in
+                  let same : x ≡ r = same_holds s i x r (subst (λ n. HoldsAt s n x) port holds_x) holds in
+                  let few : r.said.steps ≡ e = subst (λ (y : Reception). y.said.steps ≡ e) same said in
+                  let more : far ≤ r.said.steps =
+                  steps (subst (λ (y : Reception). y.said.root ≡ best.identity) same root) in
+                  elim farther [ inl less ↦ absurd (omega arith) | inr (same, clock) ↦ absurd (omega arith) ]
+
+      by_held : (held : Held) → q.held ≡ held → q.held ≡ Mine best.identity d
+      by_held Disabled e = absurd (on e)
+      by_held Aged e = absurd (clear.rest.fresh i q at e)
+      by_held (Mine root steps) e = e ∙ mine root steps e
+      by_held (Received r) e = absurd (none_received r e)

@@ -1,0 +1,5 @@
+use Rattle.gptp_settling.proofs.RunLemmas.{run_settles}
+use Rattle.gptp_settling.proofs.runs.run_settles.Goals as goal
+
+pub returns : goal.returns
+returns g c = λ n w ws net. run_settles g.C.Coding.says n net w ws

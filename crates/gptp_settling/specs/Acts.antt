@@ -1,0 +1,98 @@
+-- The steps of the machine.
+use Rattle.std.specs.Prelude.{◌≡◌, ◌≢◌, ◌⊎◌, ◌≤◌, ◌+◌, ℕ, suc, true, List, ◌∷◌, ◌++◌, Some, slice_get}
+use Rattle.gptp_graph.specs.Members.{In}
+use Rattle.gptp_graph.specs.Snapshot.{port_of}
+use Rattle.gptp_settling.specs.Frame.{Announce, Says, Frame, Lane, Send}
+use Rattle.gptp_settling.specs.Station.{Reception, Disabled, Received, Port, Station, State}
+use Rattle.gptp_settling.specs.Touch.{Touch, Hear, Grow}
+use Rattle.gptp_settling.specs.Reacts.{Reacts}
+
+-- A lane takes up what the system with clock c sends. What is sent from its port enters behind all others, or is lost;
+-- nothing is lost where the link is up and has no loss. When it will be due is not said here.
+pub record LaneStep (c : ℕ) (sends : List Send) (l l' : Lane) : Type 0 where
+  pub from : l'.from ≡ l.from
+  pub to : l'.to ≡ l.to
+  pub loss : l'.loss ≡ l.loss
+  pub is_up : l'.is_up ≡ l.is_up
+  pub news : List Frame
+  pub behind : l'.frames ≡ l.frames ++ news
+  pub sent : (f : Frame) → In f news
+      → (x : Send) × In x sends × (l.from ≡ port_of c x.port) × (f.octets ≡ x.octets)
+  pub arrives : l.loss ≡ 0 → l.is_up ≡ true → (x : Send) → In x sends → l.from ≡ port_of c x.port
+      → (f : Frame) × In f news × (f.octets ≡ x.octets)
+
+-- one live system is touched and answers, and its sends enter their lanes; every other system stays as it is
+pub record Calls (says : Says) (touch : Touch) (w w' : State) : Type 0 where
+  pub place : ℕ
+  pub s : Station
+  pub s' : Station
+  pub sends : List Send
+  pub live : s.live ≡ true
+  pub time : w'.time ≡ w.time
+  pub here : slice_get w.stations place ≡ Some s
+  pub there : slice_get w'.stations place ≡ Some s'
+  pub stations : (j : ℕ) (m : Station) → slice_get w'.stations j ≡ Some m
+      → ((j ≡ place) × (m ≡ s')) ⊎ ((j ≢ place) × (slice_get w.stations j ≡ Some m))
+  pub reacts : Reacts says s touch w.time s' sends
+  pub lanes : (j : ℕ) (l' : Lane) → slice_get w'.lanes j ≡ Some l'
+      → (l : Lane) × (slice_get w.lanes j ≡ Some l) × LaneStep s.clock sends l l'
+
+-- the oldest frame f of the lane l at place j is due, and taken off it
+pub record Pops (j : ℕ) (l : Lane) (f : Frame) (fs : List Frame) (w w' : State) : Type 0 where
+  pub here : slice_get w.lanes j ≡ Some l
+  pub frames : l.frames ≡ f ∷ fs
+  pub due : f.due ≡ w.time
+  pub time : w'.time ≡ w.time
+  pub stations : (i : ℕ) (m : Station) → slice_get w'.stations i ≡ Some m → slice_get w.stations i ≡ Some m
+  pub lanes : (n : ℕ) (m : Lane) → slice_get w'.lanes n ≡ Some m
+      → ((n ≡ j) × (m ≡ record l { frames = fs })) ⊎ ((n ≢ j) × (slice_get w.lanes n ≡ Some m))
+
+-- A frame is delivered to the live system at the other end. An Announce that is heard is what the frame says, and at a
+-- port that isn't disabled a frame that says an Announce is heard as one.
+pub record Arrives (says : Says) (w w' : State) : Type 0 where
+  pub j : ℕ
+  pub l : Lane
+  pub f : Frame
+  pub fs : List Frame
+  pub mid : State
+  pub touch : Touch
+  pub pops : Pops j l f fs w mid
+  pub call : Calls says touch mid w'
+  pub owner : call.s.clock ≡ l.to.clock
+  pub heard : (n : ℕ) (a : Announce) → touch ≡ Hear n a → (n ≡ l.to.port) × says f.octets a
+  pub young : (n : ℕ) → touch ≡ Grow n → ⊥
+  pub hears : (i : ℕ) (q : Port) (a : Announce) → l.to.port ≡ suc i → slice_get call.s.ports i ≡ Some q
+      → q.held ≢ Disabled → says f.octets a → (b : Announce) × (touch ≡ Hear l.to.port b)
+
+-- a frame is delivered and does nothing: it says no Announce, or whoever should receive it has failed
+pub record Drops (says : Says) (w w' : State) : Type 0 where
+  pub j : ℕ
+  pub l : Lane
+  pub f : Frame
+  pub fs : List Frame
+  pub pops : Pops j l f fs w w'
+  pub unheard : ((a : Announce) → says f.octets a → ⊥)
+      ⊎ ((i : ℕ) (m : Station) → slice_get w.stations i ≡ Some m → m.clock ≡ l.to.clock → m.live ≡ true → ⊥)
+
+-- Something that is no delivery happens at a live system: a timer expires, or anything else. What a port received
+-- grows too old only once its span has passed (IEEE 802.1AS-2020, 10.3.12).
+pub record Runs (says : Says) (w w' : State) : Type 0 where
+  pub touch : Touch
+  pub call : Calls says touch w w'
+  pub deaf : (n : ℕ) (a : Announce) → touch ≡ Hear n a → ⊥
+  pub ages : (i : ℕ) (q : Port) (r : Reception) → touch ≡ Grow (suc i) → slice_get call.s.ports i ≡ Some q
+      → q.held ≡ Received r → r.at + r.span ≤ w.time
+
+-- something happens now
+abbrev pub Acts : Says → State → State → Type 0
+Acts says w w' = Arrives says w w' ⊎ (Drops says w w' ⊎ Runs says w w')
+
+-- a moment comes; that nothing due before it is left is a fact of the state
+pub record Waits (w w' : State) : Type 0 where
+  pub time : ℕ
+  pub later : w.time ≤ time
+  pub is : w' ≡ record w { time = time }
+
+-- one step: a moment comes, or something happens
+abbrev pub Steps : Says → State → State → Type 0
+Steps says w w' = Waits w w' ⊎ Acts says w w'

@@ -1,0 +1,57 @@
+-- What is known of each state of a network whose last change is past, of one item each. This is what a world has to
+-- show of itself; the laws of settling have no other premise.
+use Rattle.std.specs.Prelude.{◌≡◌, ◌≢◌, ◌<◌, ◌≤◌, ◌+◌, ℕ, suc, true, Some, slice_get}
+use Rattle.gptp_graph.specs.Members.{In}
+use Rattle.gptp_graph.specs.Snapshot.{System, PortIdentity, port_of, Joins, IsLinked}
+use Rattle.gptp_settling.specs.Frame.{Frame, Lane}
+use Rattle.gptp_settling.specs.Station.{Reception, Disabled, Mine, Received, Port, Station, State}
+use Rattle.gptp_settling.specs.Facts.{system_of, Facts}
+use Rattle.gptp_settling.specs.AtRest.{IsAtRest}
+use Rattle.gptp_settling.specs.Network.{Network, setting}
+
+-- What is known of port p of a live system. Its interval is the one it has in the network, and its timer is due within
+-- that while it is master. From the start it is disabled exactly where no link is at it. What came over its link since
+-- then stays for longer than the other port's interval and the largest delay.
+pub record IsCalmPort (n : Network) (now : ℕ) (p : PortIdentity) (q : Port) : Type 0 where
+  pub interval : q.interval ≡ n.interval_of p
+  pub timer : (root steps : ℕ) → q.held ≡ Mine root steps → (now ≤ q.announce) × (q.announce ≤ now + n.interval_of p)
+  pub capable : n.start ≤ now → IsLinked n.graph p → q.held ≢ Disabled
+  pub unlinked : n.start ≤ now → (IsLinked n.graph p → ⊥) → q.held ≡ Disabled
+  pub long : (r : Reception) (from : PortIdentity) → q.held ≡ Received r → n.start ≤ r.at → Joins n.graph from p
+      → r.said.source ≡ from → n.interval_of from + n.most < r.span
+
+-- what is known of a live system: it is at rest, and each of its ports is such a one
+pub record IsCalmStation (n : Network) (now : ℕ) (s : Station) : Type 0 where
+  pub at_rest : IsAtRest s
+  pub ports : (i : ℕ) (q : Port) → slice_get s.ports i ≡ Some q → IsCalmPort n now (port_of s.clock (suc i)) q
+
+-- the system of the snapshot stands at its place, live
+pub record HasStation (n : Network) (w : State) (s : System) : Type 0 where
+  pub station : Station
+  pub there : slice_get w.stations (n.place s.clock) ≡ Some station
+  pub live : station.live ≡ true
+  pub is : system_of station ≡ s
+
+-- the lane from port p to port q of a link of the snapshot stands at its place, up and without loss
+pub record HasLane (n : Network) (w : State) (p q : PortIdentity) : Type 0 where
+  pub lane : Lane
+  pub there : slice_get w.lanes (n.lane p) ≡ Some lane
+  pub from : lane.from ≡ p
+  pub to : lane.to ≡ q
+  pub loss : lane.loss ≡ 0
+  pub is_up : lane.is_up ≡ true
+
+-- Every system, live or failed, stands where its clock says, and those of the snapshot do; so do the lanes of the links
+-- of the snapshot, and no two lanes lead to one port. Nothing in flight was due before now, and from the start a frame
+-- between linked ports is due within the largest delay.
+pub record Calm (n : Network) (w : State) : Type 0 where
+  pub facts : Facts (setting n) w
+  pub stations : (i : ℕ) (s : Station) → slice_get w.stations i ≡ Some s → s.live ≡ true → IsCalmStation n w.time s
+  pub placed : (i : ℕ) (s : Station) → slice_get w.stations i ≡ Some s → i ≡ n.place s.clock
+  pub there : (s : System) → In s n.graph.systems → HasStation n w s
+  pub lanes : (p q : PortIdentity) → Joins n.graph p q → HasLane n w p q
+  pub apart : (i j : ℕ) (l m : Lane) → slice_get w.lanes i ≡ Some l → slice_get w.lanes j ≡ Some m
+      → l.to ≡ m.to → i ≡ j
+  pub left : (j : ℕ) (l : Lane) (f : Frame) → slice_get w.lanes j ≡ Some l → In f l.frames → w.time ≤ f.due
+  pub due : (j : ℕ) (l : Lane) (f : Frame) → slice_get w.lanes j ≡ Some l → In f l.frames → n.start ≤ w.time
+      → Joins n.graph l.from l.to → f.due ≤ w.time + n.most

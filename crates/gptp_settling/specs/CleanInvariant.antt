@@ -1,0 +1,24 @@
+-- How clean traces are, by when they were sent: what the steps of the machine keep.
+use Rattle.std.specs.Prelude.{◌≡◌, ℕ, suc, true, Some, slice_get}
+use Rattle.gptp_graph.specs.Members.{In}
+use Rattle.gptp_graph.specs.Snapshot.{clocks}
+use Rattle.gptp_settling.specs.Frame.{Announce, Says, Frame, Lane}
+use Rattle.gptp_settling.specs.Station.{Reception, Station, State, HoldsAt}
+use Rattle.gptp_settling.specs.Clean.{Good, Came}
+use Rattle.gptp_settling.specs.Facts.{Setting, Late}
+
+-- An Announce in flight that is due after c turns and an interval was sent after c turns: by the live system at that
+-- end of the link, and its trace is clean by c + 1 members or wholly.
+abbrev pub LaneIsClean : Says → Setting → Lane → Type 0
+LaneIsClean says k l = (f : Frame) (a : Announce) (c : ℕ) → In f l.frames → says f.octets a → Late k c f.due
+    → In l.from.clock (clocks k.graph) × Good k.graph (suc c) l.from a
+
+-- so was what a live system received after c turns and an interval
+abbrev pub StationIsClean : Setting → Station → Type 0
+StationIsClean k s = (i : ℕ) (r : Reception) (c : ℕ) → HoldsAt s i r → Late k c r.at
+    → Came k.graph (suc c) s.clock (suc i) r
+
+-- each lane and each live system is so
+pub record TracesAreClean (says : Says) (k : Setting) (w : State) : Type 0 where
+  pub lanes : (j : ℕ) (l : Lane) → slice_get w.lanes j ≡ Some l → LaneIsClean says k l
+  pub stations : (i : ℕ) (s : Station) → slice_get w.stations i ≡ Some s → s.live ≡ true → StationIsClean k s

@@ -1,0 +1,130 @@
+-- An example run: two systems and a link, over which the better one announces itself again and again.
+use Rattle.std.specs.Prelude.{◌≡◌, ◌+◌, ℕ, zero, suc, pred, true, List, [], ◌∷◌, ◌++◌, Some, None}
+use Rattle.gptp_graph.specs.Snapshot.{port_of}
+use Rattle.gptp_settling.specs.Frame.{Announce, Frame, Lane}
+use Rattle.gptp_settling.specs.Station.{Reception, Mine, Received, Station, State}
+use Rattle.gptp_settling.specs.Network.{Network}
+
+-- clocks 1 and 2, the first of which is better
+abbrev pub first_identity : ℕ
+first_identity = 0xf6f8fe436af80000000000000001
+
+abbrev pub second_identity : ℕ
+second_identity = 0xf6f8fe436af80000000000000002
+
+-- The link joins port 1 of each. The announce interval is 4 everywhere, the receipt timeout two of them, and the link's
+-- delay 1; claims are made from time 1 on.
+abbrev pub network : Network
+network = record {
+  graph = record {
+    systems =
+        record { clock = 1; identity = first_identity; ports = 1 }
+        ∷ record { clock = 2; identity = second_identity; ports = 1 }
+        ∷ [];
+    links = record { a = port_of 1 1; b = port_of 2 1 } ∷ [];
+  };
+  place = pred;
+  lane = λ p. pred p.clock;
+  interval_of = λ p. 4;
+  interval = 4;
+  most = 1;
+  timeout = 2;
+  start = 1;
+}
+
+-- what the first system announces, and the octets that say so; no others say anything
+abbrev pub announce : Announce
+announce = record { root = first_identity; steps = 0; source = port_of 1 1; path = 1 ∷ [] }
+
+abbrev pub octets : List ℕ
+octets = 11 ∷ []
+
+abbrev pub says : List ℕ → Announce → Type 0
+says text a = (text ≡ octets) × (a ≡ announce)
+
+-- a system of one port that knows of itself alone, whose Announce timer is due at this time
+abbrev pub lone : ℕ → ℕ → ℕ → Station
+lone clock identity timer = record {
+  live = true;
+  clock = clock;
+  identity = identity;
+  ports = record { held = Mine identity 0; interval = 4; announce = timer } ∷ [];
+  root = identity;
+  steps = 0;
+  slave = None;
+  trace = clock ∷ [];
+}
+
+-- the first system is such a one always, and the second while it has heard nothing
+abbrev pub first : ℕ → Station
+first timer = lone 1 first_identity timer
+
+abbrev pub alone : Station
+alone = lone 2 second_identity 4
+
+-- what the second system received at this time, and how it follows the first then
+abbrev pub heard : ℕ → Reception
+heard at = record { said = announce; at = at; span = 8 }
+
+abbrev pub following : ℕ → Station
+following at = record {
+  live = true;
+  clock = 2;
+  identity = second_identity;
+  ports = record { held = Received (heard at); interval = 4; announce = 4 } ∷ [];
+  root = first_identity;
+  steps = 1;
+  slave = Some 1;
+  trace = 1 ∷ 2 ∷ [];
+}
+
+-- the frame that is due at this time
+abbrev pub frame : ℕ → Frame
+frame due = record { due = due; octets = octets }
+
+-- the two directions of the link, of which only the one from the first to the second carries frames
+abbrev pub lane_out : List Frame → Lane
+lane_out frames = record { from = port_of 1 1; to = port_of 2 1; loss = 0; is_up = true; frames = frames }
+
+abbrev pub lane_back : Lane
+lane_back = record { from = port_of 2 1; to = port_of 1 1; loss = 0; is_up = true; frames = [] }
+
+-- a state: the time, the two systems, and what is in flight
+abbrev pub state : ℕ → ℕ → Station → List Frame → State
+state now timer second frames = record {
+  time = now;
+  stations = first timer ∷ second ∷ [];
+  lanes = lane_out frames ∷ lane_back ∷ [];
+}
+
+-- An Announce was heard last at this time. The next is sent three later and heard one after that: the moment of the
+-- timer comes, the first system announces itself, the moment of the frame comes, the second hears it.
+abbrev pub turn : ℕ → List State
+turn at =
+    state (3 + at) (3 + at) (following at) []
+    ∷ state (3 + at) (7 + at) (following at) (frame (4 + at) ∷ [])
+    ∷ state (4 + at) (7 + at) (following at) (frame (4 + at) ∷ [])
+    ∷ state (4 + at) (7 + at) (following (4 + at)) []
+    ∷ []
+
+-- so many turns
+abbrev pub turns : ℕ → ℕ → List State
+turns at zero = []
+turns at (suc count) = turn at ++ turns (4 + at) count
+
+-- The second system hears of the first for the first time at 2.
+abbrev pub opening : List State
+opening =
+    state 1 1 alone []
+    ∷ state 1 5 alone (frame 2 ∷ [])
+    ∷ state 2 5 alone (frame 2 ∷ [])
+    ∷ state 2 5 (following 2) []
+    ∷ []
+
+-- at time 0 both systems know of themselves alone
+abbrev pub begin : State
+begin = state 0 1 alone []
+
+-- the run: the opening, and ten Announces more, until 42
+abbrev pub run : List State
+run = opening ++ turns 2 10

@@ -1,0 +1,64 @@
+-- What is known of each state between two changes of the network, of one item each.
+use Rattle.std.specs.Prelude.{◌≡◌, ◌⊎◌, ◌≤◌, ◌+◌, ◌*◌, ℕ, suc, true, [], ◌∷◌, ◌++◌, Some, length, slice_get}
+use Rattle.gptp_graph.specs.Members.{In}
+use Rattle.gptp_graph.specs.Snapshot.{Snapshot, System, clocks, Joins}
+use Rattle.gptp_settling.specs.Frame.{Frame, Lane}
+use Rattle.gptp_settling.specs.Station.{Reception, Station, State, HoldsAt}
+
+-- The live systems and their links, a time from which on claims are made, the largest announce interval, and the
+-- longest span for which anything received stays.
+pub record Setting : Type 0 where
+  pub graph : Snapshot
+  pub start : ℕ
+  pub interval : ℕ
+  pub span : ℕ
+
+-- the longest time from when an Announce is sent to when a system last sends what it took from it
+abbrev pub turn : Setting → ℕ
+turn k = k.span + k.interval
+
+-- after this many turns have passed from the start, and an interval
+abbrev pub Late : Setting → ℕ → ℕ → Type 0
+Late k c t = k.start + c * turn k + k.interval ≤ t
+
+-- the system as a snapshot has it
+abbrev pub system_of : Station → System
+system_of s = record { clock = s.clock; identity = s.identity; ports = length s.ports }
+
+-- it is its own root
+pub record FollowsItself (s : Station) : Type 0 where
+  pub root : s.root ≡ s.identity
+  pub steps : s.steps ≡ 0
+  pub trace : s.trace ≡ s.clock ∷ []
+
+-- it follows what one of its ports received
+pub record FollowsPort (s : Station) : Type 0 where
+  pub place : ℕ
+  pub r : Reception
+  pub holds : HoldsAt s place r
+  pub root : s.root ≡ r.said.root
+  pub steps : s.steps ≡ suc r.said.steps
+  pub trace : s.trace ≡ r.said.path ++ s.clock ∷ []
+
+-- What a system received came by now, stays no longer than its span, which is at most the longest, and doesn't name the
+-- system itself.
+pub record IsInTime (k : Setting) (now clock : ℕ) (r : Reception) : Type 0 where
+  pub came : r.at ≤ now
+  pub stays : now ≤ r.at + r.span
+  pub short : r.span ≤ k.span
+  pub no_loop : In clock r.said.path → ⊥
+
+-- what is known of a live system: the snapshot has it, it follows itself or a port, and what it received is in time
+pub record IsStation (k : Setting) (now : ℕ) (s : Station) : Type 0 where
+  pub known : In (system_of s) k.graph.systems
+  pub follows : FollowsItself s ⊎ FollowsPort s
+  pub held : (i : ℕ) (r : Reception) → HoldsAt s i r → IsInTime k now s.clock r
+
+-- Every live system is such a one; a frame is due within an interval; and where a frame is in flight between two
+-- systems of the snapshot, the snapshot has the link.
+pub record Facts (k : Setting) (w : State) : Type 0 where
+  pub stations : (i : ℕ) (s : Station) → slice_get w.stations i ≡ Some s → s.live ≡ true → IsStation k w.time s
+  pub near : (j : ℕ) (l : Lane) (f : Frame) → slice_get w.lanes j ≡ Some l → In f l.frames
+      → f.due ≤ w.time + k.interval
+  pub linked : (j : ℕ) (l : Lane) (f : Frame) → slice_get w.lanes j ≡ Some l → In f l.frames
+      → In l.from.clock (clocks k.graph) → In l.to.clock (clocks k.graph) → Joins k.graph l.from l.to

@@ -1,0 +1,34 @@
+-- Announces, the frames that carry them, and the lanes that the frames travel.
+use Rattle.std.specs.Prelude.{ℕ, Bool, List}
+use Rattle.gptp_graph.specs.Snapshot.{PortIdentity}
+
+-- what an Announce says: root and steps of its sender, the port that sent it, and the path trace
+-- (IEEE 802.1AS-2020, 10.6.3)
+pub record Announce : Type 0 where
+  pub root : ℕ
+  pub steps : ℕ
+  pub source : PortIdentity
+  pub path : List ℕ
+
+-- Which octets say which Announce. Every law is over all such relations: nothing of the message grammar is used, and
+-- octets that say none may stand for any other message.
+abbrev pub Says : Type 1
+Says = List ℕ → Announce → Type 0
+
+-- a frame in flight: when it is due at the other end, and its octets
+pub record Frame : Type 0 where
+  pub due : ℕ
+  pub octets : List ℕ
+
+-- one direction of a link, with its loss rate, whether the link is up, and the frames in flight, oldest first
+pub record Lane : Type 0 where
+  pub from : PortIdentity
+  pub to : PortIdentity
+  pub loss : ℕ
+  pub is_up : Bool
+  pub frames : List Frame
+
+-- what a system sends: from which of its ports, and the octets
+pub record Send : Type 0 where
+  pub port : ℕ
+  pub octets : List ℕ

@@ -1,0 +1,60 @@
+-- A network whose last change is past, and the times from which claims are made.
+use Rattle.std.specs.Prelude.{◌≤◌, ◌+◌, ◌*◌, ℕ, suc, length}
+use Rattle.gptp_graph.specs.Snapshot.{System, PortIdentity, Snapshot, port_of, IsLinked, IsWellFormed}
+use Rattle.gptp_settling.specs.Facts.{Setting, turn}
+use Rattle.gptp_settling.specs.Stage.{Wiring}
+
+-- The live systems and their links; at which place a system stands, by its clock, and a lane, by the port that it leads
+-- from; the announce interval of each port and the largest of them; the largest delay of a link; the announce receipt
+-- timeout, in intervals; and when every port on a link is capable and all others are disabled.
+pub record Network : Type 0 where
+  pub graph : Snapshot
+  pub place : ℕ → ℕ
+  pub lane : PortIdentity → ℕ
+  pub interval_of : PortIdentity → ℕ
+  pub interval : ℕ
+  pub most : ℕ
+  pub timeout : ℕ
+  pub start : ℕ
+
+-- The snapshot is a network's, and from an Announce to the arrival of the next over a link it takes no longer than two
+-- of the largest intervals.
+pub record IsNetwork (n : Network) : Type 0 where
+  pub graph : IsWellFormed n.graph
+  pub round : (p : PortIdentity) → IsLinked n.graph p → n.interval_of p + n.most ≤ n.interval + n.interval
+
+-- what is received stays for the receipt timeout at most
+abbrev pub setting : Network → Setting
+setting n = record { graph = n.graph; start = n.start; interval = n.interval; span = n.timeout * n.interval }
+
+-- when all that is held is wholly clean
+abbrev pub clean_from : Network → ℕ
+clean_from n = n.start + length n.graph.systems * turn (setting n)
+
+-- when the systems at distance d have settled: two intervals for each step
+abbrev pub since : Network → ℕ → ℕ
+since n d = clean_from n + 2 * d * n.interval
+
+-- When all near systems and their ports have settled. Of the last intervals two are for each step, of which a distance
+-- has fewer than there are systems, and two for the ports that end as passive.
+abbrev pub settled_from : Network → ℕ
+settled_from n = n.start
+    + length n.graph.systems * ((n.timeout + 1) * n.interval)
+    + 2 * length n.graph.systems * n.interval
+
+-- the link from port p + 1 of system v, at distance d from its best, to port q + 1 of system u
+abbrev pub wiring : Network → ℕ → System → ℕ → ℕ → ℕ → ℕ → Wiring
+wiring n d best v p u q = record {
+  teller = v;
+  teller_place = n.place v;
+  teller_port = p;
+  hearer = u;
+  hearer_place = n.place u;
+  hearer_port = q;
+  lane = n.lane (port_of v (suc p));
+  interval = n.interval_of (port_of v (suc p));
+  most = n.most;
+  root = best.identity;
+  steps = d;
+  since = since n d;
+}

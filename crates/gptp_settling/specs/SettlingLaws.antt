@@ -1,0 +1,47 @@
+-- Laws on networks: they settle.
+use Rattle.std.specs.Prelude.{◌≡◌, ◌<◌, ◌≤◌, ℕ, suc, true, Some, slice_get}
+use Rattle.gptp_graph.specs.Distance.{IsDistance, IsNear}
+use Rattle.gptp_settling.specs.Frame.{Says}
+use Rattle.gptp_settling.specs.Station.{Station, State}
+use Rattle.gptp_settling.specs.Acts.{Steps}
+use Rattle.gptp_settling.specs.Network.{Network, IsNetwork, since, settled_from}
+use Rattle.gptp_settling.specs.Calm.{Calm}
+use Rattle.gptp_settling.specs.Levels.{Invariant}
+use Rattle.gptp_settling.specs.Settled.{FollowsBest, HasSettledRoles}
+
+-- before the start the invariant claims nothing
+abbrev pub InvariantBegins : Says → Type 0
+InvariantBegins says = (n : Network) (w : State)
+    → Calm n w → w.time < n.start
+    → Invariant says n w
+
+-- every step from a calm state to a calm state keeps it
+abbrev pub InvariantIsKept : Says → Type 0
+InvariantIsKept says = (n : Network) (w w' : State)
+    → IsNetwork n → Calm n w → Calm n w' → Steps says w w' → Invariant says n w
+    → Invariant says n w'
+
+-- a near system at distance d follows its component's best over its parent, two intervals for each step after all that
+-- is held is wholly clean
+abbrev pub SystemSettles : Says → Type 0
+SystemSettles says = (n : Network) (w : State) (i : ℕ) (s : Station) (d : ℕ)
+    → IsNetwork n → Calm n w → Invariant says n w
+    → slice_get w.stations i ≡ Some s → s.live ≡ true → IsDistance n.graph s.clock d → d < 255
+    → since n d ≤ w.time
+    → FollowsBest n.graph s
+
+-- two intervals later all its ports have their settled roles
+abbrev pub PortsSettle : Says → Type 0
+PortsSettle says = (n : Network) (w : State) (i : ℕ) (s : Station) (d : ℕ)
+    → IsNetwork n → Calm n w → Invariant says n w
+    → slice_get w.stations i ≡ Some s → s.live ≡ true → IsDistance n.graph s.clock d → d < 255
+    → since n (suc d) ≤ w.time
+    → HasSettledRoles n.graph s
+
+-- in the end every near system follows its component's best over its parent, and all its ports have their settled roles
+abbrev pub NetworkSettles : Says → Type 0
+NetworkSettles says = (n : Network) (w : State) (i : ℕ) (s : Station)
+    → IsNetwork n → Calm n w → Invariant says n w
+    → slice_get w.stations i ≡ Some s → s.live ≡ true → IsNear n.graph s.clock
+    → settled_from n ≤ w.time
+    → FollowsBest n.graph s × HasSettledRoles n.graph s

@@ -1,0 +1,71 @@
+-- The stages through which a link comes to tell what the system at its one end has settled at.
+use Rattle.std.specs.Prelude.{◌≡◌, ◌⊎◌, ◌<◌, ◌≤◌, ◌+◌, ℕ, suc, List, [], ◌∷◌}
+use Rattle.gptp_graph.specs.Members.{In}
+use Rattle.gptp_graph.specs.Snapshot.{PortIdentity, port_of}
+use Rattle.gptp_settling.specs.Frame.{Announce, Says, Frame}
+use Rattle.gptp_settling.specs.Station.{Reception, Held, Received}
+use Rattle.gptp_settling.specs.Touch.{Qualified}
+
+-- One direction of a link: the clock of the system that tells, its place among the systems and that of its port, which
+-- is numbered one higher; the same of the system that hears; the place of the lane; the announce interval of the port
+-- that tells and the largest delay of the link; the root and steps that are told, and from when on they are settled.
+pub record Wiring : Type 0 where
+  pub teller : ℕ
+  pub teller_place : ℕ
+  pub teller_port : ℕ
+  pub hearer : ℕ
+  pub hearer_place : ℕ
+  pub hearer_port : ℕ
+  pub lane : ℕ
+  pub interval : ℕ
+  pub most : ℕ
+  pub root : ℕ
+  pub steps : ℕ
+  pub since : ℕ
+
+-- the port that tells
+abbrev pub from_port : Wiring → PortIdentity
+from_port k = port_of k.teller (suc k.teller_port)
+
+-- the port that hears
+abbrev pub to_port : Wiring → PortIdentity
+to_port k = port_of k.hearer (suc k.hearer_port)
+
+-- the Announce tells what is settled, and the system that hears it can use it
+pub record IsFinal (k : Wiring) (a : Announce) : Type 0 where
+  pub root : a.root ≡ k.root
+  pub steps : a.steps ≡ k.steps
+  pub source : a.source ≡ from_port k
+  pub qualified : Qualified k.hearer a
+
+-- every Announce among the frames is final
+abbrev pub AllFinal : Says → Wiring → List Frame → Type 0
+AllFinal says k fs = (f : Frame) (a : Announce) → In f fs → says f.octets a → IsFinal k a
+
+-- the frame says an Announce
+abbrev pub IsSaid : Says → Frame → Type 0
+IsSaid says f = (a : Announce) × says f.octets a
+
+-- from some frame on, which says an Announce and is due before this time, every Announce is final
+abbrev pub FinalTail : Says → Wiring → ℕ → List Frame → Type 0
+FinalTail says k before [] = ⊥
+FinalTail says k before (f ∷ fs) =
+    ((f.due < before) × IsSaid says f × AllFinal says k (f ∷ fs)) ⊎ FinalTail says k before fs
+
+-- The port holds a final Announce, received since all was settled, every Announce in flight is final, and the next one
+-- comes in time: the teller's timer is due by then, or a frame in flight says it.
+pub record Stays (says : Says) (k : Wiring) (announce : ℕ) (held : Held) (fs : List Frame) : Type 0 where
+  pub what : Reception
+  pub holds : held ≡ Received what
+  pub final : IsFinal k what.said
+  pub came : k.since ≤ what.at
+  pub flight : AllFinal says k fs
+  pub next : (announce ≤ what.at + k.interval)
+      ⊎ ((f : Frame) × In f fs × IsSaid says f × (f.due ≤ what.at + k.interval + k.most))
+
+-- The teller will tell it within an interval of when it settled, by its timer; or it is on its way; or it is held, and
+-- stays. By the strict bounds the first two are over once the interval and the delay have passed.
+abbrev pub Stage : Says → Wiring → ℕ → Held → List Frame → Type 0
+Stage says k announce held fs =
+    (announce < k.since + k.interval)
+    ⊎ (FinalTail says k (k.since + k.interval + k.most) fs ⊎ Stays says k announce held fs)

@@ -1,0 +1,45 @@
+-- The state of the machine: systems with what their ports hold, and the lanes between them.
+use Rattle.std.specs.Prelude.{◌≡◌, ℕ, Bool, List, Option, Some, slice_get}
+use Rattle.gptp_settling.specs.Frame.{Announce, Lane}
+
+-- an Announce that was received: what it said, when, and for how long it stays if nothing replaces it
+pub record Reception : Type 0 where
+  pub said : Announce
+  pub at : ℕ
+  pub span : ℕ
+
+-- what a port holds (IEEE 802.1AS-2020, 10.3.10): nothing while disabled, nothing since it aged, the root and steps
+-- that it announces as master, or what it received
+pub data Held : Type 0 where
+  Disabled : Held
+  Aged : Held
+  Mine : (root steps : ℕ) → Held
+  Received : Reception → Held
+
+-- a port: what it holds, its announce interval, and when its Announce timer is due
+pub record Port : Type 0 where
+  pub held : Held
+  pub interval : ℕ
+  pub announce : ℕ
+
+-- A system, live or failed, by its clock and identity: its ports, of which number n stands at place n - 1, and what
+-- it follows, which is the root, the steps to it, the slave port and the path trace that it announces.
+pub record Station : Type 0 where
+  pub live : Bool
+  pub clock : ℕ
+  pub identity : ℕ
+  pub ports : List Port
+  pub root : ℕ
+  pub steps : ℕ
+  pub slave : Option ℕ
+  pub trace : List ℕ
+
+-- the time, the systems, and one lane for each direction of each link
+pub record State : Type 0 where
+  pub time : ℕ
+  pub stations : List Station
+  pub lanes : List Lane
+
+-- the port at this place received this
+abbrev pub HoldsAt : Station → ℕ → Reception → Type 0
+HoldsAt s i r = (q : Port) × (slice_get s.ports i ≡ Some q) × (q.held ≡ Received r)

@@ -1,0 +1,33 @@
+//! Laws on networks: they settle.
+
+ghost use Rattle.gptp_settling.specs.SettlingLaws.{InvariantBegins, InvariantIsKept};
+ghost use Rattle.gptp_settling.specs.SettlingLaws.{SystemSettles, PortsSettle, NetworkSettles};
+
+use crate::coding::Coding;
+
+/// How clean traces are and the stage of each link are claims that say nothing before the start, which is when every
+/// port on a link has become capable and all others are disabled. Every step of the machine from a calm state to a
+/// calm state keeps them.
+pub fn invariant_is_kept<C: Coding>()
+    ensures begins { InvariantBegins C.says }
+    ensures kept { InvariantIsKept C.says }
+{}
+
+/// Two announce intervals for each step of its distance after all that is held has become wholly clean, and from then
+/// on, a near system follows the best of its component: it has that system's identity as its root and its distance as
+/// its steps, and its slave port is the own port of its parent. The best has none.
+pub fn system_settles<C: Coding>()
+    ensures { SystemSettles C.says }
+{}
+
+/// Two announce intervals later each of its ports has its settled role.
+pub fn ports_settle<C: Coding>()
+    ensures { PortsSettle C.says }
+{}
+
+/// In a network of n live systems, announce receipt timeout k and largest announce interval I, every near system
+/// follows the best of its component over its parent, and all its ports have their settled roles, at every time from
+/// n·(k+1)·I + 2·n·I after the start on: at that very moment too, whether or not what is due then has happened.
+pub fn network_settles<C: Coding>()
+    ensures { NetworkSettles C.says }
+{}
