@@ -1,0 +1,10 @@
+pub mod LaneLemmas
+pub mod ExchangeLemmas
+pub mod FactLemmas
+pub mod BoundLemmas
+pub mod PhaseLemmas
+pub mod CountLemmas
+pub mod InvariantLemmas
+pub mod CapabilityLemmas
+pub mod SilenceLemmas
+mod ExampleLemmas

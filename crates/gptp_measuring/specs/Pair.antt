@@ -1,0 +1,23 @@
+-- The two ports of one direction of a link, as far as the one measures the delay to the other, and the two lanes
+-- between them. The other direction of the link is a second such pair over the same lanes, exchanged.
+use Rattle.std.specs.Prelude.{◌≡◌, ◌≤◌, ℕ, List, Option}
+use Rattle.gptp_measuring.specs.Lanes.{Frame}
+use Rattle.gptp_measuring.specs.Asker.{Asker}
+use Rattle.gptp_measuring.specs.Answerer.{Waiting}
+
+-- `out` are the frames in flight to the port that answers, `back` those to the port that asks, the oldest first; a
+-- request `waits` from when it came until it is answered
+pub record Pair : Type 0 where
+  pub time : ℕ
+  pub asker : Asker
+  pub waits : Option Waiting
+  pub out : List Frame
+  pub back : List Frame
+
+-- the same at another time
+abbrev pub at_time : Pair → ℕ → Pair
+at_time p time = record p { time = time }
+
+-- time passes and nothing else happens
+abbrev pub Passes : Pair → Pair → Type 0
+Passes p p' = (time : ℕ) × (p.time ≤ time) × (p' ≡ at_time p time)

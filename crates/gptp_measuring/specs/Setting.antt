@@ -1,0 +1,35 @@
+-- One direction of a link: a port that asks and a port that answers. The other direction is another such setting.
+use Rattle.std.specs.Prelude.{◌≡◌, ℕ, ◌+◌, ◌≤◌, ℤ}
+use Rattle.gptp_graph.specs.Snapshot.{PortIdentity}
+
+-- The ports, and what doesn't change between two changes of the network; times in ns. `most` is the greatest delay of
+-- the link, `turnaround` the time that an answer waits, `period` the interval between two requests and `allowed` how
+-- many in a row may be lost (allowedLostResponses, IEEE 802.1AS-2020, 11.5.3). The clocks give the two systems' local
+-- times, in 2^-16 ns, at each time.
+pub record Setting : Type 0 where
+  pub asking : PortIdentity
+  pub answering : PortIdentity
+  pub most : ℕ
+  pub turnaround : ℕ
+  pub period : ℕ
+  pub allowed : ℕ
+  pub asking_clock : ℕ → ℤ
+  pub answering_clock : ℕ → ℤ
+
+-- y is from s on, by s + most at the latest
+abbrev pub IsInTime : ℕ → ℕ → ℕ → Type 0
+IsInTime s y most = (s ≤ y) × (y ≤ s + most)
+
+-- The four times are those of one exchange over the link (IEEE 802.1AS-2020, figure 11-1): the request was sent at one
+-- time and came at another within the greatest delay, the response was sent the turnaround later, and came within the
+-- greatest delay too.
+pub record IsExchange (k : Setting) (t1 t2 t3 t4 : ℤ) : Type 0 where
+  pub sent : ℕ
+  pub came : ℕ
+  pub back : ℕ
+  pub is_t1 : t1 ≡ k.asking_clock sent
+  pub is_t2 : t2 ≡ k.answering_clock came
+  pub is_t3 : t3 ≡ k.answering_clock (came + k.turnaround)
+  pub is_t4 : t4 ≡ k.asking_clock back
+  pub there : IsInTime sent came k.most
+  pub home : IsInTime (came + k.turnaround) back k.most

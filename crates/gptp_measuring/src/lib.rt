@@ -1,0 +1,37 @@
+//! How a port measures the delay of its link, and when it is capable: a small machine, and its laws.
+//!
+//! The machine is one direction of a link: the port that asks, with its open exchange and what it counts; the port that
+//! answers, with the request that waits there; the frames in flight between them; and time. Its acts say of a step of
+//! the network only what the laws use (IEEE 802.1AS-2020, 11.2.2, 11.2.19 and 11.2.20, with this project's profile):
+//! a request is sent and an open one given up, a frame arrives at either end, an answer is sent, and others send. What
+//! the octets of a frame mean, how long it takes, what the sequence numbers are, and what was in flight or open at the
+//! last change of the network are free. The other direction of the link is a second such machine over the same frames.
+//!
+//! The definitions stand in `specs/`. Each function of this crate is a law: it does nothing, and its contract is a
+//! theorem about the definitions. On a link that is up, loses nothing and is good, between two live systems, the port
+//! is capable from L + 5 announce intervals after the last change on, where L is the number of requests that may be
+//! lost; on a link whose other end has failed it isn't capable from then on. `docs/LINK_FACTS.md` lists what a network
+//! must show to be such a machine. Lemmas for the crates above are in the public modules of `proofs/`.
+#![tactic(auto)]
+
+mod bounds;
+mod capability;
+mod coding;
+mod examples;
+mod exchange;
+mod facts;
+mod silence;
+
+pub use bounds::bounds_kept;
+pub use capability::{
+    capability_settles, capable_from_calm, invariant_begins, invariant_holds_later, invariant_kept,
+    no_exchange_is_bad, no_request_is_lost, runs_end_capable,
+};
+pub use coding::Coding;
+pub use examples::two_exchanges;
+pub use exchange::{exchanges_are_good, exchanges_show_neighbor};
+pub use facts::{facts_hold_later, facts_kept, timing_is_enough};
+pub use silence::{
+    incapable_from_gone, runs_end_incapable, silence_begins, silence_holds_later, silence_kept,
+    silence_settles,
+};
