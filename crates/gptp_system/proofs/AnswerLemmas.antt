@@ -1,0 +1,274 @@
+-- Every step of a system as an answer to a touch, case by case.
+use Rattle.std.proofs.Common.{◌≡◌, ◌≤◌, ℕ, ℤ, Bool, true, false, List, Option, Some, None, refl, sym, subst, ◌∙◌, inl, inr, arith}
+use Rattle.gptp_graph.specs.Members.{In}
+use Rattle.gptp_messages.specs.declared.announce.AnnounceView.{AnnounceView}
+use Rattle.gptp_messages.specs.declared.follow_up.FollowUp.{FollowUp}
+use Rattle.gptp_messages.specs.declared.head.Head.{Head}
+use Rattle.gptp_messages.specs.declared.message.Message.{Message}
+use Rattle.gptp_messages.specs.declared.message.Message.TheVariants as messages
+use Rattle.gptp_messages.specs.Grammar.{Reads}
+use Rattle.gptp_messages.proofs.GrammarLemmas.{never_both, one_reading}
+use Rattle.gptp_receipt.specs.declared.qualification.Why.{Why}
+use Rattle.gptp_receipt.specs.declared.qualification.Why.TheVariants as whys
+use Rattle.gptp_receipt.specs.Held.{comparison}
+use Rattle.gptp_receipt.specs.Qualification.{Fails, Qualified}
+use Rattle.gptp_correction.specs.declared.correction.Relayed.{Relayed}
+use Rattle.gptp_correction.specs.declared.sync_in.SyncInfo.{SyncInfo}
+use Rattle.gptp_pdelay.specs.Peer.{after_follow_up, after_interval, after_response, reset_peer}
+use Rattle.gptp_system.specs.declared.answer.Answer.{Answer}
+use Rattle.gptp_system.specs.declared.port.Port.{Port}
+use Rattle.gptp_system.specs.declared.sending.Sending.{Sending}
+use Rattle.gptp_system.specs.declared.timer.Timer.{Timer}
+use Rattle.gptp_system.specs.declared.timer.Timer.TheVariants as timers
+use Rattle.gptp_system.specs.State.{SystemState, clock, due, held_at, is_capable_at, local_time, own, with_peer}
+use Rattle.gptp_system.specs.Selection.{SelectsIf}
+use Rattle.gptp_system.specs.Measuring.{answering_done, down, owed_at, owes, owing, responded}
+use Rattle.gptp_system.specs.Announcing.{HearsQualified, aged_at, compared, is_taken, with_priority}
+use Rattle.gptp_system.specs.Syncing.{HearsFollowUpIf, HearsSyncIf, KeepsIf, KnowsIf, RelaysIf, SyncsIf, delay_at, is_followed, leads, own_time, rate_at, restarted, said_on, stopped, telling, told_by}
+use Rattle.gptp_system.specs.Steps.{Expires as TimerExpires, HearsFrame, HearsMessage}
+use Rattle.gptp_system.specs.Input.{Input, IsCalm, Steps, PortUp, PortDown, Frame, Expires, Priority}
+use Rattle.gptp_system.specs.Facts.{AreShown, IsAtRest}
+use Rattle.gptp_system.specs.Touch.{Touch, Hear, Tick, Grow, Disable, Other, IsFrameSeenAs, IsSeenAs, IsTurn}
+use Rattle.gptp_system.specs.Reacts.{Reacts}
+use Rattle.gptp_system.proofs.TouchedLemmas.{compared_same}
+use Rattle.gptp_system.specs.Messages.{Announcing, Answering, Telling}
+use Rattle.gptp_system.proofs.SendLemmas.{responds_answer, syncs_tell}
+use Rattle.gptp_system.proofs.EndLemmas.{Concludes, selects_concludes}
+use Rattle.gptp_system.proofs.MidLemmas.{Later, Mids, aged_mids, down_mids, heard_mids, joined, priority_mids, tick_mids, unheard_mids}
+use Rattle.gptp_system.proofs.ReactLemmas.{Answers, AreOther, announce_expires, becomes, by_other, by_turn, kind_other, later_apart, later_itself, later_port, later_telling, rests, turns, turns_and_asks}
+
+-- ---- time: nothing that announcing reads changes
+
+later_on : (s t u : SystemState) → Later s t → Later t u → Later s u
+later_on s t u a b = record {
+  same_clock = b.same_clock ∙ a.same_clock;
+  held = b.held ∙ a.held;
+  root = b.root ∙ a.root;
+  steps = b.steps ∙ a.steps;
+  ports = λ i q' there.
+      let (p, at, log, announce) = b.ports i q' there in
+      let (q, was, log_before, announce_before) = a.ports i p at in
+      (q, was, log ∙ log_before, announce ∙ announce_before);
+}
+
+later_restarted : (now : ℕ) (s : SystemState) → Later s (restarted now s)
+later_restarted now s = later_apart s s.sync_in s.known s.offset _ s.relay
+
+later_stopped : (s : SystemState) → Later s (stopped s)
+later_stopped s = later_apart s s.sync_in s.known s.offset s.sync None
+
+telling_other : (told : Relayed) (s : SystemState) (sends : List Sending) → sends ≡ told_by told s → AreOther sends
+telling_other told s sends is =
+    kind_other Telling sends different
+    (λ x member. syncs_tell (clock s) s.params.sync told 1 s.held s.ports x (subst (In x) is member))
+  where
+    different : Telling ≡ Announcing → ⊥
+    different e = cc
+
+keeps_if : (b : Bool) (head : Head) (now : ℕ) (s s' : SystemState) (sends : List Sending) (answer : Answer) → IsAtRest s
+    → KeepsIf b head now s s' sends answer → Concludes s now s' sends
+keeps_if true head now s s' sends answer r k =
+    becomes now s _ s' sends r (later_apart s _ s.known s.offset s.sync s.relay) k.becomes
+keeps_if false head now s s' sends answer r k = becomes now s s s' sends r (later_itself s) k.becomes
+
+hears_sync : (b : Bool) (p : ℕ) (head : Head) (now : ℕ) (s s' : SystemState) (sends : List Sending) (answer : Answer)
+    → IsAtRest s
+    → HearsSyncIf b p head now s s' sends answer → Concludes s now s' sends
+hears_sync false p head now s s' sends answer r k = becomes now s s s' sends r (later_itself s) k.becomes
+hears_sync true p head now s s' sends answer r k = keeps_if (is_followed p head s) head now s s' sends answer r k
+
+knows_if : (said : Option SyncInfo) (delay rate : ℤ) (now : ℕ) (s s' : SystemState) (sends : List Sending)
+    (answer : Answer) → IsAtRest s
+    → KnowsIf said delay rate now s s' sends answer → Concludes s now s' sends
+knows_if None delay rate now s s' sends answer r k = becomes now s s s' sends r (later_itself s) k.becomes
+knows_if (Some info) delay rate now s s' sends answer r (inl k) =
+    becomes now s _ s' sends r (later_apart s s.sync_in _ _ s.sync _) k.becomes
+knows_if (Some info) delay rate now s s' sends answer r (inr k) =
+    becomes now s _ s' sends r (later_apart s _ _ _ s.sync s.relay) k.becomes
+
+hears_follow_up : (b : Bool) (p : ℕ) (m : FollowUp) (now : ℕ) (s s' : SystemState) (sends : List Sending)
+    (answer : Answer) → IsAtRest s
+    → HearsFollowUpIf b p m now s s' sends answer → Concludes s now s' sends
+hears_follow_up false p m now s s' sends answer r k = becomes now s s s' sends r (later_itself s) k.becomes
+hears_follow_up true p m now s s' sends answer r k =
+    knows_if (said_on p m s) (delay_at s p) (rate_at s p) now s s' sends answer r k
+
+syncs_if : (b : Bool) (now : ℕ) (s s' : SystemState) (sends : List Sending) → IsAtRest s → SyncsIf b now s s' sends
+    → Concludes s now s' sends
+syncs_if true now s s' sends r k =
+    subst (λ x. Concludes s now x sends) (sym k.state)
+    (rests now s (telling (restarted now s)) sends r
+    (later_on s (restarted now s) (telling (restarted now s)) (later_restarted now s)
+    (later_telling (restarted now s)))
+    (telling_other (own_time k.stamp k.rest) s sends k.sends_are))
+syncs_if false now s s' sends r k = becomes now s (restarted now s) s' sends r (later_restarted now s) k
+
+relays_if : (known : Option SyncInfo) (now : ℕ) (s s' : SystemState) (sends : List Sending) → IsAtRest s
+    → RelaysIf known now s s' sends
+    → Concludes s now s' sends
+relays_if None now s s' sends r k = becomes now s (stopped s) s' sends r (later_stopped s) k
+relays_if (Some info) now s s' sends r (inl k) =
+    subst (λ x. Concludes s now x sends) (sym k.state)
+    (rests now s (telling (stopped s)) sends r
+    (later_on s (stopped s) (telling (stopped s)) (later_stopped s) (later_telling (stopped s)))
+    (telling_other _ s sends k.sends_are))
+relays_if (Some info) now s s' sends r (inr k) = becomes now s (stopped s) s' sends r (later_stopped s) k.becomes
+
+-- ---- Announces
+
+-- what fails a test isn't qualified
+not_qualified : (a : AnnounceView) (c : ℕ) (why : Why) → Fails a c why → Qualified a c → ⊥
+not_qualified a c whys.OwnMessage fails k = k.foreign fails
+not_qualified a c whys.TooManySteps fails k = let near = k.near in absurd (omega arith)
+not_qualified a c whys.Loop fails k = k.no_loop fails
+not_qualified a c whys.TraceTooLong fails k = let short = k.short in absurd (omega arith)
+
+hears_qualified : (p : ℕ) (a : AnnounceView) (now : ℕ) (s s' : SystemState) (sends : List Sending) (answer : Answer)
+    → AreShown s → IsAtRest s
+    → HearsQualified p a now s s' sends answer → Reacts s (Hear p a) now s' sends
+hears_qualified p a now s s' sends answer shown r k =
+    go (is_taken (comparison (held_at s p) (own s p) a)) refl k.selects
+  where
+    mids : Mids s (Hear p a) now (compared p a now s)
+    mids = heard_mids p a now s shown k.on k.qualified
+
+    go : (b : Bool) → is_taken (comparison (held_at s p) (own s p) a) ≡ b
+        → SelectsIf b now (compared p a now s) s' sends
+        → Reacts s (Hear p a) now s' sends
+    go true is h =
+        joined s (Hear p a) now (compared p a now s) s' sends mids
+        (selects_concludes now (compared p a now s) s' sends h)
+    go false is h =
+        let rest = subst IsAtRest (sym (compared_same p a now s is)) r in
+        joined s (Hear p a) now (compared p a now s) s' sends mids
+        (becomes now (compared p a now s) (compared p a now s) s' sends rest (later_itself (compared p a now s)) h)
+
+hears_announce : (p : ℕ) (octets : List ℕ) (a : AnnounceView) (now : ℕ) (s s' : SystemState) (sends : List Sending)
+    (answer : Answer) → AreShown s
+    → IsAtRest s → Reads octets (messages.Announce a) → HearsMessage p (messages.Announce a) now s s' sends answer
+    → Answers (IsFrameSeenAs s p octets) s now s' sends
+hears_announce p octets a now s s' sends answer shown r reads (inl k) =
+    by_other (IsFrameSeenAs s p octets) s now s' sends (inr ((λ b other. k.off), inr (inr refl)))
+    (becomes now s s s' sends r (later_itself s) k.becomes)
+hears_announce p octets a now s s' sends answer shown r reads (inr (inl k)) = record {
+  touch = Hear p a;
+  seen = inl (a, reads, k.on, refl);
+  reacts =
+      joined s (Hear p a) now s s' sends
+      (unheard_mids p a now s shown k.on (not_qualified a (clock s) k.why k.fails.fails))
+      (becomes now s s s' sends r (later_itself s) k.becomes);
+}
+hears_announce p octets a now s s' sends answer shown r reads (inr (inr k)) = record {
+  touch = Hear p a;
+  seen = inl (a, reads, k.on, refl);
+  reacts = hears_qualified p a now s s' sends answer shown r k;
+}
+
+-- ---- frames
+
+-- a message that isn't an Announce
+abbrev NoAnnounce : Message → Type 0
+NoAnnounce m = (a : AnnounceView) → m ≡ messages.Announce a → ⊥
+
+-- a frame that is no Announce is seen as whatever it turns
+unheard : (s : SystemState) (p : ℕ) (octets : List ℕ) (m : Message) → Reads octets m → NoAnnounce m → (touch : Touch)
+    → IsTurn p touch
+    → IsFrameSeenAs s p octets touch
+unheard s p octets m reads other touch turn =
+    inr ((λ a said. absurd (other a (one_reading octets m (messages.Announce a) reads said))), turn)
+
+hears_message : (p : ℕ) (octets : List ℕ) (m : Message) (now : ℕ) (s s' : SystemState) (sends : List Sending)
+    (answer : Answer) → AreShown s
+    → IsAtRest s → Reads octets m → HearsMessage p m now s s' sends answer
+    → Answers (IsFrameSeenAs s p octets) s now s' sends
+hears_message p octets (messages.Sync head) now s s' sends answer shown r reads k =
+    by_other (IsFrameSeenAs s p octets) s now s' sends
+    (unheard s p octets (messages.Sync head) reads (λ a e. absurd cc) Other (inr (inr refl)))
+    (hears_sync (is_capable_at s p) p head now s s' sends answer r k)
+hears_message p octets (messages.PdelayReq head) now s s' sends answer shown r reads k =
+    by_other (IsFrameSeenAs s p octets) s now s' sends
+    (unheard s p octets (messages.PdelayReq head) reads (λ a e. absurd cc) Other (inr (inr refl)))
+    (becomes now s (owes p head now s) s' sends r (later_port p (owing _ _) s (λ q. refl) (λ q. refl)) k.becomes)
+hears_message p octets (messages.PdelayResp m) now s s' sends answer shown r reads k =
+    by_other (IsFrameSeenAs s p octets) s now s' sends
+    (unheard s p octets (messages.PdelayResp m) reads (λ a e. absurd cc) Other (inr (inr refl)))
+    (becomes now s (with_peer p (after_response m (local_time s now)) s) s' sends r
+    (later_port p (λ (q : Port). record q {
+      peer =
+          after_response m (local_time s now) q.peer;
+    }) s (λ q. refl) (λ q. refl)) k.becomes)
+hears_message p octets (messages.FollowUp m) now s s' sends answer shown r reads k =
+    by_other (IsFrameSeenAs s p octets) s now s' sends
+    (unheard s p octets (messages.FollowUp m) reads (λ a e. absurd cc) Other (inr (inr refl)))
+    (hears_follow_up (is_capable_at s p) p m now s s' sends answer r k)
+hears_message p octets (messages.PdelayRespFollowUp m) now s s' sends answer shown r reads k =
+    by_turn p (IsFrameSeenAs s p octets) s now s' sends
+    (unheard s p octets (messages.PdelayRespFollowUp m) reads (λ a e. absurd cc))
+    (turns p (after_follow_up m) now s s' sends shown r k.turns)
+hears_message p octets (messages.Announce a) now s s' sends answer shown r reads k =
+    hears_announce p octets a now s s' sends answer shown r reads k
+
+hears_frame : (p : ℕ) (octets : List ℕ) (now : ℕ) (s s' : SystemState) (sends : List Sending) (answer : Answer)
+    → AreShown s → IsAtRest s
+    → HearsFrame p octets now s s' sends answer → Answers (IsFrameSeenAs s p octets) s now s' sends
+hears_frame p octets now s s' sends answer shown r (inl k) =
+    hears_message p octets k.message now s s' sends answer shown r k.reads k.hears
+hears_frame p octets now s s' sends answer shown r (inr k) =
+    by_other (IsFrameSeenAs s p octets) s now s' sends
+    (inr ((λ a said. absurd (never_both octets (messages.Announce a) k.refused said k.refuses)), inr (inr refl)))
+    (becomes now s s s' sends r (later_itself s) k.becomes)
+
+-- ---- timers
+
+expires : (timer : Timer) (now t : ℕ) (s s' : SystemState) (sends : List Sending) → AreShown s → IsAtRest s
+    → due timer s ≡ Some t → t ≤ now
+    → TimerExpires timer now s s' sends → Answers (IsSeenAs s (Expires timer)) s now s' sends
+expires (timers.Announce p) now t s s' sends shown r is past k = record {
+  touch = Tick p;
+  seen = refl;
+  reacts = joined s (Tick p) now s s' sends (tick_mids p s now) (announce_expires p now t s s' sends r is k);
+}
+expires (timers.Age p) now t s s' sends shown r is past k = record {
+  touch = Grow p;
+  seen = refl;
+  reacts =
+      joined s (Grow p) now (aged_at p now s) s' sends (aged_mids p now t s is past)
+      (selects_concludes now (aged_at p now s) s' sends k);
+}
+expires (timers.Pdelay p) now t s s' sends shown r is past k =
+    by_turn p (IsTurn p) s now s' sends (λ touch turn. turn) (turns_and_asks p after_interval now s s' sends shown r k)
+expires (timers.Respond p) now t s s' sends shown r is past k =
+    by_other (λ touch. touch ≡ Other) s now s' sends refl
+    (subst (λ x. Concludes s now x sends) (sym k.state)
+    (rests now s (responded p s) sends r (later_port p answering_done s (λ q. refl) (λ q. refl))
+    (kind_other Answering sends different (responds_answer (owed_at s p) p now s sends k.responds))))
+  where
+    different : Answering ≡ Announcing → ⊥
+    different e = cc
+expires timers.Sync now t s s' sends shown r is past k =
+    by_other (λ touch. touch ≡ Other) s now s' sends refl (syncs_if (leads s) now s s' sends r k)
+expires timers.Relay now t s s' sends shown r is past k =
+    by_other (λ touch. touch ≡ Other) s now s' sends refl (relays_if s.known now s s' sends r k)
+
+-- every step answers a touch
+pub steps_react : (input : Input) (now : ℕ) (s s' : SystemState) (sends : List Sending) (answer : Answer)
+    → IsCalm s now input → AreShown s
+    → IsAtRest s → Steps input now s s' sends answer → Answers (IsSeenAs s input) s now s' sends
+steps_react (PortUp p) now s s' sends answer calm shown r k =
+    by_turn p (IsTurn p) s now s' sends (λ touch turn. turn) (turns_and_asks p reset_peer now s s' sends shown r k)
+steps_react (PortDown p) now s s' sends answer calm shown r k = record {
+  touch = Disable p;
+  seen = refl;
+  reacts =
+      joined s (Disable p) now (down p s) s' sends (down_mids p now s) (selects_concludes now (down p s) s' sends k);
+}
+steps_react (Frame p octets) now s s' sends answer calm shown r k = hears_frame p octets now s s' sends answer shown r k
+steps_react (Expires timer) now s s' sends answer calm shown r k =
+    let (t, is, past) = calm in
+    expires timer now t s s' sends shown r is past k
+steps_react (Priority value) now s s' sends answer calm shown r k = record {
+  touch = Other;
+  seen = refl;
+  reacts = joined s Other now (with_priority value s) s' sends (priority_mids value s now)
+      (selects_concludes now (with_priority value s) s' sends k);
+}

@@ -1,0 +1,299 @@
+-- Every timer that a step starts is due after now.
+use Rattle.std.proofs.Common.{◌≡◌, ◌≢◌, ◌⊎◌, ◌≤◌, ◌<◌, ℕ, zero, suc, ◌+◌, ◌*◌, ℤ, pos, negsuc, Bool, true, false, List, Option, Some, None, slice_get, refl, sym, ap, subst, ◌∙◌, inl, inr, arith, mul-pos}
+use Rattle.std.specs.Prelude.{if◌then◌else◌, ◌==◌}
+use Rattle.std.specs.Option.{option_map, option_map_or, option_and_then}
+use Rattle.std.proofs.lemmas.Int.{ints}
+use Rattle.std.proofs.lemmas.Option.{none-some, same_Some}
+use Rattle.gptp_messages.specs.declared.message.Message.{Message}
+use Rattle.gptp_messages.specs.declared.message.Message.TheVariants as messages
+use Rattle.gptp_receipt.specs.declared.held.Held.{Held}
+use Rattle.gptp_receipt.specs.declared.held.Held.TheVariants as helds
+use Rattle.gptp_receipt.specs.Held.{Reception, received}
+use Rattle.gptp_pdelay.specs.Peer.{PeerState, after_interval, reset_peer}
+use Rattle.gptp_system.specs.declared.answer.Answer.{Answer}
+use Rattle.gptp_system.specs.declared.port.Port.{Port}
+use Rattle.gptp_system.specs.declared.sending.Sending.{Sending}
+use Rattle.gptp_system.specs.declared.timer.Timer.{Timer}
+use Rattle.gptp_system.specs.declared.timer.Timer.TheVariants as timers
+use Rattle.gptp_system.specs.Intervals.{AreParams, IsLog, interval_of}
+use Rattle.gptp_system.specs.State.{SystemState, age_due, announce_due, clock, due, held_at, is_mine, number, span_of}
+use Rattle.gptp_system.specs.Input.{Input, IsCalm, Steps, PortUp, PortDown, Frame, Expires, Priority}
+use Rattle.gptp_system.specs.Facts.{AreShown, IsAtRest, Keeps}
+use Rattle.gptp_system.specs.Touch.{IsSeenAs, Touch}
+use Rattle.gptp_system.specs.Reacts.{PlaceReacts, PortEnds, Tells}
+use Rattle.gptp_system.specs.Measures.{IsPartAfter, Part, only_at, part_answered, part_asked, part_down, part_heard, part_of, Measures}
+use Rattle.gptp_system.specs.Times.{RunsOn}
+use Rattle.gptp_system.specs.declared.setup.Params.{Params}
+use Rattle.gptp_system.proofs.AnswerLemmas.{steps_react}
+use Rattle.gptp_system.proofs.ReactLemmas.{Answers}
+use Rattle.gptp_system.proofs.StepLemmas.{steps_sound}
+use Rattle.gptp_system.proofs.InTimeLemmas.{IsMid, kept_other, mid_is, mid_mine, mid_received}
+use Rattle.gptp_system.proofs.MeasureLemmas.{steps_measure}
+use Rattle.gptp_system.proofs.TimeLemmas.{steps_run_on}
+
+-- no interval is empty
+pub interval_positive : (log : ℤ) → IsLog log → 1 ≤ interval_of log
+interval_positive (pos zero) k = omega arith
+interval_positive (pos (suc zero)) k = omega arith
+interval_positive (pos (suc (suc zero))) k = omega arith
+interval_positive (pos (suc (suc (suc zero)))) k = omega arith
+interval_positive (pos (suc (suc (suc (suc zero))))) k = omega arith
+interval_positive (pos (suc (suc (suc (suc (suc n)))))) k = let high = k.high in absurd (omega (arith, ints))
+interval_positive (negsuc zero) k = omega arith
+interval_positive (negsuc (suc zero)) k = omega arith
+interval_positive (negsuc (suc (suc zero))) k = omega arith
+interval_positive (negsuc (suc (suc (suc zero)))) k = omega arith
+interval_positive (negsuc (suc (suc (suc (suc n))))) k = let low = k.low in absurd (omega (arith, ints))
+
+-- a timer runs as it did, or is due after now
+abbrev Runs : ℕ → Option ℕ → Option ℕ → Type 0
+Runs now before after = (t : ℕ) → after ≡ Some t → (before ≡ Some t) ⊎ (now < t)
+
+same_runs : (now : ℕ) (o : Option ℕ) → Runs now o o
+same_runs now o t is = inl is
+
+begins : (now span : ℕ) (before : Option ℕ) → 1 ≤ span → Runs now before (Some (now + span))
+begins now span before positive t is = inr (let same = same_Some (now + span) t is in omega arith)
+
+stops : (now : ℕ) (before : Option ℕ) → Runs now before None
+stops now before t is = absurd (none-some t is)
+
+record PartRuns (now : ℕ) (x x' : Part) : Type 0 where
+  pub pdelay : Runs now x.pdelay x'.pdelay
+  pub respond : Runs now x.respond x'.respond
+
+part_stays : (now : ℕ) (x : Part) → PartRuns now x x
+part_stays now x = record { pdelay = same_runs now x.pdelay; respond = same_runs now x.respond }
+
+module _ (s : SystemState) (params : AreParams s.params) (now : ℕ) where
+  asked_runs : (step : PeerState → PeerState) (x : Part) → PartRuns now x (part_asked s now step x)
+  asked_runs step x = record {
+    pdelay = begins now (interval_of s.params.pdelay) x.pdelay (interval_positive s.params.pdelay params.pdelay);
+    respond = same_runs now x.respond;
+  }
+
+  heard_runs : (m : Message) (x : Part) → PartRuns now x (part_heard s now m x)
+  heard_runs (messages.PdelayReq head) x = record {
+    pdelay = same_runs now x.pdelay;
+    respond = begins now s.params.turnaround x.respond params.turnaround-least;
+  }
+  heard_runs (messages.PdelayResp m) x = record { pdelay = same_runs now x.pdelay; respond = same_runs now x.respond }
+  heard_runs (messages.PdelayRespFollowUp m) x =
+      record { pdelay = same_runs now x.pdelay; respond = same_runs now x.respond }
+  heard_runs (messages.Sync head) x = part_stays now x
+  heard_runs (messages.FollowUp m) x = part_stays now x
+  heard_runs (messages.Announce a) x = part_stays now x
+
+  only_runs : (p n : ℕ) (f : Part → Part) (x x' : Part) → PartRuns now x (f x) → x' ≡ only_at p f n x
+      → PartRuns now x x'
+  only_runs p n f x x' runs is = subst (PartRuns now x) (sym is) (go (n == p))
+    where
+      go : (b : Bool) → PartRuns now x (if b then f x else x)
+      go true = runs
+      go false = part_stays now x
+
+  still_runs : (x x' : Part) → x' ≡ x → PartRuns now x x'
+  still_runs x x' is = subst (PartRuns now x) (sym is) (part_stays now x)
+
+  part_runs : (input : Input) (n : ℕ) (x x' : Part) → IsPartAfter s now input n x x' → PartRuns now x x'
+  part_runs (PortUp p) n x x' is = only_runs p n (part_asked s now reset_peer) x x' (asked_runs reset_peer x) is
+  part_runs (PortDown p) n x x' is =
+      only_runs p n part_down x x' (record { pdelay = stops now x.pdelay; respond = stops now x.respond }) is
+  part_runs (Frame p octets) n x x' (inl (m, reads, is)) = only_runs p n (part_heard s now m) x x' (heard_runs m x) is
+  part_runs (Frame p octets) n x x' (inr (none, is)) = still_runs x x' is
+  part_runs (Expires (timers.Pdelay p)) n x x' is =
+      only_runs p n (part_asked s now after_interval) x x' (asked_runs after_interval x) is
+  part_runs (Expires (timers.Respond p)) n x x' is =
+      only_runs p n part_answered x x' (record { pdelay = same_runs now x.pdelay; respond = stops now x.respond }) is
+  part_runs (Expires (timers.Announce p)) n x x' is = still_runs x x' is
+  part_runs (Expires (timers.Age p)) n x x' is = still_runs x x' is
+  part_runs (Expires timers.Sync) n x x' is = still_runs x x' is
+  part_runs (Expires timers.Relay) n x x' is = still_runs x x' is
+  part_runs (Priority value) n x x' is = still_runs x x' is
+
+held_stands : (hs : List Held) (i : ℕ) (h : Held) → option_map_or (λ x. x) (slice_get hs i) helds.Disabled ≡ h
+    → h ≢ helds.Disabled
+    → slice_get hs i ≡ Some h
+held_stands hs i h is on = go (slice_get hs i) is
+  where
+    go : (o : Option Held) → option_map_or (λ x. x) o helds.Disabled ≡ h → o ≡ Some h
+    go None e = absurd (on (sym e))
+    go (Some g) e = ap (λ x. Some x) e
+
+-- the Announce timer and the Age timer of one port, by what it holds
+port_runs : (s s' : SystemState) (touch : Touch) (now : ℕ) (sends : List Sending) (i : ℕ) (h' : Held) (q' : Port)
+    → Keeps s s'
+    → 1 ≤ s.params.timeout → ((q : Port) → slice_get s.ports i ≡ Some q → IsLog q.log_interval)
+    → PlaceReacts s touch now s' sends i h' q'
+    → (t : ℕ)
+    → (announce_due q' h' ≡ Some t → (due (timers.Announce (suc i)) s ≡ Some t) ⊎ (now < t))
+    × (age_due s'.params q' h' ≡ Some t → (due (timers.Age (suc i)) s ≡ Some t) ⊎ (now < t))
+port_runs s s' touch now sends i h' q' kept kept_long logs r t = (announces, ages)
+  where
+    middle : IsMid now r.held r.reacts.mid
+    middle = mid_is (clock s) (suc i) touch now r.held r.reacts.mid r.reacts.before
+
+    positive : 1 ≤ interval_of r.port.log_interval
+    positive = interval_positive r.port.log_interval (logs r.port r.port_there)
+
+    was_due : (g : Port → Held → Option ℕ) → g r.port r.held ≡ Some t
+        → option_and_then (λ q. g q (option_map_or (λ x. x) (slice_get s.held i) helds.Disabled))
+        (slice_get s.ports i) ≡ Some t
+    was_due g e = rw (r.held_there, r.port_there) e
+
+    mine_due : (q : Port) (h : Held) (u : ℕ) → announce_due q h ≡ Some u → (is_mine h ≡ true) × (q.announce ≡ u)
+    mine_due q helds.Disabled u e = absurd (none-some u e)
+    mine_due q helds.Aged u e = absurd (none-some u e)
+    mine_due q (helds.Received vector path at) u e = absurd (none-some u e)
+    mine_due q (helds.Mine root steps) u e = (refl, same_Some q.announce u e)
+
+    due_mine : (q : Port) (h : Held) (u : ℕ) → is_mine h ≡ true → q.announce ≡ u → announce_due q h ≡ Some u
+    due_mine q helds.Disabled u e is = absurd cc
+    due_mine q helds.Aged u e is = absurd cc
+    due_mine q (helds.Received vector path at) u e is = absurd cc
+    due_mine q (helds.Mine root steps) u e is = ap (λ x. Some x) is
+
+    announces : announce_due q' h' ≡ Some t → (due (timers.Announce (suc i)) s ≡ Some t) ⊎ (now < t)
+    announces e = by r.reacts.after
+      where
+        by : PortEnds (clock s) (suc i) now s'.root s'.steps r.reacts.mid h' r.port q' sends
+            → (due (timers.Announce (suc i)) s ≡ Some t) ⊎ (now < t)
+        by (inl (same, still)) =
+            absurd (let both = sym (ap is_mine same ∙ kept_other r.reacts.mid still) ∙ (mine_due q' h' t e).0 in cc)
+        by (inr m) = timed m.timing
+          where
+            timed : ((r.reacts.mid ≡ helds.Mine s'.root s'.steps) × (q'.announce ≡ r.port.announce)) ⊎ Tells
+                (suc i) now r.port q' sends
+                → (due (timers.Announce (suc i)) s ≡ Some t) ⊎ (now < t)
+            timed (inl (mine, same)) =
+                let before : is_mine r.held ≡ true =
+                ap is_mine (sym (mid_mine now r.held r.reacts.mid middle (ap is_mine mine))) ∙ ap is_mine mine in
+                inl (was_due announce_due (due_mine r.port r.held t before (sym same ∙ (mine_due q' h' t e).1)))
+            timed (inr told) =
+                let new : t ≡ now + interval_of r.port.log_interval = sym (mine_due q' h' t e).1 ∙ told.timer in
+                let p = positive in
+                inr (omega arith)
+
+    ages : age_due s'.params q' h' ≡ Some t → (due (timers.Age (suc i)) s ≡ Some t) ⊎ (now < t)
+    ages e = by (received h') refl e
+      where
+        span : span_of s'.params q' ≡ span_of s.params r.port
+        span = rw (kept.params, r.reacts.log) refl
+
+        old_due : (reception : Reception) → received r.held ≡ Some reception → reception.at + span_of s'.params q' ≡ t
+            → age_due s.params r.port r.held ≡ Some t
+        old_due reception got is = rw got (ap (λ x. Some x) (ap (λ x. reception.at + x) (sym span) ∙ is))
+
+        later : (reception : Reception) → reception.at + span_of s'.params q' ≡ t → reception.at ≡ now → now < t
+        later reception is new =
+            let long : 1 ≤ s.params.timeout * interval_of r.port.log_interval = mul-pos kept_long positive in
+            let sum : t ≡ now + s.params.timeout * interval_of r.port.log_interval =
+            sym is ∙ ap (λ x. x + span_of s'.params q') new ∙ ap (λ x. now + x) span in
+            omega arith
+
+        by : (o : Option Reception) → received h' ≡ o
+            → option_map (λ (x : Reception). x.at + span_of s'.params q') o ≡ Some t
+            → (due (timers.Age (suc i)) s ≡ Some t) ⊎ (now < t)
+        by None got is = absurd (none-some t is)
+        by (Some reception) got is = ends r.reacts.after
+          where
+            sum : reception.at + span_of s'.params q' ≡ t
+            sum = same_Some (reception.at + span_of s'.params q') t is
+
+            earlier_or_now : (received r.held ≡ Some reception) ⊎ (reception.at ≡ now)
+                → (due (timers.Age (suc i)) s ≡ Some t) ⊎ (now < t)
+            earlier_or_now (inl earlier) = inl (was_due (age_due s.params) (old_due reception earlier sum))
+            earlier_or_now (inr new) = inr (later reception sum new)
+
+            ends : PortEnds (clock s) (suc i) now s'.root s'.steps r.reacts.mid h' r.port q' sends
+                → (due (timers.Age (suc i)) s ≡ Some t) ⊎ (now < t)
+            ends (inl (same, still)) =
+                earlier_or_now (mid_received now r.held r.reacts.mid reception middle (sym (ap received same) ∙ got))
+            ends (inr m) = absurd (none-some reception (sym (ap received m.mine) ∙ got))
+
+-- what stands in both lists at the number of a port
+at_number : {X : Type 0} (f : Port → Option X) (qs : List Port) (p : ℕ) (x : X)
+    → option_and_then f (number qs p) ≡ Some x
+    → (i : ℕ) × (q : Port) × (p ≡ suc i) × (slice_get qs i ≡ Some q) × (f q ≡ Some x)
+at_number f qs zero x is = absurd (none-some x is)
+at_number {X} f qs (suc i) x is = go (slice_get qs i) refl is
+  where
+    go : (o : Option Port) → slice_get qs i ≡ o → option_and_then f o ≡ Some x
+        → (j : ℕ) × (q : Port) × (suc i ≡ suc j) × (slice_get qs j ≡ Some q) × (f q ≡ Some x)
+    go None there e = absurd (none-some x e)
+    go (Some q) there e = (i, q, refl, there, e)
+
+-- a port that announces or ages holds something
+announce_on : (q : Port) (h : Held) (t : ℕ) → announce_due q h ≡ Some t → h ≢ helds.Disabled
+announce_on q h t is e = none-some t (ap (announce_due q) (sym e) ∙ is)
+
+age_on : (params : Params) (q : Port) (h : Held) (t : ℕ) → age_due params q h ≡ Some t → h ≢ helds.Disabled
+age_on params q h t is e = none-some t (ap (age_due params q) (sym e) ∙ is)
+
+pub started_later : (input : Input) (now : ℕ) (s s' : SystemState) (sends : List Sending) (answer : Answer)
+    → AreParams s.params
+    → 1 ≤ s.params.timeout → ((i : ℕ) (q : Port) → slice_get s.ports i ≡ Some q → IsLog q.log_interval)
+    → IsCalm s now input
+    → AreShown s → IsAtRest s → Steps input now s s' sends answer
+    → (timer : Timer) (t : ℕ) → due timer s' ≡ Some t → (due timer s ≡ Some t) ⊎ (now < t)
+started_later input now s s' sends answer params kept_long logs calm shown rest step = go
+  where
+    reacts : Answers (IsSeenAs s input) s now s' sends
+    reacts = steps_react input now s s' sends answer calm shown rest step
+
+    runs : RunsOn s now s'
+    runs = steps_run_on input now s s' sends answer step
+
+    kept : Keeps s s'
+    kept = (steps_sound input now s s' sends answer step).kept
+
+    measured : Measures s now input s'
+    measured = steps_measure input now s s' sends answer step
+
+    at_place : (i : ℕ) (h' : Held) (q' : Port) → slice_get s'.held i ≡ Some h' → slice_get s'.ports i ≡ Some q'
+        → (t : ℕ)
+        → (announce_due q' h' ≡ Some t → (due (timers.Announce (suc i)) s ≡ Some t) ⊎ (now < t))
+        × (age_due s'.params q' h' ≡ Some t → (due (timers.Age (suc i)) s ≡ Some t) ⊎ (now < t))
+    at_place i h' q' stands there t =
+        port_runs s s' reacts.touch now sends i h' q' kept kept_long (logs i)
+        (reacts.reacts.ports i h' q' stands there) t
+
+    sync : (t : ℕ) → Some s'.sync ≡ Some t → (s'.sync ≡ s.sync) ⊎ (s'.sync ≡ now + interval_of s.params.sync)
+        → (due timers.Sync s ≡ Some t) ⊎ (now < t)
+    sync t is (inl same) = inl (ap (λ x. Some x) (sym same) ∙ is)
+    sync t is (inr new) =
+        let positive = interval_positive s.params.sync params.sync in
+        let same : s'.sync ≡ t = same_Some s'.sync t is in
+        inr (omega arith)
+
+    relay : (t : ℕ) → (s.relay ≡ Some t) ⊎ (t ≡ now + s.params.residence) → (due timers.Relay s ≡ Some t) ⊎ (now < t)
+    relay t (inl before) = inl before
+    relay t (inr new) = let positive = params.residence-least in inr (omega arith)
+
+    go : (timer : Timer) (t : ℕ) → due timer s' ≡ Some t → (due timer s ≡ Some t) ⊎ (now < t)
+    go timers.Sync t is = sync t is runs.sync
+    go timers.Relay t is = relay t (runs.relay t is)
+    go (timers.Announce p) t is =
+        let (i, q', number_is, there, e) = at_number (λ q. announce_due q (held_at s' p)) s'.ports p t is in
+        let stands =
+        held_stands s'.held i (held_at s' p) (ap (held_at s') (sym number_is))
+        (announce_on q' (held_at s' p) t e) in
+        subst (λ n. (due (timers.Announce n) s ≡ Some t) ⊎ (now < t)) (sym number_is)
+        ((at_place i (held_at s' p) q' stands there t).0 e)
+    go (timers.Age p) t is =
+        let (i, q', number_is, there, e) = at_number (λ q. age_due s'.params q (held_at s' p)) s'.ports p t is in
+        let stands =
+        held_stands s'.held i (held_at s' p) (ap (held_at s') (sym number_is))
+        (age_on s'.params q' (held_at s' p) t e) in
+        subst (λ n. (due (timers.Age n) s ≡ Some t) ⊎ (now < t)) (sym number_is)
+        ((at_place i (held_at s' p) q' stands there t).1 e)
+    go (timers.Pdelay p) t is =
+        let (i, q', number_is, there, e) = at_number (λ (q : Port). q.pdelay) s'.ports p t is in
+        let (q, was, after) = measured i q' there in
+        subst (λ n. (due (timers.Pdelay n) s ≡ Some t) ⊎ (now < t)) (sym number_is)
+        (rw was ((part_runs s params now input (suc i) (part_of q) (part_of q') after).pdelay t e))
+    go (timers.Respond p) t is =
+        let (i, q', number_is, there, e) = at_number (λ (q : Port). q.respond) s'.ports p t is in
+        let (q, was, after) = measured i q' there in
+        subst (λ n. (due (timers.Respond n) s ≡ Some t) ⊎ (now < t)) (sym number_is)
+        (rw was ((part_runs s params now input (suc i) (part_of q) (part_of q') after).respond t e))

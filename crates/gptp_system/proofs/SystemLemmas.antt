@@ -1,0 +1,122 @@
+-- What is true of every system between its calls stays true.
+use Rattle.std.proofs.Common.{◌≡◌, ◌≢◌, ◌≤◌, ℕ, zero, suc, ◌+◌, true, false, List, [], ◌∷◌, length, map, Option, Some, None, slice_get, refl, sym, ap, ◌∙◌, arith}
+use Rattle.std.specs.Prelude.{IsSome, IsSomeAnd}
+use Rattle.std.specs.List.{range_with_len}
+use Rattle.std.specs.Option.{option_and_then, option_map_or}
+use Rattle.std.proofs.lemmas.Option.{none-some, same_Some}
+use Rattle.gptp_receipt.specs.declared.held.Held.{Held}
+use Rattle.gptp_receipt.specs.declared.held.Held.TheVariants as helds
+use Rattle.gptp_roles.specs.Selection.{clock_of}
+use Rattle.gptp_roles.specs.SystemTrace.{SlaveReceived}
+use Rattle.gptp_roles.proofs.SlaveLemmas.{slave_received}
+use Rattle.gptp_system.specs.declared.answer.Answer.{Answer}
+use Rattle.gptp_system.specs.declared.port.Port.{Port}
+use Rattle.gptp_system.specs.declared.sending.Sending.{Sending}
+use Rattle.gptp_system.specs.declared.setup.Params.{Params}
+use Rattle.gptp_system.specs.declared.setup.Setup.{Setup}
+use Rattle.gptp_pdelay.specs.Peer.{is_capable}
+use Rattle.gptp_system.specs.declared.timer.Timer.{Timer}
+use Rattle.gptp_system.specs.declared.timer.Timer.TheVariants as timers
+use Rattle.gptp_system.specs.Facts.{AreShown, IsNew, IsSystem}
+use Rattle.gptp_system.specs.Input.{Input, Steps}
+use Rattle.gptp_system.specs.Ready.{IsReady}
+use Rattle.gptp_system.specs.Start.{new_port, started}
+use Rattle.gptp_system.specs.State.{SystemState, number, held_at, is_capable_at, announce_due, age_due}
+use Rattle.gptp_system.specs.Steps.{IsPortOf, IsTimerOf, IsUp, IsDue}
+use Rattle.gptp_system.proofs.ReadyLemmas.{length-all_disabled, length-new_ports}
+use Rattle.gptp_system.proofs.RestLemmas.{new_held, new_rest, new_shown}
+use Rattle.gptp_system.proofs.StepLemmas.{steps_sound}
+
+-- after every step
+pub stays_system : (input : Input) (now : ℕ) (s s' : SystemState) (sends : List Sending) (answer : Answer) → IsSystem s → IsReady s'
+    → Steps input now s s' sends answer → IsSystem s'
+stays_system input now s s' sends answer is ready k =
+    let sound = steps_sound input now s s' sends answer k in
+    record { ready = ready; rest = sound.rest is.held is.rest; shown = sound.shown is.shown; held = sound.held is.held }
+
+-- all ports of a new system are disabled, and have measured nothing
+all_off : (a n i : ℕ) (h : Held) → slice_get (map (λ p. helds.Disabled) (range_with_len a n)) i ≡ Some h → h ≡ helds.Disabled
+all_off a zero i h is = absurd (none-some h is)
+all_off a (suc n) zero h is = sym (same_Some helds.Disabled h is)
+all_off a (suc n) (suc i) h is = all_off (a + 1) n i h is
+
+all_new : (clock : ℕ) (params : Params) (a n i : ℕ) (q : Port)
+    → slice_get (map (λ p. new_port (record { clock = clock; port = p }) params) (range_with_len a n)) i ≡ Some q → q.peer.last ≡ None
+all_new clock params a zero i q is = absurd (none-some q is)
+all_new clock params a (suc n) zero q is =
+    ap (λ (x : Port). x.peer.last) (sym (same_Some (new_port (record { clock = clock; port = a }) params) q is))
+all_new clock params a (suc n) (suc i) q is = all_new clock params (a + 1) n i q is
+
+is_new : (setup : Setup) (now : ℕ) → IsNew (started setup now)
+is_new setup now = record {
+  places = length-all_disabled setup.ports ∙ sym (length-new_ports (clock_of setup.identity) setup.params setup.ports);
+  silent = all_off 1 setup.ports;
+  unmeasured = all_new (clock_of setup.identity) setup.params 1 setup.ports;
+  root = refl;
+  steps = refl;
+  slave = refl;
+}
+
+-- and at the start
+pub starts_system : (setup : Setup) (now : ℕ) → IsReady (started setup now) → IsSystem (started setup now)
+starts_system setup now ready =
+    let new = is_new setup now in
+    record {
+      ready = ready;
+      rest = new_rest (started setup now) new;
+      shown = new_shown (started setup now) new;
+      held = new_held (started setup now) new;
+    }
+
+-- the Slave port is one that received
+pub system_slave : (s : SystemState) → IsSystem s → SlaveReceived s.held s.slave
+system_slave s is = rw is.rest.slave (slave_received s.identity s.held is.rest.vector is.ready.placed is.rest.is_chosen)
+
+-- ---- ports that exist
+
+-- what is found at a number is found at that of a port
+within : {X Y : Type 0} (xs : List X) (f : X → Option Y) (p : ℕ) → IsSome (option_and_then f (number xs p)) → (1 ≤ p) × (p ≤ length xs)
+within xs f zero some = absurd cc
+within [] f (suc i) some = absurd cc
+within (x ∷ xs) f (suc zero) some = (omega arith, omega arith)
+within (x ∷ xs) f (suc (suc i)) some = let ih = within xs f (suc i) some in (omega arith, omega arith)
+
+port_of : {Y : Type 0} (s : SystemState) (f : Port → Option Y) (p : ℕ) → IsSome (option_and_then f (number s.ports p)) → IsPortOf s p
+port_of s f p some = let is = within s.ports f p some in record { least = is.0; most = is.1 }
+
+pub up_is_port : (s : SystemState) (p : ℕ) → IsUp s p → IsPortOf s p
+up_is_port s p up = port_of s (λ (q : Port). q.pdelay) p up
+
+some_of : (o : Option ℕ) (P : ℕ → Type 0) → IsSomeAnd o P → IsSome o
+some_of None P some = absurd some
+some_of (Some x) P some = refl
+
+-- a timer that is due is that of a port
+pub due_is_timer : (s : SystemState) (timer : Timer) (now : ℕ) → IsDue s timer now → IsTimerOf s timer
+due_is_timer s (timers.Announce p) now is = port_of s (λ (q : Port). announce_due q (held_at s p)) p (some_of _ _ is)
+due_is_timer s (timers.Age p) now is = port_of s (λ (q : Port). age_due s.params q (held_at s p)) p (some_of _ _ is)
+due_is_timer s (timers.Pdelay p) now is = port_of s (λ (q : Port). q.pdelay) p (some_of _ _ is)
+due_is_timer s (timers.Respond p) now is = port_of s (λ (q : Port). q.respond) p (some_of _ _ is)
+due_is_timer s timers.Sync now is = tt
+due_is_timer s timers.Relay now is = tt
+
+-- where a port is, it holds something
+held_there : (hs : List Held) (qs : List Port) (i : ℕ) (q : Port) → length hs ≡ length qs → slice_get qs i ≡ Some q
+    → (h : Held) × (slice_get hs i ≡ Some h)
+held_there [] [] i q same is = absurd (none-some q is)
+held_there [] (x ∷ qs) i q same is = absurd (omega arith)
+held_there (h ∷ hs) [] i q same is = absurd (omega arith)
+held_there (h ∷ hs) (x ∷ qs) zero q same is = (h, refl)
+held_there (h ∷ hs) (x ∷ qs) (suc i) q same is = held_there hs qs i q (omega arith) is
+
+-- a port that is asCapable isn't Disabled
+pub capable_holds : (s : SystemState) (p : ℕ) → AreShown s → is_capable_at s p ≡ true → held_at s p ≢ helds.Disabled
+capable_holds s zero shown capable = absurd cc
+capable_holds s (suc i) shown capable = go (slice_get s.ports i) refl capable
+  where
+    go : (o : Option Port) → slice_get s.ports i ≡ o → option_map_or (λ (q : Port). is_capable q.peer) o false ≡ true
+        → held_at s (suc i) ≢ helds.Disabled
+    go None is on = absurd cc
+    go (Some q) is on =
+        let there = held_there s.held s.ports i q shown.places is in
+        rw there.1 ((shown.each i there.0 q there.1 is).on on)

@@ -1,0 +1,37 @@
+-- What a system can be given, and what one step makes of it.
+use Rattle.std.specs.Prelude.{◌≡◌, ◌≤◌, ℕ, List, Some}
+use Rattle.gptp_system.specs.declared.answer.Answer.{Answer}
+use Rattle.gptp_system.specs.declared.port.Port.{Port}
+use Rattle.gptp_system.specs.declared.sending.Sending.{Sending}
+use Rattle.gptp_system.specs.declared.timer.Timer.{Timer}
+use Rattle.gptp_system.specs.State.{SystemState, due, number}
+use Rattle.gptp_system.specs.Measuring.{ComesUp, GoesDown}
+use Rattle.gptp_system.specs.Announcing.{ChangesPriority}
+use Rattle.gptp_system.specs.Steps.{Expires as TimerExpires, HearsFrame}
+
+-- the link of a port comes up or goes down, a port hears a frame, a timer expires, or priority1 is set
+pub data Input : Type 0 where
+  PortUp PortDown : (port : ℕ) → Input
+  Frame : (port : ℕ) → (octets : List ℕ) → Input
+  Expires : (timer : Timer) → Input
+  Priority : (value : ℕ) → Input
+
+-- One step: the input makes the one state the other, and this is sent. A frame is answered; the other inputs have no
+-- answer,
+-- and this leaves it free.
+abbrev pub Steps : Input → ℕ → SystemState → SystemState → List Sending → Answer → Type 0
+Steps (PortUp p) now s s' sends answer = ComesUp p now s s' sends
+Steps (PortDown p) now s s' sends answer = GoesDown p now s s' sends
+Steps (Frame p octets) now s s' sends answer = HearsFrame p octets now s s' sends answer
+Steps (Expires timer) now s s' sends answer = TimerExpires timer now s s' sends
+Steps (Priority value) now s s' sends answer = ChangesPriority value now s s' sends
+
+-- when a system is given an input: a port is one of its own, a frame comes where the link is up, and so requests go,
+-- and a
+-- timer expires when it is due
+abbrev pub IsCalm : SystemState → ℕ → Input → Type 0
+IsCalm s now (PortUp p) = (q : Port) × (number s.ports p ≡ Some q)
+IsCalm s now (PortDown p) = (q : Port) × (number s.ports p ≡ Some q)
+IsCalm s now (Frame p octets) = (q : Port) × (t : ℕ) × (number s.ports p ≡ Some q) × (q.pdelay ≡ Some t)
+IsCalm s now (Expires timer) = (t : ℕ) × (due timer s ≡ Some t) × (t ≤ now)
+IsCalm s now (Priority value) = Unit {0}

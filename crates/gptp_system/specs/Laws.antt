@@ -1,0 +1,118 @@
+-- Laws on the steps of a system.
+use Rattle.std.specs.Prelude.{◌≡◌, ◌≢◌, ◌⊎◌, ◌≤◌, ℕ, List, [], ◌<◌, Some, slice_get}
+use Rattle.gptp_roles.specs.Choice.{ArePlaced}
+use Rattle.gptp_roles.specs.SystemTrace.{SlaveReceived}
+use Rattle.gptp_system.specs.declared.answer.Answer.{Answer}
+use Rattle.gptp_system.specs.declared.port.Port.{Port}
+use Rattle.gptp_system.specs.declared.sending.Sending.{Sending}
+use Rattle.gptp_system.specs.declared.timer.Timer.{Timer}
+use Rattle.gptp_system.specs.Intervals.{AreParams, IsLog}
+use Rattle.gptp_system.specs.State.{SystemState, due}
+use Rattle.gptp_system.specs.Selection.{Selects}
+use Rattle.gptp_system.specs.Input.{Input, IsCalm, Steps, Priority}
+use Rattle.gptp_system.specs.Touch.{Touch, IsSeenAs}
+use Rattle.gptp_system.specs.Reacts.{Reacts}
+use Rattle.gptp_system.specs.Follows.{FollowsItself, FollowsPort}
+use Rattle.gptp_system.specs.Measures.{Measures}
+use Rattle.gptp_system.specs.Messages.{AreSent}
+use Rattle.gptp_system.specs.Times.{IsInTime, RunsOn}
+use Rattle.gptp_system.specs.Facts.{AreHeld, AreShown, IsAtRest, IsNew, Keeps}
+
+-- a new system is at rest, and what it holds is as it must be
+abbrev pub StartLaw : Type 0
+StartLaw = (s : SystemState) → IsNew s → IsAtRest s × AreShown s × AreHeld s
+
+-- every step leaves a system at rest
+abbrev pub RestLaw : Type 0
+RestLaw = (input : Input) (now : ℕ) (s s' : SystemState) (sends : List Sending) (answer : Answer)
+    → AreHeld s → IsAtRest s → Steps input now s s' sends answer
+    → IsAtRest s'
+
+-- selecting makes a system be at rest, whatever it was
+abbrev pub SelectsLaw : Type 0
+SelectsLaw = (now : ℕ) (s s' : SystemState) (sends : List Sending)
+    → AreHeld s → Selects now s s' sends
+    → IsAtRest s'
+
+-- a system at rest that selects again stays as it is, and sends nothing
+abbrev pub AgainLaw : Type 0
+AgainLaw = (now : ℕ) (s s' : SystemState) (sends : List Sending)
+    → AreHeld s → IsAtRest s → Selects now s s' sends
+    → (s' ≡ s) × (sends ≡ [])
+
+-- every step leaves a port Disabled exactly where it isn't asCapable
+abbrev pub ShownLaw : Type 0
+ShownLaw = (input : Input) (now : ℕ) (s s' : SystemState) (sends : List Sending) (answer : Answer)
+    → AreShown s → Steps input now s s' sends answer
+    → AreShown s'
+
+-- after every step what the ports received qualified there
+abbrev pub HeldLaw : Type 0
+HeldLaw = (input : Input) (now : ℕ) (s s' : SystemState) (sends : List Sending) (answer : Answer)
+    → AreHeld s → Steps input now s s' sends answer
+    → AreHeld s'
+
+-- so selection may be made of what they hold
+abbrev pub PlacedLaw : Type 0
+PlacedLaw = (s : SystemState) → AreHeld s → ArePlaced 1 s.held
+
+-- no step changes what a system is set up with
+abbrev pub KeepsLaw : Type 0
+KeepsLaw = (input : Input) (now : ℕ) (s s' : SystemState) (sends : List Sending) (answer : Answer)
+    → Steps input now s s' sends answer
+    → Keeps s s'
+
+-- nor its identity, unless its priority1 is set
+abbrev pub IdentityLaw : Type 0
+IdentityLaw = (input : Input) (now : ℕ) (s s' : SystemState) (sends : List Sending) (answer : Answer)
+    → ((value : ℕ) → input ≢ Priority value) → Steps input now s s' sends answer
+    → s'.identity ≡ s.identity
+
+-- every step of a system at rest answers what it is seen as
+abbrev pub ReactsLaw : Type 0
+ReactsLaw = (input : Input) (now : ℕ) (s s' : SystemState) (sends : List Sending) (answer : Answer)
+    → IsCalm s now input → AreShown s → IsAtRest s → Steps input now s s' sends answer
+    → (touch : Touch) × IsSeenAs s input touch × Reacts s touch now s' sends
+
+-- a system at rest follows itself or what a port received
+abbrev pub FollowsLaw : Type 0
+FollowsLaw = (s : SystemState) → AreHeld s → IsAtRest s → FollowsItself s ⊎ FollowsPort s
+
+-- so its trace may be asked for
+abbrev pub TraceLaw : Type 0
+TraceLaw = (s : SystemState) → AreHeld s → IsAtRest s → SlaveReceived s.held s.slave
+
+-- every step makes of the measuring of each port what it makes of that port alone
+abbrev pub MeasuresLaw : Type 0
+MeasuresLaw = (input : Input) (now : ℕ) (s s' : SystemState) (sends : List Sending) (answer : Answer)
+    → Steps input now s s' sends answer
+    → Measures s now input s'
+
+-- every step sends the messages of its input
+abbrev pub SendsLaw : Type 0
+SendsLaw = (input : Input) (now : ℕ) (s s' : SystemState) (sends : List Sending) (answer : Answer)
+    → IsCalm s now input → Steps input now s s' sends answer
+    → AreSent s now input sends
+
+-- every step leaves the timers in time, and time that passes leaves them so
+abbrev pub InTimeLaw : Type 0
+InTimeLaw = (input : Input) (now : ℕ) (s s' : SystemState) (sends : List Sending) (answer : Answer)
+    → IsCalm s now input → AreShown s → IsAtRest s → IsInTime s now → Steps input now s s' sends answer
+    → IsInTime s' now
+
+abbrev pub LaterLaw : Type 0
+LaterLaw = (s : SystemState) (now t : ℕ) → now ≤ t → IsInTime s now → IsInTime s t
+
+-- every step lets the two timers of the system run on or begin anew
+abbrev pub RunsOnLaw : Type 0
+RunsOnLaw = (input : Input) (now : ℕ) (s s' : SystemState) (sends : List Sending) (answer : Answer)
+    → Steps input now s s' sends answer
+    → RunsOn s now s'
+
+-- every timer that a step starts is due after now
+abbrev pub StartedLaw : Type 0
+StartedLaw = (input : Input) (now : ℕ) (s s' : SystemState) (sends : List Sending) (answer : Answer)
+    → AreParams s.params → 1 ≤ s.params.timeout
+    → ((i : ℕ) (q : Port) → slice_get s.ports i ≡ Some q → IsLog q.log_interval)
+    → IsCalm s now input → AreShown s → IsAtRest s → Steps input now s s' sends answer
+    → (timer : Timer) (t : ℕ) → due timer s' ≡ Some t → (due timer s ≡ Some t) ⊎ (now < t)

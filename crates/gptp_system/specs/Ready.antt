@@ -1,0 +1,51 @@
+-- What is true of the state of every system before each call, and at each place inside one.
+use Rattle.std.specs.Prelude.{◌≡◌, ◌≤◌, length}
+use Rattle.std.specs.List.{AllByRecursion}
+use Rattle.std.specs.Option.{ForSome}
+use Rattle.gptp_receipt.specs.declared.held.Held.{Held}
+use Rattle.gptp_receipt.specs.Held.{Reception, received}
+use Rattle.gptp_roles.specs.Choice.{ArePlaced}
+use Rattle.gptp_pdelay.specs.declared.answer.Answer.{Answer}
+use Rattle.gptp_pdelay.specs.Clock.{IsTime, IsDrift}
+use Rattle.gptp_system.specs.declared.port.Port.{Port}
+use Rattle.gptp_system.specs.declared.state.State.{State}
+use Rattle.gptp_system.specs.Intervals.{AreParams, IsLog, IsMoment}
+use Rattle.gptp_system.specs.State.{SystemState}
+
+-- the state of a system, without the places that hold nothing
+abbrev pub state_of : State → SystemState
+state_of s = record {
+  params = s.params;
+  phase = s.phase;
+  drift = s.drift;
+  identity = s.identity;
+  held = s.held.items;
+  ports = s.ports.items;
+  root = s.root;
+  steps = s.steps;
+  slave = s.slave;
+  sync_in = s.sync_in;
+  known = s.known;
+  offset = s.offset;
+  sync = s.sync;
+  relay = s.relay;
+}
+
+-- what a port received came at a moment of the simulation
+abbrev pub IsRecent : Held → Type 0
+IsRecent h = ForSome (received h) (λ (r : Reception). IsMoment r.at)
+
+-- a port announces at an interval within the limits, and what it owes came at a time that a clock shows
+pub record IsPort (q : Port) : Type 0 where
+  pub log_interval : IsLog q.log_interval
+  pub waiting : ForSome q.peer.waiting (λ (owed : Answer). IsTime owed.t2)
+
+pub record IsReady (s : SystemState) : Type 0 where
+  pub params : AreParams s.params
+  pub phase : s.phase ≤ 1000000000000000000
+  pub drift : IsDrift s.drift
+  pub places : length s.held ≡ length s.ports
+  pub few : length s.ports ≤ 16
+  pub placed : ArePlaced 1 s.held
+  pub recent : AllByRecursion IsRecent s.held
+  pub ports : AllByRecursion IsPort s.ports

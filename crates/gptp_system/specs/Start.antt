@@ -1,0 +1,69 @@
+-- A system as it starts, and what it is asked (IEEE 802.1AS-2020, 10.3.4 and 10.3.5).
+use Rattle.std.specs.Prelude.{ℕ, ◌+◌, ◌==◌, Bool, false, if◌then◌else◌, List, None, map}
+use Rattle.std.specs.List.{range_with_len}
+use Rattle.std.specs.Option.{option_map_or}
+use Rattle.gptp_vector.specs.declared.port.PortId.{PortId}
+use Rattle.gptp_receipt.specs.declared.held.Held.{Held}
+use Rattle.gptp_receipt.specs.declared.held.Held.TheVariants as helds
+use Rattle.gptp_roles.specs.Selection.{clock_of}
+use Rattle.gptp_roles.specs.declared.role.Role.{Role}
+use Rattle.gptp_roles.specs.declared.role.Role.TheVariants as roles
+use Rattle.gptp_pdelay.specs.Peer.{new_peer}
+use Rattle.gptp_system.specs.declared.port.Port.{Port}
+use Rattle.gptp_system.specs.declared.setup.Params.{Params}
+use Rattle.gptp_system.specs.declared.setup.Setup.{Setup}
+use Rattle.gptp_system.specs.Intervals.{interval_of}
+use Rattle.gptp_system.specs.State.{SystemState, held_at}
+
+-- a port that has measured nothing, sent nothing, and whose link is down
+abbrev pub new_port : PortId → Params → Port
+new_port own params = record {
+  log_interval = params.announce;
+  peer = new_peer own params.threshold params.lost;
+  pdelay = None;
+  respond = None;
+  announce = 0;
+  announces = 0;
+  syncs = 0;
+}
+
+-- the ports of a system, the first of which has the number 1
+abbrev pub new_ports : ℕ → Params → ℕ → List Port
+new_ports clock params n = map (λ p. new_port (record { clock = clock; port = p }) params) (range_with_len 1 n)
+
+abbrev pub all_disabled : ℕ → List Held
+all_disabled n = map (λ (p : ℕ). helds.Disabled) (range_with_len 1 n)
+
+-- A system starts as its own root, with all ports Disabled; it sends time one sync interval later.
+abbrev pub started : Setup → ℕ → SystemState
+started setup now = record {
+  params = setup.params;
+  phase = setup.phase;
+  drift = setup.drift;
+  identity = setup.identity;
+  held = all_disabled setup.ports;
+  ports = new_ports (clock_of setup.identity) setup.params setup.ports;
+  root = setup.identity;
+  steps = 0;
+  slave = None;
+  sync_in = None;
+  known = None;
+  offset = None;
+  sync = now + interval_of setup.params.sync;
+  relay = None;
+}
+
+-- what a port that received is for the synchronization tree: the Slave, or silent
+abbrev pub role_of_received : Bool → Role
+role_of_received is_slave = if is_slave then roles.Slave else roles.Passive
+
+-- the role of a port that holds this
+abbrev pub role_by : Bool → Held → Role
+role_by is_slave helds.Disabled = roles.Disabled
+role_by is_slave helds.Aged = roles.Master
+role_by is_slave (helds.Mine root steps) = roles.Master
+role_by is_slave (helds.Received vector path at) = role_of_received is_slave
+
+-- the role of a port of a system at rest (10.3.6)
+abbrev pub role_at : SystemState → ℕ → Role
+role_at s p = role_by (option_map_or (λ slave. slave == p) s.slave false) (held_at s p)

@@ -1,0 +1,242 @@
+-- Time: what a Sync, a Follow_Up and the timers of both make of a system (IEEE 802.1AS-2020, 10.2.9, 11.2.14, 11.2.15).
+use Rattle.std.specs.Prelude.{◌≡◌, ◌⊎◌, ℕ, ◌+◌, ◌/◌, ◌^◌, ◌==◌, ◌&&◌, nat_lt, ℤ, pos, ◌-ℤ◌, Bool, true, false, if◌then◌else◌, List, [], ◌∷◌, Option, Some, None}
+use Rattle.std.specs.Option.{option_map_or}
+use Rattle.gptp_vector.specs.declared.port.PortId.{PortId}
+use Rattle.gptp_messages.specs.declared.head.Head.{Head}
+use Rattle.gptp_messages.specs.declared.follow_up.FollowUp.{FollowUp}
+use Rattle.gptp_receipt.specs.declared.held.Held.{Held}
+use Rattle.gptp_receipt.specs.Held.{Reception, received}
+use Rattle.gptp_scaled.specs.ScaledNs.{FitsScaled}
+use Rattle.gptp_scaled.specs.Stamp.{Timestamp, IsSplit, scaled_of}
+use Rattle.gptp_pdelay.specs.Peer.{delay_of, rate_of_peer}
+use Rattle.gptp_correction.specs.declared.correction.Hop.{Hop}
+use Rattle.gptp_correction.specs.declared.correction.Relayed.{Relayed}
+use Rattle.gptp_correction.specs.declared.sync_in.SyncInfo.{SyncInfo}
+use Rattle.gptp_correction.specs.SyncIn.{kept, information}
+use Rattle.gptp_correction.specs.Correction.{bridge, carried, carried_on, receipt, relayed, BridgeFits, SlaveFits}
+use Rattle.gptp_system.specs.declared.answer.Answer.{Answer}
+use Rattle.gptp_system.specs.declared.answer.Answer.TheVariants as answers
+use Rattle.gptp_system.specs.declared.port.Port.{Port}
+use Rattle.gptp_system.specs.declared.sending.Sending.{Sending}
+use Rattle.gptp_system.specs.declared.sending.Body.TheVariants as bodies
+use Rattle.gptp_system.specs.Intervals.{interval_of}
+use Rattle.gptp_system.specs.State.{SystemState, number, clock, local_time, held_at, is_capable_at, is_mine}
+use Rattle.gptp_system.specs.Sends.{head_from, next_sequence}
+use Rattle.gptp_system.specs.Selection.{Becomes}
+
+-- ---- sending
+
+-- the Sync of a port, and the Follow_Up of the same number behind it, which says this (11.4.3 and 11.4.4)
+abbrev pub sync_of : PortId → ℤ → Port → Sending
+sync_of own log_interval q = record {
+  port = own.port;
+  head = head_from own q.syncs (pos 0) log_interval true;
+  body = bodies.Sync;
+}
+
+abbrev pub follow_up_of : PortId → ℤ → Relayed → Port → Sending
+follow_up_of own log_interval told q = record {
+  port = own.port;
+  head = head_from own q.syncs told.correction log_interval false;
+  body = bodies.FollowUp told.origin told.rate;
+}
+
+-- each Master port sends both, the first port having this number
+abbrev pub syncs : ℕ → ℤ → Relayed → ℕ → List Held → List Port → List Sending
+syncs clock log_interval told p [] qs = []
+syncs clock log_interval told p (h ∷ hs) [] = []
+syncs clock log_interval told p (h ∷ hs) (q ∷ qs) =
+    let own : PortId = record { clock = clock; port = p } in
+    if is_mine h
+    then sync_of own log_interval q ∷ follow_up_of own log_interval told q ∷ syncs clock log_interval told (p + 1) hs qs
+    else syncs clock log_interval told (p + 1) hs qs
+
+-- and counts one Sync more
+abbrev pub counting : Port → Port
+counting q = record q { syncs = next_sequence q.syncs }
+
+abbrev pub counted : List Held → List Port → List Port
+counted [] qs = qs
+counted (h ∷ hs) [] = []
+counted (h ∷ hs) (q ∷ qs) = (if is_mine h then counting q else q) ∷ counted hs qs
+
+-- all Master ports tell this time
+abbrev pub telling : SystemState → SystemState
+telling s = record s { ports = counted s.held s.ports }
+
+abbrev pub told_by : Relayed → SystemState → List Sending
+told_by told s = syncs (clock s) s.params.sync told 1 s.held s.ports
+
+-- the own time: as it is now, at the own rate
+abbrev pub own_time : Timestamp → ℕ → Relayed
+own_time stamp rest = record { origin = stamp; correction = pos rest; rate = pos 0 }
+
+-- such a time, as the clock shows it
+pub record IsOwnTime (time : ℤ) (told : Relayed) : Type 0 where
+  pub stamp : Timestamp
+  pub rest : ℕ
+  pub split : IsSplit time stamp rest
+  pub told_is : told ≡ own_time stamp rest
+
+-- ---- the Sync timer
+
+-- the system is its own root, and may be grandmaster: its priority1 is below 255 (10.3.2)
+abbrev pub leads : SystemState → Bool
+leads s = s.root == s.identity && nat_lt (s.identity / 2 ^ 104) 255
+
+-- the timer runs on
+abbrev pub restarted : ℕ → SystemState → SystemState
+restarted now s = record s { sync = now + interval_of s.params.sync }
+
+pub record LeadsTime (now : ℕ) (s s' : SystemState) (sends : List Sending) : Type 0 where
+  pub stamp : Timestamp
+  pub rest : ℕ
+  pub split : IsSplit (local_time s now) stamp rest
+  pub state : s' ≡ telling (restarted now s)
+  pub sends_are : sends ≡ told_by (own_time stamp rest) s
+
+abbrev pub SyncsIf : Bool → ℕ → SystemState → SystemState → List Sending → Type 0
+SyncsIf true now s s' sends = LeadsTime now s s' sends
+SyncsIf false now s s' sends = Becomes (restarted now s) s' sends
+
+abbrev pub SyncExpires : ℕ → SystemState → SystemState → List Sending → Type 0
+SyncExpires now s s' sends = SyncsIf (leads s) now s s' sends
+
+-- ---- a Sync
+
+-- two ports are the same
+abbrev pub is_port : PortId → PortId → Bool
+is_port a b = a.clock == b.clock && a.port == b.port
+
+-- the port is the Slave port
+abbrev pub is_slave_at : SystemState → ℕ → Bool
+is_slave_at s p = option_map_or (λ slave. slave == p) s.slave false
+
+-- what a port received came from this port
+abbrev pub came_from : PortId → Held → Bool
+came_from source h = option_map_or (λ (r : Reception). is_port r.vector.source source) (received h) false
+
+-- a Sync of two steps on the Slave port, from the port that is followed
+abbrev pub is_followed : ℕ → Head → SystemState → Bool
+is_followed p head s = head.two_step && (is_slave_at s p && came_from head.source (held_at s p))
+
+abbrev pub keeping : Head → ℕ → SystemState → SystemState
+keeping head now s = record s { sync_in = Some (kept head.source head.sequence (local_time s now)) }
+
+-- what is made of a Sync or a Follow_Up on a port that isn't asCapable
+pub record IsOff (p : ℕ) (s s' : SystemState) (sends : List Sending) (answer : Answer) : Type 0 where
+  pub becomes : Becomes s s' sends
+  pub answer_is : answer ≡ answers.Disabled
+
+-- and of one that is for nobody here
+pub record IsIgnored (s s' : SystemState) (sends : List Sending) (answer : Answer) : Type 0 where
+  pub becomes : Becomes s s' sends
+  pub answer_is : answer ≡ answers.Ignored
+
+pub record IsKept (head : Head) (now : ℕ) (s s' : SystemState) (sends : List Sending) (answer : Answer) : Type 0 where
+  pub becomes : Becomes (keeping head now s) s' sends
+  pub answer_is : answer ≡ answers.Used
+
+abbrev pub KeepsIf : Bool → Head → ℕ → SystemState → SystemState → List Sending → Answer → Type 0
+KeepsIf true head now s s' sends answer = IsKept head now s s' sends answer
+KeepsIf false head now s s' sends answer = IsIgnored s s' sends answer
+
+abbrev pub HearsSyncIf : Bool → ℕ → Head → ℕ → SystemState → SystemState → List Sending → Answer → Type 0
+HearsSyncIf false p head now s s' sends answer = IsOff p s s' sends answer
+HearsSyncIf true p head now s s' sends answer = KeepsIf (is_followed p head s) head now s s' sends answer
+
+abbrev pub HearsSync : ℕ → Head → ℕ → SystemState → SystemState → List Sending → Answer → Type 0
+HearsSync p head now s s' sends answer = HearsSyncIf (is_capable_at s p) p head now s s' sends answer
+
+-- ---- a Follow_Up
+
+-- meanLinkDelay and neighbour rate of a port; 0 where nothing was measured
+abbrev pub delay_at : SystemState → ℕ → ℤ
+delay_at s p = option_map_or (λ (q : Port). option_map_or (λ d. d) (delay_of q.peer) (pos 0)) (number s.ports p) (pos 0)
+
+abbrev pub rate_at : SystemState → ℕ → ℤ
+rate_at s p = option_map_or (λ (q : Port). rate_of_peer q.peer) (number s.ports p) (pos 0)
+
+-- what a Follow_Up and the Sync that is kept say together, on the Slave port
+abbrev pub said_on : ℕ → FollowUp → SystemState → Option SyncInfo
+said_on p m s = if is_slave_at s p then information s.sync_in m else None
+
+-- when the Sync came, by the grandmaster's clock, and how far the own clock is ahead of that
+abbrev pub receipt_of : SyncInfo → ℤ → ℤ → ℤ
+receipt_of info delay rate = receipt (scaled_of info.origin) (carried info) delay rate
+
+abbrev pub offset_of : SyncInfo → ℤ → ℤ → ℤ
+offset_of info delay rate = info.ingress -ℤ receipt_of info delay rate
+
+-- all numbers on the way fit
+pub record OffsetFits (info : SyncInfo) (delay rate : ℤ) : Type 0 where
+  pub receipt : SlaveFits (scaled_of info.origin) (carried info) delay rate
+  pub offset : FitsScaled (offset_of info delay rate)
+
+-- the time is known, and is sent on one residence later
+abbrev pub knowing : SyncInfo → ℤ → ℕ → SystemState → SystemState
+knowing info offset now s = record s {
+  known = Some info;
+  offset = Some offset;
+  relay = Some (now + s.params.residence);
+}
+
+-- what was kept is forgotten
+abbrev pub forgetting : SystemState → SystemState
+forgetting s = record s { sync_in = None; known = None; offset = None }
+
+-- the numbers fit: the offset is known
+pub record IsKnown (info : SyncInfo) (delay rate : ℤ) (now : ℕ) (s s' : SystemState) (sends : List Sending) (answer : Answer) : Type 0 where
+  pub fits : OffsetFits info delay rate
+  pub becomes : Becomes (knowing info (offset_of info delay rate) now s) s' sends
+  pub answer_is : answer ≡ answers.Used
+
+-- one doesn't
+pub record IsForgotten (info : SyncInfo) (delay rate : ℤ) (s s' : SystemState) (sends : List Sending) (answer : Answer) : Type 0 where
+  pub unfit : OffsetFits info delay rate → ⊥
+  pub becomes : Becomes (forgetting s) s' sends
+  pub answer_is : answer ≡ answers.Ignored
+
+abbrev pub KnowsIf : Option SyncInfo → ℤ → ℤ → ℕ → SystemState → SystemState → List Sending → Answer → Type 0
+KnowsIf None delay rate now s s' sends answer = IsIgnored s s' sends answer
+KnowsIf (Some info) delay rate now s s' sends answer =
+    IsKnown info delay rate now s s' sends answer ⊎ IsForgotten info delay rate s s' sends answer
+
+abbrev pub HearsFollowUpIf : Bool → ℕ → FollowUp → ℕ → SystemState → SystemState → List Sending → Answer → Type 0
+HearsFollowUpIf false p m now s s' sends answer = IsOff p s s' sends answer
+HearsFollowUpIf true p m now s s' sends answer =
+    KnowsIf (said_on p m s) (delay_at s p) (rate_at s p) now s s' sends answer
+
+abbrev pub HearsFollowUp : ℕ → FollowUp → ℕ → SystemState → SystemState → List Sending → Answer → Type 0
+HearsFollowUp p m now s s' sends answer = HearsFollowUpIf (is_capable_at s p) p m now s s' sends answer
+
+-- ---- the Relay timer
+
+abbrev pub stopped : SystemState → SystemState
+stopped s = record s { relay = None }
+
+-- the hop of this bridge, by the delay and the rate of its Slave port as they are now
+abbrev pub hop_of : SyncInfo → ℕ → SystemState → Hop
+hop_of info now s =
+    bridge info (option_map_or (delay_at s) s.slave (pos 0)) (option_map_or (rate_at s) s.slave (pos 0)) (local_time s now)
+
+abbrev pub HopFits : SyncInfo → ℕ → SystemState → Type 0
+HopFits info now s = BridgeFits (hop_of info now s) (carried_on (carried info) (hop_of info now s))
+
+-- the time is sent on
+pub record IsRelayed (info : SyncInfo) (now : ℕ) (s s' : SystemState) (sends : List Sending) : Type 0 where
+  pub fits : HopFits info now s
+  pub state : s' ≡ telling (stopped s)
+  pub sends_are : sends ≡ told_by (relayed info (hop_of info now s)) s
+
+-- a number doesn't fit, and nothing is sent
+pub record IsDropped (info : SyncInfo) (now : ℕ) (s s' : SystemState) (sends : List Sending) : Type 0 where
+  pub unfit : HopFits info now s → ⊥
+  pub becomes : Becomes (stopped s) s' sends
+
+abbrev pub RelaysIf : Option SyncInfo → ℕ → SystemState → SystemState → List Sending → Type 0
+RelaysIf None now s s' sends = Becomes (stopped s) s' sends
+RelaysIf (Some info) now s s' sends = IsRelayed info now s s' sends ⊎ IsDropped info now s s' sends
+
+abbrev pub RelayExpires : ℕ → SystemState → SystemState → List Sending → Type 0
+RelayExpires now s s' sends = RelaysIf s.known now s s' sends

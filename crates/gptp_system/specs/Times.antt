@@ -1,0 +1,29 @@
+-- How long the timers of a system can still run.
+use Rattle.std.specs.Prelude.{◌≡◌, ◌⊎◌, ◌+◌, ◌≤◌, ℕ, true, Some, slice_get}
+use Rattle.gptp_receipt.specs.declared.held.Held.{Held}
+use Rattle.gptp_receipt.specs.Held.{Reception, received}
+use Rattle.gptp_system.specs.declared.port.Port.{Port}
+use Rattle.gptp_system.specs.declared.setup.Params.{Params}
+use Rattle.gptp_system.specs.Intervals.{interval_of}
+use Rattle.gptp_system.specs.State.{SystemState, is_mine}
+
+-- a Master port announces within one interval, what was received came before now, and the port asks within one interval
+-- and
+-- answers within one turnaround
+pub record IsPortInTime (params : Params) (now : ℕ) (h : Held) (q : Port) : Type 0 where
+  pub announce : is_mine h ≡ true → q.announce ≤ now + interval_of q.log_interval
+  pub came : (r : Reception) → received h ≡ Some r → r.at ≤ now
+  pub pdelay : (t : ℕ) → q.pdelay ≡ Some t → t ≤ now + interval_of params.pdelay
+  pub respond : (t : ℕ) → q.respond ≡ Some t → t ≤ now + params.turnaround
+
+-- so do all ports; the system tells time within one interval, and sends on what it received within one residence
+pub record IsInTime (s : SystemState) (now : ℕ) : Type 0 where
+  pub each : (i : ℕ) (h : Held) (q : Port) → slice_get s.held i ≡ Some h → slice_get s.ports i ≡ Some q
+      → IsPortInTime s.params now h q
+  pub sync : s.sync ≤ now + interval_of s.params.sync
+  pub relay : (t : ℕ) → s.relay ≡ Some t → t ≤ now + s.params.residence
+
+-- the two timers of the system run on, or begin anew
+pub record RunsOn (s : SystemState) (now : ℕ) (s' : SystemState) : Type 0 where
+  pub sync : (s'.sync ≡ s.sync) ⊎ (s'.sync ≡ now + interval_of s.params.sync)
+  pub relay : (t : ℕ) → s'.relay ≡ Some t → (s.relay ≡ Some t) ⊎ (t ≡ now + s.params.residence)

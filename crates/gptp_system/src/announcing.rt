@@ -1,0 +1,239 @@
+//! Announces: what hearing one, ageing one and sending one make of a system.
+
+ghost use Rattle.std.specs.Prelude.{◌≡◌, ◌≢◌, ◌≤◌, ◌∷◌, [], length};
+ghost use Rattle.std.specs.Option.{option_map_or};
+ghost use Rattle.std.specs.List.{AllByRecursion};
+ghost use Rattle.gptp_receipt.specs.Held.{aged, comparison, held_after, reception};
+ghost use Rattle.gptp_receipt.specs.Qualification.{Qualified};
+ghost use Rattle.gptp_system.specs.Announcing.{answer_to_heard, answer_to_why, is_taken};
+ghost use Rattle.gptp_system.specs.Intervals.{IsLog, IsMoment};
+ghost use Rattle.gptp_system.specs.Ready.{IsPort, IsRecent};
+ghost use Rattle.gptp_system.specs.Selection.{announced};
+ghost use Rattle.gptp_system.specs.Sends.{announcement};
+ghost use Rattle.gptp_system.specs.State.{change, number, span_of};
+
+use crate::answer::Answer;
+use crate::interval::interval_of;
+use crate::port::Port;
+use crate::selection::announce;
+use crate::sending::Outbox;
+use crate::setup::Params;
+use crate::state::State;
+use gptp_messages::AnnounceView;
+use gptp_receipt::{Heard, Held, Why, age, hear, qualify};
+use gptp_vector::{Identity, PortId};
+
+/// How it is answered that an Announce isn't taken for heard.
+fn answer_to_why(why: Why) -> Answer
+    ensures { result ≡ answer_to_why why }
+{
+    match why {
+        Why::OwnMessage => Answer::Own,
+        Why::TooManySteps => Answer::Steps,
+        Why::Loop => Answer::Loop,
+        Why::TraceTooLong => Answer::Long,
+    }
+}
+
+/// How it is answered what an Announce is to the port.
+fn answer_to_heard(heard: Heard) -> Answer
+    ensures { result ≡ answer_to_heard heard }
+{
+    match heard {
+        Heard::Superior => Answer::Superior,
+        Heard::Repeated => Answer::Repeated,
+        Heard::Inferior => Answer::Inferior,
+    }
+}
+
+/// Whether what was heard took the place of what was held.
+fn is_taken(heard: Heard) -> bool
+    ensures { result ≡ is_taken heard }
+{
+    match heard {
+        Heard::Inferior => false,
+        Heard::Superior | Heard::Repeated => true,
+    }
+}
+
+/// A port compares a qualified Announce with what it holds, and takes it where it is Superior or Repeated.
+fn hear_at(held: &mut [Held], own: PortId, announce: &AnnounceView<'_>, now: u64) -> Heard
+    requires least { 1 ≤ own.port }
+    requires most { own.port ≤ length held.old }
+    requires qualified { Qualified announce.now own.clock }
+    requires enabled { option_map_or (λ h. h) (number held.old own.port) Held.Disabled ≢ Held.Disabled }
+    ensures heard { result ≡ comparison (option_map_or (λ h. h) (number held.old own.port) Held.Disabled) own announce.now }
+    ensures held { held.new ≡ change (λ h. held_after (comparison h own announce.now) h (reception announce.now own now)) own.port held.old }
+{
+    hear(&mut held[usize::from(own.port) - 1], own, announce, now)
+}
+
+/// A port drops what it received where that is too old.
+fn age_at(held: &mut [Held], port: u8, span: u64, now: u64)
+    requires least { 1 ≤ port }
+    requires most { port ≤ length held.old }
+    requires recent { AllByRecursion IsRecent held.old }
+    requires short { span ≤ 160000000000 }
+    ensures { held.new ≡ change (λ h. aged h span now) port held.old }
+{
+    let _ = age(&mut held[usize::from(port) - 1], span, now);
+}
+
+/// How long what a port received is kept, in ns (IEEE 802.1AS-2020, 10.7.3.2).
+pub(crate) fn span_of(params: &Params, port: &Port) -> u64
+    requires timeout { params.now.timeout ≤ 10 }
+    requires log { IsLog port.now.log_interval }
+    ensures span { result ≡ span_of params.now port.now }
+    ensures short { result ≤ 160000000000 }
+{
+    u64::from(params.timeout) * interval_of(port.log_interval)
+}
+
+/// One of the ports announces, and does so again one announce interval later.
+fn announce_at(
+    ports: &mut [Port],
+    own: PortId,
+    root: Identity,
+    steps: u16,
+    now: u64,
+    outbox: &mut Outbox,
+)
+    requires least { 1 ≤ own.port }
+    requires most { own.port ≤ length ports.old }
+    requires few { length ports.old ≤ 16 }
+    requires ports { AllByRecursion IsPort ports.old }
+    requires moment { IsMoment now }
+    requires empty { outbox.old.items ≡ [] }
+    ensures ports { ports.new ≡ change (announced now) own.port ports.old }
+    ensures sends { outbox.new.items ≡ option_map_or (λ q. announcement own root steps q ∷ []) (number ports.old own.port) [] }
+{
+    announce(
+        &mut ports[usize::from(own.port) - 1],
+        own,
+        root,
+        steps,
+        now,
+        outbox,
+    );
+}
+
+impl State {
+    ghost use Rattle.std.specs.Prelude.{◌≡◌, ◌≢◌, ◌⊎◌, ◌≤◌, length, true, []};
+    ghost use Rattle.gptp_receipt.specs.declared.held.Held.TheVariants.{Disabled};
+    ghost use Rattle.gptp_system.specs.Announcing.{AgeExpires, AnnounceExpires, ChangesPriority, HearsOff, HearsQualified, HearsUnqualified};
+    ghost use Rattle.gptp_system.specs.Intervals.{IsMoment};
+    ghost use Rattle.gptp_system.specs.Ready.{IsReady, state_of};
+    ghost use Rattle.gptp_system.specs.Selection.{SelectsIf};
+    ghost use Rattle.gptp_system.specs.State.{held_at, is_capable_at, own};
+
+    /// Selects where something changed that selection looks at.
+    pub(crate) fn select_if(&mut self, changed: bool, now: u64, outbox: &mut Outbox)
+        requires ready { IsReady (state_of self.old) }
+        requires moment { IsMoment now }
+        requires empty { outbox.old.items ≡ [] }
+        ensures selects { SelectsIf changed now (state_of self.old) (state_of self.new) outbox.new.items }
+        ensures ready { IsReady (state_of self.new) }
+    {
+        if changed {
+            self.select(now, outbox);
+        }
+    }
+
+    /// The portIdentity of a port.
+    pub(crate) fn own(&self, port: u8) -> PortId
+        ensures { result ≡ own (state_of self.now) port }
+    {
+        PortId {
+            clock: self.identity.clock(),
+            port: u16::from(port),
+        }
+    }
+
+    /// Whether a port is asCapable (IEEE 802.1AS-2020, 11.2.2).
+    pub(crate) fn is_capable(&self, port: u8) -> bool
+        requires least { 1 ≤ port }
+        requires most { port ≤ length (state_of self.now).ports }
+        ensures { result ≡ is_capable_at (state_of self.now) port }
+    {
+        self.ports[usize::from(port) - 1].peer.capable()
+    }
+
+    /// A port hears an Announce (IEEE 802.1AS-2020, 10.3.11 and 10.3.12).
+    pub(crate) fn hear_announce(
+        &mut self,
+        port: u8,
+        announce: &AnnounceView<'_>,
+        now: u64,
+        outbox: &mut Outbox,
+    ) -> Answer
+        requires ready { IsReady (state_of self.old) }
+        requires moment { IsMoment now }
+        requires least { 1 ≤ port }
+        requires most { port ≤ length (state_of self.old).ports }
+        requires shown { is_capable_at (state_of self.old) port ≡ true → held_at (state_of self.old) port ≢ Disabled }
+        requires empty { outbox.old.items ≡ [] }
+        ensures step { HearsOff port (state_of self.old) (state_of self.new) outbox.new.items result
+            ⊎ (HearsUnqualified port announce.now (state_of self.old) (state_of self.new) outbox.new.items result
+            ⊎ HearsQualified port announce.now now (state_of self.old) (state_of self.new) outbox.new.items result) }
+        ensures ready { IsReady (state_of self.new) }
+    {
+        if !self.is_capable(port) {
+            return Answer::Disabled;
+        }
+        let own = self.own(port);
+        if let Err(why) = qualify(announce, own.clock) {
+            return answer_to_why(why);
+        }
+        let heard = hear_at(self.held.as_mut_slice(), own, announce, now);
+        self.select_if(is_taken(heard), now, outbox);
+        answer_to_heard(heard)
+    }
+
+    /// What a port received is too old (IEEE 802.1AS-2020, 10.3.11).
+    pub(crate) fn on_age_timer(&mut self, port: u8, now: u64, outbox: &mut Outbox)
+        requires ready { IsReady (state_of self.old) }
+        requires moment { IsMoment now }
+        requires least { 1 ≤ port }
+        requires most { port ≤ length (state_of self.old).ports }
+        requires empty { outbox.old.items ≡ [] }
+        ensures step { AgeExpires port now (state_of self.old) (state_of self.new) outbox.new.items }
+        ensures ready { IsReady (state_of self.new) }
+    {
+        let span = span_of(&self.params, &self.ports[usize::from(port) - 1]);
+        age_at(self.held.as_mut_slice(), port, span, now);
+        self.select(now, outbox);
+    }
+
+    /// A Master port announces again (IEEE 802.1AS-2020, 10.3.16).
+    pub(crate) fn on_announce_timer(&mut self, port: u8, now: u64, outbox: &mut Outbox)
+        requires ready { IsReady (state_of self.old) }
+        requires moment { IsMoment now }
+        requires least { 1 ≤ port }
+        requires most { port ≤ length (state_of self.old).ports }
+        requires empty { outbox.old.items ≡ [] }
+        ensures step { AnnounceExpires port now (state_of self.old) (state_of self.new) outbox.new.items }
+        ensures ready { IsReady (state_of self.new) }
+    {
+        let own = self.own(port);
+        announce_at(
+            self.ports.as_mut_slice(),
+            own,
+            self.root,
+            self.steps,
+            now,
+            outbox,
+        );
+    }
+
+    /// The priority1 of the system changes (IEEE 802.1AS-2020, 8.6.2.1).
+    pub(crate) fn set_priority(&mut self, priority1: u8, now: u64, outbox: &mut Outbox)
+        requires ready { IsReady (state_of self.old) }
+        requires moment { IsMoment now }
+        requires empty { outbox.old.items ≡ [] }
+        ensures step { ChangesPriority priority1 now (state_of self.old) (state_of self.new) outbox.new.items }
+        ensures ready { IsReady (state_of self.new) }
+    {
+        self.identity = self.identity.with_priority1(priority1);
+        self.select(now, outbox);
+    }
+}

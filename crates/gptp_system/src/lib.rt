@@ -1,0 +1,31 @@
+//! One gPTP system: an end station or a time-aware bridge, in one domain (IEEE 802.1AS-2020, clauses 10 and 11).
+//!
+//! A [`System`] is given one frame, one timer or one change at a time, and says what it sends then: what its ports hear and
+//! hold, the best master clock algorithm, the measuring of its links, and the transport of time. A call sees the system's own
+//! state and that one frame, and nothing else; the state after it, its answer and its sends are exactly those that the
+//! definitions in `specs/` name. No call takes memory.
+#![tactic(auto)]
+
+mod announcing;
+mod answer;
+mod clock;
+mod input;
+mod interval;
+pub mod laws;
+mod measuring;
+mod port;
+mod selection;
+mod sending;
+mod setup;
+mod start;
+mod state;
+mod syncing;
+mod system;
+mod timer;
+mod views;
+
+pub use answer::Answer;
+pub use sending::{Body, Outbox, Sending};
+pub use setup::{Params, Setup};
+pub use system::System;
+pub use timer::Timer;

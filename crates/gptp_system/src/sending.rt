@@ -1,0 +1,87 @@
+//! What a call of a system sends.
+
+ghost use Rattle.std.specs.Prelude.{◌≡◌, ◌<◌, ◌++◌, ◌∷◌, [], nat_le};
+ghost use Rattle.std.specs.List.{prefix_len};
+ghost use Rattle.arrayvec.specs.ArrayVec.{array_vec_len};
+ghost use Rattle.gptp_system.specs.declared.sending.Sending.{Sending};
+ghost use Rattle.gptp_system.specs.Sends.{with_send};
+
+use arrayvec::ArrayVec;
+use gptp_messages::{AnnounceBody, Head};
+use gptp_scaled::{Rate, Stamp};
+use gptp_vector::PortId;
+
+/// A message that a port sends: its header, and what stands behind it.
+#[derive(Clone, Copy, Debug, PartialEq, Eq, Default)]
+pub struct Sending {
+    /// The number of the port.
+    pub port: u8,
+    /// The common header.
+    pub head: Head,
+    /// The type of the message and the fields behind the header.
+    pub body: Body,
+}
+
+/// The fields of a message behind its header. The path of an Announce is the trace of the system as the call leaves it.
+#[derive(Clone, Copy, Debug, PartialEq, Eq, Default)]
+pub enum Body {
+    /// An Announce without its path.
+    Announce(AnnounceBody),
+    /// A Sync.
+    Sync,
+    /// A Follow_Up.
+    FollowUp {
+        /// The preciseOriginTimestamp.
+        origin: Stamp,
+        /// The cumulativeScaledRateOffset.
+        rate: Rate,
+    },
+    /// A Pdelay_Req.
+    #[default]
+    PdelayReq,
+    /// A Pdelay_Resp.
+    PdelayResp {
+        /// The requestReceiptTimestamp.
+        stamp: Stamp,
+        /// The requestingPortIdentity.
+        requester: PortId,
+    },
+    /// A Pdelay_Resp_Follow_Up.
+    PdelayRespFollowUp {
+        /// The responseOriginTimestamp.
+        stamp: Stamp,
+        /// The requestingPortIdentity.
+        requester: PortId,
+    },
+}
+
+/// What one call sends, by rising port: on one port an Announce first, each Sync directly before its Follow_Up, each
+/// Pdelay_Resp directly before its Pdelay_Resp_Follow_Up, and a Pdelay_Req last.
+pub type Outbox = ArrayVec<Sending, 64>;
+
+/// Puts one more send behind the others. (Its parts are named since the borrow checker finds the type of a body only where
+/// a function names one.)
+pub(crate) fn push(outbox: &mut Outbox, sending: Sending)
+    requires { array_vec_len outbox.old < 64 }
+    ensures { outbox.new.items ≡ outbox.old.items ++ sending ∷ [] }
+{
+    let Sending { port, head, body } = sending;
+    outbox.push(Sending { port, head, body });
+}
+
+/// How many sends in front are of ports up to this one.
+fn sends_up_to(port: u8, sends: &[Sending]) -> usize
+    ensures { result ≡ prefix_len (λ (one : Sending). nat_le one.port port) sends.now }
+{
+    sends.iter().take_while(|one| one.port <= port).count()
+}
+
+/// Puts one more send behind those of its own port and the lower ones.
+pub(crate) fn insert(outbox: &mut Outbox, sending: Sending)
+    requires { array_vec_len outbox.old < 64 }
+    ensures { outbox.new.items ≡ with_send sending outbox.old.items }
+{
+    let place = sends_up_to(sending.port, outbox.as_slice());
+    let Sending { port, head, body } = sending;
+    outbox.insert(place, Sending { port, head, body });
+}

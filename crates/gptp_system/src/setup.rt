@@ -1,0 +1,40 @@
+//! What a system is set up with.
+
+use gptp_vector::Identity;
+
+/// What is the same for all systems of a network. Intervals are given as the logarithm to base 2 of their seconds, as
+/// logMessageInterval is (IEEE 802.1AS-2020, 10.7.2 and 11.5.2).
+#[derive(Clone, Copy, Debug, PartialEq, Eq)]
+pub struct Params {
+    /// The announce interval, -4 to 4.
+    pub announce: i8,
+    /// The sync interval, -4 to 4.
+    pub sync: i8,
+    /// The interval of peer delay requests, -4 to 4.
+    pub pdelay: i8,
+    /// announceReceiptTimeout: after how many announce intervals what was heard is too old, 3 to 10.
+    pub timeout: u8,
+    /// allowedLostResponses: how many requests in a row may be lost, 1 to 255.
+    pub lost: u8,
+    /// meanLinkDelayThresh, in ns, 1 to 10^9.
+    pub threshold: u64,
+    /// How long a port takes to answer a request, in ns, 1 to 10^9.
+    pub turnaround: u64,
+    /// How long a bridge takes to send time on, in ns, 1 to 10^9.
+    pub residence: u64,
+}
+
+/// What one system is set up with.
+#[derive(Clone, Copy, Debug, PartialEq, Eq)]
+pub struct Setup {
+    /// Its system identity.
+    pub identity: Identity,
+    /// How many ports it has, 0 to 16.
+    pub ports: u8,
+    /// What its local clock is ahead of true time at time 0, in ns, 0 to 10^18.
+    pub phase: u64,
+    /// How much faster its local clock runs, in units of 2^-41, -219,902,325 to 219,902,325: 100 parts in a million.
+    pub drift: i32,
+    /// What is the same for all systems.
+    pub params: Params,
+}

@@ -1,0 +1,172 @@
+//! One gPTP system, as it is seen from outside.
+
+use crate::answer::Answer;
+use crate::sending::Outbox;
+use crate::setup::Setup;
+use crate::state::State;
+use crate::timer::Timer;
+use gptp_roles::Role;
+use gptp_scaled::ScaledNs;
+use gptp_vector::{Identity, Trace};
+use std::marker::Model;
+
+/// One gPTP system in one domain: an end station or a time-aware bridge. Between its calls it is at rest: selecting
+/// again changes nothing.
+#[derive(Debug, Drop)]
+pub struct System {
+    state: State,
+}
+
+impl Model for System {
+    ghost use Rattle.gptp_system.specs.State.{SystemState};
+
+    ghost Value = { SystemState };
+
+    ghost use Rattle.gptp_system.specs.Ready.{state_of};
+    ghost use Rattle.gptp_system.specs.Facts.{IsSystem};
+
+    ghost view = { λ s. state_of s.state };
+
+    ghost invariant = { λ s. IsSystem (state_of s.state) };
+}
+
+impl System {
+    ghost use Rattle.std.specs.Prelude.{◌≡◌, ◌≤◌, []};
+    ghost use Rattle.gptp_pdelay.specs.Clock.{IsDrift};
+    ghost use Rattle.gptp_system.specs.Announcing.{ChangesPriority};
+    ghost use Rattle.gptp_system.specs.Intervals.{AreParams, IsMoment};
+    ghost use Rattle.gptp_system.specs.Measuring.{ComesUp, GoesDown};
+    ghost use Rattle.std.specs.Option.{option_and_then};
+    ghost use Rattle.gptp_pdelay.specs.Peer.{delay_of};
+    ghost use Rattle.gptp_system.specs.Start.{role_at, started};
+    ghost use Rattle.gptp_system.specs.State.{due, is_capable_at, local_time, number, trace};
+    ghost use Rattle.gptp_system.specs.Steps.{Expires, HearsFrame, IsDue, IsPortOf, IsTimerOf, IsUp};
+
+    /// A system as it starts at `now`, in ns: its own root, with all ports Disabled until their links come up. The setup
+    /// keeps its limits.
+    pub fn new(setup: Setup, now: u64) -> System
+        requires ports { setup.ports ≤ 16 }
+        requires params { AreParams setup.params }
+        requires phase { setup.phase ≤ 1000000000000000000 }
+        requires drift { IsDrift setup.drift }
+        requires moment { IsMoment now }
+        ensures { result ≡ started setup now }
+    {
+        System {
+            state: State::new(setup, now),
+        }
+    }
+
+    /// A port hears a frame whose link is up, at `now`: what became of it. The outbox is empty at entry of this and of every other call.
+    pub fn on_frame(&mut self, port: u8, frame: &[u8], now: u64, outbox: &mut Outbox) -> Answer
+        requires moment { IsMoment now }
+        requires up { IsUp self.old port }
+        requires empty { outbox.old.items ≡ [] }
+        ensures { HearsFrame port frame.now now self.old self.new outbox.new.items result }
+    {
+        self.state.on_frame(port, frame, now, outbox)
+    }
+
+    /// A timer that is due runs out.
+    pub fn on_timer(&mut self, timer: Timer, now: u64, outbox: &mut Outbox)
+        requires moment { IsMoment now }
+        requires due { IsDue self.old timer now }
+        requires empty { outbox.old.items ≡ [] }
+        ensures { Expires timer now self.old self.new outbox.new.items }
+    {
+        self.state.on_timer(timer, now, outbox);
+    }
+
+    /// The link of a port comes up: the port measures it from the beginning, and asks at once.
+    pub fn port_up(&mut self, port: u8, now: u64, outbox: &mut Outbox)
+        requires moment { IsMoment now }
+        requires port { IsPortOf self.old port }
+        requires empty { outbox.old.items ≡ [] }
+        ensures { ComesUp port now self.old self.new outbox.new.items }
+    {
+        self.state.port_up(port, now, outbox);
+    }
+
+    /// The link of a port goes down: its timers stop, and it takes no part.
+    pub fn port_down(&mut self, port: u8, now: u64, outbox: &mut Outbox)
+        requires moment { IsMoment now }
+        requires port { IsPortOf self.old port }
+        requires empty { outbox.old.items ≡ [] }
+        ensures { GoesDown port now self.old self.new outbox.new.items }
+    {
+        self.state.port_down(port, now, outbox);
+    }
+
+    /// The priority1 of the system changes (IEEE 802.1AS-2020, 8.6.2.1).
+    pub fn set_priority(&mut self, priority1: u8, now: u64, outbox: &mut Outbox)
+        requires moment { IsMoment now }
+        requires empty { outbox.old.items ≡ [] }
+        ensures { ChangesPriority priority1 now self.old self.new outbox.new.items }
+    {
+        self.state.set_priority(priority1, now, outbox);
+    }
+
+    /// The root that the system follows, how many steps away that is, and the number of the Slave port, if it has one.
+    pub fn follows(&self) -> (Identity, u16, Option<u8>)
+        ensures root { result.0 ≡ self.now.root }
+        ensures steps { result.1 ≡ self.now.steps }
+        ensures slave { result.2 ≡ self.now.slave }
+    {
+        (self.state.root, self.state.steps, self.state.slave)
+    }
+
+    /// How far its local clock is ahead of the grandmaster's, in 2^-16 ns, where time has come over its Slave port.
+    pub fn offset(&self) -> Option<ScaledNs>
+        ensures { result ≡ self.now.offset }
+    {
+        self.state.offset
+    }
+
+    /// The path trace that the system announces: the path of its Slave port with the own clock behind it, or the own
+    /// clock alone (IEEE 802.1AS-2020, 10.3.9.23).
+    pub fn trace(&self) -> Trace
+        ensures { result ≡ trace self.now }
+    {
+        self.state.trace()
+    }
+
+    /// The role of a port (IEEE 802.1AS-2020, 10.3.6).
+    pub fn role(&self, port: u8) -> Role
+        requires { IsPortOf self.now port }
+        ensures { result ≡ role_at self.now port }
+    {
+        self.state.role(port)
+    }
+
+    /// Whether a port is asCapable (IEEE 802.1AS-2020, 11.2.2).
+    pub fn capable(&self, port: u8) -> bool
+        requires { IsPortOf self.now port }
+        ensures { result ≡ is_capable_at self.now port }
+    {
+        self.state.is_capable(port)
+    }
+
+    /// The meanLinkDelay of a port, in 2^-16 ns, where it was measured since its link came up or was lost.
+    pub fn delay(&self, port: u8) -> Option<ScaledNs>
+        requires { IsPortOf self.now port }
+        ensures { result ≡ option_and_then (λ q. delay_of q.peer) (number self.now.ports port) }
+    {
+        self.state.delay(port)
+    }
+
+    /// When a timer runs out, in ns, where it runs.
+    pub fn due(&self, timer: Timer) -> Option<u64>
+        requires { IsTimerOf self.now timer }
+        ensures { result ≡ due timer self.now }
+    {
+        self.state.due(timer)
+    }
+
+    /// What its local clock shows at the time `t`, in ns.
+    pub fn local(&self, t: u64) -> ScaledNs
+        requires { IsMoment t }
+        ensures { result ≡ local_time self.now t }
+    {
+        self.state.local_time(t)
+    }
+}
