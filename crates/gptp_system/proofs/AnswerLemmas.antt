@@ -26,7 +26,7 @@ use Rattle.gptp_system.specs.Measuring.{answering_done, down, owed_at, owes, owi
 use Rattle.gptp_system.specs.Announcing.{HearsQualified, aged_at, compared, is_taken, with_priority}
 use Rattle.gptp_system.specs.Syncing.{HearsFollowUpIf, HearsSyncIf, KeepsIf, KnowsIf, RelaysIf, SyncsIf, delay_at, is_followed, leads, own_time, rate_at, restarted, said_on, stopped, telling, told_by}
 use Rattle.gptp_system.specs.Steps.{Expires as TimerExpires, HearsFrame, HearsMessage}
-use Rattle.gptp_system.specs.Input.{Input, IsCalm, Steps, PortUp, PortDown, Frame, Expires, Priority}
+use Rattle.gptp_system.specs.Input.{Input, IsTimely, Steps, PortUp, PortDown, Frame, Expires, Priority}
 use Rattle.gptp_system.specs.Facts.{AreShown, IsAtRest}
 use Rattle.gptp_system.specs.Touch.{Touch, Hear, Tick, Grow, Disable, Other, IsFrameSeenAs, IsSeenAs, IsTurn}
 use Rattle.gptp_system.specs.Reacts.{Reacts}
@@ -252,7 +252,7 @@ expires timers.Relay now t s s' sends shown r is past k =
 
 -- every step answers a touch
 pub steps_react : (input : Input) (now : ℕ) (s s' : SystemState) (sends : List Sending) (answer : Answer)
-    → IsCalm s now input → AreShown s
+    → IsTimely s now input → AreShown s
     → IsAtRest s → Steps input now s s' sends answer → Answers (IsSeenAs s input) s now s' sends
 steps_react (PortUp p) now s s' sends answer calm shown r k =
     by_turn p (IsTurn p) s now s' sends (λ touch turn. turn) (turns_and_asks p reset_peer now s s' sends shown r k)

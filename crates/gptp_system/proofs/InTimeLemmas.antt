@@ -17,7 +17,7 @@ use Rattle.gptp_system.specs.declared.sending.Sending.{Sending}
 use Rattle.gptp_system.specs.declared.timer.Timer.TheVariants as timers
 use Rattle.gptp_system.specs.Intervals.{interval_of}
 use Rattle.gptp_system.specs.State.{SystemState, clock, is_mine}
-use Rattle.gptp_system.specs.Input.{Input, IsCalm, Steps, PortUp, PortDown, Frame, Expires, Priority}
+use Rattle.gptp_system.specs.Input.{Input, IsTimely, Steps, PortUp, PortDown, Frame, Expires, Priority}
 use Rattle.gptp_system.specs.Facts.{AreShown, IsAtRest, Keeps}
 use Rattle.gptp_system.specs.Touch.{Touch, Hear, Tick, Grow, Enable, Disable, Other, IsSeenAs, Mid}
 use Rattle.gptp_system.specs.Reacts.{IsKept, PlaceReacts, PortEnds, Tells}
@@ -148,7 +148,7 @@ part_in_time s now (Priority value) n x x' k is = same_in_time s now x x' k is
 -- ---- all steps
 
 pub stays_in_time : (input : Input) (now : ℕ) (s s' : SystemState) (sends : List Sending) (answer : Answer)
-    → IsCalm s now input
+    → IsTimely s now input
     → AreShown s → IsAtRest s → IsInTime s now → Steps input now s s' sends answer → IsInTime s' now
 stays_in_time input now s s' sends answer calm shown rest k step = record {
   each =

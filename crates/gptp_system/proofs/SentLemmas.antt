@@ -26,7 +26,7 @@ use Rattle.gptp_system.specs.Measuring.{Turns, TurnsAndAsks, TurnsIf, is_turned,
 use Rattle.gptp_system.specs.Announcing.{announcement_at, compared, is_taken}
 use Rattle.gptp_system.specs.Syncing.{HearsFollowUpIf, HearsSyncIf, KeepsIf, KnowsIf, RelaysIf, SyncsIf, delay_at, is_followed, leads, own_time, rate_at, said_on, told_by}
 use Rattle.gptp_system.specs.Steps.{Expires as TimerExpires, HearsFrame, HearsMessage}
-use Rattle.gptp_system.specs.Input.{Input, IsCalm, Steps, PortUp, PortDown, Frame, Expires, Priority}
+use Rattle.gptp_system.specs.Input.{Input, IsTimely, Steps, PortUp, PortDown, Frame, Expires, Priority}
 use Rattle.gptp_system.specs.Facts.{Keeps}
 use Rattle.gptp_system.specs.Measures.{Part, only_at, part_of, part_stepped}
 use Rattle.gptp_system.specs.Messages.{AllAre, Announcing, AreSent, AsksOnce, Kind, Telling, kind_of}
@@ -233,7 +233,7 @@ expires timers.Sync now t s s' sends is k = syncs_if (leads s) now s s' sends k
 expires timers.Relay now t s s' sends is k = relays_if s.known now s s' sends k
 
 pub steps_send : (input : Input) (now : ℕ) (s s' : SystemState) (sends : List Sending) (answer : Answer)
-    → IsCalm s now input
+    → IsTimely s now input
     → Steps input now s s' sends answer → AreSent s now input sends
 steps_send (PortUp p) now s s' sends answer calm k =
     let (q, there) = calm in

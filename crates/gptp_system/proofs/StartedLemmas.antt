@@ -17,7 +17,7 @@ use Rattle.gptp_system.specs.declared.timer.Timer.{Timer}
 use Rattle.gptp_system.specs.declared.timer.Timer.TheVariants as timers
 use Rattle.gptp_system.specs.Intervals.{AreParams, IsLog, interval_of}
 use Rattle.gptp_system.specs.State.{SystemState, age_due, announce_due, clock, due, held_at, is_mine, number, span_of}
-use Rattle.gptp_system.specs.Input.{Input, IsCalm, Steps, PortUp, PortDown, Frame, Expires, Priority}
+use Rattle.gptp_system.specs.Input.{Input, IsTimely, Steps, PortUp, PortDown, Frame, Expires, Priority}
 use Rattle.gptp_system.specs.Facts.{AreShown, IsAtRest, Keeps}
 use Rattle.gptp_system.specs.Touch.{IsSeenAs, Touch}
 use Rattle.gptp_system.specs.Reacts.{PlaceReacts, PortEnds, Tells}
@@ -233,7 +233,7 @@ age_on params q h t is e = none-some t (ap (age_due params q) (sym e) ∙ is)
 pub started_later : (input : Input) (now : ℕ) (s s' : SystemState) (sends : List Sending) (answer : Answer)
     → AreParams s.params
     → 1 ≤ s.params.timeout → ((i : ℕ) (q : Port) → slice_get s.ports i ≡ Some q → IsLog q.log_interval)
-    → IsCalm s now input
+    → IsTimely s now input
     → AreShown s → IsAtRest s → Steps input now s s' sends answer
     → (timer : Timer) (t : ℕ) → due timer s' ≡ Some t → (due timer s ≡ Some t) ⊎ (now < t)
 started_later input now s s' sends answer params kept_long logs calm shown rest step = go

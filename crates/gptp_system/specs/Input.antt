@@ -17,8 +17,7 @@ pub data Input : Type 0 where
   Priority : (value : ℕ) → Input
 
 -- One step: the input makes the one state the other, and this is sent. A frame is answered; the other inputs have no
--- answer,
--- and this leaves it free.
+-- answer, and this leaves it free.
 abbrev pub Steps : Input → ℕ → SystemState → SystemState → List Sending → Answer → Type 0
 Steps (PortUp p) now s s' sends answer = ComesUp p now s s' sends
 Steps (PortDown p) now s s' sends answer = GoesDown p now s s' sends
@@ -26,12 +25,11 @@ Steps (Frame p octets) now s s' sends answer = HearsFrame p octets now s s' send
 Steps (Expires timer) now s s' sends answer = TimerExpires timer now s s' sends
 Steps (Priority value) now s s' sends answer = ChangesPriority value now s s' sends
 
--- when a system is given an input: a port is one of its own, a frame comes where the link is up, and so requests go,
--- and a
--- timer expires when it is due
-abbrev pub IsCalm : SystemState → ℕ → Input → Type 0
-IsCalm s now (PortUp p) = (q : Port) × (number s.ports p ≡ Some q)
-IsCalm s now (PortDown p) = (q : Port) × (number s.ports p ≡ Some q)
-IsCalm s now (Frame p octets) = (q : Port) × (t : ℕ) × (number s.ports p ≡ Some q) × (q.pdelay ≡ Some t)
-IsCalm s now (Expires timer) = (t : ℕ) × (due timer s ≡ Some t) × (t ≤ now)
-IsCalm s now (Priority value) = Unit {0}
+-- when a system is given an input: a port is one of its own, a frame comes where the link is up and so the port asks,
+-- and a timer expires when it is due
+abbrev pub IsTimely : SystemState → ℕ → Input → Type 0
+IsTimely s now (PortUp p) = (q : Port) × (number s.ports p ≡ Some q)
+IsTimely s now (PortDown p) = (q : Port) × (number s.ports p ≡ Some q)
+IsTimely s now (Frame p octets) = (q : Port) × (t : ℕ) × (number s.ports p ≡ Some q) × (q.pdelay ≡ Some t)
+IsTimely s now (Expires timer) = (t : ℕ) × (due timer s ≡ Some t) × (t ≤ now)
+IsTimely s now (Priority value) = Unit {0}

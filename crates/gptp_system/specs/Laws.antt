@@ -9,7 +9,7 @@ use Rattle.gptp_system.specs.declared.timer.Timer.{Timer}
 use Rattle.gptp_system.specs.Intervals.{AreParams, IsLog}
 use Rattle.gptp_system.specs.State.{SystemState, due}
 use Rattle.gptp_system.specs.Selection.{Selects}
-use Rattle.gptp_system.specs.Input.{Input, IsCalm, Steps, Priority}
+use Rattle.gptp_system.specs.Input.{Input, IsTimely, Steps, Priority}
 use Rattle.gptp_system.specs.Touch.{Touch, IsSeenAs}
 use Rattle.gptp_system.specs.Reacts.{Reacts}
 use Rattle.gptp_system.specs.Follows.{FollowsItself, FollowsPort}
@@ -71,7 +71,7 @@ IdentityLaw = (input : Input) (now : ℕ) (s s' : SystemState) (sends : List Sen
 -- every step of a system at rest answers what it is seen as
 abbrev pub ReactsLaw : Type 0
 ReactsLaw = (input : Input) (now : ℕ) (s s' : SystemState) (sends : List Sending) (answer : Answer)
-    → IsCalm s now input → AreShown s → IsAtRest s → Steps input now s s' sends answer
+    → IsTimely s now input → AreShown s → IsAtRest s → Steps input now s s' sends answer
     → (touch : Touch) × IsSeenAs s input touch × Reacts s touch now s' sends
 
 -- a system at rest follows itself or what a port received
@@ -91,13 +91,13 @@ MeasuresLaw = (input : Input) (now : ℕ) (s s' : SystemState) (sends : List Sen
 -- every step sends the messages of its input
 abbrev pub SendsLaw : Type 0
 SendsLaw = (input : Input) (now : ℕ) (s s' : SystemState) (sends : List Sending) (answer : Answer)
-    → IsCalm s now input → Steps input now s s' sends answer
+    → IsTimely s now input → Steps input now s s' sends answer
     → AreSent s now input sends
 
 -- every step leaves the timers in time, and time that passes leaves them so
 abbrev pub InTimeLaw : Type 0
 InTimeLaw = (input : Input) (now : ℕ) (s s' : SystemState) (sends : List Sending) (answer : Answer)
-    → IsCalm s now input → AreShown s → IsAtRest s → IsInTime s now → Steps input now s s' sends answer
+    → IsTimely s now input → AreShown s → IsAtRest s → IsInTime s now → Steps input now s s' sends answer
     → IsInTime s' now
 
 abbrev pub LaterLaw : Type 0
@@ -114,5 +114,5 @@ abbrev pub StartedLaw : Type 0
 StartedLaw = (input : Input) (now : ℕ) (s s' : SystemState) (sends : List Sending) (answer : Answer)
     → AreParams s.params → 1 ≤ s.params.timeout
     → ((i : ℕ) (q : Port) → slice_get s.ports i ≡ Some q → IsLog q.log_interval)
-    → IsCalm s now input → AreShown s → IsAtRest s → Steps input now s s' sends answer
+    → IsTimely s now input → AreShown s → IsAtRest s → Steps input now s s' sends answer
     → (timer : Timer) (t : ℕ) → due timer s' ≡ Some t → (due timer s ≡ Some t) ⊎ (now < t)

@@ -124,7 +124,7 @@ abbrev pub keeping : Head → ℕ → SystemState → SystemState
 keeping head now s = record s { sync_in = Some (kept head.source head.sequence (local_time s now)) }
 
 -- what is made of a Sync or a Follow_Up on a port that isn't asCapable
-pub record IsOff (p : ℕ) (s s' : SystemState) (sends : List Sending) (answer : Answer) : Type 0 where
+pub record IsOff (s s' : SystemState) (sends : List Sending) (answer : Answer) : Type 0 where
   pub becomes : Becomes s s' sends
   pub answer_is : answer ≡ answers.Disabled
 
@@ -142,7 +142,7 @@ KeepsIf true head now s s' sends answer = IsKept head now s s' sends answer
 KeepsIf false head now s s' sends answer = IsIgnored s s' sends answer
 
 abbrev pub HearsSyncIf : Bool → ℕ → Head → ℕ → SystemState → SystemState → List Sending → Answer → Type 0
-HearsSyncIf false p head now s s' sends answer = IsOff p s s' sends answer
+HearsSyncIf false p head now s s' sends answer = IsOff s s' sends answer
 HearsSyncIf true p head now s s' sends answer = KeepsIf (is_followed p head s) head now s s' sends answer
 
 abbrev pub HearsSync : ℕ → Head → ℕ → SystemState → SystemState → List Sending → Answer → Type 0
@@ -203,7 +203,7 @@ KnowsIf (Some info) delay rate now s s' sends answer =
     IsKnown info delay rate now s s' sends answer ⊎ IsForgotten info delay rate s s' sends answer
 
 abbrev pub HearsFollowUpIf : Bool → ℕ → FollowUp → ℕ → SystemState → SystemState → List Sending → Answer → Type 0
-HearsFollowUpIf false p m now s s' sends answer = IsOff p s s' sends answer
+HearsFollowUpIf false p m now s s' sends answer = IsOff s s' sends answer
 HearsFollowUpIf true p m now s s' sends answer =
     KnowsIf (said_on p m s) (delay_at s p) (rate_at s p) now s s' sends answer
 

@@ -4,7 +4,6 @@ ghost use Rattle.std.specs.Prelude.{◌≡◌, ◌≤◌};
 ghost use Rattle.gptp_pdelay.specs.Clock.{IsTime};
 ghost use Rattle.gptp_pdelay.specs.declared.answer.Answer.{Answer as Owed};
 ghost use Rattle.gptp_pdelay.specs.Peer.{after_follow_up, after_interval, after_response, changes_capability, follow_up_step, reset_peer, response_step};
-ghost use Rattle.gptp_roles.specs.Selection.{clock_of};
 ghost use Rattle.gptp_scaled.specs.Stamp.{IsSplit};
 ghost use Rattle.gptp_system.specs.Measuring.{answer_of, answering_done, asking, held_if, owing, silenced};
 ghost use Rattle.gptp_system.specs.Sends.{request, response, response_follow_up};
@@ -18,7 +17,7 @@ use gptp_messages::{Head, PdelayResp, PdelayRespFollowUp};
 use gptp_pdelay::{Answer as Owed, Step};
 use gptp_receipt::Held;
 use gptp_scaled::{ScaledNs, Stamp};
-use gptp_vector::{Identity, PortId};
+use gptp_vector::PortId;
 
 /// The logMessageInterval of a response, which has none (IEEE 1588-2019, table 42).
 const NO_INTERVAL: i8 = 0x7F;
@@ -174,16 +173,6 @@ fn follow_up_to(own: PortId, owed: &Owed, time: (Stamp, u16)) -> Sending
     }
 }
 
-/// The portIdentity of a port.
-fn own(identity: &Identity, port: u8) -> PortId
-    ensures { result ≡ record { clock = clock_of identity.now; port = port } }
-{
-    PortId {
-        clock: identity.clock(),
-        port: u16::from(port),
-    }
-}
-
 /// A time as a stamp and the rest below a nanosecond.
 fn split(time: ScaledNs) -> (Stamp, u16)
     requires { IsTime time }
@@ -239,7 +228,7 @@ impl State {
         let sequence = ask(&mut self.ports[usize::from(port) - 1], t1, due);
         insert(
             outbox,
-            request(own(&self.identity, port), self.params.pdelay, sequence),
+            request(self.own(port), self.params.pdelay, sequence),
         );
     }
 
@@ -299,9 +288,9 @@ impl State {
         ensures { Responds port now (state_of self.now) owed.now outbox.new.items }
     {
         let came = split(owed.t2);
-        push(outbox, response_to(own(&self.identity, port), owed, came));
+        push(outbox, response_to(self.own(port), owed, came));
         let went = split(self.local_time(now));
-        push(outbox, follow_up_to(own(&self.identity, port), owed, went));
+        push(outbox, follow_up_to(self.own(port), owed, went));
     }
 
     /// The Respond timer of a port runs out: the port answers what it owes (IEEE 802.1AS-2020, 11.2.20).
