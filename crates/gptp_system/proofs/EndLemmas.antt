@@ -126,12 +126,12 @@ announcement_sent c root steps n (f ∷ fs) (p ∷ qs) (suc i) q marked there =
     behind false member = member
 
 -- whatever is sent is the Announce of a marked port
-abbrev IsMarked : ℕ → ℕ → ℕ → ℕ → List Bool → List Port → Sending → Type 0
+abbrev pub IsMarked : ℕ → ℕ → ℕ → ℕ → List Bool → List Port → Sending → Type 0
 IsMarked c root steps n fs qs x =
     (i : ℕ) × (q : Port) × (slice_get fs i ≡ Some true) × (slice_get qs i ≡ Some q)
     × (x ≡ announcement (record { clock = c; port = n + i }) root steps q)
 
-from_announcements : (c root steps n : ℕ) (fs : List Bool) (qs : List Port) (x : Sending)
+pub from_announcements : (c root steps n : ℕ) (fs : List Bool) (qs : List Port) (x : Sending)
     → In x (announcements c root steps n fs qs)
     → IsMarked c root steps n fs qs x
 from_announcements c root steps n [] qs x member = absurd member

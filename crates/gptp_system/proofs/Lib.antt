@@ -23,3 +23,6 @@ pub mod TimeLemmas
 pub mod InTimeLemmas
 pub mod StartedLemmas
 pub mod SyncLemmas
+pub mod DueLemmas
+pub mod CountLemmas
+pub mod ReachLemmas

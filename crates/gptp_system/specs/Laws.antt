@@ -1,5 +1,5 @@
 -- Laws on the steps of a system.
-use Rattle.std.specs.Prelude.{◌≡◌, ◌≢◌, ◌⊎◌, ◌≤◌, ℕ, List, [], ◌<◌, Some, slice_get}
+use Rattle.std.specs.Prelude.{◌≡◌, ◌≢◌, ◌⊎◌, ◌≤◌, ℕ, List, [], ◌<◌, length, Some, slice_get}
 use Rattle.gptp_roles.specs.Choice.{ArePlaced}
 use Rattle.gptp_roles.specs.SystemTrace.{SlaveReceived}
 use Rattle.gptp_system.specs.declared.answer.Answer.{Answer}
@@ -16,6 +16,7 @@ use Rattle.gptp_system.specs.Follows.{FollowsItself, FollowsPort}
 use Rattle.gptp_system.specs.Measures.{Measures}
 use Rattle.gptp_system.specs.Messages.{AreSent}
 use Rattle.gptp_system.specs.Times.{IsInTime, RunsOn}
+use Rattle.gptp_system.specs.Reach.{IsWithin, Leaves, is_touched, reach}
 use Rattle.gptp_system.specs.Facts.{AreHeld, AreShown, IsAtRest, IsNew, Keeps}
 
 -- a new system is at rest, and what it holds is as it must be
@@ -116,3 +117,15 @@ StartedLaw = (input : Input) (now : ℕ) (s s' : SystemState) (sends : List Send
     → ((i : ℕ) (q : Port) → slice_get s.ports i ≡ Some q → IsLog q.log_interval)
     → IsTimely s now input → AreShown s → IsAtRest s → Steps input now s s' sends answer
     → (timer : Timer) (t : ℕ) → due timer s' ≡ Some t → (due timer s ≡ Some t) ⊎ (now < t)
+
+-- every step sends within its reach
+abbrev pub ReachLaw : Type 0
+ReachLaw = (input : Input) (now : ℕ) (s s' : SystemState) (sends : List Sending) (answer : Answer)
+    → Steps input now s s' sends answer
+    → IsWithin (reach input s) (length s.ports) sends
+
+-- and leaves the timers that its input can't change
+abbrev pub LeavesLaw : Type 0
+LeavesLaw = (input : Input) (now : ℕ) (s s' : SystemState) (sends : List Sending) (answer : Answer)
+    → Steps input now s s' sends answer
+    → Leaves (is_touched input s) s s'

@@ -17,3 +17,4 @@ pub mod Follows
 pub mod Measures
 pub mod Messages
 pub mod Times
+pub mod Reach

@@ -67,3 +67,8 @@ sends_up_to p (x ∷ xs) = if nat_le x.port p then 1 + sends_up_to p xs else 0
 -- a send behind those of its own port and the lower ones
 abbrev pub with_send : Sending → List Sending → List Sending
 with_send x xs = take (sends_up_to x.port xs) xs ++ x ∷ drop (sends_up_to x.port xs) xs
+
+-- how many of the sends are such
+abbrev pub count : (Sending → Bool) → List Sending → ℕ
+count such [] = 0
+count such (x ∷ xs) = if such x then 1 + count such xs else count such xs

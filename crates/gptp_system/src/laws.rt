@@ -1,7 +1,7 @@
 //! What holds of a system between its calls, whatever it is given.
 
-ghost use Rattle.gptp_system.specs.Laws.{AgainLaw, FollowsLaw, HeldLaw, IdentityLaw, InTimeLaw, KeepsLaw, LaterLaw, MeasuresLaw};
-ghost use Rattle.gptp_system.specs.Laws.{PlacedLaw, ReactsLaw, RestLaw, RunsOnLaw, SelectsLaw, SendsLaw, ShownLaw, StartLaw, StartedLaw, TraceLaw};
+ghost use Rattle.gptp_system.specs.Laws.{AgainLaw, FollowsLaw, HeldLaw, IdentityLaw, InTimeLaw, KeepsLaw, LaterLaw, LeavesLaw, MeasuresLaw};
+ghost use Rattle.gptp_system.specs.Laws.{PlacedLaw, ReachLaw, ReactsLaw, RestLaw, RunsOnLaw, SelectsLaw, SendsLaw, ShownLaw, StartLaw, StartedLaw, TraceLaw};
 
 /// A new system, all ports of which are disabled, is at rest and its own root.
 pub fn starts_at_rest()
@@ -78,4 +78,11 @@ pub fn stays_in_time()
 /// Every timer that a step starts is due after now.
 pub fn starts_timers_ahead()
     ensures { StartedLaw }
+{}
+
+/// Every step sends within its reach: nothing, two messages at most at one port, or two at most at each port. It leaves
+/// the timers that its input can't change due when they were.
+pub fn stays_within_reach()
+    ensures sends { ReachLaw }
+    ensures timers { LeavesLaw }
 {}

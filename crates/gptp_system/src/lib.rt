@@ -14,6 +14,7 @@ mod interval;
 pub mod laws;
 mod measuring;
 mod port;
+mod reach;
 mod selection;
 mod sending;
 mod setup;
@@ -25,6 +26,7 @@ mod timer;
 mod views;
 
 pub use answer::Answer;
+pub use reach::Reach;
 pub use sending::{Body, Outbox, Sending};
 pub use setup::{Params, Setup};
 pub use system::System;

@@ -1,6 +1,7 @@
 //! One gPTP system, as it is seen from outside.
 
 use crate::answer::Answer;
+use crate::reach::{Reach, frame_reach};
 use crate::sending::Outbox;
 use crate::setup::Setup;
 use crate::state::State;
@@ -38,6 +39,7 @@ impl System {
     ghost use Rattle.gptp_system.specs.Measuring.{ComesUp, GoesDown};
     ghost use Rattle.std.specs.Option.{option_and_then};
     ghost use Rattle.gptp_pdelay.specs.Peer.{delay_of};
+    ghost use Rattle.gptp_system.specs.Reach.{frame_reach, timer_reach};
     ghost use Rattle.gptp_system.specs.Start.{role_at, started};
     ghost use Rattle.gptp_system.specs.State.{due, is_capable_at, local_time, number, trace};
     ghost use Rattle.gptp_system.specs.Steps.{Expires, HearsFrame, IsDue, IsPortOf, IsTimerOf, IsUp};
@@ -160,6 +162,22 @@ impl System {
         ensures { result ≡ due timer self.now }
     {
         self.state.due(timer)
+    }
+
+    /// At which ports the system can send where a port hears this frame. The first octet tells, whether or not the frame
+    /// reads as a message.
+    pub fn frame_reach(&self, frame: &[u8]) -> Reach
+        ensures { result ≡ frame_reach frame.now }
+    {
+        frame_reach(frame)
+    }
+
+    /// At which ports the system can send where this timer runs out.
+    pub fn timer_reach(&self, timer: Timer) -> Reach
+        requires { IsTimerOf self.now timer }
+        ensures { result ≡ timer_reach timer self.now }
+    {
+        self.state.timer_reach(timer)
     }
 
     /// What its local clock shows at the time `t`, in ns.

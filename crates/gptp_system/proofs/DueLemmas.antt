@@ -1,0 +1,154 @@
+-- Which changes of a state leave which timers due when they were.
+use Rattle.std.proofs.Common.{◌≡◌, ℕ, zero, suc, Bool, false, List, [], ◌∷◌, map, Option, slice_get, refl, sym, ap, subst, ◌∙◌}
+use Rattle.std.specs.Option.{option_and_then}
+use Rattle.gptp_receipt.specs.declared.held.Held.{Held}
+use Rattle.gptp_receipt.specs.declared.held.Held.TheVariants as helds
+use Rattle.gptp_system.specs.declared.port.Port.{Port}
+use Rattle.gptp_system.specs.declared.sending.Sending.{Sending}
+use Rattle.gptp_system.specs.declared.setup.Params.{Params}
+use Rattle.gptp_system.specs.declared.timer.Timer.{Timer}
+use Rattle.gptp_system.specs.declared.timer.Timer.TheVariants as timers
+use Rattle.gptp_system.specs.State.{SystemState, age_due, announce_due, change, change_at, held_at, number, on_port}
+use Rattle.gptp_system.specs.Selection.{Selects, all_announced, choosing, fresh_ports}
+use Rattle.gptp_system.specs.Syncing.{counted, telling}
+use Rattle.gptp_system.specs.Reach.{Leaves, is_selected}
+use Rattle.gptp_system.proofs.PortLemmas.{all_announced-map, counted-map, with_sync}
+
+-- ---- places
+
+at_map : {X : Type 0} (g : X → Option ℕ) (xs : List X) (i : ℕ)
+    → option_and_then g (slice_get xs i) ≡ option_and_then (λ y. y) (slice_get (map g xs) i)
+at_map g [] i = refl
+at_map g (x ∷ xs) zero = refl
+at_map g (x ∷ xs) (suc i) = at_map g xs i
+
+-- where all members give the same, so does that at a number
+same_number : {X : Type 0} (g : X → Option ℕ) (xs ys : List X) → map g xs ≡ map g ys → (p : ℕ)
+    → option_and_then g (number xs p) ≡ option_and_then g (number ys p)
+same_number g xs ys same zero = refl
+same_number g xs ys same (suc i) =
+    at_map g xs i ∙ ap (λ zs. option_and_then (λ y. y) (slice_get zs i)) same ∙ sym (at_map g ys i)
+
+changed_at : {X : Type 0} (g : X → Option ℕ) (f : X → X) (j : ℕ) (xs : List X) (i : ℕ)
+    → ((x : X) → i ≡ j → g (f x) ≡ g x)
+    → option_and_then g (slice_get (change_at f j xs) i) ≡ option_and_then g (slice_get xs i)
+changed_at g f j [] i same = refl
+changed_at g f zero (x ∷ xs) zero same = same x refl
+changed_at g f zero (x ∷ xs) (suc i) same = refl
+changed_at g f (suc j) (x ∷ xs) zero same = refl
+changed_at g f (suc j) (x ∷ xs) (suc i) same = changed_at g f j xs i (λ y here. same y (ap suc here))
+
+-- where the member at the number gives the same, so does every other
+changed_number : {X : Type 0} (g : X → Option ℕ) (f : X → X) (p : ℕ) (xs : List X) (n : ℕ)
+    → ((x : X) → n ≡ p → g (f x) ≡ g x)
+    → option_and_then g (number (change f p xs) n) ≡ option_and_then g (number xs n)
+changed_number g f zero xs n same = refl
+changed_number g f (suc j) xs zero same = refl
+changed_number g f (suc j) xs (suc i) same = changed_at g f j xs i (λ x here. same x (ap suc here))
+
+-- ---- one port
+
+same_announce : (q q' : Port) (h : Held) → q'.announce ≡ q.announce → announce_due q' h ≡ announce_due q h
+same_announce q q' helds.Disabled same = refl
+same_announce q q' helds.Aged same = refl
+same_announce q q' (helds.Mine root steps) same = rw same refl
+same_announce q q' (helds.Received vector path at) same = refl
+
+same_age : (params : Params) (q q' : Port) (h : Held) → q'.log_interval ≡ q.log_interval
+    → age_due params q' h ≡ age_due params q h
+same_age params q q' h same = rw same refl
+
+-- a change of port p that leaves these timers
+pub record Spares (touched : Timer → Bool) (p : ℕ) (f : Port → Port) : Type 0 where
+  pub log : (q : Port) → (f q).log_interval ≡ q.log_interval
+  pub announce : touched (timers.Announce p) ≡ false → (q : Port) → (f q).announce ≡ q.announce
+  pub pdelay : touched (timers.Pdelay p) ≡ false → (q : Port) → (f q).pdelay ≡ q.pdelay
+  pub respond : touched (timers.Respond p) ≡ false → (q : Port) → (f q).respond ≡ q.respond
+
+pub on_port_leaves : (touched : Timer → Bool) (p : ℕ) (f : Port → Port) → Spares touched p f → (s : SystemState)
+    → Leaves touched s (on_port p f s)
+on_port_leaves touched p f k s (timers.Announce n) off =
+    changed_number (λ q. announce_due q (held_at s n)) f p s.ports n
+    (λ q here. same_announce q (f q) (held_at s n)
+    (k.announce (subst (λ m. touched (timers.Announce m) ≡ false) here off) q))
+on_port_leaves touched p f k s (timers.Age n) off =
+    changed_number (λ q. age_due s.params q (held_at s n)) f p s.ports n
+    (λ q here. same_age s.params q (f q) (held_at s n) (k.log q))
+on_port_leaves touched p f k s (timers.Pdelay n) off =
+    changed_number (λ (q : Port). q.pdelay) f p s.ports n
+    (λ q here. k.pdelay (subst (λ m. touched (timers.Pdelay m) ≡ false) here off) q)
+on_port_leaves touched p f k s (timers.Respond n) off =
+    changed_number (λ (q : Port). q.respond) f p s.ports n
+    (λ q here. k.respond (subst (λ m. touched (timers.Respond m) ≡ false) here off) q)
+on_port_leaves touched p f k s timers.Sync off = refl
+on_port_leaves touched p f k s timers.Relay off = refl
+
+-- ---- all ports
+
+-- two timers of the system may differ
+pub apart_leaves : (touched : Timer → Bool) (s s' : SystemState) → s'.ports ≡ s.ports → s'.held ≡ s.held
+    → s'.params ≡ s.params
+    → (touched timers.Sync ≡ false → s'.sync ≡ s.sync)
+    → (touched timers.Relay ≡ false → s'.relay ≡ s.relay)
+    → Leaves touched s s'
+apart_leaves touched s s' ports held params sync relay (timers.Announce n) off = rw (ports, held) refl
+apart_leaves touched s s' ports held params sync relay (timers.Age n) off = rw (ports, held, params) refl
+apart_leaves touched s s' ports held params sync relay (timers.Pdelay n) off = rw ports refl
+apart_leaves touched s s' ports held params sync relay (timers.Respond n) off = rw ports refl
+apart_leaves touched s s' ports held params sync relay timers.Sync off = rw (sync off) refl
+apart_leaves touched s s' ports held params sync relay timers.Relay off = relay off
+
+pub leaves_itself : (touched : Timer → Bool) (s : SystemState) → Leaves touched s s
+leaves_itself touched s timer off = refl
+
+pub leaves_on : (touched : Timer → Bool) (s t u : SystemState) → Leaves touched s t → Leaves touched t u
+    → Leaves touched s u
+leaves_on touched s t u a b timer off = b timer off ∙ a timer off
+
+-- all timers that selection can change are among these
+abbrev pub CoversSelection : (Timer → Bool) → Type 0
+CoversSelection touched = (timer : Timer) → touched timer ≡ false → is_selected timer ≡ false
+
+-- what the ports hold becomes anything
+pub held_leaves : (touched : Timer → Bool) → CoversSelection touched → (s : SystemState) (hs : List Held)
+    → Leaves touched s (record s { held = hs })
+held_leaves touched covers s hs (timers.Announce n) off =
+    absurd (let on = covers (timers.Announce n) off in cc)
+held_leaves touched covers s hs (timers.Age n) off = absurd (let on = covers (timers.Age n) off in cc)
+held_leaves touched covers s hs (timers.Pdelay n) off = refl
+held_leaves touched covers s hs (timers.Respond n) off = refl
+held_leaves touched covers s hs timers.Sync off = refl
+held_leaves touched covers s hs timers.Relay off = refl
+
+pub selects_leaves : (touched : Timer → Bool) → CoversSelection touched → (now : ℕ) (t u : SystemState)
+    (sends : List Sending) → Selects now t u sends → Leaves touched t u
+selects_leaves touched covers now t u sends k = subst (Leaves touched t) (sym k.state) go
+  where
+    go : Leaves touched t (choosing k.vector now t)
+    go (timers.Announce n) off = absurd (let on = covers (timers.Announce n) off in cc)
+    go (timers.Age n) off = absurd (let on = covers (timers.Age n) off in cc)
+    go (timers.Pdelay n) off =
+        same_number (λ (q : Port). q.pdelay) (all_announced now (fresh_ports k.vector t) t.ports) t.ports
+        (all_announced-map (λ (q : Port). q.pdelay) now (λ q. refl) (fresh_ports k.vector t) t.ports) n
+    go (timers.Respond n) off =
+        same_number (λ (q : Port). q.respond) (all_announced now (fresh_ports k.vector t) t.ports) t.ports
+        (all_announced-map (λ (q : Port). q.respond) now (λ q. refl) (fresh_ports k.vector t) t.ports) n
+    go timers.Sync off = refl
+    go timers.Relay off = absurd (let on = covers timers.Relay off in cc)
+
+pub telling_leaves : (touched : Timer → Bool) (s : SystemState) → Leaves touched s (telling s)
+telling_leaves touched s (timers.Announce n) off =
+    let g : Port → Option ℕ = λ q. announce_due q (held_at s n) in
+    same_number g (counted s.held s.ports) s.ports
+    (counted-map g (λ q. same_announce q (with_sync q) (held_at s n) refl) s.held s.ports) n
+telling_leaves touched s (timers.Age n) off =
+    let g : Port → Option ℕ = λ q. age_due s.params q (held_at s n) in
+    same_number g (counted s.held s.ports) s.ports (counted-map g (λ q. refl) s.held s.ports) n
+telling_leaves touched s (timers.Pdelay n) off =
+    same_number (λ (q : Port). q.pdelay) (counted s.held s.ports) s.ports
+    (counted-map (λ (q : Port). q.pdelay) (λ q. refl) s.held s.ports) n
+telling_leaves touched s (timers.Respond n) off =
+    same_number (λ (q : Port). q.respond) (counted s.held s.ports) s.ports
+    (counted-map (λ (q : Port). q.respond) (λ q. refl) s.held s.ports) n
+telling_leaves touched s timers.Sync off = refl
+telling_leaves touched s timers.Relay off = refl
