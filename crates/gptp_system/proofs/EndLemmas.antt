@@ -95,7 +95,7 @@ fresh_mine v c n h fresh = held_after-master v c n h (go (is_master (role_of v c
 -- ---- the Announces of marked ports
 
 -- a marked port's Announce is sent
-announcement_sent : (c root steps n : ℕ) (fs : List Bool) (qs : List Port) (i : ℕ) (q : Port)
+pub announcement_sent : (c root steps n : ℕ) (fs : List Bool) (qs : List Port) (i : ℕ) (q : Port)
     → slice_get fs i ≡ Some true
     → slice_get qs i ≡ Some q
     → In (announcement (record { clock = c; port = n + i }) root steps q) (announcements c root steps n fs qs)

@@ -25,4 +25,7 @@ pub mod StartedLemmas
 pub mod SyncLemmas
 pub mod DueLemmas
 pub mod CountLemmas
+pub mod TypeLemmas
+pub mod WithinLemmas
+pub mod CounterLemmas
 pub mod ReachLemmas

@@ -38,7 +38,7 @@ use Rattle.gptp_system.proofs.SendLemmas.{syncs_tell}
 silent_all : (kind : Kind) (sends : List Sending) → sends ≡ [] → AllAre kind sends
 silent_all kind sends none x member = absurd (subst (In x) none member)
 
-announcements_announce : (c root steps n : ℕ) (fs : List Bool) (qs : List Port)
+pub announcements_announce : (c root steps n : ℕ) (fs : List Bool) (qs : List Port)
     → AllAre Announcing (announcements c root steps n fs qs)
 announcements_announce c root steps n [] qs x member = absurd member
 announcements_announce c root steps n (f ∷ fs) [] x member = absurd member

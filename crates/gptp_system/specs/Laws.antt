@@ -16,6 +16,7 @@ use Rattle.gptp_system.specs.Follows.{FollowsItself, FollowsPort}
 use Rattle.gptp_system.specs.Measures.{Measures}
 use Rattle.gptp_system.specs.Messages.{AreSent}
 use Rattle.gptp_system.specs.Times.{IsInTime, RunsOn}
+use Rattle.gptp_system.specs.Counters.{AreCounted}
 use Rattle.gptp_system.specs.Reach.{IsWithin, Leaves, is_touched, reach}
 use Rattle.gptp_system.specs.Facts.{AreHeld, AreShown, IsAtRest, IsNew, Keeps}
 
@@ -129,3 +130,9 @@ abbrev pub LeavesLaw : Type 0
 LeavesLaw = (input : Input) (now : ℕ) (s s' : SystemState) (sends : List Sending) (answer : Answer)
     → Steps input now s s' sends answer
     → Leaves (is_touched input s) s s'
+
+-- every step counts the Announces and the Syncs that it sends
+abbrev pub CountersLaw : Type 0
+CountersLaw = (input : Input) (now : ℕ) (s s' : SystemState) (sends : List Sending) (answer : Answer)
+    → Steps input now s s' sends answer
+    → AreCounted s s' sends

@@ -18,3 +18,4 @@ pub mod Measures
 pub mod Messages
 pub mod Times
 pub mod Reach
+pub mod Counters

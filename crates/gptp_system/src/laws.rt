@@ -1,6 +1,6 @@
 //! What holds of a system between its calls, whatever it is given.
 
-ghost use Rattle.gptp_system.specs.Laws.{AgainLaw, FollowsLaw, HeldLaw, IdentityLaw, InTimeLaw, KeepsLaw, LaterLaw, LeavesLaw, MeasuresLaw};
+ghost use Rattle.gptp_system.specs.Laws.{AgainLaw, CountersLaw, FollowsLaw, HeldLaw, IdentityLaw, InTimeLaw, KeepsLaw, LaterLaw, LeavesLaw, MeasuresLaw};
 ghost use Rattle.gptp_system.specs.Laws.{PlacedLaw, ReachLaw, ReactsLaw, RestLaw, RunsOnLaw, SelectsLaw, SendsLaw, ShownLaw, StartLaw, StartedLaw, TraceLaw};
 
 /// A new system, all ports of which are disabled, is at rest and its own root.
@@ -85,4 +85,10 @@ pub fn starts_timers_ahead()
 pub fn stays_within_reach()
     ensures sends { ReachLaw }
     ensures timers { LeavesLaw }
+{}
+
+/// The sequence numbers of every port go on by one for each Announce and each Sync that a step sends there, and by no
+/// other message. They wrap at 65536.
+pub fn counts_what_it_sends()
+    ensures { CountersLaw }
 {}
