@@ -1,5 +1,7 @@
 //! What a system keeps.
 
+ghost use Rattle.std.specs.Prelude.{◌≡◌, ◌≤◌, length};
+
 use crate::port::Port;
 use crate::setup::Params;
 use arrayvec::ArrayVec;
@@ -25,4 +27,54 @@ pub struct State {
     pub(crate) relay: Option<u64>,
     pub(crate) ports: ArrayVec<Port, 16>,
     pub(crate) held: ArrayVec<Held, 16>,
+}
+
+/// What the ports hold, again.
+fn copy_held(held: &[Held]) -> ArrayVec<Held, 16>
+    requires { length held.now ≤ 16 }
+    ensures { result.items ≡ held.now }
+{
+    let mut copies = ArrayVec::new();
+    for one in held {
+        copies.push(one.copy());
+    }
+    copies
+}
+
+/// The ports, again.
+fn copy_ports(ports: &[Port]) -> ArrayVec<Port, 16>
+    requires { length ports.now ≤ 16 }
+    ensures { result.items ≡ ports.now }
+{
+    let mut copies = ArrayVec::new();
+    let _ = copies.try_extend_from_slice(ports);
+    copies
+}
+
+impl State {
+    ghost use Rattle.std.specs.Prelude.{◌≡◌};
+    ghost use Rattle.gptp_system.specs.Ready.{IsReady, state_of};
+
+    /// The same state again.
+    pub(crate) fn copy(&self) -> State
+        requires { IsReady (state_of self.now) }
+        ensures { state_of result ≡ state_of self.now }
+    {
+        State {
+            params: self.params,
+            phase: self.phase,
+            drift: self.drift,
+            identity: self.identity,
+            root: self.root,
+            steps: self.steps,
+            slave: self.slave,
+            sync_in: self.sync_in,
+            known: self.known,
+            offset: self.offset,
+            sync: self.sync,
+            relay: self.relay,
+            ports: copy_ports(self.ports.as_slice()),
+            held: copy_held(self.held.as_slice()),
+        }
+    }
 }

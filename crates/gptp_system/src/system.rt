@@ -59,6 +59,15 @@ impl System {
         }
     }
 
+    /// The same system again. It takes no memory, and costs what the paths have that its ports hold.
+    pub fn copy(&self) -> System
+        ensures { result ≡ self.now }
+    {
+        System {
+            state: self.state.copy(),
+        }
+    }
+
     /// A port hears a frame whose link is up, at `now`: what became of it. The outbox is empty at entry of this and of every other call.
     pub fn on_frame(&mut self, port: u8, frame: &[u8], now: u64, outbox: &mut Outbox) -> Answer
         requires moment { IsMoment now }
