@@ -29,3 +29,4 @@ pub mod TypeLemmas
 pub mod WithinLemmas
 pub mod CounterLemmas
 pub mod ReachLemmas
+pub mod SpanLemmas

@@ -120,6 +120,13 @@ held_stands hs i h is on = go (slice_get hs i) is
     go None e = absurd (on (sym e))
     go (Some g) e = ap (λ x. Some x) e
 
+-- a port that announces is Mine
+pub mine_due : (q : Port) (h : Held) (u : ℕ) → announce_due q h ≡ Some u → (is_mine h ≡ true) × (q.announce ≡ u)
+mine_due q helds.Disabled u e = absurd (none-some u e)
+mine_due q helds.Aged u e = absurd (none-some u e)
+mine_due q (helds.Received vector path at) u e = absurd (none-some u e)
+mine_due q (helds.Mine root steps) u e = (refl, same_Some q.announce u e)
+
 -- the Announce timer and the Age timer of one port, by what it holds
 port_runs : (s s' : SystemState) (touch : Touch) (now : ℕ) (sends : List Sending) (i : ℕ) (h' : Held) (q' : Port)
     → Keeps s s'
@@ -140,12 +147,6 @@ port_runs s s' touch now sends i h' q' kept kept_long logs r t = (announces, age
         → option_and_then (λ q. g q (option_map_or (λ x. x) (slice_get s.held i) helds.Disabled))
         (slice_get s.ports i) ≡ Some t
     was_due g e = rw (r.held_there, r.port_there) e
-
-    mine_due : (q : Port) (h : Held) (u : ℕ) → announce_due q h ≡ Some u → (is_mine h ≡ true) × (q.announce ≡ u)
-    mine_due q helds.Disabled u e = absurd (none-some u e)
-    mine_due q helds.Aged u e = absurd (none-some u e)
-    mine_due q (helds.Received vector path at) u e = absurd (none-some u e)
-    mine_due q (helds.Mine root steps) u e = (refl, same_Some q.announce u e)
 
     due_mine : (q : Port) (h : Held) (u : ℕ) → is_mine h ≡ true → q.announce ≡ u → announce_due q h ≡ Some u
     due_mine q helds.Disabled u e is = absurd cc
@@ -212,7 +213,7 @@ port_runs s s' touch now sends i h' q' kept kept_long logs r t = (announces, age
             ends (inr m) = absurd (none-some reception (sym (ap received m.mine) ∙ got))
 
 -- what stands in both lists at the number of a port
-at_number : {X : Type 0} (f : Port → Option X) (qs : List Port) (p : ℕ) (x : X)
+pub at_number : {X : Type 0} (f : Port → Option X) (qs : List Port) (p : ℕ) (x : X)
     → option_and_then f (number qs p) ≡ Some x
     → (i : ℕ) × (q : Port) × (p ≡ suc i) × (slice_get qs i ≡ Some q) × (f q ≡ Some x)
 at_number f qs zero x is = absurd (none-some x is)
@@ -232,12 +233,14 @@ age_on params q h t is e = none-some t (ap (age_due params q) (sym e) ∙ is)
 
 pub started_later : (input : Input) (now : ℕ) (s s' : SystemState) (sends : List Sending) (answer : Answer)
     → AreParams s.params
-    → 1 ≤ s.params.timeout → ((i : ℕ) (q : Port) → slice_get s.ports i ≡ Some q → IsLog q.log_interval)
-    → IsTimely s now input
+    → ((i : ℕ) (q : Port) → slice_get s.ports i ≡ Some q → IsLog q.log_interval) → IsTimely s now input
     → AreShown s → IsAtRest s → Steps input now s s' sends answer
     → (timer : Timer) (t : ℕ) → due timer s' ≡ Some t → (due timer s ≡ Some t) ⊎ (now < t)
-started_later input now s s' sends answer params kept_long logs calm shown rest step = go
+started_later input now s s' sends answer params logs calm shown rest step = go
   where
+    kept_long : 1 ≤ s.params.timeout
+    kept_long = let least = params.timeout-least in omega arith
+
     reacts : Answers (IsSeenAs s input) s now s' sends
     reacts = steps_react input now s s' sends answer calm shown rest step
 

@@ -12,12 +12,17 @@ pub record IsLog (log : ℤ) : Type 0 where
   pub low : neg_ℤ (pos 4) ≤ℤ log
   pub high : log ≤ℤ pos 4
 
--- the limits of a network (profile)
+-- the range of each parameter of a network (profile)
 pub record AreParams (p : Params) : Type 0 where
   pub announce : IsLog p.announce
   pub sync : IsLog p.sync
   pub pdelay : IsLog p.pdelay
+  pub timeout-least : 3 ≤ p.timeout
   pub timeout : p.timeout ≤ 10
+  pub lost-least : 1 ≤ p.lost
+  pub lost : p.lost ≤ 255
+  pub threshold-least : 1 ≤ p.threshold
+  pub threshold : p.threshold ≤ 1000000000
   pub turnaround-least : 1 ≤ p.turnaround
   pub turnaround : p.turnaround ≤ 1000000000
   pub residence-least : 1 ≤ p.residence

@@ -1,10 +1,11 @@
 -- Laws on the steps of a system.
-use Rattle.std.specs.Prelude.{◌≡◌, ◌≢◌, ◌⊎◌, ◌≤◌, ℕ, List, [], ◌<◌, length, Some, slice_get}
+use Rattle.std.specs.Prelude.{◌≡◌, ◌≢◌, ◌⊎◌, ◌≤◌, ℕ, List, [], ◌+◌, ◌<◌, length, Some, slice_get}
 use Rattle.gptp_roles.specs.Choice.{ArePlaced}
 use Rattle.gptp_roles.specs.SystemTrace.{SlaveReceived}
 use Rattle.gptp_system.specs.declared.answer.Answer.{Answer}
 use Rattle.gptp_system.specs.declared.port.Port.{Port}
 use Rattle.gptp_system.specs.declared.sending.Sending.{Sending}
+use Rattle.gptp_system.specs.declared.setup.Setup.{Setup}
 use Rattle.gptp_system.specs.declared.timer.Timer.{Timer}
 use Rattle.gptp_system.specs.Intervals.{AreParams, IsLog}
 use Rattle.gptp_system.specs.State.{SystemState, due}
@@ -18,6 +19,8 @@ use Rattle.gptp_system.specs.Messages.{AreSent}
 use Rattle.gptp_system.specs.Times.{IsInTime, RunsOn}
 use Rattle.gptp_system.specs.Counters.{AreCounted}
 use Rattle.gptp_system.specs.Reach.{IsWithin, Leaves, is_touched, reach}
+use Rattle.gptp_system.specs.Ready.{IsReady}
+use Rattle.gptp_system.specs.Start.{started}
 use Rattle.gptp_system.specs.Facts.{AreHeld, AreShown, IsAtRest, IsNew, Keeps}
 
 -- a new system is at rest, and what it holds is as it must be
@@ -105,6 +108,10 @@ InTimeLaw = (input : Input) (now : ℕ) (s s' : SystemState) (sends : List Sendi
 abbrev pub LaterLaw : Type 0
 LaterLaw = (s : SystemState) (now t : ℕ) → now ≤ t → IsInTime s now → IsInTime s t
 
+-- a new system is in time
+abbrev pub StartsInTimeLaw : Type 0
+StartsInTimeLaw = (setup : Setup) (now : ℕ) → IsInTime (started setup now) now
+
 -- every step lets the two timers of the system run on or begin anew
 abbrev pub RunsOnLaw : Type 0
 RunsOnLaw = (input : Input) (now : ℕ) (s s' : SystemState) (sends : List Sending) (answer : Answer)
@@ -114,10 +121,15 @@ RunsOnLaw = (input : Input) (now : ℕ) (s s' : SystemState) (sends : List Sendi
 -- every timer that a step starts is due after now
 abbrev pub StartedLaw : Type 0
 StartedLaw = (input : Input) (now : ℕ) (s s' : SystemState) (sends : List Sending) (answer : Answer)
-    → AreParams s.params → 1 ≤ s.params.timeout
+    → AreParams s.params
     → ((i : ℕ) (q : Port) → slice_get s.ports i ≡ Some q → IsLog q.log_interval)
     → IsTimely s now input → AreShown s → IsAtRest s → Steps input now s s' sends answer
     → (timer : Timer) (t : ℕ) → due timer s' ≡ Some t → (due timer s ≡ Some t) ⊎ (now < t)
+
+-- a timer is due within ten announce intervals of sixteen seconds
+abbrev pub SpanLaw : Type 0
+SpanLaw = (s : SystemState) (now : ℕ) → IsReady s → IsInTime s now
+    → (timer : Timer) (t : ℕ) → due timer s ≡ Some t → t ≤ now + 160000000000
 
 -- every step sends within its reach
 abbrev pub ReachLaw : Type 0

@@ -1,7 +1,7 @@
 //! What holds of a system between its calls, whatever it is given.
 
 ghost use Rattle.gptp_system.specs.Laws.{AgainLaw, CountersLaw, FollowsLaw, HeldLaw, IdentityLaw, InTimeLaw, KeepsLaw, LaterLaw, LeavesLaw, MeasuresLaw};
-ghost use Rattle.gptp_system.specs.Laws.{PlacedLaw, ReachLaw, ReactsLaw, RestLaw, RunsOnLaw, SelectsLaw, SendsLaw, ShownLaw, StartLaw, StartedLaw, TraceLaw};
+ghost use Rattle.gptp_system.specs.Laws.{PlacedLaw, ReachLaw, ReactsLaw, RestLaw, RunsOnLaw, SelectsLaw, SendsLaw, ShownLaw, SpanLaw, StartLaw, StartedLaw, StartsInTimeLaw, TraceLaw};
 
 /// A new system, all ports of which are disabled, is at rest and its own root.
 pub fn starts_at_rest()
@@ -68,11 +68,14 @@ pub fn sends_what_its_input_asks()
 {}
 
 /// After every step each timer is due within its own span from now: Announce within an announce interval, Pdelay, Sync,
-/// Respond and Relay within theirs; and what is held was received no later than now.
+/// Respond and Relay within theirs; and what is held was received no later than now. So it is with a new system, and each
+/// timer that runs is due at most 160 s from now.
 pub fn stays_in_time()
+    ensures start { StartsInTimeLaw }
     ensures steps { InTimeLaw }
     ensures later { LaterLaw }
     ensures system { RunsOnLaw }
+    ensures span { SpanLaw }
 {}
 
 /// Every timer that a step starts is due after now.

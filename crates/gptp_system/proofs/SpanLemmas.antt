@@ -1,0 +1,133 @@
+-- How far ahead the timers of a system are due, and those of a new one.
+use Rattle.std.proofs.Common.{◌≡◌, ◌≤◌, ℕ, zero, suc, ◌+◌, ◌*◌, ℤ, pos, negsuc, true, List, [], ◌∷◌, get_or, Option, Some, None, slice_get, refl, sym, ap, subst, ◌∙◌, arith, mul-le-mul}
+use Rattle.std.specs.List.{AllByRecursion, range_with_len}
+use Rattle.std.specs.Option.{option_map, option_map_or}
+use Rattle.std.proofs.lemmas.Int.{ints}
+use Rattle.std.proofs.lemmas.Option.{none-some, same_Some, slice_get-get_or, slice_get-map, slice_get_within}
+use Rattle.gptp_receipt.specs.declared.held.Held.{Held}
+use Rattle.gptp_receipt.specs.declared.held.Held.TheVariants as helds
+use Rattle.gptp_receipt.specs.Held.{Reception, received}
+use Rattle.gptp_roles.specs.Selection.{clock_of}
+use Rattle.gptp_system.specs.declared.port.Port.{Port}
+use Rattle.gptp_system.specs.declared.setup.Setup.{Setup}
+use Rattle.gptp_system.specs.declared.timer.Timer.{Timer}
+use Rattle.gptp_system.specs.declared.timer.Timer.TheVariants as timers
+use Rattle.gptp_system.specs.Intervals.{IsLog, interval_of}
+use Rattle.gptp_system.specs.State.{SystemState, age_due, announce_due, due, held_at, is_mine, span_of}
+use Rattle.gptp_system.specs.Ready.{IsPort, IsReady}
+use Rattle.gptp_system.specs.Start.{all_disabled, new_port, new_ports, started}
+use Rattle.gptp_system.specs.Times.{IsInTime, IsPortInTime}
+use Rattle.gptp_system.proofs.StartedLemmas.{at_number, mine_due}
+
+-- no interval is above sixteen seconds
+interval_most : (log : ℤ) → IsLog log → interval_of log ≤ 16000000000
+interval_most (pos zero) k = omega arith
+interval_most (pos (suc zero)) k = omega arith
+interval_most (pos (suc (suc zero))) k = omega arith
+interval_most (pos (suc (suc (suc zero)))) k = omega arith
+interval_most (pos (suc (suc (suc (suc zero))))) k = omega arith
+interval_most (pos (suc (suc (suc (suc (suc n)))))) k = let high = k.high in absurd (omega (arith, ints))
+interval_most (negsuc zero) k = omega arith
+interval_most (negsuc (suc zero)) k = omega arith
+interval_most (negsuc (suc (suc zero))) k = omega arith
+interval_most (negsuc (suc (suc (suc zero)))) k = omega arith
+interval_most (negsuc (suc (suc (suc (suc n))))) k = let low = k.low in absurd (omega (arith, ints))
+
+all_at : {X : Type 0} (P : X → Type 0) (xs : List X) (i : ℕ) (x : X) → AllByRecursion P xs → slice_get xs i ≡ Some x
+    → P x
+all_at P [] i x all there = absurd (none-some x there)
+all_at P (y ∷ xs) zero x all there = subst P (same_Some y x there) all.0
+all_at P (y ∷ xs) (suc i) x all there = all_at P xs i x all.1 there
+
+module _ (s : SystemState) (now : ℕ) (ready : IsReady s) (k : IsInTime s now) where
+  -- what a port holds, and its timers
+  port_in_time : (i : ℕ) (q : Port) → slice_get s.ports i ≡ Some q
+      → (slice_get s.held i ≡ Some (held_at s (suc i))) × IsPortInTime s.params now (held_at s (suc i)) q
+  port_in_time i q there =
+      let within = slice_get_within s.ports i q there in
+      let few = ready.places in
+      let stands = slice_get-get_or s.held i helds.Disabled (omega arith) in
+      let here : held_at s (suc i) ≡ get_or s.held i helds.Disabled =
+      ap (λ o. option_map_or (λ h. h) o helds.Disabled) stands in
+      let same : slice_get s.held i ≡ Some (held_at s (suc i)) = stands ∙ ap (λ h. Some h) (sym here) in
+      (same, k.each i (held_at s (suc i)) q same there)
+
+  interval_few : (i : ℕ) (q : Port) → slice_get s.ports i ≡ Some q → interval_of q.log_interval ≤ 16000000000
+  interval_few i q there = interval_most q.log_interval (all_at IsPort s.ports i q ready.ports there).log_interval
+
+  age_few : (i : ℕ) (q : Port) → slice_get s.ports i ≡ Some q → (t : ℕ)
+      → age_due s.params q (held_at s (suc i)) ≡ Some t → t ≤ now + 160000000000
+  age_few i q there t is = go (received (held_at s (suc i))) refl is
+    where
+      go : (o : Option Reception) → received (held_at s (suc i)) ≡ o
+          → option_map (λ (r : Reception). r.at + span_of s.params q) o ≡ Some t → t ≤ now + 160000000000
+      go None none e = absurd (none-some t e)
+      go (Some r) got e =
+          let came = (port_in_time i q there).1.came r got in
+          let span : span_of s.params q ≤ 10 * 16000000000 = mul-le-mul ready.params.timeout (interval_few i q there) in
+          let same = same_Some (r.at + span_of s.params q) t e in
+          omega arith
+
+  -- each timer is due within ten announce intervals of sixteen seconds
+  pub due_within : (timer : Timer) (t : ℕ) → due timer s ≡ Some t → t ≤ now + 160000000000
+  due_within timers.Sync t is =
+      let sync = k.sync in
+      let few = interval_most s.params.sync ready.params.sync in
+      let same = same_Some s.sync t is in
+      omega arith
+  due_within timers.Relay t is = let relay = k.relay t is in let few = ready.params.residence in omega arith
+  due_within (timers.Announce p) t is =
+      let (i, q, number_is, there, e) = at_number (λ q. announce_due q (held_at s p)) s.ports p t is in
+      let here = (mine_due q (held_at s p) t e).0 in
+      let same = (mine_due q (held_at s p) t e).1 in
+      let soon = (port_in_time i q there).1.announce (subst (λ n. is_mine (held_at s n) ≡ true) number_is here) in
+      let few = interval_few i q there in
+      omega arith
+  due_within (timers.Age p) t is =
+      let (i, q, number_is, there, e) = at_number (λ q. age_due s.params q (held_at s p)) s.ports p t is in
+      age_few i q there t (subst (λ n. age_due s.params q (held_at s n) ≡ Some t) number_is e)
+  due_within (timers.Pdelay p) t is =
+      let (i, q, number_is, there, e) = at_number (λ (q : Port). q.pdelay) s.ports p t is in
+      let soon = (port_in_time i q there).1.pdelay t e in
+      let few = interval_most s.params.pdelay ready.params.pdelay in
+      omega arith
+  due_within (timers.Respond p) t is =
+      let (i, q, number_is, there, e) = at_number (λ (q : Port). q.respond) s.ports p t is in
+      let soon = (port_in_time i q there).1.respond t e in
+      let few = ready.params.turnaround in
+      omega arith
+
+-- ---- the start
+
+mapped : {X Y : Type 0} (f : X → Y) (o : Option X) (y : Y) → option_map f o ≡ Some y → (x : X) × (y ≡ f x)
+mapped f None y is = absurd (none-some y is)
+mapped f (Some x) y is = (x, sym (same_Some (f x) y is))
+
+pub starts_in_time : (setup : Setup) (now : ℕ) → IsInTime (started setup now) now
+starts_in_time setup now = record { each = each; sync = omega arith; relay = λ t is. absurd (none-some t is) }
+  where
+    new : ℕ → Port
+    new p = new_port (record { clock = clock_of setup.identity; port = p }) setup.params
+
+    silent : Held → ℕ → Held
+    silent h p = h
+
+    quiet : (p : ℕ) → IsPortInTime setup.params now helds.Disabled (new p)
+    quiet p = record {
+      announce = λ mine. absurd cc;
+      came = λ r is. absurd (none-some r is);
+      pdelay = λ t is. absurd (none-some t is);
+      respond = λ t is. absurd (none-some t is);
+    }
+
+    each : (i : ℕ) (h : Held) (q : Port) → slice_get (all_disabled setup.ports) i ≡ Some h
+        → slice_get (new_ports (clock_of setup.identity) setup.params setup.ports) i ≡ Some q
+        → IsPortInTime setup.params now h q
+    each i h q stands there =
+        let (m, off) =
+        mapped (silent helds.Disabled) (slice_get (range_with_len 1 setup.ports) i) h
+        (sym (slice_get-map (silent helds.Disabled) (range_with_len 1 setup.ports) i) ∙ stands) in
+        let (n, is) =
+        mapped new (slice_get (range_with_len 1 setup.ports) i) q
+        (sym (slice_get-map new (range_with_len 1 setup.ports) i) ∙ there) in
+        rw (off, is) (quiet n)
