@@ -32,7 +32,7 @@ impl Model for System {
 }
 
 impl System {
-    ghost use Rattle.std.specs.Prelude.{◌≡◌, ◌≤◌, []};
+    ghost use Rattle.std.specs.Prelude.{◌≡◌, ◌≤◌, [], length};
     ghost use Rattle.gptp_pdelay.specs.Clock.{IsDrift};
     ghost use Rattle.gptp_system.specs.Announcing.{ChangesPriority};
     ghost use Rattle.gptp_system.specs.Intervals.{AreParams, IsMoment};
@@ -139,6 +139,13 @@ impl System {
         ensures { result ≡ trace self.now }
     {
         self.state.trace()
+    }
+
+    /// How many ports the system has, at most 16.
+    pub fn ports(&self) -> u8
+        ensures { result ≡ length self.now.ports }
+    {
+        self.state.ports()
     }
 
     /// The role of a port (IEEE 802.1AS-2020, 10.3.6).

@@ -94,6 +94,14 @@ impl State {
         slave_trace(self.identity.clock(), self.held.as_slice(), self.slave)
     }
 
+    /// How many ports the system has.
+    pub(crate) fn ports(&self) -> u8
+        requires { IsReady (state_of self.now) }
+        ensures { result ≡ length (state_of self.now).ports }
+    {
+        self.ports.len() as u8
+    }
+
     /// The role of a port, in a system at rest.
     pub(crate) fn role(&self, port: u8) -> Role
         requires least { 1 ≤ port }
