@@ -11,6 +11,8 @@ mod all_messages;
 #[cfg(test)]
 mod announces;
 #[cfg(test)]
+mod bench;
+#[cfg(test)]
 mod correction;
 #[cfg(test)]
 mod frames;
@@ -27,8 +29,12 @@ mod receipt;
 #[cfg(test)]
 mod roles;
 #[cfg(test)]
+mod said;
+#[cfg(test)]
 mod scaled;
 #[cfg(test)]
 mod sync_messages;
+#[cfg(test)]
+mod systems;
 #[cfg(test)]
 mod vector;
