@@ -1,0 +1,17 @@
+//! The world in which systems run: a network, and what happens in it.
+//!
+//! A [`Network`] is what a world starts from: systems, and links that join two of their ports, each within its limits
+//! (profile). A [`Change`] is what can be done to it, and a [`Timed`] act is what happens at a moment: a frame is
+//! delivered, a timer expires, or a change is made. `specs/` says when a network with such changes is calm, and by when
+//! it has settled.
+#![tactic(auto)]
+
+mod change;
+mod fault;
+mod network;
+mod params;
+
+pub use change::{Act, Change, Timed};
+pub use fault::NetworkFault;
+pub use gptp_system::Params;
+pub use network::Network;
