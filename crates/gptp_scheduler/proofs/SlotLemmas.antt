@@ -1,5 +1,5 @@
 -- What stands in slots, by number.
-use Rattle.std.proofs.Common.{◌≡◌, ℕ, ◌+◌, ◌-◌, ◌<◌, ◌≤◌, List, [], ◌∷◌, ◌++◌, length, get_or, set, refl, sym, ap, ◌∙◌, arith, subst}
+use Rattle.std.proofs.Common.{◌≡◌, ℕ, ◌+◌, ◌-◌, ◌<◌, ◌≤◌, Bool, true, false, nat_lt, List, [], ◌∷◌, ◌++◌, length, get_or, set, refl, sym, ap, ◌∙◌, arith, subst}
 use Rattle.std.specs.Prelude.{Option, Some, None}
 use Prim.Native.Nat.{zero, suc}
 use Rattle.std.proofs.lemmas.Bool.Decides.{nat_tests}
@@ -99,3 +99,23 @@ module _ {T : Type 0} where
   empty-number first slots n h =
       let e : first + (n - first) ≡ n = omega arith in entries-empty first slots (n - first)
       ∙ ap (λ (m : ℕ). without m (entries_from first slots)) e
+
+  outside-step : (first : ℕ) (slots : List (Option (Slot T))) (n : ℕ) → first ≤ n
+      → (n - first < length slots → false ≡ true) → (t : Bool) → nat_lt (n - first) (length slots) ≡ t
+      → entry_at (entries_from first slots) n ≡ None
+  outside-step first slots n h none true t =
+      let within : n - first < length slots = grind (arith, nat_tests) in let no : false ≡ true = none within in
+      absurd (grind (arith, no))
+  outside-step first slots n h none false t = at-beyond first slots n (grind (arith, nat_tests))
+
+  -- a number stands nowhere where its slot is none of the slots
+  pub at-outside : (first : ℕ) (slots : List (Option (Slot T))) (n : ℕ) → first ≤ n
+      → (n - first < length slots → false ≡ true) → entry_at (entries_from first slots) n ≡ None
+  at-outside first slots n h none = outside-step first slots n h none (nat_lt (n - first) (length slots)) refl
+
+  -- a slot's item is that of its entry
+  pub item_is : (slot : Option (Slot T)) (n : ℕ)
+      → option_map {U = T} (λ (s : Slot T). s.item) slot ≡ option_map {U = T} (λ (e : Entry T). e.item)
+      (option_map (λ (s : Slot T). entry s.time n s.item) slot)
+  item_is None n = refl
+  item_is (Some s) n = refl

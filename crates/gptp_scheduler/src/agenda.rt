@@ -1,6 +1,6 @@
 //! An agenda of what is to be done.
 
-ghost use Rattle.std.specs.Prelude.{◌≡◌, ℕ, ◌+◌, ◌-◌, ◌^◌, ◌<◌, ◌≤◌, [], ◌∷◌, ◌++◌, length, take, drop, true, false, IsOk, OnOk, OnErr, IfOk, IfSome, IfNone, Some, None};
+ghost use Rattle.std.specs.Prelude.{◌≡◌, ℕ, ◌+◌, ◌-◌, ◌^◌, ◌<◌, ◌≤◌, [], ◌∷◌, ◌++◌, length, take, drop, true, false, IsOk, OnOk, OnErr, IfOk, IfSome, IfNone, Some, None, option_copied};
 ghost use Rattle.std.specs.List.{AllByRecursion};
 ghost use Rattle.std.specs.Option.{option_map};
 ghost use Rattle.gptp_scheduler.specs.Pending.{entry, entry_at, without, IsFirst, NothingDue, RiseFrom};
@@ -103,6 +103,13 @@ impl<T: Drop> Agenda<T> {
     {
         let due = *self.order.front()?;
         Some((due.time, due.number))
+    }
+
+    /// The item of the entry of a number, wherever it stands, if it is there. Takes no memory.
+    pub fn item(&self, number: u64) -> Option<&T>
+        ensures { option_copied result ≡ option_map (λ e. e.item) (entry_at self.now.entries number) }
+    {
+        self.entries.item(number)
     }
 
     /// Takes the least entry out, where it is due: its time, its number and its item.

@@ -1,6 +1,6 @@
 //! The entries of an agenda by number.
 
-ghost use Rattle.std.specs.Prelude.{◌≡◌, ℕ, ◌+◌, ◌-◌, ◌^◌, ◌<◌, ◌≤◌, [], ◌∷◌, ◌++◌, length, slice_index_or, slice_set, IsOk, OnOk, OnErr, Some, None};
+ghost use Rattle.std.specs.Prelude.{◌≡◌, ℕ, ◌+◌, ◌-◌, ◌^◌, ◌<◌, ◌≤◌, [], ◌∷◌, ◌++◌, length, slice_index_or, slice_set, IsOk, OnOk, OnErr, Some, None, option_copied};
 ghost use Rattle.std.specs.VecDeque.{deque_len, deque_capacity};
 ghost use Rattle.std.specs.Option.{option_map};
 ghost use Rattle.gptp_scheduler.specs.Pending.{entry, entry_at, without};
@@ -89,6 +89,16 @@ impl<T> Slots<T> {
         self.slots.push_back_reserved(Some(Slot { time, item }));
     }
 
+    /// The item of the entry of a number, where it is there.
+    pub fn item(&self, number: u64) -> Option<&T>
+        ensures { option_copied result ≡ option_map (λ e. e.item) (entry_at self.now.entries number) }
+    {
+        if number < self.first {
+            return None;
+        }
+        item_of(self.slots.get((number - self.first) as usize)?)
+    }
+
     /// Takes the entry of a number out, its time and its item, where it is there.
     pub fn remove(&mut self, number: u64) -> Option<(u64, T)>
     where
@@ -107,6 +117,16 @@ impl<T> Slots<T> {
             Some(slot) => Some((slot.time, slot.item)),
             None => None,
         }
+    }
+}
+
+/// What is to be done at a slot.
+fn item_of<T>(slot: &Option<Slot<T>>) -> Option<&T>
+    ensures { option_copied result ≡ option_map (λ s. s.item) slot.now }
+{
+    match slot {
+        Some(slot) => Some(&slot.item),
+        None => None,
     }
 }
 
