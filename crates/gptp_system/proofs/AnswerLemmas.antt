@@ -33,6 +33,7 @@ use Rattle.gptp_system.specs.Reacts.{Reacts}
 use Rattle.gptp_system.proofs.TouchedLemmas.{compared_same}
 use Rattle.gptp_system.specs.Messages.{Announcing, Answering, Telling}
 use Rattle.gptp_system.proofs.SendLemmas.{responds_answer, syncs_tell}
+use Rattle.gptp_system.proofs.TimelyLemmas.{moment_of}
 use Rattle.gptp_system.proofs.EndLemmas.{Concludes, selects_concludes}
 use Rattle.gptp_system.proofs.MidLemmas.{Later, Mids, aged_mids, down_mids, heard_mids, joined, priority_mids, tick_mids, unheard_mids}
 use Rattle.gptp_system.proofs.ReactLemmas.{Answers, AreOther, announce_expires, becomes, by_other, by_turn, kind_other, later_apart, later_itself, later_port, later_telling, rests, turns, turns_and_asks}
@@ -264,7 +265,7 @@ steps_react (PortDown p) now s s' sends answer calm shown r k = record {
 }
 steps_react (Frame p octets) now s s' sends answer calm shown r k = hears_frame p octets now s s' sends answer shown r k
 steps_react (Expires timer) now s s' sends answer calm shown r k =
-    let (t, is, past) = calm in
+    let (t, is, past) = moment_of (due timer s) now calm in
     expires timer now t s s' sends shown r is past k
 steps_react (Priority value) now s s' sends answer calm shown r k = record {
   touch = Other;

@@ -15,7 +15,7 @@ use Rattle.gptp_roles.proofs.RoleLemmas.{held_after-kept, held_after-master, rec
 use Rattle.gptp_pdelay.specs.Peer.{is_capable}
 use Rattle.gptp_system.specs.declared.port.Port.{Port}
 use Rattle.gptp_system.specs.declared.sending.Sending.{Sending}
-use Rattle.gptp_system.specs.State.{SystemState, clock, number, on_port, own}
+use Rattle.gptp_system.specs.State.{SystemState, change, clock, number, on_port, own}
 use Rattle.gptp_system.specs.Selection.{Selects, announced, choosing, fresh_ports}
 use Rattle.gptp_system.specs.Facts.{AreHeld, AreShown, IsAtRest, IsShown, Keeps, intervals}
 use Rattle.gptp_system.proofs.ChangedLemmas.{Changed, change-get, change-map, each_port-get, number-get}
@@ -139,10 +139,12 @@ quiet_steady s s' k = record {
   identity = k.identity;
 }
 
--- one port becomes another that announces at the same interval and is asCapable where it was
-pub on_port_quiet : (p : ℕ) (f : Port → Port) (s : SystemState) → ((q : Port) → (f q).log_interval ≡ q.log_interval)
-    → ((q : Port) → number s.ports p ≡ Some q → is_capable (f q).peer ≡ is_capable q.peer) → Quiet s (on_port p f s)
-on_port_quiet p f s log same = record {
+-- only the ports change: their announce intervals don't, nor does which of them are asCapable
+pub ports_quiet : (s : SystemState) (qs : List Port) → map (λ (q : Port). q.log_interval) qs ≡ intervals s
+    → ((i : ℕ) (q' : Port) → slice_get qs i ≡ Some q'
+    → (q : Port) × (slice_get s.ports i ≡ Some q) × (is_capable q'.peer ≡ is_capable q.peer))
+    → Quiet s (record s { ports = qs })
+ports_quiet s qs logs alike = record {
   params = refl;
   phase = refl;
   drift = refl;
@@ -151,9 +153,16 @@ on_port_quiet p f s log same = record {
   root = refl;
   steps = refl;
   slave = refl;
-  logs = change-map (λ (q : Port). q.log_interval) f log p s.ports;
-  alike = λ i q' there. go i q' (change-get f p s.ports i q' there);
+  logs = logs;
+  alike = alike;
 }
+
+-- so it is where one port becomes another
+pub on_port_quiet : (p : ℕ) (f : Port → Port) (s : SystemState) → ((q : Port) → (f q).log_interval ≡ q.log_interval)
+    → ((q : Port) → number s.ports p ≡ Some q → is_capable (f q).peer ≡ is_capable q.peer) → Quiet s (on_port p f s)
+on_port_quiet p f s log same =
+    ports_quiet s (change f p s.ports) (change-map (λ (q : Port). q.log_interval) f log p s.ports)
+    (λ i q' there. go i q' (change-get f p s.ports i q' there))
   where
     go : (i : ℕ) (q' : Port) → Changed f (p ≡ suc i) s.ports i q'
         → (q : Port) × (slice_get s.ports i ≡ Some q) × (is_capable q'.peer ≡ is_capable q.peer)

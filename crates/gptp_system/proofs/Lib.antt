@@ -13,6 +13,7 @@ pub mod RestLemmas
 pub mod EndLemmas
 pub mod MidLemmas
 pub mod SendLemmas
+pub mod TimelyLemmas
 pub mod ReactLemmas
 pub mod AnswerLemmas
 pub mod FollowLemmas
@@ -28,5 +29,6 @@ pub mod CountLemmas
 pub mod TypeLemmas
 pub mod WithinLemmas
 pub mod CounterLemmas
+pub mod CalmLemmas
 pub mod ReachLemmas
 pub mod SpanLemmas

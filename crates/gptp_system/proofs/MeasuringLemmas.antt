@@ -23,7 +23,8 @@ use Rattle.gptp_system.specs.Selection.{fresh_ports, Selects}
 use Rattle.gptp_system.specs.Sends.{sends_up_to}
 use Rattle.gptp_system.specs.State.{SystemState, clock, number, on_held, on_port, with_peer}
 use Rattle.gptp_system.proofs.AnnouncementLemmas.{length-all_announced, length-announcements}
-use Rattle.gptp_system.proofs.WrittenLemmas.{held_ready, held_written, length-change, number_at, number-change, port_ready, port_written}
+use Rattle.gptp_system.proofs.ChangedLemmas.{change-length}
+use Rattle.gptp_system.proofs.WrittenLemmas.{held_ready, held_written, number_at, number-change, port_ready, port_written}
 
 -- ---- selection
 
@@ -157,7 +158,7 @@ pub stepped_places : (s : State) (step : PeerState → PeerState) (p i : ℕ) (q
     → length (with_items s.ports (set qs i q)).items ≡ length s.ports.items
 stepped_places s step p i qs d q least most ports place value =
     let written = port_written s (λ (one : Port). record one { peer = step one.peer }) p i qs d q least most ports place value in
-    ap (λ (t : SystemState). length t.ports) written ∙ length-change (λ (one : Port). record one { peer = step one.peer }) p s.ports.items
+    ap (λ (t : SystemState). length t.ports) written ∙ change-length (λ (one : Port). record one { peer = step one.peer }) p s.ports.items
 
 -- a logarithm of an interval goes to 8 bits and back
 pub log_back : (log : ℤ) → IsLog log → to_z w8 (of_z w8 log) ≡ log

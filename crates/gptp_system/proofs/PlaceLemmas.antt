@@ -24,15 +24,6 @@ pub change_is : {X : Type 0} (f : X → X) (xs : List X) (p : ℕ) (d : X) → 1
 change_is f xs zero d least most = absurd (omega arith)
 change_is f xs (suc i) d least most = let place : suc i - 1 ≡ i = omega arith in rw place (set_at f xs i d (omega arith))
 
-pub length-change_at : {X : Type 0} (f : X → X) (i : ℕ) (xs : List X) → length (change_at f i xs) ≡ length xs
-length-change_at f i [] = refl
-length-change_at f zero (x ∷ xs) = refl
-length-change_at f (suc i) (x ∷ xs) = let ih = length-change_at f i xs in omega arith
-
-pub length-change : {X : Type 0} (f : X → X) (p : ℕ) (xs : List X) → length (change f p xs) ≡ length xs
-length-change f zero xs = refl
-length-change f (suc i) xs = length-change_at f i xs
-
 -- what holds of all members and of what one of them becomes holds of all again
 pub all_change_at : {X : Type 0} (P : X → Type 0) (f : X → X) (i : ℕ) (xs : List X) → ((x : X) → P x → P (f x)) → AllByRecursion P xs
     → AllByRecursion P (change_at f i xs)

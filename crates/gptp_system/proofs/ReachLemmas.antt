@@ -31,47 +31,14 @@ use Rattle.gptp_system.specs.Steps.{Expires as TimerExpires, HearsFrame, HearsMe
 use Rattle.gptp_system.specs.Input.{Input, Steps, PortUp, PortDown, Frame, Expires, Priority}
 use Rattle.gptp_system.specs.Reach.{AreAt, AreAtPorts, IsWithin, Leaves, asking_reach, is_selected, is_touched, is_touched_asking, is_touched_by, reach, same_timer, stops_at, timer_reach, type_reach}
 use Rattle.gptp_system.proofs.ChangedLemmas.{change-length}
-use Rattle.gptp_system.proofs.DueLemmas.{CoversSelection, Spares, apart_leaves, held_leaves, leaves_on, on_port_leaves, selects_leaves, telling_leaves}
-use Rattle.gptp_receipt.specs.declared.held.Held.{Held}
+use Rattle.gptp_system.proofs.DueLemmas.{CoversSelection, Spares, leaves_on, on_port_leaves, selects_leaves, telling_leaves}
 use Rattle.gptp_system.specs.Counters.{AreCounted}
 use Rattle.gptp_system.specs.Messages.{Announcing, Answering, Telling}
-use Rattle.gptp_system.proofs.CounterLemmas.{announced_counted, counted_more, counted_on, counted_on_port, counted_other, counted_same, counted_then, selects_counted, telling_counted}
+use Rattle.gptp_system.proofs.CounterLemmas.{announced_counted, counted_more, counted_on, counted_on_port, counted_other, counted_then, selects_counted, telling_counted}
 use Rattle.gptp_system.proofs.SendLemmas.{responds_answer}
 use Rattle.gptp_system.proofs.TypeLemmas.{type_is, type_number}
 use Rattle.gptp_system.proofs.WithinLemmas.{AreFew, announcement_few, at_ports, one_more, responds_few, selects_few, silent, tells_few}
-
--- ---- changes that send nothing
-
--- the timers that aren't touched are left, and nothing is counted
-record Calm (touched : Timer → Bool) (s t : SystemState) : Type 0 where
-  pub leaves : Leaves touched s t
-  pub counts : AreCounted s t []
-
-calm_on : (touched : Timer → Bool) (s t u : SystemState) → Calm touched s t → Calm touched t u → Calm touched s u
-calm_on touched s t u a b = record {
-  leaves = leaves_on touched s t u a.leaves b.leaves;
-  counts = counted_on s t u [] a.counts b.counts;
-}
-
--- only what is known of time changes
-calm_apart : (touched : Timer → Bool) (s t : SystemState) → t.ports ≡ s.ports → t.held ≡ s.held → t.params ≡ s.params
-    → (touched timers.Sync ≡ false → t.sync ≡ s.sync) → (touched timers.Relay ≡ false → t.relay ≡ s.relay)
-    → Calm touched s t
-calm_apart touched s t ports held params sync relay =
-    record { leaves = apart_leaves touched s t ports held params sync relay; counts = counted_same s t ports }
-
-calm_port : (touched : Timer → Bool) (p : ℕ) (f : Port → Port) (s : SystemState) → Spares touched p f
-    → ((q : Port) → (f q).announces ≡ q.announces) → ((q : Port) → (f q).syncs ≡ q.syncs)
-    → Calm touched s (on_port p f s)
-calm_port touched p f s spares announces syncs = record {
-  leaves = on_port_leaves touched p f spares s;
-  counts = counted_on_port p f s announces syncs;
-}
-
-calm_held : (touched : Timer → Bool) → CoversSelection touched → (s : SystemState) (hs : List Held)
-    → Calm touched s (record s { held = hs })
-calm_held touched covers s hs =
-    record { leaves = held_leaves touched covers s hs; counts = counted_same s (record s { held = hs }) refl }
+use Rattle.gptp_system.proofs.CalmLemmas.{Calm, calm_apart, calm_held, calm_on, calm_peer, calm_port, turned_calm}
 
 -- ---- a step
 
@@ -104,27 +71,6 @@ selects touched covers now s t u sends calm long k = record {
 }
 
 -- ---- measuring
-
-peer_spares : (touched : Timer → Bool) (p : ℕ) (step : PeerState → PeerState)
-    → Spares touched p (λ (q : Port). record q { peer = step q.peer })
-peer_spares touched p step = record {
-  log = λ q. refl;
-  announce = λ off q. refl;
-  pdelay = λ off q. refl;
-  respond = λ off q. refl;
-}
-
-calm_peer : (touched : Timer → Bool) (p : ℕ) (step : PeerState → PeerState) (s : SystemState)
-    → Calm touched s (with_peer p step s)
-calm_peer touched p step s =
-    calm_port touched p (λ (q : Port). record q { peer = step q.peer }) s (peer_spares touched p step) (λ q. refl)
-    (λ q. refl)
-
-turned_calm : (touched : Timer → Bool) → CoversSelection touched → (p : ℕ) (step : PeerState → PeerState)
-    (s : SystemState) → Calm touched s (turned p step s)
-turned_calm touched covers p step s =
-    calm_on touched s (with_peer p step s) (turned p step s) (calm_peer touched p step s)
-    (calm_held touched covers (with_peer p step s) (turned p step s).held)
 
 turns : (r : Reach) (touched : Timer → Bool) (p : ℕ) (step : PeerState → PeerState) (now : ℕ) (s s' : SystemState)
     (sends : List Sending)

@@ -29,7 +29,8 @@ use Rattle.gptp_system.specs.Intervals.{AreParams, IsLog, IsMoment}
 use Rattle.gptp_system.specs.State.{SystemState, clock, change, change_at}
 use Rattle.gptp_system.specs.Selection.{announced, all_announced, fresh_ports, choosing, Selects}
 use Rattle.gptp_system.specs.Ready.{IsReady, IsRecent, IsPort}
-use Rattle.gptp_system.proofs.PlaceLemmas.{length-change, all_change}
+use Rattle.gptp_system.proofs.ChangedLemmas.{change-length}
+use Rattle.gptp_system.proofs.PlaceLemmas.{all_change}
 use Rattle.gptp_system.proofs.AnnouncementLemmas.{length-all_announced}
 
 -- what a port holds after selection was received before, or is its own
@@ -102,7 +103,7 @@ held_ready s p f held ready keeps is =
       params = ready.params;
       phase = ready.phase;
       drift = ready.drift;
-      places = length-change f p s.held ∙ ready.places;
+      places = change-length f p s.held ∙ ready.places;
       few = ready.few;
       placed = placed_change f p s.held keeps.placed ready.placed;
       recent = all_change IsRecent f p s.held keeps.recent ready.recent;
@@ -149,7 +150,7 @@ ageing_keeps p span now = record {
 pub ports_ready : (s : SystemState) (p : ℕ) (f : Port → Port) (ports : List Port) → IsReady s → ((q : Port) → IsPort q → IsPort (f q))
     → ports ≡ change f p s.ports → IsReady (record s { ports = ports })
 ports_ready s p f ports ready keeps is =
-    let size = length-change f p s.ports in
+    let size = change-length f p s.ports in
     rw is (record {
       params = ready.params;
       phase = ready.phase;

@@ -34,6 +34,7 @@ use Rattle.gptp_system.proofs.FactLemmas.{keeps_length}
 use Rattle.gptp_system.proofs.StepLemmas.{turns as turns_steady}
 use Rattle.gptp_system.proofs.MeasureLemmas.{turns as turns_parts}
 use Rattle.gptp_system.proofs.SendLemmas.{syncs_tell}
+use Rattle.gptp_system.proofs.TimelyLemmas.{moment_of, port_stands}
 
 silent_all : (kind : Kind) (sends : List Sending) → sends ≡ [] → AllAre kind sends
 silent_all kind sends none x member = absurd (subst (In x) none member)
@@ -236,10 +237,10 @@ pub steps_send : (input : Input) (now : ℕ) (s s' : SystemState) (sends : List 
     → IsTimely s now input
     → Steps input now s s' sends answer → AreSent s now input sends
 steps_send (PortUp p) now s s' sends answer calm k =
-    let (q, there) = calm in
+    let (q, there) = port_stands s p calm in
     asks_once p reset_peer now s s' sends q (λ x. refl) there k
 steps_send (PortDown p) now s s' sends answer calm k = selects now _ s' sends k
 steps_send (Frame p octets) now s s' sends answer calm k = hears_frame p octets now s s' sends answer k
 steps_send (Expires timer) now s s' sends answer calm k =
-    let (t, is, past) = calm in expires timer now t s s' sends is k
+    let (t, is, past) = moment_of (due timer s) now calm in expires timer now t s s' sends is k
 steps_send (Priority value) now s s' sends answer calm k = selects now _ s' sends k

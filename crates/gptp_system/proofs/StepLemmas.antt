@@ -22,11 +22,11 @@ use Rattle.gptp_system.specs.State.{SystemState, held_at, is_capable_at, local_t
 use Rattle.gptp_system.specs.Selection.{Becomes, SelectsIf, announced}
 use Rattle.gptp_system.specs.Measuring.{GoesDown, Turns, TurnsAndAsks, TurnsIf, answering_done, asking, down, is_turned, owes, owing, turned}
 use Rattle.gptp_system.specs.Announcing.{HearsQualified, aged_at, compared, is_taken, with_priority}
-use Rattle.gptp_system.specs.Syncing.{HearsFollowUpIf, HearsSyncIf, KeepsIf, KnowsIf, RelaysIf, SyncsIf, delay_at, is_followed, leads, rate_at, restarted, said_on, stopped, telling}
+use Rattle.gptp_system.specs.Syncing.{HearsFollowUpIf, HearsSyncIf, KeepsIf, KnowsIf, RelaysIf, SyncsIf, counted, delay_at, is_followed, leads, rate_at, restarted, said_on, stopped, telling}
 use Rattle.gptp_system.specs.Steps.{Expires as TimerExpires, HearsFrame, HearsMessage}
 use Rattle.gptp_system.specs.Input.{Input, Steps, PortUp, PortDown, Frame, Expires, Priority}
 use Rattle.gptp_system.proofs.PortLemmas.{Marked, counted-get, counted-map, with_sync}
-use Rattle.gptp_system.proofs.FactLemmas.{Quiet, Sound, Steady, on_port_quiet, quiet_steady, selects_sound, selects_steady, steady_on}
+use Rattle.gptp_system.proofs.FactLemmas.{Quiet, Sound, Steady, on_port_quiet, ports_quiet, quiet_steady, selects_sound, selects_steady, steady_on}
 use Rattle.gptp_system.proofs.TouchedLemmas.{aged_touches, compared_same, compared_touches, down_touches, not_turned, priority_touches, turned_touches}
 
 -- ---- states
@@ -57,18 +57,10 @@ pub itself : (s : SystemState) → Steady s s
 itself s = apart_steady s s.sync_in s.known s.offset s.sync s.relay
 
 telling_quiet : (s : SystemState) → Quiet s (telling s)
-telling_quiet s = record {
-  params = refl;
-  phase = refl;
-  drift = refl;
-  identity = refl;
-  held = refl;
-  root = refl;
-  steps = refl;
-  slave = refl;
-  logs = counted-map (λ (q : Port). q.log_interval) (λ q. refl) s.held s.ports;
-  alike = λ i q' there. go _ i q' (counted-get s.held s.ports i q' there);
-}
+telling_quiet s =
+    ports_quiet s (counted s.held s.ports)
+    (counted-map (λ (q : Port). q.log_interval) (λ q. refl) s.held s.ports)
+    (λ i q' there. go _ i q' (counted-get s.held s.ports i q' there))
   where
     go : (mark : Type 0) (i : ℕ) (q' : Port) → Marked with_sync mark s.ports i q'
         → (q : Port) × (slice_get s.ports i ≡ Some q) × (is_capable q'.peer ≡ is_capable q.peer)

@@ -1,7 +1,6 @@
 -- The places of ports, which are numbered from 1.
-use Rattle.std.proofs.Common.{◌≡◌, ℕ, zero, suc, ◌+◌, ◌-◌, ◌<◌, ◌≤◌, List, [], ◌∷◌, length, Some, None, get_or, set, refl, sym, ap, ◌∙◌, arith}
+use Rattle.std.proofs.Common.{◌≡◌, ℕ, zero, suc, ◌+◌, ◌-◌, ◌≤◌, List, [], ◌∷◌, length, Some, None, get_or, set, sym, ap, ◌∙◌, arith}
 use Rattle.std.specs.Prelude.{slice_get}
-use Rattle.std.specs.List.{AllByRecursion}
 use Rattle.std.specs.Option.{option_map}
 use Rattle.arrayvec.specs.ArrayVec.{ArrayVec, with_items}
 use Rattle.arrayvec.proofs.ArrayVecLemmas.{items-with_items}
@@ -12,60 +11,22 @@ use Rattle.gptp_system.specs.declared.port.Port.{Port}
 use Rattle.gptp_system.specs.declared.state.State.{State}
 use Rattle.gptp_system.specs.Ready.{IsPort, IsReady, IsRecent, state_of}
 use Rattle.gptp_system.specs.State.{SystemState, number, change_at, change, on_port, on_held}
+use Rattle.gptp_system.proofs.ChangedLemmas.{change-length}
+use Rattle.gptp_system.proofs.PlaceLemmas.{all_change, change_is, number_is}
 
 -- ---- by the index, which counts from 0
-
-set_is : {X : Type 0} (f : X → X) (i : ℕ) (xs : List X) (d : X) → i < length xs → set xs i (f (get_or xs i d)) ≡ change_at f i xs
-set_is f i [] d within = absurd (omega arith)
-set_is f zero (x ∷ xs) d within = refl
-set_is f (suc i) (x ∷ xs) d within = ap (λ ys. x ∷ ys) (set_is f i xs d (omega arith))
-
-get_is : {X : Type 0} (i : ℕ) (xs : List X) (d : X) → i < length xs → slice_get xs i ≡ Some (get_or xs i d)
-get_is i [] d within = absurd (omega arith)
-get_is zero (x ∷ xs) d within = refl
-get_is (suc i) (x ∷ xs) d within = get_is i xs d (omega arith)
 
 get-change_at : {X : Type 0} (f : X → X) (i : ℕ) (xs : List X) (x : X) → slice_get xs i ≡ Some x → slice_get (change_at f i xs) i ≡ Some (f x)
 get-change_at f i [] x here = absurd cc
 get-change_at f zero (y ∷ xs) x here = ap (option_map f) here
 get-change_at f (suc i) (y ∷ xs) x here = get-change_at f i xs x here
 
-length-change_at : {X : Type 0} (f : X → X) (i : ℕ) (xs : List X) → length (change_at f i xs) ≡ length xs
-length-change_at f i [] = refl
-length-change_at f zero (x ∷ xs) = refl
-length-change_at f (suc i) (x ∷ xs) = ap suc (length-change_at f i xs)
-
-all-change_at : {X : Type 0} (P : X → Type 0) (f : X → X) → ((x : X) → P x → P (f x)) → (i : ℕ) (xs : List X) → AllByRecursion P xs → AllByRecursion P (change_at f i xs)
-all-change_at P f keeps i [] all = tt
-all-change_at P f keeps zero (x ∷ xs) all = (keeps x all.0, all.1)
-all-change_at P f keeps (suc i) (x ∷ xs) all = (all.0, all-change_at P f keeps i xs all.1)
-
 -- ---- by the number
 
--- what stands at a port's number is written anew
-pub change_is : {X : Type 0} (f : X → X) (p : ℕ) (xs : List X) (d : X) → 1 ≤ p → p ≤ length xs → set xs (p - 1) (f (get_or xs (p - 1) d)) ≡ change f p xs
-change_is f zero xs d one within = absurd (omega arith)
-change_is f (suc i) xs d one within = let at : suc i - 1 ≡ i = omega arith in rw at (set_is f i xs d (omega arith))
-
--- what stands there
-pub number_is : {X : Type 0} (p : ℕ) (xs : List X) (d : X) → 1 ≤ p → p ≤ length xs → number xs p ≡ Some (get_or xs (p - 1) d)
-number_is zero xs d one within = absurd (omega arith)
-number_is (suc i) xs d one within = let at : suc i - 1 ≡ i = omega arith in rw at (get_is i xs d (omega arith))
-
--- and after a change
+-- what stands at a port's number after a change
 pub number-change : {X : Type 0} (f : X → X) (p : ℕ) (xs : List X) (x : X) → number xs p ≡ Some x → number (change f p xs) p ≡ Some (f x)
 number-change f zero xs x here = absurd cc
 number-change f (suc i) xs x here = get-change_at f i xs x here
-
--- a change keeps all places
-pub length-change : {X : Type 0} (f : X → X) (p : ℕ) (xs : List X) → length (change f p xs) ≡ length xs
-length-change f zero xs = refl
-length-change f (suc i) xs = length-change_at f i xs
-
--- and what holds of each place, where the changed one keeps it
-pub all-change : {X : Type 0} (P : X → Type 0) (f : X → X) → ((x : X) → P x → P (f x)) → (p : ℕ) (xs : List X) → AllByRecursion P xs → AllByRecursion P (change f p xs)
-all-change P f keeps zero xs all = all
-all-change P f keeps (suc i) xs all = all-change_at P f keeps i xs all
 
 -- ---- what a write through a place of a vector leaves
 
@@ -74,14 +35,14 @@ written : {X : Type 0} (v : ArrayVec X) (f : X → X) (p i : ℕ) (xs : List X) 
 written {X = X} v f p i xs d y least most items place value =
     let new : set xs i y ≡ change f p v.items =
     ap (λ z. set xs i z) value ∙ ap (λ ys. set ys i (f (get_or ys i d))) items ∙ ap (λ j. set v.items j (f (get_or v.items j d))) place
-    ∙ change_is f p v.items d least most in
-    let kept : length (set xs i y) ≡ length v.items = ap length new ∙ length-change f p v.items in
+    ∙ change_is f v.items p d least most in
+    let kept : length (set xs i y) ≡ length v.items = ap length new ∙ change-length f p v.items in
     items-with_items v (set xs i y) kept ∙ new
 
 -- what stood at the place before
 pub number_at : {X : Type 0} (items : List X) (p i : ℕ) (xs : List X) (d : X) → 1 ≤ p → p ≤ length items → xs ≡ items → i ≡ p - 1 → number items p ≡ Some (get_or xs i d)
 number_at {X = X} items p i xs d least most same place =
-    number_is p items d least most ∙ sym (ap (λ (ys : List X). Some (get_or ys i d)) same ∙ ap (λ (j : ℕ). Some (get_or items j d)) place)
+    number_is items p d least most ∙ sym (ap (λ (ys : List X). Some (get_or ys i d)) same ∙ ap (λ (j : ℕ). Some (get_or items j d)) place)
 
 -- a port of a state is written
 pub port_written : (s : State) (f : Port → Port) (p i : ℕ) (xs : List Port) (d y : Port) → 1 ≤ p → p ≤ length s.ports.items → xs ≡ s.ports.items → i ≡ p - 1
@@ -100,7 +61,7 @@ held_written s f p i xs d y least most items place value =
 -- where the port does
 pub port_ready : (p : ℕ) (f : Port → Port) (s : SystemState) → ((q : Port) → IsPort q → IsPort (f q)) → IsReady s → IsReady (on_port p f s)
 port_ready p f s keeps ready =
-    let kept = length-change f p s.ports in
+    let kept = change-length f p s.ports in
     record {
       params = ready.params;
       phase = ready.phase;
@@ -109,7 +70,7 @@ port_ready p f s keeps ready =
       few = omega (arith, kept, ready.few);
       placed = ready.placed;
       recent = ready.recent;
-      ports = all-change IsPort f keeps p s.ports ready.ports;
+      ports = all_change IsPort f p s.ports keeps ready.ports;
     }
 
 placed-change_at : (f : Held → Held) → ((h : Held) → received (f h) ≡ None) → (i n : ℕ) (hs : List Held) → ArePlaced n hs → ArePlaced n (change_at f i hs)
@@ -124,7 +85,7 @@ placed-change f empty (suc i) hs placed = placed-change_at f empty i 1 hs placed
 -- and where what the port holds is nothing that it received
 pub held_ready : (p : ℕ) (f : Held → Held) (s : SystemState) → ((h : Held) → received (f h) ≡ None) → IsReady s → IsReady (on_held p f s)
 held_ready p f s empty ready =
-    let kept = length-change f p s.held in
+    let kept = change-length f p s.held in
     record {
       params = ready.params;
       phase = ready.phase;
@@ -132,6 +93,6 @@ held_ready p f s empty ready =
       places = kept ∙ ready.places;
       few = ready.few;
       placed = placed-change f empty p s.held ready.placed;
-      recent = all-change IsRecent f (λ h recent r is. absurd (let none = empty h in cc)) p s.held ready.recent;
+      recent = all_change IsRecent f p s.held (λ h recent r is. absurd (let none = empty h in cc)) ready.recent;
       ports = ready.ports;
     }

@@ -40,7 +40,8 @@ pub record HearsOff (p : ℕ) (s s' : SystemState) (sends : List Sending) (answe
   pub answer_is : answer ≡ answers.Disabled
 
 -- an Announce that isn't qualified, by the first test that it fails
-pub record HearsUnqualified (p : ℕ) (a : AnnounceView) (s s' : SystemState) (sends : List Sending) (answer : Answer) : Type 0 where
+pub record HearsUnqualified (p : ℕ) (a : AnnounceView) (s s' : SystemState) (sends : List Sending)
+    (answer : Answer) : Type 0 where
   pub on : is_capable_at s p ≡ true
   pub why : Why
   pub fails : FirstFailure a (clock s) why
@@ -53,7 +54,8 @@ compared p a now s =
     on_held p (λ h. held_after (comparison h (own s p) a) h (reception a (own s p) now)) s
 
 -- a qualified Announce: where it takes the place of what was held, selection follows
-pub record HearsQualified (p : ℕ) (a : AnnounceView) (now : ℕ) (s s' : SystemState) (sends : List Sending) (answer : Answer) : Type 0 where
+pub record HearsQualified (p : ℕ) (a : AnnounceView) (now : ℕ) (s s' : SystemState) (sends : List Sending)
+    (answer : Answer) : Type 0 where
   pub on : is_capable_at s p ≡ true
   pub qualified : Qualified a (clock s)
   pub selects : SelectsIf (is_taken (comparison (held_at s p) (own s p) a)) now (compared p a now s) s' sends

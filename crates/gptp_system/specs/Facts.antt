@@ -12,8 +12,7 @@ use Rattle.gptp_system.specs.Ready.{IsReady}
 use Rattle.gptp_system.specs.State.{SystemState, clock, own}
 
 -- The system is at rest: it follows the vector that is chosen among what its ports hold, and each port holds what its
--- role
--- asks for.
+-- role asks for.
 pub record IsAtRest (s : SystemState) : Type 0 where
   pub vector : Vector
   pub is_chosen : IsChosen s.identity s.held vector
@@ -41,8 +40,7 @@ abbrev pub intervals : SystemState → List ℤ
 intervals s = map (λ (q : Port). q.log_interval) s.ports
 
 -- what no call changes: the network's parameters, the local clock, the clockIdentity, and how many ports there are,
--- with
--- their intervals
+-- with their intervals
 pub record Keeps (s s' : SystemState) : Type 0 where
   pub params : s'.params ≡ s.params
   pub phase : s'.phase ≡ s.phase

@@ -1,13 +1,12 @@
 -- What a system can be given, and what one step makes of it.
-use Rattle.std.specs.Prelude.{◌≡◌, ◌≤◌, ℕ, List, Some}
+use Rattle.std.specs.Prelude.{ℕ, ⊤, List}
 use Rattle.gptp_system.specs.declared.answer.Answer.{Answer}
-use Rattle.gptp_system.specs.declared.port.Port.{Port}
 use Rattle.gptp_system.specs.declared.sending.Sending.{Sending}
 use Rattle.gptp_system.specs.declared.timer.Timer.{Timer}
-use Rattle.gptp_system.specs.State.{SystemState, due, number}
+use Rattle.gptp_system.specs.State.{SystemState}
 use Rattle.gptp_system.specs.Measuring.{ComesUp, GoesDown}
 use Rattle.gptp_system.specs.Announcing.{ChangesPriority}
-use Rattle.gptp_system.specs.Steps.{Expires as TimerExpires, HearsFrame}
+use Rattle.gptp_system.specs.Steps.{Expires as TimerExpires, HearsFrame, IsDue, IsPortOf, IsUp}
 
 -- the link of a port comes up or goes down, a port hears a frame, a timer expires, or priority1 is set
 pub data Input : Type 0 where
@@ -25,11 +24,11 @@ Steps (Frame p octets) now s s' sends answer = HearsFrame p octets now s s' send
 Steps (Expires timer) now s s' sends answer = TimerExpires timer now s s' sends
 Steps (Priority value) now s s' sends answer = ChangesPriority value now s s' sends
 
--- when a system is given an input: a port is one of its own, a frame comes where the link is up and so the port asks,
--- and a timer expires when it is due
+-- when a system is given an input: a port is one of its own, a frame comes where the link is up, and a timer expires
+-- when it is due
 abbrev pub IsTimely : SystemState → ℕ → Input → Type 0
-IsTimely s now (PortUp p) = (q : Port) × (number s.ports p ≡ Some q)
-IsTimely s now (PortDown p) = (q : Port) × (number s.ports p ≡ Some q)
-IsTimely s now (Frame p octets) = (q : Port) × (t : ℕ) × (number s.ports p ≡ Some q) × (q.pdelay ≡ Some t)
-IsTimely s now (Expires timer) = (t : ℕ) × (due timer s ≡ Some t) × (t ≤ now)
-IsTimely s now (Priority value) = Unit {0}
+IsTimely s now (PortUp p) = IsPortOf s p
+IsTimely s now (PortDown p) = IsPortOf s p
+IsTimely s now (Frame p octets) = IsUp s p
+IsTimely s now (Expires timer) = IsDue s timer now
+IsTimely s now (Priority value) = ⊤

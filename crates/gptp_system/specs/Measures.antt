@@ -5,7 +5,8 @@ use Rattle.gptp_messages.specs.declared.head.Head.{Head}
 use Rattle.gptp_messages.specs.declared.message.Message.{Message}
 use Rattle.gptp_messages.specs.declared.message.Message.TheVariants as messages
 use Rattle.gptp_messages.specs.Grammar.{Reads}
-use Rattle.gptp_pdelay.specs.Peer.{PeerState, after_follow_up, after_interval, after_response, answered, answering, requested, reset_peer}
+use Rattle.gptp_pdelay.specs.Peer.{PeerState, after_follow_up, after_interval, after_response, answered, answering}
+use Rattle.gptp_pdelay.specs.Peer.{requested, reset_peer}
 use Rattle.gptp_system.specs.declared.port.Port.{Port}
 use Rattle.gptp_system.specs.declared.timer.Timer.TheVariants as timers
 use Rattle.gptp_system.specs.Intervals.{interval_of}

@@ -10,7 +10,9 @@ use Rattle.gptp_scaled.specs.Stamp.{Timestamp, IsSplit}
 use Rattle.gptp_pdelay.specs.declared.answer.Answer.{Answer as Owed}
 use Rattle.gptp_pdelay.specs.declared.step.Step.{Step}
 use Rattle.gptp_pdelay.specs.declared.step.Step.TheVariants as steps
-use Rattle.gptp_pdelay.specs.Peer.{PeerState, is_capable, changes_capability, reset_peer, requested, answering, answered, after_interval, after_response, response_step, after_follow_up, follow_up_step}
+use Rattle.gptp_pdelay.specs.Peer.{PeerState, is_capable, changes_capability, reset_peer, requested, answering}
+use Rattle.gptp_pdelay.specs.Peer.{answered, after_interval, after_response, response_step, after_follow_up}
+use Rattle.gptp_pdelay.specs.Peer.{follow_up_step}
 use Rattle.gptp_system.specs.declared.answer.Answer.{Answer}
 use Rattle.gptp_system.specs.declared.answer.Answer.TheVariants as answers
 use Rattle.gptp_system.specs.declared.port.Port.{Port}
@@ -68,7 +70,8 @@ request_of p s =
 
 -- The measuring takes a step, and then the port asks: its request goes behind what the step sends on this port and the
 -- lower ones.
-pub record TurnsAndAsks (p : ℕ) (step : PeerState → PeerState) (now : ℕ) (s s' : SystemState) (sends : List Sending) : Type 0 where
+pub record TurnsAndAsks (p : ℕ) (step : PeerState → PeerState) (now : ℕ) (s s' : SystemState)
+    (sends : List Sending) : Type 0 where
   pub between : SystemState
   pub first : List Sending
   pub turns : Turns p step now s between first
@@ -134,11 +137,11 @@ owing owed due q = record q { peer = answering owed q.peer; respond = Some due }
 
 abbrev pub owes : ℕ → Head → ℕ → SystemState → SystemState
 owes p head now s =
-    on_port p
-    (owing (record { requester = head.source; sequence = head.sequence; t2 = local_time s now }) (now + s.params.turnaround))
-    s
+    let owed : Owed = record { requester = head.source; sequence = head.sequence; t2 = local_time s now } in
+    on_port p (owing owed (now + s.params.turnaround)) s
 
-pub record HearsRequest (p : ℕ) (head : Head) (now : ℕ) (s s' : SystemState) (sends : List Sending) (answer : Answer) : Type 0 where
+pub record HearsRequest (p : ℕ) (head : Head) (now : ℕ) (s s' : SystemState) (sends : List Sending)
+    (answer : Answer) : Type 0 where
   pub becomes : Becomes (owes p head now s) s' sends
   pub answer_is : answer ≡ answers.Used
 
@@ -150,10 +153,12 @@ answer_of _ = answers.Used
 abbrev pub step_at : (PeerState → Step) → Option Port → Step
 step_at f q = option_map_or (λ (q : Port). f q.peer) q steps.Ignored
 
-pub record HearsResponse (p : ℕ) (m : PdelayResp) (now : ℕ) (s s' : SystemState) (sends : List Sending) (answer : Answer) : Type 0 where
+pub record HearsResponse (p : ℕ) (m : PdelayResp) (now : ℕ) (s s' : SystemState) (sends : List Sending)
+    (answer : Answer) : Type 0 where
   pub becomes : Becomes (with_peer p (after_response m (local_time s now)) s) s' sends
   pub answer_is : answer ≡ answer_of (step_at (response_step m (local_time s now)) (number s.ports p))
 
-pub record HearsResponseFollowUp (p : ℕ) (m : PdelayRespFollowUp) (now : ℕ) (s s' : SystemState) (sends : List Sending) (answer : Answer) : Type 0 where
+pub record HearsResponseFollowUp (p : ℕ) (m : PdelayRespFollowUp) (now : ℕ) (s s' : SystemState)
+    (sends : List Sending) (answer : Answer) : Type 0 where
   pub turns : Turns p (after_follow_up m) now s s' sends
   pub answer_is : answer ≡ answer_of (step_at (follow_up_step m) (number s.ports p))

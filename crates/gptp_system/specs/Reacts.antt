@@ -29,8 +29,7 @@ abbrev pub IsKept : Held → Type 0
 IsKept h = (h ≡ helds.Disabled) ⊎ ((r : Reception) × (received h ≡ Some r))
 
 -- A Master port holds the own root and steps; its master vector is lower than what it had received (10.3.13). It
--- announces
--- at once where either is new to it; where neither is, it may do so or leave its timer alone.
+-- announces at once where either is new to it; where neither is, it may do so or leave its timer alone.
 pub record IsMaster (clock n now root steps : ℕ) (mid h' : Held) (q q' : Port) (sends : List Sending) : Type 0 where
   pub mine : h' ≡ helds.Mine root steps
   pub on : mid ≢ helds.Disabled

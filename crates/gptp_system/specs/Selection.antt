@@ -1,5 +1,6 @@
 -- What selection makes of a system (IEEE 802.1AS-2020, 10.3.13, 10.3.15 and 10.3.16).
-use Rattle.std.specs.Prelude.{◌≡◌, ℕ, ◌+◌, ◌==◌, Bool, true, false, ◌&&◌, if◌then◌else◌, List, [], ◌∷◌, Option, Some, None}
+use Rattle.std.specs.Prelude.{◌≡◌, ℕ, ◌+◌, ◌==◌, Bool, true, false, ◌&&◌, if◌then◌else◌, List, [], ◌∷◌, Option, Some}
+use Rattle.std.specs.Prelude.{None}
 use Rattle.gptp_vector.specs.declared.vector.Vector.{Vector}
 use Rattle.gptp_roles.specs.Choice.{IsChosen, slave_port}
 use Rattle.gptp_roles.specs.Role.{each_port, held_after, is_fresh}
@@ -46,8 +47,8 @@ follows_on v s = v.root == s.root && same_port (slave_port v) s.slave
 abbrev pub kept_if : {X : Type 0} → Bool → Option X → Option X
 kept_if same known = if same then known else None
 
--- The state after the vector was chosen: each port holds what its role asks for, fresh ports announce, and time that came
--- over another way is forgotten.
+-- The state after the vector was chosen: each port holds what its role asks for, fresh ports announce, and time that
+-- came over another way is forgotten.
 abbrev pub choosing : Vector → ℕ → SystemState → SystemState
 choosing v now s = record s {
   held = each_port (held_after v (clock s)) s.held;

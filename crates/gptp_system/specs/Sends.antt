@@ -1,5 +1,6 @@
 -- The messages that a system sends (IEEE 802.1AS-2020, 10.6 and 11.4): the fields that they have.
-use Rattle.std.specs.Prelude.{ℕ, ◌+◌, ◌%◌, ℤ, pos, Bool, true, false, List, [], ◌∷◌, if◌then◌else◌, ◌++◌, take, drop, nat_le}
+use Rattle.std.specs.Prelude.{ℕ, ◌+◌, ◌%◌, ℤ, pos, Bool, true, false, List, [], ◌∷◌, if◌then◌else◌, ◌++◌, take, drop}
+use Rattle.std.specs.Prelude.{nat_le}
 use Rattle.gptp_vector.specs.declared.port.PortId.{PortId}
 use Rattle.gptp_scaled.specs.Stamp.{Timestamp}
 use Rattle.gptp_messages.specs.declared.head.Head.{Head}
@@ -22,8 +23,8 @@ head_from source sequence correction log_interval two_step = record {
 abbrev pub next_sequence : ℕ → ℕ
 next_sequence n = (n + 1) % 65536
 
--- the Announce of a port, with the root and the steps that the system has chosen; currentUtcOffset is 37, and timeSource
--- INTERNAL_OSCILLATOR (10.6.3; the values are of the profile)
+-- the Announce of a port, with the root and the steps that the system has chosen; currentUtcOffset is 37, and
+-- timeSource INTERNAL_OSCILLATOR (10.6.3; the values are of the profile)
 abbrev pub announcement : PortId → ℕ → ℕ → Port → Sending
 announcement own root steps q = record {
   port = own.port;

@@ -11,7 +11,8 @@ use Rattle.gptp_system.specs.declared.timer.Timer.{Timer}
 use Rattle.gptp_system.specs.declared.timer.Timer.TheVariants as timers
 use Rattle.gptp_system.specs.State.{SystemState, due}
 use Rattle.gptp_system.specs.Selection.{Becomes}
-use Rattle.gptp_system.specs.Measuring.{PdelayExpires, RespondExpires, HearsRequest, HearsResponse, HearsResponseFollowUp}
+use Rattle.gptp_system.specs.Measuring.{PdelayExpires, RespondExpires, HearsRequest, HearsResponse}
+use Rattle.gptp_system.specs.Measuring.{HearsResponseFollowUp}
 use Rattle.gptp_system.specs.Announcing.{HearsOff, HearsUnqualified, HearsQualified, AgeExpires, AnnounceExpires}
 use Rattle.gptp_system.specs.Syncing.{SyncExpires, HearsSync, HearsFollowUp, RelayExpires}
 
@@ -26,7 +27,8 @@ HearsMessage p (messages.Announce a) now s s' sends answer =
     HearsOff p s s' sends answer ⊎ (HearsUnqualified p a s s' sends answer ⊎ HearsQualified p a now s s' sends answer)
 
 -- a frame that reads as a message
-pub record HearsReadable (p : ℕ) (frame : List ℕ) (now : ℕ) (s s' : SystemState) (sends : List Sending) (answer : Answer) : Type 0 where
+pub record HearsReadable (p : ℕ) (frame : List ℕ) (now : ℕ) (s s' : SystemState) (sends : List Sending)
+    (answer : Answer) : Type 0 where
   pub message : Message
   pub reads : Reads frame message
   pub hears : HearsMessage p message now s s' sends answer

@@ -1,5 +1,6 @@
 -- Time: what a Sync, a Follow_Up and the timers of both make of a system (IEEE 802.1AS-2020, 10.2.9, 11.2.14, 11.2.15).
-use Rattle.std.specs.Prelude.{◌≡◌, ◌⊎◌, ℕ, ◌+◌, ◌/◌, ◌^◌, ◌==◌, ◌&&◌, nat_lt, ℤ, pos, ◌-ℤ◌, Bool, true, false, if◌then◌else◌, List, [], ◌∷◌, Option, Some, None}
+use Rattle.std.specs.Prelude.{◌≡◌, ◌⊎◌, ℕ, ◌+◌, ◌/◌, ◌^◌, ◌==◌, ◌&&◌, nat_lt, ℤ, pos, ◌-ℤ◌, Bool, true, false}
+use Rattle.std.specs.Prelude.{if◌then◌else◌, List, [], ◌∷◌, Option, Some, None}
 use Rattle.std.specs.Option.{option_map_or}
 use Rattle.gptp_vector.specs.declared.port.PortId.{PortId}
 use Rattle.gptp_messages.specs.declared.head.Head.{Head}
@@ -186,13 +187,15 @@ abbrev pub forgetting : SystemState → SystemState
 forgetting s = record s { sync_in = None; known = None; offset = None }
 
 -- the numbers fit: the offset is known
-pub record IsKnown (info : SyncInfo) (delay rate : ℤ) (now : ℕ) (s s' : SystemState) (sends : List Sending) (answer : Answer) : Type 0 where
+pub record IsKnown (info : SyncInfo) (delay rate : ℤ) (now : ℕ) (s s' : SystemState) (sends : List Sending)
+    (answer : Answer) : Type 0 where
   pub fits : OffsetFits info delay rate
   pub becomes : Becomes (knowing info (offset_of info delay rate) now s) s' sends
   pub answer_is : answer ≡ answers.Used
 
 -- one doesn't
-pub record IsForgotten (info : SyncInfo) (delay rate : ℤ) (s s' : SystemState) (sends : List Sending) (answer : Answer) : Type 0 where
+pub record IsForgotten (info : SyncInfo) (delay rate : ℤ) (s s' : SystemState) (sends : List Sending)
+    (answer : Answer) : Type 0 where
   pub unfit : OffsetFits info delay rate → ⊥
   pub becomes : Becomes (forgetting s) s' sends
   pub answer_is : answer ≡ answers.Ignored
@@ -218,7 +221,8 @@ stopped s = record s { relay = None }
 -- the hop of this bridge, by the delay and the rate of its Slave port as they are now
 abbrev pub hop_of : SyncInfo → ℕ → SystemState → Hop
 hop_of info now s =
-    bridge info (option_map_or (delay_at s) s.slave (pos 0)) (option_map_or (rate_at s) s.slave (pos 0)) (local_time s now)
+    bridge info (option_map_or (delay_at s) s.slave (pos 0)) (option_map_or (rate_at s) s.slave (pos 0))
+    (local_time s now)
 
 abbrev pub HopFits : SyncInfo → ℕ → SystemState → Type 0
 HopFits info now s = BridgeFits (hop_of info now s) (carried_on (carried info) (hop_of info now s))

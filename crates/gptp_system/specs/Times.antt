@@ -8,8 +8,7 @@ use Rattle.gptp_system.specs.Intervals.{interval_of}
 use Rattle.gptp_system.specs.State.{SystemState, is_mine}
 
 -- a Master port announces within one interval, what was received came before now, and the port asks within one interval
--- and
--- answers within one turnaround
+-- and answers within one turnaround
 pub record IsPortInTime (params : Params) (now : ℕ) (h : Held) (q : Port) : Type 0 where
   pub announce : is_mine h ≡ true → q.announce ≤ now + interval_of q.log_interval
   pub came : (r : Reception) → received h ≡ Some r → r.at ≤ now

@@ -13,8 +13,7 @@ use Rattle.gptp_system.specs.State.{SystemState, is_capable_at}
 use Rattle.gptp_system.specs.Input.{Input, PortUp, PortDown, Frame, Expires, Priority}
 
 -- An input as far as Announces are concerned: one is heard, the Announce timer of a port expires, what a port holds
--- grows
--- too old, a port becomes asCapable or no longer so, or something else happens.
+-- grows too old, a port becomes asCapable or no longer so, or something else happens.
 pub data Touch : Type 0 where
   Hear : (port : ℕ) → AnnounceView → Touch
   Tick Grow Enable Disable : (port : ℕ) → Touch

@@ -9,8 +9,7 @@ pub fn starts_at_rest()
 {}
 
 /// After every step the system is at rest: it follows the best vector that its ports hold, and selecting again would
-/// change
-/// nothing and send nothing.
+/// change nothing and send nothing.
 pub fn stays_at_rest()
     ensures rest { RestLaw }
     ensures selects { SelectsLaw }
@@ -29,40 +28,34 @@ pub fn holds_what_qualified()
 {}
 
 /// No step changes the parameters, the local clock, the clockIdentity, how many ports there are or their announce
-/// intervals;
-/// none but a change of priority1 changes the identity.
+/// intervals; none but a change of priority1 changes the identity.
 pub fn keeps_its_setup()
     ensures keeps { KeepsLaw }
     ensures identity { IdentityLaw }
 {}
 
 /// Every step is the answer to what it does to the ports: each port keeps what it then holds or becomes Master, and a
-/// port
-/// announces at once where it is newly Master or its root or steps changed. Each Announce that is sent is that of a
-/// Master
-/// port, with the chosen root and the own steps.
+/// port announces at once where it is newly Master or its root or steps changed. Each Announce that is sent is that of a
+/// Master port, with the chosen root and the own steps.
 pub fn answers_touches()
     ensures { ReactsLaw }
 {}
 
 /// A system at rest is its own root, or follows what its Slave port received: that root one step further, and in its
-/// trace the
-/// path that it came over.
+/// trace the path that it came over.
 pub fn follows_its_choice()
     ensures follows { FollowsLaw }
     ensures trace { TraceLaw }
 {}
 
 /// What a step makes of the measuring of a port follows from that port alone: what it measured, when it asks and when
-/// it
-/// answers. A step about one port changes no other.
+/// it answers. A step about one port changes no other.
 pub fn measures_port_by_port()
     ensures { MeasuresLaw }
 {}
 
 /// A port sends one request when its link comes up and when its request timer expires, and its two answers when that
-/// timer
-/// expires. The timers of the system tell time. Everything else can only announce.
+/// timer expires. The timers of the system tell time. Everything else can only announce.
 pub fn sends_what_its_input_asks()
     ensures { SendsLaw }
 {}

@@ -7,7 +7,7 @@ use Rattle.gptp_receipt.specs.Qualification.{Qualified}
 use Rattle.gptp_system.specs.State.{own, change, clock, held_at}
 use Rattle.gptp_system.specs.Ready.{state_of}
 use Rattle.gptp_system.specs.Announcing.{is_taken, answer_to_heard}
-use Rattle.gptp_system.proofs.PlaceLemmas.{length-change}
+use Rattle.gptp_system.proofs.ChangedLemmas.{change-length}
 use Rattle.gptp_system.proofs.ReadyLemmas.{held_ready, hearing_keeps}
 use Rattle.gptp_system.proofs.state.State.hear_announce.Goals as goal
 
@@ -19,7 +19,7 @@ select_if-requires-clause-ready c =
     let hear = λ (h : Held). held_after (comparison h me a) h (reception a me c.args.now) in
     let is : c.hear_at-heard.new.held ≡ change hear c.args.port s.held.items =
     rw (c.own-own.ensures, c.as_mut_slice.ensures.value) at c.hear_at-heard.ensures.held in
-    let kept : length c.hear_at-heard.new.held ≡ array_vec_len s.held = omega (arith, ap length is, length-change hear c.args.port s.held.items) in
+    let kept : length c.hear_at-heard.new.held ≡ array_vec_len s.held = omega (arith, ap length is, change-length hear c.args.port s.held.items) in
     let qualified : Qualified a c.own-own.result.clock = search rules in
     let qualified-here : Qualified a (clock (state_of s)) = rw c.own-own.ensures at qualified in
     rw (items-with_items s.held c.hear_at-heard.new.held kept)
@@ -33,7 +33,7 @@ returns-clause-step c =
     let hear = λ (h : Held). held_after (comparison h me a) h (reception a me c.args.now) in
     let is : c.hear_at-heard.new.held ≡ change hear c.args.port s.held.items =
     rw (c.own-own.ensures, c.as_mut_slice.ensures.value) at c.hear_at-heard.ensures.held in
-    let kept : length c.hear_at-heard.new.held ≡ array_vec_len s.held = omega (arith, ap length is, length-change hear c.args.port s.held.items) in
+    let kept : length c.hear_at-heard.new.held ≡ array_vec_len s.held = omega (arith, ap length is, change-length hear c.args.port s.held.items) in
     let heard : c.hear_at-heard.result ≡ comparison (held_at (state_of s) c.args.port) me a =
     rw (c.own-own.ensures, c.as_mut_slice.ensures.value) at c.hear_at-heard.ensures.heard in
     let taken = c.is_taken.ensures ∙ ap is_taken heard in
