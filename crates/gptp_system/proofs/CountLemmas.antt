@@ -18,7 +18,8 @@ use Rattle.gptp_system.proofs.EndLemmas.{from_announcements}
 
 -- ---- any sends
 
-pub count-append : (such : Sending → Bool) (xs ys : List Sending) → count such (xs ++ ys) ≡ count such xs + count such ys
+pub count-append : (such : Sending → Bool) (xs ys : List Sending)
+    → count such (xs ++ ys) ≡ count such xs + count such ys
 count-append such [] ys = omega arith
 count-append such (x ∷ xs) ys = go (such x) (count-append such xs ys)
   where

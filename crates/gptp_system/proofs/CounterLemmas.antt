@@ -175,7 +175,8 @@ announces_once p now sends q once none = record {
 pub selects_counted : (now : ℕ) (t u : SystemState) (sends : List Sending) → Selects now t u sends
     → AreCounted t u sends
 selects_counted now t u sends k =
-    subst (λ x. AreCounted t x sends) (sym k.state) (subst (AreCounted t (choosing k.vector now t)) (sym k.sends_are) go)
+    subst (λ x. AreCounted t x sends) (sym k.state)
+    (subst (AreCounted t (choosing k.vector now t)) (sym k.sends_are) go)
   where
     fresh : List Bool
     fresh = fresh_ports k.vector t

@@ -242,15 +242,15 @@ hears_sync false r touched p head now s s' sends answer k = rests r touched s s'
 hears_sync true r touched p head now s s' sends answer k =
     keeps_if (is_followed p head s) r touched head now s s' sends answer k
 
-knows_if : (said : Option SyncInfo) (delay rate : ℤ) (p now : ℕ) (s s' : SystemState) (sends : List Sending)
+knows_if : (said : Option SyncInfo) (delay rate : ℤ) (now : ℕ) (s s' : SystemState) (sends : List Sending)
     (answer : Answer)
     → KnowsIf said delay rate now s s' sends answer
     → Goes reaches.Nothing (same_timer timers.Relay) s s' sends
-knows_if None delay rate p now s s' sends answer k = rests reaches.Nothing (same_timer timers.Relay) s s' sends k.becomes
-knows_if (Some info) delay rate p now s s' sends answer (inl k) =
+knows_if None delay rate now s s' sends answer k = rests reaches.Nothing (same_timer timers.Relay) s s' sends k.becomes
+knows_if (Some info) delay rate now s s' sends answer (inl k) =
     becomes reaches.Nothing (same_timer timers.Relay) s _ s' sends
     (calm_apart (same_timer timers.Relay) s _ refl refl refl (λ off. refl) (λ off. absurd cc)) k.becomes
-knows_if (Some info) delay rate p now s s' sends answer (inr k) =
+knows_if (Some info) delay rate now s s' sends answer (inr k) =
     becomes reaches.Nothing (same_timer timers.Relay) s _ s' sends
     (calm_apart (same_timer timers.Relay) s _ refl refl refl (λ off. refl) (λ off. refl)) k.becomes
 
@@ -260,7 +260,7 @@ hears_follow_up : (b : Bool) (p : ℕ) (m : FollowUp) (now : ℕ) (s s' : System
 hears_follow_up false p m now s s' sends answer k =
     rests reaches.Nothing (same_timer timers.Relay) s s' sends k.becomes
 hears_follow_up true p m now s s' sends answer k =
-    knows_if (said_on p m s) (delay_at s p) (rate_at s p) p now s s' sends answer k
+    knows_if (said_on p m s) (delay_at s p) (rate_at s p) now s s' sends answer k
 
 restarted_calm : (now : ℕ) (s : SystemState) → Calm (same_timer timers.Sync) s (restarted now s)
 restarted_calm now s = calm_apart (same_timer timers.Sync) s _ refl refl refl (λ off. absurd cc) (λ off. refl)

@@ -78,7 +78,8 @@ tells_few told s = record {
       let below = (syncs_ports (clock s) s.params.sync told 1 s.held s.ports x member).1 in omega arith;
   each = λ p.
       syncs_once (λ x. x.port == p) p (at_port p) s.params.sync told 2
-      (λ own q. count-length (λ x. x.port == p) (sync_of own s.params.sync q ∷ follow_up_of own s.params.sync told q ∷ []))
+      (λ own q. count-length (λ x. x.port == p)
+      (sync_of own s.params.sync q ∷ follow_up_of own s.params.sync told q ∷ []))
       (clock s) 1 s.held s.ports;
   few = syncs_length (clock s) s.params.sync told 1 s.held s.ports;
 }
@@ -106,8 +107,8 @@ one_more x last sends least most a = record {
 
 -- ---- at one port
 
-pub responds_few : (owed : Option Owed) (p now : ℕ) (s : SystemState) (sends : List Sending) → RespondsIf owed p now s sends
-    → AreAt p sends
+pub responds_few : (owed : Option Owed) (p now : ℕ) (s : SystemState) (sends : List Sending)
+    → RespondsIf owed p now s sends → AreAt p sends
 responds_few None p now s sends none = silent (reaches.Port p) 0 sends none
 responds_few (Some owed) p now s sends k = subst (AreAt p) (sym k.sends_are) (record { port = both; few = omega arith })
   where

@@ -35,8 +35,8 @@ pub fn keeps_its_setup()
 {}
 
 /// Every step is the answer to what it does to the ports: each port keeps what it then holds or becomes Master, and a
-/// port announces at once where it is newly Master or its root or steps changed. Each Announce that is sent is that of a
-/// Master port, with the chosen root and the own steps.
+/// port announces at once where it is newly Master or its root or steps changed. Each Announce that is sent is that of
+/// a Master port, with the chosen root and the own steps.
 pub fn answers_touches()
     ensures { ReactsLaw }
 {}
@@ -61,8 +61,8 @@ pub fn sends_what_its_input_asks()
 {}
 
 /// After every step each timer is due within its own span from now: Announce within an announce interval, Pdelay, Sync,
-/// Respond and Relay within theirs; and what is held was received no later than now. So it is with a new system, and each
-/// timer that runs is due at most 160 s from now.
+/// Respond and Relay within theirs; and what is held was received no later than now. So it is with a new system, and
+/// each timer that runs is due at most 160 s from now.
 pub fn stays_in_time()
     ensures start { StartsInTimeLaw }
     ensures steps { InTimeLaw }

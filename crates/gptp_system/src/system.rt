@@ -180,8 +180,8 @@ impl System {
         self.state.due(timer)
     }
 
-    /// At which ports the system can send where a port hears this frame. The first octet tells, whether or not the frame
-    /// reads as a message.
+    /// At which ports the system can send where a port hears this frame. The first octet tells, whether or not the
+    /// frame reads as a message.
     pub fn frame_reach(&self, frame: &[u8]) -> Reach
         ensures { result ≡ frame_reach frame.now }
     {
