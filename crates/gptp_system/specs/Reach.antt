@@ -33,7 +33,7 @@ frame_reach octets = type_reach (message_type octets)
 abbrev pub asking_reach : Bool → ℕ → Reach
 asking_reach stops p = if stops then reaches.All else reaches.Port p
 
--- the expiry of the Pdelay timer makes the port stop being asCapable: it loses one request too many (11.5.3)
+-- the expiry of the Pdelay timer makes the port stop being asCapable: it loses one request too many (11.2.13)
 abbrev pub stops_at : ℕ → SystemState → Bool
 stops_at p s = is_turned after_interval (number s.ports p)
 
