@@ -45,3 +45,17 @@ pub fn written_again(rt: &impl Abort, frame: &[u8], text: &mut Vec<u8>) -> Resul
     }
     encode(&message, text)
 }
+
+/// The octets that a message is written as.
+pub fn written(
+    rt: &impl Abort,
+    alloc: Global,
+    message: &Message<'_>,
+) -> Result<Vec<u8>, AllocError> {
+    if let Message::Announce(announce) = message {
+        assert!(rt; announce.path.len() <= 256);
+    }
+    let mut text = Vec::new(alloc);
+    encode(message, &mut text)?;
+    Ok(text)
+}

@@ -1,7 +1,8 @@
 //! The three messages that measure a link read and written.
 
 use crate::announces::port;
-use gptp_messages::{Head, Message, PdelayResp, PdelayRespFollowUp, decode, encode};
+use crate::frames::written;
+use gptp_messages::{Head, Message, PdelayResp, PdelayRespFollowUp, decode};
 use gptp_scaled::Stamp;
 use std::test::Fail;
 
@@ -53,8 +54,7 @@ fn the_first_request_is_read_and_written(rt: HostRuntime) -> Result<(), Fail> {
     };
     assert_eq!(rt; head, want);
 
-    let mut text = Vec::new(rt.alloc());
-    encode(&Message::PdelayReq { head: want }, &mut text)?;
+    let text = written(&rt, rt.alloc(), &Message::PdelayReq { head: want })?;
     assert_eq!(rt; text.as_slice(), REQUEST.as_slice());
     Ok(())
 }
@@ -77,8 +77,7 @@ fn a_response_is_read_and_written(rt: HostRuntime) -> Result<(), Fail> {
     };
     assert_eq!(rt; response, want);
 
-    let mut text = Vec::new(rt.alloc());
-    encode(&Message::PdelayResp(want), &mut text)?;
+    let text = written(&rt, rt.alloc(), &Message::PdelayResp(want))?;
     assert_eq!(rt; text.as_slice(), RESPONSE.as_slice());
     Ok(())
 }
@@ -101,8 +100,7 @@ fn a_response_follow_up_is_read_and_written(rt: HostRuntime) -> Result<(), Fail>
     };
     assert_eq!(rt; response, want);
 
-    let mut text = Vec::new(rt.alloc());
-    encode(&Message::PdelayRespFollowUp(want), &mut text)?;
+    let text = written(&rt, rt.alloc(), &Message::PdelayRespFollowUp(want))?;
     assert_eq!(rt; text.as_slice(), RESPONSE_FOLLOW_UP.as_slice());
     Ok(())
 }

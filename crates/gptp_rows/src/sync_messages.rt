@@ -1,8 +1,8 @@
 //! Sync and Follow_Up read, refused and written.
 
 use crate::announces::port;
-use crate::frames::{lengthened, spoiled};
-use gptp_messages::{FollowUp, Head, Message, Refused, decode, encode};
+use crate::frames::{lengthened, spoiled, written};
+use gptp_messages::{FollowUp, Head, Message, Refused, decode};
 use gptp_scaled::{Rate, Stamp};
 use std::alloc::Global;
 use std::process::Abort;
@@ -58,37 +58,27 @@ fn follow_up(rt: &impl Abort, frame: &[u8], what: &str) -> FollowUp {
 }
 
 #[test]
-fn the_first_sync_is_read_and_written(rt: HostRuntime) -> Result<(), Fail> {
-    let want = Head {
-        source: port(1, 1),
-        sequence: 0,
-        correction: 0,
-        log_interval: -3,
-        two_step: true,
-    };
-    let Ok(Message::Sync { head }) = decode(&SYNC) else {
-        panic!(rt; "no Sync");
-    };
-    assert_eq!(rt; head, want);
+fn a_sync_is_read_and_written(rt: HostRuntime) -> Result<(), Fail> {
+    // octet 6, whether it says two steps, and what is written in its place
+    let cases = [(0x02, true, 0x02), (0xff, true, 0x02), (0xfd, false, 0x00)];
+    for (flags, two_step, written_flags) in cases {
+        let want = Head {
+            source: port(1, 1),
+            sequence: 0,
+            correction: 0,
+            log_interval: -3,
+            two_step,
+        };
+        let frame = spoiled(&rt, rt.alloc(), &SYNC, 6, &[flags])?;
+        let Ok(Message::Sync { head }) = decode(&frame) else {
+            panic!(rt; "no Sync: {flags}");
+        };
+        assert_eq!(rt; head, want, "{flags}");
 
-    let mut text = Vec::new(rt.alloc());
-    encode(&Message::Sync { head: want }, &mut text)?;
-    assert_eq!(rt; text.as_slice(), SYNC.as_slice());
-    Ok(())
-}
-
-#[test]
-fn a_sync_of_one_step_is_told_apart(rt: HostRuntime) -> Result<(), Fail> {
-    let frame = spoiled(&rt, rt.alloc(), &SYNC, 6, &[0xfd])?;
-    let Ok(Message::Sync { head }) = decode(&frame) else {
-        panic!(rt; "no Sync");
-    };
-    assert!(rt; !head.two_step);
-
-    let mut text = Vec::new(rt.alloc());
-    encode(&Message::Sync { head }, &mut text)?;
-    let plain = spoiled(&rt, rt.alloc(), &SYNC, 6, &[0x00])?;
-    assert_eq!(rt; text.as_slice(), plain.as_slice());
+        let text = written(&rt, rt.alloc(), &Message::Sync { head: want })?;
+        let octets = spoiled(&rt, rt.alloc(), &SYNC, 6, &[written_flags])?;
+        assert_eq!(rt; text.as_slice(), octets.as_slice(), "{flags}");
+    }
     Ok(())
 }
 
@@ -106,11 +96,25 @@ fn a_follow_up_is_read_and_written(rt: HostRuntime) -> Result<(), Fail> {
         let frame = spoiled(&rt, rt.alloc(), &FOLLOW_UP, 54, &octets)?;
         assert_eq!(rt; follow_up(&rt, &frame, what), with_rate(q)?, "{what}");
 
-        let mut text = Vec::new(rt.alloc());
-        encode(&Message::FollowUp(with_rate(q)?), &mut text)?;
+        let text = written(&rt, rt.alloc(), &Message::FollowUp(with_rate(q)?))?;
         assert_eq!(rt; text.as_slice(), frame.as_slice(), "{what}");
     }
     Ok(())
+}
+
+/// An information TLV's octets behind the lengthField, but for the last.
+const INFORMATION: &str = "0080c2000001010203040000000000000000000000000000000000";
+
+/// The Follow_Up with those octets as its TLVs, between these.
+fn with_information(
+    rt: &impl Abort,
+    alloc: Global,
+    before: &str,
+    behind: &str,
+) -> Result<Vec<u8>, Fail> {
+    let digits = format!(in alloc; "{before}{INFORMATION}{behind}")?;
+    let tlvs = hex::decode(alloc, digits.as_str())?;
+    lengthened(rt, alloc, &FOLLOW_UP[..44], &tlvs)
 }
 
 #[test]
@@ -162,10 +166,9 @@ fn the_first_information_tlv_counts(rt: HostRuntime) -> Result<(), Fail> {
         ),
     ];
     for (what, before, behind) in cases {
-        let mut tlvs = hex::decode(rt.alloc(), before)?;
-        tlvs.extend_from_slice(&FOLLOW_UP[44..])?;
-        tlvs.extend_from_slice(&hex::decode(rt.alloc(), behind)?)?;
-        let frame = lengthened(&rt, rt.alloc(), &FOLLOW_UP[..44], &tlvs)?;
+        let before = format!(in rt.alloc(); "{before}0003001c")?;
+        let behind = format!(in rt.alloc(); "00{behind}")?;
+        let frame = with_information(&rt, rt.alloc(), before.as_str(), behind.as_str())?;
         assert_eq!(rt;
             follow_up(&rt, &frame, what),
             with_rate(0x0102_0304)?,
@@ -174,9 +177,6 @@ fn the_first_information_tlv_counts(rt: HostRuntime) -> Result<(), Fail> {
     }
     Ok(())
 }
-
-/// An information TLV's octets behind the lengthField, but for the last.
-const INFORMATION: &str = "0080c2000001010203040000000000000000000000000000000000";
 
 #[test]
 fn a_follow_up_without_its_rate_is_refused(rt: HostRuntime) -> Result<(), Fail> {
@@ -206,17 +206,10 @@ fn a_follow_up_without_its_rate_is_refused(rt: HostRuntime) -> Result<(), Fail> 
         ("inside of another TLV", "000900200003001c", "00"),
     ];
     for (what, before, behind) in cases {
-        let digits = format!(in rt.alloc(); "{before}{INFORMATION}{behind}")?;
-        let tlvs = hex::decode(rt.alloc(), digits.as_str())?;
-        let frame = lengthened(&rt, rt.alloc(), &FOLLOW_UP[..44], &tlvs)?;
+        let frame = with_information(&rt, rt.alloc(), before, behind)?;
         assert_eq!(rt; decode(&frame).err(), Some(Refused::Tlv), "{what}");
     }
     Ok(())
-}
-
-/// The frame with a second of nanoseconds in its timestamp.
-fn with_a_second(rt: &impl Abort, alloc: Global, frame: &[u8]) -> Result<Vec<u8>, Fail> {
-    Ok(spoiled(rt, alloc, frame, 40, &[0x3b, 0x9a, 0xca, 0x00])?)
 }
 
 #[test]
@@ -225,30 +218,29 @@ fn tlvs_are_tested_behind_the_lengths_and_before_the_timestamp(
 ) -> Result<(), Fail> {
     let alloc = rt.alloc();
     let without = lengthened(&rt, alloc, &FOLLOW_UP[..44], &[])?;
-    assert_eq!(rt;
-        decode(&without).err(),
-        Some(Refused::LengthField),
-        "44 octets"
-    );
-
     // the path trace ends where the message does, the information TLV stands in the padding
     let mut padded = spoiled(&rt, alloc, &FOLLOW_UP, 44, &[0x00, 0x08])?;
     padded.extend_from_slice(&FOLLOW_UP[44..])?;
-    assert_eq!(rt; decode(&padded).err(), Some(Refused::Tlv), "in the padding");
-
-    let late = with_a_second(&rt, alloc, &FOLLOW_UP)?;
-    assert_eq!(rt; decode(&late).err(), Some(Refused::StampRange), "a second");
-    let both = with_a_second(&rt, alloc, &padded)?;
-    assert_eq!(rt;
-        decode(&both).err(),
-        Some(Refused::Tlv),
-        "no rate, and a second"
-    );
-    let neither = with_a_second(&rt, alloc, &without)?;
-    assert_eq!(rt;
-        decode(&neither).err(),
-        Some(Refused::LengthField),
-        "44 octets, and a second"
-    );
+    // how the frame is refused, and how with a second of nanoseconds in its timestamp
+    let cases = [
+        ("all there", FOLLOW_UP.as_slice(), None, Refused::StampRange),
+        (
+            "44 octets",
+            without.as_slice(),
+            Some(Refused::LengthField),
+            Refused::LengthField,
+        ),
+        (
+            "the rate in the padding",
+            padded.as_slice(),
+            Some(Refused::Tlv),
+            Refused::Tlv,
+        ),
+    ];
+    for (what, frame, want, late_want) in cases {
+        let late = spoiled(&rt, alloc, frame, 40, &[0x3b, 0x9a, 0xca, 0x00])?;
+        assert_eq!(rt; decode(frame).err(), want, "{what}");
+        assert_eq!(rt; decode(&late).err(), Some(late_want), "{what}");
+    }
     Ok(())
 }
