@@ -308,39 +308,6 @@ fn what_is_read_is_written_again(rt: HostRuntime) -> Result<(), Fail> {
     Ok(())
 }
 
-/// The text is 1, 2, 3 and so many times the first Announce.
-fn assert_announces(rt: &impl Abort, text: &[u8], count: usize) {
-    assert_eq!(rt; text.get(..3), Some([1, 2, 3].as_slice()));
-    let announces = text.get(3..).unwrap_or_default();
-    assert_eq!(rt; announces.chunks(76).count(), count);
-    for announce in announces.chunks(76) {
-        assert_eq!(rt; announce, FIRST_ANNOUNCE.as_slice());
-    }
-}
-
-/// Passes also where one allocation is refused, and tells which call was.
-/// `tools/refuse_test_allocations` refuses each in turn.
-#[test]
-fn a_refused_allocation_leaves_the_text(rt: HostRuntime) -> Result<(), Fail> {
-    let Ok(mut text) = [1, 2, 3].to_vec(rt.alloc()) else {
-        println!(rt; "refused: to_vec")?;
-        return Ok(());
-    };
-    let mut count = 0;
-    let (head, body, path) = (head(port(1, 1)), body(identity(246, 1), 0), trace(&[1])?);
-    match encode_announce(&head, &body, &path, &mut text) {
-        Ok(()) => count += 1,
-        Err(_) => println!(rt; "refused: encode_announce")?,
-    }
-    assert_announces(&rt, &text, count);
-    match written_again(&rt, &FIRST_ANNOUNCE, &mut text) {
-        Ok(()) => count += 1,
-        Err(_) => println!(rt; "refused: encode")?,
-    }
-    assert_announces(&rt, &text, count);
-    Ok(())
-}
-
 #[test]
 fn refusals_are_shown_by_number_and_name(rt: HostRuntime) -> Result<(), Fail> {
     let cases = [
