@@ -1,2 +1,3 @@
 pub mod NetworkLemmas
 pub mod PlaceLemmas
+pub mod SpanLemmas

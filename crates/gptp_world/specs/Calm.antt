@@ -1,11 +1,14 @@
 -- When a network comes to rest after its last change (profile).
 use Rattle.std.specs.Prelude.{◌≡◌, ℕ, true, List, [], ◌∷◌, Some, slice_get}
+use Rattle.std.specs.List.{All}
 use Rattle.gptp_roles.specs.Selection.{clock_of}
 use Rattle.gptp_pdelay.specs.GoodLink.{IsGoodLink}
-use Rattle.gptp_world.specs.Change.{Standing, Layout, layout_of, after}
+use Rattle.gptp_system.specs.declared.setup.Params.{Params}
+use Rattle.gptp_world.specs.Change.{system_after, link_after}
 use Rattle.gptp_world.specs.Network.{NetworkState}
-use Rattle.gptp_world.specs.declared.network.Wire.{Wire}
 use Rattle.gptp_world.specs.declared.change.Timed.{Timed}
+use Rattle.gptp_world.specs.declared.network.Member.{Member}
+use Rattle.gptp_world.specs.declared.network.Wire.{Wire}
 
 -- the time of the last of these, or 0
 abbrev pub last_change : List Timed → ℕ
@@ -13,26 +16,33 @@ last_change [] = 0
 last_change (t ∷ []) = t.at
 last_change (t ∷ (u ∷ us)) = last_change (u ∷ us)
 
--- the system with this clock lives
-pub record IsLive (l : Layout) (name : ℕ) : Type 0 where
+-- the system with this clock lives after the events
+pub record IsLive (systems : List Member) (events : List Timed) (name : ℕ) : Type 0 where
   pub place : ℕ
-  pub system : Standing
-  pub there : slice_get l.systems place ≡ Some system
+  pub system : Member
+  pub there : slice_get systems place ≡ Some system
   pub clock : clock_of system.identity ≡ name
-  pub live : system.live ≡ true
+  pub live : (system_after events system).live ≡ true
 
--- the link is up, and joins two live systems
-pub record IsUsed (l : Layout) (w : Wire) : Type 0 where
+-- the link is up and joins two live systems
+pub record IsUsed (systems : List Member) (events : List Timed) (w : Wire) : Type 0 where
   pub up : w.up ≡ true
-  pub a : IsLive l w.a.clock
-  pub b : IsLive l w.b.clock
+  pub a : IsLive systems events w.a.clock
+  pub b : IsLive systems events w.b.clock
 
 -- the link loses nothing, and is short enough for the threshold
 pub record IsQuiet (turnaround threshold : ℕ) (w : Wire) : Type 0 where
   pub lossless : w.bounds.loss ≡ 0
   pub good : IsGoodLink w.bounds.max turnaround threshold
 
--- A network is calm after these events where each link that is up between two live systems then is quiet.
+-- where a link is up between two live systems after the events, it is quiet
+abbrev pub Rests : Params → List Member → List Timed → Wire → Type 0
+Rests p systems events w =
+    IsUsed systems events (link_after events w) → IsQuiet p.turnaround p.threshold (link_after events w)
+
+abbrev pub AllRest : Params → List Member → List Wire → List Timed → Type 0
+AllRest p systems links events = All (Rests p systems events) links
+
+-- A network is calm after these events where each link that then is up between two live systems is quiet.
 abbrev pub IsCalm : NetworkState → List Timed → Type 0
-IsCalm n events = (number : ℕ) (w : Wire) → slice_get (after events (layout_of n)).links number ≡ Some w
-    → IsUsed (after events (layout_of n)) w → IsQuiet n.params.turnaround n.params.threshold w
+IsCalm n events = AllRest n.params n.systems n.links events

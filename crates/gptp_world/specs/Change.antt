@@ -1,48 +1,35 @@
--- What changes make of a network (profile).
-use Rattle.std.specs.Prelude.{ℕ, ◌+◌, ◌*◌, ◌%◌, ◌^◌, Bool, true, false, ◌||◌, ◌==◌, if◌then◌else◌, List, [], ◌∷◌, map}
-use Rattle.gptp_vector.specs.declared.port.PortId.{PortId}
+-- What changes make of the systems and links of a network (profile).
+use Rattle.std.specs.Prelude.{ℕ, ◌+◌, ◌*◌, ◌%◌, ◌^◌, Bool, true, false, ◌||◌, ◌==◌, if◌then◌else◌, List, [], ◌∷◌}
 use Rattle.gptp_roles.specs.Selection.{clock_of}
-use Rattle.gptp_world.specs.Network.{NetworkState, same_port}
-use Rattle.gptp_world.specs.declared.network.Member.{Member}
-use Rattle.gptp_world.specs.declared.network.Wire.{Wire}
+use Rattle.gptp_world.specs.Network.{same_port}
+use Rattle.gptp_world.specs.declared.calm.Standing.{Standing}
 use Rattle.gptp_world.specs.declared.change.Act.{Act}
 use Rattle.gptp_world.specs.declared.change.Act.TheVariants as acts
 use Rattle.gptp_world.specs.declared.change.Change.{Change}
 use Rattle.gptp_world.specs.declared.change.Change.TheVariants as changes
 use Rattle.gptp_world.specs.declared.change.Timed.{Timed}
+use Rattle.gptp_world.specs.declared.network.Member.{Member}
+use Rattle.gptp_world.specs.declared.network.Wire.{Wire}
 
--- a system by its identity as it is, and whether it lives
-pub record Standing : Type 0 where
-  pub identity : ℕ
-  pub ports : ℕ
-  pub live : Bool
-
--- the systems and links of a network as they are once it was changed
-pub record Layout : Type 0 where
-  pub systems : List Standing
-  pub links : List Wire
-
+-- at first a system lives, and has the identity that it was given
 abbrev pub standing : Member → Standing
-standing m = record { identity = m.identity; ports = m.ports; live = true }
+standing m = record { identity = m.identity; live = true }
 
--- at first all systems live
-abbrev pub layout_of : NetworkState → Layout
-layout_of n = record { systems = map standing n.systems; links = n.links }
+abbrev pub with_live : Bool → Standing → Standing
+with_live live s = record { identity = s.identity; live = live }
 
--- what is done to the system with a clock, and to the link at a port; what isn't there stays absent
-abbrev pub on_system : ℕ → (Standing → Standing) → Layout → Layout
-on_system clock f l = record {
-  systems = map (λ s. if clock_of s.identity == clock then f s else s) l.systems;
-  links = l.links;
-}
+-- priority1 is the first of the fourteen octets (IEEE 802.1AS-2020, 10.3.2)
+abbrev pub with_priority1 : ℕ → Standing → Standing
+with_priority1 value s = record { identity = value * 2 ^ 104 + s.identity % 2 ^ 104; live = s.live }
 
-abbrev pub on_link : ℕ → ℕ → (Wire → Wire) → Layout → Layout
-on_link clock port f l = record {
-  systems = l.systems;
-  links = map (λ w. if same_port w.a (at clock port) || same_port w.b (at clock port) then f w else w) l.links;
-} where
-  at : ℕ → ℕ → PortId
-  at clock port = record { clock = clock; port = port }
+-- what a change makes of a system
+abbrev pub system_changed : Change → ℕ → Standing → Standing
+system_changed (changes.LinkDown clock port) own s = s
+system_changed (changes.LinkUp clock port) own s = s
+system_changed (changes.LinkSet clock port least greatest loss) own s = s
+system_changed (changes.Fail clock) own s = if clock == own then with_live false s else s
+system_changed (changes.Recover clock) own s = if clock == own then with_live true s else s
+system_changed (changes.Priority1 clock value) own s = if clock == own then with_priority1 value s else s
 
 abbrev pub with_up : Bool → Wire → Wire
 with_up up w = record { a = w.a; b = w.b; bounds = w.bounds; up = up }
@@ -55,28 +42,40 @@ with_bounds least greatest loss w = record {
   up = w.up;
 }
 
-abbrev pub with_live : Bool → Standing → Standing
-with_live live s = record { identity = s.identity; ports = s.ports; live = live }
+-- the link is at this port
+abbrev pub is_at : ℕ → ℕ → Wire → Bool
+is_at clock port w = same_port w.a (record { clock = clock; port = port }) || same_port w.b (record { clock = clock; port = port })
 
--- priority1 is the first of the fourteen octets (IEEE 802.1AS-2020, 10.3.2)
-abbrev pub with_priority1 : ℕ → Standing → Standing
-with_priority1 value s = record { identity = value * 2 ^ 104 + s.identity % 2 ^ 104; ports = s.ports; live = s.live }
+-- what a change makes of a link
+abbrev pub link_changed : Change → Wire → Wire
+link_changed (changes.LinkDown clock port) w = if is_at clock port w then with_up false w else w
+link_changed (changes.LinkUp clock port) w = if is_at clock port w then with_up true w else w
+link_changed (changes.LinkSet clock port least greatest loss) w =
+    if is_at clock port w then with_bounds least greatest loss w else w
+link_changed (changes.Fail clock) w = w
+link_changed (changes.Recover clock) w = w
+link_changed (changes.Priority1 clock value) w = w
 
-abbrev pub changed : Change → Layout → Layout
-changed (changes.LinkDown clock port) = on_link clock port (with_up false)
-changed (changes.LinkUp clock port) = on_link clock port (with_up true)
-changed (changes.LinkSet clock port least greatest loss) = on_link clock port (with_bounds least greatest loss)
-changed (changes.Fail clock) = on_system clock (with_live false)
-changed (changes.Recover clock) = on_system clock (with_live true)
-changed (changes.Priority1 clock value) = on_system clock (with_priority1 value)
+-- frames and timers change no system and no link
+abbrev pub system_acted : Act → ℕ → Standing → Standing
+system_acted (acts.Deliver link direction) own s = s
+system_acted (acts.Expire clock timer) own s = s
+system_acted (acts.Change change) own s = system_changed change own s
 
--- frames and timers change no network
-abbrev pub acted : Act → Layout → Layout
-acted (acts.Deliver link direction) l = l
-acted (acts.Expire clock timer) l = l
-acted (acts.Change change) l = changed change l
+abbrev pub link_acted : Act → Wire → Wire
+link_acted (acts.Deliver link direction) w = w
+link_acted (acts.Expire clock timer) w = w
+link_acted (acts.Change change) w = link_changed change w
 
--- what these acts make of a network, one after another
-abbrev pub after : List Timed → Layout → Layout
-after [] l = l
-after (t ∷ ts) l = after ts (acted t.act l)
+-- what acts make, one after another, of the system with this clock, and of a link
+abbrev pub system_stands : List Timed → ℕ → Standing → Standing
+system_stands [] own s = s
+system_stands (t ∷ ts) own s = system_stands ts own (system_acted t.act own s)
+
+abbrev pub link_after : List Timed → Wire → Wire
+link_after [] w = w
+link_after (t ∷ ts) w = link_after ts (link_acted t.act w)
+
+-- a system after these acts
+abbrev pub system_after : List Timed → Member → Standing
+system_after ts m = system_stands ts (clock_of m.identity) (standing m)

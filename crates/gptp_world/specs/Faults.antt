@@ -1,7 +1,5 @@
 -- Tests in their order, and what is answered by them.
-use Rattle.std.specs.Prelude.{◌≡◌, ℕ, codes, Bool, if◌then◌else◌, List, [], ◌∷◌, Option, Some, None, IfErr}
-use Rattle.std.specs.declared.result.Result.{Result}
-use Rattle.std.specs.declared.result.Result.TheVariants.{Err}
+use Rattle.std.specs.Prelude.{◌≡◌, ◌⊎◌, ℕ, codes, Bool, if◌then◌else◌, List, [], ◌∷◌, Option, Some, None}
 use Rattle.gptp_world.specs.declared.fault.NetworkFault.{NetworkFault}
 use Rattle.gptp_world.specs.declared.fault.NetworkFault.TheVariants.{OutOfRange, DuplicateClock, SelfLink, PortTaken, NoSuchPort, DelayTooLong, TooMany, Timing, OutOfMemory}
 
@@ -10,10 +8,9 @@ abbrev pub first_fault : List (Bool × NetworkFault) → Option NetworkFault
 first_fault [] = None
 first_fault (test ∷ tests) = if test.0 then Some test.1 else first_fault tests
 
--- The fault is answered that was found. Where none was found, only memory can be refused.
-abbrev pub Answers : {T : Type 0} → Option NetworkFault → Result T NetworkFault → Type 0
-Answers (Some fault) result = result ≡ Err fault
-Answers None result = IfErr result (λ e. e ≡ OutOfMemory)
+-- The fault that was found is answered. Where none was found, only memory can be refused.
+abbrev pub IsRefusal : Option NetworkFault → NetworkFault → Type 0
+IsRefusal found e = (found ≡ Some e) ⊎ ((found ≡ None) × (e ≡ OutOfMemory))
 
 -- a fault as its number and its name
 abbrev pub fault_text : NetworkFault → List ℕ

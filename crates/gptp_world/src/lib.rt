@@ -6,6 +6,7 @@
 //! it has settled.
 #![tactic(auto)]
 
+mod calm;
 mod change;
 mod fault;
 mod network;

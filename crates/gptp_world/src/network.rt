@@ -1,12 +1,17 @@
 //! Networks.
 
-ghost use Rattle.std.specs.Prelude.{◌≡◌, ◌≤◌, ◌&&◌, ◌||◌, true, false, length, OnOk, OnErr, IfOk, option_copied, slice_get, None, IsOk, IfErr};
+ghost use Rattle.std.specs.Prelude.{◌≡◌, ◌↔◌, ◌≤◌, IsTrue, ◌&&◌, ◌||◌, true, false, length, OnOk, OnErr, IfOk, option_copied, slice_get, None, Some, IfErr};
 ghost use Rattle.std.specs.Option.{option_map};
-ghost use Rattle.gptp_world.specs.Faults.{Answers};
+ghost use Rattle.gptp_world.specs.Faults.{IsRefusal};
 ghost use Rattle.gptp_world.specs.Params.{params_fault};
 ghost use Rattle.gptp_world.specs.Network.{member, wire, without_members, with_system, with_link, is_member_in_range, is_wire_in_range, are_bounds_in_range, has_clock, has_port, is_taken, same_port, system_fault, link_fault, IsNetwork, IsMember, IsPort, IsFree, IsFresh, CanAddSystem, CanAddLink};
 ghost use Rattle.gptp_links.specs.Bounds.{Fit};
+ghost use Rattle.gptp_world.specs.Calm.{IsCalm};
+ghost use Rattle.gptp_world.specs.SettlingTime.{live_systems, settling_span};
+ghost use Rattle.gptp_system.specs.Intervals.{interval_of};
 
+use crate::calm::{is_calm, live_systems, settling_span};
+use crate::change::Timed;
 use crate::fault::NetworkFault;
 use crate::params::{interval_of, is_between, params_fault};
 use gptp_links::Bounds;
@@ -61,9 +66,9 @@ impl Network {
     /// together: twice the threshold and the turnaround are less than the interval of requests, that is at most the
     /// announce interval, and the residence is less than the sync interval.
     pub fn new(alloc: Global, params: Params) -> Result<Self, NetworkFault>
-        ensures answers { Answers (params_fault params) result }
+        ensures passed { OnOk result (params_fault params ≡ None) }
         ensures network { IfOk result (λ n. n ≡ without_members params) }
-        ensures succeeds { params_fault params ≡ None → IsOk result }
+        ensures refused { IfErr result (λ e. params_fault params ≡ Some e) }
     {
         match params_fault(&params) {
             Some(fault) => Err(fault),
@@ -87,7 +92,8 @@ impl Network {
         phase: u64,
         drift: i32,
     ) -> Result<(), NetworkFault>
-        ensures answers { Answers (system_fault self.old (member identity ports phase drift)) result }
+        ensures passed { OnOk result (system_fault self.old (member identity ports phase drift) ≡ None) }
+        ensures refused { IfErr result (IsRefusal (system_fault self.old (member identity ports phase drift))) }
         ensures added { OnOk result (self.new ≡ with_system (member identity ports phase drift) self.old) }
         ensures kept { OnErr result (self.new ≡ self.old) }
     {
@@ -119,7 +125,8 @@ impl Network {
         loss: u16,
         up: bool,
     ) -> Result<(), NetworkFault>
-        ensures answers { Answers (link_fault self.old (wire (length self.old.links) a b min max loss up)) result }
+        ensures passed { OnOk result (link_fault self.old (wire (length self.old.links) a b min max loss up) ≡ None) }
+        ensures refused { IfErr result (IsRefusal (link_fault self.old (wire (length self.old.links) a b min max loss up))) }
         ensures added { OnOk result (self.new ≡ with_link (wire (length self.old.links) a b min max loss up) self.old) }
         ensures kept { OnErr result (self.new ≡ self.old) }
     {
@@ -181,6 +188,43 @@ impl Network {
             Some(wire) => Some((wire.a, wire.b, wire.bounds, wire.up)),
             None => None,
         }
+    }
+
+    /// Whether a system has this clock.
+    pub fn has_clock(&self, clock: ClockId) -> bool
+        ensures { result ≡ has_clock self.now.systems clock }
+    {
+        has_clock(&self.systems, clock)
+    }
+
+    /// Whether a link is at this port.
+    pub fn has_link(&self, port: PortId) -> bool
+        ensures { result ≡ is_taken self.now.links port }
+    {
+        is_taken(&self.links, port)
+    }
+
+    /// The announce interval, in ns.
+    pub fn announce_interval(&self) -> u64
+        ensures { result ≡ interval_of self.now.params.announce }
+    {
+        interval_of(self.params.announce)
+    }
+
+    /// Whether the network is calm after these events: each link that then is up between two live systems loses nothing,
+    /// and its greatest delay is short enough for the threshold.
+    pub fn is_calm(&self, events: &[Timed]) -> bool
+        ensures { IsTrue result ↔ IsCalm self.now events.now }
+    {
+        is_calm(&self.params, &self.systems, &self.links, events)
+    }
+
+    /// How long the network takes at most to settle after these events, in ns.
+    pub fn settling_span(&self, events: &[Timed]) -> u64
+        ensures span { result ≡ settling_span self.now.params (live_systems self.now.systems events.now) }
+        ensures bound { result ≤ 1000000000000000 }
+    {
+        settling_span(&self.params, live_systems(&self.systems, events))
     }
 
     /// Every network is within its limits, its clocks differ, its links join ports of two systems, and a port has one link

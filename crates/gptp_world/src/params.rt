@@ -1,6 +1,6 @@
 //! The limits of what is the same for all systems.
 
-ghost use Rattle.std.specs.Prelude.{◌≡◌, true, None};
+ghost use Rattle.std.specs.Prelude.{◌≡◌, ◌≤◌, true, None};
 ghost use Rattle.gptp_system.specs.Intervals.{IsLog, interval_of};
 ghost use Rattle.gptp_world.specs.Params.{is_log, are_in_range, are_intervals_in_range, are_counts_in_range, are_times_in_range, is_between, is_timed, AreInRange, KeepParams, params_fault};
 
@@ -10,7 +10,8 @@ use gptp_system::Params;
 /// The interval whose logarithm to base 2, in seconds, is this, in ns.
 pub(crate) fn interval_of(log_interval: i8) -> u64
     requires { IsLog log_interval }
-    ensures { result ≡ interval_of log_interval }
+    ensures is { result ≡ interval_of log_interval }
+    ensures bound { result ≤ 16000000000 }
 {
     match log_interval {
         -4 => 62_500_000,

@@ -1,0 +1,43 @@
+-- The events of a document.
+use Rattle.std.proofs.Common.{◌≡◌, ◌≤◌, ◌-◌, ◌++◌, ℕ, suc, List, [], ◌∷◌, length, slice_get, Some, refl, sym, ap, ◌∙◌, arith}
+use Rattle.std.specs.List.{AllByRecursion}
+use Rattle.gptp_world.specs.Calm.{last_change}
+use Rattle.gptp_network.specs.Events.{timed, AreInOrder, AreEvents, IsEvent, IsChange}
+use Rattle.gptp_network.specs.declared.events.Event.{Event}
+use Rattle.gptp_world.specs.Network.{NetworkState}
+use Rattle.gptp_world.specs.declared.change.Timed.{Timed}
+
+before_last : (n : ℕ) → suc n - 1 ≡ n
+before_last n = omega arith
+
+-- the last change is at the time of the last event
+pub last_from : (es : List Timed) (e : Timed) → slice_get es (length es - 1) ≡ Some e → e.at ≡ last_change es
+last_from [] e h = absurd cc
+last_from (x ∷ []) e h = let is : x ≡ e = cc in ap (λ (t : Timed). t.at) (sym is)
+last_from (x ∷ y ∷ es) e h =
+    last_from (y ∷ es) e (ap (slice_get (y ∷ es)) (before_last (length es)) ∙ ap (slice_get (x ∷ y ∷ es)) (sym (before_last (suc (length es)))) ∙ h)
+
+in_order_behind : (es : List Timed) (t : Timed) → AreInOrder es → last_change es ≤ t.at → AreInOrder (es ++ t ∷ [])
+in_order_behind [] t h k = tt
+in_order_behind (e ∷ []) t h k = (k, tt)
+in_order_behind (e ∷ f ∷ es) t h k = (h.0, in_order_behind (f ∷ es) t h.1 k)
+
+each_behind : (n : NetworkState) (es : List Timed) (t : Timed) → AllByRecursion (IsEvent n) es → IsEvent n t
+    → AllByRecursion (IsEvent n) (es ++ t ∷ [])
+each_behind n [] t h k = (k, tt)
+each_behind n (e ∷ es) t h k = (h.0, each_behind n es t h.1 k)
+
+pub event_added : (n : NetworkState) (es : List Timed) (e : Event) → AreEvents n es → last_change es ≤ e.at
+    → e.at ≤ 800000000000000 → IsChange n e.change → AreEvents n (es ++ timed e ∷ [])
+event_added n es e h later early fits = record {
+  in_order = in_order_behind es (timed e) h.in_order later;
+  each = each_behind n es (timed e) h.each (record { early = early; change = e.change; act = refl; fits = fits });
+}
+
+-- the last change is early
+pub early_from : (n : NetworkState) (es : List Timed) → AreEvents n es → last_change es ≤ 800000000000000
+early_from n es h = from_each es h.each where
+  from_each : (es : List Timed) → AllByRecursion (IsEvent n) es → last_change es ≤ 800000000000000
+  from_each [] h = omega arith
+  from_each (e ∷ []) h = h.0.early
+  from_each (e ∷ f ∷ es) h = from_each (f ∷ es) h.1

@@ -1,0 +1,46 @@
+-- The sections `[[link]]` (profile).
+use Rattle.std.specs.Prelude.{ℕ, codes, true, length, Some, None, Result, Ok}
+use Rattle.toml.specs.Data.{Data, Members, as_table}
+use Rattle.gptp_vector.specs.declared.port.PortId.{PortId}
+use Rattle.gptp_world.specs.Network.{NetworkState, wire, with_link, link_fault}
+use Rattle.gptp_world.specs.declared.network.Wire.{Wire}
+use Rattle.gptp_network.specs.Faults.{◌>>=◌, tested}
+use Rattle.gptp_network.specs.Members.{limited, each_of}
+use Rattle.gptp_network.specs.Values.{clock, natural, flag, kind_of, array_at}
+use Rattle.gptp_network.specs.declared.fault.DocumentFault.{DocumentFault}
+use Rattle.gptp_network.specs.declared.links.Link.{Link}
+
+-- the port with this number of the system with this clock
+abbrev pub port_id : ℕ → ℕ → PortId
+port_id name number = record { clock = name; port = number }
+
+-- the keys of a link, in their order, with their ranges and defaults
+unfoldable pub link_of : Members → Result Link DocumentFault
+link_of t = do
+  a ← clock (codes "a") t
+  a_port ← natural (codes "a_port") 1 16 None t
+  b ← clock (codes "b") t
+  b_port ← natural (codes "b_port") 1 16 None t
+  least ← natural (codes "min") 1 16000000000 None t
+  greatest ← natural (codes "max") 1 16000000000 None t
+  loss ← natural (codes "loss") 0 1000 (Some 0) t
+  up ← flag (codes "up") true t
+  Ok (record { a = port_id a a_port; b = port_id b b_port; min = least; max = greatest; loss = loss; up = up })
+
+-- links are numbered from 0 in their order
+abbrev pub wire_of : ℕ → Link → Wire
+wire_of number l = wire number l.a l.b l.min l.max l.loss l.up
+
+-- the network with one more link
+unfoldable pub with_link_of : Data → NetworkState → Result NetworkState DocumentFault
+with_link_of d n = do
+  t ← kind_of (as_table d)
+  l ← link_of t
+  tested (link_fault n (wire_of (length n.links) l)) (with_link (wire_of (length n.links) l) n)
+
+-- the network with the links of a document, 2,048 at most
+unfoldable pub with_links : Members → NetworkState → Result NetworkState DocumentFault
+with_links t n = do
+  ds ← array_at (codes "link") t
+  few ← limited 2048 ds
+  each_of with_link_of few n

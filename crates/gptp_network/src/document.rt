@@ -1,0 +1,144 @@
+//! Documents.
+
+ghost use Rattle.std.specs.Prelude.{◌≡◌, ◌⊎◌, ◌↔◌, IsTrue, Ok, IfOk, IfErr};
+ghost use Rattle.toml.specs.View.{table_view};
+ghost use Rattle.gptp_world.specs.Calm.{last_change, IsCalm};
+ghost use Rattle.gptp_world.specs.SettlingTime.{settles};
+ghost use Rattle.gptp_network.specs.Events.{AreEvents};
+ghost use Rattle.gptp_network.specs.Faults.{Refuses};
+ghost use Rattle.gptp_network.specs.Document.{document_of, whole_network_of, Parses, Means, Fails, IsNoToml};
+
+use crate::events::{events_of, last_change};
+use crate::fault::DocumentFault;
+use crate::links::add_links;
+use crate::params::network_of;
+use crate::systems::add_systems;
+use crate::values::natural;
+use gptp_world::{Network, Timed};
+use std::alloc::Global;
+use std::marker::Model;
+use toml::Table;
+
+/// A network, and what is changed in it when. It is seen as these two.
+#[derive(Drop)]
+pub struct Document {
+    network: Network,
+    events: Vec<Timed>,
+}
+
+impl Model for Document {
+    ghost use Rattle.gptp_network.specs.Document.{DocumentState};
+
+    ghost Value = { DocumentState };
+
+    ghost use Rattle.gptp_network.specs.Events.{AreEvents};
+
+    ghost view = { λ d. record { network = d.network; events = d.events.items } };
+
+    ghost invariant = { λ d. AreEvents d.network d.events.items };
+}
+
+impl Document {
+    /// Reads a document.
+    pub fn read(alloc: Global, text: &[u8]) -> Result<Self, DocumentFault>
+        ensures document { IfOk result (Means text.now) }
+        ensures refused { IfErr result (λ e. (e ≡ DocumentFault.OutOfMemory) ⊎ Fails text.now e) }
+    {
+        match table_of(alloc, text) {
+            Ok(table) => document_of(alloc, &table),
+            Err(fault) => Err(fault),
+        }
+    }
+
+    /// The network as it is at first.
+    pub fn network(&self) -> &Network
+        ensures { result.now ≡ self.now.network }
+    {
+        &self.network
+    }
+
+    /// The time of the last event, in ns, or 0.
+    pub fn last_change(&self) -> u64
+        ensures { result ≡ last_change self.now.events }
+    {
+        last_change(&self.events)
+    }
+
+    /// Whether the network is calm after all events: each link that then is up between two live systems loses nothing, and
+    /// its greatest delay is short enough for the threshold.
+    pub fn calm(&self) -> bool
+        ensures { IsTrue result ↔ IsCalm self.now.network self.now.events }
+    {
+        self.network.is_calm(&self.events)
+    }
+
+    /// The time by which the network has settled, in ns, if it is calm.
+    #[tactic(auto, using(crate::proofs::EventLemmas::early_from))]
+    pub fn settles(&self) -> u64
+        ensures { result ≡ settles self.now.network self.now.events }
+    {
+        last_change(&self.events) + self.network.settling_span(&self.events)
+    }
+
+    /// The events are in order, at most at 8 * 10^14, and each can be made in the network: what it names is there, and the
+    /// bounds that it sets can be those of a link.
+    pub fn well_formed(&self)
+        ensures { AreEvents self.now.network self.now.events }
+    {
+        let _ = &self.events;
+    }
+
+    /// What is changed when, in the order of the document.
+    pub fn events(&self) -> &[Timed]
+        ensures { result.now ≡ self.now.events }
+    {
+        &self.events
+    }
+}
+
+/// The table that a text spells.
+fn table_of(alloc: Global, text: &[u8]) -> Result<Table, DocumentFault>
+    ensures table { IfOk result (λ t. Parses text.now (table_view t)) }
+    ensures refused { IfErr result (λ e. (e ≡ DocumentFault.OutOfMemory) ⊎ ((e ≡ DocumentFault.NotToml) × IsNoToml text.now)) }
+{
+    match toml::table_from_slice(alloc, text) {
+        Ok(table) => Ok(table),
+        Err(error) => {
+            if error.is_memory() {
+                Err(DocumentFault::OutOfMemory)
+            } else {
+                Err(DocumentFault::NotToml)
+            }
+        }
+    }
+}
+
+/// The network of a document.
+#[tactic(auto, unfolding(crate::specs::Document::whole_network_of))]
+fn whole_network_of(alloc: Global, table: &Table) -> Result<Network, DocumentFault>
+    ensures network { IfOk result (λ n. whole_network_of (table_view table.now) ≡ Ok n) }
+    ensures refused { Refuses (whole_network_of (table_view table.now)) result }
+{
+    let mut network = network_of(alloc, table)?;
+    match add_systems(&mut network, table) {
+        Ok(()) => match add_links(&mut network, table) {
+            Ok(()) => Ok(network),
+            Err(fault) => Err(fault),
+        },
+        Err(fault) => Err(fault),
+    }
+}
+
+/// The document that a table describes.
+#[tactic(auto, unfolding(crate::specs::Document::document_of))]
+fn document_of(alloc: Global, table: &Table) -> Result<Document, DocumentFault>
+    ensures document { IfOk result (λ d. document_of (table_view table.now) ≡ Ok d) }
+    ensures refused { Refuses (document_of (table_view table.now)) result }
+{
+    let _ = natural(table, "version", 1, 1, None)?;
+    let network = whole_network_of(alloc, table)?;
+    match events_of(alloc, table, &network) {
+        Ok(events) => Ok(Document { network, events }),
+        Err(fault) => Err(fault),
+    }
+}
