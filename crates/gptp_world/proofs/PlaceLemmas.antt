@@ -1,5 +1,56 @@
--- Members of lists by their places.
-use Rattle.std.proofs.Common.{◌≡◌, ◌⊎◌, inl, inr, ℕ, suc, zero, List, [], ◌∷◌, ◌++◌, length, Some, slice_get, refl, ap}
+-- What stands at the places of a list.
+use Rattle.std.proofs.Common.{◌≡◌, ◌≢◌, ◌⊎◌, ℕ, zero, suc, List, [], ◌∷◌, ◌++◌, length, map, Some, slice_get, slice_set, slice_index_or, refl, ap, sym, ◌∙◌, inl, inr, arith}
+use Rattle.std.proofs.lemmas.Option.{none-some, same_Some}
+
+pub get-set_same : {X : Type 0} (xs : List X) (i : ℕ) (x y : X) → slice_get xs i ≡ Some x → slice_get (slice_set xs i y) i ≡ Some y
+get-set_same [] i x y is = absurd (none-some x is)
+get-set_same (z ∷ zs) zero x y is = refl
+get-set_same (z ∷ zs) (suc i) x y is = get-set_same zs i x y is
+
+pub get-set_other : {X : Type 0} (xs : List X) (i j : ℕ) (y : X) → j ≢ i → slice_get (slice_set xs i y) j ≡ slice_get xs j
+get-set_other [] i j y other = refl
+get-set_other (z ∷ zs) zero zero y other = absurd (other refl)
+get-set_other (z ∷ zs) zero (suc j) y other = refl
+get-set_other (z ∷ zs) (suc i) zero y other = refl
+get-set_other (z ∷ zs) (suc i) (suc j) y other = get-set_other zs i j y (λ e. other (ap suc e))
+
+pub get-map : {X Y : Type 0} (f : X → Y) (xs : List X) (i : ℕ) (x : X) → slice_get xs i ≡ Some x → slice_get (map f xs) i ≡ Some (f x)
+get-map f [] i x is = absurd (none-some x is)
+get-map f (z ∷ zs) zero x is = ap (λ v. Some (f v)) (same_Some z x is)
+get-map f (z ∷ zs) (suc i) x is = get-map f zs i x is
+
+pub read : {X : Type 0} (xs : List X) (i : ℕ) (x d : X) → slice_get xs i ≡ Some x → slice_index_or xs i d ≡ x
+read [] i x d is = absurd (none-some x is)
+read (z ∷ zs) zero x d is = same_Some z x is
+read (z ∷ zs) (suc i) x d is = read zs i x d is
+
+pub map-set : {X Y : Type 0} (f : X → Y) (xs : List X) (i : ℕ) (y : X) → map f (slice_set xs i y) ≡ slice_set (map f xs) i (f y)
+map-set f [] i y = refl
+map-set f (z ∷ zs) zero y = refl
+map-set f (z ∷ zs) (suc i) y = ap (λ rest. f z ∷ rest) (map-set f zs i y)
+
+-- a member is replaced by one that f can't tell from it
+pub map-set_same : {X Y : Type 0} (f : X → Y) (xs : List X) (i : ℕ) (x y : X) → slice_get xs i ≡ Some x → f y ≡ f x
+    → map f (slice_set xs i y) ≡ map f xs
+map-set_same f [] i x y is same = refl
+map-set_same f (z ∷ zs) zero x y is same = ap (λ v. v ∷ map f zs) (same ∙ ap f (sym (same_Some z x is)))
+map-set_same f (z ∷ zs) (suc i) x y is same = ap (λ rest. f z ∷ rest) (map-set_same f zs i x y is same)
+
+pub same_place : (i j : ℕ) → (i ≡ j) ⊎ (i ≢ j)
+same_place zero zero = inl refl
+same_place zero (suc j) = inr (λ e. omega arith)
+same_place (suc i) zero = inr (λ e. omega arith)
+same_place (suc i) (suc j) = next (same_place i j)
+  where
+    next : (i ≡ j) ⊎ (i ≢ j) → (suc i ≡ suc j) ⊎ (suc i ≢ suc j)
+    next (inl same) = inl (ap suc same)
+    next (inr apart) = inr (λ e. apart (omega arith))
+
+-- what is read where something stands
+pub stands : {X : Type 0} (xs : List X) (i : ℕ) (x d : X) → slice_get xs i ≡ Some x → slice_get xs i ≡ Some (slice_index_or xs i d)
+stands xs i x d is = is ∙ ap Some (sym (read xs i x d is))
+
+-- ---- one more behind
 
 -- a member of a list with one more behind is one of the list, or that one
 pub behind : {X : Type 0} (xs : List X) (y x : X) (i : ℕ) → slice_get (xs ++ y ∷ []) i ≡ Some x

@@ -1,0 +1,85 @@
+-- What taking a frame that is due makes of the links and of what is pending.
+use Rattle.std.proofs.Common.{◌≡◌, ◌≢◌, ◌⊎◌, ℕ, ◌≤◌, List, ◌∷◌, map, Some, slice_get, slice_set, refl, ap, ap₂, sym, ◌∙◌, inl, inr, arith}
+use Rattle.std.proofs.lemmas.Option.{same_Some}
+use Rattle.gptp_links.specs.declared.link.Direction.{Direction}
+use Rattle.gptp_links.specs.declared.link.Direction.TheVariants.{FromA, FromB}
+use Rattle.gptp_links.specs.Queue.{Frame, frame, IsTaken}
+use Rattle.gptp_links.specs.State as links
+use Rattle.gptp_vector.specs.declared.port.PortId.{PortId}
+use Rattle.gptp_world.specs.declared.cable.Cable.{Cable}
+use Rattle.gptp_world.specs.declared.cable.Lane.{Lane}
+use Rattle.gptp_world.specs.Directory.{Join}
+use Rattle.gptp_world.specs.declared.item.Item.TheVariants.{Arrival}
+use Rattle.gptp_world.specs.Act.{Takes}
+use Rattle.gptp_world.specs.Cable.{join_of, channel_of, net_of, HasRoomOn}
+use Rattle.gptp_world.specs.Pending.{PendingState, KeepsArrivalRoom, without_first}
+use Rattle.gptp_world.specs.World.{with_queue}
+use Rattle.gptp_world.proofs.PlaceLemmas.{get-set_same, get-set_other, get-map, map-set, map-set_same, same_place}
+use Rattle.gptp_world.proofs.SendingLemmas.{channel_sent, queue_same}
+
+abbrev made : PortId → PortId → Join
+made a b = record { a = a; b = b }
+
+-- the links join the same ports
+pub joins_kept : (cables : List Cable) (place : ℕ) (old new : Cable) → slice_get cables place ≡ Some old → new.a ≡ old.a → new.b ≡ old.b
+    → map join_of (slice_set cables place new) ≡ map join_of cables
+joins_kept cables place old new here a b = map-set_same join_of cables place old new here (ap₂ made a b)
+
+head_is : (f g : Frame) (fs gs : List Frame) → f ∷ fs ≡ g ∷ gs → f ≡ g
+head_is f g fs gs same = cc
+
+-- the frame that was the oldest has left, and is no longer pending
+pub taken : (lane : Lane) (now : ℕ) (octets : List ℕ) (cables : List Cable) (old new : Cable) (pending after : PendingState)
+    (oldest : Frame) (rest : List Frame) → slice_get cables lane.link ≡ Some old → new.a ≡ old.a → new.b ≡ old.b
+    → links.ChangesOnly lane.direction old.link new.link
+    → (links.queue lane.direction old.link).frames ≡ oldest ∷ rest → oldest.due ≡ now
+    → IsTaken (links.queue lane.direction old.link).frames octets (links.queue lane.direction new.link).frames
+    → after.entries ≡ without_first (Arrival lane.link lane.direction) pending.entries
+    → Takes lane.link lane.direction now octets (channel_of old) (net_of cables pending) (net_of (slice_set cables lane.link new) after)
+taken lane now octets cables old new pending after oldest rest here a b only front due is entries =
+    let left : List Frame = (links.queue lane.direction new.link).frames in
+    let same : frame is.due octets ≡ oldest = head_is (frame is.due octets) oldest left rest (sym is.oldest ∙ front) in
+    let time : is.due ≡ now = ap (λ (f : Frame). f.due) same ∙ due in
+    let channel = channel_sent lane.direction old new left a b only refl in
+    let channels : map channel_of (slice_set cables lane.link new)
+    ≡ slice_set (map channel_of cables) lane.link (with_queue lane.direction left (channel_of old)) =
+    map-set channel_of cables lane.link new ∙ ap (slice_set (map channel_of cables) lane.link) channel in
+    record {
+      rest = left;
+      here = get-map channel_of cables lane.link old here;
+      front = queue_same lane.direction old ∙ (is.oldest ∙ ap (λ t. frame t octets ∷ left) time);
+      is = rw (channels, entries) refl;
+    }
+
+queue_room : (d : Direction) (old new : links.State) → links.KeepsRoom old new → (links.queue d old).room ≤ (links.queue d new).room
+queue_room FromA old new keeps = keeps.from_a
+queue_room FromB old new keeps = keeps.from_b
+
+-- and there is no less room
+pub room_kept : (more : ℕ) (lane other : Lane) (cables : List Cable) (old new : Cable) (pending after : PendingState)
+    → slice_get cables lane.link ≡ Some old → new.link.up ≡ old.link.up → links.KeepsRoom old.link new.link → KeepsArrivalRoom pending after
+    → HasRoomOn more other cables pending → HasRoomOn more other (slice_set cables lane.link new) after
+room_kept more lane other cables old new pending after here up keeps arrivals has = by (same_place other.link lane.link)
+  where
+    by : (other.link ≡ lane.link) ⊎ (other.link ≢ lane.link) → HasRoomOn more other (slice_set cables lane.link new) after
+    by (inl places) =
+        let cable_is : has.cable ≡ old = same_Some has.cable old (sym has.here ∙ (ap (slice_get cables) places ∙ here)) in
+        let had : more ≤ (links.queue other.direction old.link).room = rw (← cable_is) has.room in
+        let kept = queue_room other.direction old.link new.link keeps in
+        let arrived = has.arrivals in let more_arrivals = arrivals other.link other.direction in
+        record {
+          cable = new;
+          here = ap (slice_get (slice_set cables lane.link new)) places ∙ get-set_same cables lane.link old new here;
+          up = up ∙ (ap (λ (c : Cable). c.link.up) (sym cable_is) ∙ has.up);
+          room = omega arith;
+          arrivals = omega arith;
+        }
+    by (inr places) =
+        let arrived = has.arrivals in let more_arrivals = arrivals other.link other.direction in
+        record {
+          cable = has.cable;
+          here = get-set_other cables lane.link other.link new places ∙ has.here;
+          up = has.up;
+          room = has.room;
+          arrivals = omega arith;
+        }

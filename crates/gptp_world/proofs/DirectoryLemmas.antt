@@ -1,0 +1,241 @@
+-- Systems and links by their places, and the places by rising clock.
+use Rattle.std.proofs.Common.{◌≡◌, ◌≢◌, inl, inr, ℕ, ◌*◌, ◌<◌, ◌≤◌, Bool, true, false, nat_eq, List, length, map, Option, Some, None, option_map, option_and_then, slice_get, slice_index_or, Contains, refl, sym, ap, subst, ◌∙◌, arith}
+use Rattle.std.specs.List.{All}
+use Rattle.std.proofs.lemmas.Bool.Decides.{nat_tests}
+use Rattle.std.proofs.lemmas.List.{length-map}
+use Rattle.std.proofs.lemmas.List.Sorted.{length_permutation, Contains-permutation, IsPermutation-sym}
+use Rattle.std.proofs.lemmas.Map.Keys.{IsDistinct-IsPermutation}
+use Rattle.std.proofs.lemmas.Option.{slice_get-map, slice_get-get_or, slice_get_within, get_or_from_slice_get}
+use Rattle.gptp_vector.specs.declared.port.PortId.{PortId}
+use Rattle.gptp_links.specs.declared.link.Direction.{Direction}
+use Rattle.gptp_links.specs.declared.link.Direction.TheVariants.{FromA, FromB}
+use Rattle.gptp_roles.specs.Selection.{clock_of}
+use Rattle.gptp_world.specs.declared.cable.Lane.{Lane}
+use Rattle.gptp_world.specs.declared.directory.Ends.{Ends}
+use Rattle.gptp_world.specs.declared.network.Member.{Member}
+use Rattle.gptp_world.specs.declared.network.Wire.{Wire}
+use Rattle.gptp_world.specs.Network.{NetworkState, IsNetwork, IsPort, IsEnd}
+use Rattle.gptp_world.specs.Directory.{Join, clocks_of, joins_of, start_of, BeginsAt, IsPlaced, IsRanking, IsPlan, AreRising, ArePlaces, AreEnds, AreOuts, AreTables, AreNamed}
+use Rattle.gptp_world.proofs.ListLemmas.{some_same, same_there, mapped, mapped_there, contains_there, there_contains, distinct, apart}
+
+-- ---- a network
+
+abbrev join_of : Wire → Join
+join_of w = record { a = w.a; b = w.b }
+
+placed : (n : NetworkState) (p : PortId) → IsNetwork n → IsPort n.systems p → IsPlaced (clocks_of n.systems) p
+placed n p h k = record {
+  place = k.place;
+  there = mapped_there (λ (m : Member). clock_of m.identity) n.systems k.place k.system k.there ∙ ap Some k.clock;
+  first = k.first;
+  last = let few = (h.systems k.place k.system k.there).ports in let most = k.last in omega arith;
+}
+
+differ : (n : NetworkState) → IsNetwork n → (i j clock : ℕ) → slice_get (clocks_of n.systems) i ≡ Some clock
+    → slice_get (clocks_of n.systems) j ≡ Some clock → i ≡ j
+differ n h i j clock e f =
+    let x = mapped (λ (m : Member). clock_of m.identity) n.systems i clock e in
+    let y = mapped (λ (m : Member). clock_of m.identity) n.systems j clock f in
+    h.clocks i j x.0 y.0 x.1 y.1 (x.2 ∙ sym y.2)
+
+abbrev lane : ℕ → Direction → Lane
+lane link direction = record { link = link; direction = direction }
+
+-- the two lanes of a link begin at different ports
+same_direction : (d e : Direction) (w : Wire) (p : PortId) → w.a.clock ≢ w.b.clock
+    → start_of d (record { a = w.a; b = w.b }) ≡ p → start_of e (record { a = w.a; b = w.b }) ≡ p → d ≡ e
+same_direction FromA FromA w p h e f = refl
+same_direction FromB FromB w p h e f = refl
+same_direction FromA FromB w p h e f = absurd (h (ap (λ (q : PortId). q.clock) (e ∙ sym f)))
+same_direction FromB FromA w p h e f = absurd (h (ap (λ (q : PortId). q.clock) (f ∙ sym e)))
+
+is_end : (d : Direction) (w : Wire) (p : PortId) → start_of d (record { a = w.a; b = w.b }) ≡ p → IsEnd p w
+is_end FromA w p e = inl e
+is_end FromB w p e = inr e
+
+one_lane : (n : NetworkState) → IsNetwork n → (p : PortId) (k l : Lane) → BeginsAt (joins_of n.links) p k
+    → BeginsAt (joins_of n.links) p l → k ≡ l
+one_lane n h p k l bk bl =
+    let x = mapped (λ (w : Wire). let j : Join = record { a = w.a; b = w.b } in j) n.links k.link bk.join bk.there in
+    let y = mapped (λ (w : Wire). let j : Join = record { a = w.a; b = w.b } in j) n.links l.link bl.join bl.there in
+    let begins_k : start_of k.direction (record { a = x.0.a; b = x.0.b }) ≡ p = ap (start_of k.direction) x.2
+    ∙ bk.begins in
+    let begins_l : start_of l.direction (record { a = y.0.a; b = y.0.b }) ≡ p = ap (start_of l.direction) y.2
+    ∙ bl.begins in
+    let link : k.link ≡ l.link =
+    h.one_link k.link l.link x.0 y.0 p x.1 y.1 (is_end k.direction x.0 p begins_k)
+    (is_end l.direction y.0 p begins_l) in
+    let wire : y.0 ≡ x.0 = same_there n.links k.link y.0 x.0 (ap (slice_get n.links) link ∙ y.1) x.1 in
+    let there = subst (λ (w : Wire). start_of l.direction (record { a = w.a; b = w.b }) ≡ p) wire begins_l in
+    let direction : k.direction ≡ l.direction =
+    same_direction k.direction l.direction x.0 p (h.links k.link x.0 x.1).apart begins_k there in
+    ap (λ v. lane v k.direction) link ∙ ap (λ v. lane l.link v) direction
+
+pub plan_of : (n : NetworkState) → IsNetwork n → IsPlan (clocks_of n.systems) (joins_of n.links)
+plan_of n h = record {
+  few_systems =
+      let e = length-map n.systems (λ (m : Member). clock_of m.identity) in
+      let few = h.few_systems in omega arith;
+  few_links = let e = length-map n.links (λ (w : Wire). join_of w) in let few = h.few_links in omega arith;
+  differ = differ n h;
+  placed_a = λ i join e.
+      let x = mapped (λ (w : Wire). join_of w) n.links i join e in
+      subst (λ (j : Join). IsPlaced (clocks_of n.systems) j.a) x.2 (placed n x.0.a h (h.links i x.0 x.1).a);
+  placed_b = λ i join e.
+      let x = mapped (λ (w : Wire). join_of w) n.links i join e in
+      subst (λ (j : Join). IsPlaced (clocks_of n.systems) j.b) x.2 (placed n x.0.b h (h.links i x.0 x.1).b);
+  apart = λ i join e.
+      let x = mapped (λ (w : Wire). join_of w) n.links i join e in
+      subst (λ (j : Join). j.a.clock ≢ j.b.clock) x.2 (h.links i x.0 x.1).apart;
+  one_lane = one_lane n h;
+}
+
+-- the systems at the ends of each link are there
+pub all_named : (clocks : List ℕ) (joins : List Join) → IsPlan clocks joins → All (AreNamed clocks) joins
+all_named clocks joins h k d l =
+    let e = slice_get-get_or joins k d l in
+    let a = h.placed_a k (slice_index_or joins k d) e in
+    let b = h.placed_b k (slice_index_or joins k d) e in
+    record {
+      a = contains_there clocks a.place (slice_index_or joins k d).a.clock a.there;
+      b = contains_there clocks b.place (slice_index_or joins k d).b.clock b.there;
+    }
+
+-- ---- places
+
+bare : (a b : Option ℕ) → Some a ≡ option_map Some b → a ≡ b
+bare a None e = absurd cc
+bare a (Some b) e = cc
+
+full : (f : ℕ → Option ℕ) (a : Option ℕ) (n : ℕ) → option_map f a ≡ Some (Some n) → (p : ℕ) × (a ≡ Some p)
+full f None n e = absurd cc
+full f (Some p) n e = (p, refl)
+
+-- a place of the list is that of the number that stands there
+pub same_at : (clocks numbers places : List ℕ) (k p : ℕ) → ArePlaces clocks numbers places → slice_get places k ≡ Some p
+    → slice_get clocks p ≡ slice_get numbers k
+same_at clocks numbers places k p h e =
+    let left : slice_get (map (slice_get clocks) places) k ≡ Some (slice_get clocks p) =
+    mapped_there (slice_get clocks) places k p e in
+    bare (slice_get clocks p) (slice_get numbers k)
+    (sym left ∙ ap (λ (v : List (Option ℕ)). slice_get v k) h ∙ slice_get-map Some numbers k)
+
+-- each number has a place
+pub place_at : (clocks numbers places : List ℕ) (k n : ℕ) → ArePlaces clocks numbers places
+    → slice_get numbers k ≡ Some n
+    → (p : ℕ) × (slice_get places k ≡ Some p)
+place_at clocks numbers places k n h e =
+    full (slice_get clocks) (slice_get places k) n
+    (sym (slice_get-map (slice_get clocks) places k) ∙ ap (λ (v : List (Option ℕ)). slice_get v k) h
+    ∙ mapped_there Some numbers k n e)
+
+pub places_length : (clocks numbers places : List ℕ) → ArePlaces clocks numbers places → length places ≡ length numbers
+places_length clocks numbers places h =
+    sym (length-map places (slice_get clocks)) ∙ ap length h ∙ length-map numbers Some
+
+followed : (f : ℕ → Option ℕ) (a b : Option ℕ) → option_map f a ≡ option_map Some b → option_and_then (λ p. f p) a ≡ b
+followed f None None e = refl
+followed f (Some p) (Some n) e = some_same (f p) (Some n) e
+followed f None (Some n) e = absurd cc
+followed f (Some p) None e = absurd cc
+
+-- the number at a rank is the one at its place
+pub number_at : (clocks numbers places : List ℕ) (k : ℕ) → ArePlaces clocks numbers places
+    → option_and_then (λ p. slice_get clocks p) (slice_get places k) ≡ slice_get numbers k
+number_at clocks numbers places k h =
+    followed (slice_get clocks) (slice_get places k) (slice_get numbers k)
+    (sym (slice_get-map (slice_get clocks) places k) ∙ ap (λ (v : List (Option ℕ)). slice_get v k) h
+    ∙ slice_get-map Some numbers k)
+
+-- ---- the ranking
+
+pub rank_there : (clocks rising : List ℕ) (place c : ℕ) → AreRising clocks rising → slice_get clocks place ≡ Some c
+    → (k : ℕ) × (slice_get rising k ≡ Some c)
+rank_there clocks rising place c h e =
+    there_contains rising c (Contains-permutation clocks rising c h.all (contains_there clocks place c e))
+
+each_ranked : (clocks : List ℕ) (joins : List Join) (rising ranked : List ℕ) → IsPlan clocks joins
+    → AreRising clocks rising
+    → ArePlaces clocks rising ranked → (place : ℕ) → place < length clocks
+    → (rank : ℕ) × (slice_get ranked rank ≡ Some place)
+each_ranked clocks joins rising ranked plan r h place l =
+    let c : ℕ = slice_index_or clocks place 0 in
+    let e : slice_get clocks place ≡ Some c = slice_get-get_or clocks place 0 l in
+    let k = rank_there clocks rising place c r e in
+    let p = place_at clocks rising ranked k.0 c h k.1 in
+    let same : p.0 ≡ place = plan.differ p.0 place c (same_at clocks rising ranked k.0 p.0 h p.1 ∙ k.1) e in
+    (k.0, p.1 ∙ ap Some same)
+
+below : (c d : ℕ) → c ≤ d → (c ≡ d → ⊥) → c < d
+below c d l h = tested (nat_eq c d) refl where
+  tested : (t : Bool) → nat_eq c d ≡ t → c < d
+  tested true e = absurd (h (grind (arith, nat_tests)))
+  tested false e = grind (arith, nat_tests)
+
+rises : (clocks : List ℕ) (joins : List Join) (rising : List ℕ) → IsPlan clocks joins → AreRising clocks rising
+    → (i j c d : ℕ) → i < j → slice_get rising i ≡ Some c → slice_get rising j ≡ Some d → c < d
+rises clocks joins rising plan r i j c d l e f =
+    let within = slice_get_within rising j d f in
+    let up : slice_index_or rising i 0 ≤ slice_index_or rising j 0 = r.order i j 0 (omega arith) within in
+    let at_i : slice_index_or rising i 0 ≡ c = get_or_from_slice_get rising i c 0 e in
+    let at_j : slice_index_or rising j 0 ≡ d = get_or_from_slice_get rising j d 0 f in
+    let two = IsDistinct-IsPermutation nat_eq (λ x y. grind (arith, nat_tests)) clocks rising r.all
+    (distinct clocks plan.differ) in
+    let not_same : c ≡ d → ⊥ = λ s. apart rising i j c two l e (f ∙ ap Some (sym s)) in
+    let le : c ≤ d = omega arith in below c d le not_same
+
+pub ranking_of : (clocks : List ℕ) (joins : List Join) (rising ranked : List ℕ) → IsPlan clocks joins
+    → AreRising clocks rising
+    → ArePlaces clocks rising ranked → IsRanking clocks ranked
+ranking_of clocks joins rising ranked plan r h = record {
+  count = places_length clocks rising ranked h ∙ length_permutation clocks rising r.all;
+  each = each_ranked clocks joins rising ranked plan r h;
+  rise = λ i j p q c d l at_i at_j e f. rises clocks joins rising plan r i j c d l
+      (sym (same_at clocks rising ranked i p h at_i) ∙ e) (sym (same_at clocks rising ranked j q h at_j) ∙ f);
+}
+
+-- ---- the ends of links
+
+pub ends_length : (clocks : List ℕ) (joins : List Join) (ends : List Ends) → AreEnds clocks joins ends
+    → length ends ≡ length joins
+ends_length clocks joins ends h =
+    sym (length-map ends (λ (e : Ends). e.a))
+    ∙ places_length clocks (map (λ (j : Join). j.a.clock) joins) (map (λ (e : Ends). e.a) ends) h.a
+    ∙ length-map joins (λ (j : Join). j.a.clock)
+
+pub end_a_at : (clocks : List ℕ) (joins : List Join) (ends : List Ends) (i : ℕ) (join : Join) (e : Ends)
+    → AreEnds clocks joins ends → slice_get joins i ≡ Some join → slice_get ends i ≡ Some e
+    → slice_get clocks e.a ≡ Some join.a.clock
+end_a_at clocks joins ends i join e h at there =
+    same_at clocks (map (λ (j : Join). j.a.clock) joins) (map (λ (e : Ends). e.a) ends) i e.a h.a
+    (mapped_there (λ (e : Ends). e.a) ends i e there)
+    ∙ mapped_there (λ (j : Join). j.a.clock) joins i join at
+
+pub end_b_at : (clocks : List ℕ) (joins : List Join) (ends : List Ends) (i : ℕ) (join : Join) (e : Ends)
+    → AreEnds clocks joins ends → slice_get joins i ≡ Some join → slice_get ends i ≡ Some e
+    → slice_get clocks e.b ≡ Some join.b.clock
+end_b_at clocks joins ends i join e h at there =
+    same_at clocks (map (λ (j : Join). j.b.clock) joins) (map (λ (e : Ends). e.b) ends) i e.b h.b
+    (mapped_there (λ (e : Ends). e.b) ends i e there)
+    ∙ mapped_there (λ (j : Join). j.b.clock) joins i join at
+
+-- ---- all tables
+
+pub tables_of : (clocks : List ℕ) (joins : List Join) (ranked rising : List ℕ) (outs : List (Option Lane))
+    (ends : List Ends)
+    → IsPlan clocks joins → AreRising clocks rising → ArePlaces clocks rising ranked → AreEnds clocks joins ends
+    → AreOuts (2 * length joins) clocks joins outs
+    → AreTables (record { clocks = clocks; joins = joins; ranked = ranked }) rising outs ends
+tables_of clocks joins ranked rising outs ends plan r p e o = record {
+  directory = record { plan = plan; ranking = ranking_of clocks joins rising ranked plan r p };
+  order = r;
+  ranked = p;
+  at_ends = e;
+  lanes = o;
+}
+
+-- the clocks in rising order are all among the others
+pub all_rising : (clocks rising : List ℕ) → AreRising clocks rising → All (Contains clocks) rising
+all_rising clocks rising h k d l =
+    Contains-permutation rising clocks (slice_index_or rising k d) (IsPermutation-sym clocks rising h.all)
+    (contains_there rising k (slice_index_or rising k d) (slice_get-get_or rising k d l))

@@ -1,0 +1,264 @@
+-- How a call of a system is carried out.
+use Rattle.std.proofs.Common.{◌≡◌, ◌≢◌, ◌⊎◌, ℕ, ◌+◌, ◌*◌, ◌≤◌, ◌==◌, if◌then◌else◌, Bool, true, false, List, [], ◌∷◌, length, map, Option, Some, slice_get, slice_set, slice_index_or, refl, ap, subst, sym, ◌∙◌, inl, inr, arith}
+use Rattle.std.specs.Bool.{⊤}
+use Rattle.std.proofs.lemmas.Option.{same_Some}
+use Rattle.std.proofs.lemmas.List.{length-set}
+use Rattle.gptp_links.specs.declared.bounds.Bounds.{Bounds}
+use Rattle.gptp_messages.specs.Head.{message_type}
+use Rattle.gptp_system.specs.declared.answer.Answer.{Answer}
+use Rattle.gptp_system.specs.declared.reach.Reach.{Reach}
+use Rattle.gptp_system.specs.declared.reach.Reach.TheVariants as reaches
+use Rattle.gptp_system.specs.declared.sending.Sending.{Sending}
+use Rattle.gptp_system.specs.Input.{Input, Steps, PortUp, PortDown, Frame, Expires, Priority}
+use Rattle.gptp_system.specs.Reach.{sends_at, IsWithin}
+use Rattle.gptp_system.specs.State.{SystemState, clock}
+use Rattle.gptp_world.specs.declared.cable.Lane.{Lane}
+use Rattle.gptp_world.specs.declared.net.Net.{Net as Between}
+use Rattle.gptp_world.specs.declared.station.Station.{Station}
+use Rattle.gptp_world.specs.Act.{set_timers, all_timers, in_state}
+use Rattle.gptp_world.specs.Cable.{SentAll}
+use Rattle.gptp_world.specs.Directory.{BeginsAt}
+use Rattle.gptp_world.specs.Net.{between, port_id, HasRoomFor, IsNet, OnlyEntries}
+use Rattle.gptp_system.specs.Reach.{may_select, reach, timer_reach}
+use Rattle.gptp_system.specs.declared.timer.Timer.{Timer}
+use Rattle.gptp_system.specs.declared.timer.Timer.TheVariants as timers
+use Rattle.gptp_system.specs.Steps.{IsPortOf, IsTimerOf}
+use Rattle.gptp_system.proofs.FactLemmas.{keeps_length}
+use Rattle.gptp_system.proofs.ReachLemmas.{steps_reach}
+use Rattle.gptp_system.proofs.StepLemmas.{steps_sound}
+use Rattle.gptp_world.specs.declared.stage.Stage.{Stage}
+use Rattle.gptp_world.specs.Stage.{clock_at, CalledWith, CarriesOut, HasRoomToCall, HasStepped, IsLiveAt, IsStage}
+use Rattle.gptp_world.specs.World.{timers_from}
+use Rattle.gptp_world.proofs.NetLemmas.{fewer}
+use Rattle.gptp_world.proofs.PlaceLemmas.{read, get-set_same, get-set_other, map-set_same, same_place}
+
+-- ---- the timers are set
+
+pub net_kept : (used : ℕ) (net net' : Between) → OnlyEntries used net net' → IsNet net → IsNet net'
+net_kept used net net' only is =
+    let cables = only.cables in let directory = only.directory in let links = only.links in
+    record { joins = rw (cables, directory) is.joins; links = rw (cables, links) is.links }
+
+pub room_with_timers : (used clock : ℕ) (sends : List Sending) (net net' : Between) → OnlyEntries used net net'
+    → used + length sends ≤ net.pending.room → HasRoomFor clock sends net → HasRoomFor clock sends net'
+room_with_timers used clock sends net net' only entries has =
+    let cables = only.cables in let directory = only.directory in let rooms = only.rooms in let buffers = only.buffers in
+    record {
+      entries = let left = only.room in omega arith;
+      buffers = rw buffers has.buffers;
+      lanes = λ p lane cable begins here up.
+          let had = has.lanes p lane cable (rw (← directory) begins) (rw (← cables) here) up in
+          record { cable = had.cable; here = rw cables had.here; up = had.up; room = had.room; arrivals = rw rooms had.arrivals };
+    }
+
+pub timers_set : (used place : ℕ) (station : Station) (net net' : Between) → OnlyEntries used net net'
+    → net'.pending.entries ≡ set_timers place station (timers_from 1 station.system.ports) net.pending.entries
+    → between net' ≡ all_timers place station (between net)
+timers_set used place station net net' only entries = let cables = only.cables in rw (cables, entries) refl
+
+-- ---- what a call sends has room
+
+at_most_all : (p : ℕ) (xs : List Sending) → sends_at p xs ≤ length xs
+at_most_all p [] = omega arith
+at_most_all p (x ∷ xs) = by (x.port == p) refl (at_most_all p xs)
+  where
+    by : (test : Bool) → (x.port == p) ≡ test → sends_at p xs ≤ length xs → sends_at p (x ∷ xs) ≤ length (x ∷ xs)
+    by true is ih = rw is (omega (arith, ih))
+    by false is ih = rw is (omega (arith, ih))
+
+-- at most two sends at each port
+pub record AreFew (ports : ℕ) (xs : List Sending) : Type 0 where
+  pub all : length xs ≤ 2 * ports
+  pub each : (p : ℕ) → sends_at p xs ≤ 2
+
+-- a step that sends at a port is of a system that has one
+pub within_few : (r : Reach) (ports : ℕ) (xs : List Sending) → IsWithin r ports xs → ((p : ℕ) → r ≡ reaches.Port p → 1 ≤ ports)
+    → AreFew ports xs
+within_few reaches.Nothing ports xs within has =
+    rw within (record { all = omega arith; each = λ p. omega arith })
+within_few (reaches.Port p) ports xs within has =
+    let few = within.few in let one = has p refl in
+    record { all = omega arith; each = λ q. let at = at_most_all q xs in omega (arith, at, few) }
+within_few reaches.All ports xs within has = record { all = within.few; each = within.each }
+
+-- ---- one call
+
+same_ports : (input : Input) (now : ℕ) (s s' : SystemState) (sends : List Sending) (answer : Answer) → Steps input now s s' sends answer
+    → length s'.ports ≡ length s.ports
+same_ports input now s s' sends answer steps = keeps_length s s' (steps_sound input now s s' sends answer steps).kept
+
+same_clock : (input : Input) (now : ℕ) (s s' : SystemState) (sends : List Sending) (answer : Answer) → Steps input now s s' sends answer
+    → clock s' ≡ clock s
+same_clock input now s s' sends answer steps = (steps_sound input now s s' sends answer steps).kept.same_clock
+
+clocks_kept : (stage : Stage) (place : ℕ) (old new : Station) → IsStage stage → slice_get stage.stations.items place ≡ Some old
+    → clock new.system ≡ clock old.system
+    → map clock_at (slice_set stage.stations.items place new) ≡ stage.net.directory.clocks
+clocks_kept stage place old new is here same =
+    map-set_same clock_at stage.stations.items place old new here same ∙ is.clocks
+
+few_kept : (stage : Stage) (place : ℕ) (old new : Station) → IsStage stage → slice_get stage.stations.items place ≡ Some old
+    → length new.system.ports ≡ length old.system.ports
+    → (other : ℕ) (station : Station) → slice_get (slice_set stage.stations.items place new) other ≡ Some station
+    → length station.system.ports ≤ 16
+few_kept stage place old new is here same other station there = by (same_place other place)
+  where
+    by : (other ≡ place) ⊎ (other ≢ place) → length station.system.ports ≤ 16
+    by (inl places) =
+        let now_here = get-set_same stage.stations.items place old new here in
+        let one : station ≡ new =
+        same_Some station new (sym there ∙ (ap (slice_get (slice_set stage.stations.items place new)) places ∙ now_here)) in
+        let few = is.few place old here in
+        rw one (rw same few)
+    by (inr apart) = is.few other station (sym (get-set_other stage.stations.items place other new apart) ∙ there)
+
+ports_kept : (stage : Stage) (place : ℕ) (old new : Station) → IsStage stage → slice_get stage.stations.items place ≡ Some old
+    → length new.system.ports ≡ length old.system.ports → clock new.system ≡ clock old.system
+    → (other : ℕ) (station : Station) (p : ℕ) (lane : Lane) → slice_get (slice_set stage.stations.items place new) other ≡ Some station
+    → BeginsAt stage.net.directory.joins (port_id (clock station.system) p) lane → (1 ≤ p) × (p ≤ length station.system.ports)
+ports_kept stage place old new is here count clocks other station p lane there begins = by (same_place other place)
+  where
+    by : (other ≡ place) ⊎ (other ≢ place) → (1 ≤ p) × (p ≤ length station.system.ports)
+    by (inl places) =
+        let now_here = get-set_same stage.stations.items place old new here in
+        let one : station ≡ new =
+        same_Some station new (sym there ∙ (ap (slice_get (slice_set stage.stations.items place new)) places ∙ now_here)) in
+        let starts : BeginsAt stage.net.directory.joins (port_id (clock old.system) p) lane = rw (← clocks, ← one) begins in
+        rw one (rw count (is.ports place old p lane here starts))
+    by (inr apart) = is.ports other station p lane (sym (get-set_other stage.stations.items place other new apart) ∙ there) begins
+
+-- a timer that reaches one port alone is of a system that has a port
+timer_has_port : (timer : Timer) (s : SystemState) → IsTimerOf s timer → (p : ℕ) → timer_reach timer s ≡ reaches.Port p
+    → 1 ≤ length s.ports
+timer_has_port (timers.Announce q) s is p at = let least = is.least in let most = is.most in omega arith
+timer_has_port (timers.Age q) s is p at = let least = is.least in let most = is.most in omega arith
+timer_has_port (timers.Pdelay q) s is p at = let least = is.least in let most = is.most in omega arith
+timer_has_port (timers.Respond q) s is p at = let least = is.least in let most = is.most in omega arith
+timer_has_port timers.Sync s is p at = absurd cc
+timer_has_port timers.Relay s is p at = absurd cc
+
+-- no frame reaches one port alone
+frame_reaches : (selects : Bool) (p : ℕ) → (if selects then reaches.All else reaches.Nothing) ≡ reaches.Port p → ⊥
+frame_reaches true p at = absurd cc
+frame_reaches false p at = absurd cc
+
+-- the port whose link an input brings up, or whose timer it is, is one of the system
+abbrev pub IsOf : SystemState → Input → Type 0
+IsOf s (PortUp p) = IsPortOf s p
+IsOf s (PortDown p) = ⊤
+IsOf s (Frame p octets) = ⊤
+IsOf s (Expires timer) = IsTimerOf s timer
+IsOf s (Priority value) = ⊤
+
+-- an input that reaches one port alone is given to a system that has a port
+has_port : (input : Input) (s : SystemState) → IsOf s input → (p : ℕ) → reach input s ≡ reaches.Port p → 1 ≤ length s.ports
+has_port (PortUp q) s is p at = let least = is.least in let most = is.most in omega arith
+has_port (PortDown q) s is p at = absurd cc
+has_port (Frame q octets) s is p at = absurd (frame_reaches (may_select (message_type octets)) p at)
+has_port (Expires timer) s is p at = timer_has_port timer s is p at
+has_port (Priority value) s is p at = absurd cc
+
+-- ---- one call
+
+-- the live system at a place took a step
+pub stepped : (stage stage' : Stage) (place : ℕ) (input : Input) (answer : Answer) (one : Station) (after : SystemState)
+    → IsLiveAt place stage → one ≡ slice_index_or stage.stations.items place one
+    → Steps input stage.now one.system after stage'.outbox.items answer
+    → stage'.stations.items ≡ slice_set stage.stations.items place (in_state after one) → stage'.net ≡ stage.net
+    → stage'.now ≡ stage.now → stage'.last_change ≡ stage.last_change → HasStepped place input answer stage stage'
+stepped stage stage' place input answer one after live value steps stations net now last =
+    let is : one ≡ live.station = value ∙ read stage.stations.items place live.station one live.here in
+    record {
+      station = one;
+      after = after;
+      here = live.here ∙ ap Some (sym is);
+      live = rw is live.live;
+      steps = steps;
+      stations = stations;
+      net = net;
+      now = now;
+      last_change = last;
+    }
+
+-- what it left can be carried out
+pub carries : (stage stage' : Stage) (place : ℕ) (input : Input) (answer : Answer) → IsStage stage → HasRoomToCall place stage
+    → HasStepped place input answer stage stage' → (station : Station) → slice_get stage.stations.items place ≡ Some station
+    → IsOf station.system input → CarriesOut place stage'
+carries stage stage' place input answer is room step station here of =
+    let old = step.station in let after = step.after in let sends = stage'.outbox.items in
+    let new = in_state after old in
+    let steps = step.steps in let stations = step.stations in let net = step.net in let now = step.now in
+    let ports = same_ports input stage.now old.system after sends answer steps in
+    let clocks = same_clock input stage.now old.system after sends answer steps in
+    let one : station ≡ old = same_Some station old (sym here ∙ step.here) in
+    let few = within_few (reach input old.system) (length old.system.ports) sends
+    (steps_reach input stage.now old.system after sends answer steps).within
+    (has_port input old.system (subst (λ (s : Station). IsOf s.system input) one of)) in
+    let all = few.all in
+    let same : room.station ≡ old = same_Some room.station old (sym room.here ∙ step.here) in
+    let entries : 6 * length old.system.ports + 2 ≤ stage.net.pending.room = rw (← same) room.entries in
+    let buffers : 2 * length old.system.ports ≤ stage.net.buffers.ready = rw (← same) room.buffers in
+    let places = is.systems in
+    let small = is.few place old step.here in
+    record {
+      station = new;
+      here = rw stations (get-set_same stage.stations.items place old new step.here);
+      net = rw net is.net;
+      clocks = rw (stations, net) (clocks_kept stage place old new is step.here clocks);
+      systems = rw (stations, net) (rw (length-set stage.stations.items place new) places);
+      moment = rw now is.moment;
+      few = rw ports small;
+      timers = rw (net, ports) (omega arith);
+      room = rw (net, clocks) (record {
+        entries = omega arith;
+        buffers = omega arith;
+        lanes = λ p lane cable begins there up.
+            fewer (sends_at p sends) 2 lane stage.net.cables.items stage.net.pending (few.each p)
+            (room.lanes p lane cable (rw same begins) there up);
+      });
+    }
+
+-- the stage after it was carried out, from the one that it left
+pub stays : (stage left stage' : Stage) (place : ℕ) (input : Input) (answer : Answer) → IsStage stage
+    → HasStepped place input answer stage left → stage'.stations ≡ left.stations → IsNet stage'.net
+    → stage'.net.directory ≡ left.net.directory → stage'.net.pending.systems ≡ left.net.pending.systems → stage'.now ≡ left.now
+    → stage'.outbox.items ≡ [] → IsStage stage'
+stays stage left stage' place input answer is step stations net directory systems now outbox =
+    let old = step.station in let new = in_state step.after old in
+    let ports = same_ports input stage.now old.system step.after left.outbox.items answer step.steps in
+    let clocks = same_clock input stage.now old.system step.after left.outbox.items answer step.steps in
+    let places = is.systems in let list = step.stations in let between = step.net in let moment = step.now in
+    record {
+      net = net;
+      clocks = rw (stations, list, directory, between) (clocks_kept stage place old new is step.here clocks);
+      systems = rw (stations, list, systems, between) (rw (length-set stage.stations.items place new) places);
+      few = rw (stations, list) (few_kept stage place old new is step.here ports);
+      ports = rw (stations, list, directory, between) (ports_kept stage place old new is step.here ports clocks);
+      empty = outbox;
+      moment = rw (now, moment) is.moment;
+    }
+
+-- it was one call of the system
+pub called : {F : Type 0} (answers : Bounds → ℕ → F → Option ℕ → F → Type 0) (fate fate_after : F) (stage left stage' : Stage)
+    (place : ℕ) (input : Input) (answer : Answer) → (step : HasStepped place input answer stage left)
+    → SentAll answers left.now step.after left.outbox.items fate fate_after
+    (all_timers place (in_state step.after step.station) (between left.net)) (between stage'.net)
+    → stage'.stations ≡ left.stations → stage'.now ≡ left.now → stage'.last_change ≡ left.last_change
+    → CalledWith answers place input answer fate fate_after stage stage'
+called answers fate fate_after stage left stage' place input answer step sent stations now last =
+    let list = step.stations in let net = step.net in let moment = step.now in let change = step.last_change in
+    record {
+      draws = sent.draws;
+      drawn = sent.drawn;
+      calls = record {
+        station = step.station;
+        after = step.after;
+        sends = left.outbox.items;
+        net = between stage'.net;
+        here = step.here;
+        live = step.live;
+        steps = step.steps;
+        sent = rw (← net, ← moment) sent.sends_all;
+        is = rw (stations, now, last, list, moment, change) refl;
+      };
+    }

@@ -1,0 +1,17 @@
+use Rattle.std.proofs.Common.{◌≡◌, Some, refl, ap, sym, ◌∙◌}
+use Rattle.std.proofs.lemmas.Option.{slice_get-get_or}
+use Rattle.gptp_world.proofs.PlaceLemmas.{read}
+use Rattle.gptp_world.proofs.ChangingLemmas.{net_changed, still_net}
+use Rattle.gptp_world.proofs.net.Net.set_bounds.Goals as goal
+
+pub returns-clause-net : goal.returns-clause-net
+returns-clause-net c =
+    let one = c.index_mut.result.now in let cables = c.args.self.now.cables.items in
+    let here = slice_get-get_or cables c.args.link one c.requires.link ∙ ap Some (sym c.index_mut.ensures.value) in
+    still_net c.args.self.now _ c.args.link one _ c.requires.net here refl refl refl refl refl
+
+pub returns-clause-bounds : goal.returns-clause-bounds
+returns-clause-bounds c = λ cable there.
+    let one = c.index_mut.result.now in let cables = c.args.self.now.cables.items in
+    let is : one ≡ cable = c.index_mut.ensures.value ∙ read cables c.args.link cable one there in
+    rw (← is) (net_changed cables c.args.link _ _ c.args.self.now.pending _ (let link = c.set.ensures in rw link refl) refl)

@@ -1,0 +1,41 @@
+use Rattle.std.proofs.Common.{◌≡◌, Some, ap, sym, ◌∙◌}
+use Rattle.std.proofs.lemmas.List.{length-set}
+use Rattle.std.proofs.lemmas.Option.{same_Some}
+use Rattle.gptp_world.specs.Pending.{PendingState}
+use Rattle.gptp_world.proofs.PlaceLemmas.{read}
+use Rattle.gptp_world.proofs.ArrivingLemmas.{joins_kept, taken, room_kept}
+use Rattle.gptp_world.proofs.net.Net.take_frame.Goals as goal
+
+pub returns-clause-net : goal.returns-clause-net
+returns-clause-net c =
+    let one = c.index_mut.result.now in let cables = c.args.self.now.cables.items in let due = c.requires.due in
+    let is : one ≡ due.cable = c.index_mut.ensures.value ∙ read cables c.args.lane.link due.cable one due.here in
+    let here = due.here ∙ ap Some (sym is) in
+    let e = c.deliver_on-octets.ensures in
+    let links = ap (λ (p : PendingState). p.links) c.take.ensures.kept in
+    let joins = joins_kept cables c.args.lane.link one c.deliver_on-octets.new.cable here e.a e.b in
+    let fits = c.requires.net.links in
+    record {
+      joins = joins ∙ c.requires.net.joins;
+      links = rw (links, length-set cables c.args.lane.link c.deliver_on-octets.new.cable) fits;
+    }
+
+pub returns-clause-takes : goal.returns-clause-takes
+returns-clause-takes c = λ cable there.
+    let one = c.index_mut.result.now in let cables = c.args.self.now.cables.items in let due = c.requires.due in
+    let is : one ≡ cable = c.index_mut.ensures.value ∙ read cables c.args.lane.link cable one there in
+    let same : due.cable ≡ one = same_Some due.cable one (sym due.here ∙ (there ∙ ap Some (sym is))) in
+    let here = there ∙ ap Some (sym is) in
+    let e = c.deliver_on-octets.ensures in
+    let entries = ap (λ (p : PendingState). p.entries) c.take.ensures.kept in
+    rw (← is) (taken c.args.lane c.args.now c.deliver_on-octets.result.items cables one c.deliver_on-octets.new.cable c.args.self.now.pending
+    c.take.new.self due.oldest due.rest here e.a e.b e.others (rw (← same) due.front) due.due_now e.taken entries)
+
+pub returns-clause-room : goal.returns-clause-room
+returns-clause-room c = λ more other has.
+    let one = c.index_mut.result.now in let cables = c.args.self.now.cables.items in let due = c.requires.due in
+    let is : one ≡ due.cable = c.index_mut.ensures.value ∙ read cables c.args.lane.link due.cable one due.here in
+    let here = due.here ∙ ap Some (sym is) in
+    let e = c.deliver_on-octets.ensures in
+    room_kept more c.args.lane other cables one c.deliver_on-octets.new.cable c.args.self.now.pending c.take.new.self here e.others.up e.room
+    c.take.ensures.arrivals has

@@ -1,0 +1,89 @@
+-- What is pending, filed by item: a table with the timers that run, and the numbers of the arrivals.
+use Rattle.std.specs.Prelude.{◌≡◌, ℕ, ◌+◌, ◌-◌, ◌*◌, ◌≤◌, ◌==◌, List, [], ◌∷◌, ◌++◌, map, length, Option, Some, None, slice_index_or, slice_set}
+use Rattle.std.specs.List.{AllByRecursion, filter}
+use Rattle.gptp_scheduler.specs.Pending.{Entry as Numbered}
+use Rattle.gptp_system.specs.declared.timer.Timer.{Timer}
+use Rattle.gptp_world.specs.declared.filed.Running.{Running}
+use Rattle.gptp_world.specs.declared.item.Item.{Item}
+use Rattle.gptp_world.specs.declared.item.Item.TheVariants.{Expiry, Arrival}
+use Rattle.gptp_world.specs.Item.{timer_kind, timer_port}
+use Rattle.gptp_world.specs.Pending.{IsKnown, arrival_place}
+
+-- the numbers of the entries of one direction of a link, in order of putting, and room for more
+pub record QueueState : Type 0 where
+  pub numbers : List ℕ
+  pub room : ℕ
+
+-- the table
+pub record FiledState : Type 0 where
+  pub timers : List (Option Running)
+  pub queues : List QueueState
+
+-- ---- queues
+
+abbrev pub no_queue : QueueState
+no_queue = record { numbers = []; room = 0 }
+
+abbrev pub queue_at : ℕ → FiledState → QueueState
+queue_at place filed = slice_index_or filed.queues place no_queue
+
+abbrev pub with_queue : ℕ → QueueState → FiledState → FiledState
+with_queue place queue filed = record filed { queues = slice_set filed.queues place queue }
+
+-- how many more numbers can be put at each place
+abbrev pub rooms_of : FiledState → List ℕ
+rooms_of filed = map (λ (q : QueueState). q.room) filed.queues
+
+abbrev pub pushed : ℕ → QueueState → QueueState
+pushed number queue = record { numbers = queue.numbers ++ number ∷ []; room = queue.room - 1 }
+
+abbrev pub popped_from : List ℕ → QueueState → QueueState
+popped_from [] queue = queue
+popped_from (number ∷ numbers) queue = record { numbers = numbers; room = queue.room + 1 }
+
+-- a queue without its first number
+abbrev pub popped : QueueState → QueueState
+popped queue = popped_from queue.numbers queue
+
+abbrev pub head_of : List ℕ → Option ℕ
+head_of [] = None
+head_of (number ∷ numbers) = Some number
+
+abbrev pub first_number : QueueState → Option ℕ
+first_number queue = head_of queue.numbers
+
+-- ---- places
+
+-- where a timer is filed; each kind of a system has a place for itself and for each of sixteen ports
+abbrev pub timer_place : ℕ → Timer → ℕ
+timer_place place timer = (place * 6 + timer_kind timer) * 17 + timer_port timer
+
+-- one number for each item: even for timers, odd for arrivals
+abbrev pub slot_of : Item → ℕ
+slot_of (Expiry place timer) = 2 * timer_place place timer
+slot_of (Arrival link direction) = 2 * arrival_place link direction + 1
+
+abbrev pub in_slot : ℕ → List (Numbered Item) → List (Numbered Item)
+in_slot slot = filter (λ (e : Numbered Item). slot == slot_of e.item)
+
+-- ---- what is filed
+
+abbrev pub running : Numbered Item → Running
+running e = record { due = e.time; number = e.number }
+
+abbrev pub number_of : Numbered Item → ℕ
+number_of e = e.number
+
+abbrev pub one_or_none : Option Running → List Running
+one_or_none None = []
+one_or_none (Some timer) = timer ∷ []
+
+-- The entries are filed: each timer that runs, at most once, and the numbers of the arrivals, in order of putting.
+pub record AreFiled (systems links : ℕ) (filed : FiledState) (es : List (Numbered Item)) : Type 0 where
+  pub few_systems : systems ≤ 512
+  pub few_links : links ≤ 2048
+  pub timers_len : length filed.timers ≡ systems * 102
+  pub queues_len : length filed.queues ≡ links * 2
+  pub known : AllByRecursion (λ (e : Numbered Item). IsKnown systems links e.item) es
+  pub timers : (place : ℕ) → map running (in_slot (2 * place) es) ≡ one_or_none (slice_index_or filed.timers place None)
+  pub queues : (place : ℕ) → map number_of (in_slot (2 * place + 1) es) ≡ (queue_at place filed).numbers

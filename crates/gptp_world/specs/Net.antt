@@ -1,0 +1,76 @@
+-- What the code keeps between the systems of a world.
+use Rattle.std.specs.Prelude.{◌≡◌, ◌⊎◌, ◌+◌, ◌≤◌, ℕ, true, List, ◌∷◌, Option, Some, length, map, slice_get}
+use Rattle.gptp_links.specs.declared.bounds.Bounds.{Bounds}
+use Rattle.gptp_links.specs.Queue.{Frame}
+use Rattle.gptp_links.specs.State as links
+use Rattle.gptp_vector.specs.declared.port.PortId.{PortId}
+use Rattle.gptp_system.specs.declared.sending.Sending.{Sending}
+use Rattle.gptp_system.specs.Reach.{sends_at}
+use Rattle.gptp_world.specs.declared.cable.Cable.{Cable}
+use Rattle.gptp_world.specs.declared.cable.Lane.{Lane}
+use Rattle.gptp_world.specs.declared.net.Net.{Net as Between}
+use Rattle.gptp_world.specs.Cable.{join_of, net_of, HasRoomOn, SentOne}
+use Rattle.gptp_world.specs.Directory.{BeginsAt}
+use Rattle.gptp_world.specs.Sends.{IsUnlinked}
+use Rattle.gptp_world.specs.World.{Net}
+
+-- the links and what is pending
+abbrev pub between : Between → Net
+between net = net_of net.cables.items net.pending
+
+-- the directory knows the links, and what is pending has a place for each
+pub record IsNet (net : Between) : Type 0 where
+  pub joins : map join_of net.cables.items ≡ net.directory.joins
+  pub links : length net.cables.items ≤ net.pending.links
+
+-- what sending leaves as it was
+pub record SameNet (net net' : Between) : Type 0 where
+  pub directory : net'.directory ≡ net.directory
+  pub systems : net'.pending.systems ≡ net.pending.systems
+
+-- nothing changes but what is pending of timers, and room for so many entries
+pub record OnlyEntries (used : ℕ) (net net' : Between) : Type 0 where
+  pub directory : net'.directory ≡ net.directory
+  pub cables : net'.cables ≡ net.cables
+  pub buffers : net'.buffers ≡ net.buffers
+  pub systems : net'.pending.systems ≡ net.pending.systems
+  pub links : net'.pending.links ≡ net.pending.links
+  pub rooms : net'.pending.rooms ≡ net.pending.rooms
+  pub room : net.pending.room ≤ net'.pending.room + used
+
+abbrev pub port_id : ℕ → ℕ → PortId
+port_id clock port = record { clock = clock; port = port }
+
+-- there is room for all these sends of the system with this clock
+pub record HasRoomFor (clock : ℕ) (xs : List Sending) (net : Between) : Type 0 where
+  pub entries : length xs ≤ net.pending.room
+  pub buffers : length xs ≤ net.buffers.ready
+  pub lanes : (p : ℕ) (lane : Lane) (cable : Cable) → BeginsAt net.directory.joins (port_id clock p) lane
+      → slice_get net.cables.items lane.link ≡ Some cable → cable.link.up ≡ true
+      → HasRoomOn (sends_at p xs) lane net.cables.items net.pending
+
+-- a lane of a link that is up begins at this port
+pub record IsUpLane (net : Between) (port : PortId) (lane : Lane) : Type 0 where
+  pub begins : BeginsAt net.directory.joins port lane
+  pub cable : Cable
+  pub here : slice_get net.cables.items lane.link ≡ Some cable
+  pub up : cable.link.up ≡ true
+
+-- the oldest frame of a lane is due at this very time
+pub record IsFrameDue (lane : Lane) (now : ℕ) (net : Between) : Type 0 where
+  pub cable : Cable
+  pub here : slice_get net.cables.items lane.link ≡ Some cable
+  pub oldest : Frame
+  pub rest : List Frame
+  pub front : (links.queue lane.direction cable.link).frames ≡ oldest ∷ rest
+  pub due_now : oldest.due ≡ now
+
+-- One send: it went onto a link that is up, or there is none.
+pub record Unlinked {F : Type 0} (from : PortId) (fate fate_after : F) (net net_after : Net) : Type 0 where
+  pub unlinked : IsUnlinked net from
+  pub fate_is : fate_after ≡ fate
+  pub net_is : net_after ≡ net
+
+abbrev pub SentNext : {F : Type 0} → (Bounds → ℕ → F → Option ℕ → F → Type 0) → ℕ → PortId → List ℕ → F → F → Net → Net → Type 0
+SentNext answers now from octets fate fate_after net net_after =
+    SentOne answers now from octets fate fate_after net net_after ⊎ Unlinked from fate fate_after net net_after

@@ -1,0 +1,24 @@
+//! What can be pending.
+
+use gptp_links::Direction;
+use gptp_system::Timer;
+
+/// What is to happen at its time. Systems and links are named by their places, from 0, in the order in which the network
+/// took them.
+#[derive(Clone, Copy, Debug, PartialEq, Eq)]
+pub enum Item {
+    /// A timer of a system expires.
+    Expiry {
+        /// The place of the system.
+        place: usize,
+        /// Its timer.
+        timer: Timer,
+    },
+    /// The oldest frame in flight in one direction of a link arrives.
+    Arrival {
+        /// The place of the link.
+        link: usize,
+        /// The direction in which it goes.
+        direction: Direction,
+    },
+}

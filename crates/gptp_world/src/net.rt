@@ -1,0 +1,105 @@
+//! What is between the systems: the links, and what is pending.
+
+use crate::buffers::Buffers;
+use crate::cable::{Cable, Lane};
+use crate::directory::Directory;
+use crate::octets::write_send;
+use crate::pending::Pending;
+use crate::sending::send_one;
+use gptp_links::Fate;
+use gptp_system::{Sending, System};
+
+/// What is between the systems, with the buffers that frames are written into.
+#[derive(Drop)]
+pub(crate) struct Net {
+    pub directory: Directory,
+    pub cables: Vec<Cable>,
+    pub pending: Pending,
+    pub buffers: Buffers,
+}
+
+impl Net {
+    ghost use Rattle.std.specs.Prelude.{◌≡◌, ℕ, ◌+◌, ◌*◌, ◌^◌, ◌<◌, ◌≤◌, List, [], ◌∷◌, length, Some, slice_get, IfSome, IfNone};
+    ghost use Rattle.gptp_system.specs.declared.sending.Sending.{Sending};
+    ghost use Rattle.gptp_system.specs.State.{clock, own};
+    ghost use Rattle.gptp_world.specs.declared.cable.Cable.{Cable};
+    ghost use Rattle.gptp_world.specs.Sends.{written, IsUnlinked};
+    ghost use Rattle.gptp_world.specs.Cable.{SentAll};
+    ghost use Rattle.gptp_world.specs.Net.{between, port_id, HasRoomFor, IsNet, IsUpLane, SameNet, SentNext};
+
+    /// The lane that begins at a port of the system at a place, where that link is up.
+    fn up_lane(&self, place: usize, port: u8) -> Option<Lane>
+        requires net { IsNet self.now }
+        requires place { place < length self.now.directory.clocks }
+        ensures some { (clock : ℕ) → slice_get self.now.directory.clocks place ≡ Some clock → IfSome result (IsUpLane self.now (port_id clock port)) }
+        ensures none { (clock : ℕ) → slice_get self.now.directory.clocks place ≡ Some clock → IfNone result (IsUnlinked (between self.now) (port_id clock port)) }
+    {
+        let lane = self.directory.lane_from(place, port)?;
+        match self.is_up(lane) {
+            true => Some(lane),
+            false => None,
+        }
+    }
+
+    /// Whether a link is up.
+    fn is_up(&self, lane: Lane) -> bool
+        requires { lane.link < length self.now.cables.items }
+        ensures { (cable : Cable) → slice_get self.now.cables.items lane.link ≡ Some cable → result ≡ cable.link.up }
+    {
+        self.cables[lane.link].link.is_up()
+    }
+
+    /// One send of the system at a place goes onto its link, where that is up.
+    fn send_next<F: Fate>(
+        &mut self,
+        place: usize,
+        system: &System,
+        send: &Sending,
+        now: u64,
+        fate: &mut F,
+    )
+        requires net { IsNet self.old }
+        requires place { slice_get self.old.directory.clocks place ≡ Some (clock system.now) }
+        requires early { now ≤ 10 ^ 15 }
+        requires room { HasRoomFor (clock system.now) (send.now ∷ []) self.old }
+        ensures net { IsNet self.new }
+        ensures same { SameNet self.old self.new }
+        ensures sent { SentNext F.answers now (own system.now send.now.port) (written system.now send.now) fate.old fate.new (between self.old) (between self.new) }
+        ensures room { (rest : List Sending) → HasRoomFor (clock system.now) (send.now ∷ rest) self.old → HasRoomFor (clock system.now) rest self.new }
+    {
+        if let Some(lane) = self.up_lane(place, send.port) {
+            let mut octets = self.buffers.take();
+            write_send(system, send, &mut octets);
+            send_one(
+                self.cables.as_mut_slice(),
+                &mut self.pending,
+                fate,
+                lane,
+                octets,
+                now,
+            );
+        }
+    }
+
+    /// The sends of the system at a place go onto their links, one after another.
+    pub(crate) fn send_all<F: Fate>(
+        &mut self,
+        place: usize,
+        system: &System,
+        sends: &[Sending],
+        now: u64,
+        fate: &mut F,
+    )
+        requires net { IsNet self.old }
+        requires place { slice_get self.old.directory.clocks place ≡ Some (clock system.now) }
+        requires early { now ≤ 10 ^ 15 }
+        requires room { HasRoomFor (clock system.now) sends.now self.old }
+        ensures net { IsNet self.new }
+        ensures same { SameNet self.old self.new }
+        ensures sent { SentAll F.answers now system.now sends.now fate.old fate.new (between self.old) (between self.new) }
+    {
+        for send in sends {
+            self.send_next(place, system, send, now, fate);
+        }
+    }
+}

@@ -1,0 +1,71 @@
+//! The octets of what a system sends.
+
+ghost use Rattle.std.specs.Prelude.{◌≡◌, ◌≤◌, [], length, vec_capacity};
+ghost use Rattle.gptp_messages.specs.Grammar.{PathHasRoom, Written};
+ghost use Rattle.gptp_world.specs.Sends.{message_of, written};
+
+use gptp_messages::{
+    AnnounceBody, FollowUp, Head, Message, PdelayResp, PdelayRespFollowUp, encode, encode_announce,
+};
+use gptp_system::{Body, Sending, System};
+use gptp_vector::Trace;
+
+/// The octets of the longest message that a system sends: an Announce whose path has 256 clocks.
+pub(crate) const LONGEST_FRAME: usize = 2_116;
+
+/// Writes an Announce with its path into an empty buffer that has room for each message.
+fn write_announce(head: &Head, body: &AnnounceBody, path: &Trace, out: &mut Vec<u8>)
+    requires empty { out.old.items ≡ [] }
+    requires room { 2_116 ≤ vec_capacity out.old }
+    ensures { out.new.items ≡ Written (message_of path.now head.now (Body.Announce body.now)) }
+{
+    let _ = path.len();
+    let _ = encode_announce(head, body, path, out);
+}
+
+/// Writes a message into an empty buffer that has room for it.
+fn write_message(message: &Message<'_>, out: &mut Vec<u8>)
+    requires path { PathHasRoom message.now }
+    requires empty { out.old.items ≡ [] }
+    requires room { length (Written message.now) ≤ vec_capacity out.old }
+    ensures { out.new.items ≡ Written message.now }
+{
+    let _ = encode(message, out);
+}
+
+/// Writes what a system sends into an empty buffer that has room for each message: the message in its one spelling, an
+/// Announce with the trace of the system (IEEE 802.1AS-2020, 10.3.9.23).
+pub(crate) fn write_send(system: &System, send: &Sending, out: &mut Vec<u8>)
+    requires empty { out.old.items ≡ [] }
+    requires room { 2_116 ≤ vec_capacity out.old }
+    ensures { out.new.items ≡ written system.now send.now }
+{
+    let head = send.head;
+    match send.body {
+        Body::Announce(body) => {
+            let path = system.trace();
+            write_announce(&head, &body, &path, out);
+        }
+        Body::Sync => write_message(&Message::Sync { head }, out),
+        Body::FollowUp { origin, rate } => {
+            write_message(&Message::FollowUp(FollowUp { head, origin, rate }), out);
+        }
+        Body::PdelayReq => write_message(&Message::PdelayReq { head }, out),
+        Body::PdelayResp { stamp, requester } => {
+            let response = PdelayResp {
+                head,
+                stamp,
+                requester,
+            };
+            write_message(&Message::PdelayResp(response), out);
+        }
+        Body::PdelayRespFollowUp { stamp, requester } => {
+            let response = PdelayRespFollowUp {
+                head,
+                stamp,
+                requester,
+            };
+            write_message(&Message::PdelayRespFollowUp(response), out);
+        }
+    }
+}

@@ -1,0 +1,257 @@
+//! What is pending in a world.
+
+ghost use Rattle.std.specs.Prelude.{◌≡◌, ℕ, ◌+◌, ◌<◌, ◌≤◌, [], length, not, true, false, Option, IsOk, IfOk, OnOk, IfSome, IfNone, IsTrue};
+ghost use Rattle.std.specs.List.{AllByRecursion};
+ghost use Rattle.gptp_world.specs.Item.{timer_port};
+ghost use Rattle.gptp_world.specs.Pending.{arrival_room, listed, put, set_due, times, without, without_first, HasArrivalRoom, IsKnown, IsNext, KeepsArrivalRoom, KeepsOtherRoom};
+ghost use Rattle.gptp_world.specs.declared.item.Item.TheVariants.{Expiry, Arrival};
+ghost use Rattle.gptp_links.specs.declared.link.Direction.TheVariants.{FromA, FromB};
+
+use crate::filed::{Filed, Running, arrival_place, timer_place};
+use crate::item::Item;
+use gptp_links::Direction;
+use gptp_scheduler::Agenda;
+use gptp_system::Timer;
+use std::alloc::{AllocError, Global};
+use std::marker::Model;
+
+/// What is pending in a world: timers of its systems, each at most once, and arrivals over its links. Systems and links
+/// are named by their places, from 0, and ports by their numbers, up to 16.
+///
+/// It is seen as how many systems and links there are, the list of what is pending, each with its time in ns, in order
+/// of putting, how many more entries can be put without being refused, and how many more arrivals in each direction of
+/// each link.
+#[derive(Drop)]
+pub struct Pending {
+    systems: usize,
+    links: usize,
+    agenda: Agenda<Item>,
+    filed: Filed,
+}
+
+impl Model for Pending {
+    ghost use Rattle.gptp_world.specs.Pending.{PendingState};
+
+    ghost Value = { PendingState };
+
+    ghost use Rattle.gptp_world.specs.Pending.{plain};
+    ghost use Rattle.gptp_world.specs.Filed.{rooms_of, AreFiled};
+
+    ghost view = { λ p. record {
+      systems = p.systems;
+      links = p.links;
+      entries = plain p.agenda.entries;
+      room = p.agenda.room;
+      rooms = rooms_of p.filed;
+    } };
+
+    ghost invariant = { λ p. AreFiled p.systems p.links p.filed p.agenda.entries };
+}
+
+impl Pending {
+    /// Nothing pending, in a world of so many systems, up to 512, and links, up to 2,048. Refused where there is no
+    /// memory for it.
+    pub fn new(alloc: Global, systems: usize, links: usize) -> Result<Self, AllocError>
+        requires systems { systems ≤ 512 }
+        requires links { links ≤ 2048 }
+        ensures systems { IfOk result (λ pending. pending.systems ≡ systems) }
+        ensures links { IfOk result (λ pending. pending.links ≡ links) }
+        ensures entries { IfOk result (λ pending. pending.entries ≡ []) }
+    {
+        let filed = Filed::new(alloc, systems * 102, links * 2)?;
+        Ok(Pending {
+            systems,
+            links,
+            agenda: Agenda::new(alloc),
+            filed,
+        })
+    }
+
+    /// Makes room for so many more entries: after `Ok` the next so many find it. Refused where there is no memory for
+    /// them, or where the numbers below 2^64 - 1 don't suffice. Nothing else changes.
+    pub fn reserve(&mut self, additional: usize) -> Result<(), AllocError>
+        ensures kept { self.new ≡ record self.old { room = self.new.room } }
+        ensures room { self.old.room ≤ self.new.room }
+        ensures ok { OnOk result (additional ≤ self.new.room) }
+        ensures succeeds { additional ≤ self.old.room → IsOk result }
+    {
+        self.agenda.reserve(additional)
+    }
+
+    /// Makes room for so many more arrivals in each direction of a link: after `Ok` the next so many in each find it,
+    /// where there is room for entries. Refused where there is no memory for them. Nothing else changes.
+    pub fn reserve_arrivals(&mut self, link: usize, additional: usize) -> Result<(), AllocError>
+        requires { link < self.old.links }
+        ensures kept { self.new ≡ record self.old { rooms = self.new.rooms } }
+        ensures room { KeepsArrivalRoom self.old self.new }
+        ensures ok { OnOk result (HasArrivalRoom link additional self.new) }
+        ensures succeeds { HasArrivalRoom link additional self.old → IsOk result }
+    {
+        self.filed
+            .reserve(arrival_place(link, Direction::FromA), additional)?;
+        self.filed
+            .reserve(arrival_place(link, Direction::FromB), additional)
+    }
+
+    /// When a timer of a system is due, in ns, where it runs.
+    pub fn due(&self, place: usize, timer: Timer) -> Option<u64>
+        requires { IsKnown self.now.systems self.now.links (Expiry place timer) }
+        ensures { times (Expiry place timer) self.now.entries ≡ listed result }
+    {
+        let running = self.filed.timer(timer_place(place, timer))?;
+        Some(running.due)
+    }
+
+    /// A timer of a system is to run out at this time, in ns, or doesn't run: where it is pending so, its entry stays;
+    /// otherwise that is cancelled, and a new one put. Takes no memory.
+    pub fn set_due(&mut self, place: usize, timer: Timer, due: Option<u64>)
+        requires known { IsKnown self.old.systems self.old.links (Expiry place timer) }
+        requires room { IfSome due (λ _. 0 < self.old.room) }
+        ensures kept { self.new ≡ record self.old { entries = set_due (Expiry place timer) due self.old.entries; room = self.new.room } }
+        ensures room { self.old.room ≤ self.new.room + 1 }
+    {
+        if self.due(place, timer) == due {
+            return;
+        }
+        self.stop(place, timer);
+        match due {
+            Some(time) => self.start(place, timer, time),
+            None => {}
+        }
+    }
+
+    /// Puts a timer that doesn't run.
+    fn start(&mut self, place: usize, timer: Timer, time: u64)
+        requires known { IsKnown self.old.systems self.old.links (Expiry place timer) }
+        requires stopped { times (Expiry place timer) self.old.entries ≡ [] }
+        requires room { 0 < self.old.room }
+        ensures kept { self.new ≡ record self.old { entries = put time (Expiry place timer) self.old.entries; room = self.new.room } }
+        ensures room { self.old.room ≤ self.new.room + 1 }
+    {
+        let number = self
+            .agenda
+            .put(time, Item::Expiry { place, timer })
+            .unwrap();
+        self.filed.set_timer(
+            timer_place(place, timer),
+            Some(Running { due: time, number }),
+        );
+    }
+
+    /// Cancels a timer, where it runs.
+    fn stop(&mut self, place: usize, timer: Timer)
+        requires { IsKnown self.old.systems self.old.links (Expiry place timer) }
+        ensures kept { self.new ≡ record self.old { entries = without_first (Expiry place timer) self.old.entries; room = self.new.room } }
+        ensures room { self.old.room ≤ self.new.room }
+        ensures once { length (times (Expiry place timer) self.old.entries) ≤ 1 }
+    {
+        self.agenda.numbers_rise();
+        let filed = timer_place(place, timer);
+        match self.filed.timer(filed) {
+            Some(running) => {
+                self.agenda.cancel(running.number);
+                self.filed.set_timer(filed, None);
+            }
+            None => {}
+        }
+    }
+
+    /// Puts an arrival over a link in a direction, due at this time, in ns. Takes no memory.
+    pub fn put_arrival(&mut self, link: usize, direction: Direction, due: u64)
+        requires link { link < self.old.links }
+        requires room { 0 < self.old.room }
+        requires arrivals { 0 < arrival_room link direction self.old }
+        ensures kept { self.new ≡ record self.old { entries = put due (Arrival link direction) self.old.entries; room = self.new.room; rooms = self.new.rooms } }
+        ensures room { self.old.room ≤ self.new.room + 1 }
+        ensures arrivals { arrival_room link direction self.old ≤ arrival_room link direction self.new + 1 }
+        ensures others { KeepsOtherRoom link direction self.old self.new }
+    {
+        let number = self
+            .agenda
+            .put(due, Item::Arrival { link, direction })
+            .unwrap();
+        self.filed.push(arrival_place(link, direction), number);
+    }
+
+    /// Takes the first entry of an item out, where it is pending.
+    pub fn take(&mut self, item: Item)
+        requires { IsKnown self.old.systems self.old.links item }
+        ensures kept { self.new ≡ record self.old { entries = without_first item self.old.entries; room = self.new.room; rooms = self.new.rooms } }
+        ensures room { self.old.room ≤ self.new.room }
+        ensures arrivals { KeepsArrivalRoom self.old self.new }
+    {
+        match item {
+            Item::Expiry { place, timer } => self.stop(place, timer),
+            Item::Arrival { link, direction } => {
+                self.take_arrival(link, direction);
+            }
+        }
+    }
+
+    /// Takes the first arrival over a link in a direction out, and answers whether there was one.
+    fn take_arrival(&mut self, link: usize, direction: Direction) -> bool
+        requires { link < self.old.links }
+        ensures kept { self.new ≡ record self.old { entries = without_first (Arrival link direction) self.old.entries; room = self.new.room; rooms = self.new.rooms } }
+        ensures room { self.old.room ≤ self.new.room }
+        ensures arrivals { KeepsArrivalRoom self.old self.new }
+        ensures none { result ≡ false → times (Arrival link direction) self.old.entries ≡ [] }
+        ensures one { result ≡ true → length self.new.entries < length self.old.entries }
+    {
+        self.agenda.numbers_rise();
+        match self.filed.pop(arrival_place(link, direction)) {
+            Some(number) => {
+                self.agenda.cancel(number);
+                true
+            }
+            None => false,
+        }
+    }
+
+    /// Cancels all arrivals over a link.
+    pub fn cancel_arrivals(&mut self, link: usize)
+        requires { link < self.old.links }
+        ensures kept { self.new ≡ record self.old { entries = without (Arrival link FromB) (without (Arrival link FromA) self.old.entries); room = self.new.room; rooms = self.new.rooms } }
+        ensures room { self.old.room ≤ self.new.room }
+        ensures arrivals { KeepsArrivalRoom self.old self.new }
+    {
+        self.cancel_direction(link, Direction::FromA);
+        self.cancel_direction(link, Direction::FromB);
+    }
+
+    /// Cancels all arrivals over a link in a direction.
+    fn cancel_direction(&mut self, link: usize, direction: Direction)
+        requires { link < self.old.links }
+        ensures kept { self.new ≡ record self.old { entries = without (Arrival link direction) self.old.entries; room = self.new.room; rooms = self.new.rooms } }
+        ensures room { self.old.room ≤ self.new.room }
+        ensures arrivals { KeepsArrivalRoom self.old self.new }
+    {
+        while self.take_arrival(link, direction) {}
+    }
+
+    /// The next that is pending, and its time, in ns: of all entries one of least time, and of those the first that was
+    /// put.
+    pub fn next(&self) -> Option<(u64, Item)>
+        ensures next { IfSome result (λ due. IsNext self.now.entries due.0 due.1) }
+        ensures known { IfSome result (λ due. IsKnown self.now.systems self.now.links due.1) }
+        ensures empty { IfNone result (self.now.entries ≡ []) }
+    {
+        self.agenda.numbers_rise();
+        let (time, number) = self.agenda.next()?;
+        let item = *self.agenda.item(number).unwrap();
+        Some((time, item))
+    }
+
+    /// Each timer is pending at most once.
+    pub fn timers_run_once(&self)
+        ensures { (place : ℕ) (timer : Timer) → IsKnown self.now.systems self.now.links (Expiry place timer) → length (times (Expiry place timer) self.now.entries) ≤ 1 }
+    {
+        let _ = &self.filed;
+    }
+
+    /// All that is pending is of the systems and links that there are.
+    pub fn items_are_known(&self)
+        ensures { AllByRecursion (λ e. IsKnown self.now.systems self.now.links e.item) self.now.entries }
+    {
+        let _ = &self.filed;
+    }
+}

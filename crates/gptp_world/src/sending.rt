@@ -1,0 +1,77 @@
+//! What a system sends goes onto its links.
+
+ghost use Rattle.std.specs.Prelude.{◌≡◌, ◌≢◌, ℕ, ◌<◌, ◌≤◌, ◌+◌, ◌^◌, map, length, Some, None, true, slice_get};
+ghost use Rattle.gptp_links.specs.Queue.{IsSent};
+ghost use Rattle.gptp_links.specs.State.{queue, ChangesOnly};
+ghost use Rattle.gptp_world.specs.Pending.{put_if, arrival_room, KeepsOtherRoom};
+ghost use Rattle.gptp_world.specs.Cable.{is_up_of, join_of, net_of, channel_of, HasRoomOn, SentOne};
+ghost use Rattle.gptp_world.specs.World.{sender};
+
+use crate::cable::{Cable, Lane};
+use crate::item::Item;
+use crate::pending::Pending;
+use gptp_links::{Direction, Fate};
+
+/// Sends one frame on a link that is up, for which it has room, and answers when the frame is due; `None` where it is lost.
+fn send_on<F: Fate>(
+    cable: &mut Cable,
+    direction: Direction,
+    octets: Vec<u8>,
+    now: u64,
+    fate: &mut F,
+) -> Option<u64>
+    requires up { cable.old.link.up ≡ true }
+    requires room { 0 < (queue direction cable.old.link).room }
+    requires early { now ≤ 10 ^ 15 }
+    ensures a { cable.new.a ≡ cable.old.a }
+    ensures b { cable.new.b ≡ cable.old.b }
+    ensures sent { IsSent F.answers cable.old.link.bounds now fate.old fate.new (queue direction cable.old.link).frames octets.items (queue direction cable.new.link).frames result }
+    ensures others { ChangesOnly direction cable.old.link cable.new.link }
+    ensures room { (queue direction cable.old.link).room ≤ (queue direction cable.new.link).room + 1 }
+{
+    cable.link.send(direction, octets, now, fate).unwrap()
+}
+
+/// A frame that is due then is pending; one that is lost isn't.
+fn await_arrival(pending: &mut Pending, lane: Lane, due: Option<u64>)
+    requires link { lane.link < pending.old.links }
+    requires room { 0 < pending.old.room }
+    requires arrivals { 0 < arrival_room lane.link lane.direction pending.old }
+    ensures entries { pending.new.entries ≡ put_if (Item.Arrival lane.link lane.direction) due pending.old.entries }
+    ensures systems { pending.new.systems ≡ pending.old.systems }
+    ensures links { pending.new.links ≡ pending.old.links }
+    ensures room { pending.old.room ≤ pending.new.room + 1 }
+    ensures arrivals { arrival_room lane.link lane.direction pending.old ≤ arrival_room lane.link lane.direction pending.new + 1 }
+    ensures others { KeepsOtherRoom lane.link lane.direction pending.old pending.new }
+{
+    match due {
+        Some(due) => pending.put_arrival(lane.link, lane.direction, due),
+        None => {}
+    }
+}
+
+/// Sends one frame on a link that is up. There is room for it.
+pub(crate) fn send_one<F: Fate>(
+    cables: &mut [Cable],
+    pending: &mut Pending,
+    fate: &mut F,
+    lane: Lane,
+    octets: Vec<u8>,
+    now: u64,
+)
+    requires early { now ≤ 10 ^ 15 }
+    requires links { length cables.old ≤ pending.old.links }
+    requires entry { 0 < pending.old.room }
+    requires room { HasRoomOn 1 lane cables.old pending.old }
+    ensures sent { (c : Cable) → slice_get cables.old lane.link ≡ Some c → SentOne F.answers now (sender lane.direction (channel_of c)) octets.items fate.old fate.new (net_of cables.old pending.old) (net_of cables.new pending.new) }
+    ensures systems { pending.new.systems ≡ pending.old.systems }
+    ensures links { pending.new.links ≡ pending.old.links }
+    ensures entries { pending.old.room ≤ pending.new.room + 1 }
+    ensures joins { map join_of cables.new ≡ map join_of cables.old }
+    ensures ups { map is_up_of cables.new ≡ map is_up_of cables.old }
+    ensures room { (more : ℕ) (other : Lane) → HasRoomOn (more + 1) other cables.old pending.old → HasRoomOn more other cables.new pending.new }
+    ensures elsewhere { (more : ℕ) (other : Lane) → other ≢ lane → HasRoomOn more other cables.old pending.old → HasRoomOn more other cables.new pending.new }
+{
+    let due = send_on(&mut cables[lane.link], lane.direction, octets, now, fate);
+    await_arrival(pending, lane, due);
+}

@@ -1,0 +1,125 @@
+//! The systems of a world and what is between them.
+
+use crate::net::Net;
+use crate::station::Station;
+use gptp_links::Fate;
+use gptp_system::{Answer, Outbox, Timer};
+
+/// All that acts change, but the fate: the time and that of the last change, in ns, the systems, what is between them, and
+/// the outbox of the system that is called, which is empty between calls.
+#[derive(Drop)]
+pub(crate) struct Stage {
+    pub now: u64,
+    pub last_change: u64,
+    pub stations: Vec<Station>,
+    pub net: Net,
+    pub outbox: Outbox,
+}
+
+impl Stage {
+    ghost use Rattle.gptp_system.specs.declared.answer.Answer.{Answer};
+    ghost use Rattle.gptp_system.specs.Input.{Input, PortUp, PortDown, Frame, Expires, Priority};
+    ghost use Rattle.gptp_world.specs.declared.stage.Stage.{Stage};
+    ghost use Rattle.gptp_world.specs.Stage.{Called, CalledWith, CarriesOut, HasRoomToCall, HasStepped, IsStage, IsLiveAt, IsDueAt, IsPortAt, IsUpAt};
+
+    /// What a step of the system at a place left is carried out: its timers follow, and then its sends go.
+    fn carry_out<F: Fate>(&mut self, place: usize, fate: &mut F)
+        requires { CarriesOut place self.old }
+        ensures stage { (before : Stage) (input : Input) (answer : Answer) → IsStage before
+            → HasStepped place input answer before self.old → IsStage self.new }
+        ensures called { (before : Stage) (input : Input) (answer : Answer) → HasStepped place input answer before self.old
+            → CalledWith F.answers place input answer fate.old fate.new before self.new }
+    {
+        let station = &self.stations[place];
+        self.net.set_timers(place, station);
+        self.net.send_all(
+            place,
+            &station.system,
+            self.outbox.as_slice(),
+            self.now,
+            fate,
+        );
+        self.outbox.clear();
+    }
+
+    /// A timer of the live system at a place expires.
+    pub(crate) fn expire<F: Fate>(&mut self, place: usize, timer: Timer, fate: &mut F)
+        requires stage { IsStage self.old }
+        requires live { IsLiveAt place self.old }
+        requires due { IsDueAt place timer self.old }
+        requires room { HasRoomToCall place self.old }
+        ensures stage { IsStage self.new }
+        ensures called { Called F.answers place (Expires timer) fate.old fate.new self.old self.new }
+    {
+        self.stations[place]
+            .system
+            .on_timer(timer, self.now, &mut self.outbox);
+        self.carry_out(place, fate);
+    }
+
+    /// The link of a port of the live system at a place comes up.
+    pub(crate) fn port_up<F: Fate>(&mut self, place: usize, port: u8, fate: &mut F)
+        requires stage { IsStage self.old }
+        requires live { IsLiveAt place self.old }
+        requires port { IsPortAt place port self.old }
+        requires room { HasRoomToCall place self.old }
+        ensures stage { IsStage self.new }
+        ensures called { Called F.answers place (PortUp port) fate.old fate.new self.old self.new }
+    {
+        self.stations[place]
+            .system
+            .port_up(port, self.now, &mut self.outbox);
+        self.carry_out(place, fate);
+    }
+
+    /// The link of a port of the live system at a place goes down.
+    pub(crate) fn port_down<F: Fate>(&mut self, place: usize, port: u8, fate: &mut F)
+        requires stage { IsStage self.old }
+        requires live { IsLiveAt place self.old }
+        requires port { IsPortAt place port self.old }
+        requires room { HasRoomToCall place self.old }
+        ensures stage { IsStage self.new }
+        ensures called { Called F.answers place (PortDown port) fate.old fate.new self.old self.new }
+    {
+        self.stations[place]
+            .system
+            .port_down(port, self.now, &mut self.outbox);
+        self.carry_out(place, fate);
+    }
+
+    /// The priority1 of the live system at a place becomes a value (IEEE 802.1AS-2020, 8.6.2.1).
+    pub(crate) fn set_priority<F: Fate>(&mut self, place: usize, value: u8, fate: &mut F)
+        requires stage { IsStage self.old }
+        requires live { IsLiveAt place self.old }
+        requires room { HasRoomToCall place self.old }
+        ensures stage { IsStage self.new }
+        ensures called { Called F.answers place (Priority value) fate.old fate.new self.old self.new }
+    {
+        self.stations[place]
+            .system
+            .set_priority(value, self.now, &mut self.outbox);
+        self.carry_out(place, fate);
+    }
+
+    /// A port of the live system at a place hears a frame: what became of it.
+    pub(crate) fn hear<F: Fate>(
+        &mut self,
+        place: usize,
+        port: u8,
+        frame: &[u8],
+        fate: &mut F,
+    ) -> Answer
+        requires stage { IsStage self.old }
+        requires live { IsLiveAt place self.old }
+        requires up { IsUpAt place port self.old }
+        requires room { HasRoomToCall place self.old }
+        ensures stage { IsStage self.new }
+        ensures called { CalledWith F.answers place (Frame port frame.now) result fate.old fate.new self.old self.new }
+    {
+        let answer = self.stations[place]
+            .system
+            .on_frame(port, frame, self.now, &mut self.outbox);
+        self.carry_out(place, fate);
+        answer
+    }
+}

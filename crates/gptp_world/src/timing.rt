@@ -1,0 +1,63 @@
+//! What is pending of a system's timers.
+
+use crate::net::Net;
+use crate::station::Station;
+use gptp_system::Timer;
+
+impl Net {
+    ghost use Rattle.std.specs.Prelude.{◌≡◌, ◌≤◌, ◌<◌, ◌+◌, ◌*◌, ◌∷◌, [], length};
+    ghost use Rattle.gptp_system.specs.Steps.{IsPortOf, IsTimerOf};
+    ghost use Rattle.gptp_system.specs.declared.timer.Timer.TheVariants as timers;
+    ghost use Rattle.gptp_world.specs.Item.{timer_port};
+    ghost use Rattle.gptp_world.specs.Act.{set_timers};
+    ghost use Rattle.gptp_world.specs.Net.{OnlyEntries};
+    ghost use Rattle.gptp_world.specs.World.{timers_from};
+
+    /// A timer of the system at a place is pending when it is due, and isn't where it doesn't run.
+    fn set_timer(&mut self, place: usize, station: &Station, timer: Timer)
+        requires place { place < self.old.pending.systems }
+        requires room { 1 ≤ self.old.pending.room }
+        requires timer { IsTimerOf station.now.system timer }
+        requires port { timer_port timer ≤ 16 }
+        ensures entries { self.new.pending.entries ≡ set_timers place station.now (timer ∷ []) self.old.pending.entries }
+        ensures only { OnlyEntries 1 self.old self.new }
+    {
+        let due = match station.live {
+            true => station.system.due(timer),
+            false => None,
+        };
+        self.pending.set_due(place, timer, due);
+    }
+
+    /// So are the timers of a port.
+    fn set_port_timers(&mut self, place: usize, station: &Station, port: u8)
+        requires place { place < self.old.pending.systems }
+        requires room { 4 ≤ self.old.pending.room }
+        requires port { IsPortOf station.now.system port }
+        requires few { port ≤ 16 }
+        ensures entries { self.new.pending.entries ≡ set_timers place station.now (timers.Pdelay port ∷ timers.Respond port ∷ timers.Announce port ∷ timers.Age port ∷ []) self.old.pending.entries }
+        ensures only { OnlyEntries 4 self.old self.new }
+    {
+        self.set_timer(place, station, Timer::Pdelay(port));
+        self.set_timer(place, station, Timer::Respond(port));
+        self.set_timer(place, station, Timer::Announce(port));
+        self.set_timer(place, station, Timer::Age(port));
+    }
+
+    /// So are all timers of the system: of each port, by rising port, and then those of the system.
+    pub(crate) fn set_timers(&mut self, place: usize, station: &Station)
+        requires place { place < self.old.pending.systems }
+        requires few { length station.now.system.ports ≤ 16 }
+        requires room { 4 * length station.now.system.ports + 2 ≤ self.old.pending.room }
+        ensures entries { self.new.pending.entries ≡ set_timers place station.now (timers_from 1 station.now.system.ports) self.old.pending.entries }
+        ensures only { OnlyEntries (4 * length station.now.system.ports + 2) self.old self.new }
+    {
+        let mut port = 0;
+        while port < station.system.ports() {
+            port += 1;
+            self.set_port_timers(place, station, port);
+        }
+        self.set_timer(place, station, Timer::Sync);
+        self.set_timer(place, station, Timer::Relay);
+    }
+}
