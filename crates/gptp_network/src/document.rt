@@ -39,7 +39,17 @@ impl Model for Document {
 }
 
 impl Document {
-    /// Reads a document.
+    /// Reads a document: TOML text with a `version`, which is 1, and the sections `[network]`, `[[system]]`, `[[link]]` and
+    /// `[[event]]` (profile). Their keys, with their ranges and defaults, are those that `specs/` lists. Unknown keys are
+    /// ignored.
+    ///
+    /// Refused by the first test that fails. `NotToml` is the text. Then come the sections in that order, in each its
+    /// members in their order, in each of these its keys in their order, and in each key `MissingKey`, `WrongKind`,
+    /// `OutOfRange`. A section of another kind is `WrongKind`, one with more members than its limit (512 systems, 2,048
+    /// links, 4,096 events) `TooMany` before they are read, and no system is `MissingKey`. After its keys `[network]` is
+    /// tested for `Timing`, a system for `DuplicateClock`, a link for `OutOfRange` where `min` is above `max`, `SelfLink`,
+    /// `NoSuchPort`, `PortTaken` and `DelayTooLong`, and an event for `EventOrder` and then as its kind asks. `OutOfMemory`
+    /// can come at any point.
     pub fn read(alloc: Global, text: &[u8]) -> Result<Self, DocumentFault>
         ensures document { IfOk result (Means text.now) }
         ensures refused { IfErr result (λ e. (e ≡ DocumentFault.OutOfMemory) ⊎ Fails text.now e) }

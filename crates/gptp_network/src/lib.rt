@@ -1,4 +1,9 @@
 //! Networks as documents: TOML text that names systems, links, and what is changed when.
+//!
+//! A [`Document`] is read from such a text exactly where no test fails (memory aside), and is refused by the first test
+//! that does. It is the network and the events that the text means: `specs/` lists the keys of each section in their
+//! order, with their ranges and defaults. It tells whether the network is calm after its last event, and by when it has
+//! settled then.
 #![tactic(auto)]
 
 mod document;

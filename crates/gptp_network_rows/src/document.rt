@@ -1,0 +1,237 @@
+//! What documents mean, and why they are refused.
+
+use gptp_network::{Document, DocumentFault};
+use gptp_vector::{ClockId, PortId};
+use gptp_world::{Act, Change, Params};
+use std::alloc::{AllocError, Global};
+use std::test::Fail;
+
+/// Two systems, clocks 1 and 2.
+const SYSTEMS: &str =
+    "version = 1\n[[system]]\nclock = \"0000000000000001\"\n[[system]]\nclock = \"0000000000000002\"\n";
+
+/// A link that joins port 1 of both.
+const LINK: &str =
+    "[[link]]\na = \"0000000000000001\"\na_port = 1\nb = \"0000000000000002\"\nb_port = 1\n";
+
+/// A document of these parts.
+fn document(alloc: Global, parts: &[&str]) -> Result<String, AllocError> {
+    let mut text = String::new(alloc);
+    for part in parts {
+        text.push_str(part)?;
+    }
+    Ok(text)
+}
+
+/// What is answered to a document of these parts.
+fn refusal(alloc: Global, parts: &[&str]) -> Result<Option<DocumentFault>, AllocError> {
+    let text = document(alloc, parts)?;
+    Ok(Document::read(alloc, text.as_bytes()).err())
+}
+
+#[test]
+fn faulty_documents_are_refused(rt: HostRuntime) -> Result<(), Fail> {
+    let alloc = rt.alloc();
+    let rows: [(&str, &[&str], DocumentFault); 19] = [
+        ("no TOML", &["version = "], DocumentFault::NotToml),
+        ("nothing", &[""], DocumentFault::MissingKey),
+        ("no system", &["version = 1\n"], DocumentFault::MissingKey),
+        (
+            "no clock",
+            &["version = 1\n[[system]]\n"],
+            DocumentFault::MissingKey,
+        ),
+        (
+            "a version as text",
+            &["version = \"1\"\n"],
+            DocumentFault::WrongKind,
+        ),
+        (
+            "a part of a number",
+            &["version = 1.0\n"],
+            DocumentFault::WrongKind,
+        ),
+        (
+            "a system that is no array",
+            &["version = 1\n[system]\n"],
+            DocumentFault::WrongKind,
+        ),
+        ("version 3", &["version = 3\n"], DocumentFault::OutOfRange),
+        (
+            "priority1 256",
+            &[SYSTEMS, "priority1 = 256\n"],
+            DocumentFault::OutOfRange,
+        ),
+        (
+            "a short clock",
+            &["version = 1\n[[system]]\nclock = \"1\"\n"],
+            DocumentFault::OutOfRange,
+        ),
+        (
+            "a clock twice",
+            &[SYSTEMS, "[[system]]\nclock = \"0000000000000001\"\n"],
+            DocumentFault::DuplicateClock,
+        ),
+        (
+            "a link of a system with itself",
+            &[
+                SYSTEMS,
+                "[[link]]\na = \"0000000000000001\"\na_port = 1\nb = \"0000000000000001\"\nb_port = 1\nmin = 1\nmax = 1\n",
+            ],
+            DocumentFault::SelfLink,
+        ),
+        (
+            "min above max",
+            &[SYSTEMS, LINK, "min = 2\nmax = 1\n"],
+            DocumentFault::OutOfRange,
+        ),
+        (
+            "a port twice",
+            &[
+                SYSTEMS,
+                LINK,
+                "min = 1\nmax = 1\n",
+                LINK,
+                "min = 1\nmax = 1\n",
+            ],
+            DocumentFault::PortTaken,
+        ),
+        (
+            "a port beyond the others",
+            &[SYSTEMS, "ports = 0\n", LINK, "min = 1\nmax = 1\n"],
+            DocumentFault::NoSuchPort,
+        ),
+        (
+            "a delay above the announce interval",
+            &[SYSTEMS, LINK, "min = 1\nmax = 1000000001\n"],
+            DocumentFault::DelayTooLong,
+        ),
+        (
+            "events out of order",
+            &[
+                SYSTEMS,
+                "[[event]]\nat = 2000000000\nkind = \"fail\"\nclock = \"0000000000000001\"\n",
+                "[[event]]\nat = 1000000000\nkind = \"fail\"\nclock = \"0000000000000001\"\n",
+            ],
+            DocumentFault::EventOrder,
+        ),
+        (
+            "another kind",
+            &[SYSTEMS, "[[event]]\nat = 0\nkind = \"rest\"\n"],
+            DocumentFault::OutOfRange,
+        ),
+        (
+            "a threshold as long as half an interval",
+            &[SYSTEMS, "[network]\nthreshold = 500000000\n"],
+            DocumentFault::Timing,
+        ),
+    ];
+    for (name, parts, want) in rows {
+        assert_eq!(rt; refusal(alloc, parts)?, Some(want), "{name}");
+    }
+    Ok(())
+}
+
+#[test]
+fn short_links_are_calm(rt: HostRuntime) -> Result<(), Fail> {
+    let alloc = rt.alloc();
+    let rows: [(&str, &[&str], bool, u64, u64); 5] = [
+        ("796 ns", &["min = 1\nmax = 796\n"], true, 0, 26_000_000_000),
+        (
+            "797 ns",
+            &["min = 1\nmax = 797\n"],
+            false,
+            0,
+            26_000_000_000,
+        ),
+        (
+            "a loss",
+            &["min = 500\nmax = 500\nloss = 1\n"],
+            false,
+            0,
+            26_000_000_000,
+        ),
+        (
+            "a loss on a link that is down",
+            &[
+                "min = 500\nmax = 500\nloss = 1\n[[event]]\nat = 5\nkind = \"link_down\"\n",
+                "clock = \"0000000000000002\"\nport = 1\n",
+            ],
+            true,
+            5,
+            26_000_000_005,
+        ),
+        (
+            "a loss on a link of a failed system",
+            &[
+                "min = 500\nmax = 500\nloss = 1\n[[event]]\nat = 5\nkind = \"fail\"\n",
+                "clock = \"0000000000000002\"\n",
+            ],
+            true,
+            5,
+            20_000_000_005,
+        ),
+    ];
+    for (name, parts, calm, last, settles) in rows {
+        let text = document(alloc, &[SYSTEMS, LINK])?;
+        let more = document(alloc, parts)?;
+        let text = document(alloc, &[text.as_str(), more.as_str()])?;
+        let document = Document::read(alloc, text.as_bytes())?;
+        assert_eq!(rt; document.calm(), calm, "{name}");
+        assert_eq!(rt; document.last_change(), last, "{name}");
+        assert_eq!(rt; document.settles(), settles, "{name}");
+    }
+    Ok(())
+}
+
+#[test]
+fn keys_have_defaults(rt: HostRuntime) -> Result<(), Fail> {
+    let alloc = rt.alloc();
+    let parts = [
+        SYSTEMS,
+        LINK,
+        "min = 500\nmax = 600\n[[event]]\nat = 7\nkind = \"priority1\"\nclock = \"0000000000000001\"\nvalue = 250\n",
+    ];
+    let text = document(alloc, &parts)?;
+    let document = Document::read(alloc, text.as_bytes())?;
+    let network = document.network();
+    let params = Params {
+        announce: 0,
+        sync: -3,
+        pdelay: 0,
+        timeout: 3,
+        lost: 9,
+        threshold: 800,
+        turnaround: 1000,
+        residence: 1000,
+    };
+    assert_eq!(rt; network.params(), params);
+    assert_eq!(rt; network.systems(), 2);
+    assert_eq!(rt; network.links(), 1);
+    let (identity, ports, phase, drift) = network.system_at(0).ok_or("no system")?;
+    assert_eq!(rt;
+        identity.octets(),
+        [0xf6, 0xf8, 0xfe, 0x43, 0x6a, 0xf8, 0, 0, 0, 0, 0, 0, 0, 1]
+    );
+    assert_eq!(rt; (ports, phase, drift), (1, 0, 0));
+    let (a, b, bounds, up) = network.link_at(0).ok_or("no link")?;
+    let port = |clock: u64| PortId {
+        clock: ClockId::from(clock),
+        port: 1,
+    };
+    assert_eq!(rt; (a, b, up), (port(1), port(2), true));
+    assert_eq!(rt;
+        (bounds.link, bounds.min, bounds.max, bounds.loss),
+        (0, 500, 600, 0)
+    );
+    assert!(rt; network.system_at(2).is_none());
+    assert!(rt; network.link_at(1).is_none());
+    let change = Change::Priority1 {
+        clock: ClockId::from(1),
+        value: 250,
+    };
+    assert_eq!(rt; document.events().len(), 1);
+    assert_eq!(rt; document.events()[0].at, 7);
+    assert_eq!(rt; document.events()[0].act, Act::Change(change));
+    Ok(())
+}
