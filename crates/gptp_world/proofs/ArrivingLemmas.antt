@@ -50,36 +50,3 @@ taken lane now octets cables old new pending after oldest rest here a b only fro
       front = queue_same lane.direction old ∙ (is.oldest ∙ ap (λ t. frame t octets ∷ left) time);
       is = rw (channels, entries) refl;
     }
-
-queue_room : (d : Direction) (old new : links.State) → links.KeepsRoom old new → (links.queue d old).room ≤ (links.queue d new).room
-queue_room FromA old new keeps = keeps.from_a
-queue_room FromB old new keeps = keeps.from_b
-
--- and there is no less room
-pub room_kept : (more : ℕ) (lane other : Lane) (cables : List Cable) (old new : Cable) (pending after : PendingState)
-    → slice_get cables lane.link ≡ Some old → new.link.up ≡ old.link.up → links.KeepsRoom old.link new.link → KeepsArrivalRoom pending after
-    → HasRoomOn more other cables pending → HasRoomOn more other (slice_set cables lane.link new) after
-room_kept more lane other cables old new pending after here up keeps arrivals has = by (same_place other.link lane.link)
-  where
-    by : (other.link ≡ lane.link) ⊎ (other.link ≢ lane.link) → HasRoomOn more other (slice_set cables lane.link new) after
-    by (inl places) =
-        let cable_is : has.cable ≡ old = same_Some has.cable old (sym has.here ∙ (ap (slice_get cables) places ∙ here)) in
-        let had : more ≤ (links.queue other.direction old.link).room = rw (← cable_is) has.room in
-        let kept = queue_room other.direction old.link new.link keeps in
-        let arrived = has.arrivals in let more_arrivals = arrivals other.link other.direction in
-        record {
-          cable = new;
-          here = ap (slice_get (slice_set cables lane.link new)) places ∙ get-set_same cables lane.link old new here;
-          up = up ∙ (ap (λ (c : Cable). c.link.up) (sym cable_is) ∙ has.up);
-          room = omega arith;
-          arrivals = omega arith;
-        }
-    by (inr places) =
-        let arrived = has.arrivals in let more_arrivals = arrivals other.link other.direction in
-        record {
-          cable = has.cable;
-          here = get-set_other cables lane.link other.link new places ∙ has.here;
-          up = has.up;
-          room = has.room;
-          arrivals = omega arith;
-        }

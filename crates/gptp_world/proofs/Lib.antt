@@ -1,6 +1,7 @@
 pub mod PlaceLemmas
 pub mod SendingLemmas
 pub mod NetLemmas
+pub mod NeedLemmas
 pub mod SendsLemmas
 pub mod NetworkLemmas
 pub mod RoomLemmas

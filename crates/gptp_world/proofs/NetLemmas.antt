@@ -7,22 +7,15 @@ use Rattle.gptp_vector.specs.declared.port.PortId.{PortId}
 use Rattle.gptp_world.specs.declared.cable.Cable.{Cable}
 use Rattle.gptp_world.specs.declared.cable.Lane.{Lane}
 use Rattle.gptp_world.specs.declared.net.Net.{Net as Between}
-use Rattle.gptp_world.specs.Cable.{is_up_of, join_of, channel_of, HasRoomOn}
+use Rattle.gptp_world.specs.Cable.{join_of, channel_of}
 use Rattle.gptp_world.specs.Directory.{start_of, BeginsAt}
-use Rattle.gptp_world.specs.Net.{between, port_id, HasRoomFor, IsNet, IsUpLane}
+use Rattle.gptp_world.specs.Net.{between, IsNet}
 use Rattle.gptp_world.specs.Sends.{IsUnlinked}
-use Rattle.gptp_world.specs.Pending.{PendingState}
 use Rattle.gptp_world.specs.World.{Channel, sender}
-use Rattle.gptp_system.specs.declared.sending.Sending.{Sending}
-use Rattle.gptp_system.specs.Reach.{sends_at}
 use Rattle.std.specs.Prelude.{Vec}
 use Rattle.std.specs.Vec.{with_items}
 use Rattle.std.proofs.lemmas.List.{with_items_is, length-map}
 use Rattle.gptp_world.proofs.PlaceLemmas.{get-map}
-use Rattle.gptp_world.proofs.SendingLemmas.{less_room}
-use Rattle.std.proofs.lemmas.Bool.{eq-eqb}
-use Rattle.std.proofs.lemmas.Bool.Decides.{eqb_tells}
-use Rattle.std.proofs.Math.Dec.{eqb}
 
 -- what stands in a list that was made of another, backwards
 pub record MadeOf {X Y : Type 0} (f : X → Y) (xs : List X) (i : ℕ) (y : Y) : Type 0 where
@@ -83,73 +76,6 @@ unlinked_down net port lane cable is only here down = λ place direction channel
     let same : made.one ≡ cable = same_Some made.one cable (sym made.there ∙ (ap (slice_get net.cables.items) (sym places) ∙ here)) in
     ap (λ (w : Channel). w.up) made.is ∙ (ap (λ (c : Cable). c.link.up) same ∙ down)
 
--- ---- room for what is left to send
-
-sends_here : (x : Sending) (xs : List Sending) (p : ℕ) → x.port ≡ p → sends_at p (x ∷ xs) ≡ sends_at p xs + 1
-sends_here x xs p same = let test = eq-eqb x.port p same in rw test (omega arith)
-
-sends_elsewhere : (x : Sending) (xs : List Sending) (p : ℕ) → eqb x.port p ≡ false → sends_at p (x ∷ xs) ≡ sends_at p xs
-sends_elsewhere x xs p test = rw test refl
-
--- what is left of the room once a send took what it needs
-pub room_after : (clock : ℕ) (x : Sending) (rest : List Sending) (net net' : Between) (lane : Lane)
-    → net'.directory ≡ net.directory → BeginsAt net.directory.joins (port_id clock x.port) lane
-    → net.pending.room ≤ net'.pending.room + 1 → net.buffers.ready ≤ net'.buffers.ready + 1
-    → map is_up_of net'.cables.items ≡ map is_up_of net.cables.items
-    → ((more : ℕ) (other : Lane) → HasRoomOn (more + 1) other net.cables.items net.pending → HasRoomOn more other net'.cables.items net'.pending)
-    → ((more : ℕ) (other : Lane) → other ≢ lane → HasRoomOn more other net.cables.items net.pending → HasRoomOn more other net'.cables.items net'.pending)
-    → HasRoomFor clock (x ∷ rest) net → HasRoomFor clock rest net'
-room_after clock x rest net net' lane same begins entries buffers ups room elsewhere has = record {
-  entries = let had = has.entries in omega arith;
-  buffers = let had = has.buffers in omega arith;
-  lanes = λ p other cable' starts' here' up'.
-      let starts : BeginsAt net.directory.joins (port_id clock p) other =
-      subst (λ d. BeginsAt d.joins (port_id clock p) other) same starts' in
-      let was = from_map is_up_of net.cables.items other.link true
-      (sym (ap (λ us. slice_get us other.link) ups) ∙ (get-map is_up_of net'.cables.items other.link cable' here' ∙ ap Some up')) in
-      by p other (eqb_tells x.port p) starts (has.lanes p other was.one starts was.there (sym was.is));
-}
-  where
-    ports : (p : ℕ) (other : Lane) → BeginsAt net.directory.joins (port_id clock p) other → other ≡ lane → x.port ≡ p
-    ports p other starts one =
-        let here : slice_get net.directory.joins lane.link ≡ Some starts.join =
-        ap (λ (l : Lane). slice_get net.directory.joins l.link) (sym one) ∙ starts.there in
-        let joins : begins.join ≡ starts.join = same_Some begins.join starts.join (sym begins.there ∙ here) in
-        let ends : port_id clock x.port ≡ port_id clock p =
-        sym begins.begins ∙ (ap (start_of lane.direction) joins ∙ (ap (λ (l : Lane). start_of l.direction starts.join) (sym one) ∙ starts.begins)) in
-        ap (λ (e : PortId). e.port) ends
-
-    by : (p : ℕ) (other : Lane) → ((eqb x.port p ≡ true) × (x.port ≡ p)) ⊎ ((eqb x.port p ≡ false) × (x.port ≢ p))
-        → BeginsAt net.directory.joins (port_id clock p) other → HasRoomOn (sends_at p (x ∷ rest)) other net.cables.items net.pending
-        → HasRoomOn (sends_at p rest) other net'.cables.items net'.pending
-    by p other (inl (test, is)) starts had =
-        room (sends_at p rest) other (subst (λ n. HasRoomOn n other net.cables.items net.pending) (sends_here x rest p is) had)
-    by p other (inr (test, apart)) starts had =
-        elsewhere (sends_at p rest) other (λ one. apart (ports p other starts one))
-        (subst (λ n. HasRoomOn n other net.cables.items net.pending) (sends_elsewhere x rest p test) had)
-
--- a send that goes nowhere takes no room
-pub room_kept : (clock : ℕ) (x : Sending) (rest : List Sending) (net : Between) → HasRoomFor clock (x ∷ rest) net → HasRoomFor clock rest net
-room_kept clock x rest net has = record {
-  entries = let had = has.entries in omega arith;
-  buffers = let had = has.buffers in omega arith;
-  lanes = λ p other cable starts here up. by p other (eqb_tells x.port p) (has.lanes p other cable starts here up);
-}
-  where
-    by : (p : ℕ) (other : Lane) → ((eqb x.port p ≡ true) × (x.port ≡ p)) ⊎ ((eqb x.port p ≡ false) × (x.port ≢ p))
-        → HasRoomOn (sends_at p (x ∷ rest)) other net.cables.items net.pending → HasRoomOn (sends_at p rest) other net.cables.items net.pending
-    by p other (inl (test, is)) had =
-        less_room (sends_at p rest) other net.cables.items net.pending
-        (subst (λ n. HasRoomOn n other net.cables.items net.pending) (sends_here x rest p is) had)
-    by p other (inr (test, apart)) had = subst (λ n. HasRoomOn n other net.cables.items net.pending) (sends_elsewhere x rest p test) had
-
--- there is room for the first send
-pub room_first : (clock : ℕ) (x : Sending) (net : Between) (lane : Lane) → HasRoomFor clock (x ∷ []) net
-    → IsUpLane net (port_id clock x.port) lane → HasRoomOn 1 lane net.cables.items net.pending
-room_first clock x net lane has up =
-    subst (λ n. HasRoomOn n lane net.cables.items net.pending) (sends_here x [] x.port refl)
-    (has.lanes x.port lane up.cable up.begins up.here up.up)
-
 -- links that were written through a slice
 pub written_back : {Z : Type 0} (cables : Vec Cable Z) (slice written : List Cable) → slice ≡ cables.items → map join_of written ≡ map join_of slice
     → (with_items cables written).items ≡ written
@@ -157,26 +83,3 @@ written_back cables slice written is joins =
     let same : length written ≡ length cables.items =
     sym (length-map written join_of) ∙ (ap length joins ∙ (length-map slice join_of ∙ ap length is)) in
     with_items_is cables written (same ∙ sym cables.ok.0)
-
-pub fewer : (less more : ℕ) (lane : Lane) (cables : List Cable) (pending : PendingState) → less ≤ more → HasRoomOn more lane cables pending
-    → HasRoomOn less lane cables pending
-fewer less more lane cables pending at_most has =
-    let room = has.room in let arrivals = has.arrivals in
-    record { cable = has.cable; here = has.here; up = has.up; room = omega arith; arrivals = omega arith }
-
-sends_more : (x : Sending) (rest : List Sending) (p : ℕ) → sends_at p (x ∷ []) ≤ sends_at p (x ∷ rest)
-sends_more x rest p = by (eqb x.port p) refl
-  where
-    by : (test : Bool) → eqb x.port p ≡ test → sends_at p (x ∷ []) ≤ sends_at p (x ∷ rest)
-    by true is = rw is (omega arith)
-    by false is = rw is (omega arith)
-
--- room for several sends is room for the first
-pub room_for_first : (clock : ℕ) (x : Sending) (rest : List Sending) (net : Between) → HasRoomFor clock (x ∷ rest) net
-    → HasRoomFor clock (x ∷ []) net
-room_for_first clock x rest net has = record {
-  entries = let had = has.entries in omega arith;
-  buffers = let had = has.buffers in omega arith;
-  lanes = λ p lane cable begins here up.
-      fewer _ _ lane net.cables.items net.pending (sends_more x rest p) (has.lanes p lane cable begins here up);
-}

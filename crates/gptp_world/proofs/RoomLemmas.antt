@@ -1,7 +1,9 @@
 -- What making room leaves as it was.
-use Rattle.std.proofs.Common.{◌≡◌, ◌≢◌, ◌⊎◌, ℕ, ◌+◌, ◌*◌, ◌≤◌, List, [], ◌∷◌, length, map, Some, slice_get, slice_set, Result, Ok, Err, OnOk, refl, ap, sym, ◌∙◌, inl, inr, arith}
+use Rattle.std.proofs.Common.{◌≡◌, ◌≢◌, ◌⊎◌, ℕ, ◌+◌, ◌*◌, ◌≤◌, ◌==◌, if◌then◌else◌, Bool, true, false, List, [], ◌∷◌, length, map, Some, slice_get, slice_set, Result, Ok, Err, OnOk, refl, ap, sym, subst, ◌∙◌, inl, inr, arith}
 use Rattle.std.proofs.lemmas.Option.{same_Some}
 use Rattle.std.proofs.lemmas.List.{length-map}
+use Rattle.std.proofs.lemmas.Bool.Decides.{eqb_tells}
+use Rattle.std.proofs.Math.Dec.{eqb}
 use Rattle.gptp_links.specs.declared.link.Direction.{Direction}
 use Rattle.gptp_links.specs.declared.link.Direction.TheVariants.{FromA, FromB}
 use Rattle.gptp_links.specs.State as links
@@ -13,13 +15,14 @@ use Rattle.gptp_world.specs.declared.net.Net.{Net as Between}
 use Rattle.gptp_world.specs.declared.stage.Stage.{Stage}
 use Rattle.gptp_world.specs.declared.station.Station.{Station}
 use Rattle.gptp_world.specs.Cable.{channel_of, join_of, HasRoomOn}
-use Rattle.gptp_world.specs.Directory.{Join}
+use Rattle.gptp_world.specs.Directory.{BeginsAt, IsDirectory, Join}
 use Rattle.gptp_world.specs.Net.{port_id, IsNet}
 use Rattle.gptp_world.specs.Pending.{PendingState, arrival_room, HasArrivalRoom, KeepsArrivalRoom}
-use Rattle.gptp_world.specs.Room.{HasRoomAtPorts, HasRoomBothWays, HasRoomFrom, KeepsRoomOn, OnlyRoom}
-use Rattle.gptp_world.specs.Stage.{clock_at, HasRoomToCall, IsStage}
+use Rattle.gptp_world.specs.Room.{both, for_call, repeated, HasRoomAtPorts, HasRoomBothWays, HasRoomFrom, KeepsRoomOn, Need, OnlyRoom}
+use Rattle.gptp_world.specs.Stage.{clock_at, HasRoomToCall, HasRoomToCallBoth, IsStage}
 use Rattle.gptp_world.specs.World.{Channel, Net}
-use Rattle.gptp_world.proofs.NetLemmas.{from_map}
+use Rattle.gptp_world.proofs.NeedLemmas.{covered, repeated-covered}
+use Rattle.gptp_world.proofs.NetLemmas.{from_map, known_cable}
 use Rattle.gptp_world.proofs.PlaceLemmas.{get-map, get-set_same, get-set_other, same_place}
 
 -- ---- one link
@@ -35,9 +38,9 @@ queue_roomier FromA old new kept = kept.from_a
 queue_roomier FromB old new kept = kept.from_b
 
 pub kept_on : (cables : List Cable) (link : ℕ) (old new : Cable) (pending pending' : PendingState) → slice_get cables link ≡ Some old
-    → new.link.up ≡ old.link.up → links.KeepsRoom old.link new.link → KeepsArrivalRoom pending pending'
+    → links.KeepsRoom old.link new.link → KeepsArrivalRoom pending pending'
     → KeepsRoomOn cables pending (slice_set cables link new) pending'
-kept_on cables link old new pending pending' here up roomier arrivals = λ more lane has. by more lane has (same_place lane.link link)
+kept_on cables link old new pending pending' here roomier arrivals = λ more lane has. by more lane has (same_place lane.link link)
   where
     by : (more : ℕ) (lane : Lane) → HasRoomOn more lane cables pending → (lane.link ≡ link) ⊎ (lane.link ≢ link)
         → HasRoomOn more lane (slice_set cables link new) pending'
@@ -49,7 +52,6 @@ kept_on cables link old new pending pending' here up roomier arrivals = λ more 
         record {
           cable = new;
           here = ap (slice_get (slice_set cables link new)) places ∙ get-set_same cables link old new here;
-          up = up ∙ (ap (λ (c : Cable). c.link.up) (sym same) ∙ has.up);
           room = omega arith;
           arrivals = omega arith;
         }
@@ -58,22 +60,18 @@ kept_on cables link old new pending pending' here up roomier arrivals = λ more 
         record {
           cable = has.cable;
           here = get-set_other cables link lane.link new apart ∙ has.here;
-          up = has.up;
           room = has.room;
           arrivals = omega arith;
         }
 
 pub both_ways : (more link : ℕ) (cables : List Cable) (old new : Cable) (pending : PendingState) → slice_get cables link ≡ Some old
     → links.HasRoom more new.link → HasArrivalRoom link more pending → HasRoomBothWays more link (slice_set cables link new) pending
-both_ways more link cables old new pending here room arrivals = λ direction cable there up.
-    let same : new ≡ cable = same_Some new cable (sym (get-set_same cables link old new here) ∙ there) in
-    record {
-      cable = cable;
-      here = there;
-      up = up;
-      room = rw (← same) (queue_room direction);
-      arrivals = arrival direction;
-    }
+both_ways more link cables old new pending here room arrivals = λ direction. record {
+  cable = new;
+  here = get-set_same cables link old new here;
+  room = queue_room direction;
+  arrivals = arrival direction;
+}
   where
     queue_room : (d : Direction) → more ≤ (links.queue d new.link).room
     queue_room FromA = room.from_a
@@ -132,30 +130,25 @@ net_stays net net' only is =
     }
 
 pub from_kept : (more : ℕ) (port : PortId) (net net' : Between) → OnlyRoom net net' → HasRoomFrom more port net → HasRoomFrom more port net'
-from_kept more port net net' only has = λ lane cable begins here up.
-    let channels : map channel_of net'.cables.items ≡ map channel_of net.cables.items = ap (λ (n : Net). n.channels) only.same in
-    let directory = only.directory in
-    let was = from_map channel_of net.cables.items lane.link (channel_of cable)
-    (ap (λ cs. slice_get cs lane.link) (sym channels) ∙ get-map channel_of net'.cables.items lane.link cable here) in
-    let had = has lane was.one (rw (← directory) begins) was.there (ap (λ (w : Channel). w.up) (sym was.is) ∙ up) in
-    only.lanes more lane had
+from_kept more port net net' only has = λ lane begins.
+    let directory = only.directory in only.lanes more lane (has lane (rw (← directory) begins))
 
 -- ---- port by port
 
-pub no_ports : (place : ℕ) (net : Between) → HasRoomAtPorts place 0 net
-no_ports place net = λ clock p here least most. absurd (omega arith)
+pub no_ports : (more place : ℕ) (net : Between) → HasRoomAtPorts more place 0 net
+no_ports more place net = λ clock p here least most. absurd (omega arith)
 
-pub one_more_port : (place ports : ℕ) (net net' : Between) → OnlyRoom net net' → HasRoomAtPorts place ports net
-    → ((clock : ℕ) → slice_get net'.directory.clocks place ≡ Some clock → HasRoomFrom 2 (port_id clock (ports + 1)) net')
-    → HasRoomAtPorts place (ports + 1) net'
-one_more_port place ports net net' only has last = λ clock p here least most. by clock p here least most (same_place p (ports + 1))
+pub one_more_port : (more place ports : ℕ) (net net' : Between) → OnlyRoom net net' → HasRoomAtPorts more place ports net
+    → ((clock : ℕ) → slice_get net'.directory.clocks place ≡ Some clock → HasRoomFrom more (port_id clock (ports + 1)) net')
+    → HasRoomAtPorts more place (ports + 1) net'
+one_more_port more place ports net net' only has last = λ clock p here least most. by clock p here least most (same_place p (ports + 1))
   where
     by : (clock p : ℕ) → slice_get net'.directory.clocks place ≡ Some clock → 1 ≤ p → p ≤ ports + 1 → (p ≡ ports + 1) ⊎ (p ≢ ports + 1)
-        → HasRoomFrom 2 (port_id clock p) net'
+        → HasRoomFrom more (port_id clock p) net'
     by clock p here least most (inl is) = rw is (last clock here)
     by clock p here least most (inr apart) =
         let directory = only.directory in
-        from_kept 2 (port_id clock p) net net' only (has clock p (rw (← directory) here) least (omega (arith, apart)))
+        from_kept more (port_id clock p) net net' only (has clock p (rw (← directory) here) least (omega (arith, apart)))
 
 -- ---- the stage
 
@@ -173,22 +166,125 @@ stage_stays stage stage' stations now outbox only is =
       moment = rw now is.moment;
     }
 
--- there is room for a call of a system whose ports all have it
-pub room_to_call : (stage : Stage) (place : ℕ) (station : Station) → IsStage stage → slice_get stage.stations.items place ≡ Some station
-    → 6 * length station.system.ports + 2 ≤ stage.net.pending.room → 2 * length station.system.ports ≤ stage.net.buffers.ready
-    → HasRoomAtPorts place (length station.system.ports) stage.net → HasRoomToCall place stage
-room_to_call stage place station is here entries buffers has =
-    let known : slice_get stage.net.directory.clocks place ≡ Some (clock station.system) =
-    ap (λ cs. slice_get cs place) (sym is.clocks) ∙ get-map clock_at stage.stations.items place station here in
-    record {
-      station = station;
-      here = here;
-      entries = entries;
-      buffers = buffers;
-      lanes = λ p lane cable begins there up.
-          let range = is.ports place station p lane here begins in
-          has (clock station.system) p known range.0 range.1 lane cable begins there up;
+pub ports_kept : (more place ports : ℕ) (net net' : Between) → OnlyRoom net net' → HasRoomAtPorts more place ports net
+    → HasRoomAtPorts more place ports net'
+ports_kept more place ports net net' only has = λ number p here least most.
+    let directory = only.directory in from_kept more (port_id number p) net net' only (has number p (rw (← directory) here) least most)
+
+-- a lane that is known has room for none
+no_frames : (net : Between) (port : PortId) (lane : Lane) → IsNet net → BeginsAt net.directory.joins port lane
+    → HasRoomOn 0 lane net.cables.items net.pending
+no_frames net port lane is begins =
+    let known = known_cable net port lane is begins in
+    record { cable = known.0; here = known.1; room = omega arith; arrivals = omega arith }
+
+-- the number of frames that a port of the system with this clock may send
+abbrev most_from : ℕ → ℕ → PortId → ℕ
+most_from more number port = if port.clock == number then more else 0
+
+-- so many frames from each port of the system at a place, and none from others
+pub frames_from : (stage : Stage) (more place : ℕ) (station : Station) → IsStage stage → slice_get stage.stations.items place ≡ Some station
+    → HasRoomAtPorts more place (length station.system.ports) stage.net → (port : PortId) (lane : Lane)
+    → BeginsAt stage.net.directory.joins port lane
+    → HasRoomOn (most_from more (clock station.system) port) lane stage.net.cables.items stage.net.pending
+frames_from stage more place station is here has port lane begins = by (eqb_tells port.clock (clock station.system))
+  where
+    by : ((eqb port.clock (clock station.system) ≡ true) × (port.clock ≡ clock station.system))
+        ⊎ ((eqb port.clock (clock station.system) ≡ false) × (port.clock ≢ clock station.system))
+        → HasRoomOn (most_from more (clock station.system) port) lane stage.net.cables.items stage.net.pending
+    by (inl (test, same)) =
+        let known : slice_get stage.net.directory.clocks place ≡ Some (clock station.system) =
+        ap (λ cs. slice_get cs place) (sym is.clocks) ∙ get-map clock_at stage.stations.items place station here in
+        let starts : BeginsAt stage.net.directory.joins (port_id (clock station.system) port.port) lane =
+        subst (λ number. BeginsAt stage.net.directory.joins (port_id number port.port) lane) same begins in
+        let range = is.ports place station port.port lane here starts in
+        rw test (has (clock station.system) port.port known range.0 range.1 lane starts)
+    by (inr (test, apart)) = rw test (no_frames stage.net port lane is.net begins)
+
+times : (calls number : ℕ) (port : PortId) → calls * (if port.clock == number then 2 else 0) ≤ most_from (2 * calls) number port
+times calls number port = by (port.clock == number) refl
+  where
+    by : (test : Bool) → (port.clock == number) ≡ test
+        → calls * (if port.clock == number then 2 else 0) ≤ most_from (2 * calls) number port
+    by true test = rw test (omega arith)
+    by false test = rw test (omega arith)
+
+-- there is room for calls of a system whose ports all have it
+pub room_to_call : (stage : Stage) (calls place : ℕ) (station : Station) → IsStage stage → slice_get stage.stations.items place ≡ Some station
+    → calls * (6 * length station.system.ports + 2) ≤ stage.net.pending.room → calls * (2 * length station.system.ports) ≤ stage.net.buffers.ready
+    → HasRoomAtPorts (2 * calls) place (length station.system.ports) stage.net → HasRoomToCall calls place stage
+room_to_call stage calls place station is here entries buffers has = record {
+  station = station;
+  here = here;
+  room = covered all (repeated calls (for_call station.system)) stage.net
+      (repeated-covered calls (for_call station.system) all (omega arith) (omega arith) (times calls (clock station.system)))
+      (record { entries = entries; buffers = buffers; lanes = frames_from stage (2 * calls) place station is here has });
+}
+  where
+    all : Need
+    all = record {
+      entries = calls * (6 * length station.system.ports + 2);
+      buffers = calls * (2 * length station.system.ports);
+      frames = most_from (2 * calls) (clock station.system);
     }
+
+-- systems at two places have two clocks
+pub clocks_apart : (stage : Stage) (first second : ℕ) (near far : Station) → IsStage stage → IsDirectory stage.net.directory
+    → slice_get stage.stations.items first ≡ Some near → slice_get stage.stations.items second ≡ Some far → first ≢ second
+    → clock near.system ≢ clock far.system
+clocks_apart stage first second near far is directory here there apart = λ same.
+    let known : (place : ℕ) (station : Station) → slice_get stage.stations.items place ≡ Some station
+    → slice_get stage.net.directory.clocks place ≡ Some (clock station.system) =
+    λ place station at. ap (λ cs. slice_get cs place) (sym is.clocks) ∙ get-map clock_at stage.stations.items place station at in
+    apart (directory.plan.differ first second (clock near.system) (known first near here)
+    (known second far there ∙ ap Some (sym same)))
+
+not_same : (m n : ℕ) → m ≢ n → eqb m n ≡ false
+not_same m n apart = by (eqb_tells m n)
+  where
+    by : ((eqb m n ≡ true) × (m ≡ n)) ⊎ ((eqb m n ≡ false) × (m ≢ n)) → eqb m n ≡ false
+    by (inl (test, same)) = absurd (apart same)
+    by (inr (test, differ)) = test
+
+-- and for one call of each of two
+pub room_to_call_both : (stage : Stage) (first second : ℕ) (near far : Station) → IsStage stage
+    → slice_get stage.stations.items first ≡ Some near → slice_get stage.stations.items second ≡ Some far
+    → clock near.system ≢ clock far.system
+    → 6 * (length near.system.ports + length far.system.ports) + 4 ≤ stage.net.pending.room
+    → 2 * (length near.system.ports + length far.system.ports) ≤ stage.net.buffers.ready
+    → HasRoomAtPorts 2 first (length near.system.ports) stage.net → HasRoomAtPorts 2 second (length far.system.ports) stage.net
+    → HasRoomToCallBoth first second stage
+room_to_call_both stage first second near far is here there apart entries buffers has-near has-far = record {
+  station_a = near;
+  station_b = far;
+  here_a = here;
+  here_b = there;
+  room = record {
+    entries = omega arith;
+    buffers = omega arith;
+    lanes = λ port lane begins. by port lane
+        (eqb_tells port.clock (clock near.system))
+        (frames_from stage 2 first near is here has-near port lane begins)
+        (frames_from stage 2 second far is there has-far port lane begins);
+  };
+}
+  where
+    by : (port : PortId) (lane : Lane)
+        → ((eqb port.clock (clock near.system) ≡ true) × (port.clock ≡ clock near.system))
+        ⊎ ((eqb port.clock (clock near.system) ≡ false) × (port.clock ≢ clock near.system))
+        → HasRoomOn (most_from 2 (clock near.system) port) lane stage.net.cables.items stage.net.pending
+        → HasRoomOn (most_from 2 (clock far.system) port) lane stage.net.cables.items stage.net.pending
+        → HasRoomOn (most_from 2 (clock near.system) port + most_from 2 (clock far.system) port) lane stage.net.cables.items
+        stage.net.pending
+    by port lane (inl (test, same)) from-near from-far =
+        let other = not_same port.clock (clock far.system) (λ e. apart (sym same ∙ e)) in
+        let only : most_from 2 (clock near.system) port + most_from 2 (clock far.system) port ≡ most_from 2 (clock near.system) port =
+        rw (test, other) (omega arith) in
+        subst (λ n. HasRoomOn n lane stage.net.cables.items stage.net.pending) (sym only) from-near
+    by port lane (inr (test, differ)) from-near from-far =
+        let only : most_from 2 (clock near.system) port + most_from 2 (clock far.system) port ≡ most_from 2 (clock far.system) port =
+        rw test (omega arith) in
+        subst (λ n. HasRoomOn n lane stage.net.cables.items stage.net.pending) (sym only) from-far
 
 -- three things that hold where a call is not refused
 pub all_on_ok : {X E : Type 0} (r : Result X E) (P Q R S : Type 0) → (P → Q → R → S) → OnOk r P → OnOk r Q → OnOk r R → OnOk r S

@@ -141,7 +141,6 @@ room_elsewhere more lane other cables old new pending after here only takes apar
         record {
           cable = new;
           here = ap (slice_get (slice_set cables lane.link new)) places ∙ get-set_same cables lane.link old new here;
-          up = only.up ∙ (ap (λ (c : Cable). c.link.up) (sym cable_is) ∙ has.up);
           room = rw (queues, ← cable_is) has.room;
           arrivals = arrivals;
         }
@@ -151,7 +150,6 @@ room_elsewhere more lane other cables old new pending after here only takes apar
     by (inr places) = record {
       cable = has.cable;
       here = get-set_other cables lane.link other.link new places ∙ has.here;
-      up = has.up;
       room = has.room;
       arrivals = arrivals;
     }
@@ -168,7 +166,6 @@ room_here more lane cables old new pending after here only room arrived has =
     record {
       cable = new;
       here = get-set_same cables lane.link old new here;
-      up = only.up ∙ (ap (λ (c : Cable). c.link.up) (sym cable_is) ∙ has.up);
       room = omega arith;
       arrivals = omega arith;
     }
@@ -177,9 +174,9 @@ pub less_room : (more : ℕ) (lane : Lane) (cables : List Cable) (pending : Pend
     → HasRoomOn more lane cables pending
 less_room more lane cables pending has =
     let room = has.room in let arrivals = has.arrivals in
-    record { cable = has.cable; here = has.here; up = has.up; room = omega arith; arrivals = omega arith }
+    record { cable = has.cable; here = has.here; room = omega arith; arrivals = omega arith }
 
-same_lane : (lane other : Lane) → (other ≡ lane) ⊎ (other ≢ lane)
+pub same_lane : (lane other : Lane) → (other ≡ lane) ⊎ (other ≢ lane)
 same_lane lane other = by other.direction lane.direction (same_place other.link lane.link) refl refl
   where
     turned : FromA ≢ FromB

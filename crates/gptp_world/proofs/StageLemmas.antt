@@ -12,13 +12,15 @@ use Rattle.gptp_system.specs.declared.sending.Sending.{Sending}
 use Rattle.gptp_system.specs.Input.{Input, Steps, PortUp, PortDown, Frame, Expires, Priority}
 use Rattle.gptp_system.specs.Reach.{sends_at, IsWithin}
 use Rattle.gptp_system.specs.State.{SystemState, clock}
+use Rattle.gptp_vector.specs.declared.port.PortId.{PortId}
 use Rattle.gptp_world.specs.declared.cable.Lane.{Lane}
 use Rattle.gptp_world.specs.declared.net.Net.{Net as Between}
 use Rattle.gptp_world.specs.declared.station.Station.{Station}
 use Rattle.gptp_world.specs.Act.{set_timers, all_timers, in_state}
 use Rattle.gptp_world.specs.Cable.{SentAll}
 use Rattle.gptp_world.specs.Directory.{BeginsAt}
-use Rattle.gptp_world.specs.Net.{between, port_id, HasRoomFor, IsNet, OnlyEntries}
+use Rattle.gptp_world.specs.Net.{between, port_id, IsNet, OnlyEntries}
+use Rattle.gptp_world.specs.Room.{for_call, for_sends, repeated, sends_from, HasRoom, Uses}
 use Rattle.gptp_system.specs.Reach.{may_select, reach, timer_reach}
 use Rattle.gptp_system.specs.declared.timer.Timer.{Timer}
 use Rattle.gptp_system.specs.declared.timer.Timer.TheVariants as timers
@@ -27,9 +29,9 @@ use Rattle.gptp_system.proofs.FactLemmas.{keeps_length}
 use Rattle.gptp_system.proofs.ReachLemmas.{steps_reach}
 use Rattle.gptp_system.proofs.StepLemmas.{steps_sound}
 use Rattle.gptp_world.specs.declared.stage.Stage.{Stage}
-use Rattle.gptp_world.specs.Stage.{clock_at, CalledWith, CarriesOut, HasRoomToCall, HasStepped, IsLiveAt, IsStage}
+use Rattle.gptp_world.specs.Stage.{clock_at, for_left, CalledWith, CallUses, CarriesOut, HasRoomToCall, HasStepped, IsGivenAt, IsLiveAt, IsOf, IsStage}
 use Rattle.gptp_world.specs.World.{timers_from}
-use Rattle.gptp_world.proofs.NetLemmas.{fewer}
+use Rattle.gptp_world.proofs.NeedLemmas.{covered, once, uses_less, Covers}
 use Rattle.gptp_world.proofs.PlaceLemmas.{read, get-set_same, get-set_other, map-set_same, same_place}
 
 -- ---- the timers are set
@@ -38,18 +40,6 @@ pub net_kept : (used : ℕ) (net net' : Between) → OnlyEntries used net net' �
 net_kept used net net' only is =
     let cables = only.cables in let directory = only.directory in let links = only.links in
     record { joins = rw (cables, directory) is.joins; links = rw (cables, links) is.links }
-
-pub room_with_timers : (used clock : ℕ) (sends : List Sending) (net net' : Between) → OnlyEntries used net net'
-    → used + length sends ≤ net.pending.room → HasRoomFor clock sends net → HasRoomFor clock sends net'
-room_with_timers used clock sends net net' only entries has =
-    let cables = only.cables in let directory = only.directory in let rooms = only.rooms in let buffers = only.buffers in
-    record {
-      entries = let left = only.room in omega arith;
-      buffers = rw buffers has.buffers;
-      lanes = λ p lane cable begins here up.
-          let had = has.lanes p lane cable (rw (← directory) begins) (rw (← cables) here) up in
-          record { cable = had.cable; here = rw cables had.here; up = had.up; room = had.room; arrivals = rw rooms had.arrivals };
-    }
 
 pub timers_set : (used place : ℕ) (station : Station) (net net' : Between) → OnlyEntries used net net'
     → net'.pending.entries ≡ set_timers place station (timers_from 1 station.system.ports) net.pending.entries
@@ -142,14 +132,6 @@ frame_reaches : (selects : Bool) (p : ℕ) → (if selects then reaches.All else
 frame_reaches true p at = absurd cc
 frame_reaches false p at = absurd cc
 
--- the port whose link an input brings up, or whose timer it is, is one of the system
-abbrev pub IsOf : SystemState → Input → Type 0
-IsOf s (PortUp p) = IsPortOf s p
-IsOf s (PortDown p) = ⊤
-IsOf s (Frame p octets) = ⊤
-IsOf s (Expires timer) = IsTimerOf s timer
-IsOf s (Priority value) = ⊤
-
 -- an input that reaches one port alone is given to a system that has a port
 has_port : (input : Input) (s : SystemState) → IsOf s input → (p : ℕ) → reach input s ≡ reaches.Port p → 1 ≤ length s.ports
 has_port (PortUp q) s is p at = let least = is.least in let most = is.most in omega arith
@@ -157,6 +139,20 @@ has_port (PortDown q) s is p at = absurd cc
 has_port (Frame q octets) s is p at = absurd (frame_reaches (may_select (message_type octets)) p at)
 has_port (Expires timer) s is p at = timer_has_port timer s is p at
 has_port (Priority value) s is p at = absurd cc
+
+-- what a call leaves needs no more than a call can
+pub call_covers : (s s' : SystemState) (sends : List Sending) → length s'.ports ≡ length s.ports → clock s' ≡ clock s
+    → AreFew (length s.ports) sends → Covers (for_call s) (for_left s' sends)
+call_covers s s' sends ports clocks few = record {
+  entries = let all = few.all in omega (arith, ports, all);
+  buffers = let all = few.all in omega (arith, all);
+  frames = λ port. let at = by port (port.clock == clock s) refl in omega (arith, at);
+}
+  where
+    by : (port : PortId) (test : Bool) → (port.clock == clock s) ≡ test
+        → sends_from (clock s') sends port ≤ (if port.clock == clock s then 2 else 0)
+    by port true test = let each = few.each port.port in rw (clocks, test) each
+    by port false test = rw (clocks, test) (omega arith)
 
 -- ---- one call
 
@@ -181,7 +177,7 @@ stepped stage stage' place input answer one after live value steps stations net 
     }
 
 -- what it left can be carried out
-pub carries : (stage stage' : Stage) (place : ℕ) (input : Input) (answer : Answer) → IsStage stage → HasRoomToCall place stage
+pub carries : (stage stage' : Stage) (place : ℕ) (input : Input) (answer : Answer) → IsStage stage → HasRoomToCall 1 place stage
     → HasStepped place input answer stage stage' → (station : Station) → slice_get stage.stations.items place ≡ Some station
     → IsOf station.system input → CarriesOut place stage'
 carries stage stage' place input answer is room step station here of =
@@ -194,10 +190,8 @@ carries stage stage' place input answer is room step station here of =
     let few = within_few (reach input old.system) (length old.system.ports) sends
     (steps_reach input stage.now old.system after sends answer steps).within
     (has_port input old.system (subst (λ (s : Station). IsOf s.system input) one of)) in
-    let all = few.all in
     let same : room.station ≡ old = same_Some room.station old (sym room.here ∙ step.here) in
-    let entries : 6 * length old.system.ports + 2 ≤ stage.net.pending.room = rw (← same) room.entries in
-    let buffers : 2 * length old.system.ports ≤ stage.net.buffers.ready = rw (← same) room.buffers in
+    let has : HasRoom (repeated 1 (for_call old.system)) stage.net = rw (← same) room.room in
     let places = is.systems in
     let small = is.few place old step.here in
     record {
@@ -208,14 +202,8 @@ carries stage stage' place input answer is room step station here of =
       systems = rw (stations, net) (rw (length-set stage.stations.items place new) places);
       moment = rw now is.moment;
       few = rw ports small;
-      timers = rw (net, ports) (omega arith);
-      room = rw (net, clocks) (record {
-        entries = omega arith;
-        buffers = omega arith;
-        lanes = λ p lane cable begins there up.
-            fewer (sends_at p sends) 2 lane stage.net.cables.items stage.net.pending (few.each p)
-            (room.lanes p lane cable (rw same begins) there up);
-      });
+      room = rw net (covered (for_call old.system) (for_left after sends) stage.net (call_covers old.system after sends ports clocks few)
+          (covered (repeated 1 (for_call old.system)) (for_call old.system) stage.net (once (for_call old.system)) has));
     }
 
 -- the stage after it was carried out, from the one that it left
@@ -262,3 +250,25 @@ called answers fate fate_after stage left stage' place input answer step sent st
         is = rw (stations, now, last, list, moment, change) refl;
       };
     }
+
+-- it used no more room than a call can
+pub call_uses : (stage left : Stage) (net : Between) (place : ℕ) (input : Input) (answer : Answer) → HasStepped place input answer stage left
+    → IsGivenAt place input stage
+    → ((station : Station) → slice_get left.stations.items place ≡ Some station
+    → Uses (for_left station.system left.outbox.items) left.net net)
+    → CallUses place stage net
+call_uses stage left net place input answer step given uses = λ station here.
+    let old = step.station in let after = step.after in let sends = left.outbox.items in
+    let new = in_state after old in
+    let ports = same_ports input stage.now old.system after sends answer step.steps in
+    let clocks = same_clock input stage.now old.system after sends answer step.steps in
+    let one : station ≡ old = same_Some station old (sym here ∙ step.here) in
+    let few = within_few (reach input old.system) (length old.system.ports) sends
+    (steps_reach input stage.now old.system after sends answer step.steps).within
+    (has_port input old.system (given old step.here)) in
+    let now_here : slice_get left.stations.items place ≡ Some new =
+    ap (λ xs. slice_get xs place) step.stations ∙ get-set_same stage.stations.items place old new step.here in
+    let between = step.net in
+    let used : Uses (for_left after sends) stage.net net = rw (← between) (uses new now_here) in
+    rw one (uses_less (for_call old.system) (for_left after sends) stage.net net
+    (call_covers old.system after sends ports clocks few) used)

@@ -1,5 +1,5 @@
 -- The code's links and pending entries, seen as what is between the systems.
-use Rattle.std.specs.Prelude.{◌≡◌, ℕ, Bool, List, map, true, Option, Some, slice_get, ◌≤◌}
+use Rattle.std.specs.Prelude.{◌≡◌, ℕ, List, map, Option, Some, slice_get, ◌≤◌}
 use Rattle.gptp_links.specs.State as links
 use Rattle.gptp_links.specs.Fate.{Draw, Draws}
 use Rattle.gptp_links.specs.declared.bounds.Bounds.{Bounds}
@@ -28,17 +28,13 @@ channel_of cable = record {
 abbrev pub join_of : Cable → Join
 join_of cable = record { a = cable.a; b = cable.b }
 
-abbrev pub is_up_of : Cable → Bool
-is_up_of cable = cable.link.up
-
 abbrev pub net_of : List Cable → PendingState → Net
 net_of cables pending = record { channels = map channel_of cables; pending = pending.entries }
 
--- a link that is up has room for so many more frames in a direction, and so has what is pending
+-- a link has room for so many more frames in a direction, and so has what is pending
 pub record HasRoomOn (more : ℕ) (lane : Lane) (cables : List Cable) (pending : PendingState) : Type 0 where
   pub cable : Cable
   pub here : slice_get cables lane.link ≡ Some cable
-  pub up : cable.link.up ≡ true
   pub room : more ≤ (links.queue lane.direction cable.link).room
   pub arrivals : more ≤ arrival_room lane.link lane.direction pending
 

@@ -4,12 +4,10 @@ use Rattle.gptp_links.specs.declared.bounds.Bounds.{Bounds}
 use Rattle.gptp_links.specs.Queue.{Frame}
 use Rattle.gptp_links.specs.State as links
 use Rattle.gptp_vector.specs.declared.port.PortId.{PortId}
-use Rattle.gptp_system.specs.declared.sending.Sending.{Sending}
-use Rattle.gptp_system.specs.Reach.{sends_at}
 use Rattle.gptp_world.specs.declared.cable.Cable.{Cable}
 use Rattle.gptp_world.specs.declared.cable.Lane.{Lane}
 use Rattle.gptp_world.specs.declared.net.Net.{Net as Between}
-use Rattle.gptp_world.specs.Cable.{join_of, net_of, HasRoomOn, SentOne}
+use Rattle.gptp_world.specs.Cable.{join_of, net_of, SentOne}
 use Rattle.gptp_world.specs.Directory.{BeginsAt}
 use Rattle.gptp_world.specs.Sends.{IsUnlinked}
 use Rattle.gptp_world.specs.World.{Net}
@@ -23,11 +21,6 @@ pub record IsNet (net : Between) : Type 0 where
   pub joins : map join_of net.cables.items ≡ net.directory.joins
   pub links : length net.cables.items ≤ net.pending.links
 
--- what sending leaves as it was
-pub record SameNet (net net' : Between) : Type 0 where
-  pub directory : net'.directory ≡ net.directory
-  pub systems : net'.pending.systems ≡ net.pending.systems
-
 -- nothing changes but what is pending of timers, and room for so many entries
 pub record OnlyEntries (used : ℕ) (net net' : Between) : Type 0 where
   pub directory : net'.directory ≡ net.directory
@@ -40,14 +33,6 @@ pub record OnlyEntries (used : ℕ) (net net' : Between) : Type 0 where
 
 abbrev pub port_id : ℕ → ℕ → PortId
 port_id clock port = record { clock = clock; port = port }
-
--- there is room for all these sends of the system with this clock
-pub record HasRoomFor (clock : ℕ) (xs : List Sending) (net : Between) : Type 0 where
-  pub entries : length xs ≤ net.pending.room
-  pub buffers : length xs ≤ net.buffers.ready
-  pub lanes : (p : ℕ) (lane : Lane) (cable : Cable) → BeginsAt net.directory.joins (port_id clock p) lane
-      → slice_get net.cables.items lane.link ≡ Some cable → cable.link.up ≡ true
-      → HasRoomOn (sends_at p xs) lane net.cables.items net.pending
 
 -- a lane of a link that is up begins at this port
 pub record IsUpLane (net : Between) (port : PortId) (lane : Lane) : Type 0 where

@@ -1,6 +1,9 @@
--- Room that is made before a call of a system, for all that the call can leave.
-use Rattle.std.specs.Prelude.{◌≡◌, ◌≤◌, ℕ, true, List, Some, slice_get}
+-- Room for what calls of systems leave. It is made before them.
+use Rattle.std.specs.Prelude.{◌≡◌, ◌≤◌, ◌+◌, ◌*◌, ◌==◌, ℕ, zero, suc, if◌then◌else◌, List, length, Some, slice_get}
 use Rattle.gptp_links.specs.declared.link.Direction.{Direction}
+use Rattle.gptp_system.specs.declared.sending.Sending.{Sending}
+use Rattle.gptp_system.specs.Reach.{sends_at}
+use Rattle.gptp_system.specs.State.{SystemState, clock}
 use Rattle.gptp_vector.specs.declared.port.PortId.{PortId}
 use Rattle.gptp_world.specs.declared.cable.Cable.{Cable}
 use Rattle.gptp_world.specs.declared.cable.Lane.{Lane}
@@ -9,6 +12,74 @@ use Rattle.gptp_world.specs.Cable.{HasRoomOn}
 use Rattle.gptp_world.specs.Directory.{BeginsAt}
 use Rattle.gptp_world.specs.Net.{between, port_id}
 use Rattle.gptp_world.specs.Pending.{PendingState}
+
+-- ---- what is needed
+
+-- entries of what is pending, buffers, and frames that each port sends
+pub record Need : Type 0 where
+  pub entries : ℕ
+  pub buffers : ℕ
+  pub frames : PortId → ℕ
+
+abbrev pub nothing : Need
+nothing = record {
+  entries = 0;
+  buffers = 0;
+  frames = λ port. 0;
+}
+
+abbrev pub both : Need → Need → Need
+both first second = record {
+  entries = first.entries + second.entries;
+  buffers = first.buffers + second.buffers;
+  frames = λ port. first.frames port + second.frames port;
+}
+
+abbrev pub repeated : ℕ → Need → Need
+repeated zero need = nothing
+repeated (suc count) need = both need (repeated count need)
+
+-- so many timers are set
+abbrev pub for_timers : ℕ → Need
+for_timers count = record {
+  entries = count;
+  buffers = 0;
+  frames = λ port. 0;
+}
+
+-- how many a system with this clock sends of these from a port
+abbrev pub sends_from : ℕ → List Sending → PortId → ℕ
+sends_from clock xs port = if port.clock == clock then sends_at port.port xs else 0
+
+-- these sends go
+abbrev pub for_sends : ℕ → List Sending → Need
+for_sends clock xs = record {
+  entries = length xs;
+  buffers = length xs;
+  frames = sends_from clock xs;
+}
+
+-- A call of a system: each of its timers, and two sends at each port.
+abbrev pub for_call : SystemState → Need
+for_call s = record {
+  entries = 6 * length s.ports + 2;
+  buffers = 2 * length s.ports;
+  frames = λ port. if port.clock == clock s then 2 else 0;
+}
+
+-- ---- room
+
+pub record HasRoom (need : Need) (net : Between) : Type 0 where
+  pub entries : need.entries ≤ net.pending.room
+  pub buffers : need.buffers ≤ net.buffers.ready
+  pub lanes : (port : PortId) (lane : Lane) → BeginsAt net.directory.joins port lane
+      → HasRoomOn (need.frames port) lane net.cables.items net.pending
+
+-- who is where stays, and where there was room for this and more, there still is room for what is more
+pub record Uses (need : Need) (net net' : Between) : Type 0 where
+  pub directory : net'.directory ≡ net.directory
+  pub systems : net'.pending.systems ≡ net.pending.systems
+  pub left : (more : Need) → HasRoom (both need more) net → HasRoom more net'
 
 -- where there was room on a link for so many more frames, there still is
 abbrev pub KeepsRoomOn : List Cable → PendingState → List Cable → PendingState → Type 0
@@ -25,18 +96,17 @@ pub record OnlyRoom (net net' : Between) : Type 0 where
   pub buffers : net.buffers.ready ≤ net'.buffers.ready
   pub lanes : KeepsRoomOn net.cables.items net.pending net'.cables.items net'.pending
 
--- a link has room for so many more frames in each direction, if it is up, and so has what is pending
+-- a link has room for so many more frames in each direction, and so has what is pending
 abbrev pub HasRoomBothWays : ℕ → ℕ → List Cable → PendingState → Type 0
-HasRoomBothWays more link cables pending = (direction : Direction) (cable : Cable) → slice_get cables link ≡ Some cable
-    → cable.link.up ≡ true → HasRoomOn more (record { link = link; direction = direction }) cables pending
+HasRoomBothWays more link cables pending =
+    (direction : Direction) → HasRoomOn more (record { link = link; direction = direction }) cables pending
 
--- a lane that begins at this port has room for so many more frames, if its link is up
+-- a lane that begins at this port has room for so many more frames
 abbrev pub HasRoomFrom : ℕ → PortId → Between → Type 0
-HasRoomFrom more port net = (lane : Lane) (cable : Cable) → BeginsAt net.directory.joins port lane
-    → slice_get net.cables.items lane.link ≡ Some cable → cable.link.up ≡ true
-    → HasRoomOn more lane net.cables.items net.pending
+HasRoomFrom more port net =
+    (lane : Lane) → BeginsAt net.directory.joins port lane → HasRoomOn more lane net.cables.items net.pending
 
--- each port of the system at a place, up to this one, has room for two more frames
-abbrev pub HasRoomAtPorts : ℕ → ℕ → Between → Type 0
-HasRoomAtPorts place ports net = (clock p : ℕ) → slice_get net.directory.clocks place ≡ Some clock → 1 ≤ p → p ≤ ports
-    → HasRoomFrom 2 (port_id clock p) net
+-- so has each port of the system at a place, up to this one
+abbrev pub HasRoomAtPorts : ℕ → ℕ → ℕ → Between → Type 0
+HasRoomAtPorts more place ports net = (clock p : ℕ) → slice_get net.directory.clocks place ≡ Some clock → 1 ≤ p → p ≤ ports
+    → HasRoomFrom more (port_id clock p) net

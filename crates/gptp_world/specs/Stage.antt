@@ -1,20 +1,21 @@
 -- What the code keeps of a world.
-use Rattle.std.specs.Prelude.{◌≡◌, ◌≤◌, ◌+◌, ◌*◌, ◌^◌, ℕ, true, List, [], length, map, Option, Some, slice_get, slice_set}
+use Rattle.std.specs.Prelude.{◌≡◌, ◌≤◌, ◌+◌, ◌*◌, ◌^◌, ℕ, ⊤, true, List, [], length, map, Option, Some, slice_get, slice_set}
 use Rattle.gptp_links.specs.declared.bounds.Bounds.{Bounds}
 use Rattle.gptp_links.specs.Fate.{Draw, Draws}
 use Rattle.gptp_system.specs.declared.answer.Answer.{Answer}
+use Rattle.gptp_system.specs.declared.sending.Sending.{Sending}
 use Rattle.gptp_system.specs.declared.timer.Timer.{Timer}
-use Rattle.gptp_system.specs.Input.{Input, Steps}
+use Rattle.gptp_system.specs.Input.{Input, Steps, PortUp, PortDown, Frame, Expires, Priority}
 use Rattle.gptp_system.specs.State.{SystemState, clock, due}
 use Rattle.gptp_system.specs.Steps.{IsPortOf, IsTimerOf, IsUp}
-use Rattle.gptp_world.specs.declared.cable.Cable.{Cable}
 use Rattle.gptp_world.specs.declared.cable.Lane.{Lane}
+use Rattle.gptp_world.specs.declared.net.Net.{Net as Between}
 use Rattle.gptp_world.specs.declared.stage.Stage.{Stage}
 use Rattle.gptp_world.specs.declared.station.Station.{Station}
 use Rattle.gptp_world.specs.Act.{in_state, Calls}
-use Rattle.gptp_world.specs.Cable.{HasRoomOn}
 use Rattle.gptp_world.specs.Directory.{BeginsAt}
-use Rattle.gptp_world.specs.Net.{between, port_id, HasRoomFor, IsNet}
+use Rattle.gptp_world.specs.Net.{between, port_id, IsNet}
+use Rattle.gptp_world.specs.Room.{both, for_call, for_sends, for_timers, repeated, HasRoom, Need, Uses}
 use Rattle.gptp_world.specs.World.{WorldState}
 
 -- the state of the world
@@ -54,15 +55,19 @@ pub record IsDueAt (place : ℕ) (timer : Timer) (stage : Stage) : Type 0 where
   pub timer_of : IsTimerOf station.system timer
   pub due_now : due timer station.system ≡ Some stage.now
 
--- There is room for whatever a call of the system at a place can leave: each of its timers, and two sends at each port.
-pub record HasRoomToCall (place : ℕ) (stage : Stage) : Type 0 where
+-- there is room for whatever so many calls of the system at a place can leave
+pub record HasRoomToCall (calls place : ℕ) (stage : Stage) : Type 0 where
   pub station : Station
   pub here : slice_get stage.stations.items place ≡ Some station
-  pub entries : 6 * length station.system.ports + 2 ≤ stage.net.pending.room
-  pub buffers : 2 * length station.system.ports ≤ stage.net.buffers.ready
-  pub lanes : (p : ℕ) (lane : Lane) (cable : Cable) → BeginsAt stage.net.directory.joins (port_id (clock station.system) p) lane
-      → slice_get stage.net.cables.items lane.link ≡ Some cable → cable.link.up ≡ true
-      → HasRoomOn 2 lane stage.net.cables.items stage.net.pending
+  pub room : HasRoom (repeated calls (for_call station.system)) stage.net
+
+-- there is room for one call of each of two systems
+pub record HasRoomToCallBoth (first second : ℕ) (stage : Stage) : Type 0 where
+  pub station_a : Station
+  pub station_b : Station
+  pub here_a : slice_get stage.stations.items first ≡ Some station_a
+  pub here_b : slice_get stage.stations.items second ≡ Some station_b
+  pub room : HasRoom (both (for_call station_a.system) (for_call station_b.system)) stage.net
 
 -- a port of the system at a place
 pub record IsPortAt (place port : ℕ) (stage : Stage) : Type 0 where
@@ -88,7 +93,11 @@ pub record HasStepped (place : ℕ) (input : Input) (answer : Answer) (stage sta
   pub now : stage_after.now ≡ stage.now
   pub last_change : stage_after.last_change ≡ stage.last_change
 
--- what a call left can be carried out
+-- what a call left: each timer of the system, and what stands in the outbox
+abbrev pub for_left : SystemState → List Sending → Need
+for_left s sends = both (for_timers (4 * length s.ports + 2)) (for_sends (clock s) sends)
+
+-- it can be carried out
 pub record CarriesOut (place : ℕ) (stage : Stage) : Type 0 where
   pub station : Station
   pub here : slice_get stage.stations.items place ≡ Some station
@@ -97,8 +106,24 @@ pub record CarriesOut (place : ℕ) (stage : Stage) : Type 0 where
   pub systems : length stage.stations.items ≤ stage.net.pending.systems
   pub moment : stage.now ≤ 10 ^ 15
   pub few : length station.system.ports ≤ 16
-  pub timers : (4 * length station.system.ports + 2) + length stage.outbox.items ≤ stage.net.pending.room
-  pub room : HasRoomFor (clock station.system) stage.outbox.items stage.net
+  pub room : HasRoom (for_left station.system stage.outbox.items) stage.net
+
+-- a call uses no more room than a call can
+abbrev pub CallUses : ℕ → Stage → Between → Type 0
+CallUses place stage net = (station : Station) → slice_get stage.stations.items place ≡ Some station
+    → Uses (for_call station.system) stage.net net
+
+-- the port whose link an input brings up, or whose timer it is, is one of the system
+abbrev pub IsOf : SystemState → Input → Type 0
+IsOf s (PortUp p) = IsPortOf s p
+IsOf s (PortDown p) = ⊤
+IsOf s (Frame p octets) = ⊤
+IsOf s (Expires timer) = IsTimerOf s timer
+IsOf s (Priority value) = ⊤
+
+abbrev pub IsGivenAt : ℕ → Input → Stage → Type 0
+IsGivenAt place input stage =
+    (station : Station) → slice_get stage.stations.items place ≡ Some station → IsOf station.system input
 
 -- A live system was called and answered so, and what it left was carried out: the fate drew once for each send that a link
 -- carries.

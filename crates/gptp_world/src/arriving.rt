@@ -26,7 +26,8 @@ impl Net {
     ghost use Rattle.gptp_world.specs.declared.cable.Cable.{Cable};
     ghost use Rattle.gptp_world.specs.declared.cable.Lane.{Lane};
     ghost use Rattle.gptp_world.specs.Act.{Takes};
-    ghost use Rattle.gptp_world.specs.Cable.{channel_of, HasRoomOn};
+    ghost use Rattle.gptp_world.specs.Cable.{channel_of};
+    ghost use Rattle.gptp_world.specs.Room.{nothing, Uses};
     ghost use Rattle.gptp_world.specs.Net.{between, IsNet, IsFrameDue};
 
     /// The oldest frame of a lane, which is due now, leaves its link, and is no longer pending.
@@ -36,12 +37,7 @@ impl Net {
         ensures net { IsNet self.new }
         ensures takes { (cable : Cable) → slice_get self.old.cables.items lane.link ≡ Some cable
             → Takes lane.link lane.direction now result.items (channel_of cable) (between self.old) (between self.new) }
-        ensures directory { self.new.directory ≡ self.old.directory }
-        ensures systems { self.new.pending.systems ≡ self.old.pending.systems }
-        ensures buffers { self.new.buffers ≡ self.old.buffers }
-        ensures entries { self.old.pending.room ≤ self.new.pending.room }
-        ensures room { (more : ℕ) (other : Lane) → HasRoomOn more other self.old.cables.items self.old.pending
-            → HasRoomOn more other self.new.cables.items self.new.pending }
+        ensures uses { Uses nothing self.old self.new }
     {
         let octets = deliver_on(&mut self.cables[lane.link], lane.direction, now);
         self.pending.take(Item::Arrival {

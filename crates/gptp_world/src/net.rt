@@ -20,12 +20,12 @@ pub(crate) struct Net {
 
 impl Net {
     ghost use Rattle.std.specs.Prelude.{◌≡◌, ℕ, ◌+◌, ◌*◌, ◌^◌, ◌<◌, ◌≤◌, List, [], ◌∷◌, length, Some, slice_get, IfSome, IfNone};
-    ghost use Rattle.gptp_system.specs.declared.sending.Sending.{Sending};
     ghost use Rattle.gptp_system.specs.State.{clock, own};
     ghost use Rattle.gptp_world.specs.declared.cable.Cable.{Cable};
     ghost use Rattle.gptp_world.specs.Sends.{written, IsUnlinked};
     ghost use Rattle.gptp_world.specs.Cable.{SentAll};
-    ghost use Rattle.gptp_world.specs.Net.{between, port_id, HasRoomFor, IsNet, IsUpLane, SameNet, SentNext};
+    ghost use Rattle.gptp_world.specs.Net.{between, port_id, IsNet, IsUpLane, SentNext};
+    ghost use Rattle.gptp_world.specs.Room.{for_sends, HasRoom, Uses};
 
     /// The lane that begins at a port of the system at a place, where that link is up.
     fn up_lane(&self, place: usize, port: u8) -> Option<Lane>
@@ -61,11 +61,10 @@ impl Net {
         requires net { IsNet self.old }
         requires place { slice_get self.old.directory.clocks place ≡ Some (clock system.now) }
         requires early { now ≤ 10 ^ 15 }
-        requires room { HasRoomFor (clock system.now) (send.now ∷ []) self.old }
+        requires room { HasRoom (for_sends (clock system.now) (send.now ∷ [])) self.old }
         ensures net { IsNet self.new }
-        ensures same { SameNet self.old self.new }
+        ensures uses { Uses (for_sends (clock system.now) (send.now ∷ [])) self.old self.new }
         ensures sent { SentNext F.answers now (own system.now send.now.port) (written system.now send.now) fate.old fate.new (between self.old) (between self.new) }
-        ensures room { (rest : List Sending) → HasRoomFor (clock system.now) (send.now ∷ rest) self.old → HasRoomFor (clock system.now) rest self.new }
     {
         if let Some(lane) = self.up_lane(place, send.port) {
             let mut octets = self.buffers.take();
@@ -93,9 +92,9 @@ impl Net {
         requires net { IsNet self.old }
         requires place { slice_get self.old.directory.clocks place ≡ Some (clock system.now) }
         requires early { now ≤ 10 ^ 15 }
-        requires room { HasRoomFor (clock system.now) sends.now self.old }
+        requires room { HasRoom (for_sends (clock system.now) sends.now) self.old }
         ensures net { IsNet self.new }
-        ensures same { SameNet self.old self.new }
+        ensures uses { Uses (for_sends (clock system.now) sends.now) self.old self.new }
         ensures sent { SentAll F.answers now system.now sends.now fate.old fate.new (between self.old) (between self.new) }
     {
         for send in sends {

@@ -1,4 +1,4 @@
-//! Room is made before a call of a system, for all that the call can leave.
+//! Room is made before calls of systems, for all that they can leave.
 
 ghost use Rattle.std.specs.Prelude.{◌≡◌, ◌≤◌, ◌<◌, length, map, OnOk};
 ghost use Rattle.gptp_world.specs.Cable.{channel_of, join_of};
@@ -10,18 +10,24 @@ use crate::pending::Pending;
 use crate::stage::Stage;
 use std::alloc::AllocError;
 
-/// Makes room for two more frames in each direction of a link. Refused where there is no memory for them. No frame changes.
-fn make_room_on(cables: &mut [Cable], pending: &mut Pending, link: usize) -> Result<(), AllocError>
+/// Makes room for so many more frames in each direction of a link. Refused where there is no memory for them. No frame
+/// changes.
+fn make_room_on(
+    cables: &mut [Cable],
+    pending: &mut Pending,
+    link: usize,
+    frames: usize,
+) -> Result<(), AllocError>
     requires link { link < length cables.old }
     requires links { length cables.old ≤ pending.old.links }
     ensures joins { map join_of cables.new ≡ map join_of cables.old }
     ensures channels { map channel_of cables.new ≡ map channel_of cables.old }
     ensures pending { pending.new ≡ record pending.old { rooms = pending.new.rooms } }
     ensures kept { KeepsRoomOn cables.old pending.old cables.new pending.new }
-    ensures ok { OnOk result (HasRoomBothWays 2 link cables.new pending.new) }
+    ensures ok { OnOk result (HasRoomBothWays frames link cables.new pending.new) }
 {
-    cables[link].link.reserve(2)?;
-    pending.reserve_arrivals(link, 2)
+    cables[link].link.reserve(frames)?;
+    pending.reserve_arrivals(link, frames)
 }
 
 impl Net {
@@ -29,68 +35,93 @@ impl Net {
     ghost use Rattle.gptp_world.specs.Net.{port_id, IsNet};
     ghost use Rattle.gptp_world.specs.Room.{HasRoomAtPorts, HasRoomFrom, OnlyRoom};
 
-    /// Makes room for two more frames that a port of the system at a place sends. Refused where there is no memory for them.
-    fn make_room_at(&mut self, place: usize, port: u8) -> Result<(), AllocError>
+    /// Makes room for so many more frames that a port of the system at a place sends. Refused where there is no memory for
+    /// them.
+    fn make_room_at(&mut self, place: usize, port: u8, frames: usize) -> Result<(), AllocError>
         requires net { IsNet self.old }
         requires place { place < length self.old.directory.clocks }
         ensures net { IsNet self.new }
         ensures only { OnlyRoom self.old self.new }
-        ensures ok { OnOk result ((clock : ℕ) → slice_get self.new.directory.clocks place ≡ Some clock → HasRoomFrom 2 (port_id clock port) self.new) }
+        ensures ok { OnOk result ((clock : ℕ) → slice_get self.new.directory.clocks place ≡ Some clock → HasRoomFrom frames (port_id clock port) self.new) }
     {
         match self.directory.lane_from(place, port) {
-            Some(lane) => make_room_on(self.cables.as_mut_slice(), &mut self.pending, lane.link),
+            Some(lane) => make_room_on(
+                self.cables.as_mut_slice(),
+                &mut self.pending,
+                lane.link,
+                frames,
+            ),
             None => Ok(()),
         }
     }
 
-    /// So it does for each port up to this one.
-    fn make_room_at_ports(&mut self, place: usize, ports: u8) -> Result<(), AllocError>
+    /// So it does for each port up to this one. Nothing changes but the room that there is.
+    fn make_room_at_ports(&mut self, place: usize, ports: u8, frames: usize) -> Result<(), AllocError>
         requires net { IsNet self.old }
         requires place { place < length self.old.directory.clocks }
         ensures net { IsNet self.new }
         ensures only { OnlyRoom self.old self.new }
-        ensures ok { OnOk result (HasRoomAtPorts place ports self.new) }
+        ensures ok { OnOk result (HasRoomAtPorts frames place ports self.new) }
     {
         let mut port = 0;
         while port < ports {
             port += 1;
-            self.make_room_at(place, port)?;
+            self.make_room_at(place, port, frames)?;
         }
         Ok(())
     }
 
-    /// Makes room for whatever a call of the system at a place, with so many ports, can leave: each of its timers, and two
-    /// frames at each port. Refused where there is no memory for it. Nothing changes but the room that there is.
-    pub(crate) fn make_room(&mut self, place: usize, ports: u8) -> Result<(), AllocError>
+    /// Makes room for so many more entries, and buffers until so many stand ready. Refused where there is no memory for
+    /// them. Nothing changes but the room that there is.
+    fn reserve(&mut self, entries: usize, buffers: usize) -> Result<(), AllocError>
         requires net { IsNet self.old }
-        requires place { place < length self.old.directory.clocks }
         ensures net { IsNet self.new }
         ensures only { OnlyRoom self.old self.new }
-        ensures entries { OnOk result (6 * ports + 2 ≤ self.new.pending.room) }
-        ensures buffers { OnOk result (2 * ports ≤ self.new.buffers.ready) }
-        ensures lanes { OnOk result (HasRoomAtPorts place ports self.new) }
+        ensures entries { OnOk result (entries ≤ self.new.pending.room) }
+        ensures buffers { OnOk result (buffers ≤ self.new.buffers.ready) }
     {
-        let count = usize::from(ports);
-        self.pending.reserve(6 * count + 2)?;
-        self.buffers.reserve(2 * count)?;
-        self.make_room_at_ports(place, ports)
+        self.pending.reserve(entries)?;
+        self.buffers.reserve(buffers)
     }
 }
 
 impl Stage {
-    ghost use Rattle.std.specs.Prelude.{◌≡◌, ◌<◌, length, OnOk};
-    ghost use Rattle.gptp_world.specs.Stage.{world_of, HasRoomToCall, IsStage};
+    ghost use Rattle.std.specs.Prelude.{◌≡◌, ◌≢◌, ◌≤◌, ◌<◌, length, OnOk};
+    ghost use Rattle.gptp_world.specs.Stage.{world_of, HasRoomToCall, HasRoomToCallBoth, IsStage};
 
-    /// Makes room for whatever a call of the system at a place can leave. Refused where there is no memory for it. The state
-    /// of the world doesn't change.
-    pub(crate) fn make_room(&mut self, place: usize) -> Result<(), AllocError>
+    /// Makes room for whatever so many calls of the system at a place, one after another, can leave: each of its timers, and
+    /// two frames at each port. Refused where there is no memory for it. The state of the world doesn't change.
+    pub(crate) fn make_room(&mut self, place: usize, calls: u8) -> Result<(), AllocError>
         requires stage { IsStage self.old }
         requires place { place < length self.old.stations.items }
         ensures stage { IsStage self.new }
         ensures world { world_of self.new ≡ world_of self.old }
-        ensures room { OnOk result (HasRoomToCall place self.new) }
+        ensures room { OnOk result (HasRoomToCall calls place self.new) }
     {
         let ports = self.stations[place].system.ports();
-        self.net.make_room(place, ports)
+        let count = usize::from(ports);
+        let calls = usize::from(calls);
+        self.net.reserve(calls * (6 * count + 2), calls * (2 * count))?;
+        self.net.make_room_at_ports(place, ports, 2 * calls)
+    }
+
+    /// Makes room for one call of each of two systems. Refused where there is no memory for it. The state of the world
+    /// doesn't change.
+    pub(crate) fn make_room_for_both(&mut self, first: usize, second: usize) -> Result<(), AllocError>
+        requires stage { IsStage self.old }
+        requires first { first < length self.old.stations.items }
+        requires second { second < length self.old.stations.items }
+        requires apart { first ≢ second }
+        ensures stage { IsStage self.new }
+        ensures world { world_of self.new ≡ world_of self.old }
+        ensures room { OnOk result (HasRoomToCallBoth first second self.new) }
+    {
+        self.net.directory.well_formed();
+        let near = self.stations[first].system.ports();
+        let far = self.stations[second].system.ports();
+        let count = usize::from(near) + usize::from(far);
+        self.net.reserve(6 * count + 4, 2 * count)?;
+        self.net.make_room_at_ports(first, near, 2)?;
+        self.net.make_room_at_ports(second, far, 2)
     }
 }

@@ -4,7 +4,7 @@ ghost use Rattle.std.specs.Prelude.{◌≡◌, ◌≢◌, ℕ, ◌<◌, ◌≤�
 ghost use Rattle.gptp_links.specs.Queue.{IsSent};
 ghost use Rattle.gptp_links.specs.State.{queue, ChangesOnly};
 ghost use Rattle.gptp_world.specs.Pending.{put_if, arrival_room, KeepsOtherRoom};
-ghost use Rattle.gptp_world.specs.Cable.{is_up_of, join_of, net_of, channel_of, HasRoomOn, SentOne};
+ghost use Rattle.gptp_world.specs.Cable.{join_of, net_of, channel_of, HasRoomOn, SentOne};
 ghost use Rattle.gptp_world.specs.World.{sender};
 
 use crate::cable::{Cable, Lane};
@@ -63,12 +63,12 @@ pub(crate) fn send_one<F: Fate>(
     requires links { length cables.old ≤ pending.old.links }
     requires entry { 0 < pending.old.room }
     requires room { HasRoomOn 1 lane cables.old pending.old }
+    requires up { (c : Cable) → slice_get cables.old lane.link ≡ Some c → c.link.up ≡ true }
     ensures sent { (c : Cable) → slice_get cables.old lane.link ≡ Some c → SentOne F.answers now (sender lane.direction (channel_of c)) octets.items fate.old fate.new (net_of cables.old pending.old) (net_of cables.new pending.new) }
     ensures systems { pending.new.systems ≡ pending.old.systems }
     ensures links { pending.new.links ≡ pending.old.links }
     ensures entries { pending.old.room ≤ pending.new.room + 1 }
     ensures joins { map join_of cables.new ≡ map join_of cables.old }
-    ensures ups { map is_up_of cables.new ≡ map is_up_of cables.old }
     ensures room { (more : ℕ) (other : Lane) → HasRoomOn (more + 1) other cables.old pending.old → HasRoomOn more other cables.new pending.new }
     ensures elsewhere { (more : ℕ) (other : Lane) → other ≢ lane → HasRoomOn more other cables.old pending.old → HasRoomOn more other cables.new pending.new }
 {

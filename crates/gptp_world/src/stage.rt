@@ -20,7 +20,7 @@ impl Stage {
     ghost use Rattle.gptp_system.specs.declared.answer.Answer.{Answer};
     ghost use Rattle.gptp_system.specs.Input.{Input, PortUp, PortDown, Frame, Expires, Priority};
     ghost use Rattle.gptp_world.specs.declared.stage.Stage.{Stage};
-    ghost use Rattle.gptp_world.specs.Stage.{Called, CalledWith, CarriesOut, HasRoomToCall, HasStepped, IsStage, IsLiveAt, IsDueAt, IsPortAt, IsUpAt};
+    ghost use Rattle.gptp_world.specs.Stage.{Called, CalledWith, CallUses, CarriesOut, HasRoomToCall, HasStepped, IsGivenAt, IsStage, IsLiveAt, IsDueAt, IsPortAt, IsUpAt};
 
     /// What a step of the system at a place left is carried out: its timers follow, and then its sends go.
     fn carry_out<F: Fate>(&mut self, place: usize, fate: &mut F)
@@ -29,6 +29,8 @@ impl Stage {
             → HasStepped place input answer before self.old → IsStage self.new }
         ensures called { (before : Stage) (input : Input) (answer : Answer) → HasStepped place input answer before self.old
             → CalledWith F.answers place input answer fate.old fate.new before self.new }
+        ensures uses { (before : Stage) (input : Input) (answer : Answer) → HasStepped place input answer before self.old
+            → IsGivenAt place input before → CallUses place before self.new.net }
     {
         let station = &self.stations[place];
         self.net.set_timers(place, station);
@@ -47,9 +49,10 @@ impl Stage {
         requires stage { IsStage self.old }
         requires live { IsLiveAt place self.old }
         requires due { IsDueAt place timer self.old }
-        requires room { HasRoomToCall place self.old }
+        requires room { HasRoomToCall 1 place self.old }
         ensures stage { IsStage self.new }
         ensures called { Called F.answers place (Expires timer) fate.old fate.new self.old self.new }
+        ensures uses { CallUses place self.old self.new.net }
     {
         self.stations[place]
             .system
@@ -62,9 +65,10 @@ impl Stage {
         requires stage { IsStage self.old }
         requires live { IsLiveAt place self.old }
         requires port { IsPortAt place port self.old }
-        requires room { HasRoomToCall place self.old }
+        requires room { HasRoomToCall 1 place self.old }
         ensures stage { IsStage self.new }
         ensures called { Called F.answers place (PortUp port) fate.old fate.new self.old self.new }
+        ensures uses { CallUses place self.old self.new.net }
     {
         self.stations[place]
             .system
@@ -77,9 +81,10 @@ impl Stage {
         requires stage { IsStage self.old }
         requires live { IsLiveAt place self.old }
         requires port { IsPortAt place port self.old }
-        requires room { HasRoomToCall place self.old }
+        requires room { HasRoomToCall 1 place self.old }
         ensures stage { IsStage self.new }
         ensures called { Called F.answers place (PortDown port) fate.old fate.new self.old self.new }
+        ensures uses { CallUses place self.old self.new.net }
     {
         self.stations[place]
             .system
@@ -91,9 +96,10 @@ impl Stage {
     pub(crate) fn set_priority<F: Fate>(&mut self, place: usize, value: u8, fate: &mut F)
         requires stage { IsStage self.old }
         requires live { IsLiveAt place self.old }
-        requires room { HasRoomToCall place self.old }
+        requires room { HasRoomToCall 1 place self.old }
         ensures stage { IsStage self.new }
         ensures called { Called F.answers place (Priority value) fate.old fate.new self.old self.new }
+        ensures uses { CallUses place self.old self.new.net }
     {
         self.stations[place]
             .system
@@ -112,9 +118,10 @@ impl Stage {
         requires stage { IsStage self.old }
         requires live { IsLiveAt place self.old }
         requires up { IsUpAt place port self.old }
-        requires room { HasRoomToCall place self.old }
+        requires room { HasRoomToCall 1 place self.old }
         ensures stage { IsStage self.new }
         ensures called { CalledWith F.answers place (Frame port frame.now) result fate.old fate.new self.old self.new }
+        ensures uses { CallUses place self.old self.new.net }
     {
         let answer = self.stations[place]
             .system

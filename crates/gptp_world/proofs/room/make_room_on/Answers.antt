@@ -23,7 +23,7 @@ pub returns-in_err-reserve-clause-kept : goal.returns-in_err-reserve-clause-kept
 returns-in_err-reserve-clause-kept c =
     let cables = c.args.cables.now in let link = c.args.link in let d = c.index-cables-link.result in
     let here = slice_get-get_or cables link d c.requires.link in
-    kept_on cables link (slice_index_or cables link d) _ c.args.pending.now c.args.pending.now here c.reserve.ensures.frames.up
+    kept_on cables link (slice_index_or cables link d) _ c.args.pending.now c.args.pending.now here
     c.reserve.ensures.room (λ other direction. omega arith)
 
 pub returns-clause-joins : goal.returns-clause-joins
@@ -43,7 +43,7 @@ pub returns-clause-kept : goal.returns-clause-kept
 returns-clause-kept c =
     let cables = c.args.cables.now in let link = c.args.link in let d = c.index-cables-link.result in
     let here = slice_get-get_or cables link d c.requires.link in
-    kept_on cables link (slice_index_or cables link d) _ c.args.pending.now c.reserve_arrivals.new.self here c.reserve.ensures.frames.up
+    kept_on cables link (slice_index_or cables link d) _ c.args.pending.now c.reserve_arrivals.new.self here
     c.reserve.ensures.room c.reserve_arrivals.ensures.room
 
 pub returns-clause-ok : goal.returns-clause-ok
@@ -51,5 +51,5 @@ returns-clause-ok c =
     let cables = c.args.cables.now in let link = c.args.link in let d = c.index-cables-link.result in
     let here = slice_get-get_or cables link d c.requires.link in
     on_ok c.reserve_arrivals.result _ _
-    (both_ways 2 link cables (slice_index_or cables link d) _ c.reserve_arrivals.new.self here c.in_ok-reserve.ensures.ok)
+    (both_ways c.args.frames link cables (slice_index_or cables link d) _ c.reserve_arrivals.new.self here c.in_ok-reserve.ensures.ok)
     c.reserve_arrivals.ensures.ok

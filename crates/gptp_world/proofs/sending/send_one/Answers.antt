@@ -1,6 +1,6 @@
 use Rattle.std.proofs.Common.{◌≡◌, slice_index_or, ap, ap₂, ◌∙◌}
 use Rattle.gptp_world.specs.declared.cable.Cable.{Cable}
-use Rattle.gptp_world.specs.Cable.{is_up_of, join_of}
+use Rattle.gptp_world.specs.Cable.{join_of}
 use Rattle.gptp_vector.specs.declared.port.PortId.{PortId}
 use Rattle.gptp_world.specs.Directory.{Join}
 use Rattle.gptp_world.proofs.PlaceLemmas.{read, stands, map-set_same}
@@ -17,7 +17,7 @@ returns-clause-sent g c = λ there is.
     let here = stands cables link room.cable d room.here in
     let same : slice_index_or cables link d ≡ there = read cables link there d is in
     let cable_is : slice_index_or cables link d ≡ room.cable = read cables link room.cable d room.here in
-    let up = ap (λ (x : Cable). x.link.up) cable_is ∙ room.up in
+    let up = ap (λ (x : Cable). x.link.up) cable_is ∙ c.requires.up room.cable room.here in
     let e = c.send_on-due.ensures in
     rw (← same) (sent g.F.Fate.answers c.args.now c.args.lane c.args.octets.items c.args.fate.now c.send_on-due.new.fate cables
     (slice_index_or cables link d) c.send_on-due.new.cable c.send_on-due.result c.args.pending.now c.await_arrival.new.pending
@@ -30,13 +30,6 @@ returns-clause-joins g c =
     let here = stands cables link room.cable d room.here in
     let e = c.send_on-due.ensures in
     map-set_same join_of cables link (slice_index_or cables link d) c.send_on-due.new.cable here (ap₂ made e.a e.b)
-
-pub returns-clause-ups : goal.returns-clause-ups
-returns-clause-ups g c =
-    let d = c.index-cables-lane.result in let cables = c.args.cables.now in let link = c.args.lane.link in
-    let room = c.requires.room in
-    let here = stands cables link room.cable d room.here in
-    map-set_same is_up_of cables link (slice_index_or cables link d) c.send_on-due.new.cable here c.send_on-due.ensures.others.up
 
 pub returns-clause-room : goal.returns-clause-room
 returns-clause-room g c = λ more other has.

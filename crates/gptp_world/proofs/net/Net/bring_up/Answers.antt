@@ -1,6 +1,8 @@
-use Rattle.std.proofs.Common.{◌≡◌, Some, refl, ap, sym, ◌∙◌}
+use Rattle.std.proofs.Common.{◌≡◌, Some, refl, ap, sym, ◌∙◌, arith}
 use Rattle.std.proofs.lemmas.Option.{slice_get-get_or}
 use Rattle.gptp_world.proofs.PlaceLemmas.{read}
+use Rattle.gptp_world.proofs.NeedLemmas.{uses_nothing}
+use Rattle.gptp_world.proofs.RoomLemmas.{kept_on}
 use Rattle.gptp_world.proofs.ChangingLemmas.{net_changed, still_net}
 use Rattle.gptp_world.proofs.net.Net.bring_up.Goals as goal
 
@@ -15,3 +17,12 @@ returns-clause-up c = λ cable there.
     let one = c.index_mut.result.now in let cables = c.args.self.now.cables.items in
     let is : one ≡ cable = c.index_mut.ensures.value ∙ read cables c.args.link cable one there in
     rw (← is) (net_changed cables c.args.link _ _ c.args.self.now.pending _ (let link = c.up.ensures in rw link refl) refl)
+
+pub returns-clause-uses : goal.returns-clause-uses
+returns-clause-uses c =
+    let one = c.index_mut.result.now in let cables = c.args.self.now.cables.items in
+    let here = slice_get-get_or cables c.args.link one c.requires.link ∙ ap Some (sym c.index_mut.ensures.value) in
+    let link = c.up.ensures in
+    uses_nothing c.args.self.now _ refl refl (omega arith) (omega arith)
+    (kept_on cables c.args.link one _ c.args.self.now.pending c.args.self.now.pending here
+    (rw link (record { from_a = omega arith; from_b = omega arith })) (λ other direction. omega arith))

@@ -1,4 +1,4 @@
-use Rattle.std.proofs.Common.{◌≡◌, Some, slice_get, ap, sym, ◌∙◌}
+use Rattle.std.proofs.Common.{◌≡◌, Some, ap, sym, ◌∙◌}
 use Rattle.std.proofs.lemmas.Option.{none-some, same_Some, slice_get-get_or, slice_get_within}
 use Rattle.gptp_world.specs.declared.cable.Lane.{Lane}
 use Rattle.gptp_world.proofs.NetLemmas.{known_cable, written_back}
@@ -17,13 +17,11 @@ returns-in-Some-clause-ok c =
     let e = c.make_room_on.ensures in let written = c.make_room_on.new.cables in
     let items = written_back c.args.self.now.cables c.as_mut_slice.result.now written c.as_mut_slice.ensures.value e.joins in
     on_ok c.make_room_on.result _ _
-    (λ room. λ clock here lane cable begins there up.
+    (λ room. λ clock here lane begins.
     let same : c.in-Some.lane ≡ lane = same_Some c.in-Some.lane lane (c.in-Some.ensures.only clock lane here begins) in
-    let stands : slice_get written c.in-Some.lane.link ≡ Some cable =
-    ap (λ (l : Lane). slice_get written l.link) same ∙ (ap (λ cs. slice_get cs lane.link) (sym items) ∙ there) in
-    rw (items, ← same) (room c.in-Some.lane.direction cable stands up))
+    rw (items, ← same) (room c.in-Some.lane.direction))
     e.ok
 
 pub returns-in-None-clause-ok : goal.returns-in-None-clause-ok
-returns-in-None-clause-ok c = λ clock here lane cable begins there up.
+returns-in-None-clause-ok c = λ clock here lane begins.
     absurd (none-some lane (c.in-None.ensures.only clock lane here begins))

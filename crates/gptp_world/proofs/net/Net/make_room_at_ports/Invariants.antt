@@ -9,7 +9,7 @@ invariant-loop-port l = record {
   within : l.port ≤ l.ports;
   net : IsNet l.self;
   only : OnlyRoom l.initial.self l.self;
-  room : HasRoomAtPorts l.place l.port l.self;
+  room : HasRoomAtPorts l.frames l.place l.port l.self;
 }
 
 abbrev pub decreases-loop-port : goal.decreases-loop-port

@@ -1,7 +1,9 @@
-use Rattle.std.proofs.Common.{◌≡◌, Some, refl, ap, sym, ◌∙◌}
+use Rattle.std.proofs.Common.{◌≡◌, Some, refl, ap, sym, ◌∙◌, arith}
 use Rattle.std.proofs.lemmas.Option.{slice_get-get_or}
 use Rattle.gptp_world.specs.Pending.{PendingState}
 use Rattle.gptp_world.proofs.PlaceLemmas.{read}
+use Rattle.gptp_world.proofs.NeedLemmas.{uses_nothing}
+use Rattle.gptp_world.proofs.RoomLemmas.{kept_on}
 use Rattle.gptp_world.proofs.ChangingLemmas.{net_changed, still_net}
 use Rattle.gptp_world.proofs.net.Net.take_down.Goals as goal
 
@@ -16,3 +18,11 @@ returns-clause-down c = λ cable there.
     let one = c.index_mut.result.now in let cables = c.args.self.now.cables.items in
     let is : one ≡ cable = c.index_mut.ensures.value ∙ read cables c.args.link cable one there in
     rw (← is) (net_changed cables c.args.link _ _ c.cancel_arrivals.new.self _ (let e = c.down.ensures in let bounds = e.bounds in let down = e.down in let from_a = e.from_a in let from_b = e.from_b in rw (bounds, down, from_a, from_b) refl) (ap (λ (p : PendingState). p.entries) c.cancel_arrivals.ensures.kept))
+
+pub returns-clause-uses : goal.returns-clause-uses
+returns-clause-uses c =
+    let one = c.index_mut.result.now in let cables = c.args.self.now.cables.items in
+    let here = slice_get-get_or cables c.args.link one c.requires.link ∙ ap Some (sym c.index_mut.ensures.value) in
+    let e = c.cancel_arrivals.ensures in
+    uses_nothing c.args.self.now _ refl (ap (λ (p : PendingState). p.systems) e.kept) e.room (omega arith)
+    (kept_on cables c.args.link one _ c.args.self.now.pending c.cancel_arrivals.new.self here c.down.ensures.room e.arrivals)

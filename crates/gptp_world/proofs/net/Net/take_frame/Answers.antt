@@ -1,9 +1,11 @@
-use Rattle.std.proofs.Common.{◌≡◌, Some, ap, sym, ◌∙◌}
+use Rattle.std.proofs.Common.{◌≡◌, Some, refl, ap, sym, ◌∙◌, arith}
 use Rattle.std.proofs.lemmas.List.{length-set}
 use Rattle.std.proofs.lemmas.Option.{same_Some}
 use Rattle.gptp_world.specs.Pending.{PendingState}
 use Rattle.gptp_world.proofs.PlaceLemmas.{read}
-use Rattle.gptp_world.proofs.ArrivingLemmas.{joins_kept, taken, room_kept}
+use Rattle.gptp_world.proofs.ArrivingLemmas.{joins_kept, taken}
+use Rattle.gptp_world.proofs.NeedLemmas.{uses_nothing}
+use Rattle.gptp_world.proofs.RoomLemmas.{kept_on}
 use Rattle.gptp_world.proofs.net.Net.take_frame.Goals as goal
 
 pub returns-clause-net : goal.returns-clause-net
@@ -31,11 +33,12 @@ returns-clause-takes c = λ cable there.
     rw (← is) (taken c.args.lane c.args.now c.deliver_on-octets.result.items cables one c.deliver_on-octets.new.cable c.args.self.now.pending
     c.take.new.self due.oldest due.rest here e.a e.b e.others (rw (← same) due.front) due.due_now e.taken entries)
 
-pub returns-clause-room : goal.returns-clause-room
-returns-clause-room c = λ more other has.
+pub returns-clause-uses : goal.returns-clause-uses
+returns-clause-uses c =
     let one = c.index_mut.result.now in let cables = c.args.self.now.cables.items in let due = c.requires.due in
     let is : one ≡ due.cable = c.index_mut.ensures.value ∙ read cables c.args.lane.link due.cable one due.here in
     let here = due.here ∙ ap Some (sym is) in
-    let e = c.deliver_on-octets.ensures in
-    room_kept more c.args.lane other cables one c.deliver_on-octets.new.cable c.args.self.now.pending c.take.new.self here e.others.up e.room
-    c.take.ensures.arrivals has
+    let e = c.deliver_on-octets.ensures in let systems = ap (λ (p : PendingState). p.systems) c.take.ensures.kept in
+    uses_nothing c.args.self.now _ refl systems c.take.ensures.room (omega arith)
+    (kept_on cables c.args.lane.link one c.deliver_on-octets.new.cable c.args.self.now.pending c.take.new.self here e.room
+    c.take.ensures.arrivals)

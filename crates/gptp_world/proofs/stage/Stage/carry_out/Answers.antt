@@ -3,27 +3,43 @@ use Rattle.gptp_system.specs.State.{clock}
 use Rattle.gptp_world.specs.Act.{all_timers, in_state}
 use Rattle.gptp_world.specs.Cable.{SentAll}
 use Rattle.gptp_world.specs.declared.station.Station.{Station}
-use Rattle.gptp_world.specs.Net.{between, HasRoomFor}
+use Rattle.gptp_world.specs.Net.{between}
+use Rattle.gptp_world.specs.Room.{for_sends, for_timers, HasRoom, Uses}
+use Rattle.gptp_world.specs.Stage.{for_left}
+use Rattle.gptp_world.proofs.NeedLemmas.{left_of, uses_both, uses_timers}
 use Rattle.gptp_world.proofs.PlaceLemmas.{read, get-set_same}
-use Rattle.gptp_world.proofs.StageLemmas.{called, room_with_timers, stays, timers_set}
+use Rattle.gptp_world.proofs.StageLemmas.{call_uses, called, stays, timers_set}
 use Rattle.gptp_world.proofs.stage.Stage.carry_out.Goals as goal
 
 pub send_all-requires-clause-room : goal.send_all-requires-clause-room
 send_all-requires-clause-room g c =
-    let one = c.index-station.result.now in
+    let one = c.index-station.result.now in let net = c.args.self.now.net in
     let is : one ≡ c.requires.station =
     c.index-station.ensures ∙ read c.args.self.now.stations.items c.args.place c.requires.station one c.requires.here in
     let used = 4 * length one.system.ports + 2 in
-    let room : HasRoomFor (clock one.system) c.args.self.now.outbox.items c.args.self.now.net = rw is c.requires.room in
-    let timers : used + length c.args.self.now.outbox.items ≤ c.args.self.now.net.pending.room = rw is c.requires.timers in
-    rw c.as_slice.ensures.value (room_with_timers used (clock one.system) c.args.self.now.outbox.items c.args.self.now.net c.set_timers.new.self
-    c.set_timers.ensures.only timers room)
+    let room : HasRoom (for_left one.system c.args.self.now.outbox.items) net = rw is c.requires.room in
+    rw c.as_slice.ensures.value (left_of (for_timers used) (for_sends (clock one.system) c.args.self.now.outbox.items) net
+    c.set_timers.new.self (uses_timers used net c.set_timers.new.self c.set_timers.ensures.only) room)
+
+pub returns-clause-uses : goal.returns-clause-uses
+returns-clause-uses g c = λ before input answer step given.
+    let one = c.index-station.result.now in let net = c.args.self.now.net in
+    let used = 4 * length one.system.ports + 2 in let sends = c.args.self.now.outbox.items in
+    let sent : Uses (for_sends (clock one.system) sends) c.set_timers.new.self c.send_all.new.self =
+    rw (← c.as_slice.ensures.value) c.send_all.ensures.uses in
+    let all : Uses (for_left one.system sends) net c.send_all.new.self =
+    uses_both (for_timers used) (for_sends (clock one.system) sends) net c.set_timers.new.self c.send_all.new.self
+    (uses_timers used net c.set_timers.new.self c.set_timers.ensures.only) sent in
+    call_uses before c.args.self.now c.send_all.new.self c.args.place input answer step given
+    (λ station here.
+    let is : one ≡ station = c.index-station.ensures ∙ read c.args.self.now.stations.items c.args.place station one here in
+    rw (← is) all)
 
 pub returns-clause-stage : goal.returns-clause-stage
 returns-clause-stage g c = λ before input answer is step.
     let t = c.set_timers.ensures.only in let e = c.send_all.ensures in
-    stays before c.args.self.now _ c.args.place input answer is step refl e.net (e.same.directory ∙ t.directory)
-    (e.same.systems ∙ t.systems) refl c.clear.ensures
+    stays before c.args.self.now _ c.args.place input answer is step refl e.net (e.uses.directory ∙ t.directory)
+    (e.uses.systems ∙ t.systems) refl c.clear.ensures
 
 pub returns-clause-called : goal.returns-clause-called
 returns-clause-called g c = λ before input answer step.

@@ -1,4 +1,5 @@
-use Rattle.std.proofs.Common.{refl}
+use Rattle.std.proofs.Common.{◌≡◌, refl, sym, ◌∙◌}
+use Rattle.std.proofs.lemmas.Option.{same_Some}
 use Rattle.gptp_system.specs.declared.answer.Answer.TheVariants as answers
 use Rattle.gptp_system.specs.Input.{Expires}
 use Rattle.gptp_world.proofs.StageLemmas.{carries, stepped}
@@ -25,3 +26,10 @@ returns-clause-called g c = record {
       (stepped c.args.self.now _ c.args.place (Expires c.args.timer) answers.Used c.index_mut.result.now c.on_timer.new.self
       c.requires.live c.index_mut.ensures.value c.on_timer.ensures refl refl refl refl);
 }
+
+pub returns-clause-uses : goal.returns-clause-uses
+returns-clause-uses g c =
+    c.carry_out.ensures.uses c.args.self.now (Expires c.args.timer) answers.Used
+    (stepped c.args.self.now _ c.args.place (Expires c.args.timer) answers.Used c.index_mut.result.now c.on_timer.new.self c.requires.live c.index_mut.ensures.value c.on_timer.ensures refl refl refl refl)
+    (λ station there. let due = c.requires.due in
+    let one : due.station ≡ station = same_Some due.station station (sym due.here ∙ there) in rw (← one) due.timer_of)

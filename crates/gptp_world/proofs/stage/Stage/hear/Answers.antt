@@ -22,3 +22,9 @@ returns-clause-called g c =
     c.carry_out.ensures.called c.args.self.now (Frame c.args.port c.args.frame.now) c.on_frame-answer.result
     (stepped c.args.self.now _ c.args.place (Frame c.args.port c.args.frame.now) c.on_frame-answer.result c.index_mut.result.now c.on_frame-answer.new.self
     c.requires.live c.index_mut.ensures.value c.on_frame-answer.ensures refl refl refl refl)
+
+pub returns-clause-uses : goal.returns-clause-uses
+returns-clause-uses g c =
+    c.carry_out.ensures.uses c.args.self.now (Frame c.args.port c.args.frame.now) c.on_frame-answer.result
+    (stepped c.args.self.now _ c.args.place (Frame c.args.port c.args.frame.now) c.on_frame-answer.result c.index_mut.result.now c.on_frame-answer.new.self c.requires.live c.index_mut.ensures.value c.on_frame-answer.ensures refl refl refl refl)
+    (λ station there. tt)

@@ -1,4 +1,5 @@
-use Rattle.std.proofs.Common.{refl}
+use Rattle.std.proofs.Common.{◌≡◌, refl, sym, ◌∙◌}
+use Rattle.std.proofs.lemmas.Option.{same_Some}
 use Rattle.gptp_system.specs.declared.answer.Answer.TheVariants as answers
 use Rattle.gptp_system.specs.Input.{PortUp}
 use Rattle.gptp_world.proofs.StageLemmas.{carries, stepped}
@@ -25,3 +26,10 @@ returns-clause-called g c = record {
       (stepped c.args.self.now _ c.args.place (PortUp c.args.port) answers.Used c.index_mut.result.now c.port_up.new.self
       c.requires.live c.index_mut.ensures.value c.port_up.ensures refl refl refl refl);
 }
+
+pub returns-clause-uses : goal.returns-clause-uses
+returns-clause-uses g c =
+    c.carry_out.ensures.uses c.args.self.now (PortUp c.args.port) answers.Used
+    (stepped c.args.self.now _ c.args.place (PortUp c.args.port) answers.Used c.index_mut.result.now c.port_up.new.self c.requires.live c.index_mut.ensures.value c.port_up.ensures refl refl refl refl)
+    (λ station there. let own = c.requires.port in
+    let one : own.station ≡ station = same_Some own.station station (sym own.here ∙ there) in rw (← one) own.port_of)

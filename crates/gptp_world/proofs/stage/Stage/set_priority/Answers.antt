@@ -25,3 +25,9 @@ returns-clause-called g c = record {
       (stepped c.args.self.now _ c.args.place (Priority c.args.value) answers.Used c.index_mut.result.now c.set_priority.new.self
       c.requires.live c.index_mut.ensures.value c.set_priority.ensures refl refl refl refl);
 }
+
+pub returns-clause-uses : goal.returns-clause-uses
+returns-clause-uses g c =
+    c.carry_out.ensures.uses c.args.self.now (Priority c.args.value) answers.Used
+    (stepped c.args.self.now _ c.args.place (Priority c.args.value) answers.Used c.index_mut.result.now c.set_priority.new.self c.requires.live c.index_mut.ensures.value c.set_priority.ensures refl refl refl refl)
+    (λ station there. tt)
