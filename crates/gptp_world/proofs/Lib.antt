@@ -1,3 +1,4 @@
+pub mod AgreeLemmas
 pub mod PlaceLemmas
 pub mod SendingLemmas
 pub mod NetLemmas
