@@ -5,6 +5,7 @@ use Rattle.std.proofs.lemmas.Bool.Decides.{nat_tests}
 use Rattle.std.proofs.lemmas.List.{map-append}
 use Rattle.std.proofs.lemmas.Option.{none-some, same_Some}
 use Rattle.gptp_graph.specs.Members.{In}
+use Rattle.gptp_vector.specs.declared.port.PortId.{PortId}
 use Rattle.gptp_links.specs.declared.bounds.Bounds.{Bounds}
 use Rattle.gptp_links.specs.declared.link.Direction.{Direction}
 use Rattle.gptp_links.specs.declared.link.Direction.TheVariants.{FromA, FromB}
@@ -15,8 +16,8 @@ use Rattle.gptp_system.specs.declared.port.Port.{Port}
 use Rattle.gptp_system.specs.declared.sending.Sending.{Sending}
 use Rattle.gptp_system.specs.declared.timer.Timer.{Timer}
 use Rattle.gptp_system.specs.declared.timer.Timer.TheVariants as timers
-use Rattle.gptp_system.specs.Input.{Input}
-use Rattle.gptp_system.specs.State.{SystemState, due, number}
+use Rattle.gptp_system.specs.Input.{Input, Frame as FrameHeard, Expires as TimerExpires}
+use Rattle.gptp_system.specs.State.{SystemState, due, number, own}
 use Rattle.gptp_system.proofs.FactLemmas.{keeps_length}
 use Rattle.gptp_system.proofs.StepLemmas.{steps_sound}
 use Rattle.gptp_world.specs.declared.item.Item.{Item}
@@ -24,7 +25,7 @@ use Rattle.gptp_world.specs.declared.item.Item.TheVariants.{Expiry, Arrival}
 use Rattle.gptp_world.specs.declared.station.Station.{Station}
 use Rattle.gptp_world.specs.Item.{same_item}
 use Rattle.gptp_world.specs.Pending.{Entry, times, put, without, without_first, listed, set_due}
-use Rattle.gptp_world.specs.World.{Channel, Net, WorldState, queue, with_queue, timers_from, station_due}
+use Rattle.gptp_world.specs.World.{Channel, Net, WorldState, receiver, queue, with_queue, timers_from, station_due}
 use Rattle.gptp_world.specs.Sends.{entered, written, SendsAll, SendsOne}
 use Rattle.gptp_world.specs.Act.{all_timers, in_state, set_timers, Calls, Delivers, Expires, Hears, Takes}
 use Rattle.gptp_world.specs.Changing.{with_station}
@@ -315,3 +316,100 @@ queue_agrees place direction w channel frames es here own others agrees =
     (λ way. both_ways place direction way channel frames w.net.pending es own others
     (λ d. agrees (Arrival place d) ∙ ap (flying d) here))
     (only_arrivals place direction w.net.pending es others) agrees
+
+-- ---- what a system sends
+
+-- a frame is sent, or lost
+pub entered_agrees : (place : ℕ) (direction : Direction) (channel : Channel) (now : ℕ) (octets : List ℕ) (answer : Option ℕ)
+    (w : WorldState) → slice_get w.net.channels place ≡ Some channel → Agrees w
+    → Agrees (record w { net = entered place direction channel now octets answer w.net })
+entered_agrees place direction channel now octets None w here agrees = agrees
+entered_agrees place direction channel now octets (Some delay) w here agrees =
+    let at : ℕ = due_after (queue direction channel) now delay in
+    let sent : Frame = frame at octets in
+    let i : Item = Arrival place direction in
+    let before : times i w.net.pending ≡ dues (queue direction channel) = agrees i ∙ ap (flying direction) here in
+    let after : times i (put at i w.net.pending) ≡ dues (queue direction channel ++ sent ∷ []) =
+    times-put_same i at w.net.pending ∙ ap (λ ts. ts ++ at ∷ []) before
+    ∙ sym (map-append (λ (f : Frame). f.due) (queue direction channel) (sent ∷ [])) in
+    queue_agrees place direction w channel (queue direction channel ++ sent ∷ []) (put at i w.net.pending) here after
+    (λ j differ. times-put_other i j at w.net.pending differ) agrees
+
+pub sends_one_agrees : (now : ℕ) (from : PortId) (octets : List ℕ) (draw : Draw) (w : WorldState) (net' : Net)
+    → SendsOne now from octets draw w.net net' → Agrees w → Agrees (record w { net = net' })
+sends_one_agrees now from octets draw w net' one agrees =
+    subst (λ n. Agrees (record w { net = n })) (sym one.after)
+    (entered_agrees one.place one.direction one.channel now octets draw.answer w one.here agrees)
+
+pub sends_agree : (now : ℕ) (s : SystemState) (xs : List Sending) (draws : List Draw) (w : WorldState) (net' : Net)
+    → SendsAll now s xs draws w.net net' → Agrees w → Agrees (record w { net = net' })
+sends_agree now s [] draws w net' sends agrees = subst (λ n. Agrees (record w { net = n })) (sym sends.1) agrees
+sends_agree now s (x ∷ xs) draws w net' (inl (draw, rest, between, is, one, sends)) agrees =
+    sends_agree now s xs rest (record w { net = between }) net' sends
+    (sends_one_agrees now (own s x.port) (written s x) draw w between one agrees)
+sends_agree now s (x ∷ xs) draws w net' (inr (unlinked, sends)) agrees = sends_agree now s xs draws w net' sends agrees
+
+-- ---- one call of one system
+
+-- After a call everything agrees, where before it everything did but the timers of that system.
+pub calls_agree : (place : ℕ) (input : Input) (w : WorldState) (draws : List Draw) (answer : Answer) (w' : WorldState)
+    → Calls place input w draws answer w' → AgreesBut place w → Agrees w'
+calls_agree place input w draws answer w' calls but =
+    let new : Station = in_state calls.after calls.station in
+    let count = keeps_length calls.station.system calls.after
+    (steps_sound input w.time calls.station.system calls.after calls.sends answer calls.steps).kept in
+    subst Agrees (sym calls.is)
+    (sends_agree w.time calls.after calls.sends draws (replaced place new w) calls.net calls.sent
+    (replaced_agrees place w calls.station new calls.here count but))
+
+-- ---- a delivery
+
+-- the oldest frame leaves
+pub takes_agree : (place : ℕ) (direction : Direction) (now : ℕ) (octets : List ℕ) (channel : Channel) (w : WorldState)
+    (net' : Net) → Takes place direction now octets channel w.net net' → Agrees w → Agrees (record w { net = net' })
+takes_agree place direction now octets channel w net' takes agrees =
+    let i : Item = Arrival place direction in
+    let before : times i w.net.pending ≡ dues (frame now octets ∷ takes.rest) =
+    agrees i ∙ ap (flying direction) takes.here ∙ ap dues takes.front in
+    let after : times i (without_first i w.net.pending) ≡ dues takes.rest =
+    times-without_first_same i w.net.pending ∙ ap (drop 1) before in
+    subst (λ n. Agrees (record w { net = n })) (sym takes.is)
+    (queue_agrees place direction w channel takes.rest (without_first i w.net.pending) takes.here after
+    (λ j differ. times-without_first_other i j w.net.pending differ) agrees)
+
+pub hears_agree : (place port : ℕ) (octets : List ℕ) (w : WorldState) (draws : List Draw) (answer : Option Answer)
+    (w' : WorldState) → Hears place port octets w draws answer w' → Agrees w → Agrees w'
+hears_agree place port octets w draws (Some answer) w' hears agrees =
+    calls_agree place (FrameHeard port octets) w draws answer w' hears (agrees_but place w agrees)
+hears_agree place port octets w draws None w' hears agrees = subst Agrees (sym hears.2) agrees
+
+pub delivers_agree : (link : ℕ) (direction : Direction) (octets : List ℕ) (w : WorldState) (draws : List Draw)
+    (answer : Option Answer) (w' : WorldState) → Delivers link direction octets w draws answer w' → Agrees w → Agrees w'
+delivers_agree link direction octets w draws answer w' delivers agrees =
+    hears_agree delivers.place (receiver direction delivers.channel).port octets (record w { net = delivers.net }) draws
+    answer w' delivers.hears
+    (takes_agree link direction w.time octets delivers.channel w delivers.net delivers.takes agrees)
+
+-- ---- an expiry
+
+-- a timer's entry is taken
+pub stopped_agrees_but : (place : ℕ) (timer : Timer) (w : WorldState) → Agrees w
+    → AgreesBut place (record w { net = record w.net { pending = without_first (Expiry place timer) w.net.pending } })
+stopped_agrees_but place timer w agrees =
+    let i : Item = Expiry place timer in let es : List Entry = w.net.pending in record {
+      arrivals = λ link direction.
+          times-without_first_other i (Arrival link direction) es (no_timer link direction place timer)
+          ∙ agrees (Arrival link direction);
+      others = λ other t apart.
+          times-without_first_other i (Expiry other t) es (other_system other place t timer apart)
+          ∙ agrees (Expiry other t);
+      only = λ station here.
+          only_without_first place station.system.ports i es ((agrees_but place w agrees).only station here);
+    }
+
+pub expires_agree : (place : ℕ) (timer : Timer) (w : WorldState) (draws : List Draw) (w' : WorldState)
+    → Expires place timer w draws w' → Agrees w → Agrees w'
+expires_agree place timer w draws w' expires agrees =
+    calls_agree place (TimerExpires timer)
+    (record w { net = record w.net { pending = without_first (Expiry place timer) w.net.pending } }) draws expires.answer w'
+    expires.calls (stopped_agrees_but place timer w agrees)
