@@ -16,7 +16,7 @@ use Rattle.gptp_system.specs.declared.port.Port.{Port}
 use Rattle.gptp_system.specs.declared.sending.Sending.{Sending}
 use Rattle.gptp_system.specs.declared.timer.Timer.{Timer}
 use Rattle.gptp_system.specs.declared.timer.Timer.TheVariants as timers
-use Rattle.gptp_system.specs.Input.{Input, Frame as FrameHeard, Expires as TimerExpires}
+use Rattle.gptp_system.specs.Input.{Input, PortUp, PortDown, Frame as FrameHeard, Expires as TimerExpires}
 use Rattle.gptp_system.specs.State.{SystemState, due, number, own}
 use Rattle.gptp_system.proofs.FactLemmas.{keeps_length}
 use Rattle.gptp_system.proofs.StepLemmas.{steps_sound}
@@ -28,9 +28,9 @@ use Rattle.gptp_world.specs.Pending.{Entry, times, put, without, without_first, 
 use Rattle.gptp_world.specs.World.{Channel, Net, WorldState, receiver, queue, with_queue, timers_from, station_due}
 use Rattle.gptp_world.specs.Sends.{entered, written, SendsAll, SendsOne}
 use Rattle.gptp_world.specs.Act.{all_timers, in_state, set_timers, Calls, Delivers, Expires, Hears, Takes}
-use Rattle.gptp_world.specs.Changing.{with_station}
+use Rattle.gptp_world.specs.Changing.{brought_up, failed, lost, taken_down, with_bounds, with_channel, with_station, CallsAll, CallsIfLive, ComesUpIf, FailsIf, GoesDownIf, TellsEnds}
 use Rattle.gptp_world.specs.Agrees.{expected, Agrees, AgreesBut, OnlyItsTimers}
-use Rattle.gptp_world.proofs.PendingLemmas.{times-put_same, times-put_other, times-without_first_same, times-without_first_other}
+use Rattle.gptp_world.proofs.PendingLemmas.{times-put_same, times-put_other, times-without_same, times-without_other, times-without_first_same, times-without_first_other}
 use Rattle.gptp_world.proofs.PlaceLemmas.{get-set_same, get-set_other, same_place}
 use Rattle.gptp_world.proofs.TimerLemmas.{are_set, item_is, no_timer, other_system, set_all, stays_set, times-set_all_arrival, times-set_all_elsewhere, IsSet}
 
@@ -413,3 +413,113 @@ expires_agree place timer w draws w' expires agrees =
     calls_agree place (TimerExpires timer)
     (record w { net = record w.net { pending = without_first (Expiry place timer) w.net.pending } }) draws expires.answer w'
     expires.calls (stopped_agrees_but place timer w agrees)
+
+-- ---- calls one after another
+
+pub calls_if_live_agree : (place : ℕ) (input : Input) (w : WorldState) (draws : List Draw) (w' : WorldState)
+    → CallsIfLive place input w draws w' → Agrees w → Agrees w'
+calls_if_live_agree place input w draws w' (inl (answer, calls)) agrees =
+    calls_agree place input w draws answer w' calls (agrees_but place w agrees)
+calls_if_live_agree place input w draws w' (inr (fails, none, is)) agrees = subst Agrees (sym is) agrees
+
+pub tells_ends_agree : (input : ℕ → Input) (channel : Channel) (w : WorldState) (draws : List Draw) (w' : WorldState)
+    → TellsEnds input channel w draws w' → Agrees w → Agrees w'
+tells_ends_agree input channel w draws w' tells agrees =
+    calls_if_live_agree tells.place_b (input channel.b.port) tells.between tells.second w' tells.at_b
+    (calls_if_live_agree tells.place_a (input channel.a.port) w tells.first tells.between tells.at_a agrees)
+
+pub calls_all_agree : (place : ℕ) (inputs : List Input) (w : WorldState) (draws : List Draw) (w' : WorldState)
+    → CallsAll place inputs w draws w' → Agrees w → Agrees w'
+calls_all_agree place [] w draws w' calls agrees = subst Agrees (sym calls.1) agrees
+calls_all_agree place (input ∷ inputs) w draws w' (first, rest, between, answer, is, calls, more) agrees =
+    calls_all_agree place inputs between rest w' more
+    (calls_agree place input w first answer between calls (agrees_but place w agrees))
+
+-- ---- a system fails
+
+pub fails_agree : (place : ℕ) (station : Station) (w : WorldState) → slice_get w.stations place ≡ Some station → Agrees w
+    → Agrees (failed place station w)
+fails_agree place station w here agrees =
+    replaced_agrees place w station (record station { live = false }) here refl (agrees_but place w agrees)
+
+pub fails_if_agree : (live : Bool) (place : ℕ) (station : Station) (w : WorldState) (draws : List Draw) (w' : WorldState)
+    → slice_get w.stations place ≡ Some station → FailsIf live place station w draws w' → Agrees w → Agrees w'
+fails_if_agree true place station w draws w' here fails agrees =
+    subst Agrees (sym fails.1) (fails_agree place station w here agrees)
+fails_if_agree false place station w draws w' here fails agrees = subst Agrees (sym fails.1) agrees
+
+-- ---- a link changes
+
+pub only_arrivals-on : (place : ℕ) (first second third : List Entry) → OnlyArrivals place first second
+    → OnlyArrivals place second third → OnlyArrivals place first third
+only_arrivals-on place first second third a b = record {
+  timers = λ other timer. b.timers other timer ∙ a.timers other timer;
+  arrivals = λ link direction apart. b.arrivals link direction apart ∙ a.arrivals link direction apart;
+}
+
+-- nothing of a link that goes down is pending
+none_arrives : (place : ℕ) (direction : Direction) (es : List Entry)
+    → times (Arrival place direction) (without (Arrival place FromB) (without (Arrival place FromA) es)) ≡ []
+none_arrives place FromA es =
+    times-without_other (Arrival place FromB) (Arrival place FromA) (without (Arrival place FromA) es) (other_way place)
+    ∙ times-without_same (Arrival place FromA) es
+none_arrives place FromB es = times-without_same (Arrival place FromB) (without (Arrival place FromA) es)
+
+none_flies : (direction : Direction) (channel : Channel) → dues (queue direction (lost channel)) ≡ []
+none_flies FromA channel = refl
+none_flies FromB channel = refl
+
+pub taken_down_agrees : (place : ℕ) (channel : Channel) (w : WorldState) → slice_get w.net.channels place ≡ Some channel
+    → Agrees w → Agrees (record w { net = taken_down place channel w.net })
+taken_down_agrees place channel w here agrees =
+    let es : List Entry = w.net.pending in
+    let first : List Entry = without (Arrival place FromA) es in
+    let second : List Entry = without (Arrival place FromB) first in
+    let only = only_arrivals-on place es first second
+    (only_arrivals place FromA es first (λ i differ. times-without_other (Arrival place FromA) i es differ))
+    (only_arrivals place FromB first second (λ i differ. times-without_other (Arrival place FromB) i first differ)) in
+    relinked_agrees place w channel (lost channel) second here
+    (λ direction. none_arrives place direction es ∙ sym (none_flies direction channel)) only agrees
+
+-- a link changes, and what is in flight stays
+pub with_channel_agrees : (place : ℕ) (w : WorldState) (old new : Channel) → slice_get w.net.channels place ≡ Some old
+    → ((direction : Direction) → queue direction new ≡ queue direction old) → Agrees w
+    → Agrees (record w { net = with_channel place new w.net })
+with_channel_agrees place w old new here same agrees =
+    relinked_agrees place w old new w.net.pending here
+    (λ direction. agrees (Arrival place direction) ∙ ap (flying direction) here ∙ ap dues (sym (same direction)))
+    (record { timers = λ other timer. refl; arrivals = λ link direction apart. refl }) agrees
+
+same_queues : (a b : PortId) (bounds other : Bounds) (up down : Bool) (x y : List Frame) (direction : Direction)
+    → queue direction (record { a = a; b = b; bounds = bounds; up = up; from_a = x; from_b = y })
+    ≡ queue direction (record { a = a; b = b; bounds = other; up = down; from_a = x; from_b = y })
+same_queues a b bounds other up down x y FromA = refl
+same_queues a b bounds other up down x y FromB = refl
+
+pub brought_up_agrees : (place : ℕ) (channel : Channel) (w : WorldState) → slice_get w.net.channels place ≡ Some channel
+    → Agrees w → Agrees (record w { net = brought_up place channel w.net })
+brought_up_agrees place channel w here agrees =
+    with_channel_agrees place w channel (record channel { up = true }) here
+    (same_queues channel.a channel.b channel.bounds channel.bounds true channel.up channel.from_a channel.from_b) agrees
+
+pub with_bounds_agrees : (bounds : Bounds) (place : ℕ) (channel : Channel) (w : WorldState)
+    → slice_get w.net.channels place ≡ Some channel → Agrees w
+    → Agrees (record w { net = with_bounds bounds place channel w.net })
+with_bounds_agrees bounds place channel w here agrees =
+    with_channel_agrees place w channel (record channel { bounds = bounds }) here
+    (same_queues channel.a channel.b bounds channel.bounds channel.up channel.up channel.from_a channel.from_b) agrees
+
+pub goes_down_if_agree : (up : Bool) (place : ℕ) (channel : Channel) (w : WorldState) (draws : List Draw) (w' : WorldState)
+    → slice_get w.net.channels place ≡ Some channel → GoesDownIf up place channel w draws w' → Agrees w → Agrees w'
+goes_down_if_agree false place channel w draws w' here goes agrees = subst Agrees (sym goes.1) agrees
+goes_down_if_agree true place channel w draws w' here goes agrees =
+    tells_ends_agree PortDown channel (record w { net = taken_down place channel w.net }) draws w' goes
+    (taken_down_agrees place channel w here agrees)
+
+pub comes_up_if_agree : (up : Bool) (place : ℕ) (channel : Channel) (w : WorldState) (draws : List Draw) (w' : WorldState)
+    → slice_get w.net.channels place ≡ Some channel → ComesUpIf up place channel w draws w' → Agrees w → Agrees w'
+comes_up_if_agree true place channel w draws w' here comes agrees = subst Agrees (sym comes.1) agrees
+comes_up_if_agree false place channel w draws w' here comes agrees =
+    tells_ends_agree PortUp channel (record w { net = brought_up place channel w.net }) draws w' comes
+    (brought_up_agrees place channel w here agrees)
+
