@@ -24,7 +24,7 @@ use Rattle.gptp_world.specs.World.{Channel, Net, WorldState, receiver, queue, wi
 use Rattle.gptp_world.specs.Sends.{entered, written, SendsAll, SendsOne}
 use Rattle.gptp_world.specs.Act.{all_timers, in_state, set_timers, Calls, Delivers, Expires, Hears, Takes}
 use Rattle.gptp_world.specs.Changing.{with_station, CallsAll, CallsIfLive, TellsEnds}
-use Rattle.gptp_world.specs.Agrees.{expected, Agrees, AgreesBut}
+use Rattle.gptp_world.specs.Agrees.{expected, stopped, Agrees, AgreesBut}
 use Rattle.gptp_world.proofs.OwnTimerLemmas.{only_same_count, only_without_first, set_timers_is, station_timer, timers_agree}
 use Rattle.gptp_world.proofs.PendingLemmas.{times-put_same, times-put_other, times-without_first_same, times-without_first_other}
 use Rattle.gptp_world.proofs.PlaceLemmas.{get-set_same, get-set_other, same_place}
@@ -40,8 +40,8 @@ abbrev pub dues : List Frame → List ℕ
 dues = map (λ (f : Frame). f.due)
 
 -- when the frames in flight are due, on what stands at a place
-abbrev pub flying : Direction → Option Channel → List ℕ
-flying direction here = option_map_or (λ channel. dues (queue direction channel)) here []
+abbrev pub arriving : Direction → Option Channel → List ℕ
+arriving direction here = option_map_or (λ channel. dues (queue direction channel)) here []
 
 -- only the systems and what is between them matter
 pub agrees_same : (v w : WorldState) → w.stations ≡ v.stations → w.net ≡ v.net → Agrees v → Agrees w
@@ -121,7 +121,8 @@ back_way l = grind (arith, nat_tests)
 
 -- where all other items are pending as before
 pub only_arrivals : (place : ℕ) (direction : Direction) (es es' : List Entry)
-    → ((i : Item) → same_item i (Arrival place direction) ≡ false → times i es' ≡ times i es) → OnlyArrivals place es es'
+    → ((i : Item) → same_item i (Arrival place direction) ≡ false → times i es' ≡ times i es)
+    → OnlyArrivals place es es'
 only_arrivals place direction es es' others = record {
   timers = λ other timer. others (Expiry other timer) (no_arrival other timer place direction);
   arrivals = λ link way apart. others (Arrival link way) (other_link link place way direction apart);
@@ -138,11 +139,11 @@ relinked_agrees place w old new es here own only agrees (Expiry other timer) =
 relinked_agrees place w old new es here own only agrees (Arrival link direction) = by (same_place link place)
   where
     by : (link ≡ place) ⊎ (link ≢ place)
-        → times (Arrival link direction) es ≡ flying direction (slice_get (slice_set w.net.channels place new) link)
+        → times (Arrival link direction) es ≡ arriving direction (slice_get (slice_set w.net.channels place new) link)
     by (inl same) = let there = get-set_same w.net.channels place old new here in rw (same, there) (own direction)
     by (inr apart) =
         only.arrivals link direction apart ∙ agrees (Arrival link direction)
-        ∙ sym (ap (flying direction) (get-set_other w.net.channels place link new apart))
+        ∙ sym (ap (arriving direction) (get-set_other w.net.channels place link new apart))
 
 -- what is pending in both directions where the queue of one has changed
 both_ways : (place : ℕ) (direction way : Direction) (channel : Channel) (frames : List Frame) (es es' : List Entry)
@@ -158,31 +159,33 @@ both_ways place FromB FromA channel frames es es' own others before =
 both_ways place FromB FromB channel frames es es' own others before = own
 
 -- the frames in flight in one direction of a link become others, and what is pending of them follows
-pub queue_agrees : (place : ℕ) (direction : Direction) (w : WorldState) (channel : Channel) (frames : List Frame) (es : List Entry)
-    → slice_get w.net.channels place ≡ Some channel → times (Arrival place direction) es ≡ dues frames
+pub queue_agrees : (place : ℕ) (direction : Direction) (w : WorldState) (channel : Channel) (frames : List Frame)
+    (es : List Entry) → slice_get w.net.channels place ≡ Some channel → times (Arrival place direction) es ≡ dues frames
     → ((i : Item) → same_item i (Arrival place direction) ≡ false → times i es ≡ times i w.net.pending) → Agrees w
-    → Agrees (record w { net = record {
-      channels = slice_set w.net.channels place (with_queue direction frames channel);
-      pending = es;
-    } })
+    → Agrees (record w {
+      net = record {
+        channels = slice_set w.net.channels place (with_queue direction frames channel);
+        pending = es;
+      };
+    })
 queue_agrees place direction w channel frames es here own others agrees =
     relinked_agrees place w channel (with_queue direction frames channel) es here
     (λ way. both_ways place direction way channel frames w.net.pending es own others
-    (λ d. agrees (Arrival place d) ∙ ap (flying d) here))
+    (λ d. agrees (Arrival place d) ∙ ap (arriving d) here))
     (only_arrivals place direction w.net.pending es others) agrees
 
 -- ---- what a system sends
 
 -- a frame is sent, or lost
-pub entered_agrees : (place : ℕ) (direction : Direction) (channel : Channel) (now : ℕ) (octets : List ℕ) (answer : Option ℕ)
-    (w : WorldState) → slice_get w.net.channels place ≡ Some channel → Agrees w
+pub entered_agrees : (place : ℕ) (direction : Direction) (channel : Channel) (now : ℕ) (octets : List ℕ)
+    (answer : Option ℕ) (w : WorldState) → slice_get w.net.channels place ≡ Some channel → Agrees w
     → Agrees (record w { net = entered place direction channel now octets answer w.net })
 entered_agrees place direction channel now octets None w here agrees = agrees
 entered_agrees place direction channel now octets (Some delay) w here agrees =
     let at : ℕ = due_after (queue direction channel) now delay in
     let sent : Frame = frame at octets in
     let i : Item = Arrival place direction in
-    let before : times i w.net.pending ≡ dues (queue direction channel) = agrees i ∙ ap (flying direction) here in
+    let before : times i w.net.pending ≡ dues (queue direction channel) = agrees i ∙ ap (arriving direction) here in
     let after : times i (put at i w.net.pending) ≡ dues (queue direction channel ++ sent ∷ []) =
     times-put_same i at w.net.pending ∙ ap (λ ts. ts ++ at ∷ []) before
     ∙ sym (map-append (λ (f : Frame). f.due) (queue direction channel) (sent ∷ [])) in
@@ -224,7 +227,7 @@ pub takes_agree : (place : ℕ) (direction : Direction) (now : ℕ) (octets : Li
 takes_agree place direction now octets channel w net' agrees takes =
     let i : Item = Arrival place direction in
     let before : times i w.net.pending ≡ dues (frame now octets ∷ takes.rest) =
-    agrees i ∙ ap (flying direction) takes.here ∙ ap dues takes.front in
+    agrees i ∙ ap (arriving direction) takes.here ∙ ap dues takes.front in
     let after : times i (without_first i w.net.pending) ≡ dues takes.rest =
     times-without_first_same i w.net.pending ∙ ap (drop 1) before in
     subst (λ n. Agrees (record w { net = n })) (sym takes.is)
@@ -248,7 +251,7 @@ delivers_agree link direction octets w draws answer w' agrees delivers =
 
 -- a timer's entry is taken
 pub stopped_agrees_but : (place : ℕ) (timer : Timer) (w : WorldState) → Agrees w
-    → AgreesBut place (record w { net = record w.net { pending = without_first (Expiry place timer) w.net.pending } })
+    → AgreesBut place (stopped place timer w)
 stopped_agrees_but place timer w agrees =
     let i : Item = Expiry place timer in let es : List Entry = w.net.pending in record {
       arrivals = λ link direction.
@@ -264,9 +267,8 @@ stopped_agrees_but place timer w agrees =
 pub expires_agree : (place : ℕ) (timer : Timer) (w : WorldState) (draws : List Draw) (w' : WorldState)
     → Agrees w → Expires place timer w draws w' → Agrees w'
 expires_agree place timer w draws w' agrees expires =
-    calls_agree place (TimerExpires timer)
-    (record w { net = record w.net { pending = without_first (Expiry place timer) w.net.pending } }) draws expires.answer w'
-    expires.calls (stopped_agrees_but place timer w agrees)
+    calls_agree place (TimerExpires timer) (stopped place timer w) draws expires.answer w' expires.calls
+    (stopped_agrees_but place timer w agrees)
 
 -- ---- calls one after another
 

@@ -16,20 +16,21 @@ use Rattle.gptp_world.specs.Pending.{Entry, times, without, listed}
 use Rattle.gptp_world.specs.World.{Channel, Net, WorldState, queue, station_due}
 use Rattle.gptp_world.specs.Changing.{brought_up, failed, fresh, lost, taken_down, up_ports, with_bounds, with_channel, with_setup, with_station, ComesUpIf, FailsIf, GoesDownIf, RecoversIf, Starts, StartsAll}
 use Rattle.gptp_world.specs.Agrees.{Agrees, AgreesBut, HasItsPorts, HaveTheirPorts}
-use Rattle.gptp_world.proofs.AgreeLemmas.{agrees_but, calls_all_agree, dues, flying, only_arrivals, other_way, relinked_agrees, replaced, replaced_agrees, running, tells_ends_agree, OnlyArrivals}
+use Rattle.gptp_world.proofs.AgreeLemmas.{agrees_but, calls_all_agree, dues, arriving, only_arrivals, other_way, relinked_agrees, replaced, replaced_agrees, running, tells_ends_agree, OnlyArrivals}
 use Rattle.gptp_world.proofs.PendingLemmas.{times-without_same, times-without_other}
 use Rattle.gptp_world.proofs.PlaceLemmas.{get-set_same, get-set_other, same_place}
 use Rattle.gptp_world.proofs.PortCountLemmas.{starts_have_ports}
 
 -- ---- a system fails
 
-pub fails_agree : (place : ℕ) (station : Station) (w : WorldState) → slice_get w.stations place ≡ Some station → Agrees w
-    → Agrees (failed place station w)
+pub fails_agree : (place : ℕ) (station : Station) (w : WorldState) → slice_get w.stations place ≡ Some station
+    → Agrees w → Agrees (failed place station w)
 fails_agree place station w here agrees =
     replaced_agrees place w station (record station { live = false }) here refl (agrees_but place w agrees)
 
-pub fails_if_agree : (live : Bool) (place : ℕ) (station : Station) (w : WorldState) (draws : List Draw) (w' : WorldState)
-    → slice_get w.stations place ≡ Some station → Agrees w → FailsIf live place station w draws w' → Agrees w'
+pub fails_if_agree : (live : Bool) (place : ℕ) (station : Station) (w : WorldState) (draws : List Draw)
+    (w' : WorldState) → slice_get w.stations place ≡ Some station → Agrees w
+    → FailsIf live place station w draws w' → Agrees w'
 fails_if_agree true place station w draws w' here agrees fails =
     subst Agrees (sym fails.1) (fails_agree place station w here agrees)
 fails_if_agree false place station w draws w' here agrees fails = subst Agrees (sym fails.1) agrees
@@ -51,9 +52,9 @@ none_arrives place FromA es =
     ∙ times-without_same (Arrival place FromA) es
 none_arrives place FromB es = times-without_same (Arrival place FromB) (without (Arrival place FromA) es)
 
-none_flies : (direction : Direction) (channel : Channel) → dues (queue direction (lost channel)) ≡ []
-none_flies FromA channel = refl
-none_flies FromB channel = refl
+none_in_flight : (direction : Direction) (channel : Channel) → dues (queue direction (lost channel)) ≡ []
+none_in_flight FromA channel = refl
+none_in_flight FromB channel = refl
 
 pub taken_down_agrees : (place : ℕ) (channel : Channel) (w : WorldState) → slice_get w.net.channels place ≡ Some channel
     → Agrees w → Agrees (record w { net = taken_down place channel w.net })
@@ -65,7 +66,7 @@ taken_down_agrees place channel w here agrees =
     (only_arrivals place FromA es first (λ i differ. times-without_other (Arrival place FromA) i es differ))
     (only_arrivals place FromB first second (λ i differ. times-without_other (Arrival place FromB) i first differ)) in
     relinked_agrees place w channel (lost channel) second here
-    (λ direction. none_arrives place direction es ∙ sym (none_flies direction channel)) only agrees
+    (λ direction. none_arrives place direction es ∙ sym (none_in_flight direction channel)) only agrees
 
 -- a link changes, and what is in flight stays
 pub with_channel_agrees : (place : ℕ) (w : WorldState) (old new : Channel) → slice_get w.net.channels place ≡ Some old
@@ -73,7 +74,7 @@ pub with_channel_agrees : (place : ℕ) (w : WorldState) (old new : Channel) →
     → Agrees (record w { net = with_channel place new w.net })
 with_channel_agrees place w old new here same agrees =
     relinked_agrees place w old new w.net.pending here
-    (λ direction. agrees (Arrival place direction) ∙ ap (flying direction) here ∙ ap dues (sym (same direction)))
+    (λ direction. agrees (Arrival place direction) ∙ ap (arriving direction) here ∙ ap dues (sym (same direction)))
     (record { timers = λ other timer. refl; arrivals = λ link direction apart. refl }) agrees
 
 same_queues : (a b : PortId) (bounds other : Bounds) (up down : Bool) (x y : List Frame) (direction : Direction)
@@ -95,15 +96,17 @@ with_bounds_agrees bounds place channel w here agrees =
     with_channel_agrees place w channel (record channel { bounds = bounds }) here
     (same_queues channel.a channel.b bounds channel.bounds channel.up channel.up channel.from_a channel.from_b) agrees
 
-pub goes_down_if_agree : (up : Bool) (place : ℕ) (channel : Channel) (w : WorldState) (draws : List Draw) (w' : WorldState)
-    → slice_get w.net.channels place ≡ Some channel → Agrees w → GoesDownIf up place channel w draws w' → Agrees w'
+pub goes_down_if_agree : (up : Bool) (place : ℕ) (channel : Channel) (w : WorldState) (draws : List Draw)
+    (w' : WorldState) → slice_get w.net.channels place ≡ Some channel → Agrees w
+    → GoesDownIf up place channel w draws w' → Agrees w'
 goes_down_if_agree false place channel w draws w' here agrees goes = subst Agrees (sym goes.1) agrees
 goes_down_if_agree true place channel w draws w' here agrees goes =
     tells_ends_agree PortDown channel (record w { net = taken_down place channel w.net }) draws w'
     (taken_down_agrees place channel w here agrees) goes
 
-pub comes_up_if_agree : (up : Bool) (place : ℕ) (channel : Channel) (w : WorldState) (draws : List Draw) (w' : WorldState)
-    → slice_get w.net.channels place ≡ Some channel → Agrees w → ComesUpIf up place channel w draws w' → Agrees w'
+pub comes_up_if_agree : (up : Bool) (place : ℕ) (channel : Channel) (w : WorldState) (draws : List Draw)
+    (w' : WorldState) → slice_get w.net.channels place ≡ Some channel → Agrees w
+    → ComesUpIf up place channel w draws w' → Agrees w'
 comes_up_if_agree true place channel w draws w' here agrees comes = subst Agrees (sym comes.1) agrees
 comes_up_if_agree false place channel w draws w' here agrees comes =
     tells_ends_agree PortUp channel (record w { net = brought_up place channel w.net }) draws w'
@@ -139,7 +142,7 @@ starts_all_agree (place ∷ places) w draws w' have agrees (first, rest, between
 pub silent_agrees : (w : WorldState)
     → ((place : ℕ) (station : Station) → slice_get w.stations place ≡ Some station → station.live ≡ false)
     → ((link : ℕ) (direction : Direction) (channel : Channel) → slice_get w.net.channels link ≡ Some channel
-        → queue direction channel ≡ [])
+    → queue direction channel ≡ [])
     → w.net.pending ≡ [] → Agrees w
 silent_agrees w failed idle none (Expiry place timer) = by (slice_get w.stations place) refl
   where
@@ -150,7 +153,7 @@ silent_agrees w failed idle none (Expiry place timer) = by (slice_get w.stations
 silent_agrees w failed idle none (Arrival link direction) = by (slice_get w.net.channels link) refl
   where
     by : (here : Option Channel) → slice_get w.net.channels link ≡ here
-        → times (Arrival link direction) w.net.pending ≡ flying direction (slice_get w.net.channels link)
+        → times (Arrival link direction) w.net.pending ≡ arriving direction (slice_get w.net.channels link)
     by None is = rw (none, is) refl
     by (Some channel) is = let empty = idle link direction channel is in rw (none, is, empty) refl
 
@@ -170,7 +173,8 @@ same_due_agrees place w old new here same agrees (Expiry other timer) = by (same
     by (inr apart) =
         agrees (Expiry other timer) ∙ sym (ap (running timer) (get-set_other w.stations place other new apart))
 
-pub with_setup_agrees : (value place : ℕ) (station : Station) (w : WorldState) → slice_get w.stations place ≡ Some station
-    → Agrees w → Agrees (with_station place (with_setup value station) w)
+pub with_setup_agrees : (value place : ℕ) (station : Station) (w : WorldState)
+    → slice_get w.stations place ≡ Some station → Agrees w
+    → Agrees (with_station place (with_setup value station) w)
 with_setup_agrees value place station w here agrees =
     same_due_agrees place w station (with_setup value station) here (λ timer. refl) agrees

@@ -97,7 +97,8 @@ same_timers n [] (q ∷ qs) same = absurd (omega arith)
 same_timers n (p ∷ ps) [] same = absurd (omega arith)
 same_timers n (p ∷ ps) (q ∷ qs) same =
     let rest : length qs ≡ length ps = omega arith in
-    ap (λ ts. timers.Pdelay n ∷ timers.Respond n ∷ timers.Announce n ∷ timers.Age n ∷ ts) (same_timers (n + 1) ps qs rest)
+    ap (λ ts. timers.Pdelay n ∷ timers.Respond n ∷ timers.Announce n ∷ timers.Age n ∷ ts)
+    (same_timers (n + 1) ps qs rest)
 
 stays_off : (timer : Timer) (station : Station) → due timer station.system ≡ None → station_due timer station ≡ None
 stays_off timer station none = by station.live refl
@@ -116,8 +117,8 @@ station_timer timer station = elim (has_timer timer station.system) [
 
 -- ---- only its own timers are pending
 
-pub only_same_count : (place : ℕ) (ps qs : List Port) (es : List Entry) → length qs ≡ length ps → OnlyItsTimers place ps es
-    → OnlyItsTimers place qs es
+pub only_same_count : (place : ℕ) (ps qs : List Port) (es : List Entry) → length qs ≡ length ps
+    → OnlyItsTimers place ps es → OnlyItsTimers place qs es
 only_same_count place ps qs es same only timer =
     subst (λ ts. In timer ts ⊎ (times (Expiry place timer) es ≡ [])) (sym (same_timers 1 ps qs same)) (only timer)
 

@@ -16,12 +16,12 @@ use Rattle.gptp_world.specs.Pending.{without_first}
 use Rattle.gptp_world.specs.World.{Channel, Net, WorldState, receiver}
 use Rattle.gptp_world.specs.Act.{all_timers, in_state, Calls, Delivers, Expires, Hears}
 use Rattle.gptp_world.specs.Changing.{failed, fresh, up_ports, with_setup, with_station, CallsAll, CallsIfLive, Starts, StartsAll, TellsEnds}
-use Rattle.gptp_world.specs.Agrees.{HaveTheirPorts}
+use Rattle.gptp_world.specs.Agrees.{stopped, HaveTheirPorts}
 use Rattle.gptp_world.proofs.PlaceLemmas.{get-set_same, get-set_other, same_place}
 
 -- one system becomes another that has its ports
-pub station_has_ports : (place : ℕ) (w : WorldState) (old new : Station) (net : Net) → slice_get w.stations place ≡ Some old
-    → length new.system.ports ≡ new.setup.ports → HaveTheirPorts w
+pub station_has_ports : (place : ℕ) (w : WorldState) (old new : Station) (net : Net)
+    → slice_get w.stations place ≡ Some old → length new.system.ports ≡ new.setup.ports → HaveTheirPorts w
     → HaveTheirPorts (record w { stations = slice_set w.stations place new; net = net })
 station_has_ports place w old new net here count have other station there = by (same_place other place)
   where
@@ -33,8 +33,8 @@ station_has_ports place w old new net here count have other station there = by (
         rw one count
     by (inr apart) = have other station (sym (get-set_other w.stations place other new apart) ∙ there)
 
-pub calls_have_ports : (place : ℕ) (input : Input) (w : WorldState) (draws : List Draw) (answer : Answer) (w' : WorldState)
-    → HaveTheirPorts w → Calls place input w draws answer w' → HaveTheirPorts w'
+pub calls_have_ports : (place : ℕ) (input : Input) (w : WorldState) (draws : List Draw) (answer : Answer)
+    (w' : WorldState) → HaveTheirPorts w → Calls place input w draws answer w' → HaveTheirPorts w'
 calls_have_ports place input w draws answer w' have calls =
     let count = keeps_length calls.station.system calls.after
     (steps_sound input w.time calls.station.system calls.after calls.sends answer calls.steps).kept in
@@ -54,15 +54,13 @@ pub delivers_have_ports : (link : ℕ) (direction : Direction) (octets : List �
     (answer : Option Answer) (w' : WorldState) → HaveTheirPorts w → Delivers link direction octets w draws answer w'
     → HaveTheirPorts w'
 delivers_have_ports link direction octets w draws answer w' have delivers =
-    hears_have_ports delivers.place (receiver direction delivers.channel).port octets (record w { net = delivers.net }) draws
-    answer w' have delivers.hears
+    hears_have_ports delivers.place (receiver direction delivers.channel).port octets (record w { net = delivers.net })
+    draws answer w' have delivers.hears
 
 pub expires_have_ports : (place : ℕ) (timer : Timer) (w : WorldState) (draws : List Draw) (w' : WorldState)
     → HaveTheirPorts w → Expires place timer w draws w' → HaveTheirPorts w'
 expires_have_ports place timer w draws w' have expires =
-    calls_have_ports place (TimerExpires timer)
-    (record w { net = record w.net { pending = without_first (Expiry place timer) w.net.pending } }) draws expires.answer w'
-    have expires.calls
+    calls_have_ports place (TimerExpires timer) (stopped place timer w) draws expires.answer w' have expires.calls
 
 -- ---- calls one after another
 
@@ -72,11 +70,12 @@ calls_if_live_have_ports place input w draws w' have (inl (answer, calls)) =
     calls_have_ports place input w draws answer w' have calls
 calls_if_live_have_ports place input w draws w' have (inr (failed, none, is)) = subst HaveTheirPorts (sym is) have
 
-pub tells_ends_have_ports : (input : ℕ → Input) (channel : Channel) (w : WorldState) (draws : List Draw) (w' : WorldState)
-    → HaveTheirPorts w → TellsEnds input channel w draws w' → HaveTheirPorts w'
+pub tells_ends_have_ports : (input : ℕ → Input) (channel : Channel) (w : WorldState) (draws : List Draw)
+    (w' : WorldState) → HaveTheirPorts w → TellsEnds input channel w draws w' → HaveTheirPorts w'
 tells_ends_have_ports input channel w draws w' have tells =
     calls_if_live_have_ports tells.place_b (input channel.b.port) tells.between tells.second w'
-    (calls_if_live_have_ports tells.place_a (input channel.a.port) w tells.first tells.between have tells.at_a) tells.at_b
+    (calls_if_live_have_ports tells.place_a (input channel.a.port) w tells.first tells.between have tells.at_a)
+    tells.at_b
 
 pub calls_all_have_ports : (place : ℕ) (inputs : List Input) (w : WorldState) (draws : List Draw) (w' : WorldState)
     → HaveTheirPorts w → CallsAll place inputs w draws w' → HaveTheirPorts w'
@@ -105,8 +104,8 @@ starts_have_ports place w draws w' have starts =
     let new : Station = fresh w.time starts.station in
     let net : Net = all_timers place new w.net in
     let setup = starts.station.setup in
-    calls_all_have_ports place (map PortUp (up_ports new w.net)) (record (with_station place new w) { net = net }) draws w'
-    (station_has_ports place w starts.station new net starts.here
+    calls_all_have_ports place (map PortUp (up_ports new w.net)) (record (with_station place new w) { net = net })
+    draws w' (station_has_ports place w starts.station new net starts.here
     (length-new_ports (clock_of setup.identity) setup.params setup.ports) have) starts.calls
 
 pub starts_all_have_ports : (places : List ℕ) (w : WorldState) (draws : List Draw) (w' : WorldState) → HaveTheirPorts w

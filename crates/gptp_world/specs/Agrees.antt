@@ -9,12 +9,14 @@ use Rattle.gptp_system.specs.declared.timer.Timer.{Timer}
 use Rattle.gptp_world.specs.declared.item.Item.{Item}
 use Rattle.gptp_world.specs.declared.item.Item.TheVariants.{Expiry, Arrival}
 use Rattle.gptp_world.specs.declared.station.Station.{Station}
-use Rattle.gptp_world.specs.Pending.{Entry, times, listed}
+use Rattle.gptp_world.specs.Pending.{Entry, times, without_first, listed}
 use Rattle.gptp_world.specs.World.{WorldState, queue, timers_from, station_due}
 
--- the times at which an item of a world should be pending: a timer's due time where it runs; the due times of the frames in flight
+-- the times at which an item of a world should be pending: a timer's due time where it runs;
+-- the due times of the frames in flight
 abbrev pub expected : WorldState → Item → List ℕ
-expected w (Expiry place timer) = option_map_or (λ station. listed (station_due timer station)) (slice_get w.stations place) []
+expected w (Expiry place timer) =
+    option_map_or (λ station. listed (station_due timer station)) (slice_get w.stations place) []
 expected w (Arrival link direction) =
     option_map_or (λ channel. map (λ (f : Frame). f.due) (queue direction channel)) (slice_get w.net.channels link) []
 
@@ -28,7 +30,8 @@ Agrees w = (item : Item) → times item w.net.pending ≡ expected w item
 abbrev pub OnlyItsTimers : ℕ → List Port → List Entry → Type 0
 OnlyItsTimers place ports es = (timer : Timer) → In timer (timers_from 1 ports) ⊎ (times (Expiry place timer) es ≡ [])
 
--- Everything agrees but the timers of the system at a place: those may be pending at any times, as long as they are its own.
+-- Everything agrees but the timers of the system at a place:
+-- those may be pending at any times, as long as they are its own.
 pub record AgreesBut (place : ℕ) (w : WorldState) : Type 0 where
   pub arrivals : (link : ℕ) (direction : Direction)
       → times (Arrival link direction) w.net.pending ≡ expected w (Arrival link direction)
@@ -36,6 +39,11 @@ pub record AgreesBut (place : ℕ) (w : WorldState) : Type 0 where
       → times (Expiry other timer) w.net.pending ≡ expected w (Expiry other timer)
   pub only : (station : Station) → slice_get w.stations place ≡ Some station
       → OnlyItsTimers place station.system.ports w.net.pending
+
+-- a timer that expires isn't pending any more
+abbrev pub stopped : ℕ → Timer → WorldState → WorldState
+stopped place timer w =
+    record w { net = record w.net { pending = without_first (Expiry place timer) w.net.pending } }
 
 -- ---- numbers of ports
 
