@@ -24,7 +24,7 @@ use Rattle.gptp_world.specs.World.{Channel, Net, WorldState, receiver, queue, wi
 use Rattle.gptp_world.specs.Sends.{entered, written, SendsAll, SendsOne}
 use Rattle.gptp_world.specs.Act.{all_timers, in_state, set_timers, Calls, Delivers, Expires, Hears, Takes}
 use Rattle.gptp_world.specs.Changing.{with_station, CallsAll, CallsIfLive, TellsEnds}
-use Rattle.gptp_world.specs.Agrees.{expected, stopped, Agrees, AgreesBut}
+use Rattle.gptp_world.specs.Agrees.{stopped, Agrees, AgreesBut}
 use Rattle.gptp_world.proofs.OwnTimerLemmas.{only_same_count, only_without_first, set_timers_is, station_timer, timers_agree}
 use Rattle.gptp_world.proofs.PendingLemmas.{times-put_same, times-put_other, times-without_first_same, times-without_first_other}
 use Rattle.gptp_world.proofs.PlaceLemmas.{get-set_same, get-set_other, same_place}

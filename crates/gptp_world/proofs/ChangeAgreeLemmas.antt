@@ -13,7 +13,7 @@ use Rattle.gptp_system.proofs.ReadyLemmas.{length-new_ports}
 use Rattle.gptp_world.specs.declared.item.Item.TheVariants.{Expiry, Arrival}
 use Rattle.gptp_world.specs.declared.station.Station.{Station}
 use Rattle.gptp_world.specs.Pending.{Entry, times, without, listed}
-use Rattle.gptp_world.specs.World.{Channel, Net, WorldState, queue, station_due}
+use Rattle.gptp_world.specs.World.{Channel, WorldState, queue, station_due}
 use Rattle.gptp_world.specs.Changing.{brought_up, failed, fresh, lost, taken_down, up_ports, with_bounds, with_channel, with_setup, with_station, ComesUpIf, FailsIf, GoesDownIf, RecoversIf, Starts, StartsAll}
 use Rattle.gptp_world.specs.Agrees.{Agrees, AgreesBut, HasItsPorts, HaveTheirPorts}
 use Rattle.gptp_world.proofs.AgreeLemmas.{agrees_but, calls_all_agree, dues, arriving, only_arrivals, other_way, relinked_agrees, replaced, replaced_agrees, running, tells_ends_agree, OnlyArrivals}

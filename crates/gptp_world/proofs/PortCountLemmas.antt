@@ -1,5 +1,5 @@
 -- How many ports each system has: as many as its setup says, after every act.
-use Rattle.std.proofs.Common.{◌≡◌, ◌≢◌, ◌⊎◌, ℕ, Bool, true, false, List, [], ◌∷◌, map, length, Option, Some, None, slice_get, slice_set, sym, ap, subst, ◌∙◌, inl, inr}
+use Rattle.std.proofs.Common.{◌≡◌, ◌≢◌, ◌⊎◌, ℕ, false, List, [], ◌∷◌, map, length, Option, Some, None, slice_get, slice_set, sym, ap, subst, ◌∙◌, inl, inr}
 use Rattle.std.proofs.lemmas.Option.{same_Some}
 use Rattle.gptp_links.specs.declared.link.Direction.{Direction}
 use Rattle.gptp_links.specs.Fate.{Draw}
@@ -10,9 +10,7 @@ use Rattle.gptp_system.specs.Input.{Input, PortUp, Frame as FrameHeard, Expires 
 use Rattle.gptp_system.proofs.FactLemmas.{keeps_length}
 use Rattle.gptp_system.proofs.ReadyLemmas.{length-new_ports}
 use Rattle.gptp_system.proofs.StepLemmas.{steps_sound}
-use Rattle.gptp_world.specs.declared.item.Item.TheVariants.{Expiry}
 use Rattle.gptp_world.specs.declared.station.Station.{Station}
-use Rattle.gptp_world.specs.Pending.{without_first}
 use Rattle.gptp_world.specs.World.{Channel, Net, WorldState, receiver}
 use Rattle.gptp_world.specs.Act.{all_timers, in_state, Calls, Delivers, Expires, Hears}
 use Rattle.gptp_world.specs.Changing.{failed, fresh, up_ports, with_setup, with_station, CallsAll, CallsIfLive, Starts, StartsAll, TellsEnds}
