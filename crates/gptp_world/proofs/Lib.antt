@@ -1,3 +1,7 @@
+pub mod AgreeLemmas
+pub mod ChangeAgreeLemmas
+pub mod OwnTimerLemmas
+pub mod PortCountLemmas
 pub mod PlaceLemmas
 pub mod SendingLemmas
 pub mod NetLemmas
