@@ -1,4 +1,5 @@
 pub mod Act
+pub mod Ahead
 pub mod Buffers
 pub mod Cable
 pub mod Calm
