@@ -13,7 +13,7 @@ use Rattle.gptp_system.specs.declared.setup.Setup.{Setup}
 use Rattle.gptp_system.specs.declared.timer.Timer.{Timer}
 use Rattle.gptp_system.specs.declared.timer.Timer.TheVariants as timers
 use Rattle.gptp_system.specs.Intervals.{IsLog, interval_of}
-use Rattle.gptp_system.specs.State.{SystemState, age_due, announce_due, due, held_at, is_mine, span_of}
+use Rattle.gptp_system.specs.State.{SystemState, age_due, announce_due, due, held_at, is_mine, number, span_of}
 use Rattle.gptp_system.specs.Ready.{IsPort, IsReady}
 use Rattle.gptp_system.specs.Start.{all_disabled, new_port, new_ports, started}
 use Rattle.gptp_system.specs.Times.{IsInTime, IsPortInTime}
@@ -103,16 +103,26 @@ mapped : {X Y : Type 0} (f : X → Y) (o : Option X) (y : Y) → option_map f o 
 mapped f None y is = absurd (none-some y is)
 mapped f (Some x) y is = (x, sym (same_Some (f x) y is))
 
+-- the ports of a new system are new, and hold nothing
+abbrev new_of : Setup → ℕ → Port
+new_of setup p = new_port (record { clock = clock_of setup.identity; port = p }) setup.params
+
+port_is : (setup : Setup) (i : ℕ) (q : Port)
+    → slice_get (new_ports (clock_of setup.identity) setup.params setup.ports) i ≡ Some q
+    → (p : ℕ) × (q ≡ new_of setup p)
+port_is setup i q there =
+    mapped (new_of setup) (slice_get (range_with_len 1 setup.ports) i) q
+    (sym (slice_get-map (new_of setup) (range_with_len 1 setup.ports) i) ∙ there)
+
+held_is : (n i : ℕ) (h : Held) → slice_get (all_disabled n) i ≡ Some h → h ≡ helds.Disabled
+held_is n i h stands =
+    let silent : ℕ → Held = λ p. helds.Disabled in
+    (mapped silent (slice_get (range_with_len 1 n) i) h (sym (slice_get-map silent (range_with_len 1 n) i) ∙ stands)).1
+
 pub starts_in_time : (setup : Setup) (now : ℕ) → IsInTime (started setup now) now
 starts_in_time setup now = record { each = each; sync = omega arith; relay = λ t is. absurd (none-some t is) }
   where
-    new : ℕ → Port
-    new p = new_port (record { clock = clock_of setup.identity; port = p }) setup.params
-
-    silent : Held → ℕ → Held
-    silent h p = h
-
-    quiet : (p : ℕ) → IsPortInTime setup.params now helds.Disabled (new p)
+    quiet : (p : ℕ) → IsPortInTime setup.params now helds.Disabled (new_of setup p)
     quiet p = record {
       announce = λ mine. absurd cc;
       came = λ r is. absurd (none-some r is);
@@ -124,10 +134,43 @@ starts_in_time setup now = record { each = each; sync = omega arith; relay = λ 
         → slice_get (new_ports (clock_of setup.identity) setup.params setup.ports) i ≡ Some q
         → IsPortInTime setup.params now h q
     each i h q stands there =
-        let (m, off) =
-        mapped (silent helds.Disabled) (slice_get (range_with_len 1 setup.ports) i) h
-        (sym (slice_get-map (silent helds.Disabled) (range_with_len 1 setup.ports) i) ∙ stands) in
-        let (n, is) =
-        mapped new (slice_get (range_with_len 1 setup.ports) i) q
-        (sym (slice_get-map new (range_with_len 1 setup.ports) i) ∙ there) in
-        rw (off, is) (quiet n)
+        let off = held_is setup.ports i h stands in let (n, is) = port_is setup i q there in rw (off, is) (quiet n)
+
+-- its ports announce at the interval of the network
+pub starts_logs : (setup : Setup) (now : ℕ) → IsLog setup.params.announce → (i : ℕ) (q : Port)
+    → slice_get (started setup now).ports i ≡ Some q → IsLog q.log_interval
+starts_logs setup now log i q there = let (p, is) = port_is setup i q there in rw is log
+
+-- what stands at its numbers is Disabled
+off_at : (n p : ℕ) → option_map_or (λ h. h) (number (all_disabled n) p) helds.Disabled ≡ helds.Disabled
+off_at n zero = refl
+off_at n (suc i) = go (slice_get (all_disabled n) i) refl
+  where
+    go : (o : Option Held) → slice_get (all_disabled n) i ≡ o
+        → option_map_or (λ h. h) o helds.Disabled ≡ helds.Disabled
+    go None there = refl
+    go (Some h) there = held_is n i h there
+
+-- only its Sync timer runs, and none of its timers is due before now
+pub starts_ahead : (setup : Setup) (now : ℕ) (timer : Timer) (t : ℕ) → due timer (started setup now) ≡ Some t → now ≤ t
+starts_ahead setup now (timers.Announce p) t is =
+    let s = started setup now in
+    let (i, q, here, there, e) = at_number (λ q. announce_due q (held_at s p)) s.ports p t is in
+    absurd (none-some t (sym (ap (announce_due q) (off_at setup.ports p)) ∙ e))
+starts_ahead setup now (timers.Age p) t is =
+    let s = started setup now in
+    let (i, q, here, there, e) = at_number (λ q. age_due s.params q (held_at s p)) s.ports p t is in
+    absurd (none-some t (sym (ap (age_due s.params q) (off_at setup.ports p)) ∙ e))
+starts_ahead setup now (timers.Pdelay p) t is =
+    let s = started setup now in
+    let (i, q, here, there, e) = at_number (λ (q : Port). q.pdelay) s.ports p t is in
+    let (n, new) = port_is setup i q there in
+    absurd (none-some t (sym (ap (λ (x : Port). x.pdelay) new) ∙ e))
+starts_ahead setup now (timers.Respond p) t is =
+    let s = started setup now in
+    let (i, q, here, there, e) = at_number (λ (q : Port). q.respond) s.ports p t is in
+    let (n, new) = port_is setup i q there in
+    absurd (none-some t (sym (ap (λ (x : Port). x.respond) new) ∙ e))
+starts_ahead setup now timers.Sync t is =
+    let same = same_Some (now + interval_of setup.params.sync) t is in omega arith
+starts_ahead setup now timers.Relay t is = absurd (none-some t is)

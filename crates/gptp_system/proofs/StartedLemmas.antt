@@ -1,7 +1,8 @@
--- Every timer that a step starts is due after now.
+-- Every timer that a step starts is due after now, and so is a timer that ran out, where it runs at all.
 use Rattle.std.proofs.Common.{◌≡◌, ◌≢◌, ◌⊎◌, ◌≤◌, ◌<◌, ℕ, zero, suc, ◌+◌, ◌*◌, ℤ, pos, negsuc, Bool, true, false, List, Option, Some, None, slice_get, refl, sym, ap, subst, ◌∙◌, inl, inr, arith, mul-pos}
 use Rattle.std.specs.Prelude.{if◌then◌else◌, ◌==◌}
 use Rattle.std.specs.Option.{option_map, option_map_or, option_and_then}
+use Rattle.std.proofs.lemmas.Bool.Decides.{nat_tests}
 use Rattle.std.proofs.lemmas.Int.{ints}
 use Rattle.std.proofs.lemmas.Option.{none-some, same_Some}
 use Rattle.gptp_messages.specs.declared.message.Message.{Message}
@@ -19,11 +20,16 @@ use Rattle.gptp_system.specs.Intervals.{AreParams, IsLog, interval_of}
 use Rattle.gptp_system.specs.State.{SystemState, age_due, announce_due, clock, due, held_at, is_mine, number, span_of}
 use Rattle.gptp_system.specs.Input.{Input, IsTimely, Steps, PortUp, PortDown, Frame, Expires, Priority}
 use Rattle.gptp_system.specs.Facts.{AreShown, IsAtRest, Keeps}
-use Rattle.gptp_system.specs.Touch.{IsSeenAs, Touch}
+use Rattle.gptp_system.specs.Selection.{announced}
+use Rattle.gptp_system.specs.Announcing.{announced_at}
+use Rattle.gptp_system.specs.Syncing.{RelaysIf, SyncsIf, leads}
+use Rattle.gptp_system.specs.Touch.{IsSeenAs, Mid, Touch, Grow}
 use Rattle.gptp_system.specs.Reacts.{PlaceReacts, PortEnds, Tells}
 use Rattle.gptp_system.specs.Measures.{IsPartAfter, Part, only_at, part_answered, part_asked, part_down, part_heard, part_of, Measures}
 use Rattle.gptp_system.specs.Times.{RunsOn}
 use Rattle.gptp_system.specs.declared.setup.Params.{Params}
+use Rattle.gptp_correction.specs.declared.sync_in.SyncInfo.{SyncInfo}
+use Rattle.gptp_system.proofs.ChangedLemmas.{Changed, change-get}
 use Rattle.gptp_system.proofs.AnswerLemmas.{steps_react}
 use Rattle.gptp_system.proofs.ReactLemmas.{Answers}
 use Rattle.gptp_system.proofs.StepLemmas.{steps_sound}
@@ -300,3 +306,91 @@ started_later input now s s' sends answer params logs calm shown rest step = go
         let (q, was, after) = measured i q' there in
         subst (λ n. (due (timers.Respond n) s ≡ Some t) ⊎ (now < t)) (sym number_is)
         (rw was ((part_runs s params now input (suc i) (part_of q) (part_of q') after).respond t e))
+
+-- ---- a timer that ran out
+
+-- a port that announced does so one interval later
+announced_later : (p now : ℕ) (s : SystemState) (i : ℕ) (q' : Port) (t : ℕ)
+    → ((i : ℕ) (q : Port) → slice_get s.ports i ≡ Some q → IsLog q.log_interval)
+    → p ≡ suc i → slice_get (announced_at p now s).ports i ≡ Some q' → q'.announce ≡ t → now < t
+announced_later p now s i q' t logs here there is = go (change-get (announced now) p s.ports i q' there)
+  where
+    go : Changed (announced now) (p ≡ suc i) s.ports i q' → now < t
+    go (q, was, inl (same, new)) =
+        let positive = interval_positive q.log_interval (logs i q was) in
+        let sum : now + interval_of q.log_interval ≡ t = sym (ap (λ (x : Port). x.announce) new) ∙ is in
+        omega arith
+    go (q, was, inr (elsewhere, old)) = absurd (elsewhere here)
+
+-- what grew too old is received no more
+aged_off : (s s' : SystemState) (touch : Touch) (p now : ℕ) (sends : List Sending) (i : ℕ) (h' : Held) (q' : Port)
+    → touch ≡ Grow p → p ≡ suc i → PlaceReacts s touch now s' sends i h' q' → received h' ≡ None
+aged_off s s' touch p now sends i h' q' grows here r = ends r.reacts.after
+  where
+    aged : Mid (clock s) (suc i) (Grow p) now r.held r.reacts.mid → received r.reacts.mid ≡ None
+    aged (inl (same, is)) = ap received is
+    aged (inr (elsewhere, is)) = absurd (elsewhere (sym here))
+
+    ends : PortEnds (clock s) (suc i) now s'.root s'.steps r.reacts.mid h' r.port q' sends → received h' ≡ None
+    ends (inl (same, still)) =
+        ap received same
+        ∙ aged (subst (λ x. Mid (clock s) (suc i) x now r.held r.reacts.mid) grows r.reacts.before)
+    ends (inr m) = ap received m.mine
+
+-- what becomes of the part of a port
+only_here : (p n : ℕ) (f : Part → Part) (x x' : Part) → p ≡ n → x' ≡ only_at p f n x → x' ≡ f x
+only_here p n f x x' here is = let same : (n == p) ≡ true = grind (arith, nat_tests) in is ∙ rw same refl
+
+-- the two timers of the system
+sync_restarts : (b : Bool) (now : ℕ) (s s' : SystemState) (sends : List Sending) → SyncsIf b now s s' sends
+    → s'.sync ≡ now + interval_of s.params.sync
+sync_restarts true now s s' sends k = ap (λ (x : SystemState). x.sync) k.state
+sync_restarts false now s s' sends k = ap (λ (x : SystemState). x.sync) k.state
+
+relay_stops : (known : Option SyncInfo) (now : ℕ) (s s' : SystemState) (sends : List Sending)
+    → RelaysIf known now s s' sends → s'.relay ≡ None
+relay_stops None now s s' sends k = ap (λ (x : SystemState). x.relay) k.state
+relay_stops (Some info) now s s' sends (inl k) = ap (λ (x : SystemState). x.relay) k.state
+relay_stops (Some info) now s s' sends (inr k) = ap (λ (x : SystemState). x.relay) k.becomes.state
+
+pub ran_out_later : (timer : Timer) (now : ℕ) (s s' : SystemState) (sends : List Sending) (answer : Answer)
+    → AreParams s.params
+    → ((i : ℕ) (q : Port) → slice_get s.ports i ≡ Some q → IsLog q.log_interval)
+    → IsTimely s now (Expires timer) → AreShown s → IsAtRest s → Steps (Expires timer) now s s' sends answer
+    → (t : ℕ) → due timer s' ≡ Some t → now < t
+ran_out_later (timers.Announce p) now s s' sends answer params logs timely shown rest k t is =
+    let (i, q', here, there, e) = at_number (λ q. announce_due q (held_at s' p)) s'.ports p t is in
+    announced_later p now s i q' t logs here (subst (λ (x : SystemState). slice_get x.ports i ≡ Some q') k.state there)
+    (mine_due q' (held_at s' p) t e).1
+ran_out_later (timers.Age p) now s s' sends answer params logs timely shown rest k t is =
+    let (i, q', here, there, e) = at_number (λ q. age_due s'.params q (held_at s' p)) s'.ports p t is in
+    let stands =
+    held_stands s'.held i (held_at s' p) (ap (held_at s') (sym here)) (age_on s'.params q' (held_at s' p) t e) in
+    let reacts : Answers (IsSeenAs s (Expires (timers.Age p))) s now s' sends =
+    steps_react (Expires (timers.Age p)) now s s' sends answer timely shown rest k in
+    let none : received (held_at s' p) ≡ None =
+    aged_off s s' reacts.touch p now sends i (held_at s' p) q' reacts.seen here
+    (reacts.reacts.ports i (held_at s' p) q' stands there) in
+    absurd (none-some t (sym (ap (option_map (λ (r : Reception). r.at + span_of s'.params q')) none) ∙ e))
+ran_out_later (timers.Pdelay p) now s s' sends answer params logs timely shown rest k t is =
+    let (i, q', here, there, e) = at_number (λ (q : Port). q.pdelay) s'.ports p t is in
+    let (q, was, after) = steps_measure (Expires (timers.Pdelay p)) now s s' sends answer k i q' there in
+    let new : part_of q' ≡ part_asked s now after_interval (part_of q) =
+    only_here p (suc i) (part_asked s now after_interval) (part_of q) (part_of q') here after in
+    let positive = interval_positive s.params.pdelay params.pdelay in
+    let sum : now + interval_of s.params.pdelay ≡ t =
+    same_Some (now + interval_of s.params.pdelay) t (sym (ap (λ (x : Part). x.pdelay) new) ∙ e) in
+    omega arith
+ran_out_later (timers.Respond p) now s s' sends answer params logs timely shown rest k t is =
+    let (i, q', here, there, e) = at_number (λ (q : Port). q.respond) s'.ports p t is in
+    let (q, was, after) = steps_measure (Expires (timers.Respond p)) now s s' sends answer k i q' there in
+    let new : part_of q' ≡ part_answered (part_of q) =
+    only_here p (suc i) part_answered (part_of q) (part_of q') here after in
+    absurd (none-some t (sym (ap (λ (x : Part). x.respond) new) ∙ e))
+ran_out_later timers.Sync now s s' sends answer params logs timely shown rest k t is =
+    let positive = interval_positive s.params.sync params.sync in
+    let sum : now + interval_of s.params.sync ≡ t =
+    sym (sync_restarts (leads s) now s s' sends k) ∙ same_Some s'.sync t is in
+    omega arith
+ran_out_later timers.Relay now s s' sends answer params logs timely shown rest k t is =
+    absurd (none-some t (sym (relay_stops s.known now s s' sends k) ∙ is))

@@ -47,7 +47,7 @@ all_new clock params a (suc n) zero q is =
     ap (λ (x : Port). x.peer.last) (sym (same_Some (new_port (record { clock = clock; port = a }) params) q is))
 all_new clock params a (suc n) (suc i) q is = all_new clock params (a + 1) n i q is
 
-is_new : (setup : Setup) (now : ℕ) → IsNew (started setup now)
+pub is_new : (setup : Setup) (now : ℕ) → IsNew (started setup now)
 is_new setup now = record {
   places = length-all_disabled setup.ports ∙ sym (length-new_ports (clock_of setup.identity) setup.params setup.ports);
   silent = all_off 1 setup.ports;

@@ -10,7 +10,7 @@ use Rattle.gptp_system.specs.declared.timer.Timer.{Timer}
 use Rattle.gptp_system.specs.Intervals.{AreParams, IsLog}
 use Rattle.gptp_system.specs.State.{SystemState, due}
 use Rattle.gptp_system.specs.Selection.{Selects}
-use Rattle.gptp_system.specs.Input.{Input, IsTimely, Steps, Priority}
+use Rattle.gptp_system.specs.Input.{Input, IsTimely, Steps, Expires, Priority}
 use Rattle.gptp_system.specs.Touch.{Touch, IsSeenAs}
 use Rattle.gptp_system.specs.Reacts.{Reacts}
 use Rattle.gptp_system.specs.Follows.{FollowsItself, FollowsPort}
@@ -125,6 +125,14 @@ StartedLaw = (input : Input) (now : ℕ) (s s' : SystemState) (sends : List Send
     → ((i : ℕ) (q : Port) → slice_get s.ports i ≡ Some q → IsLog q.log_interval)
     → IsTimely s now input → AreShown s → IsAtRest s → Steps input now s s' sends answer
     → (timer : Timer) (t : ℕ) → due timer s' ≡ Some t → (due timer s ≡ Some t) ⊎ (now < t)
+
+-- a timer that ran out is due after now, where it runs at all
+abbrev pub RanOutLaw : Type 0
+RanOutLaw = (timer : Timer) (now : ℕ) (s s' : SystemState) (sends : List Sending) (answer : Answer)
+    → AreParams s.params
+    → ((i : ℕ) (q : Port) → slice_get s.ports i ≡ Some q → IsLog q.log_interval)
+    → IsTimely s now (Expires timer) → AreShown s → IsAtRest s → Steps (Expires timer) now s s' sends answer
+    → (t : ℕ) → due timer s' ≡ Some t → now < t
 
 -- a timer is due within ten announce intervals of sixteen seconds
 abbrev pub SpanLaw : Type 0

@@ -1,7 +1,7 @@
 //! What holds of a system between its calls, whatever it is given.
 
 ghost use Rattle.gptp_system.specs.Laws.{AgainLaw, CountersLaw, FollowsLaw, HeldLaw, IdentityLaw, InTimeLaw, KeepsLaw, LaterLaw, LeavesLaw, MeasuresLaw};
-ghost use Rattle.gptp_system.specs.Laws.{PlacedLaw, ReachLaw, ReactsLaw, RestLaw, RunsOnLaw, SelectsLaw, SendsLaw, ShownLaw, SpanLaw, StartLaw, StartedLaw, StartsInTimeLaw, TraceLaw};
+ghost use Rattle.gptp_system.specs.Laws.{PlacedLaw, RanOutLaw, ReachLaw, ReactsLaw, RestLaw, RunsOnLaw, SelectsLaw, SendsLaw, ShownLaw, SpanLaw, StartLaw, StartedLaw, StartsInTimeLaw, TraceLaw};
 
 /// A new system, all ports of which are disabled, is at rest and its own root.
 pub fn starts_at_rest()
@@ -71,9 +71,10 @@ pub fn stays_in_time()
     ensures span { SpanLaw }
 {}
 
-/// Every timer that a step starts is due after now.
+/// Every timer that a step starts is due after now; so is a timer that ran out, where it runs at all.
 pub fn starts_timers_ahead()
-    ensures { StartedLaw }
+    ensures started { StartedLaw }
+    ensures ran_out { RanOutLaw }
 {}
 
 /// Every step sends within its reach: nothing, two messages at most at one port, or two at most at each port. It leaves

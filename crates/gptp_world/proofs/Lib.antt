@@ -24,3 +24,5 @@ pub mod DirectoryLemmas
 pub mod LaneLemmas
 pub mod ListLemmas
 pub mod SpanLemmas
+pub mod SteadyLemmas
+pub mod DueByLemmas

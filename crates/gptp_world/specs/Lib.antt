@@ -1,5 +1,6 @@
 pub mod Act
 pub mod Agrees
+pub mod Ahead
 pub mod Buffers
 pub mod Cable
 pub mod Calm
