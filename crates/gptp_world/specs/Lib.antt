@@ -1,6 +1,7 @@
 pub mod Act
 pub mod Agrees
 pub mod Ahead
+pub mod Sound
 pub mod Buffers
 pub mod Cable
 pub mod Calm
