@@ -6,6 +6,7 @@ pub mod PlaceLemmas
 pub mod SendingLemmas
 pub mod NetLemmas
 pub mod NeedLemmas
+pub mod EndLemmas
 pub mod SendsLemmas
 pub mod NetworkLemmas
 pub mod RoomLemmas

@@ -88,6 +88,9 @@ uses_nothing net net' directory systems entries buffers lanes = record {
 pub left_of : (first second : Need) (net net' : Between) → Uses first net net' → HasRoom (both first second) net → HasRoom second net'
 left_of first second net net' uses has = uses.left second has
 
+pub nothing_with : (need : Need) → Covers need (both nothing need)
+nothing_with need = record { entries = omega arith; buffers = omega arith; frames = λ port. omega arith }
+
 -- ---- timers
 
 pub uses_timers : (used : ℕ) (net net' : Between) → OnlyEntries used net net' → Uses (for_timers used) net net'

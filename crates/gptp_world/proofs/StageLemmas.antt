@@ -20,7 +20,7 @@ use Rattle.gptp_world.specs.Act.{set_timers, all_timers, in_state}
 use Rattle.gptp_world.specs.Cable.{SentAll}
 use Rattle.gptp_world.specs.Directory.{BeginsAt}
 use Rattle.gptp_world.specs.Net.{between, port_id, IsNet, OnlyEntries}
-use Rattle.gptp_world.specs.Room.{for_call, for_sends, repeated, sends_from, HasRoom, Uses}
+use Rattle.gptp_world.specs.Room.{both, for_call, for_sends, nothing, repeated, sends_from, HasRoom, Uses}
 use Rattle.gptp_system.specs.Reach.{may_select, reach, timer_reach}
 use Rattle.gptp_system.specs.declared.timer.Timer.{Timer}
 use Rattle.gptp_system.specs.declared.timer.Timer.TheVariants as timers
@@ -31,7 +31,7 @@ use Rattle.gptp_system.proofs.StepLemmas.{steps_sound}
 use Rattle.gptp_world.specs.declared.stage.Stage.{Stage}
 use Rattle.gptp_world.specs.Stage.{clock_at, for_left, CalledWith, CallUses, CarriesOut, HasRoomToCall, HasStepped, IsGivenAt, IsLiveAt, IsOf, IsStage}
 use Rattle.gptp_world.specs.World.{timers_from}
-use Rattle.gptp_world.proofs.NeedLemmas.{covered, once, uses_less, Covers}
+use Rattle.gptp_world.proofs.NeedLemmas.{covered, nothing_with, once, uses_less, Covers}
 use Rattle.gptp_world.proofs.PlaceLemmas.{read, get-set_same, get-set_other, map-set_same, same_place}
 
 -- ---- the timers are set
@@ -272,3 +272,29 @@ call_uses stage left net place input answer step given uses = λ station here.
     let used : Uses (for_left after sends) stage.net net = rw (← between) (uses new now_here) in
     rw one (uses_less (for_call old.system) (for_left after sends) stage.net net
     (call_covers old.system after sends ports clocks few) used)
+
+-- ---- another net
+
+-- a stage whose net became another, with everything where it was
+pub net_replaced : (stage : Stage) (net : Between) → IsStage stage → IsNet net → net.directory ≡ stage.net.directory
+    → net.pending.systems ≡ stage.net.pending.systems → IsStage (record stage { net = net })
+net_replaced stage net is still directory systems = record {
+  net = still;
+  clocks = rw directory is.clocks;
+  systems = let places = is.systems in rw systems places;
+  few = is.few;
+  ports = rw directory is.ports;
+  empty = is.empty;
+  moment = is.moment;
+}
+
+-- there is still room for as many calls
+pub room_kept : (calls place : ℕ) (stage : Stage) (net : Between) → Uses nothing stage.net net → HasRoomToCall calls place stage
+    → HasRoomToCall calls place (record stage { net = net })
+room_kept calls place stage net uses has = record {
+  station = has.station;
+  here = has.here;
+  room = uses.left (repeated calls (for_call has.station.system))
+      (covered (repeated calls (for_call has.station.system)) (both nothing (repeated calls (for_call has.station.system))) stage.net
+      (nothing_with (repeated calls (for_call has.station.system))) has.room);
+}

@@ -7,6 +7,7 @@ pub mod Cable
 pub mod Calm
 pub mod Change
 pub mod Changing
+pub mod Delivering
 pub mod Directory
 pub mod Faults
 pub mod Filed

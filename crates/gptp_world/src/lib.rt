@@ -16,6 +16,7 @@ mod cable;
 mod calm;
 mod change;
 mod changing;
+mod delivering;
 mod directory;
 mod fault;
 mod filed;

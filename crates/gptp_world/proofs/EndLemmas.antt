@@ -1,0 +1,48 @@
+-- Where a lane ends.
+use Rattle.std.proofs.Common.{◌≡◌, ℕ, ◌<◌, length, map, Some, slice_get, refl, ap, sym, ◌∙◌}
+use Rattle.std.proofs.lemmas.Option.{slice_get_within}
+use Rattle.gptp_links.specs.declared.link.Direction.{Direction}
+use Rattle.gptp_links.specs.declared.link.Direction.TheVariants.{FromA, FromB}
+use Rattle.gptp_vector.specs.declared.port.PortId.{PortId}
+use Rattle.gptp_world.specs.declared.cable.Cable.{Cable}
+use Rattle.gptp_world.specs.declared.net.Net.{Net as Between}
+use Rattle.gptp_world.specs.declared.stage.Stage.{Stage}
+use Rattle.gptp_world.specs.declared.station.Station.{Station}
+use Rattle.gptp_world.specs.Cable.{channel_of, join_of}
+use Rattle.gptp_world.specs.Directory.{end_of, DirectoryState, IsDirectory, IsPlaced, Join}
+use Rattle.gptp_world.specs.Net.{IsNet}
+use Rattle.gptp_world.specs.Stage.{clock_at, IsStage}
+use Rattle.gptp_world.specs.World.{receiver}
+use Rattle.gptp_world.proofs.NetLemmas.{from_map}
+use Rattle.gptp_world.proofs.PlaceLemmas.{get-map}
+
+-- the directory knows the ports that a link joins
+pub known_join : (net : Between) (link : ℕ) (cable : Cable) → IsNet net → slice_get net.cables.items link ≡ Some cable
+    → slice_get net.directory.joins link ≡ Some (join_of cable)
+known_join net link cable is here = ap (λ js. slice_get js link) (sym is.joins) ∙ get-map join_of net.cables.items link cable here
+
+pub end_same : (d : Direction) (cable : Cable) → end_of d (join_of cable) ≡ receiver d (channel_of cable)
+end_same FromA cable = refl
+end_same FromB cable = refl
+
+pub end_placed : (d : DirectoryState) (direction : Direction) (link : ℕ) (join : Join) → IsDirectory d
+    → slice_get d.joins link ≡ Some join → IsPlaced d.clocks (end_of direction join)
+end_placed d FromA link join is there = is.plan.placed_b link join there
+end_placed d FromB link join is there = is.plan.placed_a link join there
+
+-- the system with a clock that the directory knows
+pub record StandsAt (stage : Stage) (place number : ℕ) : Type 0 where
+  pub station : Station
+  pub here : slice_get stage.stations.items place ≡ Some station
+  pub named : clock_at station ≡ number
+
+pub station_at : (stage : Stage) (place number : ℕ) → IsStage stage → slice_get stage.net.directory.clocks place ≡ Some number
+    → StandsAt stage place number
+station_at stage place number is there =
+    let made = from_map clock_at stage.stations.items place number (ap (λ cs. slice_get cs place) is.clocks ∙ there) in
+    record { station = made.one; here = made.there; named = sym made.is }
+
+pub place_within : (stage : Stage) (place number : ℕ) → IsStage stage → slice_get stage.net.directory.clocks place ≡ Some number
+    → place < length stage.stations.items
+place_within stage place number is there =
+    let at = station_at stage place number is there in slice_get_within stage.stations.items place at.station at.here

@@ -1,0 +1,88 @@
+use Rattle.std.proofs.Common.{◌≡◌, Some, slice_get, refl, ap, sym, ◌∙◌}
+use Rattle.gptp_system.specs.Steps.{IsUp}
+use Rattle.gptp_vector.specs.declared.port.PortId.{PortId}
+use Rattle.gptp_world.specs.Act.{Hears}
+use Rattle.gptp_world.specs.Cable.{channel_of, join_of}
+use Rattle.gptp_world.specs.Directory.{end_of, DirectoryState}
+use Rattle.gptp_world.specs.Net.{between}
+use Rattle.gptp_world.specs.Stage.{world_of}
+use Rattle.gptp_world.proofs.EndLemmas.{end_placed, end_same, known_join, place_within, station_at}
+use Rattle.gptp_world.proofs.StageLemmas.{net_replaced, room_kept}
+use Rattle.gptp_world.proofs.stage.Stage.deliver.Goals as goal
+
+pub narrowed-requires : goal.narrowed-requires
+narrowed-requires g c =
+    let net = c.args.self.now.net in let due = c.requires.due in let lane = c.args.lane in let join = join_of due.cable in
+    let there = known_join net lane.link due.cable c.requires.stage.net due.here in
+    let same = c.take_frame-frame.ensures.uses.directory in
+    let at = c.port_at-at.ensures join (ap (λ (d : DirectoryState). slice_get d.joins lane.link) same ∙ there) in
+    rw at (end_placed net.directory lane.direction lane.link join c.well_formed-2.ensures there).last
+
+pub hear_if_live-answer-requires-clause-stage : goal.hear_if_live-answer-requires-clause-stage
+hear_if_live-answer-requires-clause-stage g c =
+    let e = c.take_frame-frame.ensures in
+    net_replaced c.args.self.now c.take_frame-frame.new.self c.requires.stage e.net e.uses.directory e.uses.systems
+
+pub hear_if_live-answer-requires-clause-place : goal.hear_if_live-answer-requires-clause-place
+hear_if_live-answer-requires-clause-place g c =
+    let net = c.args.self.now.net in let due = c.requires.due in let lane = c.args.lane in let join = join_of due.cable in
+    let there = known_join net lane.link due.cable c.requires.stage.net due.here in
+    let same = c.take_frame-frame.ensures.uses.directory in
+    let place = c.receiver-place.ensures join (ap (λ (d : DirectoryState). slice_get d.joins lane.link) same ∙ there) in
+    place_within c.args.self.now c.receiver-place.result (end_of lane.direction join).clock c.requires.stage
+    (ap (λ (d : DirectoryState). slice_get d.clocks c.receiver-place.result) (sym same) ∙ place)
+
+pub hear_if_live-answer-requires-clause-heard : goal.hear_if_live-answer-requires-clause-heard
+hear_if_live-answer-requires-clause-heard g c = λ station here live.
+    let net = c.args.self.now.net in let due = c.requires.due in let lane = c.args.lane in let join = join_of due.cable in
+    let there = known_join net lane.link due.cable c.requires.stage.net due.here in
+    let same = c.take_frame-frame.ensures.uses.directory in
+    let after = ap (λ (d : DirectoryState). slice_get d.joins lane.link) same ∙ there in
+    let place = c.receiver-place.ensures join after in
+    let at = c.port_at-at.ensures join after in
+    let port : c.narrowed.result ≡ (end_of lane.direction join).port = c.narrowed.ensures ∙ ap (λ (p : PortId). p.port) at in
+    let up : IsUp station.system (end_of lane.direction join).port =
+    c.requires.hears join c.receiver-place.result there
+    (ap (λ (d : DirectoryState). slice_get d.clocks c.receiver-place.result) (sym same) ∙ place) station here live in
+    rw port up
+
+pub hear_if_live-answer-requires-clause-room : goal.hear_if_live-answer-requires-clause-room
+hear_if_live-answer-requires-clause-room g c =
+    let net = c.args.self.now.net in let due = c.requires.due in let lane = c.args.lane in let join = join_of due.cable in
+    let there = known_join net lane.link due.cable c.requires.stage.net due.here in
+    let same = c.take_frame-frame.ensures.uses.directory in
+    let place = c.receiver-place.ensures join (ap (λ (d : DirectoryState). slice_get d.joins lane.link) same ∙ there) in
+    room_kept 1 c.receiver-place.result c.args.self.now c.take_frame-frame.new.self c.take_frame-frame.ensures.uses
+    (c.requires.room join c.receiver-place.result there
+    (ap (λ (d : DirectoryState). slice_get d.clocks c.receiver-place.result) (sym same) ∙ place))
+
+pub returns-clause-delivered : goal.returns-clause-delivered
+returns-clause-delivered g c =
+    let net = c.args.self.now.net in let due = c.requires.due in let lane = c.args.lane in let join = join_of due.cable in
+    let there = known_join net lane.link due.cable c.requires.stage.net due.here in
+    let same = c.take_frame-frame.ensures.uses.directory in
+    let after = ap (λ (d : DirectoryState). slice_get d.joins lane.link) same ∙ there in
+    let place = c.receiver-place.ensures join after in
+    let at = c.port_at-at.ensures join after in
+    let stands = station_at c.args.self.now c.receiver-place.result (end_of lane.direction join).clock c.requires.stage
+    (ap (λ (d : DirectoryState). slice_get d.clocks c.receiver-place.result) (sym same) ∙ place) in
+    let ends = end_same lane.direction due.cable in
+    let port = c.narrowed.ensures ∙ ap (λ (p : PortId). p.port) (at ∙ ends) in
+    let heard = c.hear_if_live-answer.ensures.heard in
+    record {
+      join = join;
+      there = there;
+      is_end = at;
+      draws = heard.draws;
+      drawn = heard.drawn;
+      delivers = record {
+        channel = channel_of due.cable;
+        net = between c.take_frame-frame.new.self;
+        place = c.receiver-place.result;
+        station = stands.station;
+        takes = c.take_frame-frame.ensures.takes due.cable due.here;
+        there = stands.here;
+        is_end = stands.named ∙ ap (λ (p : PortId). p.clock) ends;
+        hears = rw (← port, ← c.deref.ensures.value) heard.hears;
+      };
+    }

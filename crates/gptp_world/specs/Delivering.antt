@@ -1,0 +1,46 @@
+-- What the code makes of a frame that arrives.
+use Rattle.std.specs.Prelude.{◌≡◌, ℕ, true, List, Option, Some, slice_get}
+use Rattle.gptp_links.specs.declared.bounds.Bounds.{Bounds}
+use Rattle.gptp_links.specs.Fate.{Draw, Draws}
+use Rattle.gptp_system.specs.declared.answer.Answer.{Answer}
+use Rattle.gptp_system.specs.Steps.{IsUp}
+use Rattle.gptp_vector.specs.declared.port.PortId.{PortId}
+use Rattle.gptp_world.specs.declared.cable.Lane.{Lane}
+use Rattle.gptp_world.specs.declared.stage.Stage.{Stage}
+use Rattle.gptp_world.specs.declared.station.Station.{Station}
+use Rattle.gptp_world.specs.Act.{Delivers, Hears}
+use Rattle.gptp_world.specs.Directory.{end_of, Join}
+use Rattle.gptp_world.specs.Stage.{world_of, HasRoomToCall}
+
+-- where the system at a place is live, the link of this port is up
+abbrev pub IsHeardAt : ℕ → ℕ → Stage → Type 0
+IsHeardAt place port stage = (station : Station) → slice_get stage.stations.items place ≡ Some station → station.live ≡ true
+    → IsUp station.system port
+
+-- a port hears a frame, or the system has failed
+pub record HeardAt {F : Type 0} (answers : Bounds → ℕ → F → Option ℕ → F → Type 0) (place port : ℕ) (octets : List ℕ)
+    (answer : Option Answer) (fate fate_after : F) (stage stage_after : Stage) : Type 0 where
+  pub draws : List Draw
+  pub drawn : Draws answers fate draws fate_after
+  pub hears : Hears place port octets (world_of stage) draws answer (world_of stage_after)
+
+-- the same of the port at which a lane ends
+abbrev pub MayHear : Lane → Stage → Type 0
+MayHear lane stage = (join : Join) (place : ℕ) → slice_get stage.net.directory.joins lane.link ≡ Some join
+    → slice_get stage.net.directory.clocks place ≡ Some (end_of lane.direction join).clock
+    → IsHeardAt place (end_of lane.direction join).port stage
+
+-- there is room for whatever the system there can leave
+abbrev pub HasRoomToHear : Lane → Stage → Type 0
+HasRoomToHear lane stage = (join : Join) (place : ℕ) → slice_get stage.net.directory.joins lane.link ≡ Some join
+    → slice_get stage.net.directory.clocks place ≡ Some (end_of lane.direction join).clock → HasRoomToCall 1 place stage
+
+-- a frame reached a port, and was answered there so
+pub record Delivered {F : Type 0} (answers : Bounds → ℕ → F → Option ℕ → F → Type 0) (lane : Lane) (at : PortId)
+    (answer : Option Answer) (octets : List ℕ) (fate fate_after : F) (stage stage_after : Stage) : Type 0 where
+  pub join : Join
+  pub there : slice_get stage.net.directory.joins lane.link ≡ Some join
+  pub is_end : at ≡ end_of lane.direction join
+  pub draws : List Draw
+  pub drawn : Draws answers fate draws fate_after
+  pub delivers : Delivers lane.link lane.direction octets (world_of stage) draws answer (world_of stage_after)

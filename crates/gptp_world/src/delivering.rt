@@ -1,0 +1,70 @@
+//! Frames that reach a system.
+
+ghost use Rattle.std.specs.Prelude.{◌≡◌, ◌≤◌};
+
+use crate::cable::Lane;
+use crate::stage::Stage;
+use gptp_links::Fate;
+use gptp_system::Answer;
+use gptp_vector::PortId;
+
+/// A frame that reached a port, and what the system there answered; `None` where that has failed.
+#[derive(Drop)]
+pub(crate) struct Reached {
+    pub at: PortId,
+    pub answer: Option<Answer>,
+    pub frame: Vec<u8>,
+}
+
+/// The number of a port, from 1 to 16, in one octet.
+pub(crate) fn narrowed(port: u16) -> u8
+    requires { port ≤ 16 }
+    ensures { result ≡ port }
+{
+    port as u8
+}
+
+impl Stage {
+    ghost use Rattle.std.specs.Prelude.{◌≡◌, length, ◌<◌};
+    ghost use Rattle.gptp_world.specs.Net.{IsFrameDue};
+    ghost use Rattle.gptp_world.specs.Stage.{HasRoomToCall, IsStage};
+    ghost use Rattle.gptp_world.specs.Delivering.{Delivered, HasRoomToHear, HeardAt, IsHeardAt, MayHear};
+
+    /// The system at a place hears a frame at a port, unless it has failed.
+    fn hear_if_live<F: Fate>(
+        &mut self,
+        place: usize,
+        port: u8,
+        frame: &[u8],
+        fate: &mut F,
+    ) -> Option<Answer>
+        requires stage { IsStage self.old }
+        requires place { place < length self.old.stations.items }
+        requires heard { IsHeardAt place port self.old }
+        requires room { HasRoomToCall 1 place self.old }
+        ensures stage { IsStage self.new }
+        ensures heard { HeardAt F.answers place port frame.now result fate.old fate.new self.old self.new }
+    {
+        match self.stations[place].live {
+            true => Some(self.hear(place, port, frame, fate)),
+            false => None,
+        }
+    }
+
+    /// The oldest frame of a lane, which is due now, reaches the port at its end.
+    pub(crate) fn deliver<F: Fate>(&mut self, lane: Lane, fate: &mut F) -> Reached
+        requires stage { IsStage self.old }
+        requires due { IsFrameDue lane self.old.now self.old.net }
+        requires hears { MayHear lane self.old }
+        requires room { HasRoomToHear lane self.old }
+        ensures stage { IsStage self.new }
+        ensures delivered { Delivered F.answers lane result.at result.answer result.frame.items fate.old fate.new self.old self.new }
+    {
+        self.net.directory.well_formed();
+        let frame = self.net.take_frame(lane, self.now);
+        let place = self.net.directory.receiver(lane);
+        let at = self.net.directory.port_at(lane);
+        let answer = self.hear_if_live(place, narrowed(at.port), &frame, fate);
+        Reached { at, answer, frame }
+    }
+}
