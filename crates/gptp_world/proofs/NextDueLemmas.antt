@@ -1,5 +1,5 @@
 -- Where what is pending agrees with the state, what is next is due by the state too.
-use Rattle.std.proofs.Common.{◌≡◌, ℕ, zero, suc, ◌<◌, ◌≤◌, Bool, true, false, List, [], ◌∷◌, ◌++◌, length, Option, Some, None, slice_get, refl, sym, ap, ◌∙◌, arith}
+use Rattle.std.proofs.Common.{◌≡◌, ℕ, zero, suc, ◌≤◌, Bool, true, false, List, [], ◌∷◌, Option, Some, None, slice_get, refl, ap, ◌∙◌, arith}
 use Rattle.std.specs.List.{AllByRecursion}
 use Rattle.std.specs.Option.{option_and_then}
 use Rattle.std.proofs.lemmas.Option.{none-some, slice_get_within}
@@ -12,7 +12,7 @@ use Rattle.gptp_system.specs.State.{SystemState, age_due, announce_due, due, hel
 use Rattle.gptp_system.specs.Steps.{IsPortOf, IsTimerOf}
 use Rattle.gptp_world.specs.declared.item.Item.TheVariants.{Expiry, Arrival}
 use Rattle.gptp_world.specs.declared.station.Station.{Station}
-use Rattle.gptp_world.specs.Pending.{times, IsNext}
+use Rattle.gptp_world.specs.Pending.{IsNext}
 use Rattle.gptp_world.specs.World.{Channel, WorldState, queue, station_due}
 use Rattle.gptp_world.specs.Agrees.{Agrees}
 use Rattle.gptp_world.proofs.AgreeLemmas.{arriving, dues, running}
@@ -111,7 +111,8 @@ next_comes link direction time w ordered agrees next = by (slice_get w.net.chann
         (agrees (Arrival link direction) ∙ ap (arriving direction) none)))
     by (Some channel) here = on (queue direction channel) refl (ordered channel here)
       where
-        on : (frames : List Frame) → queue direction channel ≡ frames → AreDueInOrder frames → Comes link direction time w
+        on : (frames : List Frame) → queue direction channel ≡ frames → AreDueInOrder frames
+            → Comes link direction time w
         on [] none order =
             absurd (none-some time (next-due w.net.pending time (Arrival link direction) None next
             (agrees (Arrival link direction) ∙ ap (arriving direction) here ∙ ap dues none)))
