@@ -36,6 +36,7 @@ use Rattle.gptp_world.proofs.TimerLemmas.{item_is, no_timer, other_system, times
 abbrev pub running : Timer → Option Station → List ℕ
 running timer here = option_map_or (λ station. listed (station_due timer station)) here []
 
+-- when frames are due
 abbrev pub dues : List Frame → List ℕ
 dues = map (λ (f : Frame). f.due)
 
@@ -67,9 +68,11 @@ agrees_but place w agrees = record {
 
 -- ---- a system becomes another, and its timers follow
 
+-- another system stands at a place, and its timers are set
 abbrev pub replaced : ℕ → Station → WorldState → WorldState
 replaced place station w = record (with_station place station w) { net = all_timers place station w.net }
 
+-- it has as many ports as the one before, whose timers may have been pending at any times
 pub replaced_agrees : (place : ℕ) (w : WorldState) (old new : Station) → slice_get w.stations place ≡ Some old
     → length new.system.ports ≡ length old.system.ports → AgreesBut place w → Agrees (replaced place new w)
 replaced_agrees place w old new here count but (Arrival link direction) =
@@ -101,6 +104,7 @@ pub record OnlyArrivals (place : ℕ) (es es' : List Entry) : Type 0 where
   pub arrivals : (link : ℕ) (direction : Direction) → link ≢ place
       → times (Arrival link direction) es' ≡ times (Arrival link direction) es
 
+-- a timer is no arrival, and arrivals on different links or in different directions differ
 pub no_arrival : (p : ℕ) (timer : Timer) (link : ℕ) (direction : Direction)
     → same_item (Expiry p timer) (Arrival link direction) ≡ false
 no_arrival p timer link direction = by (same_item (Expiry p timer) (Arrival link direction)) refl
@@ -198,6 +202,7 @@ sends_one_agrees now from octets draw w net' agrees one =
     subst (λ n. Agrees (record w { net = n })) (sym one.after)
     (entered_agrees one.place one.direction one.channel now octets draw.answer w one.here agrees)
 
+-- each send goes onto a link or nowhere
 pub sends_agree : (now : ℕ) (s : SystemState) (xs : List Sending) (draws : List Draw) (w : WorldState) (net' : Net)
     → Agrees w → SendsAll now s xs draws w.net net' → Agrees (record w { net = net' })
 sends_agree now s [] draws w net' agrees sends = subst (λ n. Agrees (record w { net = n })) (sym sends.1) agrees
@@ -234,6 +239,7 @@ takes_agree place direction now octets channel w net' agrees takes =
     (queue_agrees place direction w channel takes.rest (without_first i w.net.pending) takes.here after
     (λ j differ. times-without_first_other i j w.net.pending differ) agrees)
 
+-- the receiver answers, or is silent
 pub hears_agree : (place port : ℕ) (octets : List ℕ) (w : WorldState) (draws : List Draw) (answer : Option Answer)
     (w' : WorldState) → Agrees w → Hears place port octets w draws answer w' → Agrees w'
 hears_agree place port octets w draws (Some answer) w' agrees hears =
@@ -264,6 +270,7 @@ stopped_agrees_but place timer w agrees =
           only_without_first place station.system.ports i es ((agrees_but place w agrees).only station here);
     }
 
+-- and its system is called
 pub expires_agree : (place : ℕ) (timer : Timer) (w : WorldState) (draws : List Draw) (w' : WorldState)
     → Agrees w → Expires place timer w draws w' → Agrees w'
 expires_agree place timer w draws w' agrees expires =

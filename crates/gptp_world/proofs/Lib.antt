@@ -1,5 +1,6 @@
 pub mod AgreeLemmas
 pub mod ChangeAgreeLemmas
+pub mod NextDueLemmas
 pub mod OwnTimerLemmas
 pub mod PortCountLemmas
 pub mod PlaceLemmas

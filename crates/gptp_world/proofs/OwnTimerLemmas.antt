@@ -1,11 +1,12 @@
 -- The timers that a system has, and that only those run and are pending.
 use Rattle.std.proofs.Common.{◌≡◌, ◌⊎◌, ℕ, zero, suc, ◌+◌, Bool, true, false, List, [], ◌∷◌, drop, length, Option, Some, None, slice_get, refl, sym, ap, subst, ◌∙◌, inl, inr, arith}
+use Rattle.std.specs.Option.{option_and_then}
 use Rattle.std.proofs.lemmas.Option.{none-some}
 use Rattle.gptp_graph.specs.Members.{In}
 use Rattle.gptp_system.specs.declared.port.Port.{Port}
 use Rattle.gptp_system.specs.declared.timer.Timer.{Timer}
 use Rattle.gptp_system.specs.declared.timer.Timer.TheVariants as timers
-use Rattle.gptp_system.specs.State.{SystemState, due, number}
+use Rattle.gptp_system.specs.State.{SystemState, age_due, announce_due, due, held_at, number}
 use Rattle.gptp_world.specs.declared.item.Item.{Item}
 use Rattle.gptp_world.specs.declared.item.Item.TheVariants.{Expiry}
 use Rattle.gptp_world.specs.declared.station.Station.{Station}
@@ -69,24 +70,22 @@ own_timers n [] = (inl refl, inr (inl refl))
 own_timers n (p ∷ ps) =
     let rest = own_timers (n + 1) ps in (inr (inr (inr (inr rest.0))), inr (inr (inr (inr rest.1))))
 
+-- a timer of a port is one of the system's, or there is no such port
+port_timer : (timer : Timer) (runs : Port → Option ℕ) (s : SystemState) (p : ℕ)
+    → (HasTimers p (timers_from 1 s.ports) → In timer (timers_from 1 s.ports))
+    → In timer (timers_from 1 s.ports) ⊎ (option_and_then runs (number s.ports p) ≡ None)
+port_timer timer runs s p among = elim (number_timers s.ports p) [
+  | inl has ↦ inl (among has)
+  | inr none ↦ inr (rw none refl)
+]
+
 -- a timer is one of the system's, or doesn't run
 pub has_timer : (timer : Timer) (s : SystemState) → In timer (timers_from 1 s.ports) ⊎ (due timer s ≡ None)
-has_timer (timers.Pdelay p) s = elim (number_timers s.ports p) [
-  | inl has ↦ inl has.pdelay
-  | inr none ↦ inr (rw none refl)
-]
-has_timer (timers.Respond p) s = elim (number_timers s.ports p) [
-  | inl has ↦ inl has.respond
-  | inr none ↦ inr (rw none refl)
-]
-has_timer (timers.Announce p) s = elim (number_timers s.ports p) [
-  | inl has ↦ inl has.announce
-  | inr none ↦ inr (rw none refl)
-]
-has_timer (timers.Age p) s = elim (number_timers s.ports p) [
-  | inl has ↦ inl has.age
-  | inr none ↦ inr (rw none refl)
-]
+has_timer (timers.Pdelay p) s = port_timer (timers.Pdelay p) (λ (q : Port). q.pdelay) s p (λ has. has.pdelay)
+has_timer (timers.Respond p) s = port_timer (timers.Respond p) (λ (q : Port). q.respond) s p (λ has. has.respond)
+has_timer (timers.Announce p) s =
+    port_timer (timers.Announce p) (λ q. announce_due q (held_at s p)) s p (λ has. has.announce)
+has_timer (timers.Age p) s = port_timer (timers.Age p) (λ q. age_due s.params q (held_at s p)) s p (λ has. has.age)
 has_timer timers.Sync s = inl (own_timers 1 s.ports).0
 has_timer timers.Relay s = inl (own_timers 1 s.ports).1
 

@@ -1,19 +1,19 @@
 -- How many ports each system has: as many as its setup says, after every act.
-use Rattle.std.proofs.Common.{◌≡◌, ◌≢◌, ◌⊎◌, ℕ, false, List, [], ◌∷◌, map, length, Option, Some, None, slice_get, slice_set, sym, ap, subst, ◌∙◌, inl, inr}
+use Rattle.std.proofs.Common.{◌≡◌, ◌≢◌, ◌⊎◌, ℕ, Bool, true, false, List, [], ◌∷◌, map, length, Option, Some, None, slice_get, slice_set, sym, ap, subst, ◌∙◌, inl, inr}
 use Rattle.std.proofs.lemmas.Option.{same_Some}
 use Rattle.gptp_links.specs.declared.link.Direction.{Direction}
 use Rattle.gptp_links.specs.Fate.{Draw}
 use Rattle.gptp_roles.specs.Selection.{clock_of}
 use Rattle.gptp_system.specs.declared.answer.Answer.{Answer}
 use Rattle.gptp_system.specs.declared.timer.Timer.{Timer}
-use Rattle.gptp_system.specs.Input.{Input, PortUp, Frame as FrameHeard, Expires as TimerExpires}
+use Rattle.gptp_system.specs.Input.{Input, PortUp, PortDown, Frame as FrameHeard, Expires as TimerExpires}
 use Rattle.gptp_system.proofs.FactLemmas.{keeps_length}
 use Rattle.gptp_system.proofs.ReadyLemmas.{length-new_ports}
 use Rattle.gptp_system.proofs.StepLemmas.{steps_sound}
 use Rattle.gptp_world.specs.declared.station.Station.{Station}
 use Rattle.gptp_world.specs.World.{Channel, Net, WorldState, receiver}
 use Rattle.gptp_world.specs.Act.{all_timers, in_state, Calls, Delivers, Expires, Hears}
-use Rattle.gptp_world.specs.Changing.{failed, fresh, up_ports, with_setup, with_station, CallsAll, CallsIfLive, Starts, StartsAll, TellsEnds}
+use Rattle.gptp_world.specs.Changing.{brought_up, failed, fresh, taken_down, up_ports, with_setup, with_station, CallsAll, CallsIfLive, ComesUpIf, FailsIf, GoesDownIf, RecoversIf, Starts, StartsAll, TellsEnds}
 use Rattle.gptp_world.specs.Agrees.{stopped, HaveTheirPorts}
 use Rattle.gptp_world.proofs.PlaceLemmas.{get-set_same, get-set_other, same_place}
 
@@ -111,3 +111,29 @@ pub starts_all_have_ports : (places : List ℕ) (w : WorldState) (draws : List D
 starts_all_have_ports [] w draws w' have starts = subst HaveTheirPorts (sym starts.1) have
 starts_all_have_ports (place ∷ places) w draws w' have (first, rest, between, is, one, more) =
     starts_all_have_ports places between rest w' (starts_have_ports place w first between have one) more
+
+-- ---- changes, where they change something
+
+pub goes_down_if_have_ports : (up : Bool) (place : ℕ) (channel : Channel) (w : WorldState) (draws : List Draw)
+    (w' : WorldState) → HaveTheirPorts w → GoesDownIf up place channel w draws w' → HaveTheirPorts w'
+goes_down_if_have_ports false place channel w draws w' have goes = subst HaveTheirPorts (sym goes.1) have
+goes_down_if_have_ports true place channel w draws w' have goes =
+    tells_ends_have_ports PortDown channel (record w { net = taken_down place channel w.net }) draws w' have goes
+
+pub comes_up_if_have_ports : (up : Bool) (place : ℕ) (channel : Channel) (w : WorldState) (draws : List Draw)
+    (w' : WorldState) → HaveTheirPorts w → ComesUpIf up place channel w draws w' → HaveTheirPorts w'
+comes_up_if_have_ports true place channel w draws w' have comes = subst HaveTheirPorts (sym comes.1) have
+comes_up_if_have_ports false place channel w draws w' have comes =
+    tells_ends_have_ports PortUp channel (record w { net = brought_up place channel w.net }) draws w' have comes
+
+pub fails_if_have_ports : (live : Bool) (place : ℕ) (station : Station) (w : WorldState) (draws : List Draw)
+    (w' : WorldState) → slice_get w.stations place ≡ Some station → HaveTheirPorts w
+    → FailsIf live place station w draws w' → HaveTheirPorts w'
+fails_if_have_ports true place station w draws w' here have fails =
+    subst HaveTheirPorts (sym fails.1) (fails_have_ports place station w here have)
+fails_if_have_ports false place station w draws w' here have fails = subst HaveTheirPorts (sym fails.1) have
+
+pub recovers_if_have_ports : (live : Bool) (place : ℕ) (w : WorldState) (draws : List Draw) (w' : WorldState)
+    → HaveTheirPorts w → RecoversIf live place w draws w' → HaveTheirPorts w'
+recovers_if_have_ports true place w draws w' have recovers = subst HaveTheirPorts (sym recovers.1) have
+recovers_if_have_ports false place w draws w' have recovers = starts_have_ports place w draws w' have recovers

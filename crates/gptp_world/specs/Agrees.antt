@@ -40,7 +40,7 @@ pub record AgreesBut (place : ℕ) (w : WorldState) : Type 0 where
   pub only : (station : Station) → slice_get w.stations place ≡ Some station
       → OnlyItsTimers place station.system.ports w.net.pending
 
--- a timer that expires isn't pending any more
+-- the first entry of a timer is taken, as it expires
 abbrev pub stopped : ℕ → Timer → WorldState → WorldState
 stopped place timer w =
     record w { net = record w.net { pending = without_first (Expiry place timer) w.net.pending } }
