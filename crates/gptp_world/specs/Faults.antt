@@ -1,5 +1,8 @@
 -- Tests in their order, and what is answered by them.
 use Rattle.std.specs.Prelude.{◌≡◌, ◌⊎◌, ℕ, codes, Bool, if◌then◌else◌, List, [], ◌∷◌, Option, Some, None}
+use Rattle.gptp_world.specs.declared.done.Refused.{Refused}
+use Rattle.gptp_world.specs.declared.done.Refused.TheVariants.{InThePast, Untimely, NoSuch, NotDue}
+use Rattle.gptp_world.specs.declared.done.Refused.TheVariants as refuses
 use Rattle.gptp_world.specs.declared.fault.NetworkFault.{NetworkFault}
 use Rattle.gptp_world.specs.declared.fault.NetworkFault.TheVariants.{OutOfRange, DuplicateClock, SelfLink, PortTaken, NoSuchPort, DelayTooLong, TooMany, Timing, OutOfMemory}
 
@@ -23,3 +26,11 @@ fault_text DelayTooLong = codes "9 DelayTooLong"
 fault_text TooMany = codes "11 TooMany"
 fault_text Timing = codes "12 Timing"
 fault_text OutOfMemory = codes "13 OutOfMemory"
+
+-- why an act was refused, as its number and its name
+abbrev pub refused_text : Refused → List ℕ
+refused_text InThePast = codes "1 InThePast"
+refused_text Untimely = codes "2 Untimely"
+refused_text NoSuch = codes "3 NoSuch"
+refused_text NotDue = codes "4 NotDue"
+refused_text refuses.OutOfMemory = codes "5 OutOfMemory"

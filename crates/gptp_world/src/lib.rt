@@ -18,6 +18,7 @@ mod change;
 mod changing;
 mod delivering;
 mod directory;
+mod done;
 mod fault;
 mod filed;
 mod item;
@@ -33,6 +34,7 @@ mod station;
 mod timing;
 
 pub use change::{Act, Change, Timed};
+pub use done::{Done, Refused};
 pub use fault::NetworkFault;
 pub use gptp_system::Params;
 pub use item::Item;
