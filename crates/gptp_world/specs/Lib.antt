@@ -1,4 +1,5 @@
 pub mod Act
+pub mod Aim
 pub mod Acts
 pub mod Agrees
 pub mod Ahead

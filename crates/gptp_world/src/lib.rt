@@ -10,6 +10,7 @@
 //! put onto their links, each with one draw of the fate, while every other system stays as it is. `specs/Act.antt` says so.
 #![tactic(auto)]
 
+mod aim;
 mod arriving;
 mod buffers;
 mod cable;

@@ -1,0 +1,63 @@
+-- What the code finds an act to be about: links and systems by place.
+use Rattle.std.specs.Prelude.{◌≡◌, ℕ, ⊤, slice_get, Some}
+use Rattle.gptp_system.specs.declared.timer.Timer.{Timer}
+use Rattle.gptp_system.specs.Steps.{IsTimerOf}
+use Rattle.gptp_vector.specs.declared.port.PortId.{PortId}
+use Rattle.gptp_world.specs.declared.aim.Aim.{Aim}
+use Rattle.gptp_world.specs.declared.aim.Aim.TheVariants as aims
+use Rattle.gptp_world.specs.declared.change.Act.{Act}
+use Rattle.gptp_world.specs.declared.change.Act.TheVariants.{Deliver, Expire, Change as Changing}
+use Rattle.gptp_world.specs.declared.change.Change.{Change}
+use Rattle.gptp_world.specs.declared.change.Change.TheVariants as changes
+use Rattle.gptp_world.specs.declared.station.Station.{Station}
+use Rattle.gptp_world.specs.Acts.{set_to, AtPlace, IsOldestDue}
+use Rattle.gptp_world.specs.Changing.{IsChannel, IsStation}
+use Rattle.gptp_world.specs.Net.{port_id}
+use Rattle.gptp_world.specs.World.{Channel, WorldState, station_due}
+
+-- the link at this place is at the port
+pub record IsLinkAt (port : PortId) (w : WorldState) (place : ℕ) : Type 0 where
+  pub channel : Channel
+  pub is : IsChannel port place w.net channel
+
+-- the system at this place has the clock
+pub record IsSystemAt (number : ℕ) (w : WorldState) (place : ℕ) : Type 0 where
+  pub station : Station
+  pub is : IsStation number place w station
+
+-- a change is about this
+abbrev pub IsAimOfChange : Change → WorldState → Aim → Type 0
+IsAimOfChange (changes.LinkDown number port) w (aims.LinkDown link) = IsLinkAt (port_id number port) w link
+IsAimOfChange (changes.LinkUp number port) w (aims.LinkUp link) = IsLinkAt (port_id number port) w link
+IsAimOfChange (changes.LinkSet number port min max loss) w (aims.LinkSet link bounds) =
+    (at : IsLinkAt (port_id number port) w link) × (bounds ≡ set_to min max loss at.channel)
+IsAimOfChange (changes.Fail number) w (aims.Fail place) = IsSystemAt number w place
+IsAimOfChange (changes.Recover number) w (aims.Recover place) = IsSystemAt number w place
+IsAimOfChange (changes.Priority1 number value) w (aims.Priority1 place set) = IsSystemAt number w place × (set ≡ value)
+IsAimOfChange change w aim = ⊥
+
+-- the system with a clock and a timer
+pub record IsTimerAt (number : ℕ) (w : WorldState) (place : ℕ) (timer : Timer) : Type 0 where
+  pub station : Station
+  pub is : IsStation number place w station
+  pub timer_of : IsTimerOf station.system timer
+
+-- an act is about this
+abbrev pub IsAimOf : Act → WorldState → Aim → Type 0
+IsAimOf (Deliver link direction) w (aims.Arrival lane) =
+    (lane.link ≡ link) × ((lane.direction ≡ direction) × AtPlace link w.net (λ channel. ⊤))
+IsAimOf (Expire number timer) w (aims.Timer place set) = IsTimerAt number w place timer × (set ≡ timer)
+IsAimOf (Changing change) w aim = IsAimOfChange change w aim
+IsAimOf act w aim = ⊥
+
+-- a timer of the system at a place is due at this time
+pub record IsTimerDue (place : ℕ) (timer : Timer) (time : ℕ) (w : WorldState) : Type 0 where
+  pub station : Station
+  pub here : slice_get w.stations place ≡ Some station
+  pub due : station_due timer station ≡ Some time
+
+-- what it is about is due at this time
+abbrev pub IsDueAim : Aim → ℕ → WorldState → Type 0
+IsDueAim (aims.Arrival lane) time w = AtPlace lane.link w.net (IsOldestDue lane.direction time)
+IsDueAim (aims.Timer place timer) time w = IsTimerDue place timer time w
+IsDueAim aim time w = ⊤
