@@ -21,3 +21,4 @@ pub mod ListLemmas
 pub mod SpanLemmas
 pub mod SteadyLemmas
 pub mod DueByLemmas
+pub mod AheadLemmas

@@ -1,13 +1,15 @@
 -- A world whose systems are as their steps ask, and in which nothing is due before its time.
 use Rattle.std.specs.Prelude.{◌≡◌, ◌≢◌, ◌≤◌, ℕ, nat_le, true, List, length, Some, slice_get}
 use Rattle.std.specs.List.{filter}
+use Rattle.gptp_vector.specs.declared.port.PortId.{PortId}
 use Rattle.gptp_links.specs.Bounds.{Fit}
 use Rattle.gptp_system.specs.declared.port.Port.{Port}
 use Rattle.gptp_system.specs.declared.timer.Timer.{Timer}
 use Rattle.gptp_system.specs.Facts.{AreHeld, AreShown, IsAtRest}
 use Rattle.gptp_system.specs.Input.{Input, Expires}
 use Rattle.gptp_system.specs.Intervals.{AreParams, IsLog}
-use Rattle.gptp_system.specs.State.{SystemState, due}
+use Rattle.gptp_system.specs.State.{SystemState, clock, due}
+use Rattle.gptp_system.specs.Steps.{IsPortOf}
 use Rattle.gptp_world.specs.declared.item.Item.TheVariants.{Expiry}
 use Rattle.gptp_world.specs.declared.station.Station.{Station}
 use Rattle.gptp_world.specs.Pending.{Entry, times, listed, NothingBefore}
@@ -29,7 +31,7 @@ pub record IsSteady (s : SystemState) : Type 0 where
 abbrev pub NoneLate : ℕ → SystemState → Type 0
 NoneLate time s = (timer : Timer) (t : ℕ) → due timer s ≡ Some t → time ≤ t
 
--- Each timer of the system at a place is pending just when it is due. Where the input is that one runs out, that one needn't be.
+-- Each timer of the system at a place is pending just when it is due. One that the input says runs out needn't be.
 abbrev pub ArePending : ℕ → Input → SystemState → List Entry → Type 0
 ArePending place input s es =
     (timer : Timer) → input ≢ Expires timer → times (Expiry place timer) es ≡ listed (due timer s)
@@ -54,3 +56,8 @@ pub record IsWorldOnTime (w : WorldState) : Type 0 where
 abbrev pub HasPorts : ℕ → ℕ → WorldState → Type 0
 HasPorts place ports w =
     (station : Station) → slice_get w.stations place ≡ Some station → length station.system.ports ≡ ports
+
+-- a port is one of the system that has its clock
+abbrev pub IsPortAmong : PortId → List Station → Type 0
+IsPortAmong port stations = (place : ℕ) (station : Station) → slice_get stations place ≡ Some station
+    → clock station.system ≡ port.clock → IsPortOf station.system port.port
