@@ -22,3 +22,4 @@ pub mod SpanLemmas
 pub mod SteadyLemmas
 pub mod DueByLemmas
 pub mod AheadLemmas
+pub mod OnTimeLemmas

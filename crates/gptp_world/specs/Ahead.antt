@@ -13,7 +13,7 @@ use Rattle.gptp_system.specs.Steps.{IsPortOf}
 use Rattle.gptp_world.specs.declared.item.Item.TheVariants.{Expiry}
 use Rattle.gptp_world.specs.declared.station.Station.{Station}
 use Rattle.gptp_world.specs.Pending.{Entry, times, listed, NothingBefore}
-use Rattle.gptp_world.specs.World.{Channel, WorldState}
+use Rattle.gptp_world.specs.World.{Channel, WorldState, station_due}
 
 -- how much is pending at a time or before it
 abbrev pub due_by : ℕ → List Entry → ℕ
@@ -35,6 +35,11 @@ NoneLate time s = (timer : Timer) (t : ℕ) → due timer s ≡ Some t → time 
 abbrev pub ArePending : ℕ → Input → SystemState → List Entry → Type 0
 ArePending place input s es =
     (timer : Timer) → input ≢ Expires timer → times (Expiry place timer) es ≡ listed (due timer s)
+
+-- so it is with the timers of all systems; none of one that has failed is pending
+abbrev pub AllArePending : WorldState → Type 0
+AllArePending w = (place : ℕ) (station : Station) → slice_get w.stations place ≡ Some station
+    → (timer : Timer) → times (Expiry place timer) w.net.pending ≡ listed (station_due timer station)
 
 -- a station can start, its system is steady, and no timer of it is late where it is live
 pub record IsOnTime (time : ℕ) (station : Station) : Type 0 where
