@@ -23,3 +23,4 @@ pub mod SteadyLemmas
 pub mod DueByLemmas
 pub mod AheadLemmas
 pub mod OnTimeLemmas
+pub mod ChangeOnTimeLemmas
