@@ -21,7 +21,7 @@ use Rattle.gptp_world.specs.Changing.{CallsAll, CallsIfLive, ComesUpIf, FailsIf,
 use Rattle.gptp_world.specs.Item.{same_item}
 use Rattle.gptp_world.specs.Pending.{Entry, NothingBefore, listed, times, without, without_first}
 use Rattle.gptp_world.specs.World.{Channel, Net, WorldState, queue, receiver, station_due, timers_from, with_queue}
-use Rattle.gptp_world.proofs.AheadLemmas.{calls_due_by, calls_on_time, calls_ports, live_due, nothing_before-set_timers, pending_none_late, relinked_fit, requeued_fit}
+use Rattle.gptp_world.proofs.AheadLemmas.{calls_due_by, calls_nothing_before, calls_on_time, calls_ports, live_due, nothing_before-set_timers, pending_none_late, relinked_fit, requeued_fit}
 use Rattle.gptp_world.proofs.DueByLemmas.{due_by-taken}
 use Rattle.gptp_world.proofs.ListLemmas.{same_there}
 use Rattle.gptp_world.proofs.MomentLemmas.{nothing_before-without, nothing_before-without_first}
@@ -88,29 +88,47 @@ module _ (place : ℕ) (timer : Timer) (w : WorldState) (draws : List Draw) (w' 
       })
       out_timely
 
-  -- An expiry leaves less to do by now.
+  -- the system is the one that agrees, and all its other timers are pending still
+  out_steady : IsSteady k.station.system → IsSteady k.calls.station.system
+  out_steady = subst (λ (x : Station). IsSteady x.system) (sym one_station)
+
+  out_pending : ((t : Timer) → times (Expiry place t) w.net.pending ≡ listed (station_due t k.station))
+      → ArePending place (TimerExpires timer) k.calls.station.system left
+  out_pending agree t other =
+      times-without_first_other (Expiry place timer) (Expiry place t) w.net.pending
+      (other_item place timer t other (same_item (Expiry place t) (Expiry place timer)) refl)
+      ∙ agree t ∙ ap listed (station_dues t)
+
+  -- Where what is pending agrees with the system, an expiry leaves nothing pending before now.
+  pub expires_nothing_before : IsSteady k.station.system → AreFit w.net.channels
+      → ((t : Timer) → times (Expiry place t) w.net.pending ≡ listed (station_due t k.station))
+      → NothingBefore w.time w.net.pending → NothingBefore w.time w'.net.pending
+  expires_nothing_before steady fit agree none =
+      calls_nothing_before place (TimerExpires timer) between draws k.answer w' k.calls (out_steady steady) out_timely fit
+      (out_pending agree) (nothing_before-without_first w.time (Expiry place timer) w.net.pending none)
+
+  -- And it leaves less to do by now.
   pub expires_due_by : IsSteady k.station.system → AreFit w.net.channels
       → ((t : Timer) → times (Expiry place t) w.net.pending ≡ listed (station_due t k.station))
       → due_by w.time w'.net.pending < due_by w.time w.net.pending
   expires_due_by steady fit agree =
-      let pending : ArePending place (TimerExpires timer) k.calls.station.system left =
-      λ t other. times-without_first_other (Expiry place timer) (Expiry place t) w.net.pending
-      (other_item place timer t other (same_item (Expiry place t) (Expiry place timer)) refl)
-      ∙ agree t ∙ ap listed (station_dues t) in
       let less : due_by w.time left + 1 ≡ due_by w.time w.net.pending =
       due_by-taken w.time (Expiry place timer) w.net.pending w.time [] (agree timer ∙ ap listed k.now_due)
       (omega arith) in
-      let call = calls_due_by place (TimerExpires timer) between draws k.answer w' k.calls
-      (subst (λ (x : Station). IsSteady x.system) (sym one_station) steady) out_timely fit pending in
+      let call = calls_due_by place (TimerExpires timer) between draws k.answer w' k.calls (out_steady steady) out_timely
+      fit (out_pending agree) in
       omega arith
 
 -- ---- a delivery
 
 module _ (link : ℕ) (direction : Direction) (octets : List ℕ) (w : WorldState) (draws : List Draw)
     (answer : Option Answer) (w' : WorldState) (k : Delivers link direction octets w draws answer w') where
-  -- the world without the frame
+  -- the world without the frame, and what the receiver is given
   abbrev emptied : WorldState
   emptied = record w { net = k.net }
+
+  abbrev heard : Input
+  heard = FrameHeard (receiver direction k.channel).port octets
 
   left_is : k.net.pending ≡ without_first (Arrival link direction) w.net.pending
   left_is = ap (λ (n : Net). n.pending) k.takes.is
@@ -130,7 +148,7 @@ module _ (link : ℕ) (direction : Direction) (octets : List ℕ) (w : WorldStat
 
   -- the frame is timely where the receiver's port is up
   heard_timely : (k.station.live ≡ true → IsUp k.station.system (receiver direction k.channel).port) → (one : Answer)
-      → (c : Calls k.place (FrameHeard (receiver direction k.channel).port octets) emptied draws one w')
+      → (c : Calls k.place heard emptied draws one w')
       → (k.station ≡ c.station) × IsUp c.station.system (receiver direction k.channel).port
   heard_timely up one c =
       let same : k.station ≡ c.station = same_there w.stations k.place k.station c.station k.there c.here in (
@@ -146,11 +164,42 @@ module _ (link : ℕ) (direction : Direction) (octets : List ℕ) (w : WorldStat
       by : (a : Option Answer) → Hears k.place (receiver direction k.channel).port octets emptied draws a w'
           → IsWorldOnTime w'
       by (Some one) c =
-          calls_on_time k.place (FrameHeard (receiver direction k.channel).port octets) emptied draws one w' c
+          calls_on_time k.place heard emptied draws one w' c
           (emptied_on_time on) (heard_timely up one c).1
       by None (failed, none, is) = subst IsWorldOnTime (sym is) (emptied_on_time on)
 
-  -- A delivery leaves less to do by now.
+  -- the timers of the receiver are pending still
+  heard_pending : (one : Answer) (c : Calls k.place heard emptied draws one w') → k.station ≡ c.station
+      → ((t : Timer) → times (Expiry k.place t) w.net.pending ≡ listed (station_due t k.station))
+      → ArePending k.place heard c.station.system k.net.pending
+  heard_pending one c same agree t other =
+      ap (times (Expiry k.place t)) left_is
+      ∙ times-without_first_other (Arrival link direction) (Expiry k.place t) w.net.pending
+      (no_arrival k.place t link direction)
+      ∙ agree t ∙ ap listed (ap (station_due t) same ∙ live_due c.station t c.live)
+
+  -- Where what is pending agrees with the receiver, a delivery leaves nothing pending before now.
+  pub delivers_nothing_before : IsSteady k.station.system
+      → (k.station.live ≡ true → IsUp k.station.system (receiver direction k.channel).port) → AreFit w.net.channels
+      → ((t : Timer) → times (Expiry k.place t) w.net.pending ≡ listed (station_due t k.station))
+      → NothingBefore w.time w.net.pending → NothingBefore w.time w'.net.pending
+  delivers_nothing_before steady up fit agree none = by answer k.hears
+    where
+      before : NothingBefore w.time k.net.pending
+      before =
+          subst (NothingBefore w.time) (sym left_is)
+          (nothing_before-without_first w.time (Arrival link direction) w.net.pending none)
+
+      by : (a : Option Answer) → Hears k.place (receiver direction k.channel).port octets emptied draws a w'
+          → NothingBefore w.time w'.net.pending
+      by (Some one) c =
+          let timely = heard_timely up one c in
+          calls_nothing_before k.place heard emptied draws one w' c
+          (subst (λ (x : Station). IsSteady x.system) timely.0 steady) timely.1 (emptied_fit fit)
+          (heard_pending one c timely.0 agree) before
+      by None (failed, none, is) = subst (λ (x : WorldState). NothingBefore w.time x.net.pending) (sym is) before
+
+  -- And it leaves less to do by now, where what is pending agrees with the link.
   pub delivers_due_by : IsSteady k.station.system
       → (k.station.live ≡ true → IsUp k.station.system (receiver direction k.channel).port) → AreFit w.net.channels
       → ((t : Timer) → times (Expiry k.place t) w.net.pending ≡ listed (station_due t k.station))
@@ -168,15 +217,9 @@ module _ (link : ℕ) (direction : Direction) (octets : List ℕ) (w : WorldStat
           → due_by w.time w'.net.pending < due_by w.time w.net.pending
       by (Some one) c =
           let timely = heard_timely up one c in
-          let same = timely.0 in
-          let input : Input = FrameHeard (receiver direction k.channel).port octets in
-          let pending : ArePending k.place input c.station.system k.net.pending =
-          λ t other. ap (times (Expiry k.place t)) left_is
-          ∙ times-without_first_other (Arrival link direction) (Expiry k.place t) w.net.pending
-          (no_arrival k.place t link direction)
-          ∙ agree t ∙ ap listed (ap (station_due t) same ∙ live_due c.station t c.live) in
-          let call = calls_due_by k.place input emptied draws one w' c
-          (subst (λ (x : Station). IsSteady x.system) same steady) timely.1 (emptied_fit fit) pending in
+          let call = calls_due_by k.place heard emptied draws one w' c
+          (subst (λ (x : Station). IsSteady x.system) timely.0 steady) timely.1 (emptied_fit fit)
+          (heard_pending one c timely.0 agree) in
           let first = less in
           omega arith
       by None (failed, none, is) =

@@ -51,7 +51,7 @@ pub record IsOnTime (time : ℕ) (station : Station) : Type 0 where
 abbrev pub AreFit : List Channel → Type 0
 AreFit channels = (place : ℕ) (channel : Channel) → slice_get channels place ≡ Some channel → Fit channel.bounds
 
--- So is every station, and nothing that is pending is late.
+-- Every station is on time, the bounds of every link are fit, and nothing that is pending is late.
 pub record IsWorldOnTime (w : WorldState) : Type 0 where
   pub stations : (place : ℕ) (station : Station) → slice_get w.stations place ≡ Some station → IsOnTime w.time station
   pub links : AreFit w.net.channels
