@@ -79,7 +79,8 @@ queue_bounds FromA frames channel = refl
 queue_bounds FromB frames channel = refl
 
 -- the queue of a link becomes another
-pub requeued_fit : (channels : List Channel) (place : ℕ) (direction : Direction) (frames : List Frame) (channel : Channel)
+pub requeued_fit : (channels : List Channel) (place : ℕ) (direction : Direction) (frames : List Frame)
+    (channel : Channel)
     → slice_get channels place ≡ Some channel → AreFit channels
     → AreFit (slice_set channels place (with_queue direction frames channel))
 requeued_fit channels place direction frames channel here fit =

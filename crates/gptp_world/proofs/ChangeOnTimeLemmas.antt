@@ -1,5 +1,5 @@
 -- Every change of the network leaves a world on time.
-use Rattle.std.proofs.Common.{◌≡◌, ℕ, suc, zero, ◌+◌, ◌≤◌, Bool, true, false, List, [], ◌∷◌, map, length, Option, Some, None, slice_get, refl, sym, ap, subst, ◌∙◌, inl, inr, arith}
+use Rattle.std.proofs.Common.{◌≡◌, ℕ, suc, zero, ◌+◌, ◌≤◌, Bool, true, false, List, [], ◌∷◌, map, length, Some, slice_get, refl, sym, ap, subst, ◌∙◌, inl, inr, arith}
 use Rattle.std.specs.List.{AllByRecursion, filter, range_with_len}
 use Rattle.std.proofs.lemmas.Option.{none-some, same_Some}
 use Rattle.gptp_links.specs.declared.bounds.Bounds.{Bounds}
@@ -12,10 +12,10 @@ use Rattle.gptp_system.specs.Steps.{IsPortOf}
 use Rattle.gptp_world.specs.declared.item.Item.TheVariants.{Arrival}
 use Rattle.gptp_world.specs.declared.station.Station.{Station}
 use Rattle.gptp_world.specs.Act.{all_timers}
-use Rattle.gptp_world.specs.Ahead.{AreFit, HasPorts, IsOnTime, IsPortAmong, IsWorldOnTime}
+use Rattle.gptp_world.specs.Ahead.{HasPorts, IsOnTime, IsPortAmong, IsWorldOnTime}
 use Rattle.gptp_world.specs.Changing.{CallsAll, CallsIfLive, ComesUpIf, FailsIf, GoesDownIf, RecoversIf, Starts, StartsAll, TellsEnds, brought_up, failed, fresh, is_up_at, lost, taken_down, up_ports, with_bounds, with_channel, with_setup, with_station}
-use Rattle.gptp_world.specs.Pending.{NothingBefore, without}
-use Rattle.gptp_world.specs.World.{Channel, Net, WorldState, timers_from}
+use Rattle.gptp_world.specs.Pending.{without}
+use Rattle.gptp_world.specs.World.{Channel, WorldState, timers_from}
 use Rattle.gptp_world.proofs.AheadLemmas.{calls_on_time, calls_ports, nothing_before-set_timers, relinked_fit}
 use Rattle.gptp_world.proofs.ListLemmas.{same_there}
 use Rattle.gptp_world.proofs.MomentLemmas.{nothing_before-without}

@@ -1,10 +1,9 @@
 -- How much is pending at a time or before it, as entries are put and taken.
-use Rattle.std.proofs.Common.{◌≡◌, ◌⊎◌, ℕ, ◌+◌, ◌≤◌, ◌<◌, nat_le, not, Bool, true, false, if◌then◌else◌, List, [], ◌∷◌, ◌++◌, length, Option, Some, None, refl, sym, ap, ◌∙◌, inl, inr, arith}
+use Rattle.std.proofs.Common.{◌≡◌, ◌⊎◌, ℕ, ◌+◌, ◌≤◌, ◌<◌, nat_le, Bool, true, false, if◌then◌else◌, List, [], ◌∷◌, ◌++◌, length, Option, Some, None, refl, sym, ap, ◌∙◌, inl, inr, arith}
 use Rattle.std.specs.List.{AllByRecursion, filter}
 use Rattle.std.proofs.lemmas.Bool.Decides.{nat_tests}
 use Rattle.std.proofs.lemmas.List.{length-append}
 use Rattle.std.proofs.lemmas.List.Elements.{filter-append}
-use Rattle.std.proofs.lemmas.Option.{none-some, same_Some}
 use Rattle.gptp_system.specs.declared.timer.Timer.{Timer}
 use Rattle.gptp_world.specs.declared.item.Item.{Item}
 use Rattle.gptp_world.specs.declared.item.Item.TheVariants.{Expiry}
@@ -133,7 +132,8 @@ module _ (time : ℕ) where
     set-step set timer es ahead false b t is = by (ahead timer t is)
       where
         by : (times (Expiry place timer) es ≡ t ∷ []) ⊎ (time < t)
-            → (times (Expiry place timer) (set_due (Expiry place set) (station_due set station) es) ≡ t ∷ []) ⊎ (time < t)
+            → (times (Expiry place timer) (set_due (Expiry place set) (station_due set station) es) ≡ t ∷ [])
+            ⊎ (time < t)
         by (inl kept) =
             inl (times-set_due_other (Expiry place set) (Expiry place timer) (station_due set station) es b ∙ kept)
         by (inr later) = inr later

@@ -1,33 +1,26 @@
 -- Every act leaves a world on time, and less to do by then.
-use Rattle.std.proofs.Common.{◌≡◌, ◌≢◌, ◌⊎◌, ℕ, suc, ◌+◌, ◌≤◌, ◌<◌, Bool, true, false, ◌&&◌, ◌||◌, List, [], ◌∷◌, map, length, Option, Some, None, slice_get, slice_set, refl, sym, ap, subst, ◌∙◌, inl, inr, arith}
-use Rattle.std.specs.List.{AllByRecursion, filter, range_with_len}
-use Rattle.std.proofs.lemmas.Option.{none-some, same_Some}
-use Rattle.gptp_links.specs.declared.bounds.Bounds.{Bounds}
+use Rattle.std.proofs.Common.{◌≡◌, ◌≢◌, ℕ, ◌+◌, ◌≤◌, ◌<◌, Bool, true, false, List, [], map, Option, Some, None, slice_get, refl, sym, ap, subst, ◌∙◌, arith}
 use Rattle.gptp_links.specs.declared.link.Direction.{Direction}
-use Rattle.gptp_links.specs.declared.link.Direction.TheVariants.{FromA, FromB}
-use Rattle.gptp_links.specs.Bounds.{Fit}
 use Rattle.gptp_links.specs.Fate.{Draw}
 use Rattle.gptp_links.specs.Queue.{Frame}
 use Rattle.gptp_system.specs.declared.answer.Answer.{Answer}
 use Rattle.gptp_system.specs.declared.timer.Timer.{Timer}
-use Rattle.gptp_system.specs.Input.{Input, IsTimely, PortUp, PortDown, Frame as FrameHeard, Expires as TimerExpires}
-use Rattle.gptp_system.specs.State.{SystemState, clock, due}
-use Rattle.gptp_system.specs.Steps.{IsDue, IsPortOf, IsUp}
+use Rattle.gptp_system.specs.Input.{Input, Frame as FrameHeard, Expires as TimerExpires}
+use Rattle.gptp_system.specs.State.{due}
+use Rattle.gptp_system.specs.Steps.{IsDue, IsUp}
 use Rattle.gptp_world.specs.declared.item.Item.TheVariants.{Arrival, Expiry}
 use Rattle.gptp_world.specs.declared.station.Station.{Station}
-use Rattle.gptp_world.specs.Act.{Calls, Delivers, Expires, Hears, all_timers}
-use Rattle.gptp_world.specs.Ahead.{AllArePending, AreFit, ArePending, HasPorts, IsOnTime, IsPortAmong, IsSteady, IsWorldOnTime, due_by}
-use Rattle.gptp_world.specs.Changing.{CallsAll, CallsIfLive, ComesUpIf, FailsIf, GoesDownIf, RecoversIf, Starts, StartsAll, TellsEnds, brought_up, failed, fresh, is_up_at, lost, taken_down, up_ports, with_bounds, with_channel, with_station}
+use Rattle.gptp_world.specs.Act.{Calls, Delivers, Expires, Hears}
+use Rattle.gptp_world.specs.Ahead.{AllArePending, AreFit, ArePending, IsSteady, IsWorldOnTime, due_by}
+use Rattle.gptp_world.specs.Changing.{failed}
 use Rattle.gptp_world.specs.Item.{same_item}
-use Rattle.gptp_world.specs.Pending.{Entry, NothingBefore, listed, times, without, without_first}
-use Rattle.gptp_world.specs.World.{Channel, Net, WorldState, queue, receiver, station_due, timers_from, with_queue}
-use Rattle.gptp_world.proofs.AheadLemmas.{calls_due_by, calls_nothing_before, calls_on_time, calls_ports, live_due, nothing_before-set_timers, pending_none_late, relinked_fit, requeued_fit}
+use Rattle.gptp_world.specs.Pending.{Entry, NothingBefore, listed, times, without_first}
+use Rattle.gptp_world.specs.World.{Net, WorldState, queue, receiver, station_due}
+use Rattle.gptp_world.proofs.AheadLemmas.{calls_due_by, calls_nothing_before, calls_on_time, live_due, pending_none_late, requeued_fit}
 use Rattle.gptp_world.proofs.DueByLemmas.{due_by-taken}
 use Rattle.gptp_world.proofs.ListLemmas.{same_there}
-use Rattle.gptp_world.proofs.MomentLemmas.{nothing_before-without, nothing_before-without_first}
+use Rattle.gptp_world.proofs.MomentLemmas.{nothing_before-without_first}
 use Rattle.gptp_world.proofs.PendingLemmas.{times-without_first_other}
-use Rattle.gptp_world.proofs.PlaceLemmas.{get-set_all, get-set_same}
-use Rattle.gptp_world.proofs.SteadyLemmas.{started_none_late, started_steady}
 use Rattle.gptp_world.proofs.TimerLemmas.{no_arrival, same_timer}
 
 -- ---- time that passes
@@ -104,8 +97,8 @@ module _ (place : ℕ) (timer : Timer) (w : WorldState) (draws : List Draw) (w' 
       → ((t : Timer) → times (Expiry place t) w.net.pending ≡ listed (station_due t k.station))
       → NothingBefore w.time w.net.pending → NothingBefore w.time w'.net.pending
   expires_nothing_before steady fit agree none =
-      calls_nothing_before place (TimerExpires timer) between draws k.answer w' k.calls (out_steady steady) out_timely fit
-      (out_pending agree) (nothing_before-without_first w.time (Expiry place timer) w.net.pending none)
+      calls_nothing_before place (TimerExpires timer) between draws k.answer w' k.calls (out_steady steady) out_timely
+      fit (out_pending agree) (nothing_before-without_first w.time (Expiry place timer) w.net.pending none)
 
   -- And it leaves less to do by now.
   pub expires_due_by : IsSteady k.station.system → AreFit w.net.channels
@@ -115,8 +108,8 @@ module _ (place : ℕ) (timer : Timer) (w : WorldState) (draws : List Draw) (w' 
       let less : due_by w.time left + 1 ≡ due_by w.time w.net.pending =
       due_by-taken w.time (Expiry place timer) w.net.pending w.time [] (agree timer ∙ ap listed k.now_due)
       (omega arith) in
-      let call = calls_due_by place (TimerExpires timer) between draws k.answer w' k.calls (out_steady steady) out_timely
-      fit (out_pending agree) in
+      let call = calls_due_by place (TimerExpires timer) between draws k.answer w' k.calls (out_steady steady)
+      out_timely fit (out_pending agree) in
       omega arith
 
 -- ---- a delivery
