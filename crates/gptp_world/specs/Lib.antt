@@ -1,5 +1,4 @@
 pub mod Act
-pub mod Ahead
 pub mod Buffers
 pub mod Cable
 pub mod Calm
@@ -18,3 +17,4 @@ pub mod Sends
 pub mod Stage
 pub mod SettlingTime
 pub mod World
+pub mod Ahead
