@@ -28,3 +28,6 @@ pub mod ListLemmas
 pub mod SpanLemmas
 pub mod SteadyLemmas
 pub mod DueByLemmas
+pub mod AheadLemmas
+pub mod OnTimeLemmas
+pub mod ChangeOnTimeLemmas

@@ -78,18 +78,18 @@ nothing_before-next es time i next =
     (All-append (λ (e : Entry). time ≤ e.time) next.before (entry time i ∷ next.after) before
     (All-cons (λ (e : Entry). time ≤ e.time) (entry time i) next.after here next.not_before))
 
-times-all_step : (time : ℕ) (i : Item) (e : Entry) (es : List Entry) → time < e.time
-    → AllByRecursion (λ u. time < u) (times i es) → (t : Bool) → same_item i e.item ≡ t
-    → AllByRecursion (λ u. time < u) (times i (e ∷ es))
-times-all_step time i e es here rest true t = rw t (here, rest)
-times-all_step time i e es here rest false t = rw t rest
+times-all_step : (P : ℕ → Type 0) (i : Item) (e : Entry) (es : List Entry) → P e.time → AllByRecursion P (times i es)
+    → (t : Bool) → same_item i e.item ≡ t → AllByRecursion P (times i (e ∷ es))
+times-all_step P i e es here rest true t = rw t (here, rest)
+times-all_step P i e es here rest false t = rw t rest
 
-times-all : (time : ℕ) (i : Item) (es : List Entry) → All (λ (e : Entry). time < e.time) es
-    → AllByRecursion (λ u. time < u) (times i es)
-times-all time i [] all = tt
-times-all time i (e ∷ es) all =
-    times-all_step time i e es (All-head (λ (x : Entry). time < x.time) e es all)
-    (times-all time i es (All-tail (λ (x : Entry). time < x.time) e es all)) (same_item i e.item) refl
+-- what holds of all times holds of those of an item
+pub times-all : (P : ℕ → Type 0) (i : Item) (es : List Entry) → All (λ (e : Entry). P e.time) es
+    → AllByRecursion P (times i es)
+times-all P i [] all = tt
+times-all P i (e ∷ es) all =
+    times-all_step P i e es (All-head (λ (x : Entry). P x.time) e es all)
+    (times-all P i es (All-tail (λ (x : Entry). P x.time) e es all)) (same_item i e.item) refl
 
 -- the next is pending at its time, and before that only later
 pub times-next : (es : List Entry) (time : ℕ) (i : Item) → IsNext es time i
@@ -101,7 +101,7 @@ times-next es time i next =
       times i next.after,
       ap (times i) next.is ∙ times-append i next.before (entry time i ∷ next.after)
           ∙ ap (λ us. times i next.before ++ us) here,
-      times-all time i next.before next.later,
+      times-all (λ u. time < u) i next.before next.later,
     )
 
 least_of : (t u : ℕ) (us rest : List ℕ) → AllByRecursion (λ v. t ≤ v) (us ++ u ∷ rest) → t ≤ u

@@ -1,5 +1,5 @@
 -- What stands at the places of a list.
-use Rattle.std.proofs.Common.{◌≡◌, ◌≢◌, ◌⊎◌, ℕ, zero, suc, List, [], ◌∷◌, ◌++◌, length, map, Some, slice_get, slice_set, slice_index_or, refl, ap, sym, ◌∙◌, inl, inr, arith}
+use Rattle.std.proofs.Common.{◌≡◌, ◌≢◌, ◌⊎◌, ℕ, zero, suc, List, [], ◌∷◌, ◌++◌, length, map, Some, slice_get, slice_set, slice_index_or, refl, ap, subst, sym, ◌∙◌, inl, inr, arith}
 use Rattle.std.proofs.lemmas.Option.{none-some, same_Some}
 
 pub get-set_same : {X : Type 0} (xs : List X) (i : ℕ) (x y : X) → slice_get xs i ≡ Some x → slice_get (slice_set xs i y) i ≡ Some y
@@ -45,6 +45,19 @@ same_place (suc i) (suc j) = next (same_place i j)
     next : (i ≡ j) ⊎ (i ≢ j) → (suc i ≡ suc j) ⊎ (suc i ≢ suc j)
     next (inl same) = inl (ap suc same)
     next (inr apart) = inr (λ e. apart (omega arith))
+
+-- what holds of all members and of a new one holds of all where that stands among them
+pub get-set_all : {X : Type 0} (P : X → Type 0) (xs : List X) (place : ℕ) (old new : X) → slice_get xs place ≡ Some old
+    → P new → ((i : ℕ) (x : X) → slice_get xs i ≡ Some x → P x)
+    → (i : ℕ) (x : X) → slice_get (slice_set xs place new) i ≡ Some x → P x
+get-set_all P xs place old new here is all i x there = by (same_place i place)
+  where
+    by : (i ≡ place) ⊎ (i ≢ place) → P x
+    by (inl same) =
+        let at : slice_get (slice_set xs place new) place ≡ Some x =
+        ap (slice_get (slice_set xs place new)) (sym same) ∙ there in
+        subst P (same_Some new x (sym (get-set_same xs place old new here) ∙ at)) is
+    by (inr apart) = all i x (sym (get-set_other xs place i new apart) ∙ there)
 
 -- what is read where something stands
 pub stands : {X : Type 0} (xs : List X) (i : ℕ) (x d : X) → slice_get xs i ≡ Some x → slice_get xs i ≡ Some (slice_index_or xs i d)

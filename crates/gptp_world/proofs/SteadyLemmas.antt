@@ -46,7 +46,8 @@ steps_steady input now s s' sends answer steady k =
 pub steps_none_late : (input : Input) (now : ℕ) (s s' : SystemState) (sends : List Sending) (answer : Answer)
     → IsSteady s → IsTimely s now input → Steps input now s s' sends answer → NoneLate now s → NoneLate now s'
 steps_none_late input now s s' sends answer steady timely k none timer t is =
-    by (started_later input now s s' sends answer steady.params steady.logs timely steady.shown steady.rest k timer t is)
+    by (started_later input now s s' sends answer steady.params steady.logs timely steady.shown steady.rest k timer t
+    is)
   where
     by : (due timer s ≡ Some t) ⊎ (now < t) → now ≤ t
     by (inl before) = none timer t before

@@ -66,6 +66,10 @@ pub no_timer : (l : ℕ) (d : Direction) (p : ℕ) (t : Timer) → same_item (Ar
 no_timer l FromA p t = let below = kind_below t in grind (arith, nat_tests)
 no_timer l FromB p t = let below = kind_below t in grind (arith, nat_tests)
 
+pub no_arrival : (p : ℕ) (t : Timer) (l : ℕ) (d : Direction) → same_item (Expiry p t) (Arrival l d) ≡ false
+no_arrival p t l FromA = let below = kind_below t in grind (arith, nat_tests)
+no_arrival p t l FromB = let below = kind_below t in grind (arith, nat_tests)
+
 pub other_system : (p q : ℕ) (t u : Timer) → (p ≡ q → ⊥) → same_item (Expiry p t) (Expiry q u) ≡ false
 other_system p q t u differ = grind (arith, nat_tests)
 

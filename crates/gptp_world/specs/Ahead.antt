@@ -1,17 +1,19 @@
 -- A world whose systems are as their steps ask, and in which nothing is due before its time.
 use Rattle.std.specs.Prelude.{◌≡◌, ◌≢◌, ◌≤◌, ℕ, nat_le, true, List, length, Some, slice_get}
 use Rattle.std.specs.List.{filter}
+use Rattle.gptp_vector.specs.declared.port.PortId.{PortId}
 use Rattle.gptp_links.specs.Bounds.{Fit}
 use Rattle.gptp_system.specs.declared.port.Port.{Port}
 use Rattle.gptp_system.specs.declared.timer.Timer.{Timer}
 use Rattle.gptp_system.specs.Facts.{AreHeld, AreShown, IsAtRest}
 use Rattle.gptp_system.specs.Input.{Input, Expires}
 use Rattle.gptp_system.specs.Intervals.{AreParams, IsLog}
-use Rattle.gptp_system.specs.State.{SystemState, due}
+use Rattle.gptp_system.specs.State.{SystemState, clock, due}
+use Rattle.gptp_system.specs.Steps.{IsPortOf}
 use Rattle.gptp_world.specs.declared.item.Item.TheVariants.{Expiry}
 use Rattle.gptp_world.specs.declared.station.Station.{Station}
 use Rattle.gptp_world.specs.Pending.{Entry, times, listed, NothingBefore}
-use Rattle.gptp_world.specs.World.{Channel, WorldState}
+use Rattle.gptp_world.specs.World.{Channel, WorldState, station_due}
 
 -- how much is pending at a time or before it
 abbrev pub due_by : ℕ → List Entry → ℕ
@@ -29,10 +31,15 @@ pub record IsSteady (s : SystemState) : Type 0 where
 abbrev pub NoneLate : ℕ → SystemState → Type 0
 NoneLate time s = (timer : Timer) (t : ℕ) → due timer s ≡ Some t → time ≤ t
 
--- Each timer of the system at a place is pending just when it is due. Where the input is that one runs out, that one needn't be.
+-- Each timer of the system at a place is pending just when it is due. One that the input says runs out needn't be.
 abbrev pub ArePending : ℕ → Input → SystemState → List Entry → Type 0
 ArePending place input s es =
     (timer : Timer) → input ≢ Expires timer → times (Expiry place timer) es ≡ listed (due timer s)
+
+-- so it is with the timers of all systems; none of one that has failed is pending
+abbrev pub AllArePending : WorldState → Type 0
+AllArePending w = (place : ℕ) (station : Station) → slice_get w.stations place ≡ Some station
+    → (timer : Timer) → times (Expiry place timer) w.net.pending ≡ listed (station_due timer station)
 
 -- a station can start, its system is steady, and no timer of it is late where it is live
 pub record IsOnTime (time : ℕ) (station : Station) : Type 0 where
@@ -44,7 +51,7 @@ pub record IsOnTime (time : ℕ) (station : Station) : Type 0 where
 abbrev pub AreFit : List Channel → Type 0
 AreFit channels = (place : ℕ) (channel : Channel) → slice_get channels place ≡ Some channel → Fit channel.bounds
 
--- So is every station, and nothing that is pending is late.
+-- Every station is on time, the bounds of every link are fit, and nothing that is pending is late.
 pub record IsWorldOnTime (w : WorldState) : Type 0 where
   pub stations : (place : ℕ) (station : Station) → slice_get w.stations place ≡ Some station → IsOnTime w.time station
   pub links : AreFit w.net.channels
@@ -54,3 +61,8 @@ pub record IsWorldOnTime (w : WorldState) : Type 0 where
 abbrev pub HasPorts : ℕ → ℕ → WorldState → Type 0
 HasPorts place ports w =
     (station : Station) → slice_get w.stations place ≡ Some station → length station.system.ports ≡ ports
+
+-- a port is one of the system that has its clock
+abbrev pub IsPortAmong : PortId → List Station → Type 0
+IsPortAmong port stations = (place : ℕ) (station : Station) → slice_get stations place ≡ Some station
+    → clock station.system ≡ port.clock → IsPortOf station.system port.port

@@ -1,9 +1,8 @@
 pub mod Act
-pub mod Aim
 pub mod Acts
 pub mod Agrees
 pub mod Ahead
-pub mod Sound
+pub mod Aim
 pub mod Buffers
 pub mod Cable
 pub mod Calm
@@ -20,6 +19,7 @@ pub mod Params
 pub mod Pending
 pub mod Room
 pub mod Sends
-pub mod Stage
 pub mod SettlingTime
+pub mod Sound
+pub mod Stage
 pub mod World
