@@ -38,27 +38,35 @@ impl Stage {
     /// The place of the link at a port, if there is one.
     fn link_at(&self, clock: ClockId, port: u16) -> Option<usize>
         requires { IsStage self.now }
-        ensures some { IfSome result (IsLinkAt (port_id clock port) (world_of self.now)) }
-        ensures none { IfNone result (AtLink (port_id clock port) (world_of self.now).net AnyLink → ⊥) }
+        ensures some { IfSome result (IsLinkAt (port_id clock port) (world_of self.entry.now)) }
+        ensures none { IfNone result (AtLink (port_id clock port) (world_of self.entry.now).net AnyLink → ⊥) }
     {
         self.net.directory.well_formed();
         if 16 < port {
             return None;
         }
-        let place = self.net.directory.place_of(clock)?;
-        let lane = self
-            .net
-            .directory
-            .lane_from(place, narrowed(port))?;
-        Some(lane.link)
+        match self.net.directory.place_of(clock) {
+            Some(place) => match self
+                .net
+                .directory
+                .lane_from(place, narrowed(port))
+            {
+                Some(lane) => Some(lane.link),
+                None => None,
+            },
+            None => None,
+        }
     }
 
     /// The place of the system with a clock, if there is one.
     fn system_at(&self, clock: ClockId) -> Option<usize>
         requires { IsStage self.now }
-        ensures some { IfSome result (IsSystemAt clock (world_of self.now)) }
-        ensures none { IfNone result (AtSystem clock (world_of self.now) AnySystem → ⊥) }
+        ensures some { IfSome result (IsSystemAt clock (world_of self.entry.now)) }
+        ensures none { IfNone result (AtSystem clock (world_of self.entry.now) AnySystem → ⊥) }
     {
-        self.net.directory.place_of(clock)
+        match self.net.directory.place_of(clock) {
+            Some(place) => Some(place),
+            None => None,
+        }
     }
 }

@@ -1,0 +1,85 @@
+-- What an act is about is found by place.
+use Rattle.std.proofs.Common.{◌≡◌, ◌⊎◌, ℕ, ◌≤◌, map, Option, Some, None, slice_get, refl, ap, sym, subst, ◌∙◌, inl, inr}
+use Rattle.std.proofs.lemmas.Option.{none-some}
+use Rattle.gptp_links.specs.declared.link.Direction.{Direction}
+use Rattle.gptp_links.specs.declared.link.Direction.TheVariants.{FromA, FromB}
+use Rattle.gptp_vector.specs.declared.port.PortId.{PortId}
+use Rattle.gptp_world.specs.declared.cable.Cable.{Cable}
+use Rattle.gptp_world.specs.declared.cable.Lane.{Lane}
+use Rattle.gptp_world.specs.declared.net.Net.{Net as Between}
+use Rattle.gptp_world.specs.declared.stage.Stage.{Stage}
+use Rattle.gptp_world.specs.Acts.{AnyLink, AnySystem, AtLink, AtSystem}
+use Rattle.gptp_world.specs.Aim.{IsLinkAt, IsSystemAt}
+use Rattle.gptp_world.specs.Cable.{channel_of}
+use Rattle.gptp_world.specs.Changing.{IsChannel}
+use Rattle.gptp_world.specs.Directory.{start_of, BeginsAt, DirectoryState, IsDirectory, IsPlaced, Join}
+use Rattle.gptp_world.specs.Net.{between, IsNet}
+use Rattle.gptp_world.specs.Stage.{clock_at, world_of, IsStage}
+use Rattle.gptp_world.specs.World.{Channel, WorldState, sender}
+use Rattle.gptp_world.proofs.EndLemmas.{station_at}
+use Rattle.gptp_world.proofs.NetLemmas.{known_cable, known_lane}
+use Rattle.gptp_world.proofs.PlaceLemmas.{get-map}
+
+-- ---- links
+
+-- a link that begins at a port in some direction is at that port
+at_end : (port : PortId) (direction : Direction) (channel : Channel) → sender direction channel ≡ port
+    → (channel.a ≡ port) ⊎ (channel.b ≡ port)
+at_end port FromA channel begins = inl begins
+at_end port FromB channel begins = inr begins
+
+pub link_found : (stage : Stage) (port : PortId) (lane : Lane) → IsStage stage → BeginsAt stage.net.directory.joins port lane
+    → IsLinkAt port (world_of stage) lane.link
+link_found stage port lane is begins =
+    let known = known_cable stage.net port lane is.net begins in
+    record {
+      channel = channel_of known.0;
+      is = record {
+        here = get-map channel_of stage.net.cables.items lane.link known.0 known.1;
+        joined = at_end port lane.direction (channel_of known.0) known.2;
+      };
+    }
+
+-- a link at a port has a lane that begins there
+link_lane : (net : Between) (port : PortId) (place : ℕ) (channel : Channel) → IsNet net → IsChannel port place (between net) channel
+    → (lane : Lane) × BeginsAt net.directory.joins port lane
+link_lane net port place channel is at = by at.joined
+  where
+    by : (channel.a ≡ port) ⊎ (channel.b ≡ port) → (lane : Lane) × BeginsAt net.directory.joins port lane
+    by (inl a) = (record { link = place; direction = FromA }, known_lane net port place FromA channel is at.here a)
+    by (inr b) = (record { link = place; direction = FromB }, known_lane net port place FromB channel is at.here b)
+
+pub no_lane : (stage : Stage) (port : PortId) → IsStage stage
+    → ((lane : Lane) → BeginsAt stage.net.directory.joins port lane → ⊥) → AtLink port (world_of stage).net AnyLink → ⊥
+no_lane stage port is none at =
+    let found = link_lane stage.net port at.place at.channel is.net at.is in none found.0 found.1
+
+-- a port where a lane begins is that of a system
+pub begins_placed : (d : DirectoryState) (port : PortId) (lane : Lane) → IsDirectory d → BeginsAt d.joins port lane
+    → IsPlaced d.clocks port
+begins_placed d port lane is begins =
+    subst (IsPlaced d.clocks) begins.begins (by lane.direction)
+  where
+    by : (direction : Direction) → IsPlaced d.clocks (start_of direction begins.join)
+    by FromA = is.plan.placed_a lane.link begins.join begins.there
+    by FromB = is.plan.placed_b lane.link begins.join begins.there
+
+-- ---- systems
+
+pub system_found : (stage : Stage) (number place : ℕ) → IsStage stage → slice_get stage.net.directory.clocks place ≡ Some number
+    → IsSystemAt number (world_of stage) place
+system_found stage number place is there =
+    let stands = station_at stage place number is there in
+    record { station = stands.station; is = record { here = stands.here; named = stands.named } }
+
+-- the directory knows the clock of a system
+pub system_clock : (stage : Stage) (number : ℕ) → IsStage stage → (at : AtSystem number (world_of stage) AnySystem)
+    → slice_get stage.net.directory.clocks at.place ≡ Some number
+system_clock stage number is at =
+    ap (λ cs. slice_get cs at.place) (sym is.clocks)
+    ∙ (get-map clock_at stage.stations.items at.place at.station at.is.here ∙ ap Some at.is.named)
+
+pub no_system : (stage : Stage) (number : ℕ) → IsStage stage
+    → ((place : ℕ) → slice_get stage.net.directory.clocks place ≡ Some number → ⊥)
+    → AtSystem number (world_of stage) AnySystem → ⊥
+no_system stage number is none at = none at.place (system_clock stage number is at)
