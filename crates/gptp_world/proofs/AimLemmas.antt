@@ -1,21 +1,26 @@
 -- What an act is about is found by place.
-use Rattle.std.proofs.Common.{◌≡◌, ◌⊎◌, ℕ, ◌≤◌, map, Option, Some, None, slice_get, refl, ap, sym, subst, ◌∙◌, inl, inr}
-use Rattle.std.proofs.lemmas.Option.{none-some}
+use Rattle.std.proofs.Common.{◌≡◌, ◌⊎◌, ℕ, ◌≤◌, List, [], ◌∷◌, map, Option, Some, None, slice_get, refl, ap, sym, subst, ◌∙◌, inl, inr}
+use Rattle.std.specs.Option.{option_map}
+use Rattle.std.proofs.lemmas.Option.{none-some, same_Some}
+use Rattle.gptp_links.specs.Queue.{first, Frame}
 use Rattle.gptp_links.specs.declared.link.Direction.{Direction}
 use Rattle.gptp_links.specs.declared.link.Direction.TheVariants.{FromA, FromB}
+use Rattle.gptp_system.specs.declared.timer.Timer.{Timer}
+use Rattle.gptp_system.specs.Steps.{IsTimerOf}
 use Rattle.gptp_vector.specs.declared.port.PortId.{PortId}
 use Rattle.gptp_world.specs.declared.cable.Cable.{Cable}
 use Rattle.gptp_world.specs.declared.cable.Lane.{Lane}
 use Rattle.gptp_world.specs.declared.net.Net.{Net as Between}
 use Rattle.gptp_world.specs.declared.stage.Stage.{Stage}
-use Rattle.gptp_world.specs.Acts.{AnyLink, AnySystem, AtLink, AtSystem}
-use Rattle.gptp_world.specs.Aim.{IsLinkAt, IsSystemAt}
+use Rattle.gptp_world.specs.declared.station.Station.{Station}
+use Rattle.gptp_world.specs.Acts.{AnyLink, AnySystem, AtLink, AtSystem, IsOldestDue}
+use Rattle.gptp_world.specs.Aim.{IsLinkAt, IsSystemAt, IsTimerAt}
 use Rattle.gptp_world.specs.Cable.{channel_of}
 use Rattle.gptp_world.specs.Changing.{IsChannel}
 use Rattle.gptp_world.specs.Directory.{start_of, BeginsAt, DirectoryState, IsDirectory, IsPlaced, Join}
 use Rattle.gptp_world.specs.Net.{between, IsNet}
 use Rattle.gptp_world.specs.Stage.{clock_at, world_of, IsStage}
-use Rattle.gptp_world.specs.World.{Channel, WorldState, sender}
+use Rattle.gptp_world.specs.World.{Channel, WorldState, queue, sender}
 use Rattle.gptp_world.proofs.EndLemmas.{station_at}
 use Rattle.gptp_world.proofs.NetLemmas.{known_cable, known_lane}
 use Rattle.gptp_world.proofs.PlaceLemmas.{get-map}
@@ -83,3 +88,46 @@ pub no_system : (stage : Stage) (number : ℕ) → IsStage stage
     → ((place : ℕ) → slice_get stage.net.directory.clocks place ≡ Some number → ⊥)
     → AtSystem number (world_of stage) AnySystem → ⊥
 no_system stage number is none at = none at.place (system_clock stage number is at)
+
+-- ---- timers
+
+-- a clock and its timer are those of one system alone
+pub timer_found : (stage : Stage) (number place : ℕ) (timer : Timer) (is : IsStage stage)
+    → slice_get stage.net.directory.clocks place ≡ Some number
+    → ((station : Station) → slice_get stage.stations.items place ≡ Some station → IsTimerOf station.system timer)
+    → IsTimerAt number (world_of stage) place timer
+timer_found stage number place timer is there of =
+    let stands = station_at stage place number is there in
+    record {
+      station = stands.station;
+      is = record { here = stands.here; named = stands.named };
+      timer_of = of stands.station stands.here;
+    }
+
+pub no_timer_at : (stage : Stage) (number place : ℕ) (timer : Timer) → IsStage stage → IsDirectory stage.net.directory
+    → slice_get stage.net.directory.clocks place ≡ Some number
+    → ((station : Station) → slice_get stage.stations.items place ≡ Some station → IsTimerOf station.system timer → ⊥)
+    → AtSystem number (world_of stage) (λ at station. IsTimerOf station.system timer) → ⊥
+no_timer_at stage number place timer is directory there none at =
+    let other = system_clock stage number is (record { place = at.place; station = at.station; is = at.is; so = tt }) in
+    let same : at.place ≡ place = directory.plan.differ at.place place number other there in
+    none at.station (ap (slice_get stage.stations.items) (sym same) ∙ at.is.here) at.so
+
+-- ---- what is due
+
+-- the due time of the oldest frame
+pub oldest_is : (fs : List Frame) (time : ℕ) → option_map (λ (f : Frame). f.due) (first fs) ≡ Some time
+    → (f : Frame) × (rest : List Frame) × (fs ≡ f ∷ rest) × (f.due ≡ time)
+oldest_is [] time is = absurd (none-some time is)
+oldest_is (f ∷ fs) time is = (f, fs, refl, same_Some f.due time is)
+
+pub oldest_due : (direction : Direction) (channel : Channel) (time : ℕ)
+    → option_map (λ (f : Frame). f.due) (first (queue direction channel)) ≡ Some time → IsOldestDue direction time channel
+oldest_due direction channel time is =
+    let found = oldest_is (queue direction channel) time is in
+    record { oldest = found.0; rest = found.1; front = found.2; due = found.3 }
+
+pub due_oldest : (direction : Direction) (channel : Channel) (time : ℕ) → IsOldestDue direction time channel
+    → option_map (λ (f : Frame). f.due) (first (queue direction channel)) ≡ Some time
+due_oldest direction channel time is =
+    ap (λ fs. option_map (λ (f : Frame). f.due) (first fs)) is.front ∙ ap Some is.due

@@ -1,5 +1,5 @@
 -- What stands at the places of a list.
-use Rattle.std.proofs.Common.{◌≡◌, ◌≢◌, ◌⊎◌, ℕ, zero, suc, List, [], ◌∷◌, ◌++◌, length, map, Some, slice_get, slice_set, slice_index_or, refl, ap, subst, sym, ◌∙◌, inl, inr, arith}
+use Rattle.std.proofs.Common.{◌<◌, ◌≡◌, ◌≢◌, ◌⊎◌, ℕ, zero, suc, List, [], ◌∷◌, ◌++◌, length, map, Some, slice_get, slice_set, slice_index_or, refl, ap, subst, sym, ◌∙◌, inl, inr, arith}
 use Rattle.std.proofs.lemmas.Option.{none-some, same_Some}
 
 pub get-set_same : {X : Type 0} (xs : List X) (i : ℕ) (x y : X) → slice_get xs i ≡ Some x → slice_get (slice_set xs i y) i ≡ Some y
@@ -23,6 +23,12 @@ pub read : {X : Type 0} (xs : List X) (i : ℕ) (x d : X) → slice_get xs i ≡
 read [] i x d is = absurd (none-some x is)
 read (z ∷ zs) zero x d is = same_Some z x is
 read (z ∷ zs) (suc i) x d is = read zs i x d is
+
+-- a place within a list has a member
+pub within : {X : Type 0} (xs : List X) (i : ℕ) → i < length xs → (x : X) × (slice_get xs i ≡ Some x)
+within [] i less = absurd (omega arith)
+within (z ∷ zs) zero less = (z, refl)
+within (z ∷ zs) (suc i) less = within zs i (omega arith)
 
 pub map-set : {X Y : Type 0} (f : X → Y) (xs : List X) (i : ℕ) (y : X) → map f (slice_set xs i y) ≡ slice_set (map f xs) i (f y)
 map-set f [] i y = refl

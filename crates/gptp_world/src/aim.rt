@@ -1,9 +1,12 @@
 //! What an act is about, by place.
 
+ghost use Rattle.std.specs.Prelude.{◌≡◌, ◌↔◌, ◌≤◌, IsTrue, Some};
+
 use crate::cable::Lane;
+use crate::change::{Act, Change};
 use crate::delivering::narrowed;
 use crate::stage::Stage;
-use gptp_links::Bounds;
+use gptp_links::{Bounds, Direction};
 use gptp_system::Timer;
 use gptp_vector::ClockId;
 
@@ -29,9 +32,13 @@ pub(crate) enum Aim {
 }
 
 impl Stage {
-    ghost use Rattle.std.specs.Prelude.{IfSome, IfNone};
-    ghost use Rattle.gptp_world.specs.Acts.{AtLink, AnyLink, AtSystem, AnySystem};
-    ghost use Rattle.gptp_world.specs.Aim.{IsLinkAt, IsSystemAt};
+    ghost use Rattle.std.specs.Prelude.{◌≡◌, ◌↔◌, ◌<◌, IfSome, IfNone, IsTrue, length, Some, slice_get};
+    ghost use Rattle.gptp_system.specs.Steps.{IsTimerOf};
+    ghost use Rattle.gptp_world.specs.declared.change.Act.TheVariants.{Deliver, Expire};
+    ghost use Rattle.gptp_world.specs.declared.station.Station.{Station};
+    ghost use Rattle.gptp_world.specs.World.{Channel};
+    ghost use Rattle.gptp_world.specs.Acts.{set_to, AtLink, AnyLink, AtSystem, AnySystem, IsThere, IsThereToChange};
+    ghost use Rattle.gptp_world.specs.Aim.{IsAimOf, IsAimOfChange, IsLinkAt, IsSystemAt};
     ghost use Rattle.gptp_world.specs.Net.{port_id};
     ghost use Rattle.gptp_world.specs.Stage.{world_of, IsStage};
 
@@ -69,4 +76,164 @@ impl Stage {
             None => None,
         }
     }
+
+    /// What a change is about, if that is there.
+    fn aim_of_change(&self, change: &Change) -> Option<Aim>
+        requires { IsStage self.now }
+        ensures some { IfSome result (IsAimOfChange change.now (world_of self.entry.now)) }
+        ensures none { IfNone result (IsThereToChange change.now (world_of self.entry.now) → ⊥) }
+    {
+        match *change {
+            Change::LinkDown { clock, port } => match self.link_at(clock, port) {
+                Some(link) => Some(Aim::LinkDown(link)),
+                None => None,
+            },
+            Change::LinkUp { clock, port } => match self.link_at(clock, port) {
+                Some(link) => Some(Aim::LinkUp(link)),
+                None => None,
+            },
+            Change::LinkSet {
+                clock,
+                port,
+                min,
+                max,
+                loss,
+            } => match self.link_at(clock, port) {
+                Some(link) => Some(Aim::LinkSet {
+                    link,
+                    bounds: self.set_to(link, min, max, loss),
+                }),
+                None => None,
+            },
+            Change::Fail { clock } => match self.system_at(clock) {
+                Some(place) => Some(Aim::Fail(place)),
+                None => None,
+            },
+            Change::Recover { clock } => match self.system_at(clock) {
+                Some(place) => Some(Aim::Recover(place)),
+                None => None,
+            },
+            Change::Priority1 { clock, value } => match self.system_at(clock) {
+                Some(place) => Some(Aim::Priority1 { place, value }),
+                None => None,
+            },
+        }
+    }
+
+    /// The bounds of a link with other delays and another loss.
+    fn set_to(&self, link: usize, min: u64, max: u64, loss: u16) -> Bounds
+        requires { link < length self.now.net.cables.items }
+        ensures { (channel : Channel) → slice_get (world_of self.entry.now).net.channels link ≡ Some channel → result ≡ set_to min max loss channel }
+    {
+        Bounds {
+            min,
+            max,
+            loss,
+            ..self.net.cables[link].link.bounds()
+        }
+    }
+
+    /// Whether a timer is one of the system at a place.
+    fn has_timer(&self, place: usize, timer: Timer) -> bool
+        requires { place < length self.now.stations.items }
+        ensures { (station : Station) → slice_get self.entry.now.stations.items place ≡ Some station → IsTrue result ↔ IsTimerOf station.system timer }
+    {
+        let ports = self.stations[place].system.ports();
+        match timer {
+            Timer::Pdelay(port) => is_port(port, ports),
+            Timer::Respond(port) => is_port(port, ports),
+            Timer::Announce(port) => is_port(port, ports),
+            Timer::Age(port) => is_port(port, ports),
+            Timer::Sync => true,
+            Timer::Relay => true,
+        }
+    }
+
+    /// What an act is about, if that is there.
+    pub(crate) fn aim(&self, act: &Act) -> Option<Aim>
+        requires { IsStage self.now }
+        ensures some { IfSome result (IsAimOf act.now (world_of self.entry.now)) }
+        ensures none { IfNone result (IsThere act.now (world_of self.entry.now) → ⊥) }
+    {
+        match *act {
+            Act::Deliver { link, direction } => self.arrival(link, direction),
+            Act::Expire { clock, timer } => self.timer_at(clock, timer),
+            Act::Change(change) => self.aim_of_change(&change),
+        }
+    }
+
+    /// The lane with that link and direction, if there is such a link.
+    fn arrival(&self, link: usize, direction: Direction) -> Option<Aim>
+        ensures some { IfSome result (IsAimOf (Deliver link direction) (world_of self.entry.now)) }
+        ensures none { IfNone result (IsThere (Deliver link direction) (world_of self.entry.now) → ⊥) }
+    {
+        if self.net.cables.len() <= link {
+            return None;
+        }
+        Some(Aim::Arrival(Lane { link, direction }))
+    }
+
+    /// The timer of the system with a clock, if there is one.
+    fn timer_at(&self, clock: ClockId, timer: Timer) -> Option<Aim>
+        requires { IsStage self.now }
+        ensures some { IfSome result (IsAimOf (Expire clock timer) (world_of self.entry.now)) }
+        ensures none { IfNone result (IsThere (Expire clock timer) (world_of self.entry.now) → ⊥) }
+    {
+        self.net.directory.well_formed();
+        match self.net.directory.place_of(clock) {
+            Some(place) => match self.has_timer(place, timer) {
+                true => Some(Aim::Timer { place, timer }),
+                false => None,
+            },
+            None => None,
+        }
+    }
+}
+
+impl Stage {
+    ghost use Rattle.std.specs.Prelude.{◌≡◌, ◌↔◌, ◌<◌, IsTrue, length, Some, slice_get};
+    ghost use Rattle.gptp_system.specs.Steps.{IsTimerOf};
+    ghost use Rattle.gptp_world.specs.declared.station.Station.{Station};
+    ghost use Rattle.gptp_world.specs.Acts.{IsDueThen, IsOldestDue};
+    ghost use Rattle.gptp_world.specs.Aim.{IsAimOf};
+    ghost use Rattle.gptp_world.specs.Stage.{world_of, IsStage};
+    ghost use Rattle.gptp_world.specs.World.{station_due, Channel};
+
+    /// Whether the oldest frame of a lane is due at a time.
+    fn is_frame_due(&self, lane: Lane, time: u64) -> bool
+        requires { lane.link < length self.now.net.cables.items }
+        ensures { (channel : Channel) → slice_get (world_of self.entry.now).net.channels lane.link ≡ Some channel → IsTrue result ↔ IsOldestDue lane.direction time channel }
+    {
+        is_then(
+            self.net.cables[lane.link].link.next_due(lane.direction),
+            time,
+        )
+    }
+
+    /// Whether a timer of the system at a place is due at a time.
+    fn is_timer_due(&self, place: usize, timer: Timer, time: u64) -> bool
+        requires place { place < length self.now.stations.items }
+        requires timer { (station : Station) → slice_get self.now.stations.items place ≡ Some station → IsTimerOf station.system timer }
+        ensures { (station : Station) → slice_get self.entry.now.stations.items place ≡ Some station → IsTrue result ↔ (station_due timer station ≡ Some time) }
+    {
+        let station = &self.stations[place];
+        match station.live {
+            true => is_then(station.system.due(timer), time),
+            false => false,
+        }
+    }
+}
+
+/// Whether a number is one of so many ports.
+fn is_port(port: u8, ports: u8) -> bool
+    ensures { IsTrue result ↔ ((1 ≤ port) × (port ≤ ports)) }
+{
+    1 <= port && port <= ports
+}
+
+/// Whether something is due at a time.
+fn is_then(due: Option<u64>, time: u64) -> bool
+    ensures { IsTrue result ↔ (due ≡ Some time) }
+{
+    due == Some(time)
 }
