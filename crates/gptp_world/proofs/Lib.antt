@@ -13,6 +13,7 @@ pub mod SendsLemmas
 pub mod NetworkLemmas
 pub mod RoomLemmas
 pub mod StageLemmas
+pub mod TellingLemmas
 pub mod FiledLemmas
 pub mod NextLemmas
 pub mod PendingLemmas

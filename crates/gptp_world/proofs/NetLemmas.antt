@@ -33,7 +33,7 @@ start_same : (d : Direction) (cable : Cable) → start_of d (join_of cable) ≡ 
 start_same FromA cable = refl
 start_same FromB cable = refl
 
-abbrev lane_of : ℕ → Direction → Lane
+abbrev pub lane_of : ℕ → Direction → Lane
 lane_of link direction = record { link = link; direction = direction }
 
 -- the link of a lane that the directory knows stands among the links

@@ -22,4 +22,5 @@ pub mod Sends
 pub mod SettlingTime
 pub mod Sound
 pub mod Stage
+pub mod Telling
 pub mod World

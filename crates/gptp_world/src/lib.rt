@@ -32,6 +32,7 @@ mod room;
 mod sending;
 mod stage;
 mod station;
+mod telling;
 mod timing;
 
 pub use change::{Act, Change, Timed};

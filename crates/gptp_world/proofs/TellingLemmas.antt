@@ -1,0 +1,281 @@
+-- The ends of a link are told of a change of it, one after the other.
+use Rattle.std.proofs.Common.{◌≡◌, ◌≢◌, ℕ, ◌≤◌, List, [], ◌++◌, false, map, Option, Some, length, slice_get, slice_index_or, refl, ap, sym, subst, ◌∙◌, inl, inr, arith}
+use Rattle.std.proofs.lemmas.Option.{same_Some}
+use Rattle.gptp_links.specs.declared.bounds.Bounds.{Bounds}
+use Rattle.gptp_links.specs.declared.link.Direction.{Direction}
+use Rattle.gptp_links.specs.declared.link.Direction.TheVariants.{FromA, FromB}
+use Rattle.gptp_links.specs.Fate.{Draw, Draws}
+use Rattle.gptp_links.proofs.DrawLemmas as draws
+use Rattle.gptp_system.specs.Input.{Input}
+use Rattle.gptp_system.specs.State.{clock}
+use Rattle.gptp_system.specs.Steps.{IsPortOf}
+use Rattle.gptp_vector.specs.declared.port.PortId.{PortId}
+use Rattle.gptp_world.specs.declared.cable.Cable.{Cable}
+use Rattle.gptp_world.specs.declared.net.Net.{Net as Between}
+use Rattle.gptp_world.specs.declared.stage.Stage.{Stage}
+use Rattle.gptp_world.specs.declared.station.Station.{Station}
+use Rattle.gptp_world.specs.declared.telling.End.{End}
+use Rattle.gptp_world.specs.Act.{in_state, Calls}
+use Rattle.gptp_world.specs.Cable.{channel_of, join_of}
+use Rattle.gptp_world.specs.Changing.{CallsIfLive, TellsEnds}
+use Rattle.gptp_world.specs.Directory.{end_of, start_of, BeginsAt, DirectoryState, IsDirectory, IsPlan, Join}
+use Rattle.gptp_world.specs.Net.{port_id, IsNet}
+use Rattle.gptp_world.specs.Room.{both, for_call, nothing, repeated, HasRoom, Need, Uses}
+use Rattle.gptp_world.specs.Stage.{clock_at, world_of, CallUses, HasRoomToCall, HasRoomToCallBoth, IsPortAt, IsStage}
+use Rattle.gptp_world.specs.Telling.{AreEndsOf, HasRoomAtEnds, IsEndAt, Told}
+use Rattle.gptp_world.specs.World.{Channel, Net, WorldState}
+use Rattle.gptp_world.proofs.NeedLemmas.{covered, left_of}
+use Rattle.gptp_world.proofs.NetLemmas.{from_map, lane_of, MadeOf}
+use Rattle.gptp_world.proofs.PlaceLemmas.{get-map, get-set_other, read}
+use Rattle.gptp_world.proofs.RoomLemmas.{joins_kept}
+
+-- ---- the ends of a link
+
+-- the number of a port at which a lane ends is at most 16
+pub small_end : (clocks : List ℕ) (joins : List Join) (link : ℕ) (d : Direction) (join : Join) → IsPlan clocks joins
+    → slice_get joins link ≡ Some join → (end_of d join).port ≤ 16
+small_end clocks joins link FromA join plan here = (plan.placed_b link join here).last
+small_end clocks joins link FromB join plan here = (plan.placed_a link join here).last
+
+-- two systems stand at the ends
+pub ends_apart : (d : DirectoryState) (link : ℕ) (join : Join) (a b : End) → IsDirectory d → slice_get d.joins link ≡ Some join
+    → IsEndAt join.a a d → IsEndAt join.b b d → a.place ≢ b.place
+ends_apart d link join a b is here at_a at_b = λ same.
+    is.plan.apart link join here
+    (same_Some join.a.clock join.b.clock (sym at_a.clock ∙ (ap (slice_get d.clocks) same ∙ at_b.clock)))
+
+-- a port is that of a system at one place
+one_place : (d : DirectoryState) (port : PortId) (one other : End) → IsDirectory d → IsEndAt port one d → IsEndAt port other d
+    → one.place ≡ other.place
+one_place d port one other is at_one at_other = is.plan.differ one.place other.place port.clock at_one.clock at_other.clock
+
+-- the room that was made is for these ends
+room_for : (link : ℕ) (a b : End) (stage : Stage) → IsDirectory stage.net.directory → AreEndsOf link a b stage.net.directory
+    → HasRoomAtEnds link stage → HasRoomToCallBoth a.place b.place stage
+room_for link a b stage is ends has =
+    let d = stage.net.directory in
+    let join : has.ends.join ≡ ends.join = same_Some has.ends.join ends.join (sym has.ends.here ∙ ends.here) in
+    let had_a : IsEndAt ends.join.a has.a d = subst (λ (j : Join). IsEndAt j.a has.a d) join has.ends.at_a in
+    let had_b : IsEndAt ends.join.b has.b d = subst (λ (j : Join). IsEndAt j.b has.b d) join has.ends.at_b in
+    subst (λ p. HasRoomToCallBoth p b.place stage) (one_place d ends.join.a has.a a is had_a ends.at_a)
+    (subst (λ p. HasRoomToCallBoth has.a.place p stage) (one_place d ends.join.b has.b b is had_b ends.at_b) has.room)
+
+-- a system at the place of an end is the one that its port names
+named : (stage : Stage) (port : PortId) (end : End) (station : Station) → IsStage stage → IsEndAt port end stage.net.directory
+    → slice_get stage.stations.items end.place ≡ Some station → clock station.system ≡ port.clock
+named stage port end station is at there =
+    let known : slice_get stage.net.directory.clocks end.place ≡ Some (clock station.system) =
+    ap (λ cs. slice_get cs end.place) (sym is.clocks) ∙ get-map clock_at stage.stations.items end.place station there in
+    same_Some (clock station.system) port.clock (sym known ∙ at.clock)
+
+-- the port of an end is one of its system
+end_port : (stage : Stage) (link : ℕ) (d : Direction) (join : Join) (end : End) (station : Station) → IsStage stage
+    → slice_get stage.net.directory.joins link ≡ Some join → IsEndAt (start_of d join) end stage.net.directory
+    → slice_get stage.stations.items end.place ≡ Some station → IsPortAt end.place end.port stage
+end_port stage link d join end station is here at there =
+    let own = named stage (start_of d join) end station is at there in
+    let begins : start_of d join ≡ port_id (clock station.system) end.port =
+    ap (λ c. port_id c (start_of d join).port) (sym own) ∙ ap (port_id (clock station.system)) (sym at.number) in
+    let range = is.ports end.place station end.port (lane_of link d) there
+    (record { join = join; there = here; begins = begins }) in
+    record { station = station; here = there; port_of = record { least = range.0; most = range.1 } }
+
+-- room was made for the ends of a link
+pub room_at_ends : (stage stage' : Stage) (link : ℕ) (a b : End) → IsStage stage → IsStage stage' → world_of stage' ≡ world_of stage
+    → AreEndsOf link a b stage.net.directory → HasRoomToCallBoth a.place b.place stage' → HasRoomAtEnds link stage'
+room_at_ends stage stage' link a b is is' world ends room =
+    let d = stage.net.directory in let d' = stage'.net.directory in
+    let clocks : d'.clocks ≡ d.clocks =
+    sym is'.clocks ∙ (ap (λ (w : WorldState). map clock_at w.stations) world ∙ is.clocks) in
+    let joins : d'.joins ≡ d.joins =
+    sym is'.net.joins
+    ∙ (joins_kept stage.net.cables.items stage'.net.cables.items (ap (λ (w : WorldState). w.net.channels) world) ∙ is.net.joins) in
+    let at_a = ends.at_a in let at_b = ends.at_b in
+    record {
+      a = a;
+      b = b;
+      ends = record {
+        join = ends.join;
+        here = rw joins ends.here;
+        at_a = record { clock = rw clocks at_a.clock; number = at_a.number };
+        at_b = record { clock = rw clocks at_b.clock; number = at_b.number };
+        apart = ends.apart;
+      };
+      room = room;
+    }
+
+-- ---- the link changes
+
+-- what is between the systems becomes another that has no less room
+pub net_changes : (stage : Stage) (net : Between) → IsStage stage → IsNet net → Uses nothing stage.net net
+    → IsStage (record stage { net = net })
+net_changes stage net is after uses =
+    let directory = uses.directory in let systems = uses.systems in
+    record {
+      net = after;
+      clocks = rw directory is.clocks;
+      systems = rw systems is.systems;
+      few = is.few;
+      ports = rw directory is.ports;
+      empty = is.empty;
+      moment = is.moment;
+    }
+
+room_stays : (need : Need) (net net' : Between) → Uses nothing net net' → HasRoom need net → HasRoom need net'
+room_stays need net net' uses has =
+    uses.left need
+    (covered need (both nothing need) net
+    (record { entries = omega arith; buffers = omega arith; frames = λ port. omega arith }) has)
+
+-- both ends can be told
+pub record CanTell (a b : End) (stage : Stage) : Type 0 where
+  pub port_a : IsPortAt a.place a.port stage
+  pub port_b : IsPortAt b.place b.port stage
+  pub room : HasRoomToCallBoth a.place b.place stage
+  pub apart : a.place ≢ b.place
+
+pub can_tell : (stage : Stage) (net : Between) (link : ℕ) (a b : End) → IsStage stage → IsDirectory stage.net.directory
+    → AreEndsOf link a b stage.net.directory → HasRoomAtEnds link stage → Uses nothing stage.net net
+    → CanTell a b (record stage { net = net })
+can_tell stage net link a b is directory ends has uses =
+    let room = room_for link a b stage directory ends has in
+    let one = end_port stage link FromA ends.join a room.station_a is ends.here ends.at_a room.here_a in
+    let other = end_port stage link FromB ends.join b room.station_b is ends.here ends.at_b room.here_b in
+    record {
+      port_a = record { station = one.station; here = one.here; port_of = one.port_of };
+      port_b = record { station = other.station; here = other.here; port_of = other.port_of };
+      room = record {
+        station_a = room.station_a;
+        station_b = room.station_b;
+        here_a = room.here_a;
+        here_b = room.here_b;
+        room = room_stays (both (for_call room.station_a.system) (for_call room.station_b.system)) stage.net net uses room.room;
+      };
+      apart = ends.apart;
+    }
+
+-- ---- one end
+
+-- a system that has failed isn't told
+pub not_told : {F : Type 0} (answers : Bounds → ℕ → F → Option ℕ → F → Type 0) (place : ℕ) (input : Input) (fate : F) (stage : Stage)
+    (one station : Station) → slice_get stage.stations.items place ≡ Some station
+    → one ≡ slice_index_or stage.stations.items place one → one.live ≡ false → Told answers place input fate fate stage stage
+not_told answers place input fate stage one station here value failed =
+    let is : one ≡ station = value ∙ read stage.stations.items place station one here in
+    record {
+      draws = [];
+      drawn = refl;
+      calls = inr (record { station = station; here = here; failed = rw (← is) failed }, refl, refl);
+    }
+
+-- ---- the first end is told, and then the second
+
+pub room_first : (first second : ℕ) (stage : Stage) → HasRoomToCallBoth first second stage → HasRoomToCall 1 first stage
+room_first first second stage has = record {
+  station = has.station_a;
+  here = has.here_a;
+  room = covered (both (for_call has.station_a.system) (for_call has.station_b.system))
+      (repeated 1 (for_call has.station_a.system)) stage.net
+      (record { entries = omega arith; buffers = omega arith; frames = λ port. omega arith }) has.room;
+}
+
+room_second : (first second : ℕ) (stage stage' : Stage) → slice_get stage'.stations.items second ≡ slice_get stage.stations.items second
+    → CallUses first stage stage'.net → HasRoomToCallBoth first second stage → HasRoomToCall 1 second stage'
+room_second first second stage stage' same uses has =
+    let near = for_call has.station_a.system in let far = for_call has.station_b.system in
+    record {
+      station = has.station_b;
+      here = same ∙ has.here_b;
+      room = covered far (repeated 1 far) stage'.net
+          (record { entries = omega arith; buffers = omega arith; frames = λ port. omega arith })
+          (left_of near far stage.net stage'.net (uses has.station_a has.here_a) has.room);
+    }
+
+-- no other system changes
+elsewhere : {F : Type 0} (answers : Bounds → ℕ → F → Option ℕ → F → Type 0) (place other : ℕ) (input : Input) (fate fate_after : F)
+    (stage stage' : Stage) → Told answers place input fate fate_after stage stage' → other ≢ place
+    → slice_get stage'.stations.items other ≡ slice_get stage.stations.items other
+elsewhere answers place other input fate fate_after stage stage' told apart = by told.calls
+  where
+    by : CallsIfLive place input (world_of stage) told.draws (world_of stage')
+        → slice_get stage'.stations.items other ≡ slice_get stage.stations.items other
+    by (inl (answer, calls)) =
+        ap (λ (w : WorldState). slice_get w.stations other) calls.is
+        ∙ get-set_other stage.stations.items place other (in_state calls.after calls.station) apart
+    by (inr (failed, none, same)) = ap (λ (w : WorldState). slice_get w.stations other) same
+
+-- the second can still be told
+pub record CanTellSecond (b : End) (stage : Stage) : Type 0 where
+  pub port : IsPortAt b.place b.port stage
+  pub room : HasRoomToCall 1 b.place stage
+
+pub can_tell_second : {F : Type 0} (answers : Bounds → ℕ → F → Option ℕ → F → Type 0) (a b : End) (input : Input) (fate fate_after : F)
+    (stage stage' : Stage) → CanTell a b stage → Told answers a.place input fate fate_after stage stage'
+    → CallUses a.place stage stage'.net → CanTellSecond b stage'
+can_tell_second answers a b input fate fate_after stage stage' can told uses =
+    let same = elsewhere answers a.place b.place input fate fate_after stage stage' told (λ e. can.apart (sym e)) in
+    let own = can.port_b in
+    record {
+      port = record { station = own.station; here = same ∙ own.here; port_of = own.port_of };
+      room = room_second a.place b.place stage stage' same uses can.room;
+    }
+
+-- ---- both were told
+
+-- a link is among those that the directory knows
+known_link : (net : Between) (link : ℕ) (join : Join) → IsNet net → slice_get net.directory.joins link ≡ Some join
+    → MadeOf join_of net.cables.items link join
+known_link net link join is here =
+    from_map join_of net.cables.items link join (ap (λ js. slice_get js link) is.joins ∙ here)
+
+-- the link changed in this way, and both its ends were told
+pub record BothTold {F : Type 0} (answers : Bounds → ℕ → F → Option ℕ → F → Type 0) (input : ℕ → Input) (changed : Channel → Net)
+    (link : ℕ) (fate fate_after : F) (stage stage' : Stage) : Type 0 where
+  pub channel : Channel
+  pub here : slice_get (world_of stage).net.channels link ≡ Some channel
+  pub draws : List Draw
+  pub drawn : Draws answers fate draws fate_after
+  pub tells : TellsEnds input channel (record (world_of stage) { net = changed channel }) draws (world_of stage')
+
+pub both_told : {F : Type 0} (answers : Bounds → ℕ → F → Option ℕ → F → Type 0) (input : ℕ → Input) (changed : Channel → Net)
+    (link : ℕ) (a b : End) (first second third : F) (stage : Stage) (net : Between) (between after : Stage) → IsStage stage
+    → AreEndsOf link a b stage.net.directory → CanTell a b (record stage { net = net })
+    → ((cable : Cable) → slice_get stage.net.cables.items link ≡ Some cable
+    → (world_of (record stage { net = net })).net ≡ changed (channel_of cable))
+    → Told answers a.place (input a.port) first second (record stage { net = net }) between
+    → Told answers b.place (input b.port) second third between after
+    → BothTold answers input changed link first third stage after
+both_told answers input changed link a b first second third stage net between after is ends can changes told_a told_b =
+    let made = known_link stage.net link ends.join is.net ends.here in
+    let cable = made.one in
+    let channel = channel_of cable in
+    let at_a : IsEndAt channel.a a stage.net.directory =
+    subst (λ (j : Join). IsEndAt j.a a stage.net.directory) made.is ends.at_a in
+    let at_b : IsEndAt channel.b b stage.net.directory =
+    subst (λ (j : Join). IsEndAt j.b b stage.net.directory) made.is ends.at_b in
+    let room = can.room in
+    let tells : TellsEnds input channel (world_of (record stage { net = net })) (told_a.draws ++ told_b.draws) (world_of after) =
+    record {
+      place_a = a.place;
+      place_b = b.place;
+      station_a = room.station_a;
+      station_b = room.station_b;
+      first = told_a.draws;
+      second = told_b.draws;
+      between = world_of between;
+      is_a = record { here = room.here_a; named = named stage channel.a a room.station_a is at_a room.here_a };
+      is_b = record { here = room.here_b; named = named stage channel.b b room.station_b is at_b room.here_b };
+      draws_are = refl;
+      at_a = subst (λ p. CallsIfLive a.place (input p) (world_of (record stage { net = net })) told_a.draws (world_of between))
+          at_a.number told_a.calls;
+      at_b = subst (λ p. CallsIfLive b.place (input p) (world_of between) told_b.draws (world_of after)) at_b.number told_b.calls;
+    } in
+    record {
+      channel = channel;
+      here = get-map channel_of stage.net.cables.items link cable made.there;
+      draws = told_a.draws ++ told_b.draws;
+      drawn = draws.draws-append answers first second third told_a.draws told_b.draws told_a.drawn told_b.drawn;
+      tells = subst
+          (λ n. TellsEnds input channel (record (world_of stage) { net = n }) (told_a.draws ++ told_b.draws) (world_of after))
+          (changes cable made.there) tells;
+    }

@@ -1,0 +1,132 @@
+//! Links of a world that go down or come up.
+
+ghost use Rattle.std.specs.Prelude.{◌≡◌, ◌<◌, length, Some, slice_get};
+ghost use Rattle.gptp_world.specs.Directory.{end_of, Join};
+ghost use Rattle.gptp_world.specs.Telling.{AreEndsOf, IsEndAt};
+
+use crate::cable::Lane;
+use crate::directory::Directory;
+use crate::stage::Stage;
+use gptp_links::{Direction, Fate};
+use std::alloc::AllocError;
+
+/// An end of a link: a port of the system at a place.
+#[derive(Clone, Copy, Debug)]
+struct End {
+    place: usize,
+    port: u8,
+}
+
+/// The port at which a lane ends. The lane is of a link that is there.
+fn end_at(directory: &Directory, lane: Lane) -> End
+    requires { lane.link < length directory.now.joins }
+    ensures { (join : Join) → slice_get directory.now.joins lane.link ≡ Some join → IsEndAt (end_of lane.direction join) result directory.now }
+{
+    directory.well_formed();
+    End {
+        place: directory.receiver(lane),
+        port: directory.port_at(lane).port as u8,
+    }
+}
+
+/// The ends of a link, its end a first.
+fn ends_of(directory: &Directory, link: usize) -> (End, End)
+    requires { link < length directory.now.joins }
+    ensures { AreEndsOf link result.0 result.1 directory.now }
+{
+    directory.well_formed();
+    let a = end_at(
+        directory,
+        Lane {
+            link,
+            direction: Direction::FromB,
+        },
+    );
+    let b = end_at(
+        directory,
+        Lane {
+            link,
+            direction: Direction::FromA,
+        },
+    );
+    (a, b)
+}
+
+impl Stage {
+    ghost use Rattle.std.specs.Prelude.{◌≡◌, ◌<◌, length, OnOk};
+    ghost use Rattle.gptp_system.specs.Input.{PortUp, PortDown};
+    ghost use Rattle.gptp_world.specs.Stage.{world_of, CallUses, HasRoomToCall, IsPortAt, IsStage};
+    ghost use Rattle.gptp_world.specs.Telling.{ComeUp, GoneDown, HasRoomAtEnds, Told};
+
+    /// The link of a port of the system at a place goes down; a system that has failed isn't told.
+    fn tell_down<F: Fate>(&mut self, place: usize, port: u8, fate: &mut F)
+        requires stage { IsStage self.old }
+        requires port { IsPortAt place port self.old }
+        requires room { HasRoomToCall 1 place self.old }
+        ensures stage { IsStage self.new }
+        ensures told { Told F.answers place (PortDown port) fate.old fate.new self.old self.new }
+        ensures uses { CallUses place self.old self.new.net }
+    {
+        if self.stations[place].live {
+            self.port_down(place, port, fate);
+        }
+    }
+
+    /// The link of a port of the system at a place comes up; a system that has failed isn't told.
+    fn tell_up<F: Fate>(&mut self, place: usize, port: u8, fate: &mut F)
+        requires stage { IsStage self.old }
+        requires port { IsPortAt place port self.old }
+        requires room { HasRoomToCall 1 place self.old }
+        ensures stage { IsStage self.new }
+        ensures told { Told F.answers place (PortUp port) fate.old fate.new self.old self.new }
+        ensures uses { CallUses place self.old self.new.net }
+    {
+        if self.stations[place].live {
+            self.port_up(place, port, fate);
+        }
+    }
+
+    /// The link at a place, which is up, goes down: what is in flight on it is lost, and then its ends are told, its end a
+    /// first.
+    pub(crate) fn link_down<F: Fate>(&mut self, link: usize, fate: &mut F)
+        requires stage { IsStage self.old }
+        requires link { link < length self.old.net.cables.items }
+        requires room { HasRoomAtEnds link self.old }
+        ensures stage { IsStage self.new }
+        ensures down { GoneDown F.answers link fate.old fate.new self.old self.new }
+    {
+        self.net.directory.well_formed();
+        let (a, b) = ends_of(&self.net.directory, link);
+        self.net.take_down(link);
+        self.tell_down(a.place, a.port, fate);
+        self.tell_down(b.place, b.port, fate);
+    }
+
+    /// The link at a place, which is down, comes up, and then its ends are told, its end a first.
+    pub(crate) fn link_up<F: Fate>(&mut self, link: usize, fate: &mut F)
+        requires stage { IsStage self.old }
+        requires link { link < length self.old.net.cables.items }
+        requires room { HasRoomAtEnds link self.old }
+        ensures stage { IsStage self.new }
+        ensures up { ComeUp F.answers link fate.old fate.new self.old self.new }
+    {
+        self.net.directory.well_formed();
+        let (a, b) = ends_of(&self.net.directory, link);
+        self.net.bring_up(link);
+        self.tell_up(a.place, a.port, fate);
+        self.tell_up(b.place, b.port, fate);
+    }
+
+    /// Makes room for one call of each of the systems at the ends of a link. Refused where there is no memory for it. The
+    /// state of the world doesn't change.
+    pub(crate) fn make_room_at_ends(&mut self, link: usize) -> Result<(), AllocError>
+        requires stage { IsStage self.old }
+        requires link { link < length self.old.net.cables.items }
+        ensures stage { IsStage self.new }
+        ensures world { world_of self.new ≡ world_of self.old }
+        ensures room { OnOk result (HasRoomAtEnds link self.new) }
+    {
+        let (a, b) = ends_of(&self.net.directory, link);
+        self.make_room_for_both(a.place, b.place)
+    }
+}
