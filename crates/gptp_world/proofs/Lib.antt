@@ -10,6 +10,7 @@ pub mod SendsLemmas
 pub mod NetworkLemmas
 pub mod RoomLemmas
 pub mod StageLemmas
+pub mod StartingLemmas
 pub mod FiledLemmas
 pub mod NextLemmas
 pub mod PendingLemmas

@@ -18,5 +18,6 @@ pub mod Pending
 pub mod Room
 pub mod Sends
 pub mod Stage
+pub mod Starting
 pub mod SettlingTime
 pub mod World

@@ -28,6 +28,7 @@ mod pending;
 mod room;
 mod sending;
 mod stage;
+mod starting;
 mod station;
 mod timing;
 
