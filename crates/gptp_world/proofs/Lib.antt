@@ -14,6 +14,7 @@ pub mod NetworkLemmas
 pub mod RoomLemmas
 pub mod StageLemmas
 pub mod TellingLemmas
+pub mod StartingLemmas
 pub mod FiledLemmas
 pub mod NextLemmas
 pub mod PendingLemmas

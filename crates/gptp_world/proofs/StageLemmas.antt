@@ -206,25 +206,36 @@ carries stage stage' place input answer is room step station here of =
           (covered (repeated 1 (for_call old.system)) (for_call old.system) stage.net (once (for_call old.system)) has));
     }
 
+-- a stage in which a system became another with the same clock and as many ports
+pub becomes : (stage stage' : Stage) (place : ℕ) (old new : Station) → IsStage stage → slice_get stage.stations.items place ≡ Some old
+    → length new.system.ports ≡ length old.system.ports → clock new.system ≡ clock old.system
+    → stage'.stations.items ≡ slice_set stage.stations.items place new → IsNet stage'.net → stage'.net.directory ≡ stage.net.directory
+    → stage'.net.pending.systems ≡ stage.net.pending.systems → stage'.now ≡ stage.now → stage'.outbox.items ≡ [] → IsStage stage'
+becomes stage stage' place old new is here ports clocks list net directory systems now outbox =
+    let places = is.systems in
+    record {
+      net = net;
+      clocks = rw (list, directory) (clocks_kept stage place old new is here clocks);
+      systems = rw (list, systems) (rw (length-set stage.stations.items place new) places);
+      few = rw list (few_kept stage place old new is here ports);
+      ports = rw (list, directory) (ports_kept stage place old new is here ports clocks);
+      empty = outbox;
+      moment = rw now is.moment;
+    }
+
 -- the stage after it was carried out, from the one that it left
 pub stays : (stage left stage' : Stage) (place : ℕ) (input : Input) (answer : Answer) → IsStage stage
     → HasStepped place input answer stage left → stage'.stations ≡ left.stations → IsNet stage'.net
     → stage'.net.directory ≡ left.net.directory → stage'.net.pending.systems ≡ left.net.pending.systems → stage'.now ≡ left.now
     → stage'.outbox.items ≡ [] → IsStage stage'
 stays stage left stage' place input answer is step stations net directory systems now outbox =
-    let old = step.station in let new = in_state step.after old in
-    let ports = same_ports input stage.now old.system step.after left.outbox.items answer step.steps in
-    let clocks = same_clock input stage.now old.system step.after left.outbox.items answer step.steps in
-    let places = is.systems in let list = step.stations in let between = step.net in let moment = step.now in
-    record {
-      net = net;
-      clocks = rw (stations, list, directory, between) (clocks_kept stage place old new is step.here clocks);
-      systems = rw (stations, list, systems, between) (rw (length-set stage.stations.items place new) places);
-      few = rw (stations, list) (few_kept stage place old new is step.here ports);
-      ports = rw (stations, list, directory, between) (ports_kept stage place old new is step.here ports clocks);
-      empty = outbox;
-      moment = rw (now, moment) is.moment;
-    }
+    let old = step.station in
+    becomes stage stage' place old (in_state step.after old) is step.here
+    (same_ports input stage.now old.system step.after left.outbox.items answer step.steps)
+    (same_clock input stage.now old.system step.after left.outbox.items answer step.steps)
+    (ap (λ xs. xs.items) stations ∙ step.stations) net
+    (directory ∙ ap (λ (n : Between). n.directory) step.net) (systems ∙ ap (λ (n : Between). n.pending.systems) step.net)
+    (now ∙ step.now) outbox
 
 -- it was one call of the system
 pub called : {F : Type 0} (answers : Bounds → ℕ → F → Option ℕ → F → Type 0) (fate fate_after : F) (stage left stage' : Stage)

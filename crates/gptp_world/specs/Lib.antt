@@ -22,5 +22,6 @@ pub mod Sends
 pub mod SettlingTime
 pub mod Sound
 pub mod Stage
+pub mod Starting
 pub mod Telling
 pub mod World

@@ -31,6 +31,7 @@ mod pending;
 mod room;
 mod sending;
 mod stage;
+mod starting;
 mod station;
 mod telling;
 mod timing;

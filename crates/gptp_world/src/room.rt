@@ -56,7 +56,12 @@ impl Net {
     }
 
     /// So it does for each port up to this one. Nothing changes but the room that there is.
-    fn make_room_at_ports(&mut self, place: usize, ports: u8, frames: usize) -> Result<(), AllocError>
+    fn make_room_at_ports(
+        &mut self,
+        place: usize,
+        ports: u8,
+        frames: usize,
+    ) -> Result<(), AllocError>
         requires net { IsNet self.old }
         requires place { place < length self.old.directory.clocks }
         ensures net { IsNet self.new }
@@ -101,13 +106,18 @@ impl Stage {
         let ports = self.stations[place].system.ports();
         let count = usize::from(ports);
         let calls = usize::from(calls);
-        self.net.reserve(calls * (6 * count + 2), calls * (2 * count))?;
+        self.net
+            .reserve(calls * (6 * count + 2), calls * (2 * count))?;
         self.net.make_room_at_ports(place, ports, 2 * calls)
     }
 
     /// Makes room for one call of each of two systems. Refused where there is no memory for it. The state of the world
     /// doesn't change.
-    pub(crate) fn make_room_for_both(&mut self, first: usize, second: usize) -> Result<(), AllocError>
+    pub(crate) fn make_room_for_both(
+        &mut self,
+        first: usize,
+        second: usize,
+    ) -> Result<(), AllocError>
         requires stage { IsStage self.old }
         requires first { first < length self.old.stations.items }
         requires second { second < length self.old.stations.items }

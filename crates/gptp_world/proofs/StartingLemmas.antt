@@ -1,0 +1,152 @@
+-- How systems start, fail, and get another priority1.
+use Rattle.std.proofs.Common.{◌≡◌, ◌<◌, ◌≤◌, ◌+◌, ◌*◌, ◌^◌, ◌%◌, ℕ, true, false, List, [], length, Option, Some, slice_get, slice_set, slice_index_or, refl, ap, subst, sym, ◌∙◌, inl, inr, arith}
+use Rattle.std.proofs.lemmas.Option.{same_Some, slice_get_within}
+use Rattle.gptp_links.specs.declared.bounds.Bounds.{Bounds}
+use Rattle.gptp_system.specs.Input.{Priority}
+use Rattle.gptp_system.specs.State.{clock}
+use Rattle.gptp_world.specs.declared.net.Net.{Net as Between}
+use Rattle.gptp_world.specs.declared.stage.Stage.{Stage}
+use Rattle.gptp_world.specs.declared.station.Station.{Station}
+use Rattle.gptp_world.specs.Changing.{failed, with_setup, with_station}
+use Rattle.gptp_world.specs.Net.{OnlyEntries}
+use Rattle.gptp_world.specs.Room.{for_call, repeated, HasRoom}
+use Rattle.gptp_world.specs.Stage.{world_of, Called, HasRoomToCall, IsLiveAt, IsStage}
+use Rattle.gptp_world.specs.Starting.{for_all_timers, CanSetTimers, HasRoomForTimers, HasSetTimers, Prioritized, Replaces}
+use Rattle.gptp_world.proofs.AgreeLemmas.{replaced}
+use Rattle.gptp_world.proofs.NeedLemmas.{covered}
+use Rattle.gptp_world.proofs.PlaceLemmas.{get-set_same, read}
+use Rattle.gptp_world.proofs.StageLemmas.{becomes, net_kept}
+
+-- ---- one stands for the system at a place
+
+-- the station that is written is made of what stood there
+pub replaces : (stage stage' : Stage) (place : ℕ) (one station : Station) (made : Station → Station)
+    → slice_get stage.stations.items place ≡ Some station → one ≡ slice_index_or stage.stations.items place one
+    → stage'.stations.items ≡ slice_set stage.stations.items place (made one) → stage'.net ≡ stage.net → stage'.now ≡ stage.now
+    → stage'.last_change ≡ stage.last_change → stage'.outbox ≡ stage.outbox → Replaces place (made station) stage stage'
+replaces stage stage' place one station made here value stations net now last outbox =
+    let is : one ≡ station = value ∙ read stage.stations.items place station one here in
+    record {
+      stations = stations ∙ ap (λ s. slice_set stage.stations.items place (made s)) is;
+      net = net;
+      now = now;
+      last_change = last;
+      outbox = outbox;
+    }
+
+-- it stands there
+pub stands_there : (stage left : Stage) (place : ℕ) (old new : Station) → slice_get stage.stations.items place ≡ Some old
+    → Replaces place new stage left → slice_get left.stations.items place ≡ Some new
+stands_there stage left place old new here by =
+    ap (λ xs. slice_get xs place) by.stations ∙ get-set_same stage.stations.items place old new here
+
+-- with the same clock and as many ports it keeps the stage
+pub replaced_stage : (stage left : Stage) (place : ℕ) (old new : Station) → IsStage stage → slice_get stage.stations.items place ≡ Some old
+    → length new.system.ports ≡ length old.system.ports → clock new.system ≡ clock old.system → Replaces place new stage left
+    → IsStage left
+replaced_stage stage left place old new is here ports clocks by =
+    let net = by.net in
+    becomes stage left place old new is here ports clocks by.stations (rw net is.net) (rw net refl) (rw net refl) by.now
+    (ap (λ o. o.items) by.outbox ∙ is.empty)
+
+-- ---- all timers of a system
+
+-- the timers of a system of the stage can be set
+pub can_set_timers : (stage : Stage) (place : ℕ) (station : Station) → IsStage stage → slice_get stage.stations.items place ≡ Some station
+    → HasRoom (for_all_timers station.system) stage.net → CanSetTimers place stage
+can_set_timers stage place station is here room =
+    let within = slice_get_within stage.stations.items place station here in let places = is.systems in
+    record {
+      station = station;
+      here = here;
+      known = omega arith;
+      few = is.few place station here;
+      room = room.entries;
+    }
+
+pub timers_stage : (stage stage' : Stage) (place : ℕ) → IsStage stage → HasSetTimers place stage stage' → IsStage stage'
+timers_stage stage stage' place is set =
+    let stations = set.stations in let directory = set.only.directory in let systems = set.only.systems in let now = set.now in
+    let outbox = set.outbox in
+    record {
+      net = net_kept (4 * length set.station.system.ports + 2) stage.net stage'.net set.only is.net;
+      clocks = rw (stations, directory) is.clocks;
+      systems = rw (stations, systems) is.systems;
+      few = rw stations is.few;
+      ports = rw (stations, directory) is.ports;
+      empty = rw outbox is.empty;
+      moment = rw now is.moment;
+    }
+
+-- the world in which one stands for a system, and its timers are set
+pub replaced_world : (stage left stage' : Stage) (place : ℕ) (old new : Station) → slice_get stage.stations.items place ≡ Some old
+    → Replaces place new stage left → HasSetTimers place left stage' → world_of stage' ≡ replaced place new (world_of stage)
+replaced_world stage left stage' place old new here by set =
+    let there = stands_there stage left place old new here by in
+    let one : set.station ≡ new = same_Some set.station new (sym set.here ∙ there) in
+    let timers = set.timers in let stations = set.stations in let now = set.now in let last = set.last_change in
+    let list = by.stations in let net = by.net in let moment = by.now in let change = by.last_change in
+    rw (timers, stations, now, last, list, net, moment, change, one) refl
+
+-- where a system can be called, its timers can be set
+pub room_for_timers : (place : ℕ) (stage : Stage) → HasRoomToCall 1 place stage → HasRoomForTimers place stage
+room_for_timers place stage has = record {
+  station = has.station;
+  here = has.here;
+  room = covered (repeated 1 (for_call has.station.system)) (for_all_timers has.station.system) stage.net
+      (record { entries = omega arith; buffers = omega arith; frames = λ port. omega arith }) has.room;
+}
+
+-- ---- another priority1
+
+-- a live system with another priority1 can be called
+pub prepared_room : (stage left : Stage) (place value : ℕ) (has : HasRoomToCall 1 place stage)
+    → Replaces place (with_setup value has.station) stage left → HasRoomToCall 1 place left
+prepared_room stage left place value has by =
+    let net = by.net in
+    record {
+      station = with_setup value has.station;
+      here = stands_there stage left place has.station (with_setup value has.station) has.here by;
+      room = rw net has.room;
+    }
+
+-- the world in which it stands
+pub prepared_world : (stage left : Stage) (place : ℕ) (new : Station) → Replaces place new stage left
+    → world_of left ≡ with_station place new (world_of stage)
+prepared_world stage left place new by =
+    let list = by.stations in let net = by.net in let now = by.now in let last = by.last_change in
+    rw (list, net, now, last) refl
+
+pub told : {F : Type 0} (answers : Bounds → ℕ → F → Option ℕ → F → Type 0) (fate fate_after : F) (stage left stage' : Stage)
+    (place value : ℕ) (station : Station) → slice_get stage.stations.items place ≡ Some station
+    → Replaces place (with_setup value station) stage left → Called answers place (Priority value) fate fate_after left stage'
+    → Prioritized answers place value fate fate_after stage stage'
+told answers fate fate_after stage left stage' place value station here by called =
+    let world = prepared_world stage left place (with_setup value station) by in
+    record {
+      station = station;
+      here = here;
+      draws = called.called.draws;
+      drawn = called.called.drawn;
+      calls = inl (called.answer, rw (← world) called.called.calls);
+    }
+
+-- one that has failed isn't told
+pub untold : {F : Type 0} (answers : Bounds → ℕ → F → Option ℕ → F → Type 0) (fate : F) (stage left : Stage) (place value : ℕ)
+    (station : Station) → slice_get stage.stations.items place ≡ Some station → Replaces place (with_setup value station) stage left
+    → station.live ≡ false → Prioritized answers place value fate fate stage left
+untold answers fate stage left place value station here by failed = record {
+  station = station;
+  here = here;
+  draws = [];
+  drawn = refl;
+  calls = inr (
+    record {
+      station = with_setup value station;
+      here = get-set_same stage.stations.items place station (with_setup value station) here;
+      failed = failed;
+    },
+    refl,
+    prepared_world stage left place (with_setup value station) by,
+  );
+}

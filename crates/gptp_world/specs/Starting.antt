@@ -1,0 +1,66 @@
+-- Systems of the code's world that start, fail, or get another priority1.
+use Rattle.std.specs.Prelude.{◌≡◌, ◌≤◌, ◌<◌, ◌+◌, ◌*◌, ℕ, List, Option, Some, length, slice_get, slice_set}
+use Rattle.gptp_links.specs.declared.bounds.Bounds.{Bounds}
+use Rattle.gptp_links.specs.Fate.{Draw, Draws}
+use Rattle.gptp_system.specs.Input.{Priority}
+use Rattle.gptp_system.specs.State.{SystemState}
+use Rattle.gptp_world.specs.declared.stage.Stage.{Stage}
+use Rattle.gptp_world.specs.declared.station.Station.{Station}
+use Rattle.gptp_world.specs.Act.{all_timers}
+use Rattle.gptp_world.specs.Changing.{with_setup, with_station, CallsIfLive}
+use Rattle.gptp_world.specs.Net.{between, OnlyEntries}
+use Rattle.gptp_world.specs.Room.{for_timers, HasRoom, Need}
+use Rattle.gptp_world.specs.Stage.{world_of}
+
+-- ---- one stands for the system at a place
+
+-- it stands there now, and nothing else has changed
+pub record Replaces (place : ℕ) (new : Station) (stage stage_after : Stage) : Type 0 where
+  pub stations : stage_after.stations.items ≡ slice_set stage.stations.items place new
+  pub net : stage_after.net ≡ stage.net
+  pub now : stage_after.now ≡ stage.now
+  pub last_change : stage_after.last_change ≡ stage.last_change
+  pub outbox : stage_after.outbox ≡ stage.outbox
+
+-- ---- all timers of a system
+
+-- each timer of a system is set
+abbrev pub for_all_timers : SystemState → Need
+for_all_timers s = for_timers (4 * length s.ports + 2)
+
+-- there is room for all timers of the system at a place
+pub record HasRoomForTimers (place : ℕ) (stage : Stage) : Type 0 where
+  pub station : Station
+  pub here : slice_get stage.stations.items place ≡ Some station
+  pub room : HasRoom (for_all_timers station.system) stage.net
+
+-- they can be set
+pub record CanSetTimers (place : ℕ) (stage : Stage) : Type 0 where
+  pub station : Station
+  pub here : slice_get stage.stations.items place ≡ Some station
+  pub known : place < stage.net.pending.systems
+  pub few : length station.system.ports ≤ 16
+  pub room : 4 * length station.system.ports + 2 ≤ stage.net.pending.room
+
+-- they were set, and nothing else has changed
+pub record HasSetTimers (place : ℕ) (stage stage_after : Stage) : Type 0 where
+  pub station : Station
+  pub here : slice_get stage.stations.items place ≡ Some station
+  pub only : OnlyEntries (4 * length station.system.ports + 2) stage.net stage_after.net
+  pub timers : between stage_after.net ≡ all_timers place station (between stage.net)
+  pub stations : stage_after.stations ≡ stage.stations
+  pub now : stage_after.now ≡ stage.now
+  pub last_change : stage_after.last_change ≡ stage.last_change
+  pub outbox : stage_after.outbox ≡ stage.outbox
+
+-- ---- another priority1
+
+-- The system at a place has another priority1 from now on, and where it is live it was told.
+pub record Prioritized {F : Type 0} (answers : Bounds → ℕ → F → Option ℕ → F → Type 0) (place value : ℕ) (fate fate_after : F)
+    (stage stage_after : Stage) : Type 0 where
+  pub station : Station
+  pub here : slice_get stage.stations.items place ≡ Some station
+  pub draws : List Draw
+  pub drawn : Draws answers fate draws fate_after
+  pub calls : CallsIfLive place (Priority value) (with_station place (with_setup value station) (world_of stage)) draws
+      (world_of stage_after)
