@@ -1,3 +1,4 @@
+pub mod StayLemmas
 pub mod AgreeLemmas
 pub mod ChangeAgreeLemmas
 pub mod OwnTimerLemmas
