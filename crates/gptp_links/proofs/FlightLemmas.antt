@@ -53,12 +53,12 @@ frames-push : (s : Slab Flight) (keys : List ℕ) (key : ℕ)
 frames-push s [] key = refl
 frames-push s (k ∷ keys) key = ap (λ (fs : List Frame). frame_at s k ∷ fs) (frames-push s keys key)
 
-in_order-push : (fs : List Frame) (f : Frame) → AreDueInOrder fs → newest_due fs ≤ f.due → AreDueInOrder (fs ++ f ∷ [])
+pub in_order-push : (fs : List Frame) (f : Frame) → AreDueInOrder fs → newest_due fs ≤ f.due → AreDueInOrder (fs ++ f ∷ [])
 in_order-push [] f order late = tt
 in_order-push (e ∷ []) f order late = (late, tt)
 in_order-push (e ∷ (g ∷ fs)) f order late = (order.0, in_order-push (g ∷ fs) f order.1 late)
 
-in_order-tail : (f : Frame) (fs : List Frame) → AreDueInOrder (f ∷ fs) → AreDueInOrder fs
+pub in_order-tail : (f : Frame) (fs : List Frame) → AreDueInOrder (f ∷ fs) → AreDueInOrder fs
 in_order-tail f [] order = tt
 in_order-tail f (g ∷ fs) order = order.1
 

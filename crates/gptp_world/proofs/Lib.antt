@@ -1,3 +1,5 @@
+pub mod StayLemmas
+pub mod FlowLemmas
 pub mod AgreeLemmas
 pub mod ChangeAgreeLemmas
 pub mod NextDueLemmas

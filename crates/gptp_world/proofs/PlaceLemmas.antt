@@ -1,5 +1,9 @@
 -- What stands at the places of a list.
+<<<<<<< HEAD
 use Rattle.std.proofs.Common.{◌<◌, ◌≡◌, ◌≢◌, ◌⊎◌, ℕ, zero, suc, List, [], ◌∷◌, ◌++◌, length, map, Some, slice_get, slice_set, slice_index_or, refl, ap, subst, sym, ◌∙◌, inl, inr, arith}
+=======
+use Rattle.std.proofs.Common.{◌≡◌, ◌≢◌, ◌⊎◌, ℕ, zero, suc, ◌<◌, List, [], ◌∷◌, ◌++◌, length, map, Some, slice_get, slice_set, slice_index_or, refl, ap, subst, sym, ◌∙◌, inl, inr, arith}
+>>>>>>> 0b006bc12aee6e6851a3204cf2df036a2980b2ab
 use Rattle.std.proofs.lemmas.Option.{none-some, same_Some}
 
 pub get-set_same : {X : Type 0} (xs : List X) (i : ℕ) (x y : X) → slice_get xs i ≡ Some x → slice_get (slice_set xs i y) i ≡ Some y
@@ -87,3 +91,25 @@ pub before : {X : Type 0} (xs : List X) (y x : X) (i : ℕ) → slice_get xs i �
 before [] y x i h = absurd cc
 before (z ∷ xs) y x zero h = h
 before (z ∷ xs) y x (suc i) h = before xs y x i h
+
+-- ---- one replaced
+
+-- What holds of the new one at its place, and of the others where they stand, holds wherever one stands.
+pub set_each : {X : Type 0} (P : ℕ → X → Type 0) (xs : List X) (place : ℕ) (old new : X) → slice_get xs place ≡ Some old
+    → P place new → ((other : ℕ) (x : X) → other ≢ place → slice_get xs other ≡ Some x → P other x)
+    → (other : ℕ) (x : X) → slice_get (slice_set xs place new) other ≡ Some x → P other x
+set_each P xs place old new here now others other x there = by (same_place other place)
+  where
+    by : (other ≡ place) ⊎ (other ≢ place) → P other x
+    by (inl same) =
+        let now_here = get-set_same xs place old new here in
+        let one : new ≡ x =
+        same_Some new x (sym now_here ∙ (ap (slice_get (slice_set xs place new)) (sym same) ∙ there)) in
+        subst (λ i. P i x) (sym same) (subst (P place) one now)
+    by (inr apart) = others other x apart (sym (get-set_other xs place other new apart) ∙ there)
+
+-- one stands at each place below the length
+pub member_there : {X : Type 0} (xs : List X) (i : ℕ) → i < length xs → (x : X) × (slice_get xs i ≡ Some x)
+member_there [] i within = absurd (omega arith)
+member_there (x ∷ xs) zero within = (x, refl)
+member_there (x ∷ xs) (suc i) within = member_there xs i (omega arith)
