@@ -1,9 +1,5 @@
 -- What stands at the places of a list.
-<<<<<<< HEAD
 use Rattle.std.proofs.Common.{◌<◌, ◌≡◌, ◌≢◌, ◌⊎◌, ℕ, zero, suc, List, [], ◌∷◌, ◌++◌, length, map, Some, slice_get, slice_set, slice_index_or, refl, ap, subst, sym, ◌∙◌, inl, inr, arith}
-=======
-use Rattle.std.proofs.Common.{◌≡◌, ◌≢◌, ◌⊎◌, ℕ, zero, suc, ◌<◌, List, [], ◌∷◌, ◌++◌, length, map, Some, slice_get, slice_set, slice_index_or, refl, ap, subst, sym, ◌∙◌, inl, inr, arith}
->>>>>>> 0b006bc12aee6e6851a3204cf2df036a2980b2ab
 use Rattle.std.proofs.lemmas.Option.{none-some, same_Some}
 
 pub get-set_same : {X : Type 0} (xs : List X) (i : ℕ) (x y : X) → slice_get xs i ≡ Some x → slice_get (slice_set xs i y) i ≡ Some y
