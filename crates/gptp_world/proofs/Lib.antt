@@ -11,6 +11,7 @@ pub mod NetLemmas
 pub mod NeedLemmas
 pub mod EndLemmas
 pub mod AimLemmas
+pub mod CheckLemmas
 pub mod SendsLemmas
 pub mod NetworkLemmas
 pub mod RoomLemmas

@@ -200,7 +200,7 @@ impl Stage {
     ghost use Rattle.gptp_world.specs.World.{station_due, Channel};
 
     /// Whether the oldest frame of a lane is due at a time.
-    fn is_frame_due(&self, lane: Lane, time: u64) -> bool
+    pub(crate) fn is_frame_due(&self, lane: Lane, time: u64) -> bool
         requires { lane.link < length self.now.net.cables.items }
         ensures { (channel : Channel) → slice_get (world_of self.entry.now).net.channels lane.link ≡ Some channel → IsTrue result ↔ IsOldestDue lane.direction time channel }
     {
@@ -211,7 +211,7 @@ impl Stage {
     }
 
     /// Whether a timer of the system at a place is due at a time.
-    fn is_timer_due(&self, place: usize, timer: Timer, time: u64) -> bool
+    pub(crate) fn is_timer_due(&self, place: usize, timer: Timer, time: u64) -> bool
         requires place { place < length self.now.stations.items }
         requires timer { (station : Station) → slice_get self.now.stations.items place ≡ Some station → IsTimerOf station.system timer }
         ensures { (station : Station) → slice_get self.entry.now.stations.items place ≡ Some station → IsTrue result ↔ (station_due timer station ≡ Some time) }

@@ -17,6 +17,7 @@ mod cable;
 mod calm;
 mod change;
 mod changing;
+mod checking;
 mod delivering;
 mod directory;
 mod done;
