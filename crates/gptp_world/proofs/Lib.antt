@@ -1,5 +1,7 @@
 pub mod StayLemmas
 pub mod FlowLemmas
+pub mod UpLemmas
+pub mod LinkedLemmas
 pub mod AgreeLemmas
 pub mod ChangeAgreeLemmas
 pub mod OwnTimerLemmas
