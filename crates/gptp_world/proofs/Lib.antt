@@ -2,6 +2,7 @@ pub mod StayLemmas
 pub mod FlowLemmas
 pub mod UpLemmas
 pub mod LinkedLemmas
+pub mod WiredLemmas
 pub mod AgreeLemmas
 pub mod ChangeAgreeLemmas
 pub mod OwnTimerLemmas
