@@ -1,5 +1,5 @@
 -- Each port of a live system at a link that is up measures that link, and acts keep it so.
-use Rattle.std.proofs.Common.{◌≡◌, ◌≢◌, ◌⊎◌, ℕ, Bool, true, false, List, [], ◌∷◌, map, length, Option, Some, None, slice_get, slice_set, refl, sym, ap, subst, ◌∙◌, inl, inr}
+use Rattle.std.proofs.Common.{◌≡◌, ◌≢◌, ◌⊎◌, ℕ, Bool, true, false, List, [], ◌∷◌, map, Option, Some, None, slice_get, slice_set, refl, sym, ap, subst, ◌∙◌, inl, inr}
 use Rattle.gptp_graph.specs.Members.{In}
 use Rattle.gptp_vector.specs.declared.port.PortId.{PortId}
 use Rattle.gptp_links.specs.declared.bounds.Bounds.{Bounds}
@@ -9,20 +9,20 @@ use Rattle.gptp_links.specs.Fate.{Draw}
 use Rattle.gptp_system.specs.declared.answer.Answer.{Answer}
 use Rattle.gptp_system.specs.declared.timer.Timer.{Timer}
 use Rattle.gptp_system.specs.Input.{Input, PortUp, PortDown, Frame as FrameHeard, Expires as TimerExpires}
-use Rattle.gptp_system.specs.State.{SystemState, clock}
+use Rattle.gptp_system.specs.State.{clock}
 use Rattle.gptp_system.specs.Steps.{IsPortOf, IsUp}
 use Rattle.gptp_world.specs.declared.station.Station.{Station}
 use Rattle.gptp_world.specs.World.{Channel, Net, WorldState, sender, receiver}
 use Rattle.gptp_world.specs.Act.{all_timers, in_state, Calls, Delivers, Expires, Hears, HasFailed}
 use Rattle.gptp_world.specs.Agrees.{stopped}
-use Rattle.gptp_world.specs.Changing.{brought_up, failed, fresh, lost, taken_down, up_ports, with_bounds, with_setup, with_station, CallsAll, CallsIfLive, ComesUpIf, FailsIf, GoesDownIf, IsStation, RecoversIf, Starts, StartsAll, TellsEnds}
+use Rattle.gptp_world.specs.Changing.{brought_up, failed, fresh, lost, taken_down, up_ports, with_bounds, with_setup, with_station, CallsAll, CallsIfLive, ComesUpIf, FailsIf, GoesDownIf, RecoversIf, Starts, StartsAll, TellsEnds}
 use Rattle.gptp_world.specs.Net.{port_id}
 use Rattle.gptp_world.specs.Sound.{AreApart, AreLinked, HaveOwnClocks, HaveTheirSetups, JoinPorts}
 use Rattle.gptp_world.proofs.AgreeLemmas.{replaced}
 use Rattle.gptp_world.proofs.ListLemmas.{same_there}
 use Rattle.gptp_world.proofs.PlaceLemmas.{get-set_same, set_each}
 use Rattle.gptp_world.proofs.StageLemmas.{same_clock}
-use Rattle.gptp_world.proofs.StayLemmas.{begins_same, calls_carry, calls_if_live_stay, calls_stay, carry_same, refreshed_stays, sends_carry, set_carry, set_join, starts_stays, stays_clocks, stays_ports, stays_setups, takes_carry, taken_down_stays, brought_up_stays, tells_ends_carry, CarryTheSame, Stays}
+use Rattle.gptp_world.proofs.StayLemmas.{begins_same, calls_if_live_stay, calls_stay, carry_same, refreshed_stays, sends_carry, set_carry, starts_stays, stays_clocks, stays_ports, stays_setups, takes_carry, tells_ends_carry, CarryTheSame, Stays}
 use Rattle.gptp_world.proofs.UpLemmas.{brings_port, brought_ports, comes_up, is_down, stays_up}
 
 -- ---- all but some ports
@@ -35,10 +35,11 @@ LinkedBut Excepted w = (link place : ℕ) (direction : Direction) (channel : Cha
     → clock station.system ≡ (sender direction channel).clock
     → Excepted (sender direction channel) ⊎ IsUp station.system (sender direction channel).port
 
-abbrev pub none : PortId → Type 0
-none port = ⊥
+-- none is
+abbrev pub NoPort : PortId → Type 0
+NoPort port = ⊥
 
-pub but_none : (w : WorldState) → AreLinked w → LinkedBut none w
+pub but_none : (w : WorldState) → AreLinked w → LinkedBut NoPort w
 but_none w linked link place direction channel station here up there live named =
     inr (linked link place direction channel station here up there live named)
 
@@ -55,8 +56,8 @@ linked_all Excepted w but unused link place direction channel station here up th
     by (inl excepted) = absurd (unused link direction channel here up excepted)
     by (inr runs) = runs
 
-pub none_linked : (w : WorldState) → LinkedBut none w → AreLinked w
-none_linked w but = linked_all none w but (λ link direction channel here up excepted. excepted)
+pub none_linked : (w : WorldState) → LinkedBut NoPort w → AreLinked w
+none_linked w but = linked_all NoPort w but (λ link direction channel here up excepted. excepted)
 
 -- ---- what changes
 
@@ -210,7 +211,8 @@ calls_up Before After place port w draws answer w' clocks has less but calls =
 failed_but : (Before After : PortId → Type 0) (place : ℕ) (port : PortId) (w : WorldState) → HaveOwnClocks w
     → HasPort place port w → HasFailed place w → ((q : PortId) → Before q → After q ⊎ (q ≡ port)) → LinkedBut Before w
     → LinkedBut After w
-failed_but Before After place port w clocks has off less but link other direction channel station here up there live named =
+failed_but Before After place port w clocks has off less but link other direction channel station here up there live
+    named =
     by (but link other direction channel station here up there live named)
   where
     gone : sender direction channel ≡ port → true ≡ false
@@ -245,7 +247,7 @@ up_if_live Before After place port w draws w' clocks has less but (inr (off, und
 pub calls_linked : (place : ℕ) (input : Input) (w : WorldState) (draws : List Draw) (answer : Answer) (w' : WorldState)
     → ((p : ℕ) → input ≢ PortDown p) → AreLinked w → Calls place input w draws answer w' → AreLinked w'
 calls_linked place input w draws answer w' not_down linked calls =
-    none_linked w' (calls_kept none place input w draws answer w' calls (λ port named down. not_down port.port down)
+    none_linked w' (calls_kept NoPort place input w draws answer w' calls (λ port named down. not_down port.port down)
     (but_none w linked))
 
 hears_linked : (place port : ℕ) (octets : List ℕ) (w : WorldState) (draws : List Draw) (answer : Option Answer)
@@ -256,14 +258,14 @@ hears_linked place port octets w draws None w' linked hears = subst AreLinked (s
 
 net_linked : (w : WorldState) (net : Net) → CarryTheSame w.net.channels net.channels → AreLinked w
     → AreLinked (record w { net = net })
-net_linked w net carry linked = none_linked (record w { net = net }) (net_but none w net carry (but_none w linked))
+net_linked w net carry linked = none_linked (record w { net = net }) (net_but NoPort w net carry (but_none w linked))
 
 pub delivers_linked : (link : ℕ) (direction : Direction) (octets : List ℕ) (w : WorldState) (draws : List Draw)
     (answer : Option Answer) (w' : WorldState) → AreLinked w → Delivers link direction octets w draws answer w'
     → AreLinked w'
 delivers_linked link direction octets w draws answer w' linked delivers =
-    hears_linked delivers.place (receiver direction delivers.channel).port octets (record w { net = delivers.net }) draws
-    answer w' (net_linked w delivers.net
+    hears_linked delivers.place (receiver direction delivers.channel).port octets (record w { net = delivers.net })
+    draws answer w' (net_linked w delivers.net
     (takes_carry link direction w.time octets delivers.channel w.net delivers.net delivers.takes) linked)
     delivers.hears
 
@@ -342,7 +344,8 @@ goes_down place channel w draws w' here setups ports apart linked tells =
 pub goes_down_linked : (up : Bool) (place : ℕ) (channel : Channel) (w : WorldState) (draws : List Draw)
     (w' : WorldState) → slice_get w.net.channels place ≡ Some channel → HaveTheirSetups w → JoinPorts w → AreApart w
     → AreLinked w → GoesDownIf up place channel w draws w' → AreLinked w'
-goes_down_linked false place channel w draws w' here setups ports apart linked goes = subst AreLinked (sym goes.1) linked
+goes_down_linked false place channel w draws w' here setups ports apart linked goes =
+    subst AreLinked (sym goes.1) linked
 goes_down_linked true place channel w draws w' here setups ports apart linked goes =
     goes_down place channel w draws w' here setups ports apart linked goes
 
@@ -365,13 +368,13 @@ brought_up_linked : (place : ℕ) (channel : Channel) (w : WorldState) (draws : 
     → TellsEnds PortUp channel (record w { net = brought_up place channel w.net }) draws w' → AreLinked w'
 brought_up_linked place channel w draws w' here setups clocks ports linked tells =
     none_linked w'
-    (up_if_live (λ port. port ≡ channel.b) none tells.place_b channel.b tells.between tells.second w'
+    (up_if_live (λ port. port ≡ channel.b) NoPort tells.place_b channel.b tells.between tells.second w'
     (stays_clocks at tells.between first clocks)
     (stays_has_port tells.place_b channel.b at tells.between first
     (joined_has tells.place_b place FromB channel tells.station_b w ports here tells.is_b.here tells.is_b.named))
     (λ port is. inr is)
-    (up_if_live (IsJoined channel) (λ port. port ≡ channel.b) tells.place_a channel.a at tells.first tells.between clocks
-    (joined_has tells.place_a place FromA channel tells.station_a w ports here tells.is_a.here tells.is_a.named)
+    (up_if_live (IsJoined channel) (λ port. port ≡ channel.b) tells.place_a channel.a at tells.first tells.between
+    clocks (joined_has tells.place_a place FromA channel tells.station_a w ports here tells.is_a.here tells.is_a.named)
     less (brought_up_but place channel w here linked) tells.at_a) tells.at_b)
   where
     at : WorldState
@@ -475,16 +478,21 @@ starts_linked place w draws w' setups clocks ports linked starts =
         subst (λ (s : Station). (clock s.system ≡ clock new.system) × IsPortOf s.system p)
         (same_there begun.stations place new station now_here there) (refl, brought_ports new w.net p among)
 
-    asked : Measures (IsOneOf (clock new.system) (up_ports new w.net)) w new
-    asked link direction channel here up live named =
-        inl (sym named, brings_port new w.net link direction channel here up named
-        (stays_ports w begun stays ports link place direction channel new here now_here named))
+    Asked : PortId → Type 0
+    Asked = IsOneOf (clock new.system) (up_ports new w.net)
 
-    but : LinkedBut (IsOneOf (clock new.system) (up_ports new w.net)) begun
+    asked : Measures Asked w new
+    asked link direction channel here up live named =
+        inl (
+          sym named,
+          brings_port new w.net link direction channel here up named
+              (stays_ports w begun stays ports link place direction channel new here now_here named),
+        )
+
+    but : LinkedBut Asked begun
     but =
-        net_but (IsOneOf (clock new.system) (up_ports new w.net)) (with_station place new w) (all_timers place new w.net)
-        (carry_same w.net.channels)
-        (station_but none (IsOneOf (clock new.system) (up_ports new w.net)) w place starts.station new starts.here asked
+        net_but Asked (with_station place new w) (all_timers place new w.net) (carry_same w.net.channels)
+        (station_but NoPort Asked w place starts.station new starts.here asked
         (λ other station port apart there named excepted. absurd excepted) (but_none w linked))
 
 pub recovers_linked : (live : Bool) (place : ℕ) (w : WorldState) (draws : List Draw) (w' : WorldState)

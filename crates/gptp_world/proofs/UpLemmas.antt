@@ -1,12 +1,11 @@
 -- Which ports measure their links: after a step of a system, and as a start finds them.
-use Rattle.std.proofs.Common.{◌≡◌, ◌≢◌, ◌⊎◌, ℕ, zero, suc, ◌+◌, ◌<◌, ◌≤◌, Bool, true, false, List, [], ◌∷◌, length, Option, Some, None, IsSome, slice_get, refl, sym, ap, subst, ◌∙◌, inl, inr, arith, eq-eqb}
+use Rattle.std.proofs.Common.{◌≡◌, ◌≢◌, ◌⊎◌, ℕ, zero, suc, ◌+◌, ◌<◌, ◌≤◌, Bool, true, false, List, [], ◌∷◌, length, Some, IsSome, slice_get, refl, sym, ap, subst, ◌∙◌, inl, inr, arith, eq-eqb}
 use Rattle.std.specs.Prelude.{if◌then◌else◌, cond, ◌==◌, ◌&&◌, ◌||◌}
 use Rattle.std.specs.List.{filter, range_with_len}
 use Rattle.std.specs.Option.{option_and_then}
 use Rattle.std.proofs.lemmas.Bool.Decides.{nat_tests}
 use Rattle.std.proofs.lemmas.Option.{none-some, same_Some}
 use Rattle.gptp_graph.specs.Members.{In}
-use Rattle.gptp_vector.specs.declared.port.PortId.{PortId}
 use Rattle.gptp_messages.specs.declared.message.Message.{Message}
 use Rattle.gptp_messages.specs.declared.message.Message.TheVariants as messages
 use Rattle.gptp_links.specs.declared.link.Direction.{Direction}
@@ -214,7 +213,8 @@ brought_ports station net p among =
 pub brings_port : (station : Station) (net : Net) (link : ℕ) (direction : Direction) (channel : Channel)
     → slice_get net.channels link ≡ Some channel → channel.up ≡ true
     → clock station.system ≡ (sender direction channel).clock
-    → IsPortOf station.system (sender direction channel).port → In (sender direction channel).port (up_ports station net)
+    → IsPortOf station.system (sender direction channel).port
+    → In (sender direction channel).port (up_ports station net)
 brings_port station net link direction channel here up named port =
     let most = port.most in
     in_filter (λ q. is_up_at net.channels (clock station.system) q) (range_with_len 1 (length station.system.ports))

@@ -1,9 +1,8 @@
 -- The systems are their own and the links join them, and every act keeps it so.
-use Rattle.std.proofs.Common.{◌≡◌, ◌≢◌, ℕ, Bool, true, false, List, [], Option, Some, slice_get, refl, sym, ap, ◌∙◌}
+use Rattle.std.proofs.Common.{◌≡◌, ◌≢◌, ℕ, Bool, true, false, List, [], Option, Some, slice_get, refl, sym, ◌∙◌}
 use Rattle.gptp_links.specs.declared.bounds.Bounds.{Bounds}
 use Rattle.gptp_links.specs.declared.link.Direction.{Direction}
 use Rattle.gptp_links.specs.Fate.{Draw}
-use Rattle.gptp_links.specs.Queue.{AreDueInOrder, Frame}
 use Rattle.gptp_system.specs.declared.answer.Answer.{Answer}
 use Rattle.gptp_system.specs.declared.timer.Timer.{Timer}
 use Rattle.gptp_system.specs.Input.{Input, PortDown}
@@ -65,7 +64,8 @@ pub expires_wired : (place : ℕ) (timer : Timer) (w : WorldState) (draws : List
     → IsWired w → Expires place timer w draws w' → IsWired w'
 expires_wired place timer w draws w' wired expires =
     stays_wired w w' wired (expires_stay place timer w draws w' wired.setups expires)
-    (expires_flow place timer w draws w' wired.flow expires) (expires_linked place timer w draws w' wired.linked expires)
+    (expires_flow place timer w draws w' wired.flow expires)
+    (expires_linked place timer w draws w' wired.linked expires)
 
 -- ---- changes of a link
 
