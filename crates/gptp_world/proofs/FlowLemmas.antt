@@ -1,5 +1,5 @@
 -- Frames arrive in the order in which they were sent, nothing is in flight on a link that is down, and acts keep it so.
-use Rattle.std.proofs.Common.{◌≡◌, ◌≢◌, ◌⊎◌, ℕ, ◌+◌, ◌≤◌, max, Bool, true, false, List, [], ◌∷◌, ◌++◌, map, length, Option, Some, None, slice_get, slice_set, refl, sym, ap, subst, ◌∙◌, inl, inr, arith}
+use Rattle.std.proofs.Common.{◌≡◌, ℕ, ◌≤◌, Bool, true, false, List, [], ◌∷◌, ◌++◌, map, Option, Some, None, slice_get, slice_set, refl, sym, ap, subst, ◌∙◌, inl, inr, arith}
 use Rattle.gptp_vector.specs.declared.port.PortId.{PortId}
 use Rattle.gptp_links.specs.declared.bounds.Bounds.{Bounds}
 use Rattle.gptp_links.specs.declared.link.Direction.{Direction}
@@ -101,7 +101,8 @@ hears_flow place port octets w draws (Some answer) w' flow hears =
 hears_flow place port octets w draws None w' flow hears = subst AllFlow (sym hears.2) flow
 
 pub delivers_flow : (link : ℕ) (direction : Direction) (octets : List ℕ) (w : WorldState) (draws : List Draw)
-    (answer : Option Answer) (w' : WorldState) → AllFlow w → Delivers link direction octets w draws answer w' → AllFlow w'
+    (answer : Option Answer) (w' : WorldState) → AllFlow w → Delivers link direction octets w draws answer w'
+    → AllFlow w'
 delivers_flow link direction octets w draws answer w' flow delivers =
     hears_flow delivers.place (receiver direction delivers.channel).port octets (record w { net = delivers.net }) draws
     answer w' (takes_flow link direction w.time octets delivers.channel w delivers.net flow delivers.takes)

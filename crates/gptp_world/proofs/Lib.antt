@@ -1,5 +1,8 @@
 pub mod StayLemmas
 pub mod FlowLemmas
+pub mod UpLemmas
+pub mod LinkedLemmas
+pub mod WiredLemmas
 pub mod AgreeLemmas
 pub mod ChangeAgreeLemmas
 pub mod NextDueLemmas

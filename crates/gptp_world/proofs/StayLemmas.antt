@@ -1,5 +1,5 @@
 -- What no act changes of a world: the clock and the ports of each system, and the ports that each link joins.
-use Rattle.std.proofs.Common.{◌≡◌, ◌⊎◌, ℕ, Bool, true, false, List, [], ◌∷◌, map, length, Option, Some, None, slice_get, slice_set, refl, sym, ap, subst, ◌∙◌, inl, inr}
+use Rattle.std.proofs.Common.{◌≡◌, ℕ, Bool, true, false, List, [], ◌∷◌, map, length, Option, Some, None, slice_get, slice_set, refl, sym, ap, subst, ◌∙◌, inl, inr}
 use Rattle.gptp_vector.specs.declared.port.PortId.{PortId}
 use Rattle.gptp_links.specs.declared.bounds.Bounds.{Bounds}
 use Rattle.gptp_links.specs.declared.link.Direction.{Direction}
@@ -13,11 +13,10 @@ use Rattle.gptp_system.specs.declared.timer.Timer.{Timer}
 use Rattle.gptp_system.specs.Input.{Input, PortUp, PortDown, Frame as FrameHeard, Expires as TimerExpires}
 use Rattle.gptp_system.specs.Start.{started}
 use Rattle.gptp_system.specs.State.{SystemState, clock, own}
-use Rattle.gptp_system.specs.Steps.{IsPortOf}
 use Rattle.gptp_system.proofs.ReadyLemmas.{length-new_ports}
 use Rattle.gptp_system.proofs.TouchedLemmas.{priority_clock}
 use Rattle.gptp_world.specs.declared.station.Station.{Station}
-use Rattle.gptp_world.specs.World.{Channel, Net, WorldState, sender, receiver, queue, with_queue}
+use Rattle.gptp_world.specs.World.{Channel, Net, WorldState, sender, receiver, with_queue}
 use Rattle.gptp_world.specs.Sends.{entered, written, SendsAll, SendsOne}
 use Rattle.gptp_world.specs.Act.{all_timers, in_state, Calls, Delivers, Expires, Hears, Takes}
 use Rattle.gptp_world.specs.Agrees.{stopped}
@@ -105,8 +104,8 @@ set_carry channels place old new here a b up =
     (record { joins = record { old = old; here = here; a = a; b = b }; up = up })
     (λ other x apart there. carry_same channels other x there)
 
-pub queue_carry : (channels : List Channel) (place : ℕ) (direction : Direction) (channel : Channel) (frames : List Frame)
-    → slice_get channels place ≡ Some channel
+pub queue_carry : (channels : List Channel) (place : ℕ) (direction : Direction) (channel : Channel)
+    (frames : List Frame) → slice_get channels place ≡ Some channel
     → CarryTheSame channels (slice_set channels place (with_queue direction frames channel))
 queue_carry channels place FromA channel frames here =
     set_carry channels place channel (with_queue FromA frames channel) here refl refl (λ up. up)
