@@ -1,5 +1,5 @@
 -- The ends of a link are told of a change of it, one after the other.
-use Rattle.std.proofs.Common.{◌≡◌, ◌≢◌, ℕ, ◌≤◌, List, [], ◌++◌, false, map, Option, Some, length, slice_get, slice_index_or, refl, ap, sym, subst, ◌∙◌, inl, inr, arith}
+use Rattle.std.proofs.Common.{◌≡◌, ◌≢◌, ℕ, ◌≤◌, List, [], ◌++◌, false, map, Option, Some, slice_get, slice_index_or, refl, ap, sym, subst, ◌∙◌, inl, inr, arith}
 use Rattle.std.proofs.lemmas.Option.{same_Some}
 use Rattle.gptp_links.specs.declared.bounds.Bounds.{Bounds}
 use Rattle.gptp_links.specs.declared.link.Direction.{Direction}
@@ -8,17 +8,16 @@ use Rattle.gptp_links.specs.Fate.{Draw, Draws}
 use Rattle.gptp_links.proofs.DrawLemmas as draws
 use Rattle.gptp_system.specs.Input.{Input}
 use Rattle.gptp_system.specs.State.{clock}
-use Rattle.gptp_system.specs.Steps.{IsPortOf}
 use Rattle.gptp_vector.specs.declared.port.PortId.{PortId}
 use Rattle.gptp_world.specs.declared.cable.Cable.{Cable}
 use Rattle.gptp_world.specs.declared.net.Net.{Net as Between}
 use Rattle.gptp_world.specs.declared.stage.Stage.{Stage}
 use Rattle.gptp_world.specs.declared.station.Station.{Station}
 use Rattle.gptp_world.specs.declared.telling.End.{End}
-use Rattle.gptp_world.specs.Act.{in_state, Calls}
+use Rattle.gptp_world.specs.Act.{in_state}
 use Rattle.gptp_world.specs.Cable.{channel_of, join_of}
 use Rattle.gptp_world.specs.Changing.{CallsIfLive, TellsEnds}
-use Rattle.gptp_world.specs.Directory.{end_of, start_of, BeginsAt, DirectoryState, IsDirectory, IsPlan, Join}
+use Rattle.gptp_world.specs.Directory.{end_of, start_of, DirectoryState, IsDirectory, IsPlan, Join}
 use Rattle.gptp_world.specs.Net.{port_id, IsNet}
 use Rattle.gptp_world.specs.Room.{both, for_call, nothing, repeated, HasRoom, Need, Uses}
 use Rattle.gptp_world.specs.Stage.{clock_at, world_of, CallUses, HasRoomToCall, HasRoomToCallBoth, IsPortAt, IsStage}
@@ -38,20 +37,22 @@ small_end clocks joins link FromA join plan here = (plan.placed_b link join here
 small_end clocks joins link FromB join plan here = (plan.placed_a link join here).last
 
 -- two systems stand at the ends
-pub ends_apart : (d : DirectoryState) (link : ℕ) (join : Join) (a b : End) → IsDirectory d → slice_get d.joins link ≡ Some join
-    → IsEndAt join.a a d → IsEndAt join.b b d → a.place ≢ b.place
+pub ends_apart : (d : DirectoryState) (link : ℕ) (join : Join) (a b : End) → IsDirectory d
+    → slice_get d.joins link ≡ Some join → IsEndAt join.a a d → IsEndAt join.b b d → a.place ≢ b.place
 ends_apart d link join a b is here at_a at_b = λ same.
     is.plan.apart link join here
     (same_Some join.a.clock join.b.clock (sym at_a.clock ∙ (ap (slice_get d.clocks) same ∙ at_b.clock)))
 
 -- a port is that of a system at one place
-one_place : (d : DirectoryState) (port : PortId) (one other : End) → IsDirectory d → IsEndAt port one d → IsEndAt port other d
-    → one.place ≡ other.place
-one_place d port one other is at_one at_other = is.plan.differ one.place other.place port.clock at_one.clock at_other.clock
+one_place : (d : DirectoryState) (port : PortId) (one other : End) → IsDirectory d → IsEndAt port one d
+    → IsEndAt port other d → one.place ≡ other.place
+one_place d port one other is at_one at_other =
+    is.plan.differ one.place other.place port.clock at_one.clock at_other.clock
 
 -- the room that was made is for these ends
-room_for : (link : ℕ) (a b : End) (stage : Stage) → IsDirectory stage.net.directory → AreEndsOf link a b stage.net.directory
-    → HasRoomAtEnds link stage → HasRoomToCallBoth a.place b.place stage
+room_for : (link : ℕ) (a b : End) (stage : Stage) → IsDirectory stage.net.directory
+    → AreEndsOf link a b stage.net.directory → HasRoomAtEnds link stage
+    → HasRoomToCallBoth a.place b.place stage
 room_for link a b stage is ends has =
     let d = stage.net.directory in
     let join : has.ends.join ≡ ends.join = same_Some has.ends.join ends.join (sym has.ends.here ∙ ends.here) in
@@ -61,8 +62,9 @@ room_for link a b stage is ends has =
     (subst (λ p. HasRoomToCallBoth has.a.place p stage) (one_place d ends.join.b has.b b is had_b ends.at_b) has.room)
 
 -- a system at the place of an end is the one that its port names
-named : (stage : Stage) (port : PortId) (end : End) (station : Station) → IsStage stage → IsEndAt port end stage.net.directory
-    → slice_get stage.stations.items end.place ≡ Some station → clock station.system ≡ port.clock
+named : (stage : Stage) (port : PortId) (end : End) (station : Station) → IsStage stage
+    → IsEndAt port end stage.net.directory → slice_get stage.stations.items end.place ≡ Some station
+    → clock station.system ≡ port.clock
 named stage port end station is at there =
     let known : slice_get stage.net.directory.clocks end.place ≡ Some (clock station.system) =
     ap (λ cs. slice_get cs end.place) (sym is.clocks) ∙ get-map clock_at stage.stations.items end.place station there in
@@ -81,7 +83,8 @@ end_port stage link d join end station is here at there =
     record { station = station; here = there; port_of = record { least = range.0; most = range.1 } }
 
 -- room was made for the ends of a link
-pub room_at_ends : (stage stage' : Stage) (link : ℕ) (a b : End) → IsStage stage → IsStage stage' → world_of stage' ≡ world_of stage
+pub room_at_ends : (stage stage' : Stage) (link : ℕ) (a b : End) → IsStage stage → IsStage stage'
+    → world_of stage' ≡ world_of stage
     → AreEndsOf link a b stage.net.directory → HasRoomToCallBoth a.place b.place stage' → HasRoomAtEnds link stage'
 room_at_ends stage stage' link a b is is' world ends room =
     let d = stage.net.directory in let d' = stage'.net.directory in
@@ -89,7 +92,8 @@ room_at_ends stage stage' link a b is is' world ends room =
     sym is'.clocks ∙ (ap (λ (w : WorldState). map clock_at w.stations) world ∙ is.clocks) in
     let joins : d'.joins ≡ d.joins =
     sym is'.net.joins
-    ∙ (joins_kept stage.net.cables.items stage'.net.cables.items (ap (λ (w : WorldState). w.net.channels) world) ∙ is.net.joins) in
+    ∙ (joins_kept stage.net.cables.items stage'.net.cables.items (ap (λ (w : WorldState). w.net.channels) world)
+    ∙ is.net.joins) in
     let at_a = ends.at_a in let at_b = ends.at_b in
     record {
       a = a;
@@ -121,13 +125,14 @@ net_changes stage net is after uses =
       moment = is.moment;
     }
 
+-- where a link only changes, there is as much room
 room_stays : (need : Need) (net net' : Between) → Uses nothing net net' → HasRoom need net → HasRoom need net'
 room_stays need net net' uses has =
     uses.left need
     (covered need (both nothing need) net
     (record { entries = omega arith; buffers = omega arith; frames = λ port. omega arith }) has)
 
--- both ends can be told
+-- both ends can be told: so it is once the link has changed
 pub record CanTell (a b : End) (stage : Stage) : Type 0 where
   pub port_a : IsPortAt a.place a.port stage
   pub port_b : IsPortAt b.place b.port stage
@@ -149,7 +154,8 @@ can_tell stage net link a b is directory ends has uses =
         station_b = room.station_b;
         here_a = room.here_a;
         here_b = room.here_b;
-        room = room_stays (both (for_call room.station_a.system) (for_call room.station_b.system)) stage.net net uses room.room;
+        room = room_stays (both (for_call room.station_a.system) (for_call room.station_b.system)) stage.net net uses
+            room.room;
       };
       apart = ends.apart;
     }
@@ -157,9 +163,10 @@ can_tell stage net link a b is directory ends has uses =
 -- ---- one end
 
 -- a system that has failed isn't told
-pub not_told : {F : Type 0} (answers : Bounds → ℕ → F → Option ℕ → F → Type 0) (place : ℕ) (input : Input) (fate : F) (stage : Stage)
-    (one station : Station) → slice_get stage.stations.items place ≡ Some station
-    → one ≡ slice_index_or stage.stations.items place one → one.live ≡ false → Told answers place input fate fate stage stage
+pub not_told : {F : Type 0} (answers : Bounds → ℕ → F → Option ℕ → F → Type 0) (place : ℕ) (input : Input) (fate : F)
+    (stage : Stage) (one station : Station) → slice_get stage.stations.items place ≡ Some station
+    → one ≡ slice_index_or stage.stations.items place one → one.live ≡ false
+    → Told answers place input fate fate stage stage
 not_told answers place input fate stage one station here value failed =
     let is : one ≡ station = value ∙ read stage.stations.items place station one here in
     record {
@@ -170,6 +177,7 @@ not_told answers place input fate stage one station here value failed =
 
 -- ---- the first end is told, and then the second
 
+-- there is room for the call at the first, and then for that at the second
 pub room_first : (first second : ℕ) (stage : Stage) → HasRoomToCallBoth first second stage → HasRoomToCall 1 first stage
 room_first first second stage has = record {
   station = has.station_a;
@@ -179,7 +187,8 @@ room_first first second stage has = record {
       (record { entries = omega arith; buffers = omega arith; frames = λ port. omega arith }) has.room;
 }
 
-room_second : (first second : ℕ) (stage stage' : Stage) → slice_get stage'.stations.items second ≡ slice_get stage.stations.items second
+room_second : (first second : ℕ) (stage stage' : Stage)
+    → slice_get stage'.stations.items second ≡ slice_get stage.stations.items second
     → CallUses first stage stage'.net → HasRoomToCallBoth first second stage → HasRoomToCall 1 second stage'
 room_second first second stage stage' same uses has =
     let near = for_call has.station_a.system in let far = for_call has.station_b.system in
@@ -192,8 +201,8 @@ room_second first second stage stage' same uses has =
     }
 
 -- no other system changes
-elsewhere : {F : Type 0} (answers : Bounds → ℕ → F → Option ℕ → F → Type 0) (place other : ℕ) (input : Input) (fate fate_after : F)
-    (stage stage' : Stage) → Told answers place input fate fate_after stage stage' → other ≢ place
+elsewhere : {F : Type 0} (answers : Bounds → ℕ → F → Option ℕ → F → Type 0) (place other : ℕ) (input : Input)
+    (fate fate_after : F) (stage stage' : Stage) → Told answers place input fate fate_after stage stage' → other ≢ place
     → slice_get stage'.stations.items other ≡ slice_get stage.stations.items other
 elsewhere answers place other input fate fate_after stage stage' told apart = by told.calls
   where
@@ -209,8 +218,9 @@ pub record CanTellSecond (b : End) (stage : Stage) : Type 0 where
   pub port : IsPortAt b.place b.port stage
   pub room : HasRoomToCall 1 b.place stage
 
-pub can_tell_second : {F : Type 0} (answers : Bounds → ℕ → F → Option ℕ → F → Type 0) (a b : End) (input : Input) (fate fate_after : F)
-    (stage stage' : Stage) → CanTell a b stage → Told answers a.place input fate fate_after stage stage'
+pub can_tell_second : {F : Type 0} (answers : Bounds → ℕ → F → Option ℕ → F → Type 0) (a b : End) (input : Input)
+    (fate fate_after : F) (stage stage' : Stage) → CanTell a b stage
+    → Told answers a.place input fate fate_after stage stage'
     → CallUses a.place stage stage'.net → CanTellSecond b stage'
 can_tell_second answers a b input fate fate_after stage stage' can told uses =
     let same = elsewhere answers a.place b.place input fate fate_after stage stage' told (λ e. can.apart (sym e)) in
@@ -229,16 +239,17 @@ known_link net link join is here =
     from_map join_of net.cables.items link join (ap (λ js. slice_get js link) is.joins ∙ here)
 
 -- the link changed in this way, and both its ends were told
-pub record BothTold {F : Type 0} (answers : Bounds → ℕ → F → Option ℕ → F → Type 0) (input : ℕ → Input) (changed : Channel → Net)
-    (link : ℕ) (fate fate_after : F) (stage stage' : Stage) : Type 0 where
+pub record BothTold {F : Type 0} (answers : Bounds → ℕ → F → Option ℕ → F → Type 0) (input : ℕ → Input)
+    (changed : Channel → Net) (link : ℕ) (fate fate_after : F) (stage stage' : Stage) : Type 0 where
   pub channel : Channel
   pub here : slice_get (world_of stage).net.channels link ≡ Some channel
   pub draws : List Draw
   pub drawn : Draws answers fate draws fate_after
   pub tells : TellsEnds input channel (record (world_of stage) { net = changed channel }) draws (world_of stage')
 
-pub both_told : {F : Type 0} (answers : Bounds → ℕ → F → Option ℕ → F → Type 0) (input : ℕ → Input) (changed : Channel → Net)
-    (link : ℕ) (a b : End) (first second third : F) (stage : Stage) (net : Between) (between after : Stage) → IsStage stage
+pub both_told : {F : Type 0} (answers : Bounds → ℕ → F → Option ℕ → F → Type 0) (input : ℕ → Input)
+    (changed : Channel → Net) (link : ℕ) (a b : End) (first second third : F) (stage : Stage) (net : Between)
+    (between after : Stage) → IsStage stage
     → AreEndsOf link a b stage.net.directory → CanTell a b (record stage { net = net })
     → ((cable : Cable) → slice_get stage.net.cables.items link ≡ Some cable
     → (world_of (record stage { net = net })).net ≡ changed (channel_of cable))
@@ -254,7 +265,8 @@ both_told answers input changed link a b first second third stage net between af
     let at_b : IsEndAt channel.b b stage.net.directory =
     subst (λ (j : Join). IsEndAt j.b b stage.net.directory) made.is ends.at_b in
     let room = can.room in
-    let tells : TellsEnds input channel (world_of (record stage { net = net })) (told_a.draws ++ told_b.draws) (world_of after) =
+    let start = world_of (record stage { net = net }) in let all = told_a.draws ++ told_b.draws in
+    let tells : TellsEnds input channel start all (world_of after) =
     record {
       place_a = a.place;
       place_b = b.place;
@@ -266,16 +278,15 @@ both_told answers input changed link a b first second third stage net between af
       is_a = record { here = room.here_a; named = named stage channel.a a room.station_a is at_a room.here_a };
       is_b = record { here = room.here_b; named = named stage channel.b b room.station_b is at_b room.here_b };
       draws_are = refl;
-      at_a = subst (λ p. CallsIfLive a.place (input p) (world_of (record stage { net = net })) told_a.draws (world_of between))
-          at_a.number told_a.calls;
-      at_b = subst (λ p. CallsIfLive b.place (input p) (world_of between) told_b.draws (world_of after)) at_b.number told_b.calls;
+      at_a = subst (λ p. CallsIfLive a.place (input p) start told_a.draws (world_of between)) at_a.number told_a.calls;
+      at_b = subst (λ p. CallsIfLive b.place (input p) (world_of between) told_b.draws (world_of after)) at_b.number
+          told_b.calls;
     } in
     record {
       channel = channel;
       here = get-map channel_of stage.net.cables.items link cable made.there;
-      draws = told_a.draws ++ told_b.draws;
+      draws = all;
       drawn = draws.draws-append answers first second third told_a.draws told_b.draws told_a.drawn told_b.drawn;
-      tells = subst
-          (λ n. TellsEnds input channel (record (world_of stage) { net = n }) (told_a.draws ++ told_b.draws) (world_of after))
+      tells = subst (λ n. TellsEnds input channel (record (world_of stage) { net = n }) all (world_of after))
           (changes cable made.there) tells;
     }

@@ -36,8 +36,8 @@ pub record HasRoomAtEnds (link : ℕ) (stage : Stage) : Type 0 where
 -- ---- what they are told
 
 -- A live system was given an input, and what its call left was carried out; one that has failed was not.
-pub record Told {F : Type 0} (answers : Bounds → ℕ → F → Option ℕ → F → Type 0) (place : ℕ) (input : Input) (fate fate_after : F)
-    (stage stage_after : Stage) : Type 0 where
+pub record Told {F : Type 0} (answers : Bounds → ℕ → F → Option ℕ → F → Type 0) (place : ℕ) (input : Input)
+    (fate fate_after : F) (stage stage_after : Stage) : Type 0 where
   pub draws : List Draw
   pub drawn : Draws answers fate draws fate_after
   pub calls : CallsIfLive place input (world_of stage) draws (world_of stage_after)

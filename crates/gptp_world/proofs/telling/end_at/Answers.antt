@@ -1,6 +1,5 @@
-use Rattle.std.proofs.Common.{◌≡◌, ◌≤◌, slice_index_or, arith}
+use Rattle.std.proofs.Common.{slice_index_or, arith}
 use Rattle.std.proofs.lemmas.Option.{slice_get-get_or}
-use Rattle.gptp_world.specs.Directory.{end_of}
 use Rattle.gptp_world.proofs.TellingLemmas.{small_end}
 use Rattle.gptp_world.proofs.telling.end_at.Goals as goal
 

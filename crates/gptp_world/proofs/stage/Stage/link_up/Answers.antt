@@ -10,31 +10,34 @@ tell_up-requires-clause-stage g c =
 
 pub tell_up-requires-clause-port : goal.tell_up-requires-clause-port
 tell_up-requires-clause-port g c =
-    let can = can_tell c.args.self.now c.bring_up.new.self c.args.link _ _ c.requires.stage c.well_formed-2.ensures c.ends_of.ensures
-    c.requires.room c.bring_up.ensures.uses in can.port_a
+    let can = can_tell c.args.self.now c.bring_up.new.self c.args.link _ _ c.requires.stage c.well_formed-2.ensures
+    c.ends_of.ensures c.requires.room c.bring_up.ensures.uses in can.port_a
 
 pub tell_up-requires-clause-room : goal.tell_up-requires-clause-room
 tell_up-requires-clause-room g c =
-    let can = can_tell c.args.self.now c.bring_up.new.self c.args.link _ _ c.requires.stage c.well_formed-2.ensures c.ends_of.ensures
-    c.requires.room c.bring_up.ensures.uses in room_first _ _ _ can.room
+    let can = can_tell c.args.self.now c.bring_up.new.self c.args.link _ _ c.requires.stage c.well_formed-2.ensures
+    c.ends_of.ensures c.requires.room c.bring_up.ensures.uses in room_first _ _ _ can.room
 
 pub tell_up-requires-2-clause-port : goal.tell_up-requires-2-clause-port
 tell_up-requires-2-clause-port g c =
-    let can = can_tell c.args.self.now c.bring_up.new.self c.args.link _ _ c.requires.stage c.well_formed-2.ensures c.ends_of.ensures
-    c.requires.room c.bring_up.ensures.uses in
-    let second = can_tell_second _ _ _ _ _ _ _ c.tell_up.new.self can c.tell_up.ensures.told c.tell_up.ensures.uses in second.port
+    let can = can_tell c.args.self.now c.bring_up.new.self c.args.link _ _ c.requires.stage c.well_formed-2.ensures
+    c.ends_of.ensures c.requires.room c.bring_up.ensures.uses in
+    let second = can_tell_second _ _ _ _ _ _ _ c.tell_up.new.self can
+    c.tell_up.ensures.told c.tell_up.ensures.uses in second.port
 
 pub tell_up-requires-2-clause-room : goal.tell_up-requires-2-clause-room
 tell_up-requires-2-clause-room g c =
-    let can = can_tell c.args.self.now c.bring_up.new.self c.args.link _ _ c.requires.stage c.well_formed-2.ensures c.ends_of.ensures
-    c.requires.room c.bring_up.ensures.uses in
-    let second = can_tell_second _ _ _ _ _ _ _ c.tell_up.new.self can c.tell_up.ensures.told c.tell_up.ensures.uses in second.room
+    let can = can_tell c.args.self.now c.bring_up.new.self c.args.link _ _ c.requires.stage c.well_formed-2.ensures
+    c.ends_of.ensures c.requires.room c.bring_up.ensures.uses in
+    let second = can_tell_second _ _ _ _ _ _ _ c.tell_up.new.self can
+    c.tell_up.ensures.told c.tell_up.ensures.uses in second.room
 
 pub returns-clause-up : goal.returns-clause-up
 returns-clause-up g c =
-    let can = can_tell c.args.self.now c.bring_up.new.self c.args.link _ _ c.requires.stage c.well_formed-2.ensures c.ends_of.ensures
-    c.requires.room c.bring_up.ensures.uses in
-    let told = both_told g.F.Fate.answers PortUp (λ channel. brought_up c.args.link channel (between c.args.self.now.net)) c.args.link
-    _ _ _ _ _ c.args.self.now c.bring_up.new.self _ _ c.requires.stage c.ends_of.ensures can c.bring_up.ensures.up
-    c.tell_up.ensures.told c.tell_up-2.ensures.told in
+    let can = can_tell c.args.self.now c.bring_up.new.self c.args.link _ _ c.requires.stage c.well_formed-2.ensures
+    c.ends_of.ensures c.requires.room c.bring_up.ensures.uses in
+    let told = both_told g.F.Fate.answers PortUp
+    (λ channel. brought_up c.args.link channel (between c.args.self.now.net)) c.args.link _ _ _ _ _ c.args.self.now
+    c.bring_up.new.self _ _ c.requires.stage c.ends_of.ensures can c.bring_up.ensures.up c.tell_up.ensures.told
+    c.tell_up-2.ensures.told in
     record { channel = told.channel; here = told.here; draws = told.draws; drawn = told.drawn; up = told.tells }

@@ -6,6 +6,6 @@ pub returns-clause-room : goal.returns-clause-room
 returns-clause-room c =
     let e = c.make_room_for_both.ensures in
     on_ok c.make_room_for_both.result _ _
-    (λ room. room_at_ends c.args.self.now c.make_room_for_both.new.self c.args.link c.ends_of.result.0 c.ends_of.result.1
-    c.requires.stage e.stage e.world c.ends_of.ensures room)
+    (λ room. room_at_ends c.args.self.now c.make_room_for_both.new.self c.args.link c.ends_of.result.0
+    c.ends_of.result.1 c.requires.stage e.stage e.world c.ends_of.ensures room)
     e.room
