@@ -11,6 +11,8 @@ pub mod NetworkLemmas
 pub mod RoomLemmas
 pub mod StageLemmas
 pub mod StartingLemmas
+pub mod UpLemmas
+pub mod ComingUpLemmas
 pub mod FiledLemmas
 pub mod NextLemmas
 pub mod PendingLemmas

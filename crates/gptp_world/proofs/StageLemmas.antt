@@ -73,11 +73,11 @@ within_few reaches.All ports xs within has = record { all = within.few; each = w
 
 -- ---- one call
 
-same_ports : (input : Input) (now : ℕ) (s s' : SystemState) (sends : List Sending) (answer : Answer) → Steps input now s s' sends answer
+pub same_ports : (input : Input) (now : ℕ) (s s' : SystemState) (sends : List Sending) (answer : Answer) → Steps input now s s' sends answer
     → length s'.ports ≡ length s.ports
 same_ports input now s s' sends answer steps = keeps_length s s' (steps_sound input now s s' sends answer steps).kept
 
-same_clock : (input : Input) (now : ℕ) (s s' : SystemState) (sends : List Sending) (answer : Answer) → Steps input now s s' sends answer
+pub same_clock : (input : Input) (now : ℕ) (s s' : SystemState) (sends : List Sending) (answer : Answer) → Steps input now s s' sends answer
     → clock s' ≡ clock s
 same_clock input now s s' sends answer steps = (steps_sound input now s s' sends answer steps).kept.same_clock
 
