@@ -1,39 +1,48 @@
 -- Ports that come up, one after another, each whose link is up.
-use Rattle.std.proofs.Common.{◌≡◌, ℕ, zero, suc, ◌+◌, ◌*◌, ◌<◌, ◌≤◌, ◌==◌, if◌then◌else◌, Bool, true, false, List, [], ◌∷◌, ◌++◌, length, map, Option, Some, slice_get, slice_set, refl, ap, subst, sym, ◌∙◌, arith}
+use Rattle.std.proofs.Common.{◌≡◌, ℕ, zero, suc, ◌+◌, ◌*◌, ◌<◌, ◌==◌, if◌then◌else◌, Bool, true, false, List, [], ◌∷◌, ◌++◌, length, map, Option, Some, slice_get, IfSome, IfNone, is_some, refl, ap, subst, sym, ◌∙◌, arith}
 use Rattle.std.proofs.lemmas.List.{append-nil, append_assoc, map-append}
 use Rattle.std.specs.List.{filter, range_with_len}
 use Rattle.std.proofs.lemmas.List.Elements.{filter-append}
 use Rattle.std.proofs.lemmas.Option.{same_Some}
 use Rattle.gptp_links.specs.declared.bounds.Bounds.{Bounds}
-use Rattle.gptp_links.specs.Fate.{Draw, Draws}
+use Rattle.gptp_links.specs.Fate.{Draw}
 use Rattle.gptp_links.proofs.DrawLemmas.{draws-append}
 use Rattle.gptp_system.specs.declared.answer.Answer.{Answer}
 use Rattle.gptp_system.specs.Input.{Input, PortUp}
 use Rattle.gptp_system.specs.State.{SystemState, clock}
-use Rattle.gptp_vector.specs.declared.port.PortId.{PortId}
+use Rattle.gptp_world.specs.declared.cable.Lane.{Lane}
 use Rattle.gptp_world.specs.declared.net.Net.{Net as Between}
 use Rattle.gptp_world.specs.declared.stage.Stage.{Stage}
 use Rattle.gptp_world.specs.declared.station.Station.{Station}
 use Rattle.gptp_world.specs.Act.{in_state, Calls}
 use Rattle.gptp_world.specs.Changing.{is_up_at, CallsAll}
+use Rattle.gptp_world.specs.Net.{between, port_id, IsUpLane}
+use Rattle.gptp_world.specs.Sends.{IsUnlinked}
 use Rattle.gptp_world.specs.Room.{both, for_call, nothing, repeated, HasRoom, Need, Uses}
-use Rattle.gptp_world.specs.Stage.{world_of, Called, CallUses, HasRoomToCall, IsLiveAt}
+use Rattle.gptp_world.specs.Stage.{clock_at, world_of, Called, CallUses, HasRoomToCall, IsStage}
 use Rattle.gptp_world.specs.Starting.{CameUp, HasRoomForPorts}
 use Rattle.gptp_world.specs.World.{WorldState}
 use Rattle.gptp_world.proofs.NeedLemmas.{covered, left_of, unsent, uses_both, uses_less, Covers}
-use Rattle.gptp_world.proofs.PlaceLemmas.{get-set_same}
+use Rattle.gptp_world.proofs.PlaceLemmas.{get-map, get-set_same}
 use Rattle.gptp_world.proofs.StageLemmas.{same_clock, same_ports}
-use Rattle.gptp_world.proofs.UpLemmas.{calls_all_up}
+use Rattle.gptp_world.proofs.UpLemmas.{calls_all_up, up_tells}
 
 -- ---- calls one after another
 
-calls_all-append : (place : ℕ) (xs ys : List Input) (w middle w' : WorldState) (ds es : List Draw) → CallsAll place xs w ds middle
+calls_all-append : (place : ℕ) (xs ys : List Input) (w middle w' : WorldState) (ds es : List Draw)
+    → CallsAll place xs w ds middle
     → CallsAll place ys middle es w' → CallsAll place (xs ++ ys) w (ds ++ es) w'
 calls_all-append place [] ys w middle w' ds es front back =
     let none = front.0 in rw none (subst (λ v. CallsAll place ys v es w') front.1 back)
-calls_all-append place (x ∷ xs) ys w middle w' ds es (first, rest, between, answer, is, one, more) back =
-    (first, rest ++ es, between, answer, ap (λ v. v ++ es) is ∙ append_assoc first rest es, one,
-    calls_all-append place xs ys between middle w' rest es more back)
+calls_all-append place (x ∷ xs) ys w middle w' ds es (first, rest, between, answer, is, one, more) back = (
+  first,
+  rest ++ es,
+  between,
+  answer,
+  ap (λ v. v ++ es) is ∙ append_assoc first rest es,
+  one,
+  calls_all-append place xs ys between middle w' rest es more back,
+)
 
 -- a system with the same clock and as many ports, as live as this one, stands at a place
 pub record Remains (place : ℕ) (one : Station) (w : WorldState) : Type 0 where
@@ -46,7 +55,8 @@ pub record Remains (place : ℕ) (one : Station) (w : WorldState) : Type 0 where
 remains : (place : ℕ) (one : Station) (w : WorldState) → slice_get w.stations place ≡ Some one → Remains place one w
 remains place one w here = record { station = one; here = here; live = refl; ports = refl; clocks = refl }
 
-calls_remain : (place : ℕ) (one : Station) (input : Input) (w : WorldState) (draws : List Draw) (answer : Answer) (w' : WorldState)
+calls_remain : (place : ℕ) (one : Station) (input : Input) (w : WorldState) (draws : List Draw) (answer : Answer)
+    (w' : WorldState)
     → Remains place one w → Calls place input w draws answer w' → Remains place one w'
 calls_remain place one input w draws answer w' was calls =
     let new = in_state calls.after calls.station in
@@ -62,11 +72,13 @@ calls_remain place one input w draws answer w' was calls =
           ∙ (ap (λ (s : Station). clock s.system) is ∙ was.clocks);
     }
 
-calls_all_remain : (place : ℕ) (one : Station) (inputs : List Input) (w : WorldState) (draws : List Draw) (w' : WorldState)
+calls_all_remain : (place : ℕ) (one : Station) (inputs : List Input) (w : WorldState) (draws : List Draw)
+    (w' : WorldState)
     → Remains place one w → CallsAll place inputs w draws w' → Remains place one w'
 calls_all_remain place one [] w draws w' was calls = subst (Remains place one) (sym calls.1) was
 calls_all_remain place one (input ∷ inputs) w draws w' was (first, rest, between, answer, is, calls, more) =
-    calls_all_remain place one inputs between rest w' (calls_remain place one input w first answer between was calls) more
+    calls_all_remain place one inputs between rest w' (calls_remain place one input w first answer between was calls)
+    more
 
 -- ---- ports that come up
 
@@ -78,30 +90,37 @@ filter-equal p q (x ∷ xs) same = by (q x) refl (filter-equal p q xs same)
     by true test ih = let first = same x ∙ test in rw (first, test, ih) refl
     by false test ih = let first = same x ∙ test in rw (first, test, ih) refl
 
-pub none_came : {F : Type 0} (answers : Bounds → ℕ → F → Option ℕ → F → Type 0) (place : ℕ) (fate : F) (stage : Stage) (station : Station)
+pub none_came : {F : Type 0} (answers : Bounds → ℕ → F → Option ℕ → F → Type 0) (place : ℕ) (fate : F) (stage : Stage)
+    (station : Station)
     → slice_get stage.stations.items place ≡ Some station → CameUp answers place [] fate fate stage stage
 none_came answers place fate stage station here =
     record { station = station; here = here; draws = []; drawn = refl; calls = (refl, refl) }
 
 -- what stands there afterwards
-pub came_remains : {F : Type 0} (answers : Bounds → ℕ → F → Option ℕ → F → Type 0) (place : ℕ) (ports : List ℕ) (fate fate_after : F)
+pub came_remains : {F : Type 0} (answers : Bounds → ℕ → F → Option ℕ → F → Type 0) (place : ℕ) (ports : List ℕ)
+    (fate fate_after : F)
     (stage stage' : Stage) (station : Station) → slice_get stage.stations.items place ≡ Some station
     → CameUp answers place ports fate fate_after stage stage' → Remains place station (world_of stage')
 came_remains answers place ports fate fate_after stage stage' station here came =
-    calls_all_remain place station _ (world_of stage) came.draws (world_of stage') (remains place station (world_of stage) here) came.calls
+    calls_all_remain place station _ (world_of stage) came.draws (world_of stage')
+    (remains place station (world_of stage) here) came.calls
 
-pub came_more : {F : Type 0} (answers : Bounds → ℕ → F → Option ℕ → F → Type 0) (place : ℕ) (xs ys : List ℕ) (first second third : F)
-    (stage middle stage' : Stage) → CameUp answers place xs first second stage middle → CameUp answers place ys second third middle stage'
+pub came_more : {F : Type 0} (answers : Bounds → ℕ → F → Option ℕ → F → Type 0) (place : ℕ) (xs ys : List ℕ)
+    (first second third : F)
+    (stage middle stage' : Stage) → CameUp answers place xs first second stage middle
+    → CameUp answers place ys second third middle stage'
     → CameUp answers place (xs ++ ys) first third stage stage'
 came_more answers place xs ys first second third stage middle stage' a b =
     let up : ℕ → Bool = λ p. is_up_at (world_of stage).net.channels (clock a.station.system) p in
     let up' : ℕ → Bool = λ p. is_up_at (world_of middle).net.channels (clock b.station.system) p in
     let still = came_remains answers place xs first second stage middle a.station a.here a in
     let one : b.station ≡ still.station = same_Some b.station still.station (sym b.here ∙ still.here) in
-    let clocks : clock b.station.system ≡ clock a.station.system = ap (λ (s : Station). clock s.system) one ∙ still.clocks in
+    let clocks : clock b.station.system ≡ clock a.station.system = ap (λ (s : Station). clock s.system) one
+    ∙ still.clocks in
     let same : (p : ℕ) → up' p ≡ up p =
     λ p. ap (λ number. is_up_at (world_of middle).net.channels number p) clocks
-    ∙ calls_all_up place (map PortUp (filter up xs)) (world_of stage) a.draws (world_of middle) (clock a.station.system) p a.calls in
+    ∙ calls_all_up place (map PortUp (filter up xs)) (world_of stage) a.draws (world_of middle)
+    (clock a.station.system) p a.calls in
     let inputs : map PortUp (filter up xs) ++ map PortUp (filter up' ys) ≡ map PortUp (filter up (xs ++ ys)) =
     ap (λ zs. map PortUp (filter up xs) ++ map PortUp zs) (filter-equal up' up ys same)
     ∙ (sym (map-append PortUp (filter up xs) (filter up ys)) ∙ ap (map PortUp) (sym (filter-append up xs ys))) in
@@ -111,25 +130,44 @@ came_more answers place xs ys first second third stage middle stage' a b =
       draws = a.draws ++ b.draws;
       drawn = draws-append answers first second third a.draws b.draws a.drawn b.drawn;
       calls = subst (λ zs. CallsAll place zs (world_of stage) (a.draws ++ b.draws) (world_of stage')) inputs
-          (calls_all-append place (map PortUp (filter up xs)) (map PortUp (filter up' ys)) (world_of stage) (world_of middle)
+          (calls_all-append place (map PortUp (filter up xs)) (map PortUp (filter up' ys)) (world_of stage)
+          (world_of middle)
           (world_of stage') a.draws b.draws a.calls b.calls);
     }
 
 -- ---- one port
 
-pub one_came : {F : Type 0} (answers : Bounds → ℕ → F → Option ℕ → F → Type 0) (place port : ℕ) (fate fate_after : F) (stage stage' : Stage)
+-- whether a link that is up is at a port of a system of the stage
+pub linked : (stage : Stage) (place port : ℕ) (one : Station) (lane : Option Lane) → IsStage stage
+    → slice_get stage.stations.items place ≡ Some one
+    → ((number : ℕ) → slice_get stage.net.directory.clocks place ≡ Some number
+    → IfSome lane (IsUpLane stage.net (port_id number port)))
+    → ((number : ℕ) → slice_get stage.net.directory.clocks place ≡ Some number
+    → IfNone lane (IsUnlinked (between stage.net) (port_id number port)))
+    → is_up_at (world_of stage).net.channels (clock one.system) port ≡ is_some lane
+linked stage place port one lane is here some none =
+    let number = clock one.system in
+    let known : slice_get stage.net.directory.clocks place ≡ Some number =
+    ap (λ cs. slice_get cs place) (sym is.clocks) ∙ get-map clock_at stage.stations.items place one here in
+    up_tells stage.net number port lane is.net (some number known) (none number known)
+
+pub one_came : {F : Type 0} (answers : Bounds → ℕ → F → Option ℕ → F → Type 0) (place port : ℕ) (fate fate_after : F)
+    (stage stage' : Stage)
     (station : Station) → slice_get stage.stations.items place ≡ Some station
     → is_up_at (world_of stage).net.channels (clock station.system) port ≡ true
-    → Called answers place (PortUp port) fate fate_after stage stage' → CameUp answers place (port ∷ []) fate fate_after stage stage'
+    → Called answers place (PortUp port) fate fate_after stage stage'
+    → CameUp answers place (port ∷ []) fate fate_after stage stage'
 one_came answers place port fate fate_after stage stage' station here up called =
     let one = called.called in
     let calls : CallsAll place (PortUp port ∷ []) (world_of stage) one.draws (world_of stage') =
     (one.draws, [], world_of stage', called.answer, sym (append-nil one.draws), one.calls, (refl, refl)) in
     record { station = station; here = here; draws = one.draws; drawn = one.drawn; calls = rw up calls }
 
-pub none_up : {F : Type 0} (answers : Bounds → ℕ → F → Option ℕ → F → Type 0) (place port : ℕ) (fate : F) (stage : Stage)
+pub none_up : {F : Type 0} (answers : Bounds → ℕ → F → Option ℕ → F → Type 0) (place port : ℕ) (fate : F)
+    (stage : Stage)
     (station : Station) → slice_get stage.stations.items place ≡ Some station
-    → is_up_at (world_of stage).net.channels (clock station.system) port ≡ false → CameUp answers place (port ∷ []) fate fate stage stage
+    → is_up_at (world_of stage).net.channels (clock station.system) port ≡ false
+    → CameUp answers place (port ∷ []) fate fate stage stage
 none_up answers place port fate stage station here down =
     record { station = station; here = here; draws = []; drawn = refl; calls = rw down (refl, refl) }
 
@@ -178,7 +216,8 @@ none_use place stage = λ station here. unsent nothing stage.net
 
 -- one call more
 pub more_use : (calls place : ℕ) (stage middle : Stage) (net : Between)
-    → ((station : Station) → slice_get stage.stations.items place ≡ Some station → Remains place station (world_of middle))
+    → ((station : Station) → slice_get stage.stations.items place ≡ Some station
+    → Remains place station (world_of middle))
     → CallsUse calls place stage middle.net → CallUses place middle net → CallsUse (calls + 1) place stage net
 more_use calls place stage middle net remain so_far one = λ station here.
     let still = remain station here in
@@ -192,7 +231,8 @@ more_use calls place stage middle net remain so_far one = λ station here.
 
 -- there is room for the call of one port more
 pub room_for_next : (calls place : ℕ) (stage middle : Stage) (has : HasRoomForPorts place stage)
-    → Remains place has.station (world_of middle) → CallsUse calls place stage middle.net → calls < length has.station.system.ports
+    → Remains place has.station (world_of middle) → CallsUse calls place stage middle.net
+    → calls < length has.station.system.ports
     → HasRoomToCall 1 place middle
 room_for_next calls place stage middle has still so_far less =
     let need = for_call has.station.system in

@@ -20,10 +20,10 @@ use Rattle.gptp_world.specs.Net.{port_id, IsNet}
 use Rattle.gptp_world.specs.Pending.{PendingState, arrival_room, HasArrivalRoom, KeepsArrivalRoom}
 use Rattle.gptp_world.specs.Room.{both, for_call, for_timers, repeated, HasRoomAtPorts, HasRoomBothWays, HasRoomFrom, KeepsRoomOn, Need, OnlyRoom}
 use Rattle.gptp_world.specs.Stage.{clock_at, HasRoomToCall, HasRoomToCallBoth, IsStage}
-use Rattle.gptp_world.specs.Starting.{for_all_timers, for_start, HasRoomToStart}
+use Rattle.gptp_world.specs.Starting.{for_start, HasRoomToStart}
 use Rattle.gptp_world.specs.World.{Channel, Net}
 use Rattle.gptp_world.proofs.NeedLemmas.{covered, repeated-covered, Covers}
-use Rattle.gptp_world.proofs.NetLemmas.{from_map, known_cable}
+use Rattle.gptp_world.proofs.NetLemmas.{known_cable}
 use Rattle.gptp_world.proofs.PlaceLemmas.{get-map, get-set_same, get-set_other, same_place}
 
 -- ---- one link

@@ -1,5 +1,5 @@
 -- Whether a link that is up is at a port, and that calls leave it so.
-use Rattle.std.proofs.Common.{◌≡◌, ◌≢◌, ◌⊎◌, ℕ, zero, suc, Bool, true, false, ◌&&◌, ◌||◌, List, [], ◌∷◌, Option, Some, None, slice_get, slice_set, map, IfSome, IfNone, is_some, refl, ap, subst, sym, ◌∙◌, inl, inr}
+use Rattle.std.proofs.Common.{◌≡◌, ◌≢◌, ◌⊎◌, ℕ, zero, suc, Bool, true, false, ◌&&◌, ◌||◌, List, [], ◌∷◌, Option, Some, None, slice_get, slice_set, map, IfSome, IfNone, is_some, refl, ap, sym, ◌∙◌, inl, inr}
 use Rattle.std.proofs.lemmas.Bool.Decides.{eqb_tells}
 use Rattle.std.proofs.lemmas.Option.{none-some, same_Some}
 use Rattle.std.proofs.Math.Dec.{eqb}
@@ -26,12 +26,15 @@ use Rattle.gptp_world.proofs.PlaceLemmas.{get-map}
 -- ---- the ends of a link
 
 end_tells : (number port : ℕ) (end : PortId)
-    → ((is_end number port end ≡ true) × (end ≡ port_id number port)) ⊎ ((is_end number port end ≡ false) × (end ≢ port_id number port))
+    → ((is_end number port end ≡ true) × (end ≡ port_id number port))
+    ⊎ ((is_end number port end ≡ false) × (end ≢ port_id number port))
 end_tells number port end = by (eqb_tells end.clock number) (eqb_tells end.port port)
   where
-    by : ((eqb end.clock number ≡ true) × (end.clock ≡ number)) ⊎ ((eqb end.clock number ≡ false) × (end.clock ≢ number))
+    by : ((eqb end.clock number ≡ true) × (end.clock ≡ number))
+        ⊎ ((eqb end.clock number ≡ false) × (end.clock ≢ number))
         → ((eqb end.port port ≡ true) × (end.port ≡ port)) ⊎ ((eqb end.port port ≡ false) × (end.port ≢ port))
-        → ((is_end number port end ≡ true) × (end ≡ port_id number port)) ⊎ ((is_end number port end ≡ false) × (end ≢ port_id number port))
+        → ((is_end number port end ≡ true) × (end ≡ port_id number port))
+        ⊎ ((is_end number port end ≡ false) × (end ≢ port_id number port))
     by (inl (test, clocks)) (inl (at, ports)) =
         inl (rw (test, at) refl, ap (λ c. port_id c end.port) clocks ∙ ap (λ p. port_id number p) ports)
     by (inl (test, clocks)) (inr (at, apart)) = inr (rw (test, at) refl, λ e. apart (ap (λ (p : PortId). p.port) e))
@@ -87,10 +90,12 @@ up_where (c ∷ cs) zero direction channel number port here begins up = by (at_t
   where
     by : IsAt number port c ⊎ IsNotAt number port c → is_up_at (c ∷ cs) number port ≡ true
     by (inl at) =
-        let is : c.up ≡ true = ap (λ (l : Channel). l.up) (same_Some c channel here) ∙ up in let test = at.test in rw (is, test) refl
+        let is : c.up ≡ true = ap (λ (l : Channel). l.up) (same_Some c channel here) ∙ up in
+        let test = at.test in rw (is, test) refl
     by (inr off) = absurd (off.apart direction (ap (sender direction) (same_Some c channel here) ∙ begins))
 up_where (c ∷ cs) (suc place) direction channel number port here begins up =
-    later (c.up && is_at number port c) (is_up_at cs number port) (up_where cs place direction channel number port here begins up)
+    later (c.up && is_at number port c) (is_up_at cs number port)
+    (up_where cs place direction channel number port here begins up)
 
 down_where : (channels : List Channel) (number port : ℕ)
     → ((place : ℕ) (direction : Direction) (channel : Channel) → slice_get channels place ≡ Some channel
@@ -98,9 +103,11 @@ down_where : (channels : List Channel) (number port : ℕ)
     → is_up_at channels number port ≡ false
 down_where [] number port none = refl
 down_where (c ∷ cs) number port none =
-    by (at_tells number port c) (down_where cs number port (λ place direction channel. none (suc place) direction channel))
+    by (at_tells number port c)
+    (down_where cs number port (λ place direction channel. none (suc place) direction channel))
   where
-    by : IsAt number port c ⊎ IsNotAt number port c → is_up_at cs number port ≡ false → is_up_at (c ∷ cs) number port ≡ false
+    by : IsAt number port c ⊎ IsNotAt number port c → is_up_at cs number port ≡ false
+        → is_up_at (c ∷ cs) number port ≡ false
     by (inl at) rest = let down = none 0 at.direction c refl at.begins in rw (down, rest) refl
     by (inr off) rest = let test = off.test in let up = nowhere c.up in rw (test, rest, up) refl
 
@@ -117,7 +124,8 @@ up_tells net number port (Some lane) is up none =
 
 -- ---- calls
 
-up_kept : (channels : List Channel) (place : ℕ) (old new : Channel) (number port : ℕ) → slice_get channels place ≡ Some old
+up_kept : (channels : List Channel) (place : ℕ) (old new : Channel) (number port : ℕ)
+    → slice_get channels place ≡ Some old
     → new.up ≡ old.up → new.a ≡ old.a → new.b ≡ old.b
     → is_up_at (slice_set channels place new) number port ≡ is_up_at channels number port
 up_kept [] place old new number port here up a b = refl
@@ -126,17 +134,21 @@ up_kept (c ∷ cs) zero old new number port here up a b =
 up_kept (c ∷ cs) (suc place) old new number port here up a b =
     ap (λ rest. (c.up && is_at number port c) || rest) (up_kept cs place old new number port here up a b)
 
-queued : (direction : Direction) (frames : List Frame) (channels : List Channel) (place : ℕ) (channel : Channel) (number port : ℕ)
+queued : (direction : Direction) (frames : List Frame) (channels : List Channel) (place : ℕ) (channel : Channel)
+    (number port : ℕ)
     → slice_get channels place ≡ Some channel
-    → is_up_at (slice_set channels place (with_queue direction frames channel)) number port ≡ is_up_at channels number port
+    → is_up_at (slice_set channels place (with_queue direction frames channel)) number port ≡ is_up_at channels number
+    port
 queued FromA frames channels place channel number port here =
     up_kept channels place channel (with_queue FromA frames channel) number port here refl refl refl
 queued FromB frames channels place channel number port here =
     up_kept channels place channel (with_queue FromB frames channel) number port here refl refl refl
 
-entered_up : (place : ℕ) (direction : Direction) (channel : Channel) (now : ℕ) (octets : List ℕ) (answer : Option ℕ) (net : Net)
+entered_up : (place : ℕ) (direction : Direction) (channel : Channel) (now : ℕ) (octets : List ℕ) (answer : Option ℕ)
+    (net : Net)
     (number port : ℕ) → slice_get net.channels place ≡ Some channel
-    → is_up_at (entered place direction channel now octets answer net).channels number port ≡ is_up_at net.channels number port
+    → is_up_at (entered place direction channel now octets answer net).channels number port ≡ is_up_at net.channels
+    number port
 entered_up place direction channel now octets None net number port here = refl
 entered_up place direction channel now octets (Some delay) net number port here =
     queued direction _ net.channels place channel number port here
@@ -152,17 +164,23 @@ sends_all_up : (now : ℕ) (s : SystemState) (xs : List Sending) (draws : List D
 sends_all_up now s [] draws net net' number port sends = ap (λ (n : Net). is_up_at n.channels number port) sends.1
 sends_all_up now s (x ∷ xs) draws net net' number port (inl (draw, rest, middle, is, sent, sends)) =
     sends_all_up now s xs rest middle net' number port sends ∙ sends_one_up now _ _ draw net middle number port sent
-sends_all_up now s (x ∷ xs) draws net net' number port (inr (none, sends)) = sends_all_up now s xs draws net net' number port sends
+sends_all_up now s (x ∷ xs) draws net net' number port (inr (none, sends)) = sends_all_up now s xs draws net net' number
+    port sends
 
-pub calls_up : (place : ℕ) (input : Input) (w : WorldState) (draws : List Draw) (answer : Answer) (w' : WorldState) (number port : ℕ)
+pub calls_up : (place : ℕ) (input : Input) (w : WorldState) (draws : List Draw) (answer : Answer) (w' : WorldState)
+    (number port : ℕ)
     → Calls place input w draws answer w' → is_up_at w'.net.channels number port ≡ is_up_at w.net.channels number port
 calls_up place input w draws answer w' number port calls =
     ap (λ (v : WorldState). is_up_at v.net.channels number port) calls.is
-    ∙ sends_all_up w.time calls.after calls.sends draws (all_timers place (in_state calls.after calls.station) w.net) calls.net number port
+    ∙ sends_all_up w.time calls.after calls.sends draws (all_timers place (in_state calls.after calls.station) w.net)
+    calls.net number port
     calls.sent
 
-pub calls_all_up : (place : ℕ) (inputs : List Input) (w : WorldState) (draws : List Draw) (w' : WorldState) (number port : ℕ)
+pub calls_all_up : (place : ℕ) (inputs : List Input) (w : WorldState) (draws : List Draw) (w' : WorldState)
+    (number port : ℕ)
     → CallsAll place inputs w draws w' → is_up_at w'.net.channels number port ≡ is_up_at w.net.channels number port
-calls_all_up place [] w draws w' number port calls = ap (λ (v : WorldState). is_up_at v.net.channels number port) calls.1
+calls_all_up place [] w draws w' number port calls = ap (λ (v : WorldState). is_up_at v.net.channels number port)
+    calls.1
 calls_all_up place (input ∷ inputs) w draws w' number port (first, rest, middle, answer, is, one, more) =
-    calls_all_up place inputs middle rest w' number port more ∙ calls_up place input w first answer middle number port one
+    calls_all_up place inputs middle rest w' number port more
+    ∙ calls_up place input w first answer middle number port one

@@ -59,7 +59,8 @@ pub record HasSetTimers (place : ℕ) (stage stage_after : Stage) : Type 0 where
 -- ---- another priority1
 
 -- The system at a place has another priority1 from now on, and where it is live it was told.
-pub record Prioritized {F : Type 0} (answers : Bounds → ℕ → F → Option ℕ → F → Type 0) (place value : ℕ) (fate fate_after : F)
+pub record Prioritized {F : Type 0} (answers : Bounds → ℕ → F → Option ℕ → F → Type 0) (place value : ℕ)
+    (fate fate_after : F)
     (stage stage_after : Stage) : Type 0 where
   pub station : Station
   pub here : slice_get stage.stations.items place ≡ Some station
@@ -78,13 +79,15 @@ pub record CanStart (place : ℕ) (stage : Stage) : Type 0 where
   pub params : AreParams station.setup.params
 
 -- Of these ports of the system at a place each comes up whose link is up, one after another.
-pub record CameUp {F : Type 0} (answers : Bounds → ℕ → F → Option ℕ → F → Type 0) (place : ℕ) (ports : List ℕ) (fate fate_after : F)
+pub record CameUp {F : Type 0} (answers : Bounds → ℕ → F → Option ℕ → F → Type 0) (place : ℕ) (ports : List ℕ)
+    (fate fate_after : F)
     (stage stage_after : Stage) : Type 0 where
   pub station : Station
   pub here : slice_get stage.stations.items place ≡ Some station
   pub draws : List Draw
   pub drawn : Draws answers fate draws fate_after
-  pub calls : CallsAll place (map PortUp (filter (λ p. is_up_at (world_of stage).net.channels (clock station.system) p) ports))
+  pub calls : CallsAll place
+      (map PortUp (filter (λ p. is_up_at (world_of stage).net.channels (clock station.system) p) ports))
       (world_of stage) draws (world_of stage_after)
 
 -- there is room for one call of the system at a place for each of its ports

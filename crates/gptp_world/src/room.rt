@@ -123,10 +123,7 @@ impl Stage {
     {
         let ports = self.stations[place].system.ports();
         let count = usize::from(ports);
-        self.net.reserve(
-            4 * count + 2 + count * (6 * count + 2),
-            count * (2 * count),
-        )?;
+        self.net.reserve(4 * count + 2 + count * (6 * count + 2), count * (2 * count))?;
         self.net.make_room_at_ports(place, ports, 2 * count)
     }
 

@@ -1,4 +1,4 @@
-use Rattle.std.proofs.Common.{◌≡◌, ◌*◌, ◌+◌, ◌≤◌, length, Some, slice_get, refl, ap, subst, sym, ◌∙◌, arith}
+use Rattle.std.proofs.Common.{◌≡◌, ◌*◌, ◌+◌, ◌≤◌, Some, slice_get, refl, ap, subst, sym, ◌∙◌, arith}
 use Rattle.std.proofs.lemmas.Option.{slice_get-get_or}
 use Rattle.gptp_world.specs.Room.{HasRoomAtPorts}
 use Rattle.gptp_world.specs.Starting.{HasRoomToStart}
@@ -7,7 +7,8 @@ use Rattle.gptp_world.proofs.RoomLemmas.{one_after_another, room_to_start, stage
 use Rattle.gptp_world.proofs.stage.Stage.make_room_to_start.Goals as goal
 
 pub returns-in_err-reserve-clause-stage : goal.returns-in_err-reserve-clause-stage
-returns-in_err-reserve-clause-stage c = stage_stays c.args.self.now _ refl refl refl c.reserve.ensures.only c.requires.stage
+returns-in_err-reserve-clause-stage c = stage_stays c.args.self.now _ refl refl refl c.reserve.ensures.only
+    c.requires.stage
 
 pub returns-clause-stage : goal.returns-clause-stage
 returns-clause-stage c =
@@ -29,7 +30,8 @@ returns-clause-room c =
     let ports = c.from-count.ensures in let made = c.in_ok-reserve.ensures in let n = c.ports-ports.result in
     let made_entries : 4 * n + 2 + n * (6 * n + 2) ≤ c.reserve.new.self.pending.room = rw (← ports) made.entries in
     let made_buffers : n * (2 * n) ≤ c.reserve.new.self.buffers.ready = rw (← ports) made.buffers in
-    on_ok c.make_room_at_ports.result (HasRoomAtPorts (2 * c.from-count.result) c.args.place n c.make_room_at_ports.new.self)
+    on_ok c.make_room_at_ports.result (HasRoomAtPorts (2 * c.from-count.result) c.args.place n
+    c.make_room_at_ports.new.self)
     (HasRoomToStart c.args.place after)
     (λ has. room_to_start after c.args.place one is here (rw (← count) (omega arith)) (rw (← count) (omega arith))
     (rw (← count) (subst (λ k. HasRoomAtPorts (2 * k) c.args.place n c.make_room_at_ports.new.self) ports has)))
