@@ -1,6 +1,7 @@
 pub mod StayLemmas
 pub mod FlowLemmas
 pub mod UpLemmas
+pub mod UpPortLemmas
 pub mod LinkedLemmas
 pub mod WiredLemmas
 pub mod AgreeLemmas
@@ -21,6 +22,7 @@ pub mod RoomLemmas
 pub mod StageLemmas
 pub mod TellingLemmas
 pub mod StartingLemmas
+pub mod ComingUpLemmas
 pub mod FiledLemmas
 pub mod NextLemmas
 pub mod PendingLemmas
