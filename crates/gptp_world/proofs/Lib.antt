@@ -8,6 +8,7 @@ pub mod SendingLemmas
 pub mod NetLemmas
 pub mod NeedLemmas
 pub mod EndLemmas
+pub mod InitialLemmas
 pub mod SendsLemmas
 pub mod NetworkLemmas
 pub mod RoomLemmas
