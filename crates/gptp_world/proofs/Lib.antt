@@ -16,6 +16,7 @@ pub mod NeedLemmas
 pub mod EndLemmas
 pub mod AimLemmas
 pub mod CheckLemmas
+pub mod InitialLemmas
 pub mod SendsLemmas
 pub mod NetworkLemmas
 pub mod RoomLemmas

@@ -12,6 +12,7 @@ pub mod Delivering
 pub mod Directory
 pub mod Faults
 pub mod Filed
+pub mod Initial
 pub mod Item
 pub mod Net
 pub mod Network

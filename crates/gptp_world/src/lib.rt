@@ -23,6 +23,7 @@ mod directory;
 mod done;
 mod fault;
 mod filed;
+mod founding;
 mod item;
 mod net;
 mod network;

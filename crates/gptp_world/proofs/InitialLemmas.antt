@@ -1,0 +1,252 @@
+-- The world that a network makes is sound before its systems start, and the code can keep it.
+use Rattle.std.proofs.Common.{◌≡◌, ◌≤◌, ℕ, ℤ, Bool, true, false, List, [], ◌∷◌, map, length, Option, Some, None, option_map, slice_get, refl, sym, ap, subst, ◌∙◌, inl, inr, to_z, of_z, w32, arith}
+use Rattle.std.specs.Bool.{⊤}
+use Rattle.std.proofs.lemmas.Int.{ints, to_z-of_z}
+use Rattle.std.proofs.lemmas.List.{length-map}
+use Rattle.std.proofs.lemmas.Option.{same_Some}
+use Rattle.gptp_links.specs.Bounds.{Fit}
+use Rattle.gptp_links.specs.declared.bounds.Bounds.{Bounds}
+use Rattle.gptp_links.specs.declared.link.Direction.{Direction}
+use Rattle.gptp_links.specs.declared.link.Direction.TheVariants.{FromA, FromB}
+use Rattle.gptp_pdelay.specs.Clock.{IsDrift}
+use Rattle.gptp_roles.specs.Selection.{clock_of}
+use Rattle.gptp_system.proofs.ReadyLemmas.{length-new_ports}
+use Rattle.gptp_system.specs.State.{clock}
+use Rattle.gptp_vector.specs.declared.port.PortId.{PortId}
+use Rattle.gptp_world.specs.declared.cable.Cable.{Cable}
+use Rattle.gptp_world.specs.declared.cable.Lane.{Lane}
+use Rattle.gptp_world.specs.declared.net.Net.{Net as Between}
+use Rattle.gptp_world.specs.declared.network.Member.{Member}
+use Rattle.gptp_world.specs.declared.network.Wire.{Wire}
+use Rattle.gptp_world.specs.declared.stage.Stage.{Stage}
+use Rattle.gptp_world.specs.declared.station.Station.{Station}
+use Rattle.gptp_world.specs.Agrees.{Agrees}
+use Rattle.gptp_world.specs.Ahead.{IsOnTime, IsWorldOnTime}
+use Rattle.gptp_world.specs.Cable.{channel_of, join_of}
+use Rattle.gptp_world.specs.Directory.{Join, clocks_of, joins_of, start_of, BeginsAt}
+use Rattle.gptp_world.specs.Initial.{channel_from, channels_of, initial, setup_of, station_of, stations_of}
+use Rattle.gptp_world.specs.Net.{port_id, IsNet}
+use Rattle.gptp_world.specs.Network.{member, NetworkState, IsEnd, IsNetwork, IsPort, IsWire}
+use Rattle.gptp_world.specs.Sound.{AllFlow, AreApart, AreLinked, Flows, HaveTheirSetups, IsItsSetup, IsSound}
+use Rattle.gptp_world.specs.Stage.{clock_at, IsStage}
+use Rattle.gptp_world.specs.World.{Channel, WorldState, queue, sender}
+use Rattle.gptp_world.proofs.ChangeAgreeLemmas.{silent_agrees}
+use Rattle.gptp_world.proofs.ListLemmas.{mapped, same_there}
+use Rattle.gptp_world.proofs.SteadyLemmas.{started_none_late, started_steady}
+
+-- ---- systems and links of a network
+
+-- what is true of each system of the network as it is before it starts is true of each of the world
+each_station : (n : NetworkState) (P : Station → Type 0)
+    → ((place : ℕ) (m : Member) → slice_get n.systems place ≡ Some m → P (station_of n.params m))
+    → (place : ℕ) (station : Station) → slice_get (stations_of n) place ≡ Some station → P station
+each_station n P so place station there =
+    let x = mapped (station_of n.params) n.systems place station there in subst P x.2 (so place x.0 x.1)
+
+-- and so it is with links
+each_channel : (n : NetworkState) (P : Channel → Type 0)
+    → ((place : ℕ) (w : Wire) → slice_get n.links place ≡ Some w → P (channel_from w))
+    → (place : ℕ) (channel : Channel) → slice_get (channels_of n) place ≡ Some channel → P channel
+each_channel n P so place channel there =
+    let x = mapped channel_from n.links place channel there in subst P x.2 (so place x.0 x.1)
+
+-- ---- what a network tells of a place
+
+told_of : {X Y : Type 0} (f : X → Y) (found : Option X) (told : Y) → option_map f found ≡ Some told
+    → (x : X) × (found ≡ Some x) × (f x ≡ told)
+told_of f None told e = absurd cc
+told_of f (Some x) told e = (x, refl, same_Some (f x) told e)
+
+-- the system that is told of
+pub member_told : (n : NetworkState) (place : ℕ) (found : Option (ℕ × ℕ × ℕ × ℤ)) (told : ℕ × ℕ × ℕ × ℤ)
+    → found ≡ option_map (λ (m : Member). (m.identity, m.ports, m.phase, m.drift)) (slice_get n.systems place)
+    → found ≡ Some told → slice_get n.systems place ≡ Some (member told.0 told.1 told.2 told.3)
+member_told n place found told is some =
+    let tells : Member → ℕ × ℕ × ℕ × ℤ = λ m. (m.identity, m.ports, m.phase, m.drift) in
+    let x = told_of tells (slice_get n.systems place) told (sym is ∙ some) in
+    x.1 ∙ ap (λ (v : ℕ × ℕ × ℕ × ℤ). Some (member v.0 v.1 v.2 v.3)) x.2
+
+-- its drift fits the machine's number
+pub drift_back : (drift : ℤ) → IsDrift drift → to_z w32 (of_z w32 drift) ≡ drift
+drift_back drift is = let low = is.low in let high = is.high in to_z-of_z w32 drift (omega (arith, ints))
+
+-- a link with these ends and bounds
+abbrev pub joining : PortId → PortId → Bounds → Bool → Wire
+joining a b bounds up = record { a = a; b = b; bounds = bounds; up = up }
+
+-- the link that is told of
+pub wire_told : (n : NetworkState) (place : ℕ) (found : Option (PortId × PortId × Bounds × Bool))
+    (told : PortId × PortId × Bounds × Bool)
+    → found ≡ option_map (λ (w : Wire). (w.a, w.b, w.bounds, w.up)) (slice_get n.links place)
+    → found ≡ Some told → slice_get n.links place ≡ Some (joining told.0 told.1 told.2 told.3)
+wire_told n place found told is some =
+    let tells : Wire → PortId × PortId × Bounds × Bool = λ w. (w.a, w.b, w.bounds, w.up) in
+    let x = told_of tells (slice_get n.links place) told (sym is ∙ some) in
+    x.1 ∙ ap (λ (v : PortId × PortId × Bounds × Bool). Some (joining v.0 v.1 v.2 v.3)) x.2
+
+-- ---- the world is sound
+
+ports_counted : (n : NetworkState) (m : Member) → length (station_of n.params m).system.ports ≡ m.ports
+ports_counted n m = length-new_ports (clock_of m.identity) n.params m.ports
+
+pub initial_setups : (n : NetworkState) → IsNetwork n → HaveTheirSetups (initial n)
+initial_setups n is = each_station n IsItsSetup (λ place m there.
+    let limits = is.systems place m there in record {
+      ports = ports_counted n m;
+      few = limits.ports;
+      phase = limits.phase;
+      drift = limits.drift;
+      named = refl;
+    })
+
+sends_from_end : (direction : Direction) (w : Wire) → IsEnd (sender direction (channel_from w)) w
+sends_from_end FromA w = inl refl
+sends_from_end FromB w = inr refl
+
+pub initial_apart : (n : NetworkState) → IsNetwork n → AreApart (initial n)
+initial_apart n is link other direction way channel at here there same =
+    let x = mapped channel_from n.links link channel here in
+    let y = mapped channel_from n.links other at there in
+    let one : sender way (channel_from y.0) ≡ sender direction (channel_from x.0) =
+    ap (sender way) y.2 ∙ sym same ∙ sym (ap (sender direction) x.2) in
+    is.one_link link other x.0 y.0 (sender direction (channel_from x.0)) x.1 y.1 (sends_from_end direction x.0)
+    (subst (λ (p : PortId). IsEnd p y.0) one (sends_from_end way y.0))
+
+idle_flows : (direction : Direction) (w : Wire) → Flows direction (channel_from w)
+idle_flows FromA w = record { order = tt; still = λ down. refl }
+idle_flows FromB w = record { order = tt; still = λ down. refl }
+
+pub initial_flow : (n : NetworkState) → AllFlow (initial n)
+initial_flow n link direction =
+    each_channel n (Flows direction) (λ place w there. idle_flows direction w) link
+
+-- no system is live yet
+pub initial_silent : (n : NetworkState) (place : ℕ) (station : Station) → slice_get (stations_of n) place ≡ Some station
+    → station.live ≡ false
+initial_silent n = each_station n (λ (station : Station). station.live ≡ false) (λ place m there. refl)
+
+pub initial_linked : (n : NetworkState) → AreLinked (initial n)
+initial_linked n link place direction channel station here up there live named =
+    let silent = initial_silent n place station there in absurd cc
+
+initial_on_time-station : (n : NetworkState) → IsNetwork n → (place : ℕ) (station : Station)
+    → slice_get (stations_of n) place ≡ Some station → IsOnTime 0 station
+initial_on_time-station n is = each_station n (IsOnTime 0) (λ place m there. record {
+  setup = is.params.ranges.params;
+  steady = started_steady (setup_of n.params m) 0 is.params.ranges.params;
+  timers = λ live. started_none_late (setup_of n.params m) 0;
+})
+
+pub initial_on_time : (n : NetworkState) → IsNetwork n → IsWorldOnTime (initial n)
+initial_on_time n is = record {
+  stations = initial_on_time-station n is;
+  links = each_channel n (λ (channel : Channel). Fit channel.bounds) (λ place w there. (is.links place w there).fit);
+  pending = λ k d l. omega arith;
+}
+
+idle_queue : (direction : Direction) (w : Wire) → queue direction (channel_from w) ≡ []
+idle_queue FromA w = refl
+idle_queue FromB w = refl
+
+pub initial_agrees : (n : NetworkState) → Agrees (initial n)
+initial_agrees n = silent_agrees (initial n) (initial_silent n)
+    (λ link direction. each_channel n (λ (channel : Channel). queue direction channel ≡ [])
+    (λ place w there. idle_queue direction w) link) refl
+
+-- the world of a network is sound before its systems start
+pub initial_sound : (n : NetworkState) → IsNetwork n → IsSound (initial n)
+initial_sound n is = record {
+  setups = initial_setups n is;
+  apart = initial_apart n is;
+  flow = initial_flow n;
+  linked = initial_linked n;
+  on_time = initial_on_time n is;
+  agrees = initial_agrees n;
+}
+
+-- ---- the code's tables
+
+-- the joins follow from the links
+joined : (cables : List Cable) (wires : List Wire) → map channel_of cables ≡ map channel_from wires
+    → map join_of cables ≡ joins_of wires
+joined [] [] e = refl
+joined [] (w ∷ wires) e = absurd cc
+joined (cable ∷ cables) [] e = absurd cc
+joined (cable ∷ cables) (w ∷ wires) e =
+    let head : channel_of cable ≡ channel_from w = cc in
+    let tail : map channel_of cables ≡ map channel_from wires = cc in
+    let join : Channel → Join = λ channel. record { a = channel.a; b = channel.b } in
+    ap (λ (one : Join). one ∷ map join_of cables) (ap join head) ∙ ap (λ rest. join (channel_from w) ∷ rest) (joined cables wires tail)
+
+cables_counted : (cables : List Cable) (wires : List Wire) → map channel_of cables ≡ map channel_from wires
+    → length cables ≡ length wires
+cables_counted cables wires e =
+    sym (length-map cables channel_of) ∙ ap length e ∙ length-map wires channel_from
+
+pub idle_net : (n : NetworkState) (net : Between) → map channel_of net.cables.items ≡ channels_of n
+    → net.directory.joins ≡ joins_of n.links → net.pending.links ≡ length n.links → IsNet net
+idle_net n net cables joins links = record {
+  joins = joined net.cables.items n.links cables ∙ sym joins;
+  links = let count = cables_counted net.cables.items n.links cables in omega (arith, count, links);
+}
+
+clocks_kept : (n : NetworkState) (systems : List Member)
+    → map clock_at (map (station_of n.params) systems) ≡ clocks_of systems
+clocks_kept n [] = refl
+clocks_kept n (m ∷ systems) = ap (λ rest. clock_of m.identity ∷ rest) (clocks_kept n systems)
+
+-- a link begins at a port of a system of the network
+begins_at_port : (n : NetworkState) (place : ℕ) (direction : Direction) (w : Wire) → IsWire n place w
+    → IsPort n.systems (start_of direction (record { a = w.a; b = w.b }))
+begins_at_port n place FromA w is = is.a
+begins_at_port n place FromB w is = is.b
+
+port_counted : (n : NetworkState) → IsNetwork n → (place : ℕ) (m : Member) (p : ℕ) (lane : Lane)
+    → slice_get n.systems place ≡ Some m → BeginsAt (joins_of n.links) (port_id (clock_of m.identity) p) lane
+    → (1 ≤ p) × (p ≤ m.ports)
+port_counted n is place m p lane here begins =
+    let join_from : Wire → Join = λ w. record { a = w.a; b = w.b } in
+    let x = mapped join_from n.links lane.link begins.join begins.there in
+    let port : IsPort n.systems (port_id (clock_of m.identity) p) =
+    subst (IsPort n.systems) (ap (start_of lane.direction) x.2 ∙ begins.begins)
+    (begins_at_port n lane.link lane.direction x.0 (is.links lane.link x.0 x.1)) in
+    let same : port.place ≡ place = is.clocks port.place place port.system m port.there here port.clock in
+    let one : port.system ≡ m =
+    same_there n.systems place port.system m (ap (slice_get n.systems) (sym same) ∙ port.there) here in
+    (port.first, subst (λ (x : Member). p ≤ x.ports) one port.last)
+
+abbrev HasItsLanes : NetworkState → Station → Type 0
+HasItsLanes n station = (p : ℕ) (lane : Lane) → BeginsAt (joins_of n.links) (port_id (clock station.system) p) lane
+    → (1 ≤ p) × (p ≤ length station.system.ports)
+
+have_lanes : (n : NetworkState) → IsNetwork n → (place : ℕ) (station : Station)
+    → slice_get (stations_of n) place ≡ Some station → HasItsLanes n station
+have_lanes n is = each_station n (HasItsLanes n) (λ place m there p lane begins.
+    let count = ports_counted n m in
+    let within = port_counted n is place m p lane there begins in
+    (within.0, rw count within.1))
+
+have_few : (n : NetworkState) → IsNetwork n → (place : ℕ) (station : Station)
+    → slice_get (stations_of n) place ≡ Some station → length station.system.ports ≤ 16
+have_few n is = each_station n (λ (station : Station). length station.system.ports ≤ 16) (λ place m there.
+    let count = ports_counted n m in rw count (is.systems place m there).ports)
+
+pub initial_stage : (n : NetworkState) (stage : Stage) → IsNetwork n → IsNet stage.net
+    → stage.stations.items ≡ stations_of n → stage.net.directory.clocks ≡ clocks_of n.systems
+    → stage.net.directory.joins ≡ joins_of n.links → stage.net.pending.systems ≡ length n.systems
+    → stage.outbox.items ≡ [] → stage.now ≡ 0 → IsStage stage
+initial_stage n stage is net stations clocks joins systems empty now =
+    let there : (place : ℕ) (station : Station) → slice_get stage.stations.items place ≡ Some station
+    → slice_get (stations_of n) place ≡ Some station =
+    λ place station e. ap (λ (all : List Station). slice_get all place) (sym stations) ∙ e in
+    record {
+      net = net;
+      clocks = ap (map clock_at) stations ∙ clocks_kept n n.systems ∙ sym clocks;
+      systems =
+          let count = ap length stations ∙ length-map n.systems (station_of n.params) in omega (arith, count, systems);
+      few = λ place station e. have_few n is place station (there place station e);
+      ports = λ place station p lane e begins. have_lanes n is place station (there place station e) p lane
+          (subst (λ (all : List Join). BeginsAt all (port_id (clock station.system) p) lane) joins begins);
+      empty = empty;
+      moment = omega (arith, now);
+    }

@@ -1,0 +1,142 @@
+//! A world made of a network.
+
+ghost use Rattle.std.specs.Prelude.{◌≡◌, ◌≤◌, ◌<◌, [], length, map, IfOk, Some, slice_get};
+ghost use Rattle.gptp_links.specs.Bounds.{Fit};
+ghost use Rattle.gptp_world.specs.Cable.{channel_of};
+ghost use Rattle.gptp_world.specs.Initial.{channels_of, stations_of};
+
+use crate::buffers::Buffers;
+use crate::cable::Cable;
+use crate::directory::Directory;
+use crate::net::Net;
+use crate::network::Network;
+use crate::pending::Pending;
+use crate::stage::Stage;
+use crate::station::Station;
+use gptp_links::{Bounds, Link};
+use gptp_system::{Outbox, Setup, System};
+use std::alloc::{AllocError, Global};
+
+impl Stage {
+    ghost use Rattle.std.specs.Prelude.{◌≡◌, IfOk};
+    ghost use Rattle.gptp_world.specs.Initial.{initial};
+    ghost use Rattle.gptp_world.specs.Stage.{world_of, IsStage};
+
+    /// The world of a network at time 0, before its systems start. Refused for want of memory alone.
+    pub(crate) fn found(alloc: Global, network: &Network) -> Result<Self, AllocError>
+        ensures stage { IfOk result IsStage }
+        ensures world { IfOk result (λ stage. world_of stage ≡ initial network.now) }
+    {
+        network.well_formed();
+        let stations = list_stations(alloc, network)?;
+        let net = Net::found(alloc, network)?;
+        Ok(Stage {
+            now: 0,
+            last_change: 0,
+            stations,
+            net,
+            outbox: Outbox::new(),
+        })
+    }
+}
+
+impl Net {
+    ghost use Rattle.std.specs.Prelude.{◌≡◌, length, IfOk};
+    ghost use Rattle.gptp_world.specs.Directory.{clocks_of, joins_of};
+    ghost use Rattle.gptp_world.specs.Initial.{idle};
+    ghost use Rattle.gptp_world.specs.Net.{between, IsNet};
+
+    /// The links of a network, with nothing in flight or pending. Refused for want of memory alone.
+    fn found(alloc: Global, network: &Network) -> Result<Self, AllocError>
+        ensures net { IfOk result IsNet }
+        ensures between { IfOk result (λ net. between net ≡ idle network.now) }
+        ensures clocks { IfOk result (λ net. net.directory.clocks ≡ clocks_of network.now.systems) }
+        ensures joins { IfOk result (λ net. net.directory.joins ≡ joins_of network.now.links) }
+        ensures systems { IfOk result (λ net. net.pending.systems ≡ length network.now.systems) }
+    {
+        network.well_formed();
+        let directory = Directory::new(alloc, network)?;
+        let cables = list_cables(alloc, network)?;
+        let pending = Pending::new(alloc, network.systems(), network.links())?;
+        Ok(Net {
+            directory,
+            cables,
+            pending,
+            buffers: Buffers::new(alloc),
+        })
+    }
+}
+
+/// The systems of a network, before they start.
+fn list_stations(alloc: Global, network: &Network) -> Result<Vec<Station>, AllocError>
+    ensures { IfOk result (λ v. v.items ≡ stations_of network.now) }
+{
+    let mut stations = Vec::new(alloc);
+    for place in 0..network.systems() {
+        stations.push(station_in(network, place))?;
+    }
+    Ok(stations)
+}
+
+/// The system at a place of a network, before it starts.
+fn station_in(network: &Network, place: usize) -> Station
+    requires { place < length network.now.systems }
+    ensures { slice_get (stations_of network.now) place ≡ Some result }
+{
+    network.well_formed();
+    let (identity, ports, phase, drift) = network.system_at(place).unwrap();
+    let setup = Setup {
+        identity,
+        ports,
+        phase,
+        drift,
+        params: network.params(),
+    };
+    // A copy is started, since the borrow checker takes a setup that was passed on as moved.
+    let started = setup;
+    Station {
+        setup,
+        system: System::new(started, 0),
+        live: false,
+    }
+}
+
+/// The links of a network, with nothing in flight.
+fn list_cables(alloc: Global, network: &Network) -> Result<Vec<Cable>, AllocError>
+    ensures { IfOk result (λ v. map channel_of v.items ≡ channels_of network.now) }
+{
+    let mut cables = Vec::new(alloc);
+    for place in 0..network.links() {
+        cables.push(cable_in(alloc, network, place))?;
+    }
+    Ok(cables)
+}
+
+/// The link at a place of a network, with nothing in flight.
+fn cable_in(alloc: Global, network: &Network, place: usize) -> Cable
+    requires { place < length network.now.links }
+    ensures { slice_get (channels_of network.now) place ≡ Some (channel_of result) }
+{
+    network.well_formed();
+    let (a, b, bounds, up) = network.link_at(place).unwrap();
+    Cable {
+        a,
+        b,
+        link: new_link(alloc, bounds, up),
+    }
+}
+
+/// A link that is up or down, with nothing in flight. Takes no memory.
+fn new_link(alloc: Global, bounds: Bounds, up: bool) -> Link
+    requires { Fit bounds }
+    ensures bounds { result.bounds ≡ bounds }
+    ensures up { result.up ≡ up }
+    ensures from_a { result.from_a.frames ≡ [] }
+    ensures from_b { result.from_b.frames ≡ [] }
+{
+    let mut link = Link::new(alloc, bounds);
+    if !up {
+        link.down();
+    }
+    link
+}
