@@ -1,5 +1,6 @@
 -- The clocks that octets spell, place by place, and the octets that spell clocks.
-use Rattle.std.proofs.Common.{◌≡◌, ◌≢◌, Bool, true, false, ◌||◌, ◌↔◌, IsTrue, Contains, ℕ, zero, suc, ◌+◌, ◌*◌, ◌/◌, ◌%◌, ◌^◌, ◌<◌, ◌≤◌, List, [], ◌∷◌, ◌++◌, length, get_or, take, drop, map, Some, None, refl, arith, ◌∙◌, ap, sym, inl, inr, append_assoc}
+use Rattle.std.proofs.Common.{◌≡◌, ◌≢◌, Bool, true, false, ◌||◌, ◌↔◌, IsTrue, Contains}
+use Rattle.std.proofs.Common.{ℕ, zero, suc, ◌+◌, ◌*◌, ◌/◌, ◌%◌, ◌^◌, ◌<◌, ◌≤◌, List, [], ◌∷◌, ◌++◌, length, get_or, take, drop, map, Some, None, refl, arith, ◌∙◌, ap, sym, inl, inr, append_assoc}
 use Rattle.std.specs.Prelude.{slice_get}
 use Rattle.std.specs.List.{range_with_len, AllByRecursion}
 use Rattle.std.proofs.lemmas.Bool.{cases_lt}
@@ -112,7 +113,8 @@ take-clocks octets i within =
     take_more (clocks octets) i 0 inside ∙ ap (λ (c : ℕ). take i (clocks octets) ++ c ∷ []) (get_or-clocks octets i 0 within)
 
 -- sixteen clocks more of a path
-pub take-sixteen : (path : List ℕ) (block : ℕ) → take (16 * (block + 1)) path ≡ take (16 * block) path ++ take 16 (drop (16 * block) path)
+pub take-sixteen : (path : List ℕ) (block : ℕ)
+    → take (16 * (block + 1)) path ≡ take (16 * block) path ++ take 16 (drop (16 * block) path)
 take-sixteen path block =
     let behind : 16 * (block + 1) ≡ 16 * block + 16 = omega arith in
     rw behind (take-add (16 * block) 16 path)
@@ -125,25 +127,36 @@ ends_before path i none =
       | inr past ↦ past
     ]
 
+-- ---- octets that are written in turn
+
 -- the octets of one clock more
-path_octets-more : (path : List ℕ) (i : ℕ) → i < length path → path_octets (take (i + 1) path) ≡ path_octets (take i path) ++ big_bytes 8 (get_or path i 0)
+path_octets-more : (path : List ℕ) (i : ℕ) → i < length path
+    → path_octets (take (i + 1) path) ≡ path_octets (take i path) ++ big_bytes 8 (get_or path i 0)
 path_octets-more path i within =
-    ap path_octets (take_more path i 0 within) ∙ flat_map-append (λ c. big_bytes 8 c) (take i path) (get_or path i 0 ∷ [])
+    ap path_octets (take_more path i 0 within)
+    ∙ flat_map-append (λ c. big_bytes 8 c) (take i path) (get_or path i 0 ∷ [])
     ∙ ap (λ (x : List ℕ). path_octets (take i path) ++ x) (append-nil (big_bytes 8 (get_or path i 0)))
 
 -- a clock that is written behind those before it over octets
-pub written_more : (path initial octets : List ℕ) (i : ℕ) → i < length path → octets ≡ path_octets (take i path) ++ drop (8 * i) initial
-    → take (8 * i) octets ++ (big_bytes 8 (get_or path i 0) ++ drop 8 (drop (8 * i) octets)) ≡ path_octets (take (i + 1) path) ++ drop (8 * (i + 1)) initial
+pub written_more : (path initial octets : List ℕ) (i : ℕ) → i < length path
+    → octets ≡ path_octets (take i path) ++ drop (8 * i) initial
+    → take (8 * i) octets ++ (big_bytes 8 (get_or path i 0) ++ drop 8 (drop (8 * i) octets))
+    ≡ path_octets (take (i + 1) path) ++ drop (8 * (i + 1)) initial
 written_more path initial octets i within so_far =
     let front = path_octets (take i path) in
     let clock = big_bytes 8 (get_or path i 0) in
     let behind = drop (8 * (i + 1)) initial in
-    let eights : length front ≡ 8 * i = length-path_octets (take i path) ∙ ap (λ (n : ℕ). 8 * n) (length-take-le i path (omega arith)) in
-    let before : take (8 * i) octets ≡ front = ap (take (8 * i)) so_far ∙ take_at front (drop (8 * i) initial) (8 * i) eights in
-    let after : drop (8 * i) octets ≡ drop (8 * i) initial = ap (drop (8 * i)) so_far ∙ drop_at front (drop (8 * i) initial) (8 * i) eights in
+    let eights : length front ≡ 8 * i =
+    length-path_octets (take i path) ∙ ap (λ (n : ℕ). 8 * n) (length-take-le i path (omega arith)) in
+    let before : take (8 * i) octets ≡ front =
+    ap (take (8 * i)) so_far ∙ take_at front (drop (8 * i) initial) (8 * i) eights in
+    let after : drop (8 * i) octets ≡ drop (8 * i) initial =
+    ap (drop (8 * i)) so_far ∙ drop_at front (drop (8 * i) initial) (8 * i) eights in
     let one_on : 8 * i + 8 ≡ 8 * (i + 1) = omega arith in
-    let rest : drop 8 (drop (8 * i) octets) ≡ behind = ap (drop 8) after ∙ drop-drop 8 (8 * i) initial ∙ ap (λ (n : ℕ). drop n initial) one_on in
-    ap (λ (x : List ℕ). x ++ (clock ++ drop 8 (drop (8 * i) octets))) before ∙ ap (λ (x : List ℕ). front ++ (clock ++ x)) rest
+    let rest : drop 8 (drop (8 * i) octets) ≡ behind =
+    ap (drop 8) after ∙ drop-drop 8 (8 * i) initial ∙ ap (λ (n : ℕ). drop n initial) one_on in
+    ap (λ (x : List ℕ). x ++ (clock ++ drop 8 (drop (8 * i) octets))) before
+    ∙ ap (λ (x : List ℕ). front ++ (clock ++ x)) rest
     ∙ sym (append_assoc front clock behind) ∙ ap (λ (x : List ℕ). x ++ behind) (sym (path_octets-more path i within))
 
 -- ---- looking for a clock
@@ -157,7 +170,8 @@ pub record Looked (octets : List ℕ) (place clock : ℕ) (found : Bool) : Type 
 pub looked_more : (octets : List ℕ) (place clock : ℕ) (found here : Bool) → place < length octets / 8
     → (here ≡ true → field 8 (8 * place) octets ≡ clock) → (here ≡ false → field 8 (8 * place) octets ≢ clock)
     → Looked octets place clock found → Looked octets (place + 1) clock (found || here)
-looked_more octets place clock true here within is isnt looked = record { missed = λ e. absurd cc; held = λ _. looked.held refl }
+looked_more octets place clock true here within is isnt looked =
+    record { missed = λ e. absurd cc; held = λ _. looked.held refl }
 looked_more octets place clock false true within is isnt looked =
     let inside : place < length (clocks octets) = omega (arith, length-clocks octets) in
     record { missed = λ e. absurd cc; held = λ _. (place, inside, get_or-clocks octets place clock within ∙ is refl) }
@@ -171,7 +185,8 @@ looked_more octets place clock false false within is isnt looked = record {
 }
 
 -- the answer after the last place
-pub looked_all : (octets : List ℕ) (place clock : ℕ) (found : Bool) → length octets / 8 ≤ place → Looked octets place clock found
+pub looked_all : (octets : List ℕ) (place clock : ℕ) (found : Bool) → length octets / 8 ≤ place
+    → Looked octets place clock found
     → IsTrue found ↔ Contains (clocks octets) clock
 looked_all octets place clock true past looked = (λ _. looked.held refl, λ _. refl)
 looked_all octets place clock false past looked = (
