@@ -1,9 +1,12 @@
 -- The clocks that octets spell, place by place, and the octets that spell clocks.
-use Rattle.std.proofs.Common.{◌≡◌, ℕ, zero, suc, ◌+◌, ◌*◌, ◌/◌, ◌%◌, ◌^◌, ◌<◌, ◌≤◌, List, [], ◌∷◌, ◌++◌, length, get_or, take, drop, map, Some, None, refl, arith, ◌∙◌, ap, sym, inl, inr}
+use Rattle.std.proofs.Common.{◌≡◌, ◌≢◌, Bool, true, false, ◌||◌, ◌↔◌, IsTrue, Contains}
+use Rattle.std.proofs.Common.{ℕ, zero, suc, ◌+◌, ◌*◌, ◌/◌, ◌%◌, ◌^◌, ◌<◌, ◌≤◌, List, [], ◌∷◌, ◌++◌, length, get_or, take, drop, map, Some, None, refl, arith, ◌∙◌, ap, sym, inl, inr, append_assoc}
 use Rattle.std.specs.Prelude.{slice_get}
 use Rattle.std.specs.List.{range_with_len, AllByRecursion}
 use Rattle.std.proofs.lemmas.Bool.{cases_lt}
-use Rattle.std.proofs.lemmas.List.{take-append-drop, length-take, length-drop, drop-drop, nil_from_length, get_or-drop, get_or-take, get_or_past, take_more}
+use Rattle.std.proofs.lemmas.List.{take-append-drop, length-take, length-drop, drop-drop, nil_from_length, get_or-drop, get_or-take, get_or_past, take_more, take_at, drop_at, length-take-le, append-nil}
+use Rattle.std.proofs.lemmas.Grind.{flat_map-append}
+use Rattle.std.proofs.Math.Seq.{take-add}
 use Rattle.std.proofs.lemmas.List.FromFn.{length-map-range_with_len, get_or-map-range_with_len, fill_by_all}
 use Rattle.std.proofs.lemmas.Nat.{be_bytes_8}
 use Rattle.std.proofs.lemmas.Option.{slice_get-get_or}
@@ -109,6 +112,13 @@ take-clocks octets i within =
     let inside : i < length (clocks octets) = omega (arith, length-clocks octets) in
     take_more (clocks octets) i 0 inside ∙ ap (λ (c : ℕ). take i (clocks octets) ++ c ∷ []) (get_or-clocks octets i 0 within)
 
+-- sixteen clocks more of a path
+pub take-sixteen : (path : List ℕ) (block : ℕ)
+    → take (16 * (block + 1)) path ≡ take (16 * block) path ++ take 16 (drop (16 * block) path)
+take-sixteen path block =
+    let behind : 16 * (block + 1) ≡ 16 * block + 16 = omega arith in
+    rw behind (take-add (16 * block) 16 path)
+
 -- where no clock stands at a place, the path ends before it
 pub ends_before : (path : List ℕ) (i : ℕ) → slice_get path i ≡ None → length path ≤ i
 ends_before path i none =
@@ -116,3 +126,72 @@ ends_before path i none =
       | inl within ↦ absurd (let some = slice_get-get_or path i 0 within in cc)
       | inr past ↦ past
     ]
+
+-- ---- octets that are written in turn
+
+-- the octets of one clock more
+path_octets-more : (path : List ℕ) (i : ℕ) → i < length path
+    → path_octets (take (i + 1) path) ≡ path_octets (take i path) ++ big_bytes 8 (get_or path i 0)
+path_octets-more path i within =
+    ap path_octets (take_more path i 0 within)
+    ∙ flat_map-append (λ c. big_bytes 8 c) (take i path) (get_or path i 0 ∷ [])
+    ∙ ap (λ (x : List ℕ). path_octets (take i path) ++ x) (append-nil (big_bytes 8 (get_or path i 0)))
+
+-- a clock that is written behind those before it over octets
+pub written_more : (path initial octets : List ℕ) (i : ℕ) → i < length path
+    → octets ≡ path_octets (take i path) ++ drop (8 * i) initial
+    → take (8 * i) octets ++ (big_bytes 8 (get_or path i 0) ++ drop 8 (drop (8 * i) octets))
+    ≡ path_octets (take (i + 1) path) ++ drop (8 * (i + 1)) initial
+written_more path initial octets i within so_far =
+    let front = path_octets (take i path) in
+    let clock = big_bytes 8 (get_or path i 0) in
+    let behind = drop (8 * (i + 1)) initial in
+    let eights : length front ≡ 8 * i =
+    length-path_octets (take i path) ∙ ap (λ (n : ℕ). 8 * n) (length-take-le i path (omega arith)) in
+    let before : take (8 * i) octets ≡ front =
+    ap (take (8 * i)) so_far ∙ take_at front (drop (8 * i) initial) (8 * i) eights in
+    let after : drop (8 * i) octets ≡ drop (8 * i) initial =
+    ap (drop (8 * i)) so_far ∙ drop_at front (drop (8 * i) initial) (8 * i) eights in
+    let one_on : 8 * i + 8 ≡ 8 * (i + 1) = omega arith in
+    let rest : drop 8 (drop (8 * i) octets) ≡ behind =
+    ap (drop 8) after ∙ drop-drop 8 (8 * i) initial ∙ ap (λ (n : ℕ). drop n initial) one_on in
+    ap (λ (x : List ℕ). x ++ (clock ++ drop 8 (drop (8 * i) octets))) before
+    ∙ ap (λ (x : List ℕ). front ++ (clock ++ x)) rest
+    ∙ sym (append_assoc front clock behind) ∙ ap (λ (x : List ℕ). x ++ behind) (sym (path_octets-more path i within))
+
+-- ---- looking for a clock
+
+-- whether a clock is among those before a place
+pub record Looked (octets : List ℕ) (place clock : ℕ) (found : Bool) : Type 0 where
+  pub missed : found ≡ false → (k : ℕ) → k < place → field 8 (8 * k) octets ≢ clock
+  pub held : found ≡ true → Contains (clocks octets) clock
+
+-- one place more was looked at
+pub looked_more : (octets : List ℕ) (place clock : ℕ) (found here : Bool) → place < length octets / 8
+    → (here ≡ true → field 8 (8 * place) octets ≡ clock) → (here ≡ false → field 8 (8 * place) octets ≢ clock)
+    → Looked octets place clock found → Looked octets (place + 1) clock (found || here)
+looked_more octets place clock true here within is isnt looked =
+    record { missed = λ e. absurd cc; held = λ _. looked.held refl }
+looked_more octets place clock false true within is isnt looked =
+    let inside : place < length (clocks octets) = omega (arith, length-clocks octets) in
+    record { missed = λ e. absurd cc; held = λ _. (place, inside, get_or-clocks octets place clock within ∙ is refl) }
+looked_more octets place clock false false within is isnt looked = record {
+  missed = λ e k before.
+      elim (cases_lt k place) [
+        | inl lt ↦ looked.missed refl k lt
+        | inr le ↦ let last : k ≡ place = omega arith in rw last (isnt refl)
+      ];
+  held = λ e. absurd cc;
+}
+
+-- the answer after the last place
+pub looked_all : (octets : List ℕ) (place clock : ℕ) (found : Bool) → length octets / 8 ≤ place
+    → Looked octets place clock found
+    → IsTrue found ↔ Contains (clocks octets) clock
+looked_all octets place clock true past looked = (λ _. looked.held refl, λ _. refl)
+looked_all octets place clock false past looked = (
+  λ never. absurd cc,
+  λ found.
+      let within : found.0 < length octets / 8 = omega (arith, length-clocks octets) in
+      absurd (looked.missed refl found.0 (omega arith) (sym (get_or-clocks octets found.0 clock within) ∙ found.2)),
+)

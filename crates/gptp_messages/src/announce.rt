@@ -159,8 +159,18 @@ fn put_clocks(clocks: &[ClockId], out: &mut Vec<u8>)
     requires { vec_len out.old + 8 * length clocks.now ≤ vec_capacity out.old }
     ensures { out.new.items ≡ out.old.items ++ path_octets clocks.now }
 {
-    for clock in clocks {
-        put(out, &clock.octets());
+    let start = out.len();
+    let _ = out.resize(start + 8 * clocks.len(), 0);
+    write_clocks(clocks, &mut out[start..]);
+}
+
+/// Writes the clocks of a path over octets, of which there are eight for each.
+fn write_clocks(clocks: &[ClockId], octets: &mut [u8])
+    requires { length octets.old ≡ 8 * length clocks.now }
+    ensures { octets.new ≡ path_octets clocks.now }
+{
+    for place in 0..clocks.len() {
+        octets[8 * place..8 * place + 8].copy_from_slice(&clocks[place].octets());
     }
 }
 

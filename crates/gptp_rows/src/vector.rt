@@ -211,3 +211,38 @@ fn a_trace_of_256_clocks_is_full(rt: HostRuntime) -> Result<(), Fail> {
     assert_eq!(rt; trace.copy().as_slice(), trace.as_slice());
     Ok(())
 }
+
+#[test]
+fn clocks_are_added_together_where_all_of_them_fit(rt: HostRuntime) -> Result<(), Fail> {
+    let mut clocks = [ClockId::default(); 257];
+    for place in 0..257 {
+        clocks[place] = ClockId::from(place as u64);
+    }
+
+    let mut short = trace(&[7])?;
+    short.extend(&[])?;
+    assert_eq!(rt; short.as_slice(), trace(&[7])?.as_slice());
+    short.extend(&clocks[..2])?;
+    assert_eq!(rt; short.as_slice(), trace(&[7, 0, 1])?.as_slice());
+
+    let refused = Full::Full(ClockId::from(253));
+    assert_eq!(rt; short.extend(&clocks[..254]), Err(refused));
+    assert_eq!(rt; short.extend(&clocks), Err(refused));
+    assert_eq!(rt; short.as_slice(), trace(&[7, 0, 1])?.as_slice());
+    short.extend(&clocks[..253])?;
+    assert_eq!(rt; short.len(), 256);
+
+    let mut whole = Trace::empty();
+    let last = Full::Full(ClockId::from(256));
+    assert_eq!(rt; whole.extend(&clocks), Err(last));
+    assert!(rt; whole.is_empty());
+    whole.extend(&clocks[..256])?;
+    assert_eq!(rt; whole.as_slice(), clocks[..256]);
+    assert_eq!(rt;
+        whole.extend(&clocks[..1]),
+        Err(Full::Full(ClockId::from(0)))
+    );
+    whole.extend(&[])?;
+    assert_eq!(rt; whole.as_slice(), clocks[..256]);
+    Ok(())
+}

@@ -1,6 +1,6 @@
 //! The clocks that an announcement passed.
 
-ghost use Rattle.std.specs.Prelude.{◌≡◌, ◌<◌, ◌≤◌, ◌↔◌, ℕ, [], ◌∷◌, ◌++◌, length, slice_get, Contains, IsTrue, IsOk, IfErr, OnOk, OnErr};
+ghost use Rattle.std.specs.Prelude.{◌≡◌, ◌<◌, ◌≤◌, ◌↔◌, ◌+◌, ◌-◌, ℕ, [], ◌∷◌, ◌++◌, length, slice_get, Contains, IsTrue, IsOk, IfErr, OnOk, OnErr};
 
 use crate::port::ClockId;
 use arrayvec::ArrayVec;
@@ -48,6 +48,8 @@ impl fmt::Display for Full {
 impl Error for Full {}
 
 impl Trace {
+    ghost use Rattle.gptp_vector.specs.Trace.{clock_of};
+
     /// The trace with no clock.
     pub fn empty() -> Self
         ensures { result ≡ [] }
@@ -104,6 +106,23 @@ impl Trace {
         match self.clocks.try_push(clock) {
             Ok(()) => Ok(()),
             Err(_) => Err(Full::Full(clock)),
+        }
+    }
+
+    /// Adds clocks at the end, in their order, all of them or none. Where they don't all fit the trace
+    /// is unchanged, and the first of them that finds no room is inside the [`Full`].
+    pub fn extend(&mut self, clocks: &[ClockId]) -> Result<(), Full>
+        ensures ok { OnOk result (self.new ≡ self.old ++ clocks.now) }
+        ensures room { IsOk result ↔ (length self.old + length clocks.now ≤ 256) }
+        ensures full { IfErr result (λ e. slice_get clocks.now (256 - length self.old) ≡ Some (clock_of e)) }
+        ensures err { OnErr result (self.new ≡ self.old) }
+    {
+        match clocks.get(self.clocks.remaining_capacity()) {
+            Some(clock) => Err(Full::Full(*clock)),
+            None => {
+                let _ = self.clocks.try_extend_from_slice(clocks);
+                Ok(())
+            }
         }
     }
 
