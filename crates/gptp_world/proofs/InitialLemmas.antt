@@ -27,7 +27,7 @@ use Rattle.gptp_world.specs.Directory.{Join, clocks_of, joins_of, start_of, Begi
 use Rattle.gptp_world.specs.Initial.{channel_from, channels_of, initial, setup_of, station_of, stations_of}
 use Rattle.gptp_world.specs.Net.{port_id, IsNet}
 use Rattle.gptp_world.specs.Network.{member, NetworkState, IsEnd, IsNetwork, IsPort, IsWire}
-use Rattle.gptp_world.specs.Sound.{AllFlow, AreApart, AreLinked, Flows, HaveTheirSetups, IsItsSetup, IsSound}
+use Rattle.gptp_world.specs.Sound.{AllFlow, AreApart, AreLinked, Flows, HaveOwnClocks, HaveTheirSetups, IsItsSetup, IsSound, JoinPorts}
 use Rattle.gptp_world.specs.Stage.{clock_at, IsStage}
 use Rattle.gptp_world.specs.World.{Channel, WorldState, queue, sender}
 use Rattle.gptp_world.proofs.ChangeAgreeLemmas.{silent_agrees}
@@ -153,13 +153,47 @@ initial_agrees n = silent_agrees (initial n) (initial_silent n)
     (λ link direction. each_channel n (λ (channel : Channel). queue direction channel ≡ [])
     (λ place w there. idle_queue direction w) link) refl
 
+-- no two systems have one clock
+pub initial_clocks : (n : NetworkState) → IsNetwork n → HaveOwnClocks (initial n)
+initial_clocks n is place other station at here there same =
+    let x = mapped (station_of n.params) n.systems place station here in
+    let y = mapped (station_of n.params) n.systems other at there in
+    let one : clock (station_of n.params x.0).system ≡ clock (station_of n.params y.0).system =
+    ap (λ (s : Station). clock s.system) x.2 ∙ same ∙ sym (ap (λ (s : Station). clock s.system) y.2) in
+    is.clocks place other x.0 y.0 x.1 y.1 one
+
+end_port : (n : NetworkState) (direction : Direction) (w : Wire) (i : ℕ) → IsWire n i w
+    → IsPort n.systems (sender direction (channel_from w))
+end_port n FromA w i is = is.a
+end_port n FromB w i is = is.b
+
+-- a link joins ports that systems have
+pub initial_ports : (n : NetworkState) → IsNetwork n → JoinPorts (initial n)
+initial_ports n is link place direction channel station here there named =
+    let x = mapped channel_from n.links link channel here in
+    let y = mapped (station_of n.params) n.systems place station there in
+    let port = subst (λ c. IsPort n.systems (sender direction c)) x.2 (end_port n direction x.0 link (is.links link x.0 x.1)) in
+    let one : clock_of y.0.identity ≡ clock_of port.system.identity =
+    ap (λ (s : Station). clock s.system) y.2 ∙ named ∙ sym port.clock in
+    let same : place ≡ port.place = is.clocks place port.place y.0 port.system y.1 port.there one in
+    let members : y.0 ≡ port.system =
+    same_Some y.0 port.system (sym y.1 ∙ (ap (slice_get n.systems) same ∙ port.there)) in
+    let count : length station.system.ports ≡ port.system.ports =
+    ap (λ (s : Station). length s.system.ports) (sym y.2) ∙ (ports_counted n y.0 ∙ ap (λ (m : Member). m.ports) members) in
+    let last = port.last in
+    record { least = port.first; most = rw count last }
+
 -- the world of a network is sound before its systems start
 pub initial_sound : (n : NetworkState) → IsNetwork n → IsSound (initial n)
 initial_sound n is = record {
-  setups = initial_setups n is;
-  apart = initial_apart n is;
-  flow = initial_flow n;
-  linked = initial_linked n;
+  wired = record {
+    setups = initial_setups n is;
+    clocks = initial_clocks n is;
+    ports = initial_ports n is;
+    apart = initial_apart n is;
+    flow = initial_flow n;
+    linked = initial_linked n;
+  };
   on_time = initial_on_time n is;
   agrees = initial_agrees n;
 }

@@ -43,3 +43,4 @@ pub mod DueByLemmas
 pub mod AheadLemmas
 pub mod OnTimeLemmas
 pub mod ChangeOnTimeLemmas
+pub mod SoundLemmas
