@@ -44,3 +44,4 @@ pub mod AheadLemmas
 pub mod OnTimeLemmas
 pub mod ChangeOnTimeLemmas
 pub mod SoundLemmas
+pub mod SceneLemmas

@@ -20,6 +20,7 @@ pub mod Params
 pub mod Pending
 pub mod Room
 pub mod Sends
+pub mod Scene
 pub mod SettlingTime
 pub mod Sound
 pub mod Stage

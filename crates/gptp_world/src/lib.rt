@@ -31,6 +31,7 @@ mod octets;
 mod params;
 mod pending;
 mod room;
+mod scene;
 mod sending;
 mod stage;
 mod starting;

@@ -1,0 +1,74 @@
+//! A world without its fate.
+
+ghost use Rattle.std.specs.Prelude.{◌≡◌, ◌<◌, length, OnOk};
+ghost use Rattle.gptp_world.specs.Starting.{Started};
+ghost use Rattle.gptp_world.specs.Scene.{IsScene, SystemsStarted};
+
+use crate::network::Network;
+use crate::stage::Stage;
+use gptp_links::Fate;
+use std::alloc::{AllocError, Global};
+use std::marker::Model;
+
+/// A world without its fate: its systems, and what is between them.
+#[derive(Drop)]
+pub(crate) struct Scene {
+    stage: Stage,
+}
+
+impl Model for Scene {
+    ghost use Rattle.gptp_world.specs.World.{WorldState};
+
+    ghost Value = { WorldState };
+
+    ghost use Rattle.gptp_world.specs.Stage.{world_of};
+    ghost use Rattle.gptp_world.specs.Scene.{IsScene};
+
+    ghost view = { λ s. world_of s.stage };
+
+    ghost invariant = { λ s. IsScene s.stage };
+}
+
+/// The system at a place starts, once room is made for it. Refused where there is no memory for that.
+fn start_next<F: Fate>(stage: &mut Stage, place: usize, fate: &mut F) -> Result<(), AllocError>
+    requires scene { IsScene stage.old }
+    requires place { place < length stage.old.stations.items }
+    ensures scene { OnOk result (IsScene stage.new) }
+    ensures count { OnOk result (length stage.new.stations.items ≡ length stage.old.stations.items) }
+    ensures started { OnOk result (Started F.answers place fate.old fate.new stage.old stage.new) }
+{
+    stage.make_room_to_start(place)?;
+    stage.start(place, fate);
+    Ok(())
+}
+
+/// All systems start, in their order. Refused where there is no memory for that.
+fn start_all<F: Fate>(stage: &mut Stage, fate: &mut F) -> Result<(), AllocError>
+    requires { IsScene stage.old }
+    ensures scene { OnOk result (IsScene stage.new) }
+    ensures started { OnOk result (SystemsStarted F.answers (length stage.old.stations.items) fate.old fate.new stage.old stage.new) }
+{
+    for place in 0..stage.stations.len() {
+        start_next(stage, place, fate)?;
+    }
+    Ok(())
+}
+
+impl Scene {
+    ghost use Rattle.std.specs.Prelude.{IfOk};
+    ghost use Rattle.gptp_world.specs.Scene.{Begun};
+
+    /// The world of a network at time 0, whose systems have all started, in their order. Refused for want of memory alone.
+    pub(crate) fn new<F: Fate>(
+        alloc: Global,
+        network: &Network,
+        fate: &mut F,
+    ) -> Result<Self, AllocError>
+        ensures { IfOk result (Begun F.answers network.now fate.old fate.new) }
+    {
+        network.well_formed();
+        let mut stage = Stage::found(alloc, network)?;
+        start_all(&mut stage, fate)?;
+        Ok(Scene { stage })
+    }
+}
