@@ -1,11 +1,9 @@
 //! What holds for every message: the tests of its header and its timestamp, what is ignored, and room.
 
-use crate::announces::FIRST_ANNOUNCE;
 use crate::frames::{lengthened, spoiled, written_again};
-use crate::link_messages::{REQUEST, RESPONSE, RESPONSE_FOLLOW_UP};
 use crate::messages::with_clocks_below;
-use crate::sync_messages::{FOLLOW_UP, SYNC};
 use gptp_messages::{Refused, decode};
+use gptp_samples::{FIRST_ANNOUNCE, FOLLOW_UP, REQUEST, RESPONSE, RESPONSE_FOLLOW_UP, SYNC};
 use std::alloc::{AllocError, Global};
 use std::process::Abort;
 use std::test::Fail;

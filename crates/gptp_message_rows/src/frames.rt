@@ -1,6 +1,6 @@
 //! Frames with other octets, and what they are written as again.
 
-use gptp_messages::{Message, decode, encode};
+use gptp_messages::{AnnounceView, Message, decode, encode};
 use std::alloc::{AllocError, Global};
 use std::process::Abort;
 use std::test::Fail;
@@ -58,4 +58,12 @@ pub fn written(
     let mut text = Vec::new(alloc);
     encode(message, &mut text)?;
     Ok(text)
+}
+
+/// The Announce that a frame reads as.
+pub fn read<'a>(rt: &impl Abort, frame: &'a [u8]) -> AnnounceView<'a> {
+    let Ok(Message::Announce(announce)) = decode(frame) else {
+        panic!(rt; "no Announce");
+    };
+    announce
 }

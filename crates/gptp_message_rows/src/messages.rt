@@ -1,8 +1,8 @@
 //! Announce messages read, refused and written.
 
-use crate::announces::{FIRST_ANNOUNCE, body, frame, head, identity, port, read, trace};
-use crate::frames::{lengthened, spoiled, written_again};
+use crate::frames::{lengthened, read, spoiled, written_again};
 use gptp_messages::{PathView, Refused, decode, encode_announce, what_is_written_reads_back};
+use gptp_samples::{FIRST_ANNOUNCE, body, frame, head, identity, port, trace};
 use gptp_vector::{ClockId, Full, Identity, Trace};
 use std::alloc::Global;
 use std::process::Abort;

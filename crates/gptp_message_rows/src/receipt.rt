@@ -1,7 +1,8 @@
 //! What the port 1 of clock 9 makes of the Announces that it hears.
 
-use crate::announces::{FIRST_ANNOUNCE, frame, identity, port, read, trace};
+use crate::frames::read;
 use gptp_receipt::{Heard, Held, Why, age, due, hear, qualify};
+use gptp_samples::{FIRST_ANNOUNCE, frame, identity, port, trace};
 use gptp_vector::{ClockId, Full, Identity, PortId, Trace, Vector};
 use std::process::Abort;
 use std::test::Fail;

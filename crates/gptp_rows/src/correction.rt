@@ -1,9 +1,9 @@
 //! What a Sync and its Follow_Up say together, what a bridge sends on and what a slave reads, in units of
 //! 2^-16 ns. Expected numbers were worked out apart from the code.
 
-use crate::announces::{head, port};
 use gptp_correction::{Hop, SyncIn, SyncInfo, carry, laws, receipt_time, relay};
 use gptp_messages::{FollowUp, Head, Message, encode};
+use gptp_samples::{head, port};
 use gptp_scaled::{Interval, OutOfRange, Rate, ScaledNs, Stamp};
 use gptp_vector::PortId;
 use std::test::*;

@@ -1,8 +1,8 @@
 //! What port 1 of clock 1 measures with port 1 of clock 2. Times are in units of 2^-16 ns.
 
-use crate::announces::{head, port};
 use gptp_messages::{Head, PdelayResp, PdelayRespFollowUp};
 use gptp_pdelay::{Answer, Peer, Step, laws};
+use gptp_samples::{head, port};
 use gptp_scaled::{ScaledNs, Stamp};
 use gptp_vector::PortId;
 use std::process::Abort;

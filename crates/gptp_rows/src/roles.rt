@@ -5,11 +5,11 @@ ghost use Rattle.std.specs.Option.{ForSome};
 ghost use Rattle.gptp_receipt.specs.Held.{received};
 ghost use Rattle.gptp_roles.specs.Choice.{IsPlaced};
 
-use crate::announces::{identity, port};
 use gptp_receipt::Held;
 use gptp_roles::{
     Role, chosen_vector_is_one, one_slave_port, select, selection_is_at_rest, trace_of,
 };
+use gptp_samples::{identity, port};
 use gptp_vector::{ClockId, Identity, Trace, Vector};
 use std::process::Abort;
 use std::test::Fail;

@@ -1,6 +1,6 @@
 //! Clocks, ports, identities, traces and the order of priority vectors.
 
-use crate::announces::{identity, port, trace};
+use gptp_samples::{identity, port, trace};
 use gptp_vector::{
     ClockId, Full, Identity, PortId, TRACE_CAPACITY, Trace, Vector, equal_vectors_are_one,
     vector_order_is_total,
@@ -237,12 +237,12 @@ fn clocks_are_added_together_where_all_of_them_fit(rt: HostRuntime) -> Result<()
     assert_eq!(rt; whole.extend(&clocks), Err(last));
     assert!(rt; whole.is_empty());
     whole.extend(&clocks[..256])?;
-    assert_eq!(rt; whole.as_slice(), clocks[..256]);
+    assert_eq!(rt; whole.as_slice(), &clocks[..256]);
     assert_eq!(rt;
         whole.extend(&clocks[..1]),
         Err(Full::Full(ClockId::from(0)))
     );
     whole.extend(&[])?;
-    assert_eq!(rt; whole.as_slice(), clocks[..256]);
+    assert_eq!(rt; whole.as_slice(), &clocks[..256]);
     Ok(())
 }

@@ -1,9 +1,8 @@
-//! Announce frames that several tests read.
+//! An Announce with all defaults, and what it is made of.
 
-use gptp_messages::{AnnounceBody, AnnounceView, Head, Message, decode, encode_announce};
+use gptp_messages::{AnnounceBody, Head, encode_announce};
 use gptp_vector::{ClockId, Full, Identity, PortId, Trace};
 use std::alloc::{AllocError, Global};
-use std::process::Abort;
 
 /// The first Announce of clock 1 at its port 1, with itself as the root and all defaults: common
 /// header, fixed part and path trace.
@@ -79,12 +78,4 @@ pub fn frame(
     let mut frame = Vec::new(alloc);
     encode_announce(&head(source), &body(root, steps), path, &mut frame)?;
     Ok(frame)
-}
-
-/// The Announce that a frame reads as.
-pub fn read<'a>(rt: &impl Abort, frame: &'a [u8]) -> AnnounceView<'a> {
-    let Ok(Message::Announce(announce)) = decode(frame) else {
-        panic!(rt; "no Announce");
-    };
-    announce
 }

@@ -3,8 +3,8 @@
 ghost use Rattle.std.specs.Prelude.{◌≡◌, [], true};
 ghost use Rattle.gptp_system.specs.Steps.{IsPortOf, IsTimerOf};
 
-use crate::announces::identity;
 use gptp_messages::{FollowUp, Message, PdelayResp, PdelayRespFollowUp, encode, encode_announce};
+use gptp_samples::identity;
 use gptp_system::{Answer, Body, Outbox, Params, Sending, Setup, System, Timer};
 use std::alloc::{AllocError, Global};
 use std::process::Abort;

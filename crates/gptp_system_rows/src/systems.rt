@@ -1,16 +1,16 @@
 //! What a system makes of frames, timers and changes, and what two or three of them make of each other. Times are in ns.
 
-use crate::announces::{FIRST_ANNOUNCE, identity, port};
 use crate::bench::Step::{Down, Expire, Hear, Priority, Up};
 use crate::bench::{
     ANNOUNCES, ANSWERS, ASKS, Bench, End, NOTHING, Row, TELLS_TIME, due, has_port, hear, octets_of,
     play, started,
 };
-use crate::link_messages::{REQUEST, RESPONSE, RESPONSE_FOLLOW_UP};
 use crate::said::{SILENT, Said, all_of, measured, says, value};
-use crate::sync_messages::{FOLLOW_UP, SYNC};
 use gptp_messages::{Head, Refused};
 use gptp_roles::Role;
+use gptp_samples::{
+    FIRST_ANNOUNCE, FOLLOW_UP, REQUEST, RESPONSE, RESPONSE_FOLLOW_UP, SYNC, identity, port,
+};
 use gptp_scaled::{Rate, Stamp};
 use gptp_system::Answer::{Inferior, Repeated, Superior, Used};
 use gptp_system::Timer::{Pdelay, Respond};
