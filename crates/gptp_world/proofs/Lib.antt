@@ -17,6 +17,8 @@ pub mod RoomLemmas
 pub mod StageLemmas
 pub mod TellingLemmas
 pub mod StartingLemmas
+pub mod UpLemmas
+pub mod ComingUpLemmas
 pub mod FiledLemmas
 pub mod NextLemmas
 pub mod PendingLemmas

@@ -18,11 +18,12 @@ use Rattle.gptp_world.specs.Cable.{channel_of, join_of, HasRoomOn}
 use Rattle.gptp_world.specs.Directory.{BeginsAt, IsDirectory, Join}
 use Rattle.gptp_world.specs.Net.{port_id, IsNet}
 use Rattle.gptp_world.specs.Pending.{PendingState, arrival_room, HasArrivalRoom, KeepsArrivalRoom}
-use Rattle.gptp_world.specs.Room.{both, for_call, repeated, HasRoomAtPorts, HasRoomBothWays, HasRoomFrom, KeepsRoomOn, Need, OnlyRoom}
+use Rattle.gptp_world.specs.Room.{both, for_call, for_timers, repeated, HasRoomAtPorts, HasRoomBothWays, HasRoomFrom, KeepsRoomOn, Need, OnlyRoom}
 use Rattle.gptp_world.specs.Stage.{clock_at, HasRoomToCall, HasRoomToCallBoth, IsStage}
+use Rattle.gptp_world.specs.Starting.{for_start, HasRoomToStart}
 use Rattle.gptp_world.specs.World.{Channel, Net}
-use Rattle.gptp_world.proofs.NeedLemmas.{covered, repeated-covered}
-use Rattle.gptp_world.proofs.NetLemmas.{from_map, known_cable}
+use Rattle.gptp_world.proofs.NeedLemmas.{covered, repeated-covered, Covers}
+use Rattle.gptp_world.proofs.NetLemmas.{known_cable}
 use Rattle.gptp_world.proofs.PlaceLemmas.{get-map, get-set_same, get-set_other, same_place}
 
 -- ---- one link
@@ -209,6 +210,28 @@ times calls number port = by (port.clock == number) refl
     by true test = rw test (omega arith)
     by false test = rw test (omega arith)
 
+-- calls of a system need no more than this
+abbrev for_calls : ℕ → Station → Need
+for_calls calls station = record {
+  entries = calls * (6 * length station.system.ports + 2);
+  buffers = calls * (2 * length station.system.ports);
+  frames = most_from (2 * calls) (clock station.system);
+}
+
+calls_covered : (calls : ℕ) (station : Station) → Covers (for_calls calls station) (repeated calls (for_call station.system))
+calls_covered calls station =
+    repeated-covered calls (for_call station.system) (for_calls calls station) (omega arith) (omega arith)
+    (times calls (clock station.system))
+
+-- so many timers are set as well
+with_timers : (timers : ℕ) (large small : Need) → Covers large small
+    → Covers (record large { entries = timers + large.entries }) (both (for_timers timers) small)
+with_timers timers large small covers = record {
+  entries = let e = covers.entries in omega (arith, e);
+  buffers = let e = covers.buffers in omega (arith, e);
+  frames = λ port. let e = covers.frames port in omega (arith, e);
+}
+
 -- there is room for calls of a system whose ports all have it
 pub room_to_call : (stage : Stage) (calls place : ℕ) (station : Station) → IsStage stage → slice_get stage.stations.items place ≡ Some station
     → calls * (6 * length station.system.ports + 2) ≤ stage.net.pending.room → calls * (2 * length station.system.ports) ≤ stage.net.buffers.ready
@@ -216,16 +239,23 @@ pub room_to_call : (stage : Stage) (calls place : ℕ) (station : Station) → I
 room_to_call stage calls place station is here entries buffers has = record {
   station = station;
   here = here;
-  room = covered all (repeated calls (for_call station.system)) stage.net
-      (repeated-covered calls (for_call station.system) all (omega arith) (omega arith) (times calls (clock station.system)))
+  room = covered (for_calls calls station) (repeated calls (for_call station.system)) stage.net (calls_covered calls station)
       (record { entries = entries; buffers = buffers; lanes = frames_from stage (2 * calls) place station is here has });
 }
-  where
-    all : Need
-    all = record {
-      entries = calls * (6 * length station.system.ports + 2);
-      buffers = calls * (2 * length station.system.ports);
-      frames = most_from (2 * calls) (clock station.system);
+
+-- and for a start
+pub room_to_start : (stage : Stage) (place : ℕ) (station : Station) → IsStage stage → slice_get stage.stations.items place ≡ Some station
+    → 4 * length station.system.ports + 2 + length station.system.ports * (6 * length station.system.ports + 2) ≤ stage.net.pending.room
+    → length station.system.ports * (2 * length station.system.ports) ≤ stage.net.buffers.ready
+    → HasRoomAtPorts (2 * length station.system.ports) place (length station.system.ports) stage.net → HasRoomToStart place stage
+room_to_start stage place station is here entries buffers has =
+    let count = length station.system.ports in let timers = 4 * count + 2 in let calls = for_calls count station in
+    record {
+      station = station;
+      here = here;
+      room = covered (record calls { entries = timers + calls.entries }) (for_start station.system) stage.net
+          (with_timers timers calls (repeated count (for_call station.system)) (calls_covered count station))
+          (record { entries = entries; buffers = buffers; lanes = frames_from stage (2 * count) place station is here has });
     }
 
 -- systems at two places have two clocks

@@ -1,6 +1,5 @@
 -- How a call of a system is carried out.
-use Rattle.std.proofs.Common.{◌≡◌, ◌≢◌, ◌⊎◌, ℕ, ◌+◌, ◌*◌, ◌≤◌, ◌==◌, if◌then◌else◌, Bool, true, false, List, [], ◌∷◌, length, map, Option, Some, slice_get, slice_set, slice_index_or, refl, ap, subst, sym, ◌∙◌, inl, inr, arith}
-use Rattle.std.specs.Bool.{⊤}
+use Rattle.std.proofs.Common.{◌≡◌, ◌≢◌, ◌⊎◌, ℕ, ◌*◌, ◌≤◌, ◌==◌, if◌then◌else◌, Bool, true, false, List, [], ◌∷◌, length, map, Option, Some, slice_get, slice_set, slice_index_or, refl, ap, subst, sym, ◌∙◌, inl, inr, arith}
 use Rattle.std.proofs.lemmas.Option.{same_Some}
 use Rattle.std.proofs.lemmas.List.{length-set}
 use Rattle.gptp_links.specs.declared.bounds.Bounds.{Bounds}
@@ -20,11 +19,11 @@ use Rattle.gptp_world.specs.Act.{set_timers, all_timers, in_state}
 use Rattle.gptp_world.specs.Cable.{SentAll}
 use Rattle.gptp_world.specs.Directory.{BeginsAt}
 use Rattle.gptp_world.specs.Net.{between, port_id, IsNet, OnlyEntries}
-use Rattle.gptp_world.specs.Room.{both, for_call, for_sends, nothing, repeated, sends_from, HasRoom, Uses}
+use Rattle.gptp_world.specs.Room.{both, for_call, nothing, repeated, sends_from, HasRoom, Uses}
 use Rattle.gptp_system.specs.Reach.{may_select, reach, timer_reach}
 use Rattle.gptp_system.specs.declared.timer.Timer.{Timer}
 use Rattle.gptp_system.specs.declared.timer.Timer.TheVariants as timers
-use Rattle.gptp_system.specs.Steps.{IsPortOf, IsTimerOf}
+use Rattle.gptp_system.specs.Steps.{IsTimerOf}
 use Rattle.gptp_system.proofs.FactLemmas.{keeps_length}
 use Rattle.gptp_system.proofs.ReachLemmas.{steps_reach}
 use Rattle.gptp_system.proofs.StepLemmas.{steps_sound}

@@ -1,15 +1,18 @@
 -- Systems of the code's world that start, fail, or get another priority1.
-use Rattle.std.specs.Prelude.{◌≡◌, ◌≤◌, ◌<◌, ◌+◌, ◌*◌, ℕ, List, Option, Some, length, slice_get, slice_set}
+use Rattle.std.specs.Prelude.{◌≡◌, ◌≤◌, ◌<◌, ◌+◌, ◌*◌, ℕ, List, Option, Some, length, map, slice_get, slice_set}
+use Rattle.std.specs.List.{filter}
 use Rattle.gptp_links.specs.declared.bounds.Bounds.{Bounds}
 use Rattle.gptp_links.specs.Fate.{Draw, Draws}
-use Rattle.gptp_system.specs.Input.{Priority}
-use Rattle.gptp_system.specs.State.{SystemState}
+use Rattle.gptp_system.specs.Input.{PortUp, Priority}
+use Rattle.gptp_system.specs.Intervals.{AreParams}
+use Rattle.gptp_system.specs.State.{SystemState, clock}
 use Rattle.gptp_world.specs.declared.stage.Stage.{Stage}
 use Rattle.gptp_world.specs.declared.station.Station.{Station}
 use Rattle.gptp_world.specs.Act.{all_timers}
-use Rattle.gptp_world.specs.Changing.{with_setup, with_station, CallsIfLive}
+use Rattle.gptp_world.specs.Changing.{is_up_at, with_setup, with_station, CallsAll, CallsIfLive, Starts}
 use Rattle.gptp_world.specs.Net.{between, OnlyEntries}
-use Rattle.gptp_world.specs.Room.{for_timers, HasRoom, Need}
+use Rattle.gptp_world.specs.Room.{both, for_call, for_timers, repeated, HasRoom, Need}
+use Rattle.gptp_world.specs.Sound.{IsItsSetup}
 use Rattle.gptp_world.specs.Stage.{world_of}
 
 -- ---- one stands for the system at a place
@@ -56,7 +59,8 @@ pub record HasSetTimers (place : ℕ) (stage stage_after : Stage) : Type 0 where
 -- ---- another priority1
 
 -- The system at a place has another priority1 from now on, and where it is live it was told.
-pub record Prioritized {F : Type 0} (answers : Bounds → ℕ → F → Option ℕ → F → Type 0) (place value : ℕ) (fate fate_after : F)
+pub record Prioritized {F : Type 0} (answers : Bounds → ℕ → F → Option ℕ → F → Type 0) (place value : ℕ)
+    (fate fate_after : F)
     (stage stage_after : Stage) : Type 0 where
   pub station : Station
   pub here : slice_get stage.stations.items place ≡ Some station
@@ -64,3 +68,47 @@ pub record Prioritized {F : Type 0} (answers : Bounds → ℕ → F → Option �
   pub drawn : Draws answers fate draws fate_after
   pub calls : CallsIfLive place (Priority value) (with_station place (with_setup value station) (world_of stage)) draws
       (world_of stage_after)
+
+-- ---- a start
+
+-- what the system at a place starts with keeps the limits, and is its own
+pub record CanStart (place : ℕ) (stage : Stage) : Type 0 where
+  pub station : Station
+  pub here : slice_get stage.stations.items place ≡ Some station
+  pub setup : IsItsSetup station
+  pub params : AreParams station.setup.params
+
+-- Of these ports of the system at a place each comes up whose link is up, one after another.
+pub record CameUp {F : Type 0} (answers : Bounds → ℕ → F → Option ℕ → F → Type 0) (place : ℕ) (ports : List ℕ)
+    (fate fate_after : F)
+    (stage stage_after : Stage) : Type 0 where
+  pub station : Station
+  pub here : slice_get stage.stations.items place ≡ Some station
+  pub draws : List Draw
+  pub drawn : Draws answers fate draws fate_after
+  pub calls : CallsAll place
+      (map PortUp (filter (λ p. is_up_at (world_of stage).net.channels (clock station.system) p) ports))
+      (world_of stage) draws (world_of stage_after)
+
+-- there is room for one call of the system at a place for each of its ports
+pub record HasRoomForPorts (place : ℕ) (stage : Stage) : Type 0 where
+  pub station : Station
+  pub here : slice_get stage.stations.items place ≡ Some station
+  pub room : HasRoom (repeated (length station.system.ports) (for_call station.system)) stage.net
+
+-- a start: all timers are set, and then each port may come up
+abbrev pub for_start : SystemState → Need
+for_start s = both (for_all_timers s) (repeated (length s.ports) (for_call s))
+
+-- there is room for a start of the system at a place
+pub record HasRoomToStart (place : ℕ) (stage : Stage) : Type 0 where
+  pub station : Station
+  pub here : slice_get stage.stations.items place ≡ Some station
+  pub room : HasRoom (for_start station.system) stage.net
+
+-- the system at a place has started
+pub record Started {F : Type 0} (answers : Bounds → ℕ → F → Option ℕ → F → Type 0) (place : ℕ) (fate fate_after : F)
+    (stage stage_after : Stage) : Type 0 where
+  pub draws : List Draw
+  pub drawn : Draws answers fate draws fate_after
+  pub starts : Starts place (world_of stage) draws (world_of stage_after)

@@ -28,7 +28,7 @@ impl Net {
     ghost use Rattle.gptp_world.specs.Room.{for_sends, HasRoom, Uses};
 
     /// The lane that begins at a port of the system at a place, where that link is up.
-    fn up_lane(&self, place: usize, port: u8) -> Option<Lane>
+    pub(crate) fn up_lane(&self, place: usize, port: u8) -> Option<Lane>
         requires net { IsNet self.now }
         requires place { place < length self.now.directory.clocks }
         ensures some { (clock : ℕ) → slice_get self.now.directory.clocks place ≡ Some clock → IfSome result (IsUpLane self.now (port_id clock port)) }

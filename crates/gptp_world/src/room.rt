@@ -93,6 +93,7 @@ impl Net {
 impl Stage {
     ghost use Rattle.std.specs.Prelude.{◌≡◌, ◌≢◌, ◌≤◌, ◌<◌, length, OnOk};
     ghost use Rattle.gptp_world.specs.Stage.{world_of, HasRoomToCall, HasRoomToCallBoth, IsStage};
+    ghost use Rattle.gptp_world.specs.Starting.{HasRoomToStart};
 
     /// Makes room for whatever so many calls of the system at a place, one after another, can leave: each of its timers, and
     /// two frames at each port. Refused where there is no memory for it. The state of the world doesn't change.
@@ -109,6 +110,21 @@ impl Stage {
         self.net
             .reserve(calls * (6 * count + 2), calls * (2 * count))?;
         self.net.make_room_at_ports(place, ports, 2 * calls)
+    }
+
+    /// Makes room for a start of the system at a place: each of its timers, and a call for each of its ports. Refused where
+    /// there is no memory for it. The state of the world doesn't change.
+    pub(crate) fn make_room_to_start(&mut self, place: usize) -> Result<(), AllocError>
+        requires stage { IsStage self.old }
+        requires place { place < length self.old.stations.items }
+        ensures stage { IsStage self.new }
+        ensures world { world_of self.new ≡ world_of self.old }
+        ensures room { OnOk result (HasRoomToStart place self.new) }
+    {
+        let ports = self.stations[place].system.ports();
+        let count = usize::from(ports);
+        self.net.reserve(4 * count + 2 + count * (6 * count + 2), count * (2 * count))?;
+        self.net.make_room_at_ports(place, ports, 2 * count)
     }
 
     /// Makes room for one call of each of two systems. Refused where there is no memory for it. The state of the world

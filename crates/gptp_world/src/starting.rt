@@ -2,13 +2,15 @@
 
 use crate::stage::Stage;
 use gptp_links::Fate;
+use gptp_system::System;
 
 impl Stage {
-    ghost use Rattle.std.specs.Prelude.{◌≡◌, ◌<◌, Some, false, length, slice_get};
+    ghost use Rattle.std.specs.Prelude.{◌≡◌, ◌≤◌, ◌<◌, ◌^◌, [], ◌∷◌, Some, false, length, slice_get};
+    ghost use Rattle.std.specs.List.{range_with_len};
     ghost use Rattle.gptp_world.specs.declared.station.Station.{Station};
-    ghost use Rattle.gptp_world.specs.Changing.{failed, with_setup};
-    ghost use Rattle.gptp_world.specs.Stage.{world_of, HasRoomToCall, IsStage};
-    ghost use Rattle.gptp_world.specs.Starting.{CanSetTimers, HasRoomForTimers, HasSetTimers, Prioritized, Replaces};
+    ghost use Rattle.gptp_world.specs.Changing.{failed, fresh, with_setup};
+    ghost use Rattle.gptp_world.specs.Stage.{world_of, CallUses, HasRoomToCall, IsLiveAt, IsPortAt, IsStage};
+    ghost use Rattle.gptp_world.specs.Starting.{CameUp, CanSetTimers, CanStart, HasRoomForPorts, HasRoomForTimers, HasRoomToStart, HasSetTimers, Prioritized, Replaces, Started};
 
     /// What is pending of the timers of the system at a place follows from its state.
     fn set_timers(&mut self, place: usize)
@@ -17,6 +19,64 @@ impl Stage {
     {
         let station = &self.stations[place];
         self.net.set_timers(place, station);
+    }
+
+    /// A port of the live system at a place comes up where its link is up.
+    fn port_up_if_linked<F: Fate>(&mut self, place: usize, port: u8, fate: &mut F)
+        requires stage { IsStage self.old }
+        requires live { IsLiveAt place self.old }
+        requires port { IsPortAt place port self.old }
+        requires room { HasRoomToCall 1 place self.old }
+        ensures stage { IsStage self.new }
+        ensures uses { CallUses place self.old self.new.net }
+        ensures came { CameUp F.answers place (port ∷ []) fate.old fate.new self.old self.new }
+    {
+        if self.net.up_lane(place, port).is_some() {
+            self.port_up(place, port, fate);
+        }
+    }
+
+    /// The ports of the live system at a place come up, by rising number, each whose link is up.
+    fn bring_ports_up<F: Fate>(&mut self, place: usize, fate: &mut F)
+        requires stage { IsStage self.old }
+        requires live { IsLiveAt place self.old }
+        requires room { HasRoomForPorts place self.old }
+        ensures stage { IsStage self.new }
+        ensures came { (station : Station) → slice_get self.old.stations.items place ≡ Some station
+            → CameUp F.answers place (range_with_len 1 (length station.system.ports)) fate.old fate.new self.old self.new }
+    {
+        let ports = self.stations[place].system.ports();
+        let mut port = 0;
+        while port < ports {
+            port += 1;
+            self.port_up_if_linked(place, port, fate);
+        }
+    }
+
+    /// The system at a place is new, and live.
+    fn renew(&mut self, place: usize)
+        requires can { CanStart place self.old }
+        requires moment { self.old.now ≤ 10 ^ 15 }
+        ensures { (station : Station) → slice_get self.old.stations.items place ≡ Some station
+            → Replaces place (fresh self.old.now station) self.old self.new }
+    {
+        let now = self.now;
+        let station = &mut self.stations[place];
+        station.system = System::new(station.setup, now);
+        station.live = true;
+    }
+
+    /// The system at a place starts: new, with its Sync timer, and then its ports come up, each whose link is up.
+    pub(crate) fn start<F: Fate>(&mut self, place: usize, fate: &mut F)
+        requires stage { IsStage self.old }
+        requires can { CanStart place self.old }
+        requires room { HasRoomToStart place self.old }
+        ensures stage { IsStage self.new }
+        ensures started { Started F.answers place fate.old fate.new self.old self.new }
+    {
+        self.renew(place);
+        self.set_timers(place);
+        self.bring_ports_up(place, fate);
     }
 
     /// The system at a place isn't live any more.

@@ -1,5 +1,4 @@
-use Rattle.std.proofs.Common.{◌≡◌, false, Some, slice_get, refl, ap, sym, ◌∙◌}
-use Rattle.std.proofs.lemmas.Option.{same_Some}
+use Rattle.std.proofs.Common.{false, refl}
 use Rattle.gptp_world.specs.declared.station.Station.{Station}
 use Rattle.gptp_world.specs.Room.{HasRoom}
 use Rattle.gptp_world.specs.Starting.{for_all_timers}
@@ -13,7 +12,8 @@ set_timers-requires c =
     let new : Station = record old { live = false } in
     let by = c.silence.ensures old here in let net = by.net in
     let room : HasRoom (for_all_timers new.system) left.net = rw net c.requires.room.room in
-    can_set_timers left c.args.place new (replaced_stage stage left c.args.place old new c.requires.stage here refl refl by)
+    can_set_timers left c.args.place new (replaced_stage stage left c.args.place old new c.requires.stage here refl refl
+    by)
     (stands_there stage left c.args.place old new here by) room
 
 pub returns-clause-stage : goal.returns-clause-stage
@@ -22,10 +22,12 @@ returns-clause-stage c =
     let old = c.requires.room.station in let here = c.requires.room.here in
     let new : Station = record old { live = false } in
     timers_stage left c.set_timers.new.self c.args.place
-    (replaced_stage stage left c.args.place old new c.requires.stage here refl refl (c.silence.ensures old here)) c.set_timers.ensures
+    (replaced_stage stage left c.args.place old new c.requires.stage here refl refl (c.silence.ensures old here))
+    c.set_timers.ensures
 
 pub returns-clause-failed : goal.returns-clause-failed
 returns-clause-failed c = λ station here.
     let new : Station = record station { live = false } in
-    replaced_world c.args.self.now c.silence.new.self c.set_timers.new.self c.args.place station new here (c.silence.ensures station here)
+    replaced_world c.args.self.now c.silence.new.self c.set_timers.new.self c.args.place station new here
+    (c.silence.ensures station here)
     c.set_timers.ensures

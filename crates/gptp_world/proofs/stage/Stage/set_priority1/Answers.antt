@@ -1,4 +1,4 @@
-use Rattle.std.proofs.Common.{◌≡◌, true, false, Some, refl, ap, sym, ◌∙◌}
+use Rattle.std.proofs.Common.{◌≡◌, false, refl, ap, sym, ◌∙◌}
 use Rattle.std.proofs.lemmas.Option.{slice_get_within}
 use Rattle.gptp_world.specs.declared.station.Station.{Station}
 use Rattle.gptp_world.specs.Changing.{with_setup}
@@ -35,7 +35,8 @@ set_priority-requires-clause-room g c =
 pub returns-then-index-clause-prioritized : goal.returns-then-index-clause-prioritized
 returns-then-index-clause-prioritized g c =
     let old = c.requires.room.station in let here = c.requires.room.here in
-    told g.F.Fate.answers c.args.fate.now c.set_priority.new.fate c.args.self.now c.prepare_priority1.new.self c.set_priority.new.self
+    told g.F.Fate.answers c.args.fate.now c.set_priority.new.fate c.args.self.now c.prepare_priority1.new.self
+    c.set_priority.new.self
     c.args.place c.args.value old here (c.prepare_priority1.ensures old here) c.set_priority.ensures.called
 
 pub returns-else-index-clause-stage : goal.returns-else-index-clause-stage
@@ -51,5 +52,6 @@ returns-else-index-clause-prioritized g c =
     let there = stands_there c.args.self.now left c.args.place old new here (c.prepare_priority1.ensures old here) in
     let is : c.index.result.now ≡ new = c.index.ensures ∙ read left.stations.items c.args.place new _ there in
     let failed : new.live ≡ false = ap (λ (s : Station). s.live) (sym is) ∙ c.if-index.false in
-    untold g.F.Fate.answers c.args.fate.now c.args.self.now left c.args.place c.args.value old here (c.prepare_priority1.ensures old here)
+    untold g.F.Fate.answers c.args.fate.now c.args.self.now left c.args.place c.args.value old here
+    (c.prepare_priority1.ensures old here)
     failed
