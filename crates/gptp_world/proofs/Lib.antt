@@ -17,6 +17,7 @@ pub mod RoomLemmas
 pub mod StageLemmas
 pub mod TellingLemmas
 pub mod StartingLemmas
+pub mod ExpiringLemmas
 pub mod UpLemmas
 pub mod ComingUpLemmas
 pub mod FiledLemmas

@@ -20,6 +20,7 @@ mod changing;
 mod delivering;
 mod directory;
 mod done;
+mod expiring;
 mod fault;
 mod filed;
 mod item;
