@@ -23,6 +23,7 @@ pub mod RoomLemmas
 pub mod StageLemmas
 pub mod TellingLemmas
 pub mod StartingLemmas
+pub mod ExpiringLemmas
 pub mod ComingUpLemmas
 pub mod FiledLemmas
 pub mod NextLemmas

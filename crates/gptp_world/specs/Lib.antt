@@ -18,6 +18,7 @@ pub mod Net
 pub mod Network
 pub mod Params
 pub mod Pending
+pub mod Performing
 pub mod Room
 pub mod Sends
 pub mod Scene

@@ -21,6 +21,7 @@ mod checking;
 mod delivering;
 mod directory;
 mod done;
+mod expiring;
 mod fault;
 mod filed;
 mod founding;

@@ -1,0 +1,63 @@
+-- How a timer of a system expires.
+use Rattle.std.proofs.Common.{◌≡◌, ◌<◌, ◌≤◌, ℕ, length, Option, Some, slice_get, subst, arith}
+use Rattle.std.proofs.lemmas.Option.{slice_get_within}
+use Rattle.gptp_links.specs.declared.bounds.Bounds.{Bounds}
+use Rattle.gptp_links.specs.Fate.{Draw}
+use Rattle.gptp_system.specs.declared.timer.Timer.{Timer}
+use Rattle.gptp_system.specs.declared.timer.Timer.TheVariants as timers
+use Rattle.gptp_system.specs.Input.{Expires as TimerExpires}
+use Rattle.gptp_system.specs.State.{SystemState}
+use Rattle.gptp_system.specs.Steps.{IsTimerOf}
+use Rattle.gptp_world.specs.declared.item.Item.TheVariants.{Expiry}
+use Rattle.gptp_world.specs.declared.net.Net.{Net as Between}
+use Rattle.gptp_world.specs.declared.stage.Stage.{Stage}
+use Rattle.gptp_world.specs.Act.{Calls, Expires}
+use Rattle.gptp_world.specs.Aim.{IsTimerDue}
+use Rattle.gptp_world.specs.Item.{timer_port}
+use Rattle.gptp_world.specs.Net.{between}
+use Rattle.gptp_world.specs.Pending.{without_first, IsKnown}
+use Rattle.gptp_world.specs.Performing.{WithDraws}
+use Rattle.gptp_world.specs.Stage.{world_of, Called, IsStage}
+use Rattle.gptp_world.specs.World.{Net, WorldState}
+use Rattle.gptp_world.proofs.NextDueLemmas.{runs_out}
+
+-- the ports of timers are numbered as those of their system
+timer_few : (s : SystemState) (timer : Timer) → length s.ports ≤ 16 → IsTimerOf s timer → timer_port timer ≤ 16
+timer_few s (timers.Announce p) few of = let most = of.most in omega (arith, few, most)
+timer_few s (timers.Age p) few of = let most = of.most in omega (arith, few, most)
+timer_few s (timers.Pdelay p) few of = let most = of.most in omega (arith, few, most)
+timer_few s (timers.Respond p) few of = let most = of.most in omega (arith, few, most)
+timer_few s timers.Sync few of = omega arith
+timer_few s timers.Relay few of = omega arith
+
+-- a timer that is due is one that can be pending
+pub known_timer : (stage : Stage) (place : ℕ) (timer : Timer) → IsStage stage → IsTimerDue place timer stage.now (world_of stage)
+    → IsKnown stage.net.pending.systems stage.net.pending.links (Expiry place timer)
+known_timer stage place timer is due =
+    let runs = runs_out place timer stage.now (world_of stage) due.station due.here due.due in
+    let within = slice_get_within stage.stations.items place due.station due.here in let places = is.systems in (
+      omega (arith, within, places),
+      timer_few runs.station.system timer (is.few place runs.station runs.here) runs.timer_of,
+    )
+
+-- its entry is taken, and then its system is told
+pub expired : {F : Type 0} (answers : Bounds → ℕ → F → Option ℕ → F → Type 0) (place : ℕ) (timer : Timer) (fate fate_after : F)
+    (stage : Stage) (net : Between) (stage' : Stage) → IsTimerDue place timer stage.now (world_of stage)
+    → between net ≡ record (between stage.net) { pending = without_first (Expiry place timer) (between stage.net).pending }
+    → Called answers place (TimerExpires timer) fate fate_after (record stage { net = net }) stage'
+    → WithDraws answers fate fate_after (λ draws. Expires place timer (world_of stage) draws (world_of stage'))
+expired answers place timer fate fate_after stage net stage' due taken told =
+    let called = told.called in
+    record {
+      draws = called.draws;
+      drawn = called.drawn;
+      is_done = record {
+        station = due.station;
+        answer = told.answer;
+        here = due.here;
+        now_due = due.due;
+        calls = subst
+            (λ n. Calls place (TimerExpires timer) (record (world_of stage) { net = n }) called.draws told.answer (world_of stage'))
+            taken called.calls;
+      };
+    }

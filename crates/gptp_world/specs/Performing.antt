@@ -1,0 +1,79 @@
+-- How the code carries out an act that is there, and due.
+use Rattle.std.specs.Prelude.{◌≡◌, ◌<◌, ℕ, ⊤, List, [], length, Option, Some, slice_get}
+use Rattle.gptp_links.specs.declared.bounds.Bounds.{Bounds}
+use Rattle.gptp_links.specs.Bounds.{Fit}
+use Rattle.gptp_links.specs.Fate.{Draw, Draws}
+use Rattle.gptp_system.specs.declared.timer.Timer.{Timer}
+use Rattle.gptp_system.specs.Input.{Priority}
+use Rattle.gptp_system.specs.Steps.{IsTimerOf}
+use Rattle.gptp_world.specs.declared.aim.Aim.{Aim}
+use Rattle.gptp_world.specs.declared.aim.Aim.TheVariants as aims
+use Rattle.gptp_world.specs.declared.change.Act.{Act}
+use Rattle.gptp_world.specs.declared.done.Done.{Done}
+use Rattle.gptp_world.specs.declared.stage.Stage.{Stage}
+use Rattle.gptp_world.specs.declared.station.Station.{Station}
+use Rattle.gptp_world.specs.Acts.{Acts}
+use Rattle.gptp_world.specs.Changing.{with_bounds, with_setup, with_station, CallsIfLive, ComesUpIf, FailsIf, GoesDownIf, Nothing, RecoversIf}
+use Rattle.gptp_world.specs.Delivering.{HasRoomToHear}
+use Rattle.gptp_world.specs.Stage.{world_of, HasRoomToCall}
+use Rattle.gptp_world.specs.Starting.{CanStart, HasRoomToStart}
+use Rattle.gptp_world.specs.Telling.{HasRoomAtEnds}
+use Rattle.gptp_world.specs.World.{Channel, WorldState, station_due}
+
+-- ---- room for what an act can leave
+
+abbrev pub HasRoomForAim : Aim → Stage → Type 0
+HasRoomForAim (aims.Arrival lane) stage = HasRoomToHear lane stage
+HasRoomForAim (aims.Timer place timer) stage = HasRoomToCall 1 place stage
+HasRoomForAim (aims.LinkDown link) stage = HasRoomAtEnds link stage
+HasRoomForAim (aims.LinkUp link) stage = HasRoomAtEnds link stage
+HasRoomForAim (aims.LinkSet link bounds) stage = ⊤
+HasRoomForAim (aims.Fail place) stage = HasRoomToCall 1 place stage
+HasRoomForAim (aims.Recover place) stage = HasRoomToStart place stage
+HasRoomForAim (aims.Priority1 place value) stage = HasRoomToCall 1 place stage
+
+-- ---- what is done, by place
+
+-- the fate drew, and this was done with what it drew
+pub record WithDraws {F : Type 0} (answers : Bounds → ℕ → F → Option ℕ → F → Type 0) (fate fate_after : F)
+    (IsDone : List Draw → Type 0) : Type 0 where
+  pub draws : List Draw
+  pub drawn : Draws answers fate draws fate_after
+  pub is_done : IsDone draws
+
+-- what is changed is there, and the bounds of a link that is set are such as a link can have
+abbrev pub CanChange : Aim → Stage → Type 0
+CanChange (aims.LinkDown link) stage = link < length stage.net.cables.items
+CanChange (aims.LinkUp link) stage = link < length stage.net.cables.items
+CanChange (aims.LinkSet link bounds) stage = (link < length stage.net.cables.items) × Fit bounds
+CanChange (aims.Fail place) stage = place < length stage.stations.items
+CanChange (aims.Recover place) stage = CanStart place stage
+CanChange (aims.Priority1 place value) stage = place < length stage.stations.items
+CanChange aim stage = ⊥
+
+-- what a change makes of the link, or the system, at a place
+abbrev pub OfLink : ℕ → WorldState → (Channel → Type 0) → Type 0
+OfLink link w So = (channel : Channel) → slice_get w.net.channels link ≡ Some channel → So channel
+
+abbrev pub OfSystem : ℕ → WorldState → (Station → Type 0) → Type 0
+OfSystem place w So = (station : Station) → slice_get w.stations place ≡ Some station → So station
+
+abbrev pub Turns : Aim → WorldState → List Draw → WorldState → Type 0
+Turns (aims.LinkDown link) w draws w' = OfLink link w (λ channel. GoesDownIf channel.up link channel w draws w')
+Turns (aims.LinkUp link) w draws w' = OfLink link w (λ channel. ComesUpIf channel.up link channel w draws w')
+Turns (aims.LinkSet link bounds) w draws w' = OfLink link w
+    (λ channel. (draws ≡ []) × (w' ≡ record w { net = with_bounds bounds link channel w.net }))
+Turns (aims.Fail place) w draws w' = OfSystem place w (λ station. FailsIf station.live place station w draws w')
+Turns (aims.Recover place) w draws w' = OfSystem place w (λ station. RecoversIf station.live place w draws w')
+Turns (aims.Priority1 place value) w draws w' = OfSystem place w
+    (λ station. CallsIfLive place (Priority value) (with_station place (with_setup value station) w) draws w')
+Turns aim w draws w' = ⊥
+
+-- ---- an act
+
+-- the act was carried out, and this is told of it: the fate drew once for each send that a link carries
+pub record Acted {F : Type 0} (answers : Bounds → ℕ → F → Option ℕ → F → Type 0) (act : Act) (done : Done)
+    (fate fate_after : F) (stage stage_after : Stage) : Type 0 where
+  pub draws : List Draw
+  pub drawn : Draws answers fate draws fate_after
+  pub acts : Acts act (world_of stage) draws done (world_of stage_after)

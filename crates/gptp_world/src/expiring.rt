@@ -1,0 +1,45 @@
+//! Timers that expire.
+
+use crate::item::Item;
+use crate::net::Net;
+use crate::stage::Stage;
+use gptp_links::Fate;
+use gptp_system::Timer;
+
+impl Net {
+    ghost use Rattle.std.specs.Prelude.{◌≡◌};
+    ghost use Rattle.gptp_world.specs.declared.item.Item.TheVariants.{Expiry};
+    ghost use Rattle.gptp_world.specs.Net.{between, IsNet};
+    ghost use Rattle.gptp_world.specs.Pending.{without_first, IsKnown};
+    ghost use Rattle.gptp_world.specs.Room.{nothing, Uses};
+
+    /// A timer of the system at a place, which expires, is no longer pending.
+    fn take_timer(&mut self, place: usize, timer: Timer)
+        requires net { IsNet self.old }
+        requires known { IsKnown self.old.pending.systems self.old.pending.links (Expiry place timer) }
+        ensures net { IsNet self.new }
+        ensures uses { Uses nothing self.old self.new }
+        ensures taken { between self.new ≡ record (between self.old) { pending = without_first (Expiry place timer) (between self.old).pending } }
+    {
+        self.pending.take(Item::Expiry { place, timer });
+    }
+}
+
+impl Stage {
+    ghost use Rattle.gptp_world.specs.Act.{Expires};
+    ghost use Rattle.gptp_world.specs.Aim.{IsTimerDue};
+    ghost use Rattle.gptp_world.specs.Performing.{WithDraws};
+    ghost use Rattle.gptp_world.specs.Stage.{world_of, HasRoomToCall, IsStage};
+
+    /// A timer of the system at a place, which is due now, expires.
+    pub(crate) fn run_out<F: Fate>(&mut self, place: usize, timer: Timer, fate: &mut F)
+        requires stage { IsStage self.old }
+        requires due { IsTimerDue place timer self.old.now (world_of self.old) }
+        requires room { HasRoomToCall 1 place self.old }
+        ensures stage { IsStage self.new }
+        ensures expired { WithDraws F.answers fate.old fate.new (λ draws. Expires place timer (world_of self.old) draws (world_of self.new)) }
+    {
+        self.net.take_timer(place, timer);
+        self.expire(place, timer, fate);
+    }
+}
