@@ -46,3 +46,4 @@ pub mod OnTimeLemmas
 pub mod ChangeOnTimeLemmas
 pub mod SoundLemmas
 pub mod SceneLemmas
+pub mod LaterLemmas

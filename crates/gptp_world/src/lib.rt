@@ -31,6 +31,7 @@ mod network;
 mod octets;
 mod params;
 mod pending;
+mod performing;
 mod room;
 mod scene;
 mod sending;

@@ -4,6 +4,8 @@ ghost use Rattle.std.specs.Prelude.{◌≡◌, ◌<◌, length, OnOk};
 ghost use Rattle.gptp_world.specs.Starting.{Started};
 ghost use Rattle.gptp_world.specs.Scene.{IsScene, SystemsStarted};
 
+use crate::change::Timed;
+use crate::done::{Done, Refused};
 use crate::network::Network;
 use crate::stage::Stage;
 use gptp_links::Fate;
@@ -55,8 +57,9 @@ fn start_all<F: Fate>(stage: &mut Stage, fate: &mut F) -> Result<(), AllocError>
 }
 
 impl Scene {
-    ghost use Rattle.std.specs.Prelude.{IfOk};
-    ghost use Rattle.gptp_world.specs.Scene.{Begun};
+    ghost use Rattle.std.specs.Prelude.{◌≡◌, ◌≤◌, IfErr, IfOk, OnErr};
+    ghost use Rattle.gptp_world.specs.Acts.{IsFitAct, Refuses};
+    ghost use Rattle.gptp_world.specs.Scene.{Begun, WasDone};
 
     /// The world of a network at time 0, whose systems have all started, in their order. Refused for want of memory alone.
     pub(crate) fn new<F: Fate>(
@@ -70,5 +73,27 @@ impl Scene {
         let mut stage = Stage::found(alloc, network)?;
         start_all(&mut stage, fate)?;
         Ok(Scene { stage })
+    }
+
+    /// An act is done at its time, where it can be; otherwise the first test that it fails is answered, and nothing changes.
+    pub(crate) fn act<F: Fate>(&mut self, timed: &Timed, fate: &mut F) -> Result<Done, Refused>
+        requires moment { timed.now.at ≤ 1000000000000000 }
+        requires fit { IsFitAct timed.now.act }
+        ensures done { IfOk result (WasDone F.answers timed.now fate.old fate.new self.old self.new) }
+        ensures refused { IfErr result (Refuses timed.now.act timed.now.at self.old) }
+        ensures kept { OnErr result (self.new ≡ self.old) }
+        ensures fate { OnErr result (fate.new ≡ fate.old) }
+    {
+        let aim = match self.stage.check(timed) {
+            Ok(aim) => aim,
+            Err(refused) => return Err(refused),
+        };
+        match self.stage.make_room_for(&timed.act, aim) {
+            Ok(()) => {
+                self.stage.now = timed.at;
+                Ok(self.stage.perform(&timed.act, aim, fate))
+            }
+            Err(_) => Err(Refused::OutOfMemory),
+        }
     }
 }

@@ -1,0 +1,144 @@
+-- What an act is about is the same at a later time.
+use Rattle.std.proofs.Common.{◌≡◌, ℕ, ◌≤◌, refl}
+use Rattle.gptp_world.specs.declared.aim.Aim.{Aim}
+use Rattle.gptp_world.specs.declared.aim.Aim.TheVariants as aims
+use Rattle.gptp_world.specs.declared.change.Act.{Act}
+use Rattle.gptp_world.specs.declared.change.Act.TheVariants.{Deliver, Expire, Change as Changing}
+use Rattle.gptp_world.specs.declared.change.Change.{Change}
+use Rattle.gptp_world.specs.declared.change.Change.TheVariants as changes
+use Rattle.gptp_world.specs.declared.stage.Stage.{Stage}
+use Rattle.gptp_world.specs.Acts.{at, IsDueThen}
+use Rattle.gptp_world.specs.Aim.{IsAimOf, IsAimOfChange}
+use Rattle.gptp_world.specs.Performing.{HasRoomForAim}
+use Rattle.gptp_world.specs.Stage.{HasRoomToCall, IsStage}
+use Rattle.gptp_world.specs.Starting.{HasRoomToStart}
+use Rattle.gptp_world.specs.Telling.{HasRoomAtEnds}
+use Rattle.gptp_world.specs.World.{WorldState}
+
+change_later : (c : Change) (w : WorldState) (time : ℕ) (aim : Aim) → IsAimOfChange c w aim → IsAimOfChange c (at time w) aim
+change_later (changes.LinkDown number port) w time (aims.Arrival lane) is = is
+change_later (changes.LinkDown number port) w time (aims.Timer place set) is = is
+change_later (changes.LinkDown number port) w time (aims.LinkDown link) is = record { channel = is.channel; is = record { here = is.is.here; joined = is.is.joined } }
+change_later (changes.LinkDown number port) w time (aims.LinkUp link) is = is
+change_later (changes.LinkDown number port) w time (aims.LinkSet link bounds) is = is
+change_later (changes.LinkDown number port) w time (aims.Fail place) is = is
+change_later (changes.LinkDown number port) w time (aims.Recover place) is = is
+change_later (changes.LinkDown number port) w time (aims.Priority1 place set) is = is
+change_later (changes.LinkUp number port) w time (aims.Arrival lane) is = is
+change_later (changes.LinkUp number port) w time (aims.Timer place set) is = is
+change_later (changes.LinkUp number port) w time (aims.LinkDown link) is = is
+change_later (changes.LinkUp number port) w time (aims.LinkUp link) is = record { channel = is.channel; is = record { here = is.is.here; joined = is.is.joined } }
+change_later (changes.LinkUp number port) w time (aims.LinkSet link bounds) is = is
+change_later (changes.LinkUp number port) w time (aims.Fail place) is = is
+change_later (changes.LinkUp number port) w time (aims.Recover place) is = is
+change_later (changes.LinkUp number port) w time (aims.Priority1 place set) is = is
+change_later (changes.LinkSet number port min max loss) w time (aims.Arrival lane) is = is
+change_later (changes.LinkSet number port min max loss) w time (aims.Timer place set) is = is
+change_later (changes.LinkSet number port min max loss) w time (aims.LinkDown link) is = is
+change_later (changes.LinkSet number port min max loss) w time (aims.LinkUp link) is = is
+change_later (changes.LinkSet number port min max loss) w time (aims.LinkSet link bounds) is =
+    (record { channel = is.0.channel; is = record { here = is.0.is.here; joined = is.0.is.joined } }, is.1)
+change_later (changes.LinkSet number port min max loss) w time (aims.Fail place) is = is
+change_later (changes.LinkSet number port min max loss) w time (aims.Recover place) is = is
+change_later (changes.LinkSet number port min max loss) w time (aims.Priority1 place set) is = is
+change_later (changes.Fail number) w time (aims.Arrival lane) is = is
+change_later (changes.Fail number) w time (aims.Timer place set) is = is
+change_later (changes.Fail number) w time (aims.LinkDown link) is = is
+change_later (changes.Fail number) w time (aims.LinkUp link) is = is
+change_later (changes.Fail number) w time (aims.LinkSet link bounds) is = is
+change_later (changes.Fail number) w time (aims.Fail place) is = record { station = is.station; is = record { here = is.is.here; named = is.is.named } }
+change_later (changes.Fail number) w time (aims.Recover place) is = is
+change_later (changes.Fail number) w time (aims.Priority1 place set) is = is
+change_later (changes.Recover number) w time (aims.Arrival lane) is = is
+change_later (changes.Recover number) w time (aims.Timer place set) is = is
+change_later (changes.Recover number) w time (aims.LinkDown link) is = is
+change_later (changes.Recover number) w time (aims.LinkUp link) is = is
+change_later (changes.Recover number) w time (aims.LinkSet link bounds) is = is
+change_later (changes.Recover number) w time (aims.Fail place) is = is
+change_later (changes.Recover number) w time (aims.Recover place) is = record { station = is.station; is = record { here = is.is.here; named = is.is.named } }
+change_later (changes.Recover number) w time (aims.Priority1 place set) is = is
+change_later (changes.Priority1 number value) w time (aims.Arrival lane) is = is
+change_later (changes.Priority1 number value) w time (aims.Timer place set) is = is
+change_later (changes.Priority1 number value) w time (aims.LinkDown link) is = is
+change_later (changes.Priority1 number value) w time (aims.LinkUp link) is = is
+change_later (changes.Priority1 number value) w time (aims.LinkSet link bounds) is = is
+change_later (changes.Priority1 number value) w time (aims.Fail place) is = is
+change_later (changes.Priority1 number value) w time (aims.Recover place) is = is
+change_later (changes.Priority1 number value) w time (aims.Priority1 place set) is =
+    (record { station = is.0.station; is = record { here = is.0.is.here; named = is.0.is.named } }, is.1)
+
+pub aim_later : (act : Act) (w : WorldState) (time : ℕ) (aim : Aim) → IsAimOf act w aim → IsAimOf act (at time w) aim
+aim_later (Deliver on direction) w time (aims.Arrival lane) is = is
+aim_later (Deliver on direction) w time (aims.Timer place set) is = is
+aim_later (Deliver on direction) w time (aims.LinkDown link) is = is
+aim_later (Deliver on direction) w time (aims.LinkUp link) is = is
+aim_later (Deliver on direction) w time (aims.LinkSet link bounds) is = is
+aim_later (Deliver on direction) w time (aims.Fail place) is = is
+aim_later (Deliver on direction) w time (aims.Recover place) is = is
+aim_later (Deliver on direction) w time (aims.Priority1 place set) is = is
+aim_later (Expire number timer) w time (aims.Arrival lane) is = is
+aim_later (Expire number timer) w time (aims.Timer place set) is =
+    (record { station = is.0.station; is = record { here = is.0.is.here; named = is.0.is.named }; timer_of = is.0.timer_of }, is.1)
+aim_later (Expire number timer) w time (aims.LinkDown link) is = is
+aim_later (Expire number timer) w time (aims.LinkUp link) is = is
+aim_later (Expire number timer) w time (aims.LinkSet link bounds) is = is
+aim_later (Expire number timer) w time (aims.Fail place) is = is
+aim_later (Expire number timer) w time (aims.Recover place) is = is
+aim_later (Expire number timer) w time (aims.Priority1 place set) is = is
+aim_later (Changing c) w time aim is = change_later c w time aim is
+
+-- and it is due when it was
+pub due_later : (act : Act) (w : WorldState) (time : ℕ) → IsDueThen act time w → IsDueThen act time (at time w)
+due_later (Deliver link direction) w time is = is
+due_later (Expire number timer) w time is = record {
+  place = is.place;
+  station = is.station;
+  is = record { here = is.is.here; named = is.is.named };
+  so = is.so;
+}
+due_later (Changing c) w time is = is
+
+-- time that passes takes no room
+abbrev pub at_time : ℕ → Stage → Stage
+at_time time stage = record stage { now = time }
+
+room_at : (place : ℕ) (stage : Stage) (time : ℕ) → HasRoomToCall 1 place stage → HasRoomToCall 1 place (at_time time stage)
+room_at place stage time has = record { station = has.station; here = has.here; room = has.room }
+
+ends_at : (link : ℕ) (stage : Stage) (time : ℕ) → HasRoomAtEnds link stage → HasRoomAtEnds link (at_time time stage)
+ends_at link stage time has = record {
+  a = has.a;
+  b = has.b;
+  ends = has.ends;
+  room = record {
+    station_a = has.room.station_a;
+    station_b = has.room.station_b;
+    here_a = has.room.here_a;
+    here_b = has.room.here_b;
+    room = has.room.room;
+  };
+}
+
+start_at : (place : ℕ) (stage : Stage) (time : ℕ) → HasRoomToStart place stage → HasRoomToStart place (at_time time stage)
+start_at place stage time has = record { station = has.station; here = has.here; room = has.room }
+
+pub room_later : (aim : Aim) (stage : Stage) (time : ℕ) → HasRoomForAim aim stage → HasRoomForAim aim (at_time time stage)
+room_later (aims.Arrival lane) stage time has = λ join place there named. room_at place stage time (has join place there named)
+room_later (aims.Timer place set) stage time has = room_at place stage time has
+room_later (aims.LinkDown link) stage time has = ends_at link stage time has
+room_later (aims.LinkUp link) stage time has = ends_at link stage time has
+room_later (aims.LinkSet link bounds) stage time has = has
+room_later (aims.Fail place) stage time has = room_at place stage time has
+room_later (aims.Recover place) stage time has = start_at place stage time has
+room_later (aims.Priority1 place set) stage time has = room_at place stage time has
+
+pub stage_later : (stage : Stage) (time : ℕ) → time ≤ 1000000000000000 → IsStage stage → IsStage (at_time time stage)
+stage_later stage time early is = record {
+  net = is.net;
+  clocks = is.clocks;
+  systems = is.systems;
+  few = is.few;
+  ports = is.ports;
+  empty = is.empty;
+  moment = early;
+}
