@@ -47,3 +47,4 @@ pub mod ChangeOnTimeLemmas
 pub mod SoundLemmas
 pub mod SceneLemmas
 pub mod LaterLemmas
+pub mod ViewLemmas

@@ -27,4 +27,5 @@ pub mod Sound
 pub mod Stage
 pub mod Starting
 pub mod Telling
+pub mod Views
 pub mod World

@@ -114,6 +114,14 @@ impl Directory {
         Some(self.ranked[rank])
     }
 
+    /// The clock of the system at a place.
+    pub(crate) fn clock_in(&self, place: usize) -> ClockId
+        requires { place < length self.now.clocks }
+        ensures { slice_get self.now.clocks place ≡ Some result }
+    {
+        self.clocks[place]
+    }
+
     /// A clock by its rank: the least has the rank 0. Past the last there is none.
     pub(crate) fn clock_at(&self, rank: usize) -> Option<ClockId>
         ensures { result ≡ option_and_then (λ place. slice_get self.now.clocks place) (slice_get self.now.ranked rank) }

@@ -40,6 +40,8 @@ mod starting;
 mod station;
 mod telling;
 mod timing;
+mod views;
+mod world;
 
 pub use change::{Act, Change, Timed};
 pub use done::{Done, Refused};
@@ -48,3 +50,4 @@ pub use gptp_system::Params;
 pub use item::Item;
 pub use network::Network;
 pub use pending::Pending;
+pub use world::World;

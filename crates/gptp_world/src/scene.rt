@@ -15,7 +15,7 @@ use std::marker::Model;
 /// A world without its fate: its systems, and what is between them.
 #[derive(Drop)]
 pub(crate) struct Scene {
-    stage: Stage,
+    pub(crate) stage: Stage,
 }
 
 impl Model for Scene {

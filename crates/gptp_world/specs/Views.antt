@@ -1,0 +1,41 @@
+-- What a world shows.
+use Rattle.std.specs.Prelude.{◌≡◌, ◌<◌, ℕ, ⊤, true, length, Some, slice_get}
+use Rattle.gptp_system.specs.State.{SystemState, clock}
+use Rattle.gptp_world.specs.declared.change.Act.{Act}
+use Rattle.gptp_world.specs.declared.change.Act.TheVariants.{Deliver, Expire}
+use Rattle.gptp_world.specs.declared.change.Timed.{Timed}
+use Rattle.gptp_world.specs.declared.item.Item.{Item}
+use Rattle.gptp_world.specs.declared.item.Item.TheVariants.{Expiry, Arrival}
+use Rattle.gptp_world.specs.declared.stage.Stage.{Stage}
+use Rattle.gptp_world.specs.declared.station.Station.{Station}
+use Rattle.gptp_world.specs.Changing.{IsStation}
+use Rattle.gptp_world.specs.Pending.{IsNext}
+use Rattle.gptp_world.specs.World.{WorldState}
+
+-- the act that an item is: its timer expires, or its frame arrives
+abbrev pub IsActOf : Item → WorldState → Act → Type 0
+IsActOf (Arrival link direction) w act = act ≡ Deliver link direction
+IsActOf (Expiry place timer) w act = (station : Station) × (slice_get w.stations place ≡ Some station)
+    × (act ≡ Expire (clock station.system) timer)
+
+-- the system of an item that is a timer is there
+abbrev pub IsPlacedItem : Item → Stage → Type 0
+IsPlacedItem (Arrival link direction) stage = ⊤
+IsPlacedItem (Expiry place timer) stage = place < length stage.stations.items
+
+-- the next that is due
+pub record IsNextAct (w : WorldState) (timed : Timed) : Type 0 where
+  pub item : Item
+  pub next : IsNext w.net.pending timed.at item
+  pub act : IsActOf item w timed.act
+
+abbrev pub IsLiveSystem : ℕ → Station → Type 0
+IsLiveSystem place station = station.live ≡ true
+
+-- the live system with a clock is in this state
+pub record ShowsLive (number : ℕ) (w : WorldState) (s : SystemState) : Type 0 where
+  pub place : ℕ
+  pub station : Station
+  pub is : IsStation number place w station
+  pub live : station.live ≡ true
+  pub state : s ≡ station.system

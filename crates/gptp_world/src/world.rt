@@ -1,0 +1,72 @@
+//! Simulated worlds.
+
+use crate::change::Timed;
+use crate::network::Network;
+use crate::scene::Scene;
+use gptp_links::Fate;
+use gptp_system::System;
+use gptp_vector::ClockId;
+use std::alloc::{AllocError, Global};
+
+/// A simulated world: the systems of a network, what is between them, and the fate that draws for each frame that is sent.
+/// Contracts see the two apart: `scene` is the state of the world, and `fate` that of the fate.
+#[derive(Drop)]
+pub struct World<F> {
+    scene: Scene,
+    fate: F,
+}
+
+impl<F: Fate + Drop> World<F> {
+    ghost use Rattle.std.specs.Prelude.{◌≡◌, IfOk, IfSome, IfNone, length, []};
+    ghost use Rattle.gptp_world.specs.Acts.{AtSystem};
+    ghost use Rattle.gptp_world.specs.Scene.{Begun};
+    ghost use Rattle.gptp_world.specs.Views.{IsLiveSystem, IsNextAct, ShowsLive};
+
+    /// The world of a network at time 0: all its systems have started, in their order, and their first frames are in flight.
+    /// Refused for want of memory alone; then the fate is dropped.
+    pub fn new(alloc: Global, network: &Network, fate: F) -> Result<Self, AllocError>
+        ensures { IfOk result (λ world. Begun F.answers network.now fate world.fate world.scene) }
+    {
+        let mut fate = fate;
+        let scene = Scene::new(alloc, network, &mut fate)?;
+        Ok(World { scene, fate })
+    }
+
+    /// The time, in ns.
+    pub fn now(&self) -> u64
+        ensures { result ≡ self.now.scene.time }
+    {
+        self.scene.now()
+    }
+
+    /// The time of the last change, in ns; 0 before the first.
+    pub fn last_change(&self) -> u64
+        ensures { result ≡ self.now.scene.last_change }
+    {
+        self.scene.last_change()
+    }
+
+    /// How many systems there are, live or not.
+    pub fn count(&self) -> usize
+        ensures { result ≡ length self.now.scene.stations }
+    {
+        self.scene.count()
+    }
+
+    /// The next act that is due: of all that is pending one of least time, and of those the first that was put. `None` where
+    /// nothing is pending.
+    pub fn next(&self) -> Option<Timed>
+        ensures next { IfSome result (IsNextAct self.now.scene) }
+        ensures none { IfNone result (self.now.scene.net.pending ≡ []) }
+    {
+        self.scene.next()
+    }
+
+    /// The live system with a clock; `None` where there is none.
+    pub fn system(&self, clock: ClockId) -> Option<&System>
+        ensures some { IfSome result (λ system. ShowsLive clock self.now.scene system.now) }
+        ensures none { IfNone result (AtSystem clock self.now.scene IsLiveSystem → ⊥) }
+    {
+        self.scene.system(clock)
+    }
+}
