@@ -80,6 +80,17 @@ IsDueThen (Deliver link direction) time w = AtPlace link w.net (IsOldestDue dire
 IsDueThen (Expire number timer) time w = AtSystem number w (λ place station. station_due timer station ≡ Some time)
 IsDueThen (Changing change) time w = ⊤
 
+-- what is asked of a change of bounds: delays of 1 ns to 16 s, the least first, and a loss of at most all frames
+pub record IsFitChange (min max loss : ℕ) : Type 0 where
+  pub positive : 1 ≤ min
+  pub ordered : min ≤ max
+  pub short : max ≤ 16000000000
+  pub share : loss ≤ 1000
+
+abbrev pub IsFitAct : Act → Type 0
+IsFitAct (Changing (LinkSet number port min max loss)) = IsFitChange min max loss
+IsFitAct act = ⊤
+
 -- ---- when it is refused
 
 -- something is due earlier

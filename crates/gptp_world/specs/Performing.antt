@@ -12,6 +12,7 @@ use Rattle.gptp_world.specs.declared.change.Act.{Act}
 use Rattle.gptp_world.specs.declared.done.Done.{Done}
 use Rattle.gptp_world.specs.declared.stage.Stage.{Stage}
 use Rattle.gptp_world.specs.declared.station.Station.{Station}
+use Rattle.gptp_world.specs.Act.{Expires}
 use Rattle.gptp_world.specs.Acts.{Acts}
 use Rattle.gptp_world.specs.Changing.{with_bounds, with_setup, with_station, CallsIfLive, ComesUpIf, FailsIf, GoesDownIf, Nothing, RecoversIf}
 use Rattle.gptp_world.specs.Delivering.{HasRoomToHear}
@@ -33,13 +34,6 @@ HasRoomForAim (aims.Recover place) stage = HasRoomToStart place stage
 HasRoomForAim (aims.Priority1 place value) stage = HasRoomToCall 1 place stage
 
 -- ---- what is done, by place
-
--- the fate drew, and this was done with what it drew
-pub record WithDraws {F : Type 0} (answers : Bounds → ℕ → F → Option ℕ → F → Type 0) (fate fate_after : F)
-    (IsDone : List Draw → Type 0) : Type 0 where
-  pub draws : List Draw
-  pub drawn : Draws answers fate draws fate_after
-  pub is_done : IsDone draws
 
 -- what is changed is there, and the bounds of a link that is set are such as a link can have
 abbrev pub CanChange : Aim → Stage → Type 0
@@ -68,6 +62,20 @@ Turns (aims.Recover place) w draws w' = OfSystem place w (λ station. RecoversIf
 Turns (aims.Priority1 place value) w draws w' = OfSystem place w
     (λ station. CallsIfLive place (Priority value) (with_station place (with_setup value station) w) draws w')
 Turns aim w draws w' = ⊥
+
+-- it was changed so: the fate drew once for each send that a link carries
+pub record Turned {F : Type 0} (answers : Bounds → ℕ → F → Option ℕ → F → Type 0) (aim : Aim) (fate fate_after : F)
+    (stage stage_after : Stage) : Type 0 where
+  pub draws : List Draw
+  pub drawn : Draws answers fate draws fate_after
+  pub turns : Turns aim (world_of stage) draws (world_of stage_after)
+
+-- a timer of the system at a place expired
+pub record Expired {F : Type 0} (answers : Bounds → ℕ → F → Option ℕ → F → Type 0) (place : ℕ) (timer : Timer) (fate fate_after : F)
+    (stage stage_after : Stage) : Type 0 where
+  pub draws : List Draw
+  pub drawn : Draws answers fate draws fate_after
+  pub expires : Expires place timer (world_of stage) draws (world_of stage_after)
 
 -- ---- an act
 

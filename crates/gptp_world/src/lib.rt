@@ -29,6 +29,7 @@ mod network;
 mod octets;
 mod params;
 mod pending;
+mod performing;
 mod room;
 mod sending;
 mod stage;

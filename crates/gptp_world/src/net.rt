@@ -35,18 +35,18 @@ impl Net {
         ensures none { (clock : ℕ) → slice_get self.now.directory.clocks place ≡ Some clock → IfNone result (IsUnlinked (between self.now) (port_id clock port)) }
     {
         let lane = self.directory.lane_from(place, port)?;
-        match self.is_up(lane) {
+        match self.is_up(lane.link) {
             true => Some(lane),
             false => None,
         }
     }
 
     /// Whether a link is up.
-    fn is_up(&self, lane: Lane) -> bool
-        requires { lane.link < length self.now.cables.items }
-        ensures { (cable : Cable) → slice_get self.now.cables.items lane.link ≡ Some cable → result ≡ cable.link.up }
+    pub(crate) fn is_up(&self, link: usize) -> bool
+        requires { link < length self.now.cables.items }
+        ensures { (cable : Cable) → slice_get self.now.cables.items link ≡ Some cable → result ≡ cable.link.up }
     {
-        self.cables[lane.link].link.is_up()
+        self.cables[link].link.is_up()
     }
 
     /// One send of the system at a place goes onto its link, where that is up.
