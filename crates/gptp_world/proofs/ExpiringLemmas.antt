@@ -11,12 +11,12 @@ use Rattle.gptp_system.specs.Steps.{IsTimerOf}
 use Rattle.gptp_world.specs.declared.item.Item.TheVariants.{Expiry}
 use Rattle.gptp_world.specs.declared.net.Net.{Net as Between}
 use Rattle.gptp_world.specs.declared.stage.Stage.{Stage}
-use Rattle.gptp_world.specs.Act.{Calls, Expires}
+use Rattle.gptp_world.specs.Act.{Calls}
 use Rattle.gptp_world.specs.Aim.{IsTimerDue}
 use Rattle.gptp_world.specs.Item.{timer_port}
 use Rattle.gptp_world.specs.Net.{between}
 use Rattle.gptp_world.specs.Pending.{without_first, IsKnown}
-use Rattle.gptp_world.specs.Performing.{WithDraws}
+use Rattle.gptp_world.specs.Performing.{Expired}
 use Rattle.gptp_world.specs.Stage.{world_of, Called, IsStage}
 use Rattle.gptp_world.specs.World.{Net, WorldState}
 use Rattle.gptp_world.proofs.NextDueLemmas.{runs_out}
@@ -45,13 +45,13 @@ pub expired : {F : Type 0} (answers : Bounds → ℕ → F → Option ℕ → F 
     (stage : Stage) (net : Between) (stage' : Stage) → IsTimerDue place timer stage.now (world_of stage)
     → between net ≡ record (between stage.net) { pending = without_first (Expiry place timer) (between stage.net).pending }
     → Called answers place (TimerExpires timer) fate fate_after (record stage { net = net }) stage'
-    → WithDraws answers fate fate_after (λ draws. Expires place timer (world_of stage) draws (world_of stage'))
+    → Expired answers place timer fate fate_after stage stage'
 expired answers place timer fate fate_after stage net stage' due taken told =
     let called = told.called in
     record {
       draws = called.draws;
       drawn = called.drawn;
-      is_done = record {
+      expires = record {
         station = due.station;
         answer = told.answer;
         here = due.here;

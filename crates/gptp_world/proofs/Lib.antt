@@ -24,6 +24,8 @@ pub mod StageLemmas
 pub mod TellingLemmas
 pub mod StartingLemmas
 pub mod ExpiringLemmas
+pub mod DeliveringLemmas
+pub mod PerformingLemmas
 pub mod ComingUpLemmas
 pub mod FiledLemmas
 pub mod NextLemmas

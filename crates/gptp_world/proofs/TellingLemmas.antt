@@ -82,18 +82,25 @@ end_port stage link d join end station is here at there =
     (record { join = join; there = here; begins = begins }) in
     record { station = station; here = there; port_of = record { least = range.0; most = range.1 } }
 
+-- while the state of the world is the same, the directory knows the same systems and links
+pub same_clocks : (stage stage' : Stage) → IsStage stage → IsStage stage' → world_of stage' ≡ world_of stage
+    → stage'.net.directory.clocks ≡ stage.net.directory.clocks
+same_clocks stage stage' is is' world =
+    sym is'.clocks ∙ (ap (λ (w : WorldState). map clock_at w.stations) world ∙ is.clocks)
+
+pub same_joins : (stage stage' : Stage) → IsStage stage → IsStage stage' → world_of stage' ≡ world_of stage
+    → stage'.net.directory.joins ≡ stage.net.directory.joins
+same_joins stage stage' is is' world =
+    sym is'.net.joins
+    ∙ (joins_kept stage.net.cables.items stage'.net.cables.items (ap (λ (w : WorldState). w.net.channels) world) ∙ is.net.joins)
+
 -- room was made for the ends of a link
 pub room_at_ends : (stage stage' : Stage) (link : ℕ) (a b : End) → IsStage stage → IsStage stage'
     → world_of stage' ≡ world_of stage
     → AreEndsOf link a b stage.net.directory → HasRoomToCallBoth a.place b.place stage' → HasRoomAtEnds link stage'
 room_at_ends stage stage' link a b is is' world ends room =
-    let d = stage.net.directory in let d' = stage'.net.directory in
-    let clocks : d'.clocks ≡ d.clocks =
-    sym is'.clocks ∙ (ap (λ (w : WorldState). map clock_at w.stations) world ∙ is.clocks) in
-    let joins : d'.joins ≡ d.joins =
-    sym is'.net.joins
-    ∙ (joins_kept stage.net.cables.items stage'.net.cables.items (ap (λ (w : WorldState). w.net.channels) world)
-    ∙ is.net.joins) in
+    let clocks = same_clocks stage stage' is is' world in
+    let joins = same_joins stage stage' is is' world in
     let at_a = ends.at_a in let at_b = ends.at_b in
     record {
       a = a;

@@ -7,6 +7,7 @@ use crate::stage::Stage;
 use gptp_links::Fate;
 use gptp_system::Answer;
 use gptp_vector::PortId;
+use std::alloc::AllocError;
 
 /// A frame that reached a port, and what the system there answered; `None` where that has failed.
 #[derive(Drop)]
@@ -25,9 +26,9 @@ pub(crate) fn narrowed(port: u16) -> u8
 }
 
 impl Stage {
-    ghost use Rattle.std.specs.Prelude.{◌≡◌, length, ◌<◌};
+    ghost use Rattle.std.specs.Prelude.{◌≡◌, length, ◌<◌, OnOk};
     ghost use Rattle.gptp_world.specs.Net.{IsFrameDue};
-    ghost use Rattle.gptp_world.specs.Stage.{HasRoomToCall, IsStage};
+    ghost use Rattle.gptp_world.specs.Stage.{world_of, HasRoomToCall, IsStage};
     ghost use Rattle.gptp_world.specs.Delivering.{Delivered, HasRoomToHear, HeardAt, IsHeardAt, MayHear};
 
     /// The system at a place hears a frame at a port, unless it has failed.
@@ -66,5 +67,18 @@ impl Stage {
         let at = self.net.directory.port_at(lane);
         let answer = self.hear_if_live(place, narrowed(at.port), &frame, fate);
         Reached { at, answer, frame }
+    }
+    /// Makes room for whatever the system at the end of a lane can leave when it hears a frame. Refused where there is no
+    /// memory for it. The state of the world doesn't change.
+    pub(crate) fn make_room_to_hear(&mut self, lane: Lane) -> Result<(), AllocError>
+        requires stage { IsStage self.old }
+        requires link { lane.link < length self.old.net.cables.items }
+        ensures stage { IsStage self.new }
+        ensures world { world_of self.new ≡ world_of self.old }
+        ensures room { OnOk result (HasRoomToHear lane self.new) }
+    {
+        self.net.directory.well_formed();
+        let place = self.net.directory.receiver(lane);
+        self.make_room(place, 1)
     }
 }

@@ -26,9 +26,8 @@ impl Net {
 }
 
 impl Stage {
-    ghost use Rattle.gptp_world.specs.Act.{Expires};
     ghost use Rattle.gptp_world.specs.Aim.{IsTimerDue};
-    ghost use Rattle.gptp_world.specs.Performing.{WithDraws};
+    ghost use Rattle.gptp_world.specs.Performing.{Expired};
     ghost use Rattle.gptp_world.specs.Stage.{world_of, HasRoomToCall, IsStage};
 
     /// A timer of the system at a place, which is due now, expires.
@@ -37,7 +36,7 @@ impl Stage {
         requires due { IsTimerDue place timer self.old.now (world_of self.old) }
         requires room { HasRoomToCall 1 place self.old }
         ensures stage { IsStage self.new }
-        ensures expired { WithDraws F.answers fate.old fate.new (λ draws. Expires place timer (world_of self.old) draws (world_of self.new)) }
+        ensures expired { Expired F.answers place timer fate.old fate.new self.old self.new }
     {
         self.net.take_timer(place, timer);
         self.expire(place, timer, fate);

@@ -1,0 +1,376 @@
+-- Acts that are there, and due, are carried out.
+use Rattle.std.proofs.Common.{◌≡◌, ◌≢◌, ◌<◌, ◌≤◌, ℕ, Bool, true, false, List, [], ◌∷◌, map, length, Option, Some, slice_get, slice_index_or, refl, ap, sym, subst, ◌∙◌}
+use Rattle.std.proofs.lemmas.List.{length-map}
+use Rattle.std.proofs.lemmas.Option.{same_Some, slice_get_within}
+use Rattle.gptp_links.specs.declared.bounds.Bounds.{Bounds}
+use Rattle.gptp_links.specs.declared.link.Direction.{Direction}
+use Rattle.gptp_links.specs.declared.link.Direction.TheVariants.{FromA, FromB}
+use Rattle.gptp_links.specs.Fate.{Draw}
+use Rattle.gptp_system.specs.declared.answer.Answer.{Answer}
+use Rattle.gptp_system.specs.declared.timer.Timer.{Timer}
+use Rattle.gptp_system.specs.Input.{Priority}
+use Rattle.gptp_system.specs.State.{clock}
+use Rattle.gptp_system.specs.Steps.{IsUp}
+use Rattle.gptp_vector.specs.declared.port.PortId.{PortId}
+use Rattle.gptp_world.specs.declared.aim.Aim.{Aim}
+use Rattle.gptp_world.specs.declared.aim.Aim.TheVariants as aims
+use Rattle.gptp_world.specs.declared.cable.Cable.{Cable}
+use Rattle.gptp_world.specs.declared.cable.Lane.{Lane}
+use Rattle.gptp_world.specs.declared.change.Act.{Act}
+use Rattle.gptp_world.specs.declared.change.Act.TheVariants.{Deliver, Expire, Change as Changing}
+use Rattle.gptp_world.specs.declared.change.Change.{Change}
+use Rattle.gptp_world.specs.declared.change.Change.TheVariants as changes
+use Rattle.gptp_world.specs.declared.done.Done.{Done}
+use Rattle.gptp_world.specs.declared.done.Done.TheVariants.{Quiet}
+use Rattle.gptp_world.specs.declared.stage.Stage.{Stage}
+use Rattle.gptp_world.specs.declared.station.Station.{Station}
+use Rattle.gptp_world.specs.Acts.{Acts, AtPlace, Changes, IsDueThen, IsFitAct, IsOldestDue, Tells}
+use Rattle.gptp_world.specs.Aim.{IsAimOf, IsAimOfChange}
+use Rattle.gptp_world.specs.Cable.{channel_of, join_of}
+use Rattle.gptp_world.specs.Changing.{with_bounds, with_setup, with_station, CallsIfLive, IsStation}
+use Rattle.gptp_world.specs.Delivering.{Delivered, MayHear}
+use Rattle.gptp_world.specs.Directory.{end_of, Join}
+use Rattle.gptp_world.specs.Net.{IsFrameDue}
+use Rattle.gptp_world.specs.Performing.{Acted, CanChange, Expired, HasRoomForAim, OfLink, OfSystem, Turned, Turns}
+use Rattle.gptp_world.specs.Sound.{AreLinked, Flows, HaveOwnClocks, IsSound, IsWired}
+use Rattle.gptp_world.specs.Stage.{clock_at, world_of, IsStage}
+use Rattle.gptp_world.specs.Telling.{HasRoomAtEnds}
+use Rattle.gptp_world.specs.World.{Channel, WorldState, queue, receiver, station_due}
+use Rattle.gptp_world.proofs.EndLemmas.{end_same, known_join}
+use Rattle.gptp_world.proofs.NetLemmas.{from_map}
+use Rattle.gptp_world.proofs.PlaceLemmas.{get-map, read}
+use Rattle.gptp_world.proofs.SendingLemmas.{queue_same}
+
+-- ---- where it is
+
+-- what an act is about is among the links, or the systems
+abbrev pub IsWithin : Aim → Stage → Type 0
+IsWithin (aims.Arrival lane) stage = lane.link < length stage.net.cables.items
+IsWithin (aims.Timer place timer) stage = place < length stage.stations.items
+IsWithin (aims.LinkDown link) stage = link < length stage.net.cables.items
+IsWithin (aims.LinkUp link) stage = link < length stage.net.cables.items
+IsWithin (aims.LinkSet link bounds) stage = link < length stage.net.cables.items
+IsWithin (aims.Fail place) stage = place < length stage.stations.items
+IsWithin (aims.Recover place) stage = place < length stage.stations.items
+IsWithin (aims.Priority1 place value) stage = place < length stage.stations.items
+
+link_within : (stage : Stage) (link : ℕ) (channel : Channel) → slice_get (world_of stage).net.channels link ≡ Some channel
+    → link < length stage.net.cables.items
+link_within stage link channel here =
+    subst (λ n. link < n) (length-map stage.net.cables.items channel_of)
+    (slice_get_within (map channel_of stage.net.cables.items) link channel here)
+
+change_within : (change : Change) (aim : Aim) (stage : Stage) → IsAimOfChange change (world_of stage) aim → IsWithin aim stage
+change_within (changes.LinkDown number port) (aims.LinkDown link) stage at = link_within stage link at.channel at.is.here
+change_within (changes.LinkUp number port) (aims.LinkUp link) stage at = link_within stage link at.channel at.is.here
+change_within (changes.LinkSet number port min max loss) (aims.LinkSet link bounds) stage (at, is) =
+    link_within stage link at.channel at.is.here
+change_within (changes.Fail number) (aims.Fail place) stage at = slice_get_within stage.stations.items place at.station at.is.here
+change_within (changes.Recover number) (aims.Recover place) stage at =
+    slice_get_within stage.stations.items place at.station at.is.here
+change_within (changes.Priority1 number value) (aims.Priority1 place set) stage (at, is) =
+    slice_get_within stage.stations.items place at.station at.is.here
+change_within change aim stage at = absurd at
+
+pub aim_within : (act : Act) (aim : Aim) (stage : Stage) → IsAimOf act (world_of stage) aim → IsWithin aim stage
+aim_within (Deliver link direction) (aims.Arrival lane) stage (same, (way, at)) =
+    subst (λ i. i < length stage.net.cables.items) (sym same) (link_within stage link at.channel at.here)
+aim_within (Expire number timer) (aims.Timer place set) stage (at, same) =
+    slice_get_within stage.stations.items place at.station at.is.here
+aim_within (Changing change) aim stage at = change_within change aim stage at
+aim_within act aim stage at = absurd at
+
+-- ---- a frame that arrives
+
+pub frame_due : (stage : Stage) (lane : Lane) (time : ℕ)
+    → AtPlace lane.link (world_of stage).net (IsOldestDue lane.direction time) → IsFrameDue lane time stage.net
+frame_due stage lane time at =
+    let made = from_map channel_of stage.net.cables.items lane.link at.channel at.here in
+    record {
+      cable = made.one;
+      here = made.there;
+      oldest = at.so.oldest;
+      rest = at.so.rest;
+      front = sym (queue_same lane.direction made.one) ∙ (ap (queue lane.direction) (sym made.is) ∙ at.so.front);
+      due_now = at.so.due;
+    }
+
+-- nothing is in flight on a link that is down
+carries_up : (direction : Direction) (channel : Channel) (time : ℕ) → Flows direction channel → IsOldestDue direction time channel
+    → channel.up ≡ true
+carries_up direction channel time flows oldest = by channel.up refl
+  where
+    by : (up : Bool) → channel.up ≡ up → channel.up ≡ true
+    by true is = is
+    by false is =
+        let none : [] ≡ oldest.oldest ∷ oldest.rest = sym (flows.still is) ∙ oldest.front in absurd cc
+
+-- where one direction of a link ends the other begins
+end_up : (w : WorldState) (link place : ℕ) (direction : Direction) (channel : Channel) (station : Station) → AreLinked w
+    → slice_get w.net.channels link ≡ Some channel → channel.up ≡ true → slice_get w.stations place ≡ Some station
+    → station.live ≡ true → clock station.system ≡ (receiver direction channel).clock
+    → IsUp station.system (receiver direction channel).port
+end_up w link place FromA channel station linked there up here live named =
+    linked link place FromB channel station there up here live named
+end_up w link place FromB channel station linked there up here live named =
+    linked link place FromA channel station there up here live named
+
+-- the directory knows where a lane ends
+end_is : (stage : Stage) (link : ℕ) (direction : Direction) (join : Join) (channel : Channel) → IsStage stage
+    → slice_get stage.net.directory.joins link ≡ Some join → slice_get (world_of stage).net.channels link ≡ Some channel
+    → end_of direction join ≡ receiver direction channel
+end_is stage link direction join channel is there here =
+    let made = from_map channel_of stage.net.cables.items link channel here in
+    let one : join ≡ join_of made.one =
+    same_Some join (join_of made.one) (sym there ∙ known_join stage.net link made.one is.net made.there) in
+    ap (end_of direction) one ∙ (end_same direction made.one ∙ ap (receiver direction) (sym made.is))
+
+-- the port that a frame reaches is one whose link is up
+pub may_hear : (stage : Stage) (lane : Lane) (time : ℕ) → IsStage stage → IsWired (world_of stage)
+    → AtPlace lane.link (world_of stage).net (IsOldestDue lane.direction time) → MayHear lane stage
+may_hear stage lane time is wired at = λ join place there placed station here live.
+    let ends = end_is stage lane.link lane.direction join at.channel is there at.here in
+    let known : slice_get stage.net.directory.clocks place ≡ Some (clock station.system) =
+    ap (λ cs. slice_get cs place) (sym is.clocks) ∙ get-map clock_at stage.stations.items place station here in
+    let named : clock station.system ≡ (end_of lane.direction join).clock =
+    same_Some (clock station.system) (end_of lane.direction join).clock (sym known ∙ placed) in
+    let up = carries_up lane.direction at.channel time (wired.flow lane.link lane.direction at.channel at.here) at.so in
+    subst (λ (port : PortId). IsUp station.system port.port) (sym ends)
+    (end_up (world_of stage) lane.link place lane.direction at.channel station wired.linked at.here up here live
+    (named ∙ ap (λ (port : PortId). port.clock) ends))
+
+-- it is told where the frame went
+pub arrived : {F : Type 0} (answers : Bounds → ℕ → F → Option ℕ → F → Type 0) (lane : Lane) (reached : PortId)
+    (answer : Option Answer) (octets : List ℕ) (done : Done) (fate fate_after : F) (stage stage' : Stage) → IsStage stage
+    → Tells reached answer octets done → Delivered answers lane reached answer octets fate fate_after stage stage'
+    → Acted answers (Deliver lane.link lane.direction) done fate fate_after stage stage'
+arrived answers lane reached answer octets done fate fate_after stage stage' is told delivered =
+    let delivers = delivered.delivers in let channel = delivers.channel in
+    let ends : reached ≡ receiver lane.direction channel =
+    delivered.is_end ∙ end_is stage lane.link lane.direction delivered.join channel is delivered.there delivers.takes.here in
+    record {
+      draws = delivered.draws;
+      drawn = delivered.drawn;
+      acts = record {
+        channel = channel;
+        octets = octets;
+        answer = answer;
+        here = delivers.takes.here;
+        told = subst (λ port. Tells port answer octets done) ends told;
+        delivers = delivers;
+      };
+    }
+
+-- the act is that delivery
+no_change_arrives : (change : Change) (lane : Lane) (w : WorldState) → IsAimOfChange change w (aims.Arrival lane) → ⊥
+no_change_arrives (changes.LinkDown number port) lane w at = at
+no_change_arrives change lane w at = at
+
+pub record IsDelivery (act : Act) (lane : Lane) (time : ℕ) (w : WorldState) : Type 0 where
+  pub act_is : act ≡ Deliver lane.link lane.direction
+  pub due : AtPlace lane.link w.net (IsOldestDue lane.direction time)
+
+pub is_delivery : (act : Act) (lane : Lane) (time : ℕ) (w : WorldState) → IsAimOf act w (aims.Arrival lane) → IsDueThen act time w
+    → IsDelivery act lane time w
+is_delivery (Deliver link direction) lane time w (same, (way, at)) due = record {
+  act_is = rw (same, way) refl;
+  due = rw (same, way) due;
+}
+is_delivery (Changing change) lane time w at due = absurd (no_change_arrives change lane w at)
+is_delivery act lane time w at due = absurd at
+
+-- ---- a timer that expires
+
+no_change_expires : (change : Change) (place : ℕ) (timer : Timer) (w : WorldState)
+    → IsAimOfChange change w (aims.Timer place timer) → ⊥
+no_change_expires (changes.LinkDown number port) place timer w at = at
+no_change_expires change place timer w at = at
+
+-- the act is that expiry
+pub record IsExpiry (act : Act) (place : ℕ) (timer : Timer) (time : ℕ) (w : WorldState) : Type 0 where
+  pub number : ℕ
+  pub act_is : act ≡ Expire number timer
+  pub station : Station
+  pub is : IsStation number place w station
+  pub due : station_due timer station ≡ Some time
+
+pub is_expiry : (act : Act) (place : ℕ) (timer : Timer) (time : ℕ) (w : WorldState) → HaveOwnClocks w
+    → IsAimOf act w (aims.Timer place timer) → IsDueThen act time w → IsExpiry act place timer time w
+is_expiry (Expire number timer) place set time w own (at, same) due =
+    let one : place ≡ due.place =
+    own place due.place at.station due.station at.is.here due.is.here (at.is.named ∙ sym due.is.named) in
+    record {
+      number = number;
+      act_is = rw same refl;
+      station = due.station;
+      is = record { here = ap (slice_get w.stations) one ∙ due.is.here; named = due.is.named };
+      due = rw same due.so;
+    }
+is_expiry (Changing change) place timer time w own at due = absurd (no_change_expires change place timer w at)
+is_expiry act place timer time w own at due = absurd at
+
+pub expiry_told : {F : Type 0} (answers : Bounds → ℕ → F → Option ℕ → F → Type 0) (act : Act) (place : ℕ) (timer : Timer)
+    (fate fate_after : F) (stage stage' : Stage) → IsExpiry act place timer stage.now (world_of stage)
+    → Expired answers place timer fate fate_after stage stage' → Acted answers act Quiet fate fate_after stage stage'
+expiry_told answers act place timer fate fate_after stage stage' is expired = record {
+  draws = expired.draws;
+  drawn = expired.drawn;
+  acts = subst (λ x. Acts x (world_of stage) expired.draws Quiet (world_of stage')) (sym is.act_is)
+      (refl, record { place = place; station = is.station; is = is.is; so = expired.expires });
+}
+
+-- ---- a change, by place
+
+-- what is so of a link with the state in which it was found
+pub of_link : (stage : Stage) (link : ℕ) (up : Bool) (So : Bool → Channel → Type 0)
+    → ((cable : Cable) → slice_get stage.net.cables.items link ≡ Some cable → up ≡ cable.link.up)
+    → OfLink link (world_of stage) (So up) → OfLink link (world_of stage) (λ channel. So channel.up channel)
+of_link stage link up So found so = λ channel here.
+    let made = from_map channel_of stage.net.cables.items link channel here in
+    let is : up ≡ channel.up = found made.one made.there ∙ ap (λ (x : Channel). x.up) (sym made.is) in
+    subst (λ b. So b channel) is (so channel here)
+
+-- what is so of one is so of the link there
+pub of_this : (w : WorldState) (link : ℕ) (one : Channel) (So : Channel → Type 0) → slice_get w.net.channels link ≡ Some one
+    → So one → OfLink link w So
+of_this w link one So there so = λ channel here. subst So (same_Some one channel (sym there ∙ here)) so
+
+-- the same of a system
+pub of_system : (stage : Stage) (place : ℕ) (one : Station) (live : Bool) (So : Bool → Station → Type 0)
+    → one ≡ slice_index_or stage.stations.items place one → one.live ≡ live
+    → OfSystem place (world_of stage) (So live) → OfSystem place (world_of stage) (λ station. So station.live station)
+of_system stage place one live So value is so = λ station here.
+    let same : one ≡ station = value ∙ read stage.stations.items place station one here in
+    subst (λ b. So b station) (sym is ∙ ap (λ (x : Station). x.live) same) (so station here)
+
+pub of_that : (w : WorldState) (place : ℕ) (one : Station) (So : Station → Type 0) → slice_get w.stations place ≡ Some one
+    → So one → OfSystem place w So
+of_that w place one So there so = λ station here. subst So (same_Some one station (sym there ∙ here)) so
+
+-- ---- a change, by name
+
+-- the world in which now is the time of the last change
+abbrev pub changed_now : Stage → Stage
+changed_now stage = record stage { last_change = stage.now }
+
+pub changes_so : (change : Change) (aim : Aim) (stage : Stage) (draws : List Draw) (w' : WorldState)
+    → IsAimOfChange change (world_of stage) aim → Turns aim (world_of (changed_now stage)) draws w'
+    → Changes change (world_of (changed_now stage)) draws w'
+changes_so (changes.LinkDown number port) (aims.LinkDown link) stage draws w' at turns =
+    record { place = link; channel = at.channel; is = at.is; so = turns at.channel at.is.here }
+changes_so (changes.LinkUp number port) (aims.LinkUp link) stage draws w' at turns =
+    record { place = link; channel = at.channel; is = at.is; so = turns at.channel at.is.here }
+changes_so (changes.LinkSet number port min max loss) (aims.LinkSet link bounds) stage draws w' (at, is) turns =
+    let w = world_of (changed_now stage) in
+    record {
+      place = link;
+      channel = at.channel;
+      is = at.is;
+      so = subst (λ b. (draws ≡ []) × (w' ≡ record w { net = with_bounds b link at.channel w.net })) is
+          (turns at.channel at.is.here);
+    }
+changes_so (changes.Fail number) (aims.Fail place) stage draws w' at turns = record {
+  place = place;
+  station = at.station;
+  is = record { here = at.is.here; named = at.is.named };
+  so = turns at.station at.is.here;
+}
+changes_so (changes.Recover number) (aims.Recover place) stage draws w' at turns = record {
+  place = place;
+  station = at.station;
+  is = record { here = at.is.here; named = at.is.named };
+  so = turns at.station at.is.here;
+}
+changes_so (changes.Priority1 number value) (aims.Priority1 place set) stage draws w' (at, is) turns =
+    let w = world_of (changed_now stage) in
+    record {
+      place = place;
+      station = at.station;
+      is = record { here = at.is.here; named = at.is.named };
+      so = subst (λ v. CallsIfLive place (Priority v) (with_station place (with_setup v at.station) w) draws w') is
+          (turns at.station at.is.here);
+    }
+changes_so change aim stage draws w' at turns = absurd at
+
+-- what is changed can be changed
+pub can_change : (change : Change) (aim : Aim) (stage : Stage) → IsSound (world_of stage) → IsFitAct (Changing change)
+    → IsAimOfChange change (world_of stage) aim → CanChange aim (changed_now stage)
+can_change (changes.LinkDown number port) (aims.LinkDown link) stage sound fit at = link_within stage link at.channel at.is.here
+can_change (changes.LinkUp number port) (aims.LinkUp link) stage sound fit at = link_within stage link at.channel at.is.here
+can_change (changes.LinkSet number port min max loss) (aims.LinkSet link bounds) stage sound fit (at, is) = (
+  link_within stage link at.channel at.is.here,
+  rw is (record { positive = fit.positive; ordered = fit.ordered; short = fit.short; share = fit.share }),
+)
+can_change (changes.Fail number) (aims.Fail place) stage sound fit at =
+    slice_get_within stage.stations.items place at.station at.is.here
+can_change (changes.Recover number) (aims.Recover place) stage sound fit at = record {
+  station = at.station;
+  here = at.is.here;
+  setup = sound.wired.setups place at.station at.is.here;
+  params = (sound.on_time.stations place at.station at.is.here).setup;
+}
+can_change (changes.Priority1 number value) (aims.Priority1 place set) stage sound fit (at, is) =
+    slice_get_within stage.stations.items place at.station at.is.here
+can_change change aim stage sound fit at = absurd at
+
+-- the time of the last change takes no room
+pub same_stage : (stage : Stage) → IsStage stage → IsStage (changed_now stage)
+same_stage stage is = record {
+  net = is.net;
+  clocks = is.clocks;
+  systems = is.systems;
+  few = is.few;
+  ports = is.ports;
+  empty = is.empty;
+  moment = is.moment;
+}
+
+same_room_at_ends : (link : ℕ) (stage : Stage) → HasRoomAtEnds link stage → HasRoomAtEnds link (changed_now stage)
+same_room_at_ends link stage has =
+    let both = has.room in
+    record {
+      a = has.a;
+      b = has.b;
+      ends = has.ends;
+      room = record {
+        station_a = both.station_a;
+        station_b = both.station_b;
+        here_a = both.here_a;
+        here_b = both.here_b;
+        room = both.room;
+      };
+    }
+
+pub same_room : (aim : Aim) (stage : Stage) → HasRoomForAim aim stage → HasRoomForAim aim (changed_now stage)
+same_room (aims.Arrival lane) stage has = λ join place there placed.
+    let call = has join place there placed in record { station = call.station; here = call.here; room = call.room }
+same_room (aims.Timer place timer) stage has = record { station = has.station; here = has.here; room = has.room }
+same_room (aims.LinkDown link) stage has = same_room_at_ends link stage has
+same_room (aims.LinkUp link) stage has = same_room_at_ends link stage has
+same_room (aims.LinkSet link bounds) stage has = has
+same_room (aims.Fail place) stage has = record { station = has.station; here = has.here; room = has.room }
+same_room (aims.Recover place) stage has = record { station = has.station; here = has.here; room = has.room }
+same_room (aims.Priority1 place value) stage has = record { station = has.station; here = has.here; room = has.room }
+
+-- an act that is neither a delivery nor an expiry is a change
+pub record IsSomeChange (act : Act) (aim : Aim) (w : WorldState) : Type 0 where
+  pub change : Change
+  pub act_is : act ≡ Changing change
+  pub at : IsAimOfChange change w aim
+
+pub is_change : (act : Act) (aim : Aim) (w : WorldState) → ((lane : Lane) → aim ≢ aims.Arrival lane)
+    → ((place : ℕ) (timer : Timer) → aim ≢ aims.Timer place timer) → IsAimOf act w aim → IsSomeChange act aim w
+is_change (Deliver link direction) (aims.Arrival lane) w no_arrival no_timer at = absurd (no_arrival lane refl)
+is_change (Expire number timer) (aims.Timer place set) w no_arrival no_timer at = absurd (no_timer place set refl)
+is_change (Changing change) aim w no_arrival no_timer at = record { change = change; act_is = refl; at = at }
+is_change act aim w no_arrival no_timer at = absurd at
+
+pub change_told : {F : Type 0} (answers : Bounds → ℕ → F → Option ℕ → F → Type 0) (act : Act) (aim : Aim) (fate fate_after : F)
+    (stage stage' : Stage) → IsSomeChange act aim (world_of stage)
+    → Turned answers aim fate fate_after (changed_now stage) stage' → Acted answers act Quiet fate fate_after stage stage'
+change_told answers act aim fate fate_after stage stage' is turned = record {
+  draws = turned.draws;
+  drawn = turned.drawn;
+  acts = subst (λ x. Acts x (world_of stage) turned.draws Quiet (world_of stage')) (sym is.act_is)
+      (refl, changes_so is.change aim stage turned.draws (world_of stage') is.at turned.turns);
+}

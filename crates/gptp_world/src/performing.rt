@@ -1,0 +1,179 @@
+//! Acts that are carried out.
+
+use crate::aim::Aim;
+use crate::cable::Lane;
+use crate::change::Act;
+use crate::delivering::Reached;
+use crate::done::Done;
+use crate::stage::Stage;
+use gptp_links::{Bounds, Fate};
+use std::alloc::AllocError;
+
+impl Stage {
+    ghost use Rattle.std.specs.Prelude.{◌≡◌, ◌<◌, [], length};
+    ghost use Rattle.gptp_links.specs.Bounds.{Fit};
+    ghost use Rattle.gptp_world.specs.declared.aim.Aim.TheVariants.{LinkDown, LinkUp, LinkSet, Fail, Recover};
+    ghost use Rattle.gptp_world.specs.declared.change.Act.TheVariants.{Deliver};
+    ghost use Rattle.gptp_world.specs.Acts.{AtPlace, IsOldestDue};
+    ghost use Rattle.gptp_world.specs.Delivering.{HasRoomToHear};
+    ghost use Rattle.gptp_world.specs.Performing.{Acted, CanChange, HasRoomForAim, Turned, Turns};
+    ghost use Rattle.gptp_world.specs.Sound.{IsWired};
+    ghost use Rattle.gptp_world.specs.Stage.{world_of, HasRoomToCall, IsStage};
+    ghost use Rattle.gptp_world.specs.Starting.{CanStart, HasRoomToStart};
+    ghost use Rattle.gptp_world.specs.Telling.{HasRoomAtEnds};
+
+    /// The oldest frame of a lane, which is due now, arrives.
+    fn arrive<F: Fate>(&mut self, lane: Lane, fate: &mut F) -> Done
+        requires stage { IsStage self.old }
+        requires wired { IsWired (world_of self.old) }
+        requires due { AtPlace lane.link (world_of self.old).net (IsOldestDue lane.direction self.old.now) }
+        requires room { HasRoomToHear lane self.old }
+        ensures stage { IsStage self.new }
+        ensures arrived { Acted F.answers (Deliver lane.link lane.direction) result fate.old fate.new self.old self.new }
+    {
+        let Reached { at, answer, frame } = self.deliver(lane, fate);
+        Done::Heard {
+            clock: at.clock,
+            port: at.port,
+            answer,
+            frame,
+        }
+    }
+
+    /// A link goes down, where it is up.
+    fn take_link_down<F: Fate>(&mut self, link: usize, fate: &mut F)
+        requires stage { IsStage self.old }
+        requires link { link < length self.old.net.cables.items }
+        requires room { HasRoomAtEnds link self.old }
+        ensures stage { IsStage self.new }
+        ensures down { Turned F.answers (LinkDown link) fate.old fate.new self.old self.new }
+    {
+        if self.net.is_up(link) {
+            self.link_down(link, fate);
+        }
+    }
+
+    /// A link comes up, where it is down.
+    fn bring_link_up<F: Fate>(&mut self, link: usize, fate: &mut F)
+        requires stage { IsStage self.old }
+        requires link { link < length self.old.net.cables.items }
+        requires room { HasRoomAtEnds link self.old }
+        ensures stage { IsStage self.new }
+        ensures up { Turned F.answers (LinkUp link) fate.old fate.new self.old self.new }
+    {
+        if !self.net.is_up(link) {
+            self.link_up(link, fate);
+        }
+    }
+
+    /// A link gets other bounds.
+    fn set_link(&mut self, link: usize, bounds: Bounds)
+        requires stage { IsStage self.old }
+        requires link { link < length self.old.net.cables.items }
+        requires fit { Fit bounds }
+        ensures stage { IsStage self.new }
+        ensures set { Turns (LinkSet link bounds) (world_of self.old) [] (world_of self.new) }
+    {
+        self.net.set_bounds(link, bounds);
+    }
+
+    /// A system fails, where it is live.
+    fn fail_if_live(&mut self, place: usize)
+        requires stage { IsStage self.old }
+        requires room { HasRoomToCall 1 place self.old }
+        ensures stage { IsStage self.new }
+        ensures failed { Turns (Fail place) (world_of self.old) [] (world_of self.new) }
+    {
+        if self.stations[place].live {
+            self.fail(place);
+        }
+    }
+
+    /// A system starts again, where it has failed.
+    fn recover<F: Fate>(&mut self, place: usize, fate: &mut F)
+        requires stage { IsStage self.old }
+        requires can { CanStart place self.old }
+        requires room { HasRoomToStart place self.old }
+        ensures stage { IsStage self.new }
+        ensures recovered { Turned F.answers (Recover place) fate.old fate.new self.old self.new }
+    {
+        if !self.stations[place].live {
+            self.start(place, fate);
+        }
+    }
+
+    /// What a change is about is changed.
+    fn change<F: Fate>(&mut self, aim: Aim, fate: &mut F)
+        requires stage { IsStage self.old }
+        requires can { CanChange aim self.old }
+        requires room { HasRoomForAim aim self.old }
+        ensures stage { IsStage self.new }
+        ensures changed { Turned F.answers aim fate.old fate.new self.old self.new }
+    {
+        match aim {
+            Aim::LinkDown(link) => self.take_link_down(link, fate),
+            Aim::LinkUp(link) => self.bring_link_up(link, fate),
+            Aim::LinkSet { link, bounds } => self.set_link(link, bounds),
+            Aim::Fail(place) => self.fail_if_live(place),
+            Aim::Recover(place) => self.recover(place, fate),
+            Aim::Priority1 { place, value } => self.set_priority1(place, value, fate),
+            Aim::Arrival(_) => {}
+            Aim::Timer { place: _, timer: _ } => {}
+        }
+    }
+}
+
+impl Stage {
+    ghost use Rattle.std.specs.Prelude.{◌≡◌, OnOk};
+    ghost use Rattle.gptp_world.specs.Acts.{IsDueThen, IsFitAct};
+    ghost use Rattle.gptp_world.specs.Aim.{IsAimOf};
+    ghost use Rattle.gptp_world.specs.Performing.{Acted, HasRoomForAim};
+    ghost use Rattle.gptp_world.specs.Sound.{IsSound};
+    ghost use Rattle.gptp_world.specs.Stage.{world_of, IsStage};
+
+    /// Makes room for whatever an act can leave. Refused where there is no memory for it. The state of the world doesn't
+    /// change.
+    pub(crate) fn make_room_for(&mut self, act: &Act, aim: Aim) -> Result<(), AllocError>
+        requires stage { IsStage self.old }
+        requires aim { IsAimOf act.now (world_of self.old) aim }
+        ensures stage { IsStage self.new }
+        ensures world { world_of self.new ≡ world_of self.old }
+        ensures room { OnOk result (HasRoomForAim aim self.new) }
+    {
+        match aim {
+            Aim::Arrival(lane) => self.make_room_to_hear(lane),
+            Aim::Timer { place, timer: _ } => self.make_room(place, 1),
+            Aim::LinkDown(link) => self.make_room_at_ends(link),
+            Aim::LinkUp(link) => self.make_room_at_ends(link),
+            Aim::LinkSet { link: _, bounds: _ } => Ok(()),
+            Aim::Fail(place) => self.make_room(place, 1),
+            Aim::Recover(place) => self.make_room_to_start(place),
+            Aim::Priority1 { place, value: _ } => self.make_room(place, 1),
+        }
+    }
+
+    /// An act that is there, and due now, is carried out.
+    pub(crate) fn perform<F: Fate>(&mut self, act: &Act, aim: Aim, fate: &mut F) -> Done
+        requires stage { IsStage self.old }
+        requires sound { IsSound (world_of self.old) }
+        requires aim { IsAimOf act.now (world_of self.old) aim }
+        requires due { IsDueThen act.now self.old.now (world_of self.old) }
+        requires fit { IsFitAct act.now }
+        requires room { HasRoomForAim aim self.old }
+        ensures stage { IsStage self.new }
+        ensures acted { Acted F.answers act.now result fate.old fate.new self.old self.new }
+    {
+        match aim {
+            Aim::Arrival(lane) => self.arrive(lane, fate),
+            Aim::Timer { place, timer } => {
+                self.run_out(place, timer, fate);
+                Done::Quiet
+            }
+            _ => {
+                self.last_change = self.now;
+                self.change(aim, fate);
+                Done::Quiet
+            }
+        }
+    }
+}
