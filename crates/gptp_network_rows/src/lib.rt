@@ -7,3 +7,5 @@
 mod document;
 #[cfg(test)]
 mod pending;
+#[cfg(test)]
+mod world;

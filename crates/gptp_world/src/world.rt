@@ -1,6 +1,7 @@
 //! Simulated worlds.
 
 use crate::change::Timed;
+use crate::done::{Done, Refused};
 use crate::network::Network;
 use crate::scene::Scene;
 use gptp_links::Fate;
@@ -17,9 +18,9 @@ pub struct World<F> {
 }
 
 impl<F: Fate + Drop> World<F> {
-    ghost use Rattle.std.specs.Prelude.{◌≡◌, IfOk, IfSome, IfNone, length, []};
-    ghost use Rattle.gptp_world.specs.Acts.{AtSystem};
-    ghost use Rattle.gptp_world.specs.Scene.{Begun};
+    ghost use Rattle.std.specs.Prelude.{◌≡◌, ◌≤◌, IfErr, IfNone, IfOk, IfSome, OnErr, length, []};
+    ghost use Rattle.gptp_world.specs.Acts.{AtSystem, IsFitAct, Refuses};
+    ghost use Rattle.gptp_world.specs.Scene.{Begun, WasDone};
     ghost use Rattle.gptp_world.specs.Views.{IsLiveSystem, IsNextAct, ShowsLive};
 
     /// The world of a network at time 0: all its systems have started, in their order, and their first frames are in flight.
@@ -30,6 +31,22 @@ impl<F: Fate + Drop> World<F> {
         let mut fate = fate;
         let scene = Scene::new(alloc, network, &mut fate)?;
         Ok(World { scene, fate })
+    }
+
+    /// An act is done at its time: a frame that is due is delivered, a timer that is due expires, or the network is changed.
+    /// Times are at most 10^15 ns, and bounds that are set keep their ranges.
+    ///
+    /// Refused, in this order, with `InThePast` where its time has passed, `Untimely` where something is due earlier, `NoSuch`
+    /// where there is no such link or system, no such port of a timer, or no link at the port of a change, `NotDue`, and
+    /// `OutOfMemory`. Then nothing changes. A frame that is due is delivered to a failed system too, and dropped there.
+    pub fn act(&mut self, timed: Timed) -> Result<Done, Refused>
+        requires moment { timed.at ≤ 1000000000000000 }
+        requires fit { IsFitAct timed.act }
+        ensures done { IfOk result (WasDone F.answers timed self.old.fate self.new.fate self.old.scene self.new.scene) }
+        ensures refused { IfErr result (Refuses timed.act timed.at self.old.scene) }
+        ensures kept { OnErr result (self.new ≡ self.old) }
+    {
+        self.scene.act(&timed, &mut self.fate)
     }
 
     /// The time, in ns.
