@@ -1,5 +1,5 @@
 -- The ends of a link are told of a change of it, one after the other.
-use Rattle.std.proofs.Common.{◌≡◌, ◌≢◌, ℕ, ◌≤◌, List, [], ◌++◌, false, map, Option, Some, length, slice_get, slice_index_or, refl, ap, sym, subst, ◌∙◌, inl, inr, arith}
+use Rattle.std.proofs.Common.{◌≡◌, ◌≢◌, ℕ, ◌≤◌, List, [], ◌++◌, false, map, Option, Some, slice_get, slice_index_or, refl, ap, sym, subst, ◌∙◌, inl, inr, arith}
 use Rattle.std.proofs.lemmas.Option.{same_Some}
 use Rattle.gptp_links.specs.declared.bounds.Bounds.{Bounds}
 use Rattle.gptp_links.specs.declared.link.Direction.{Direction}
@@ -8,17 +8,16 @@ use Rattle.gptp_links.specs.Fate.{Draw, Draws}
 use Rattle.gptp_links.proofs.DrawLemmas as draws
 use Rattle.gptp_system.specs.Input.{Input}
 use Rattle.gptp_system.specs.State.{clock}
-use Rattle.gptp_system.specs.Steps.{IsPortOf}
 use Rattle.gptp_vector.specs.declared.port.PortId.{PortId}
 use Rattle.gptp_world.specs.declared.cable.Cable.{Cable}
 use Rattle.gptp_world.specs.declared.net.Net.{Net as Between}
 use Rattle.gptp_world.specs.declared.stage.Stage.{Stage}
 use Rattle.gptp_world.specs.declared.station.Station.{Station}
 use Rattle.gptp_world.specs.declared.telling.End.{End}
-use Rattle.gptp_world.specs.Act.{in_state, Calls}
+use Rattle.gptp_world.specs.Act.{in_state}
 use Rattle.gptp_world.specs.Cable.{channel_of, join_of}
 use Rattle.gptp_world.specs.Changing.{CallsIfLive, TellsEnds}
-use Rattle.gptp_world.specs.Directory.{end_of, start_of, BeginsAt, DirectoryState, IsDirectory, IsPlan, Join}
+use Rattle.gptp_world.specs.Directory.{end_of, start_of, DirectoryState, IsDirectory, IsPlan, Join}
 use Rattle.gptp_world.specs.Net.{port_id, IsNet}
 use Rattle.gptp_world.specs.Room.{both, for_call, nothing, repeated, HasRoom, Need, Uses}
 use Rattle.gptp_world.specs.Stage.{clock_at, world_of, CallUses, HasRoomToCall, HasRoomToCallBoth, IsPortAt, IsStage}
