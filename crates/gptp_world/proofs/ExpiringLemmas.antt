@@ -1,8 +1,7 @@
 -- How a timer of a system expires.
-use Rattle.std.proofs.Common.{◌≡◌, ◌<◌, ◌≤◌, ℕ, length, Option, Some, slice_get, subst, arith}
+use Rattle.std.proofs.Common.{◌≡◌, ◌≤◌, ℕ, length, Option, subst, arith}
 use Rattle.std.proofs.lemmas.Option.{slice_get_within}
 use Rattle.gptp_links.specs.declared.bounds.Bounds.{Bounds}
-use Rattle.gptp_links.specs.Fate.{Draw}
 use Rattle.gptp_system.specs.declared.timer.Timer.{Timer}
 use Rattle.gptp_system.specs.declared.timer.Timer.TheVariants as timers
 use Rattle.gptp_system.specs.Input.{Expires as TimerExpires}
@@ -18,7 +17,6 @@ use Rattle.gptp_world.specs.Net.{between}
 use Rattle.gptp_world.specs.Pending.{without_first, IsKnown}
 use Rattle.gptp_world.specs.Performing.{Expired}
 use Rattle.gptp_world.specs.Stage.{world_of, Called, IsStage}
-use Rattle.gptp_world.specs.World.{Net, WorldState}
 use Rattle.gptp_world.proofs.NextDueLemmas.{runs_out}
 
 -- the ports of timers are numbered as those of their system
@@ -31,7 +29,8 @@ timer_few s timers.Sync few of = omega arith
 timer_few s timers.Relay few of = omega arith
 
 -- a timer that is due is one that can be pending
-pub known_timer : (stage : Stage) (place : ℕ) (timer : Timer) → IsStage stage → IsTimerDue place timer stage.now (world_of stage)
+pub known_timer : (stage : Stage) (place : ℕ) (timer : Timer) → IsStage stage
+    → IsTimerDue place timer stage.now (world_of stage)
     → IsKnown stage.net.pending.systems stage.net.pending.links (Expiry place timer)
 known_timer stage place timer is due =
     let runs = runs_out place timer stage.now (world_of stage) due.station due.here due.due in
@@ -41,9 +40,11 @@ known_timer stage place timer is due =
     )
 
 -- its entry is taken, and then its system is told
-pub expired : {F : Type 0} (answers : Bounds → ℕ → F → Option ℕ → F → Type 0) (place : ℕ) (timer : Timer) (fate fate_after : F)
+pub expired : {F : Type 0} (answers : Bounds → ℕ → F → Option ℕ → F → Type 0)
+    (place : ℕ) (timer : Timer) (fate fate_after : F)
     (stage : Stage) (net : Between) (stage' : Stage) → IsTimerDue place timer stage.now (world_of stage)
-    → between net ≡ record (between stage.net) { pending = without_first (Expiry place timer) (between stage.net).pending }
+    → between net
+    ≡ record (between stage.net) { pending = without_first (Expiry place timer) (between stage.net).pending }
     → Called answers place (TimerExpires timer) fate fate_after (record stage { net = net }) stage'
     → Expired answers place timer fate fate_after stage stage'
 expired answers place timer fate fate_after stage net stage' due taken told =
@@ -57,7 +58,8 @@ expired answers place timer fate fate_after stage net stage' due taken told =
         here = due.here;
         now_due = due.due;
         calls = subst
-            (λ n. Calls place (TimerExpires timer) (record (world_of stage) { net = n }) called.draws told.answer (world_of stage'))
+            (λ n. Calls place (TimerExpires timer) (record (world_of stage) { net = n }) called.draws told.answer
+            (world_of stage'))
             taken called.calls;
       };
     }

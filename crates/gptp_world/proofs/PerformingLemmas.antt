@@ -1,5 +1,5 @@
 -- Acts that are there, and due, are carried out.
-use Rattle.std.proofs.Common.{◌≡◌, ◌≢◌, ◌<◌, ◌≤◌, ℕ, Bool, true, false, List, [], ◌∷◌, map, length, Option, Some, slice_get, slice_index_or, refl, ap, sym, subst, ◌∙◌}
+use Rattle.std.proofs.Common.{◌≡◌, ◌≢◌, ◌<◌, ℕ, Bool, true, false, List, [], ◌∷◌, map, length, Option, Some, slice_get, slice_index_or, refl, ap, sym, subst, ◌∙◌}
 use Rattle.std.proofs.lemmas.List.{length-map}
 use Rattle.std.proofs.lemmas.Option.{same_Some, slice_get_within}
 use Rattle.gptp_links.specs.declared.bounds.Bounds.{Bounds}
@@ -24,18 +24,18 @@ use Rattle.gptp_world.specs.declared.done.Done.{Done}
 use Rattle.gptp_world.specs.declared.done.Done.TheVariants.{Quiet}
 use Rattle.gptp_world.specs.declared.stage.Stage.{Stage}
 use Rattle.gptp_world.specs.declared.station.Station.{Station}
-use Rattle.gptp_world.specs.Acts.{Acts, AtPlace, Changes, IsDueThen, IsFitAct, IsOldestDue, Tells}
+use Rattle.gptp_world.specs.Acts.{Acts, AtPlace, Changes, IsFitAct, IsOldestDue, Tells}
 use Rattle.gptp_world.specs.Aim.{IsAimOf, IsAimOfChange}
 use Rattle.gptp_world.specs.Cable.{channel_of, join_of}
-use Rattle.gptp_world.specs.Changing.{with_bounds, with_setup, with_station, CallsIfLive, IsStation}
+use Rattle.gptp_world.specs.Changing.{with_bounds, with_setup, with_station, CallsIfLive}
 use Rattle.gptp_world.specs.Delivering.{Delivered, MayHear}
 use Rattle.gptp_world.specs.Directory.{end_of, Join}
 use Rattle.gptp_world.specs.Net.{IsFrameDue}
-use Rattle.gptp_world.specs.Performing.{Acted, CanChange, Expired, HasRoomForAim, OfLink, OfSystem, Turned, Turns}
-use Rattle.gptp_world.specs.Sound.{AreLinked, Flows, HaveOwnClocks, IsSound, IsWired}
+use Rattle.gptp_world.specs.Performing.{Acted, CanChange, HasRoomForAim, OfLink, OfSystem, Turned, Turns}
+use Rattle.gptp_world.specs.Sound.{AreLinked, Flows, IsSound, IsWired}
 use Rattle.gptp_world.specs.Stage.{clock_at, world_of, IsStage}
 use Rattle.gptp_world.specs.Telling.{HasRoomAtEnds}
-use Rattle.gptp_world.specs.World.{Channel, WorldState, queue, receiver, station_due}
+use Rattle.gptp_world.specs.World.{Channel, WorldState, queue, receiver}
 use Rattle.gptp_world.proofs.EndLemmas.{end_same, known_join}
 use Rattle.gptp_world.proofs.NetLemmas.{from_map}
 use Rattle.gptp_world.proofs.PlaceLemmas.{get-map, read}
@@ -54,18 +54,22 @@ IsWithin (aims.Fail place) stage = place < length stage.stations.items
 IsWithin (aims.Recover place) stage = place < length stage.stations.items
 IsWithin (aims.Priority1 place value) stage = place < length stage.stations.items
 
-link_within : (stage : Stage) (link : ℕ) (channel : Channel) → slice_get (world_of stage).net.channels link ≡ Some channel
+link_within : (stage : Stage) (link : ℕ) (channel : Channel)
+    → slice_get (world_of stage).net.channels link ≡ Some channel
     → link < length stage.net.cables.items
 link_within stage link channel here =
     subst (λ n. link < n) (length-map stage.net.cables.items channel_of)
     (slice_get_within (map channel_of stage.net.cables.items) link channel here)
 
-change_within : (change : Change) (aim : Aim) (stage : Stage) → IsAimOfChange change (world_of stage) aim → IsWithin aim stage
-change_within (changes.LinkDown number port) (aims.LinkDown link) stage at = link_within stage link at.channel at.is.here
+change_within : (change : Change) (aim : Aim) (stage : Stage) → IsAimOfChange change (world_of stage) aim
+    → IsWithin aim stage
+change_within (changes.LinkDown number port) (aims.LinkDown link) stage at =
+    link_within stage link at.channel at.is.here
 change_within (changes.LinkUp number port) (aims.LinkUp link) stage at = link_within stage link at.channel at.is.here
 change_within (changes.LinkSet number port min max loss) (aims.LinkSet link bounds) stage (at, is) =
     link_within stage link at.channel at.is.here
-change_within (changes.Fail number) (aims.Fail place) stage at = slice_get_within stage.stations.items place at.station at.is.here
+change_within (changes.Fail number) (aims.Fail place) stage at =
+    slice_get_within stage.stations.items place at.station at.is.here
 change_within (changes.Recover number) (aims.Recover place) stage at =
     slice_get_within stage.stations.items place at.station at.is.here
 change_within (changes.Priority1 number value) (aims.Priority1 place set) stage (at, is) =
@@ -96,7 +100,8 @@ frame_due stage lane time at =
     }
 
 -- nothing is in flight on a link that is down
-carries_up : (direction : Direction) (channel : Channel) (time : ℕ) → Flows direction channel → IsOldestDue direction time channel
+carries_up : (direction : Direction) (channel : Channel) (time : ℕ) → Flows direction channel
+    → IsOldestDue direction time channel
     → channel.up ≡ true
 carries_up direction channel time flows oldest = by channel.up refl
   where
@@ -141,13 +146,15 @@ may_hear stage lane time is wired at = λ join place there placed station here l
 
 -- it is told where the frame went
 pub arrived : {F : Type 0} (answers : Bounds → ℕ → F → Option ℕ → F → Type 0) (lane : Lane) (reached : PortId)
-    (answer : Option Answer) (octets : List ℕ) (done : Done) (fate fate_after : F) (stage stage' : Stage) → IsStage stage
+    (answer : Option Answer) (octets : List ℕ) (done : Done) (fate fate_after : F) (stage stage' : Stage)
+    → IsStage stage
     → Tells reached answer octets done → Delivered answers lane reached answer octets fate fate_after stage stage'
     → Acted answers (Deliver lane.link lane.direction) done fate fate_after stage stage'
 arrived answers lane reached answer octets done fate fate_after stage stage' is told delivered =
     let delivers = delivered.delivers in let channel = delivers.channel in
     let ends : reached ≡ receiver lane.direction channel =
-    delivered.is_end ∙ end_is stage lane.link lane.direction delivered.join channel is delivered.there delivers.takes.here in
+    delivered.is_end ∙ end_is stage lane.link lane.direction delivered.join channel is delivered.there
+    delivers.takes.here in
     record {
       draws = delivered.draws;
       drawn = delivered.drawn;
@@ -161,64 +168,6 @@ arrived answers lane reached answer octets done fate fate_after stage stage' is 
       };
     }
 
--- the act is that delivery
-no_change_arrives : (change : Change) (lane : Lane) (w : WorldState) → IsAimOfChange change w (aims.Arrival lane) → ⊥
-no_change_arrives (changes.LinkDown number port) lane w at = at
-no_change_arrives change lane w at = at
-
-pub record IsDelivery (act : Act) (lane : Lane) (time : ℕ) (w : WorldState) : Type 0 where
-  pub act_is : act ≡ Deliver lane.link lane.direction
-  pub due : AtPlace lane.link w.net (IsOldestDue lane.direction time)
-
-pub is_delivery : (act : Act) (lane : Lane) (time : ℕ) (w : WorldState) → IsAimOf act w (aims.Arrival lane) → IsDueThen act time w
-    → IsDelivery act lane time w
-is_delivery (Deliver link direction) lane time w (same, (way, at)) due = record {
-  act_is = rw (same, way) refl;
-  due = rw (same, way) due;
-}
-is_delivery (Changing change) lane time w at due = absurd (no_change_arrives change lane w at)
-is_delivery act lane time w at due = absurd at
-
--- ---- a timer that expires
-
-no_change_expires : (change : Change) (place : ℕ) (timer : Timer) (w : WorldState)
-    → IsAimOfChange change w (aims.Timer place timer) → ⊥
-no_change_expires (changes.LinkDown number port) place timer w at = at
-no_change_expires change place timer w at = at
-
--- the act is that expiry
-pub record IsExpiry (act : Act) (place : ℕ) (timer : Timer) (time : ℕ) (w : WorldState) : Type 0 where
-  pub number : ℕ
-  pub act_is : act ≡ Expire number timer
-  pub station : Station
-  pub is : IsStation number place w station
-  pub due : station_due timer station ≡ Some time
-
-pub is_expiry : (act : Act) (place : ℕ) (timer : Timer) (time : ℕ) (w : WorldState) → HaveOwnClocks w
-    → IsAimOf act w (aims.Timer place timer) → IsDueThen act time w → IsExpiry act place timer time w
-is_expiry (Expire number timer) place set time w own (at, same) due =
-    let one : place ≡ due.place =
-    own place due.place at.station due.station at.is.here due.is.here (at.is.named ∙ sym due.is.named) in
-    record {
-      number = number;
-      act_is = rw same refl;
-      station = due.station;
-      is = record { here = ap (slice_get w.stations) one ∙ due.is.here; named = due.is.named };
-      due = rw same due.so;
-    }
-is_expiry (Changing change) place timer time w own at due = absurd (no_change_expires change place timer w at)
-is_expiry act place timer time w own at due = absurd at
-
-pub expiry_told : {F : Type 0} (answers : Bounds → ℕ → F → Option ℕ → F → Type 0) (act : Act) (place : ℕ) (timer : Timer)
-    (fate fate_after : F) (stage stage' : Stage) → IsExpiry act place timer stage.now (world_of stage)
-    → Expired answers place timer fate fate_after stage stage' → Acted answers act Quiet fate fate_after stage stage'
-expiry_told answers act place timer fate fate_after stage stage' is expired = record {
-  draws = expired.draws;
-  drawn = expired.drawn;
-  acts = subst (λ x. Acts x (world_of stage) expired.draws Quiet (world_of stage')) (sym is.act_is)
-      (refl, record { place = place; station = is.station; is = is.is; so = expired.expires });
-}
-
 -- ---- a change, by place
 
 -- what is so of a link with the state in which it was found
@@ -231,7 +180,8 @@ of_link stage link up So found so = λ channel here.
     subst (λ b. So b channel) is (so channel here)
 
 -- what is so of one is so of the link there
-pub of_this : (w : WorldState) (link : ℕ) (one : Channel) (So : Channel → Type 0) → slice_get w.net.channels link ≡ Some one
+pub of_this : (w : WorldState) (link : ℕ) (one : Channel) (So : Channel → Type 0)
+    → slice_get w.net.channels link ≡ Some one
     → So one → OfLink link w So
 of_this w link one So there so = λ channel here. subst So (same_Some one channel (sym there ∙ here)) so
 
@@ -243,7 +193,8 @@ of_system stage place one live So value is so = λ station here.
     let same : one ≡ station = value ∙ read stage.stations.items place station one here in
     subst (λ b. So b station) (sym is ∙ ap (λ (x : Station). x.live) same) (so station here)
 
-pub of_that : (w : WorldState) (place : ℕ) (one : Station) (So : Station → Type 0) → slice_get w.stations place ≡ Some one
+pub of_that : (w : WorldState) (place : ℕ) (one : Station) (So : Station → Type 0)
+    → slice_get w.stations place ≡ Some one
     → So one → OfSystem place w So
 of_that w place one So there so = λ station here. subst So (same_Some one station (sym there ∙ here)) so
 
@@ -295,8 +246,10 @@ changes_so change aim stage draws w' at turns = absurd at
 -- what is changed can be changed
 pub can_change : (change : Change) (aim : Aim) (stage : Stage) → IsSound (world_of stage) → IsFitAct (Changing change)
     → IsAimOfChange change (world_of stage) aim → CanChange aim (changed_now stage)
-can_change (changes.LinkDown number port) (aims.LinkDown link) stage sound fit at = link_within stage link at.channel at.is.here
-can_change (changes.LinkUp number port) (aims.LinkUp link) stage sound fit at = link_within stage link at.channel at.is.here
+can_change (changes.LinkDown number port) (aims.LinkDown link) stage sound fit at =
+    link_within stage link at.channel at.is.here
+can_change (changes.LinkUp number port) (aims.LinkUp link) stage sound fit at =
+    link_within stage link at.channel at.is.here
 can_change (changes.LinkSet number port min max loss) (aims.LinkSet link bounds) stage sound fit (at, is) = (
   link_within stage link at.channel at.is.here,
   rw is (record { positive = fit.positive; ordered = fit.ordered; short = fit.short; share = fit.share }),
@@ -365,9 +318,11 @@ is_change (Expire number timer) (aims.Timer place set) w no_arrival no_timer at 
 is_change (Changing change) aim w no_arrival no_timer at = record { change = change; act_is = refl; at = at }
 is_change act aim w no_arrival no_timer at = absurd at
 
-pub change_told : {F : Type 0} (answers : Bounds → ℕ → F → Option ℕ → F → Type 0) (act : Act) (aim : Aim) (fate fate_after : F)
+pub change_told : {F : Type 0} (answers : Bounds → ℕ → F → Option ℕ → F → Type 0)
+    (act : Act) (aim : Aim) (fate fate_after : F)
     (stage stage' : Stage) → IsSomeChange act aim (world_of stage)
-    → Turned answers aim fate fate_after (changed_now stage) stage' → Acted answers act Quiet fate fate_after stage stage'
+    → Turned answers aim fate fate_after (changed_now stage) stage'
+    → Acted answers act Quiet fate fate_after stage stage'
 change_told answers act aim fate fate_after stage stage' is turned = record {
   draws = turned.draws;
   drawn = turned.drawn;

@@ -5,7 +5,6 @@ use Rattle.gptp_links.specs.Bounds.{Fit}
 use Rattle.gptp_links.specs.Fate.{Draw, Draws}
 use Rattle.gptp_system.specs.declared.timer.Timer.{Timer}
 use Rattle.gptp_system.specs.Input.{Priority}
-use Rattle.gptp_system.specs.Steps.{IsTimerOf}
 use Rattle.gptp_world.specs.declared.aim.Aim.{Aim}
 use Rattle.gptp_world.specs.declared.aim.Aim.TheVariants as aims
 use Rattle.gptp_world.specs.declared.change.Act.{Act}
@@ -14,12 +13,12 @@ use Rattle.gptp_world.specs.declared.stage.Stage.{Stage}
 use Rattle.gptp_world.specs.declared.station.Station.{Station}
 use Rattle.gptp_world.specs.Act.{Expires}
 use Rattle.gptp_world.specs.Acts.{Acts}
-use Rattle.gptp_world.specs.Changing.{with_bounds, with_setup, with_station, CallsIfLive, ComesUpIf, FailsIf, GoesDownIf, Nothing, RecoversIf}
+use Rattle.gptp_world.specs.Changing.{with_bounds, with_setup, with_station, CallsIfLive, ComesUpIf, FailsIf, GoesDownIf, RecoversIf}
 use Rattle.gptp_world.specs.Delivering.{HasRoomToHear}
 use Rattle.gptp_world.specs.Stage.{world_of, HasRoomToCall}
 use Rattle.gptp_world.specs.Starting.{CanStart, HasRoomToStart}
 use Rattle.gptp_world.specs.Telling.{HasRoomAtEnds}
-use Rattle.gptp_world.specs.World.{Channel, WorldState, station_due}
+use Rattle.gptp_world.specs.World.{Channel, WorldState}
 
 -- ---- room for what an act can leave
 
@@ -71,8 +70,8 @@ pub record Turned {F : Type 0} (answers : Bounds → ℕ → F → Option ℕ �
   pub turns : Turns aim (world_of stage) draws (world_of stage_after)
 
 -- a timer of the system at a place expired
-pub record Expired {F : Type 0} (answers : Bounds → ℕ → F → Option ℕ → F → Type 0) (place : ℕ) (timer : Timer) (fate fate_after : F)
-    (stage stage_after : Stage) : Type 0 where
+pub record Expired {F : Type 0} (answers : Bounds → ℕ → F → Option ℕ → F → Type 0)
+    (place : ℕ) (timer : Timer) (fate fate_after : F) (stage stage_after : Stage) : Type 0 where
   pub draws : List Draw
   pub drawn : Draws answers fate draws fate_after
   pub expires : Expires place timer (world_of stage) draws (world_of stage_after)

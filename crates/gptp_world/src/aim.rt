@@ -53,11 +53,7 @@ impl Stage {
             return None;
         }
         match self.net.directory.place_of(clock) {
-            Some(place) => match self
-                .net
-                .directory
-                .lane_from(place, narrowed(port))
-            {
+            Some(place) => match self.net.directory.lane_from(place, narrowed(port)) {
                 Some(lane) => Some(lane.link),
                 None => None,
             },

@@ -11,6 +11,6 @@ deliver-at-requires-clause-hears g c =
 
 pub returns-clause-arrived : goal.returns-clause-arrived
 returns-clause-arrived g c =
-    arrived g.F.Fate.answers c.args.lane c.deliver-at.result.at c.deliver-at.result.answer c.deliver-at.result.frame.items _
-    c.args.fate.now c.deliver-at.new.fate c.args.self.now c.deliver-at.new.self c.requires.stage (refl, refl, refl, refl)
-    c.deliver-at.ensures.delivered
+    arrived g.F.Fate.answers c.args.lane c.deliver-at.result.at c.deliver-at.result.answer
+    c.deliver-at.result.frame.items _ c.args.fate.now c.deliver-at.new.fate c.args.self.now c.deliver-at.new.self
+    c.requires.stage (refl, refl, refl, refl) c.deliver-at.ensures.delivered

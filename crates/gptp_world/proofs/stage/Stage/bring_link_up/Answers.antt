@@ -1,4 +1,4 @@
-use Rattle.std.proofs.Common.{◌≡◌, true, false, [], refl, sym, ◌∙◌}
+use Rattle.std.proofs.Common.{true, false, [], refl, sym, ◌∙◌}
 use Rattle.gptp_world.specs.Changing.{ComesUpIf}
 use Rattle.gptp_world.specs.Stage.{world_of}
 use Rattle.gptp_world.proofs.PerformingLemmas.{of_link, of_this}
@@ -12,7 +12,8 @@ returns-then-not-is_up-clause-up g c =
       drawn = up.drawn;
       turns = of_link c.args.self.now c.args.link false (λ is channel. ComesUpIf is c.args.link channel w up.draws w')
           (λ cable here. sym c.if-not-is_up.true ∙ c.is_up.ensures cable here)
-          (of_this w c.args.link up.channel (λ channel. ComesUpIf false c.args.link channel w up.draws w') up.here up.up);
+          (of_this w c.args.link up.channel (λ channel. ComesUpIf false c.args.link channel w up.draws w') up.here
+          up.up);
     }
 
 pub returns-else-not-is_up-clause-up : goal.returns-else-not-is_up-clause-up

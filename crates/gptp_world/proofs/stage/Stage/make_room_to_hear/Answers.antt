@@ -1,4 +1,3 @@
-use Rattle.std.proofs.Common.{◌≡◌}
 use Rattle.gptp_world.specs.Cable.{join_of}
 use Rattle.gptp_world.specs.Directory.{end_of}
 use Rattle.gptp_world.proofs.DeliveringLemmas.{room_to_hear}
@@ -19,6 +18,6 @@ pub returns-clause-room : goal.returns-clause-room
 returns-clause-room c =
     let e = c.make_room.ensures in
     on_ok c.make_room.result _ _
-    (λ has. room_to_hear c.args.self.now c.make_room.new.self c.args.lane c.receiver-place.result c.requires.stage e.stage e.world
-    c.well_formed-2.ensures c.receiver-place.ensures has)
+    (λ has. room_to_hear c.args.self.now c.make_room.new.self c.args.lane c.receiver-place.result c.requires.stage
+    e.stage e.world c.well_formed-2.ensures c.receiver-place.ensures has)
     e.room

@@ -1,4 +1,4 @@
-use Rattle.std.proofs.Common.{◌≡◌, sym, subst}
+use Rattle.std.proofs.Common.{subst}
 use Rattle.gptp_world.specs.Acts.{IsFitAct}
 use Rattle.gptp_world.specs.Stage.{world_of}
 use Rattle.gptp_world.proofs.PerformingLemmas.{can_change, change_told, is_change, same_room, same_stage}
@@ -7,7 +7,8 @@ use Rattle.gptp_world.proofs.stage.Stage.perform.Goals as goal
 pub change-requires : goal.change-requires
 change-requires g c =
     let stage = c.args.self.now in
-    let is = is_change c.args.act.now c.args.aim (world_of stage) c.in_default.not-Arrival c.in_default.not-Timer c.requires.aim in
+    let is = is_change c.args.act.now c.args.aim (world_of stage) c.in_default.not-Arrival c.in_default.not-Timer
+    c.requires.aim in
     record {
       stage = same_stage stage c.requires.stage;
       can = can_change is.change c.args.aim stage c.requires.sound (subst IsFitAct is.act_is c.requires.fit) is.at;
@@ -17,9 +18,10 @@ change-requires g c =
 pub returns-in_default : goal.returns-in_default
 returns-in_default g c =
     let stage = c.args.self.now in
-    let is = is_change c.args.act.now c.args.aim (world_of stage) c.in_default.not-Arrival c.in_default.not-Timer c.requires.aim in
+    let is = is_change c.args.act.now c.args.aim (world_of stage) c.in_default.not-Arrival c.in_default.not-Timer
+    c.requires.aim in
     record {
       stage = c.change.ensures.stage;
-      acted = change_told g.F.Fate.answers c.args.act.now c.args.aim c.args.fate.now c.change.new.fate stage c.change.new.self is
-          c.change.ensures.changed;
+      acted = change_told g.F.Fate.answers c.args.act.now c.args.aim c.args.fate.now c.change.new.fate stage
+          c.change.new.self is c.change.ensures.changed;
     }

@@ -1,7 +1,6 @@
-use Rattle.std.proofs.Common.{◌≡◌, Some, ◌≤◌, ◌<◌, length, slice_get, refl, ap, ◌∙◌, arith}
 use Rattle.gptp_world.specs.Stage.{world_of}
 use Rattle.gptp_world.proofs.ExpiringLemmas.{expired, known_timer}
-use Rattle.gptp_world.proofs.NextDueLemmas.{runs_out, RunsOut}
+use Rattle.gptp_world.proofs.NextDueLemmas.{runs_out}
 use Rattle.gptp_world.proofs.StageLemmas.{room_kept}
 use Rattle.gptp_world.proofs.TellingLemmas.{net_changes}
 use Rattle.gptp_world.proofs.stage.Stage.run_out.Goals as goal
@@ -17,13 +16,15 @@ expire-requires-clause-stage g c =
 pub expire-requires-clause-live : goal.expire-requires-clause-live
 expire-requires-clause-live g c =
     let due = c.requires.due in
-    let runs = runs_out c.args.place c.args.timer c.args.self.now.now (world_of c.args.self.now) due.station due.here due.due in
+    let runs = runs_out c.args.place c.args.timer c.args.self.now.now (world_of c.args.self.now) due.station due.here
+    due.due in
     record { station = runs.station; here = runs.here; live = runs.live }
 
 pub expire-requires-clause-due : goal.expire-requires-clause-due
 expire-requires-clause-due g c =
     let due = c.requires.due in
-    let runs = runs_out c.args.place c.args.timer c.args.self.now.now (world_of c.args.self.now) due.station due.here due.due in
+    let runs = runs_out c.args.place c.args.timer c.args.self.now.now (world_of c.args.self.now) due.station due.here
+    due.due in
     record { station = runs.station; here = runs.here; timer_of = runs.timer_of; due_now = runs.due_now }
 
 pub expire-requires-clause-room : goal.expire-requires-clause-room
@@ -32,5 +33,5 @@ expire-requires-clause-room g c =
 
 pub returns-clause-expired : goal.returns-clause-expired
 returns-clause-expired g c =
-    expired g.F.Fate.answers c.args.place c.args.timer c.args.fate.now c.expire.new.fate c.args.self.now c.take_timer.new.self
-    c.expire.new.self c.requires.due c.take_timer.ensures.taken c.expire.ensures.called
+    expired g.F.Fate.answers c.args.place c.args.timer c.args.fate.now c.expire.new.fate c.args.self.now
+    c.take_timer.new.self c.expire.new.self c.requires.due c.take_timer.ensures.taken c.expire.ensures.called

@@ -2,7 +2,7 @@ use Rattle.std.proofs.Common.{◌≡◌, refl, ap, sym, ◌∙◌}
 use Rattle.gptp_world.specs.Cable.{channel_of}
 use Rattle.gptp_world.specs.Changing.{with_bounds}
 use Rattle.gptp_world.specs.Net.{between}
-use Rattle.gptp_world.specs.World.{Net, WorldState}
+use Rattle.gptp_world.specs.World.{Net}
 use Rattle.gptp_world.specs.Stage.{world_of}
 use Rattle.gptp_world.proofs.NetLemmas.{from_map}
 use Rattle.gptp_world.proofs.TellingLemmas.{net_changes}
@@ -15,7 +15,8 @@ returns-clause-stage c =
 pub returns-clause-set : goal.returns-clause-set
 returns-clause-set c = λ channel here.
     let made = from_map channel_of c.args.self.now.net.cables.items c.args.link channel here in
-    let set : between c.set_bounds.new.self ≡ with_bounds c.args.bounds c.args.link channel (between c.args.self.now.net) =
+    let set : between c.set_bounds.new.self
+    ≡ with_bounds c.args.bounds c.args.link channel (between c.args.self.now.net) =
     c.set_bounds.ensures.bounds made.one made.there
     ∙ ap (λ x. with_bounds c.args.bounds c.args.link x (between c.args.self.now.net)) (sym made.is) in
     (refl, ap (λ (n : Net). record (world_of c.args.self.now) { net = n }) set)

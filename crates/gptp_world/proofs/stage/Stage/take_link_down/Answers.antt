@@ -1,4 +1,4 @@
-use Rattle.std.proofs.Common.{◌≡◌, true, false, [], refl, sym, ◌∙◌}
+use Rattle.std.proofs.Common.{true, false, [], refl, sym, ◌∙◌}
 use Rattle.gptp_world.specs.Changing.{GoesDownIf}
 use Rattle.gptp_world.specs.Stage.{world_of}
 use Rattle.gptp_world.proofs.PerformingLemmas.{of_link, of_this}
@@ -12,7 +12,8 @@ returns-then-is_up-clause-down g c =
       drawn = down.drawn;
       turns = of_link c.args.self.now c.args.link true (λ up channel. GoesDownIf up c.args.link channel w down.draws w')
           (λ cable here. sym c.if-is_up.true ∙ c.is_up.ensures cable here)
-          (of_this w c.args.link down.channel (λ channel. GoesDownIf true c.args.link channel w down.draws w') down.here down.down);
+          (of_this w c.args.link down.channel (λ channel. GoesDownIf true c.args.link channel w down.draws w') down.here
+          down.down);
     }
 
 pub returns-else-is_up-clause-down : goal.returns-else-is_up-clause-down
