@@ -8,7 +8,8 @@ use gptp_world::{Act, Change, Done, Refused, Timed, World};
 use std::test::Fail;
 
 /// Two systems, clocks 1 and 2, whose first ports a link joins; each frame takes 500 ns.
-const TWO: &str = "version = 1\n[[system]]\nclock = \"0000000000000001\"\n[[system]]\nclock = \"0000000000000002\"\nphase = 1000000\n[[link]]\na = \"0000000000000001\"\na_port = 1\nb = \"0000000000000002\"\nb_port = 1\nmin = 500\nmax = 500\n";
+const TWO: &str =
+    "version = 1\n[[system]]\nclock = \"0000000000000001\"\n[[system]]\nclock = \"0000000000000002\"\nphase = 1000000\n[[link]]\na = \"0000000000000001\"\na_port = 1\nb = \"0000000000000002\"\nb_port = 1\nmin = 500\nmax = 500\n";
 
 /// The clock with this number.
 fn clock(number: u64) -> ClockId {
@@ -28,21 +29,56 @@ fn acts_are_refused_in_order(rt: HostRuntime) -> Result<(), Fail> {
     let mut world = World::new(alloc, document.network(), PcgFate::new(0))?;
     assert_eq!(rt; world.now(), 0);
     assert_eq!(rt; world.count(), 2);
-    assert_eq!(rt; world.act(Timed { at: 400, act: ARRIVAL }).err(), Some(Refused::NotDue));
-    assert_eq!(rt; world.act(Timed { at: 600, act: ARRIVAL }).err(), Some(Refused::Untimely));
+    assert_eq!(rt;
+        world
+            .act(Timed {
+                at: 400,
+                act: ARRIVAL
+            })
+            .err(),
+        Some(Refused::NotDue)
+    );
+    assert_eq!(rt;
+        world
+            .act(Timed {
+                at: 600,
+                act: ARRIVAL
+            })
+            .err(),
+        Some(Refused::Untimely)
+    );
     let nowhere = Act::Deliver {
         link: 9,
         direction: Direction::FromA,
     };
-    assert_eq!(rt; world.act(Timed { at: 0, act: nowhere }).err(), Some(Refused::NoSuch));
-    assert_eq!(rt; world.next(), Some(Timed { at: 500, act: ARRIVAL }));
-    match world.act(Timed { at: 500, act: ARRIVAL }) {
-        Ok(Done::Heard {
-            clock: heard,
-            port,
-            answer,
-            frame,
-        }) => {
+    assert_eq!(rt;
+        world
+            .act(Timed {
+                at: 0,
+                act: nowhere
+            })
+            .err(),
+        Some(Refused::NoSuch)
+    );
+    assert_eq!(rt;
+        world.next(),
+        Some(Timed {
+            at: 500,
+            act: ARRIVAL
+        })
+    );
+    match world.act(Timed {
+        at: 500,
+        act: ARRIVAL,
+    }) {
+        Ok(
+            Done::Heard {
+                clock: heard,
+                port,
+                answer,
+                frame,
+            },
+        ) => {
             assert_eq!(rt; heard, clock(2));
             assert_eq!(rt; port, 1);
             assert_eq!(rt; answer, Some(Answer::Used));
@@ -51,7 +87,15 @@ fn acts_are_refused_in_order(rt: HostRuntime) -> Result<(), Fail> {
         _ => assert!(rt; false),
     }
     assert_eq!(rt; world.now(), 500);
-    assert_eq!(rt; world.act(Timed { at: 400, act: ARRIVAL }).err(), Some(Refused::InThePast));
+    assert_eq!(rt;
+        world
+            .act(Timed {
+                at: 400,
+                act: ARRIVAL
+            })
+            .err(),
+        Some(Refused::InThePast)
+    );
     Ok(())
 }
 
@@ -62,16 +106,29 @@ fn a_failed_system_is_silent(rt: HostRuntime) -> Result<(), Fail> {
     let mut world = World::new(alloc, document.network(), PcgFate::new(0))?;
     let fails = Act::Change(Change::Fail { clock: clock(2) });
     assert!(rt; world.system(clock(2)).is_some());
-    assert_eq!(rt; world.act(Timed { at: 300, act: fails }).err(), None);
+    assert_eq!(rt;
+        world
+            .act(Timed {
+                at: 300,
+                act: fails
+            })
+            .err(),
+        None
+    );
     assert!(rt; world.system(clock(2)).is_none());
     assert_eq!(rt; world.last_change(), 300);
-    match world.act(Timed { at: 500, act: ARRIVAL }) {
-        Ok(Done::Heard {
-            clock: heard,
-            port: _,
-            answer,
-            frame: _,
-        }) => {
+    match world.act(Timed {
+        at: 500,
+        act: ARRIVAL,
+    }) {
+        Ok(
+            Done::Heard {
+                clock: heard,
+                port: _,
+                answer,
+                frame: _,
+            },
+        ) => {
             assert_eq!(rt; heard, clock(2));
             assert_eq!(rt; answer, None);
         }
@@ -81,6 +138,14 @@ fn a_failed_system_is_silent(rt: HostRuntime) -> Result<(), Fail> {
         clock: clock(2),
         timer: Timer::Pdelay(1),
     };
-    assert_eq!(rt; world.act(Timed { at: 500, act: expires }).err(), Some(Refused::NotDue));
+    assert_eq!(rt;
+        world
+            .act(Timed {
+                at: 500,
+                act: expires
+            })
+            .err(),
+        Some(Refused::NotDue)
+    );
     Ok(())
 }

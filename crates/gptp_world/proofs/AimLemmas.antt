@@ -1,5 +1,5 @@
 -- What an act is about is found by place.
-use Rattle.std.proofs.Common.{◌≡◌, ◌⊎◌, ℕ, ◌≤◌, List, [], ◌∷◌, map, Option, Some, None, slice_get, refl, ap, sym, subst, ◌∙◌, inl, inr}
+use Rattle.std.proofs.Common.{◌≡◌, ◌⊎◌, ℕ, List, [], ◌∷◌, Some, slice_get, refl, ap, sym, subst, ◌∙◌, inl, inr}
 use Rattle.std.specs.Option.{option_map}
 use Rattle.std.proofs.lemmas.Option.{none-some, same_Some}
 use Rattle.gptp_links.specs.Queue.{first, Frame}
@@ -8,7 +8,6 @@ use Rattle.gptp_links.specs.declared.link.Direction.TheVariants.{FromA, FromB}
 use Rattle.gptp_system.specs.declared.timer.Timer.{Timer}
 use Rattle.gptp_system.specs.Steps.{IsTimerOf}
 use Rattle.gptp_vector.specs.declared.port.PortId.{PortId}
-use Rattle.gptp_world.specs.declared.cable.Cable.{Cable}
 use Rattle.gptp_world.specs.declared.cable.Lane.{Lane}
 use Rattle.gptp_world.specs.declared.net.Net.{Net as Between}
 use Rattle.gptp_world.specs.declared.stage.Stage.{Stage}
@@ -17,10 +16,10 @@ use Rattle.gptp_world.specs.Acts.{AnyLink, AnySystem, AtLink, AtSystem, IsOldest
 use Rattle.gptp_world.specs.Aim.{IsLinkAt, IsSystemAt, IsTimerAt}
 use Rattle.gptp_world.specs.Cable.{channel_of}
 use Rattle.gptp_world.specs.Changing.{IsChannel}
-use Rattle.gptp_world.specs.Directory.{start_of, BeginsAt, DirectoryState, IsDirectory, IsPlaced, Join}
+use Rattle.gptp_world.specs.Directory.{start_of, BeginsAt, DirectoryState, IsDirectory, IsPlaced}
 use Rattle.gptp_world.specs.Net.{between, IsNet}
 use Rattle.gptp_world.specs.Stage.{clock_at, world_of, IsStage}
-use Rattle.gptp_world.specs.World.{Channel, WorldState, queue, sender}
+use Rattle.gptp_world.specs.World.{Channel, queue, sender}
 use Rattle.gptp_world.proofs.EndLemmas.{station_at}
 use Rattle.gptp_world.proofs.NetLemmas.{known_cable, known_lane}
 use Rattle.gptp_world.proofs.PlaceLemmas.{get-map}

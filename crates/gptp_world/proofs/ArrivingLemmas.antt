@@ -1,8 +1,5 @@
 -- What taking a frame that is due makes of the links and of what is pending.
-use Rattle.std.proofs.Common.{◌≡◌, ◌≢◌, ◌⊎◌, ℕ, ◌≤◌, List, ◌∷◌, map, Some, slice_get, slice_set, refl, ap, ap₂, sym, ◌∙◌, inl, inr, arith}
-use Rattle.std.proofs.lemmas.Option.{same_Some}
-use Rattle.gptp_links.specs.declared.link.Direction.{Direction}
-use Rattle.gptp_links.specs.declared.link.Direction.TheVariants.{FromA, FromB}
+use Rattle.std.proofs.Common.{◌≡◌, ℕ, List, ◌∷◌, map, Some, slice_get, slice_set, refl, ap, ap₂, sym, ◌∙◌}
 use Rattle.gptp_links.specs.Queue.{Frame, frame, IsTaken}
 use Rattle.gptp_links.specs.State as links
 use Rattle.gptp_vector.specs.declared.port.PortId.{PortId}
@@ -11,10 +8,10 @@ use Rattle.gptp_world.specs.declared.cable.Lane.{Lane}
 use Rattle.gptp_world.specs.Directory.{Join}
 use Rattle.gptp_world.specs.declared.item.Item.TheVariants.{Arrival}
 use Rattle.gptp_world.specs.Act.{Takes}
-use Rattle.gptp_world.specs.Cable.{join_of, channel_of, net_of, HasRoomOn}
-use Rattle.gptp_world.specs.Pending.{PendingState, KeepsArrivalRoom, without_first}
+use Rattle.gptp_world.specs.Cable.{join_of, channel_of, net_of}
+use Rattle.gptp_world.specs.Pending.{PendingState, without_first}
 use Rattle.gptp_world.specs.World.{with_queue}
-use Rattle.gptp_world.proofs.PlaceLemmas.{get-set_same, get-set_other, get-map, map-set, map-set_same, same_place}
+use Rattle.gptp_world.proofs.PlaceLemmas.{get-map, map-set, map-set_same}
 use Rattle.gptp_world.proofs.SendingLemmas.{channel_sent, queue_same}
 
 abbrev made : PortId → PortId → Join

@@ -1,9 +1,6 @@
 -- What is found of an act tells whether it is there and due.
-use Rattle.std.proofs.Common.{◌≡◌, ◌↔◌, ℕ, ◌<◌, ◌≤◌, Bool, false, List, [], ◌∷◌, ◌++◌, Some, slice_get, IsTrue, refl, ap, sym, subst, ◌∙◌, inl, inr, arith}
-use Rattle.std.proofs.lemmas.Bool.Decides.{nat_tests}
-use Rattle.std.proofs.lemmas.Option.{same_Some}
+use Rattle.std.proofs.Common.{◌≡◌, ◌↔◌, ℕ, ◌<◌, Bool, List, [], ◌∷◌, ◌++◌, Some, slice_get, IsTrue, refl, ap, sym, subst, ◌∙◌, inl, inr}
 use Rattle.gptp_graph.specs.Members.{In}
-use Rattle.gptp_links.specs.declared.link.Direction.{Direction}
 use Rattle.gptp_system.specs.declared.timer.Timer.{Timer}
 use Rattle.gptp_world.specs.declared.aim.Aim.{Aim}
 use Rattle.gptp_world.specs.declared.aim.Aim.TheVariants as aims
@@ -15,7 +12,7 @@ use Rattle.gptp_world.specs.declared.change.Change.TheVariants as changes
 use Rattle.gptp_world.specs.declared.item.Item.{Item}
 use Rattle.gptp_world.specs.declared.stage.Stage.{Stage}
 use Rattle.gptp_world.specs.declared.station.Station.{Station}
-use Rattle.gptp_world.specs.Acts.{AtSystem, IsDueThen, IsEarlier, IsOldestDue, IsThere}
+use Rattle.gptp_world.specs.Acts.{IsDueThen, IsEarlier, IsOldestDue, IsThere}
 use Rattle.gptp_world.specs.Aim.{IsAimOf, IsAimOfChange}
 use Rattle.gptp_world.specs.Directory.{IsDirectory}
 use Rattle.gptp_world.specs.Pending.{Entry, entry, IsNext}

@@ -1,6 +1,5 @@
 -- The world that a network makes is sound before its systems start, and the code can keep it.
-use Rattle.std.proofs.Common.{◌≡◌, ◌≤◌, ℕ, ℤ, Bool, true, false, List, [], ◌∷◌, map, length, Option, Some, None, option_map, slice_get, refl, sym, ap, subst, ◌∙◌, inl, inr, to_z, of_z, w32, arith}
-use Rattle.std.specs.Bool.{⊤}
+use Rattle.std.proofs.Common.{◌≡◌, ◌≤◌, ℕ, ℤ, Bool, false, List, [], ◌∷◌, map, length, Option, Some, None, option_map, slice_get, refl, sym, ap, subst, ◌∙◌, inl, inr, to_z, of_z, w32, arith}
 use Rattle.std.proofs.lemmas.Int.{ints, to_z-of_z}
 use Rattle.std.proofs.lemmas.List.{length-map}
 use Rattle.std.proofs.lemmas.Option.{same_Some}
@@ -29,7 +28,7 @@ use Rattle.gptp_world.specs.Net.{port_id, IsNet}
 use Rattle.gptp_world.specs.Network.{member, NetworkState, IsEnd, IsNetwork, IsPort, IsWire}
 use Rattle.gptp_world.specs.Sound.{AllFlow, AreApart, AreLinked, Flows, HaveOwnClocks, HaveTheirSetups, IsItsSetup, IsSound, JoinPorts}
 use Rattle.gptp_world.specs.Stage.{clock_at, IsStage}
-use Rattle.gptp_world.specs.World.{Channel, WorldState, queue, sender}
+use Rattle.gptp_world.specs.World.{Channel, queue, sender}
 use Rattle.gptp_world.proofs.ChangeAgreeLemmas.{silent_agrees}
 use Rattle.gptp_world.proofs.ListLemmas.{mapped, same_there}
 use Rattle.gptp_world.proofs.SteadyLemmas.{started_none_late, started_steady}

@@ -1,5 +1,5 @@
 -- What an act is about is the same at a later time.
-use Rattle.std.proofs.Common.{◌≡◌, ℕ, ◌≤◌, refl}
+use Rattle.std.proofs.Common.{ℕ, ◌≤◌}
 use Rattle.gptp_world.specs.declared.aim.Aim.{Aim}
 use Rattle.gptp_world.specs.declared.aim.Aim.TheVariants as aims
 use Rattle.gptp_world.specs.declared.change.Act.{Act}

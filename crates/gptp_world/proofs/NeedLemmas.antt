@@ -1,13 +1,12 @@
 -- What is needed of the room, and what is left of it.
-use Rattle.std.proofs.Common.{◌≡◌, ◌≢◌, ◌⊎◌, ℕ, zero, suc, ◌+◌, ◌*◌, ◌≤◌, ◌==◌, if◌then◌else◌, Bool, true, false, List, [], ◌∷◌, ◌++◌, length, map, Some, slice_get, refl, ap, sym, subst, ◌∙◌, inl, inr, arith}
+use Rattle.std.proofs.Common.{◌≡◌, ◌≢◌, ◌⊎◌, ℕ, zero, suc, ◌+◌, ◌*◌, ◌≤◌, ◌==◌, Bool, true, false, List, [], ◌∷◌, ◌++◌, Some, slice_get, refl, ap, sym, subst, ◌∙◌, inl, inr, arith}
 use Rattle.std.proofs.lemmas.Bool.{eq-eqb}
 use Rattle.std.proofs.lemmas.List.{length-append}
 use Rattle.std.proofs.lemmas.Option.{same_Some}
-use Rattle.std.proofs.Math.Dec.{eqb}
 use Rattle.std.proofs.Math.Nat.{suc-mul}
 use Rattle.gptp_system.specs.declared.sending.Sending.{Sending}
 use Rattle.gptp_system.specs.Reach.{sends_at}
-use Rattle.gptp_system.specs.State.{SystemState, clock}
+use Rattle.gptp_system.specs.State.{clock}
 use Rattle.gptp_vector.specs.declared.port.PortId.{PortId}
 use Rattle.gptp_world.specs.declared.cable.Cable.{Cable}
 use Rattle.gptp_world.specs.declared.cable.Lane.{Lane}
@@ -16,7 +15,7 @@ use Rattle.gptp_world.specs.Cable.{HasRoomOn}
 use Rattle.gptp_world.specs.Directory.{start_of, BeginsAt}
 use Rattle.gptp_world.specs.Net.{port_id, IsUpLane, OnlyEntries}
 use Rattle.gptp_world.specs.Pending.{PendingState}
-use Rattle.gptp_world.specs.Room.{both, for_call, for_sends, for_timers, nothing, repeated, sends_from, HasRoom, KeepsRoomOn, Need, Uses}
+use Rattle.gptp_world.specs.Room.{both, for_sends, for_timers, nothing, repeated, sends_from, HasRoom, KeepsRoomOn, Need, Uses}
 use Rattle.gptp_world.proofs.SendingLemmas.{same_lane}
 
 -- ---- more and less

@@ -7,11 +7,10 @@ use Rattle.gptp_links.specs.Fate.{Draw}
 use Rattle.gptp_links.proofs.DrawLemmas as draws
 use Rattle.gptp_system.specs.Input.{Input}
 use Rattle.gptp_world.specs.declared.stage.Stage.{Stage}
-use Rattle.gptp_world.specs.declared.station.Station.{Station}
 use Rattle.gptp_world.specs.Changing.{fresh, CallsAll, Starts, StartsAll}
-use Rattle.gptp_world.specs.Scene.{IsScene, SystemsStarted}
+use Rattle.gptp_world.specs.Scene.{SystemsStarted}
 use Rattle.gptp_world.specs.Sound.{IsSound}
-use Rattle.gptp_world.specs.Stage.{world_of, IsStage}
+use Rattle.gptp_world.specs.Stage.{world_of}
 use Rattle.gptp_world.specs.Starting.{CanStart, Started}
 use Rattle.gptp_world.specs.World.{WorldState}
 use Rattle.gptp_world.proofs.ComingUpLemmas.{range-more}

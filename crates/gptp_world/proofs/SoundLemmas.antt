@@ -1,6 +1,5 @@
 -- Every act leaves a world sound, and an act at its moment leaves less to do then.
-use Rattle.std.proofs.Common.{◌≡◌, ◌≢◌, ◌⊎◌, ℕ, ◌<◌, ◌≤◌, Bool, true, false, List, [], ◌∷◌, map, Option, Some, None, slice_get, refl, ap, sym, subst, ◌∙◌, inl, inr, arith}
-use Rattle.std.proofs.lemmas.Option.{same_Some}
+use Rattle.std.proofs.Common.{◌≡◌, ℕ, ◌<◌, Bool, true, false, List, [], ◌∷◌, map, Option, Some, slice_get, refl, ap, sym, subst, ◌∙◌, inl, inr}
 use Rattle.std.specs.Option.{option_map_or}
 use Rattle.gptp_links.specs.declared.bounds.Bounds.{Bounds}
 use Rattle.gptp_links.specs.declared.link.Direction.{Direction}
@@ -21,13 +20,13 @@ use Rattle.gptp_world.specs.declared.done.Done.{Done}
 use Rattle.gptp_world.specs.declared.item.Item.TheVariants.{Expiry, Arrival}
 use Rattle.gptp_world.specs.declared.station.Station.{Station}
 use Rattle.gptp_world.specs.Act.{Delivers, Expires}
-use Rattle.gptp_world.specs.Acts.{at, set_to, Acts, Changes, IsFitAct}
+use Rattle.gptp_world.specs.Acts.{set_to, Acts, Changes, IsFitAct}
 use Rattle.gptp_world.specs.Agrees.{Agrees}
-use Rattle.gptp_world.specs.Ahead.{due_by, AllArePending, IsPortAmong, IsWorldOnTime}
+use Rattle.gptp_world.specs.Ahead.{due_by, AllArePending, IsPortAmong}
 use Rattle.gptp_world.specs.Changing.{with_bounds, with_setup, with_station, CallsIfLive, ComesUpIf, FailsIf, GoesDownIf, RecoversIf, StartsAll}
 use Rattle.gptp_world.specs.Pending.{times, listed, NothingBefore}
 use Rattle.gptp_world.specs.Sound.{IsSound, IsWired}
-use Rattle.gptp_world.specs.World.{Channel, Net, WorldState, queue, receiver, sender, station_due}
+use Rattle.gptp_world.specs.World.{Channel, WorldState, queue, receiver, sender, station_due}
 use Rattle.gptp_world.proofs.AgreeLemmas.{agrees_at, calls_if_live_agree, delivers_agree, expires_agree}
 use Rattle.gptp_world.proofs.ChangeAgreeLemmas.{comes_up_if_agree, fails_if_agree, goes_down_if_agree, recovers_if_agree, starts_all_agree, with_bounds_agrees, with_setup_agrees}
 use Rattle.gptp_world.proofs.ChangeOnTimeLemmas.{calls_if_live_on_time, comes_up_on_time, fails_on_time, goes_down_on_time, recovers_on_time, reset_on_time, starts_all_on_time, with_bounds_on_time}

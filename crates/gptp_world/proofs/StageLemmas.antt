@@ -19,7 +19,7 @@ use Rattle.gptp_world.specs.Act.{set_timers, all_timers, in_state}
 use Rattle.gptp_world.specs.Cable.{SentAll}
 use Rattle.gptp_world.specs.Directory.{BeginsAt}
 use Rattle.gptp_world.specs.Net.{between, port_id, IsNet, OnlyEntries}
-use Rattle.gptp_world.specs.Room.{both, for_call, for_sends, nothing, repeated, sends_from, HasRoom, Uses}
+use Rattle.gptp_world.specs.Room.{both, for_call, nothing, repeated, sends_from, HasRoom, Uses}
 use Rattle.gptp_system.specs.Reach.{may_select, reach, timer_reach}
 use Rattle.gptp_system.specs.declared.timer.Timer.{Timer}
 use Rattle.gptp_system.specs.declared.timer.Timer.TheVariants as timers

@@ -1,5 +1,5 @@
 -- What a world shows is what its state says.
-use Rattle.std.proofs.Common.{◌≡◌, ℕ, Some, refl, sym, ap, ◌∙◌}
+use Rattle.std.proofs.Common.{ℕ}
 use Rattle.std.proofs.lemmas.Option.{slice_get_within}
 use Rattle.gptp_world.specs.declared.item.Item.{Item}
 use Rattle.gptp_world.specs.declared.item.Item.TheVariants.{Expiry, Arrival}

@@ -1,5 +1,5 @@
 -- The world that a network makes, before its systems start (profile).
-use Rattle.std.specs.Prelude.{ℕ, false, List, [], map}
+use Rattle.std.specs.Prelude.{false, List, [], map}
 use Rattle.gptp_system.specs.declared.setup.Params.{Params}
 use Rattle.gptp_system.specs.declared.setup.Setup.{Setup}
 use Rattle.gptp_system.specs.Start.{started}

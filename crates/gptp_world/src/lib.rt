@@ -5,9 +5,11 @@
 //! delivered, a timer expires, or a change is made. `specs/` says when a network with such changes is calm, and by when
 //! it has settled.
 //!
-//! Of the world itself stands what one call of a system makes of it: [`Pending`] is the list of all timers and frames in
-//! flight, in order of putting, and a system that is given a frame, a timer or a change has its timers set and its sends
-//! put onto their links, each with one draw of the fate, while every other system stays as it is. `specs/Act.antt` says so.
+//! A [`World`] begins with all systems of a network started. An act that is timely, there and due is done whole: the system
+//! that is given a frame, a timer or a change takes its own step, its timers are pending as it says, its sends go onto
+//! their links with one draw of the fate each, and every other system stays as it is. Any other act is refused by the
+//! first test that it fails, and changes nothing. `specs/Acts.antt` says so. [`Pending`] is the list of all timers and
+//! frames in flight, in order of putting.
 #![tactic(auto)]
 
 mod aim;

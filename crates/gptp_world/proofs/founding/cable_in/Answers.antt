@@ -1,4 +1,3 @@
-use Rattle.std.proofs.Common.{◌≡◌, Some, slice_get, ap, ◌∙◌}
 use Rattle.gptp_world.specs.Initial.{channel_from}
 use Rattle.gptp_world.proofs.InitialLemmas.{wire_told}
 use Rattle.gptp_world.proofs.ListLemmas.{mapped_there}

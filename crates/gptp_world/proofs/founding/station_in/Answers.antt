@@ -1,7 +1,4 @@
-use Rattle.std.proofs.Common.{◌≡◌, ◌≤◌, ℕ, Some, slice_get, to_z, of_z, w32}
-use Rattle.gptp_world.specs.declared.network.Member.{Member}
 use Rattle.gptp_world.specs.Initial.{station_of}
-use Rattle.gptp_world.specs.Network.{member}
 use Rattle.gptp_world.proofs.InitialLemmas.{drift_back, member_told}
 use Rattle.gptp_world.proofs.ListLemmas.{mapped_there}
 use Rattle.gptp_world.proofs.founding.station_in.Goals as goal

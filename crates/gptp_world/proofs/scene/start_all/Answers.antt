@@ -1,5 +1,5 @@
 use Rattle.std.proofs.Common.{◌∙◌}
-use Rattle.gptp_world.proofs.SceneLemmas.{none_started, one_started}
+use Rattle.gptp_world.proofs.SceneLemmas.{one_started}
 use Rattle.gptp_world.proofs.scene.start_all.Goals as goal
 
 pub loop-place-preserved : goal.loop-place-preserved

@@ -1,4 +1,4 @@
-use Rattle.std.proofs.Common.{◌∙◌, ap, sym}
+use Rattle.std.proofs.Common.{◌∙◌}
 use Rattle.gptp_world.proofs.InitialLemmas.{idle_net}
 use Rattle.gptp_world.proofs.net.Net.found.Goals as goal
 

@@ -1,4 +1,4 @@
-use Rattle.std.proofs.Common.{◌≡◌, ap, subst, sym}
+use Rattle.std.proofs.Common.{subst, sym}
 use Rattle.gptp_world.specs.Acts.{at}
 use Rattle.gptp_world.specs.Aim.{IsAimOf}
 use Rattle.gptp_world.specs.Pending.{NothingBefore}

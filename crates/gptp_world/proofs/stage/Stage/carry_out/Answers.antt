@@ -1,4 +1,4 @@
-use Rattle.std.proofs.Common.{◌≡◌, ◌+◌, ◌*◌, ◌≤◌, length, Some, slice_get, refl, ap, ◌∙◌}
+use Rattle.std.proofs.Common.{◌≡◌, ◌+◌, ◌*◌, length, Some, slice_get, refl, ap, ◌∙◌}
 use Rattle.gptp_system.specs.State.{clock}
 use Rattle.gptp_world.specs.Act.{all_timers, in_state}
 use Rattle.gptp_world.specs.Cable.{SentAll}

@@ -1,11 +1,9 @@
-use Rattle.std.proofs.Common.{◌≡◌, Some, slice_get, refl, ap, sym, ◌∙◌}
+use Rattle.std.proofs.Common.{◌≡◌, slice_get, ap, sym, ◌∙◌}
 use Rattle.gptp_system.specs.Steps.{IsUp}
 use Rattle.gptp_vector.specs.declared.port.PortId.{PortId}
-use Rattle.gptp_world.specs.Act.{Hears}
 use Rattle.gptp_world.specs.Cable.{channel_of, join_of}
 use Rattle.gptp_world.specs.Directory.{end_of, DirectoryState}
 use Rattle.gptp_world.specs.Net.{between}
-use Rattle.gptp_world.specs.Stage.{world_of}
 use Rattle.gptp_world.proofs.EndLemmas.{end_placed, end_same, known_join, place_within, station_at}
 use Rattle.gptp_world.proofs.StageLemmas.{net_replaced, room_kept}
 use Rattle.gptp_world.proofs.stage.Stage.deliver.Goals as goal

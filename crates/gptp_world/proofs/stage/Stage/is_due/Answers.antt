@@ -1,6 +1,5 @@
 use Rattle.std.proofs.Common.{subst}
 use Rattle.gptp_world.specs.Aim.{IsAimOf}
-use Rattle.gptp_world.specs.Cable.{channel_of}
 use Rattle.gptp_world.specs.Stage.{world_of}
 use Rattle.gptp_world.proofs.CheckLemmas.{arrival_due, timer_due}
 use Rattle.gptp_world.proofs.stage.Stage.is_due.Goals as goal

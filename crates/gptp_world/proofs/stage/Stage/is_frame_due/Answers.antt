@@ -1,7 +1,6 @@
-use Rattle.std.proofs.Common.{◌≡◌, Some, ap, sym, ◌∙◌}
+use Rattle.std.proofs.Common.{◌≡◌, ap, sym, ◌∙◌}
 use Rattle.std.specs.Option.{option_map}
 use Rattle.gptp_links.specs.Queue.{first, Frame}
-use Rattle.gptp_world.specs.Acts.{IsOldestDue}
 use Rattle.gptp_world.specs.Cable.{channel_of}
 use Rattle.gptp_world.specs.World.{Channel, queue}
 use Rattle.gptp_world.proofs.AimLemmas.{due_oldest, oldest_due}

@@ -1,5 +1,5 @@
-use Rattle.std.proofs.Common.{◌≡◌, ◌≤◌, Some, slice_get, ap, sym, ◌∙◌, arith}
-use Rattle.std.proofs.lemmas.Option.{none-some, same_Some}
+use Rattle.std.proofs.Common.{arith}
+use Rattle.std.proofs.lemmas.Option.{none-some}
 use Rattle.gptp_world.specs.Directory.{BeginsAt}
 use Rattle.gptp_world.specs.Net.{port_id}
 use Rattle.gptp_world.proofs.AimLemmas.{begins_placed, link_found, no_lane}

@@ -1,4 +1,4 @@
-use Rattle.std.proofs.Common.{◌≡◌, ◌*◌, ◌+◌, ◌≤◌, ◌≢◌, length, Some, slice_get, refl, ap, sym, ◌∙◌, arith}
+use Rattle.std.proofs.Common.{◌≡◌, Some, slice_get, refl, ap, sym, ◌∙◌, arith}
 use Rattle.std.proofs.lemmas.Option.{slice_get-get_or}
 use Rattle.gptp_world.proofs.QueueLemmas.{on_ok}
 use Rattle.gptp_world.proofs.RoomLemmas.{clocks_apart, one_after_another, ports_kept, room_to_call_both, stage_stays}
