@@ -1,6 +1,8 @@
 //! What a world shows.
 
-ghost use Rattle.gptp_world.specs.Pending.{IsKnown};
+ghost use Rattle.std.specs.Prelude.{◌≡◌, IfNone, IfSome};
+ghost use Rattle.gptp_system.specs.Start.{role_at};
+ghost use Rattle.gptp_system.specs.Steps.{IsPortOf};
 ghost use Rattle.gptp_world.specs.Stage.{world_of, IsStage};
 ghost use Rattle.gptp_world.specs.Views.{IsActOf, IsPlacedItem};
 
@@ -8,13 +10,15 @@ use crate::change::{Act, Timed};
 use crate::item::Item;
 use crate::scene::Scene;
 use crate::stage::Stage;
+use gptp_roles::Role;
 use gptp_system::System;
-use gptp_vector::ClockId;
+use gptp_vector::{ClockId, Identity};
 
 impl Scene {
     ghost use Rattle.std.specs.Prelude.{◌≡◌, ◌↔◌, [], IfNone, IfSome, IsTrue, length, true};
     ghost use Rattle.gptp_world.specs.Acts.{AtSystem};
-    ghost use Rattle.gptp_world.specs.Views.{IsLiveSystem, IsNextAct, ShowsLive};
+    ghost use Rattle.gptp_world.specs.Sound.{IsSound};
+    ghost use Rattle.gptp_world.specs.Views.{Follows, HasPort, HasRole, IsLiveSystem, IsNextAct, ShowsLive};
 
     /// The time, in ns.
     pub(crate) fn now(&self) -> u64
@@ -67,6 +71,57 @@ impl Scene {
             None => None,
         }
     }
+
+    /// Whether there is a live system with a clock.
+    pub(crate) fn live(&self, clock: ClockId) -> bool
+        ensures { IsTrue result ↔ AtSystem clock self.now IsLiveSystem }
+    {
+        match self.system(clock) {
+            Some(_) => true,
+            None => false,
+        }
+    }
+
+    /// The root that the live system with a clock follows, how many steps away that is, and the number of its Slave port.
+    pub(crate) fn follows(&self, clock: ClockId) -> Option<(Identity, u16, Option<u8>)>
+        ensures some { IfSome result (λ f. AtSystem clock self.now (Follows f.0 f.1 f.2)) }
+        ensures none { IfNone result (AtSystem clock self.now IsLiveSystem → ⊥) }
+    {
+        match self.system(clock) {
+            Some(system) => Some(system.follows()),
+            None => None,
+        }
+    }
+
+    /// What is pending agrees with the state, nothing is due before now, and the rest of what is true of every world.
+    pub(crate) fn well_formed(&self)
+        ensures { IsSound self.now }
+    {
+        let _ = &self.stage;
+    }
+
+    /// The role of a port of the live system with a clock.
+    pub(crate) fn role(&self, clock: ClockId, port: u16) -> Option<Role>
+        ensures some { IfSome result (λ role. AtSystem clock self.now (HasRole port role)) }
+        ensures none { IfNone result (AtSystem clock self.now (HasPort port) → ⊥) }
+    {
+        self.well_formed();
+        match self.system(clock) {
+            Some(system) => role_of(system, port),
+            None => None,
+        }
+    }
+}
+
+/// The role of a port of a system, where it has that port.
+fn role_of(system: &System, port: u16) -> Option<Role>
+    ensures some { IfSome result (λ role. IsPortOf system.now port × (role ≡ role_at system.now port)) }
+    ensures none { IfNone result (IsPortOf system.now port → ⊥) }
+{
+    if port == 0 || u16::from(system.ports()) < port {
+        return None;
+    }
+    Some(system.role(port as u8))
 }
 
 /// The act that an item is.

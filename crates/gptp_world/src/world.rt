@@ -5,8 +5,9 @@ use crate::done::{Done, Refused};
 use crate::network::Network;
 use crate::scene::Scene;
 use gptp_links::Fate;
+use gptp_roles::Role;
 use gptp_system::System;
-use gptp_vector::ClockId;
+use gptp_vector::{ClockId, Identity};
 use std::alloc::{AllocError, Global};
 
 /// A simulated world: the systems of a network, what is between them, and the fate that draws for each frame that is sent.
@@ -18,10 +19,11 @@ pub struct World<F> {
 }
 
 impl<F: Fate + Drop> World<F> {
-    ghost use Rattle.std.specs.Prelude.{◌≡◌, ◌≤◌, IfErr, IfNone, IfOk, IfSome, OnErr, length, []};
+    ghost use Rattle.std.specs.Prelude.{◌≡◌, ◌≤◌, ◌↔◌, IsTrue, IfErr, IfNone, IfOk, IfSome, OnErr, length, []};
     ghost use Rattle.gptp_world.specs.Acts.{AtSystem, IsFitAct, Refuses};
     ghost use Rattle.gptp_world.specs.Scene.{Begun, WasDone};
-    ghost use Rattle.gptp_world.specs.Views.{IsLiveSystem, IsNextAct, ShowsLive};
+    ghost use Rattle.gptp_world.specs.Sound.{IsSound};
+    ghost use Rattle.gptp_world.specs.Views.{Follows, HasPort, HasRole, IsLiveSystem, IsNextAct, ShowsLive};
 
     /// The world of a network at time 0: all its systems have started, in their order, and their first frames are in flight.
     /// Refused for want of memory alone; then the fate is dropped.
@@ -85,5 +87,38 @@ impl<F: Fate + Drop> World<F> {
         ensures none { IfNone result (AtSystem clock self.now.scene IsLiveSystem → ⊥) }
     {
         self.scene.system(clock)
+    }
+
+    /// What is true of every world: what is pending agrees with the state, nothing is due before now, each system is at rest and
+    /// keeps its setup, and each port of a live system at a link that is up measures that link.
+    pub fn well_formed(&self)
+        ensures { IsSound self.now.scene }
+    {
+        self.scene.well_formed();
+    }
+
+    /// Whether there is a live system with a clock.
+    pub fn live(&self, clock: ClockId) -> bool
+        ensures { IsTrue result ↔ AtSystem clock self.now.scene IsLiveSystem }
+    {
+        self.scene.live(clock)
+    }
+
+    /// The root that the live system with a clock follows, how many steps away that is, and the number of its Slave port,
+    /// if it has one (IEEE 802.1AS-2020, 10.3.5); `None` where there is no such system.
+    pub fn follows(&self, clock: ClockId) -> Option<(Identity, u16, Option<u8>)>
+        ensures some { IfSome result (λ f. AtSystem clock self.now.scene (Follows f.0 f.1 f.2)) }
+        ensures none { IfNone result (AtSystem clock self.now.scene IsLiveSystem → ⊥) }
+    {
+        self.scene.follows(clock)
+    }
+
+    /// The role of a port, from 1, of the live system with a clock (IEEE 802.1AS-2020, 10.3.6); `None` where there is no such
+    /// system or port.
+    pub fn role(&self, clock: ClockId, port: u16) -> Option<Role>
+        ensures some { IfSome result (λ role. AtSystem clock self.now.scene (HasRole port role)) }
+        ensures none { IfNone result (AtSystem clock self.now.scene (HasPort port) → ⊥) }
+    {
+        self.scene.role(clock, port)
     }
 }
