@@ -19,6 +19,7 @@ pub mod Network
 pub mod Params
 pub mod Pending
 pub mod Performing
+pub mod Playing
 pub mod Room
 pub mod Sends
 pub mod Scene

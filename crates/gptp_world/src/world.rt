@@ -19,8 +19,9 @@ pub struct World<F> {
 }
 
 impl<F: Fate + Drop> World<F> {
-    ghost use Rattle.std.specs.Prelude.{◌≡◌, ◌≤◌, ◌↔◌, IsTrue, IfErr, IfNone, IfOk, IfSome, OnErr, length, []};
+    ghost use Rattle.std.specs.Prelude.{◌≡◌, ◌≤◌, ◌↔◌, IsTrue, IfErr, IfNone, IfOk, IfSome, OnErr, OnOk, length, []};
     ghost use Rattle.gptp_world.specs.Acts.{AtSystem, IsFitAct, Refuses};
+    ghost use Rattle.gptp_world.specs.Playing.{AreAllowed, Plays, StopsAt};
     ghost use Rattle.gptp_world.specs.Scene.{Begun, WasDone};
     ghost use Rattle.gptp_world.specs.Sound.{IsSound};
     ghost use Rattle.gptp_world.specs.Views.{Follows, HasPort, HasRole, IsLiveSystem, IsNextAct, ShowsLive};
@@ -49,6 +50,22 @@ impl<F: Fate + Drop> World<F> {
         ensures kept { OnErr result (self.new ≡ self.old) }
     {
         self.scene.act(&timed, &mut self.fate)
+    }
+
+    /// The acts of a list are done, one after another, up to the first that is refused: answered with its place, from 0, and
+    /// why. Those before it stand.
+    pub fn play(&mut self, acts: &[Timed]) -> Result<(), (usize, Refused)>
+        requires { AreAllowed acts.now }
+        ensures ok { OnOk result (Plays F.answers acts.now self.old.fate self.new.fate self.old.scene self.new.scene) }
+        ensures err { IfErr result (λ e. StopsAt F.answers acts.now e.0 e.1 self.old.fate self.new.fate self.old.scene self.new.scene) }
+    {
+        for place in 0..acts.len() {
+            match self.act(acts[place]) {
+                Ok(_) => {}
+                Err(refused) => return Err((place, refused)),
+            }
+        }
+        Ok(())
     }
 
     /// The time, in ns.

@@ -1,0 +1,8 @@
+use Rattle.std.proofs.Common.{take}
+use Rattle.gptp_world.specs.Playing.{Plays}
+use Rattle.gptp_world.proofs.world.World.play.Given as goal
+
+-- those before this place were done
+abbrev pub invariant-loop-place : goal.invariant-loop-place
+invariant-loop-place g l =
+    Plays g.F.Fate.answers (take l.place l.acts) l.initial.self.fate l.self.fate l.initial.self.scene l.self.scene
