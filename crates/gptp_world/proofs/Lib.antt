@@ -50,3 +50,4 @@ pub mod SoundLemmas
 pub mod SceneLemmas
 pub mod LaterLemmas
 pub mod ViewLemmas
+pub mod AdvanceLemmas

@@ -18,8 +18,9 @@ pub struct World<F> {
 }
 
 impl<F: Fate + Drop> World<F> {
-    ghost use Rattle.std.specs.Prelude.{◌≡◌, ◌≤◌, IfErr, IfNone, IfOk, IfSome, OnErr, length, []};
+    ghost use Rattle.std.specs.Prelude.{◌≡◌, ◌≤◌, IfErr, IfNone, IfOk, IfSome, OnErr, OnOk, length, []};
     ghost use Rattle.gptp_world.specs.Acts.{AtSystem, IsFitAct, Refuses};
+    ghost use Rattle.gptp_world.specs.Advancing.{Advanced, StopsShort};
     ghost use Rattle.gptp_world.specs.Scene.{Begun, WasDone};
     ghost use Rattle.gptp_world.specs.Views.{IsLiveSystem, IsNextAct, ShowsLive};
 
@@ -47,6 +48,19 @@ impl<F: Fate + Drop> World<F> {
         ensures kept { OnErr result (self.new ≡ self.old) }
     {
         self.scene.act(&timed, &mut self.fate)
+    }
+
+    /// It goes on up to a time, at most 10^15 ns: what is pending happens, one act after another, each of them the next that
+    /// is due then. After `Ok` that is its time, and nothing that is due by then is left.
+    ///
+    /// Refused with `InThePast` where that time has passed, and then nothing changes. Refused with `OutOfMemory` where there
+    /// is no memory for the next act, and then it has gone on up to there, by whole acts.
+    pub fn advance(&mut self, until: u64) -> Result<(), Refused>
+        requires moment { until ≤ 1000000000000000 }
+        ensures advanced { OnOk result (Advanced F.answers until self.old.fate self.new.fate self.old.scene self.new.scene) }
+        ensures refused { IfErr result (StopsShort F.answers until self.old.fate self.new.fate self.old.scene self.new.scene) }
+    {
+        self.scene.advance(until, &mut self.fate)
     }
 
     /// The time, in ns.
