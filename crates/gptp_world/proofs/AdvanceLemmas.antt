@@ -20,7 +20,7 @@ use Rattle.gptp_world.specs.declared.item.Item.TheVariants.{Expiry, Arrival}
 use Rattle.gptp_world.specs.declared.station.Station.{Station}
 use Rattle.gptp_world.specs.Act.{Expires, Hears}
 use Rattle.gptp_world.specs.Acts.{at, Acts, AtSystem, Delivery, IsFitAct, IsReadyAct, IsTimelyAct}
-use Rattle.gptp_world.specs.Advancing.{Advances, Happens, Stopped}
+use Rattle.gptp_world.specs.Advancing.{Advances, Stopped}
 use Rattle.gptp_world.specs.Ahead.{due_by}
 use Rattle.gptp_world.specs.Aim.{aim_of, IsAimOf}
 use Rattle.gptp_world.specs.Pending.{entry, Entry, IsNext, NothingBefore}

@@ -9,7 +9,6 @@ use Rattle.gptp_world.specs.declared.change.Act.{Act}
 use Rattle.gptp_world.specs.declared.change.Act.TheVariants.{Deliver, Expire, Change as Changing}
 use Rattle.gptp_world.specs.declared.change.Change.{Change}
 use Rattle.gptp_world.specs.declared.change.Change.TheVariants as changes
-use Rattle.gptp_world.specs.declared.cable.Lane.{Lane}
 use Rattle.gptp_world.specs.declared.item.Item.{Item}
 use Rattle.gptp_world.specs.declared.item.Item.TheVariants.{Expiry, Arrival}
 use Rattle.gptp_world.specs.declared.station.Station.{Station}
