@@ -51,3 +51,4 @@ pub mod SceneLemmas
 pub mod LaterLemmas
 pub mod ViewLemmas
 pub mod PlayLemmas
+pub mod AdvanceLemmas

@@ -6,7 +6,9 @@ use Rattle.gptp_links.specs.declared.bounds.Bounds.{Bounds}
 use Rattle.gptp_links.specs.Fate.{Draw}
 use Rattle.gptp_links.proofs.DrawLemmas as draws
 use Rattle.gptp_system.specs.Input.{Input}
+use Rattle.gptp_world.specs.declared.change.Act.{Act}
 use Rattle.gptp_world.specs.declared.stage.Stage.{Stage}
+use Rattle.gptp_world.specs.Acts.{at, IsReadyAct}
 use Rattle.gptp_world.specs.Changing.{fresh, CallsAll, Starts, StartsAll}
 use Rattle.gptp_world.specs.Scene.{SystemsStarted}
 use Rattle.gptp_world.specs.Sound.{IsSound}
@@ -15,7 +17,7 @@ use Rattle.gptp_world.specs.Starting.{CanStart, Started}
 use Rattle.gptp_world.specs.World.{WorldState}
 use Rattle.gptp_world.proofs.ComingUpLemmas.{range-more}
 use Rattle.gptp_world.proofs.PlaceLemmas.{within}
-use Rattle.gptp_world.proofs.SoundLemmas.{starts_sound}
+use Rattle.gptp_world.proofs.SoundLemmas.{later_sound, starts_sound}
 
 -- ---- one system
 
@@ -32,6 +34,12 @@ can_start stage place is less =
 
 pub same_sound : (w w' : WorldState) → w' ≡ w → IsSound w → IsSound w'
 same_sound w w' same is = subst IsSound (sym same) is
+
+-- once room is made, a world is sound at the time of an act that is ready
+pub ready_sound : (act : Act) (time : ℕ) (w made : WorldState) → IsSound w → made ≡ w → IsReadyAct act time w
+    → IsSound (at time made)
+ready_sound act time w made is same ready =
+    subst (λ (x : WorldState). IsSound (at time x)) (sym same) (later_sound w time w.last_change is ready.timely.first)
 
 -- one start is a list of one
 alone : (place : ℕ) (w : WorldState) (ds : List Draw) (w' : WorldState) → Starts place w ds w' → StartsAll (place ∷ []) w ds w'

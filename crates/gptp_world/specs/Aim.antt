@@ -9,6 +9,8 @@ use Rattle.gptp_world.specs.declared.change.Act.{Act}
 use Rattle.gptp_world.specs.declared.change.Act.TheVariants.{Deliver, Expire, Change as Changing}
 use Rattle.gptp_world.specs.declared.change.Change.{Change}
 use Rattle.gptp_world.specs.declared.change.Change.TheVariants as changes
+use Rattle.gptp_world.specs.declared.item.Item.{Item}
+use Rattle.gptp_world.specs.declared.item.Item.TheVariants.{Expiry, Arrival}
 use Rattle.gptp_world.specs.declared.station.Station.{Station}
 use Rattle.gptp_world.specs.Acts.{set_to, AtPlace, IsOldestDue}
 use Rattle.gptp_world.specs.Changing.{IsChannel, IsStation}
@@ -61,3 +63,8 @@ abbrev pub IsDueAim : Aim → ℕ → WorldState → Type 0
 IsDueAim (aims.Arrival lane) time w = AtPlace lane.link w.net (IsOldestDue lane.direction time)
 IsDueAim (aims.Timer place timer) time w = IsTimerDue place timer time w
 IsDueAim aim time w = ⊤
+
+-- what an item is about
+abbrev pub aim_of : Item → Aim
+aim_of (Expiry place timer) = aims.Timer place timer
+aim_of (Arrival link direction) = aims.Arrival (record { link = link; direction = direction })

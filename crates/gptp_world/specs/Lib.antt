@@ -1,5 +1,6 @@
 pub mod Act
 pub mod Acts
+pub mod Advancing
 pub mod Agrees
 pub mod Ahead
 pub mod Aim

@@ -12,6 +12,7 @@
 //! frames in flight, in order of putting.
 #![tactic(auto)]
 
+mod advancing;
 mod aim;
 mod arriving;
 mod buffers;

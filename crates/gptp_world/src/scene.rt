@@ -4,6 +4,7 @@ ghost use Rattle.std.specs.Prelude.{◌≡◌, ◌<◌, length, OnOk};
 ghost use Rattle.gptp_world.specs.Starting.{Started};
 ghost use Rattle.gptp_world.specs.Scene.{IsScene, SystemsStarted};
 
+use crate::aim::Aim;
 use crate::change::Timed;
 use crate::done::{Done, Refused};
 use crate::network::Network;
@@ -58,7 +59,8 @@ fn start_all<F: Fate>(stage: &mut Stage, fate: &mut F) -> Result<(), AllocError>
 
 impl Scene {
     ghost use Rattle.std.specs.Prelude.{◌≡◌, ◌≤◌, IfErr, IfOk, OnErr};
-    ghost use Rattle.gptp_world.specs.Acts.{IsFitAct, Refuses};
+    ghost use Rattle.gptp_world.specs.Acts.{IsFitAct, IsReadyAct, Refuses};
+    ghost use Rattle.gptp_world.specs.Aim.{IsAimOf};
     ghost use Rattle.gptp_world.specs.Scene.{Begun, WasDone};
 
     /// The world of a network at time 0, whose systems have all started, in their order. Refused for want of memory alone.
@@ -84,16 +86,33 @@ impl Scene {
         ensures kept { OnErr result (self.new ≡ self.old) }
         ensures fate { OnErr result (fate.new ≡ fate.old) }
     {
-        let aim = match self.stage.check(timed) {
-            Ok(aim) => aim,
-            Err(refused) => return Err(refused),
-        };
-        match self.stage.make_room_for(&timed.act, aim) {
-            Ok(()) => {
-                self.stage.now = timed.at;
-                Ok(self.stage.perform(&timed.act, aim, fate))
-            }
-            Err(_) => Err(Refused::OutOfMemory),
+        match self.stage.check(timed) {
+            Ok(aim) => match self.perform(timed, aim, fate) {
+                Ok(done) => Ok(done),
+                Err(_) => Err(Refused::OutOfMemory),
+            },
+            Err(refused) => Err(refused),
         }
+    }
+
+    /// An act that is ready is done at its time. Refused where there is no memory for what it can leave, and then nothing
+    /// changes.
+    pub(crate) fn perform<F: Fate>(
+        &mut self,
+        timed: &Timed,
+        aim: Aim,
+        fate: &mut F,
+    ) -> Result<Done, AllocError>
+        requires moment { timed.now.at ≤ 1000000000000000 }
+        requires fit { IsFitAct timed.now.act }
+        requires aim { IsAimOf timed.now.act self.old aim }
+        requires ready { IsReadyAct timed.now.act timed.now.at self.old }
+        ensures done { IfOk result (WasDone F.answers timed.now fate.old fate.new self.old self.new) }
+        ensures kept { OnErr result (self.new ≡ self.old) }
+        ensures fate { OnErr result (fate.new ≡ fate.old) }
+    {
+        self.stage.make_room_for(&timed.act, aim)?;
+        self.stage.now = timed.at;
+        Ok(self.stage.perform(&timed.act, aim, fate))
     }
 }

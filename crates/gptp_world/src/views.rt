@@ -125,7 +125,7 @@ fn role_of(system: &System, port: u16) -> Option<Role>
 }
 
 /// The act that an item is.
-fn act_of(stage: &Stage, item: Item) -> Act
+pub(crate) fn act_of(stage: &Stage, item: Item) -> Act
     requires stage { IsStage stage.now }
     requires placed { IsPlacedItem item stage.now }
     ensures { IsActOf item (world_of stage.entry.now) result }

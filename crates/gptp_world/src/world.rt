@@ -22,6 +22,7 @@ impl<F: Fate + Drop> World<F> {
     ghost use Rattle.std.specs.Prelude.{◌≡◌, ◌≤◌, ◌↔◌, IsTrue, IfErr, IfNone, IfOk, IfSome, OnErr, OnOk, length, []};
     ghost use Rattle.gptp_world.specs.Acts.{AtSystem, IsFitAct, Refuses};
     ghost use Rattle.gptp_world.specs.Playing.{AreAllowed, Plays, StopsAt};
+    ghost use Rattle.gptp_world.specs.Advancing.{Advanced, StopsShort};
     ghost use Rattle.gptp_world.specs.Scene.{Begun, WasDone};
     ghost use Rattle.gptp_world.specs.Sound.{IsSound};
     ghost use Rattle.gptp_world.specs.Views.{Follows, HasPort, HasRole, IsLiveSystem, IsNextAct, ShowsLive};
@@ -66,6 +67,19 @@ impl<F: Fate + Drop> World<F> {
             }
         }
         Ok(())
+    }
+
+    /// It goes on up to a time, at most 10^15 ns: what is pending happens, one act after another, each of them the next that
+    /// is due then. After `Ok` that is its time, and nothing that is due by then is left.
+    ///
+    /// Refused with `InThePast` where that time has passed, and then nothing changes. Refused with `OutOfMemory` where there
+    /// is no memory for the next act, and then it has gone on up to there, by whole acts.
+    pub fn advance(&mut self, until: u64) -> Result<(), Refused>
+        requires moment { until ≤ 1000000000000000 }
+        ensures advanced { OnOk result (Advanced F.answers until self.old.fate self.new.fate self.old.scene self.new.scene) }
+        ensures refused { IfErr result (StopsShort F.answers until self.old.fate self.new.fate self.old.scene self.new.scene) }
+    {
+        self.scene.advance(until, &mut self.fate)
     }
 
     /// The time, in ns.

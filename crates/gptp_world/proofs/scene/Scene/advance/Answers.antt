@@ -1,0 +1,18 @@
+use Rattle.std.proofs.Common.{◌+◌, subst, sym, arith}
+use Rattle.gptp_world.specs.Pending.{NothingBefore}
+use Rattle.gptp_world.specs.Stage.{world_of}
+use Rattle.gptp_world.specs.World.{WorldState}
+use Rattle.gptp_world.proofs.AdvanceLemmas.{nothing_sooner}
+use Rattle.gptp_world.proofs.LaterLemmas.{stage_later}
+use Rattle.gptp_world.proofs.SoundLemmas.{later_sound}
+use Rattle.gptp_world.proofs.scene.Scene.advance.Goals as goal
+
+pub invariant_of-self : goal.invariant_of-self
+invariant_of-self g c =
+    let stage = c.self-2.inside.stage in let until = c.args.until in
+    let none = subst (λ (w : WorldState). NothingBefore (until + 1) w.net.pending) (sym c.self-2.view_is) c.in-Ok.ensures.done in
+    record {
+      stage_kept = stage_later stage until c.requires.moment c.self-2.invariant.stage_kept;
+      sound = later_sound (world_of stage) until stage.last_change c.self-2.invariant.sound
+          (nothing_sooner until (until + 1) stage.net.pending.entries (omega arith) none);
+    }

@@ -1,0 +1,39 @@
+use Rattle.std.proofs.Common.{subst, sym}
+use Rattle.gptp_world.specs.Pending.{IsNext}
+use Rattle.gptp_world.specs.Sound.{IsSound}
+use Rattle.gptp_world.specs.Views.{IsActOf}
+use Rattle.gptp_world.specs.World.{WorldState}
+use Rattle.gptp_world.proofs.AdvanceLemmas.{can_happen, happened}
+use Rattle.gptp_world.proofs.ViewLemmas.{next_placed}
+use Rattle.gptp_world.proofs.scene.Scene.do_next.Goals as goal
+
+pub act_of-requires-clause-placed : goal.act_of-requires-clause-placed
+act_of-requires-clause-placed g c =
+    next_placed c.self.inside.stage c.args.time c.args.item c.self.invariant.sound.agrees
+    (subst (λ (w : WorldState). IsNext w.net.pending c.args.time c.args.item) (sym c.self.view_is) c.requires.next)
+
+pub perform-requires : goal.perform-requires
+perform-requires g c =
+    let can = can_happen c.args.item c.args.time c.act_of.result c.args.self.now
+    (subst IsSound c.self.view_is c.self.invariant.sound) c.requires.next
+    (subst (λ w. IsActOf c.args.item w c.act_of.result) c.self.view_is c.act_of.ensures) in
+    record {
+      moment = c.requires.moment;
+      fit = can.fit;
+      aim = rw c.aim_of.ensures can.is_aim;
+      ready = can.ready;
+    }
+
+pub returns : goal.returns
+returns g c =
+    let one = happened g.F.Fate.answers c.args.item c.args.time c.act_of.result c.in_ok-done.done c.args.fate.now
+    c.perform.new.fate c.args.self.now c.perform.new.self (subst IsSound c.self.view_is c.self.invariant.sound)
+    c.requires.next (subst (λ w. IsActOf c.args.item w c.act_of.result) c.self.view_is c.act_of.ensures)
+    c.in_ok-done.ensures.done in
+    record {
+      went = rw c.recycle.ensures one.stopped;
+      less = rw c.recycle.ensures one.less;
+      first = rw c.recycle.ensures one.first;
+      kept = tt;
+      fate = tt;
+    }

@@ -1,0 +1,37 @@
+use Rattle.std.proofs.Common.{◌≡◌, subst, sym, ◌∙◌}
+use Rattle.gptp_world.specs.Acts.{at}
+use Rattle.gptp_world.specs.Aim.{IsAimOf}
+use Rattle.gptp_world.specs.Sound.{IsSound}
+use Rattle.gptp_world.specs.Stage.{world_of}
+use Rattle.gptp_world.proofs.LaterLemmas.{aim_later, room_later}
+use Rattle.gptp_world.proofs.SceneLemmas.{ready_sound}
+use Rattle.gptp_world.proofs.SoundLemmas.{acts_sound}
+use Rattle.gptp_world.proofs.scene.Scene.perform.Goals as goal
+
+pub perform-requires-clause-sound : goal.perform-requires-clause-sound
+perform-requires-clause-sound g c =
+    ready_sound c.args.timed.now.act c.args.timed.now.at c.args.self.now (world_of c.make_room_for.new.self)
+    (subst IsSound c.self.view_is c.self.invariant.sound) (c.make_room_for.ensures.world ∙ c.self.view_is) c.requires.ready
+
+pub perform-requires-clause-aim : goal.perform-requires-clause-aim
+perform-requires-clause-aim g c =
+    let made = c.make_room_for.new.self in
+    let is : c.args.self.now ≡ world_of made = sym c.self.view_is ∙ sym c.make_room_for.ensures.world in
+    aim_later c.args.timed.now.act (world_of made) c.args.timed.now.at c.args.aim
+    (subst (λ w. IsAimOf c.args.timed.now.act w c.args.aim) is c.requires.aim)
+
+pub perform-requires-clause-room : goal.perform-requires-clause-room
+perform-requires-clause-room g c =
+    room_later c.args.aim c.make_room_for.new.self c.args.timed.now.at c.in_ok-make_room_for.ensures.room
+
+pub invariant_of-self-2 : goal.invariant_of-self-2
+invariant_of-self-2 g c =
+    let act = c.args.timed.now.act in let time = c.args.timed.now.at in let made = world_of c.make_room_for.new.self in
+    let acted = c.perform.ensures.acted in
+    let sound = ready_sound act time c.args.self.now made (subst IsSound c.self.view_is c.self.invariant.sound)
+    (c.make_room_for.ensures.world ∙ c.self.view_is) c.requires.ready in
+    record {
+      stage_kept = c.perform.ensures.stage;
+      sound = acts_sound act (at time made) acted.draws c.perform.result (world_of c.perform.new.self) sound c.requires.fit
+          acted.acts;
+    }
