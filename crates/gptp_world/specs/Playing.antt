@@ -16,6 +16,12 @@ pub record IsAllowed (timed : Timed) : Type 0 where
 abbrev pub AreAllowed : List Timed → Type 0
 AreAllowed acts = (place : ℕ) (timed : Timed) → slice_get acts place ≡ Some timed → IsAllowed timed
 
+-- an act was done
+pub record IsPlayed {F : Type 0} (answers : Bounds → ℕ → F → Option ℕ → F → Type 0) (timed : Timed) (fate fate_after : F)
+    (w w' : WorldState) : Type 0 where
+  pub done : Done
+  pub was : WasDone answers timed fate fate_after w w' done
+
 -- each was done, in their order
 abbrev pub Plays : {F : Type 0} → (Bounds → ℕ → F → Option ℕ → F → Type 0) → List Timed → F → F → WorldState → WorldState → Type 0
 Plays answers [] fate fate_after w w' = (fate_after ≡ fate) × (w' ≡ w)

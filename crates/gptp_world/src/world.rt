@@ -21,7 +21,7 @@ pub struct World<F> {
 impl<F: Fate + Drop> World<F> {
     ghost use Rattle.std.specs.Prelude.{◌≡◌, ◌≤◌, ◌↔◌, IsTrue, IfErr, IfNone, IfOk, IfSome, OnErr, OnOk, length, []};
     ghost use Rattle.gptp_world.specs.Acts.{AtSystem, IsFitAct, Refuses};
-    ghost use Rattle.gptp_world.specs.Playing.{AreAllowed, Plays, StopsAt};
+    ghost use Rattle.gptp_world.specs.Playing.{AreAllowed, IsAllowed, IsPlayed, Plays, StopsAt};
     ghost use Rattle.gptp_world.specs.Advancing.{Advanced, StopsShort};
     ghost use Rattle.gptp_world.specs.Scene.{Begun, WasDone};
     ghost use Rattle.gptp_world.specs.Sound.{IsSound};
@@ -61,12 +61,23 @@ impl<F: Fate + Drop> World<F> {
         ensures err { IfErr result (λ e. StopsAt F.answers acts.now e.0 e.1 self.old.fate self.new.fate self.old.scene self.new.scene) }
     {
         for place in 0..acts.len() {
-            match self.act(acts[place]) {
-                Ok(_) => {}
-                Err(refused) => return Err((place, refused)),
-            }
+            self.play_next(place, acts[place])?;
         }
         Ok(())
+    }
+
+    /// The act at a place of a list is done, or refused with its place.
+    fn play_next(&mut self, place: usize, timed: Timed) -> Result<(), (usize, Refused)>
+        requires { IsAllowed timed }
+        ensures played { OnOk result (IsPlayed F.answers timed self.old.fate self.new.fate self.old.scene self.new.scene) }
+        ensures place { IfErr result (λ e. e.0 ≡ place) }
+        ensures refused { IfErr result (λ e. Refuses timed.act timed.at self.old.scene e.1) }
+        ensures kept { OnErr result (self.new ≡ self.old) }
+    {
+        match self.act(timed) {
+            Ok(_) => Ok(()),
+            Err(refused) => Err((place, refused)),
+        }
     }
 
     /// It goes on up to a time, at most 10^15 ns: what is pending happens, one act after another, each of them the next that
