@@ -1,5 +1,5 @@
 -- Acts one after another.
-use Rattle.std.proofs.Common.{◌≡◌, ℕ, List, [], ◌∷◌, ◌++◌, Option, refl, subst}
+use Rattle.std.proofs.Common.{ℕ, List, [], ◌∷◌, ◌++◌, Option, refl, subst}
 use Rattle.gptp_links.specs.declared.bounds.Bounds.{Bounds}
 use Rattle.gptp_world.specs.declared.change.Timed.{Timed}
 use Rattle.gptp_world.specs.declared.done.Done.{Done}
