@@ -8,8 +8,8 @@
 //! A [`World`] begins with all systems of a network started. An act that is timely, there and due is done whole: the system
 //! that is given a frame, a timer or a change takes its own step, its timers are pending as it says, its sends go onto
 //! their links with one draw of the fate each, and every other system stays as it is. Any other act is refused by the
-//! first test that it fails, and changes nothing. `specs/Acts.antt` says so. [`Pending`] is the list of all timers and
-//! frames in flight, in order of putting.
+//! first test that it fails, and changes nothing. `specs/Acts.antt` says so. Left to itself a world does what is next, up to
+//! a time. [`Pending`] is the list of all timers and frames in flight, in order of putting.
 #![tactic(auto)]
 
 mod advancing;
