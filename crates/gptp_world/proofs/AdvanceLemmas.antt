@@ -35,21 +35,24 @@ use Rattle.gptp_world.proofs.SoundLemmas.{acts_sound, delivers_less, expires_les
 
 -- ---- what is next can happen
 
-middle : (So : Entry → Type 0) (before : List Entry) (e : Entry) (after : List Entry) → All So (before ++ e ∷ after) → So e
+middle : (So : Entry → Type 0) (before : List Entry) (e : Entry) (after : List Entry) → All So (before ++ e ∷ after)
+    → So e
 middle So [] e after all = All-head So e after all
 middle So (x ∷ xs) e after all = middle So xs e after (All-tail So x (xs ++ e ∷ after) all)
 
 -- what is next isn't due before a time before which nothing is
-pub next_not_before : (from : ℕ) (es : List Entry) (time : ℕ) (item : Item) → IsNext es time item → NothingBefore from es
-    → from ≤ time
+pub next_not_before : (from : ℕ) (es : List Entry) (time : ℕ) (item : Item) → IsNext es time item
+    → NothingBefore from es → from ≤ time
 next_not_before from es time item next none =
     middle (λ (e : Entry). from ≤ e.time) next.before (entry time item) next.after
     (subst (λ xs. NothingBefore from xs) next.is none)
 
 -- nothing that is pending is due before an earlier time either
-pub nothing_sooner : (time later : ℕ) (es : List Entry) → time ≤ later → NothingBefore later es → NothingBefore time es
+pub nothing_sooner : (time later : ℕ) (es : List Entry) → time ≤ later → NothingBefore later es
+    → NothingBefore time es
 nothing_sooner time later es less none =
-    All-weaker (λ (e : Entry). later ≤ e.time) (λ (e : Entry). time ≤ e.time) (λ e late. omega (arith, less, late)) es none
+    All-weaker (λ (e : Entry). later ≤ e.time) (λ (e : Entry). time ≤ e.time) (λ e late. omega (arith, less, late))
+    es none
 
 -- it is there and due
 pub record CanHappen (item : Item) (time : ℕ) (act : Act) (w : WorldState) : Type 0 where
@@ -124,18 +127,19 @@ pub record LeavesLess (time : ℕ) (w w' : WorldState) : Type 0 where
   pub less : due_by time w'.net.pending < due_by time w.net.pending
   pub is_time : w'.time ≡ time
 
-pub leaves_less : (item : Item) (time : ℕ) (act : Act) (w : WorldState) (draws : List Draw) (done : Done) (w' : WorldState)
-    → IsSound (at time w) → IsActOf item w act → Acts act (at time w) draws done w' → LeavesLess time w w'
+pub leaves_less : (item : Item) (time : ℕ) (act : Act) (w : WorldState) (draws : List Draw) (done : Done)
+    (w' : WorldState) → IsSound (at time w) → IsActOf item w act → Acts act (at time w) draws done w' → LeavesLess time w w'
 leaves_less (Arrival link direction) time act w draws done w' sound is acts =
     let k : Delivery link direction done (at time w) draws w' = subst (λ a. Acts a (at time w) draws done w') is acts in
     let heard = k.delivers in
     record {
       less = delivers_less link direction k.octets (at time w) draws k.answer w' sound heard;
-      is_time = hears_time heard.place (receiver direction heard.channel).port k.octets (record (at time w) { net = heard.net })
-          draws k.answer w' heard.hears;
+      is_time = hears_time heard.place (receiver direction heard.channel).port k.octets
+          (record (at time w) { net = heard.net }) draws k.answer w' heard.hears;
     }
 leaves_less (Expiry place timer) time act w draws done w' sound (station, here, is) acts =
-    let k : (done ≡ Quiet) × AtSystem (clock station.system) (at time w) (λ other one. Expires other timer (at time w) draws w') =
+    let k : (done ≡ Quiet)
+        × AtSystem (clock station.system) (at time w) (λ other one. Expires other timer (at time w) draws w') =
     subst (λ a. Acts a (at time w) draws done w') is acts in
     record {
       less = expires_less k.1.place timer (at time w) draws w' sound k.1.so;
@@ -151,8 +155,8 @@ module _ {F : Type 0} (answers : Bounds → ℕ → F → Option ℕ → F → T
     pub less : due_by time w'.net.pending < due_by time w.net.pending
     pub first : NothingBefore time w'.net.pending
 
-  pub happened : (item : Item) (time : ℕ) (act : Act) (done : Done) (fate fate_after : F) (w w' : WorldState) → IsSound w
-      → IsNext w.net.pending time item → IsActOf item w act
+  pub happened : (item : Item) (time : ℕ) (act : Act) (done : Done) (fate fate_after : F) (w w' : WorldState)
+      → IsSound w → IsNext w.net.pending time item → IsActOf item w act
       → WasDone answers (record { at = time; act = act }) fate fate_after w w' done → Happened time fate fate_after w w'
   happened item time act done fate fate_after w w' sound next is was =
       let can = can_happen item time act w sound next is in
@@ -166,7 +170,12 @@ module _ {F : Type 0} (answers : Bounds → ℕ → F → Option ℕ → F → T
           advances = (
             fate_after,
             w',
-            record { next = record { item = item; next = next; act = is }; early = omega arith; done = done; was_done = was },
+            record {
+              next = record { item = item; next = next; act = is };
+              early = omega arith;
+              done = done;
+              was_done = was;
+            },
             (refl, refl),
           );
         };
@@ -209,7 +218,8 @@ module _ {F : Type 0} (answers : Bounds → ℕ → F → Option ℕ → F → T
       → Stopped answers until fate fate_after w w'
   stopped_more until fate drawn fate_after w between w' front back = record {
     acts = front.acts ++ back.acts;
-    advances = advances-append until front.acts back.acts fate drawn fate_after w between w' front.advances back.advances;
+    advances = advances-append until front.acts back.acts fate drawn fate_after w between w' front.advances
+        back.advances;
   }
 
   pub stopped_later : (until later : ℕ) (fate fate_after : F) (w w' : WorldState) → until ≤ later

@@ -43,7 +43,8 @@ pub record Advanced {F : Type 0} (answers : Bounds → ℕ → F → Option ℕ 
   pub nothing_left : NothingBefore (until + 1) between.net.pending
   pub is : w' ≡ at until between
 
--- Why it doesn't get to a time: that has passed, and nothing happens; or it stops where there is no memory for the next act.
+-- Why it doesn't get to a time: that has passed, and nothing happens; or it stops, since there is no memory for the next
+-- act.
 abbrev pub StopsShort : {F : Type 0} → (Bounds → ℕ → F → Option ℕ → F → Type 0) → ℕ → F → F
     → WorldState → WorldState → Refused → Type 0
 StopsShort answers until fate fate_after w w' InThePast = (until < w.time) × (fate_after ≡ fate) × (w' ≡ w)

@@ -10,7 +10,8 @@ use Rattle.gptp_world.proofs.scene.Scene.advance.Goals as goal
 pub invariant_of-self : goal.invariant_of-self
 invariant_of-self g c =
     let stage = c.self-2.inside.stage in let until = c.args.until in
-    let none = subst (λ (w : WorldState). NothingBefore (until + 1) w.net.pending) (sym c.self-2.view_is) c.in-Ok.ensures.done in
+    let none = subst (λ (w : WorldState). NothingBefore (until + 1) w.net.pending) (sym c.self-2.view_is)
+    c.in-Ok.ensures.done in
     record {
       stage_kept = stage_later stage until c.requires.moment c.self-2.invariant.stage_kept;
       sound = later_sound (world_of stage) until stage.last_change c.self-2.invariant.sound

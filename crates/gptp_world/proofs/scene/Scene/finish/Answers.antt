@@ -22,9 +22,10 @@ loop-due-preserved g c =
     let early = c.in-Some.ensures.early in
     let same : c.in-Some.due ≡ c.args.time = omega (arith, late, early) in
     record {
-      went = stopped_more g.F.Fate.answers c.args.time c.args.fate.now c.loop-due.fate c.do_next.new.fate c.args.self.now
-          c.loop-due.self c.do_next.new.self so_far.went
-          (subst (λ t. Stopped g.F.Fate.answers t c.loop-due.fate c.do_next.new.fate c.loop-due.self c.do_next.new.self) same
-          next.went);
+      went = stopped_more g.F.Fate.answers c.args.time c.args.fate.now c.loop-due.fate c.do_next.new.fate
+          c.args.self.now c.loop-due.self c.do_next.new.self so_far.went
+          (subst
+          (λ t. Stopped g.F.Fate.answers t c.loop-due.fate c.do_next.new.fate c.loop-due.self c.do_next.new.self)
+          same next.went);
       first = subst (λ t. NothingBefore t c.do_next.new.self.net.pending) same next.first;
     }

@@ -8,7 +8,7 @@ returns-in_err-from-clause-went g c =
 
 pub loop-from-preserved : goal.loop-from-preserved
 loop-from-preserved g c = record {
-  went = stopped_more g.F.Fate.answers c.args.until c.args.fate.now c.loop-from.fate c.finish_next.new.fate c.args.self.now
-      c.loop-from.self c.finish_next.new.self c.loop-from.invariant.went c.finish_next.ensures.went;
+  went = stopped_more g.F.Fate.answers c.args.until c.args.fate.now c.loop-from.fate c.finish_next.new.fate
+      c.args.self.now c.loop-from.self c.finish_next.new.self c.loop-from.invariant.went c.finish_next.ensures.went;
   first = c.in_ok-from.ensures.done;
 }

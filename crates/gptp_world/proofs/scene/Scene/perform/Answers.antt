@@ -11,7 +11,8 @@ use Rattle.gptp_world.proofs.scene.Scene.perform.Goals as goal
 pub perform-requires-clause-sound : goal.perform-requires-clause-sound
 perform-requires-clause-sound g c =
     ready_sound c.args.timed.now.act c.args.timed.now.at c.args.self.now (world_of c.make_room_for.new.self)
-    (subst IsSound c.self.view_is c.self.invariant.sound) (c.make_room_for.ensures.world ∙ c.self.view_is) c.requires.ready
+    (subst IsSound c.self.view_is c.self.invariant.sound) (c.make_room_for.ensures.world ∙ c.self.view_is)
+    c.requires.ready
 
 pub perform-requires-clause-aim : goal.perform-requires-clause-aim
 perform-requires-clause-aim g c =
@@ -32,6 +33,6 @@ invariant_of-self-2 g c =
     (c.make_room_for.ensures.world ∙ c.self.view_is) c.requires.ready in
     record {
       stage_kept = c.perform.ensures.stage;
-      sound = acts_sound act (at time made) acted.draws c.perform.result (world_of c.perform.new.self) sound c.requires.fit
-          acted.acts;
+      sound = acts_sound act (at time made) acted.draws c.perform.result (world_of c.perform.new.self) sound
+          c.requires.fit acted.acts;
     }
