@@ -2,7 +2,6 @@
 
 use gptp_links::{Direction, PcgFate};
 use gptp_network::Document;
-use gptp_roles::Role;
 use gptp_system::{Answer, Timer};
 use gptp_vector::ClockId;
 use gptp_world::{Act, Change, Done, Refused, Timed, World};
@@ -202,31 +201,5 @@ fn a_world_goes_on_by_itself(rt: HostRuntime) -> Result<(), Fail> {
         }
         None => assert!(rt; false),
     }
-    Ok(())
-}
-
-#[test]
-fn a_list_stops_at_the_first_refusal(rt: HostRuntime) -> Result<(), Fail> {
-    let alloc = rt.alloc();
-    let document = Document::read(alloc, TWO.as_bytes())?;
-    let mut world = World::new(alloc, document.network(), PcgFate::new(0))?;
-    let back = Act::Deliver {
-        link: 0,
-        direction: Direction::FromB,
-    };
-    let acts = [
-        Timed { at: 500, act: back },
-        Timed {
-            at: 500,
-            act: ARRIVAL,
-        },
-        Timed { at: 500, act: back },
-    ];
-    assert_eq!(rt; world.play(&acts[..0]), Ok(()));
-    assert_eq!(rt; world.play(&acts), Err((2, Refused::NotDue)));
-    assert_eq!(rt; world.now(), 500);
-    assert_eq!(rt; world.role(clock(1), 1), Some(Role::Disabled));
-    assert_eq!(rt; world.role(clock(1), 0), None);
-    assert_eq!(rt; world.role(clock(1), 2), None);
     Ok(())
 }
