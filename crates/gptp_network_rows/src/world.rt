@@ -1,10 +1,9 @@
-//! Worlds: what is refused, and what a delivery tells. Times are in ns.
+//! A world that goes on by itself. Times are in ns.
 
 use gptp_links::{Direction, PcgFate};
 use gptp_network::Document;
-use gptp_system::{Answer, Timer};
 use gptp_vector::ClockId;
-use gptp_world::{Act, Change, Done, Refused, Timed, World};
+use gptp_world::{Act, Refused, Timed, World};
 use std::test::Fail;
 
 /// Two systems, clocks 1 and 2, whose first ports a link joins; each frame takes 500 ns.
@@ -21,134 +20,6 @@ const ARRIVAL: Act = Act::Deliver {
     link: 0,
     direction: Direction::FromA,
 };
-
-#[test]
-fn acts_are_refused_in_order(rt: HostRuntime) -> Result<(), Fail> {
-    let alloc = rt.alloc();
-    let document = Document::read(alloc, TWO.as_bytes())?;
-    let mut world = World::new(alloc, document.network(), PcgFate::new(0))?;
-    assert_eq!(rt; world.now(), 0);
-    assert_eq!(rt; world.count(), 2);
-    assert_eq!(rt;
-        world
-            .act(Timed {
-                at: 400,
-                act: ARRIVAL
-            })
-            .err(),
-        Some(Refused::NotDue)
-    );
-    assert_eq!(rt;
-        world
-            .act(Timed {
-                at: 600,
-                act: ARRIVAL
-            })
-            .err(),
-        Some(Refused::Untimely)
-    );
-    let nowhere = Act::Deliver {
-        link: 9,
-        direction: Direction::FromA,
-    };
-    assert_eq!(rt;
-        world
-            .act(Timed {
-                at: 0,
-                act: nowhere
-            })
-            .err(),
-        Some(Refused::NoSuch)
-    );
-    assert_eq!(rt;
-        world.next(),
-        Some(Timed {
-            at: 500,
-            act: ARRIVAL
-        })
-    );
-    match world.act(Timed {
-        at: 500,
-        act: ARRIVAL,
-    }) {
-        Ok(
-            Done::Heard {
-                clock: heard,
-                port,
-                answer,
-                frame,
-            },
-        ) => {
-            assert_eq!(rt; heard, clock(2));
-            assert_eq!(rt; port, 1);
-            assert_eq!(rt; answer, Some(Answer::Used));
-            assert_eq!(rt; frame.len(), 54);
-        }
-        _ => assert!(rt; false),
-    }
-    assert_eq!(rt; world.now(), 500);
-    assert_eq!(rt;
-        world
-            .act(Timed {
-                at: 400,
-                act: ARRIVAL
-            })
-            .err(),
-        Some(Refused::InThePast)
-    );
-    Ok(())
-}
-
-#[test]
-fn a_failed_system_is_silent(rt: HostRuntime) -> Result<(), Fail> {
-    let alloc = rt.alloc();
-    let document = Document::read(alloc, TWO.as_bytes())?;
-    let mut world = World::new(alloc, document.network(), PcgFate::new(0))?;
-    let fails = Act::Change(Change::Fail { clock: clock(2) });
-    assert!(rt; world.system(clock(2)).is_some());
-    assert_eq!(rt;
-        world
-            .act(Timed {
-                at: 300,
-                act: fails
-            })
-            .err(),
-        None
-    );
-    assert!(rt; world.system(clock(2)).is_none());
-    assert_eq!(rt; world.last_change(), 300);
-    match world.act(Timed {
-        at: 500,
-        act: ARRIVAL,
-    }) {
-        Ok(
-            Done::Heard {
-                clock: heard,
-                port: _,
-                answer,
-                frame: _,
-            },
-        ) => {
-            assert_eq!(rt; heard, clock(2));
-            assert_eq!(rt; answer, None);
-        }
-        _ => assert!(rt; false),
-    }
-    let expires = Act::Expire {
-        clock: clock(2),
-        timer: Timer::Pdelay(1),
-    };
-    assert_eq!(rt;
-        world
-            .act(Timed {
-                at: 500,
-                act: expires
-            })
-            .err(),
-        Some(Refused::NotDue)
-    );
-    Ok(())
-}
 
 #[test]
 fn a_world_goes_on_by_itself(rt: HostRuntime) -> Result<(), Fail> {
