@@ -139,7 +139,7 @@ leaves_less (Arrival link direction) time act w draws done w' sound is acts =
     }
 leaves_less (Expiry place timer) time act w draws done w' sound (station, here, is) acts =
     let k : (done ≡ Quiet)
-        × AtSystem (clock station.system) (at time w) (λ other one. Expires other timer (at time w) draws w') =
+    × AtSystem (clock station.system) (at time w) (λ other one. Expires other timer (at time w) draws w') =
     subst (λ a. Acts a (at time w) draws done w') is acts in
     record {
       less = expires_less k.1.place timer (at time w) draws w' sound k.1.so;
