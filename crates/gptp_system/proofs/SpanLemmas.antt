@@ -20,7 +20,7 @@ use Rattle.gptp_system.specs.Times.{IsInTime, IsPortInTime}
 use Rattle.gptp_system.proofs.StartedLemmas.{at_number, mine_due}
 
 -- no interval is above sixteen seconds
-interval_most : (log : ℤ) → IsLog log → interval_of log ≤ 16000000000
+pub interval_most : (log : ℤ) → IsLog log → interval_of log ≤ 16000000000
 interval_most (pos zero) k = omega arith
 interval_most (pos (suc zero)) k = omega arith
 interval_most (pos (suc (suc zero))) k = omega arith

@@ -1,5 +1,5 @@
 -- A world that goes on by itself: what is next can happen, and leaves less to do at its time.
-use Rattle.std.proofs.Common.{◌≡◌, ◌<◌, ◌≤◌, ℕ, true, List, [], ◌∷◌, ◌++◌, Option, Some, None, slice_get, refl, ap, sym, subst, ◌∙◌, arith}
+use Rattle.std.proofs.Common.{◌≡◌, ◌+◌, ◌<◌, ◌≤◌, ℕ, true, List, [], ◌∷◌, ◌++◌, Option, Some, None, slice_get, refl, ap, sym, subst, ◌∙◌, arith}
 use Rattle.std.specs.List.{All}
 use Rattle.std.proofs.lemmas.List.Elements.{All-head, All-tail, All-weaker}
 use Rattle.std.proofs.lemmas.Option.{same_Some}
@@ -20,13 +20,13 @@ use Rattle.gptp_world.specs.declared.item.Item.TheVariants.{Expiry, Arrival}
 use Rattle.gptp_world.specs.declared.station.Station.{Station}
 use Rattle.gptp_world.specs.Act.{Expires, Hears}
 use Rattle.gptp_world.specs.Acts.{at, Acts, AtSystem, Delivery, IsFitAct, IsReadyAct, IsTimelyAct}
-use Rattle.gptp_world.specs.Advancing.{Advances, Stopped}
+use Rattle.gptp_world.specs.Advancing.{Advances, Stopped, Told}
 use Rattle.gptp_world.specs.Ahead.{due_by}
 use Rattle.gptp_world.specs.Aim.{aim_of, IsAimOf}
 use Rattle.gptp_world.specs.Pending.{entry, Entry, IsNext, NothingBefore}
 use Rattle.gptp_world.specs.Scene.{WasDone}
 use Rattle.gptp_world.specs.Sound.{IsSound}
-use Rattle.gptp_world.specs.Views.{IsActOf}
+use Rattle.gptp_world.specs.Views.{IsActOf, IsNextAct}
 use Rattle.gptp_world.specs.World.{receiver, station_due, WorldState}
 use Rattle.gptp_world.proofs.AheadLemmas.{live_due}
 use Rattle.gptp_world.proofs.MomentLemmas.{nothing_before-next}
@@ -53,6 +53,15 @@ pub nothing_sooner : (time later : ℕ) (es : List Entry) → time ≤ later →
 nothing_sooner time later es less none =
     All-weaker (λ (e : Entry). later ≤ e.time) (λ (e : Entry). time ≤ e.time) (λ e late. omega (arith, less, late))
     es none
+
+-- a delivery sets no bounds, and an expiry neither
+is_fit : (item : Item) (act : Act) (w : WorldState) → IsActOf item w act → IsFitAct act
+is_fit (Arrival link direction) act w is = subst IsFitAct (sym is) tt
+is_fit (Expiry place timer) act w (station, here, is) = subst IsFitAct (sym is) tt
+
+-- so nothing more is asked of what is next
+pub next_fits : (w : WorldState) (timed : Timed) → IsNextAct w timed → IsFitAct timed.act
+next_fits w timed next = is_fit next.item timed.act w next.act
 
 -- it is there and due
 pub record CanHappen (item : Item) (time : ℕ) (act : Act) (w : WorldState) : Type 0 where
@@ -149,82 +158,85 @@ leaves_less (Expiry place timer) time act w draws done w' sound (station, here, 
 -- ---- one act, and one after another
 
 module _ {F : Type 0} (answers : Bounds → ℕ → F → Option ℕ → F → Type 0) where
-  -- what was next has happened
-  pub record Happened (time : ℕ) (fate fate_after : F) (w w' : WorldState) : Type 0 where
-    pub stopped : Stopped answers time fate fate_after w w'
-    pub less : due_by time w'.net.pending < due_by time w.net.pending
-    pub first : NothingBefore time w'.net.pending
+  -- The next has happened by a time, and it alone: this is told of it. Less is left to do at its own time, and nothing before.
+  pub record Happened (until : ℕ) (told : Told) (fate fate_after : F) (w w' : WorldState) : Type 0 where
+    pub advances : Advances answers until (told ∷ []) fate fate_after w w'
+    pub less : due_by told.timed.at w'.net.pending < due_by told.timed.at w.net.pending
+    pub first : NothingBefore told.timed.at w'.net.pending
 
-  pub happened : (item : Item) (time : ℕ) (act : Act) (done : Done) (fate fate_after : F) (w w' : WorldState)
-      → IsSound w → IsNext w.net.pending time item → IsActOf item w act
-      → WasDone answers (record { at = time; act = act }) fate fate_after w w' done → Happened time fate fate_after w w'
-  happened item time act done fate fate_after w w' sound next is was =
-      let can = can_happen item time act w sound next is in
+  -- what was next and was done has happened
+  pub happened : (until : ℕ) (told : Told) (fate fate_after : F) (w w' : WorldState) → IsSound w
+      → IsNextAct w told.timed → told.timed.at ≤ until → WasDone answers told.timed fate fate_after w w' told.done
+      → Happened until told fate fate_after w w'
+  happened until told fate fate_after w w' sound next early was =
+      let time = told.timed.at in let act = told.timed.act in
       let now : IsSound (at time w) = later_sound w time w.last_change sound was.ready.timely.first in
-      let after = acts_sound act (at time w) was.draws done w' now can.fit was.acts in
-      let left = leaves_less item time act w was.draws done w' now is was.acts in
-      let timed : Timed = record { at = time; act = act } in
+      let after = acts_sound act (at time w) was.draws told.done w' now (next_fits w told.timed next) was.acts in
+      let left = leaves_less next.item time act w was.draws told.done w' now next.act was.acts in
       record {
-        stopped = record {
-          acts = timed ∷ [];
-          advances = (
-            fate_after,
-            w',
-            record {
-              next = record { item = item; next = next; act = is };
-              early = omega arith;
-              done = done;
-              was_done = was;
-            },
-            (refl, refl),
-          );
-        };
+        advances = (fate_after, w', record { next = next; early = early; was_done = was }, (refl, refl));
         less = left.less;
         first = subst (λ t. NothingBefore t w'.net.pending) left.is_time after.on_time.pending;
       }
 
-  advances-append : (until : ℕ) (acts more : List Timed) (fate drawn fate_after : F) (w between w' : WorldState)
-      → Advances answers until acts fate drawn w between → Advances answers until more drawn fate_after between w'
-      → Advances answers until (acts ++ more) fate fate_after w w'
+  pub advances-append : (until : ℕ) (told more : List Told) (fate drawn fate_after : F) (w between w' : WorldState)
+      → Advances answers until told fate drawn w between → Advances answers until more drawn fate_after between w'
+      → Advances answers until (told ++ more) fate fate_after w w'
   advances-append until [] more fate drawn fate_after w between w' (same, is) rest =
       subst (λ (f : F). Advances answers until more f fate_after w w') same
       (subst (λ (x : WorldState). Advances answers until more drawn fate_after x w') is rest)
   advances-append until (t ∷ ts) more fate drawn fate_after w between w' (f, x, happens, front) rest =
       (f, x, happens, advances-append until ts more f drawn fate_after x between w' front rest)
 
-  advances-later : (until later : ℕ) (acts : List Timed) (fate fate_after : F) (w w' : WorldState) → until ≤ later
-      → Advances answers until acts fate fate_after w w' → Advances answers later acts fate fate_after w w'
+  pub advances-later : (until later : ℕ) (told : List Told) (fate fate_after : F) (w w' : WorldState) → until ≤ later
+      → Advances answers until told fate fate_after w w' → Advances answers later told fate fate_after w w'
   advances-later until later [] fate fate_after w w' less none = none
   advances-later until later (t ∷ ts) fate fate_after w w' less (f, x, happens, rest) =
       let early = happens.early in (
         f,
         x,
-        record {
-          next = happens.next;
-          early = omega (arith, less, early);
-          done = happens.done;
-          was_done = happens.was_done;
-        },
+        record { next = happens.next; early = omega (arith, less, early); was_done = happens.was_done },
         advances-later until later ts f fate_after x w' less rest,
       )
+
+  -- nothing happened
+  pub record Stayed (told : List Told) (fate fate_after : F) (w w' : WorldState) : Type 0 where
+    pub none : told ≡ []
+    pub fate_is : fate_after ≡ fate
+    pub is : w' ≡ w
+
+  -- where nothing is due by a time, nothing happens by then
+  pub nothing_happens : (until : ℕ) (told : List Told) (fate fate_after : F) (w w' : WorldState)
+      → NothingBefore (until + 1) w.net.pending → Advances answers until told fate fate_after w w'
+      → Stayed told fate fate_after w w'
+  nothing_happens until [] fate fate_after w w' none (same, is) = record { none = refl; fate_is = same; is = is }
+  nothing_happens until (t ∷ ts) fate fate_after w w' none (f, x, happens, rest) =
+      let next = happens.next in let early = happens.early in
+      let late = next_not_before (until + 1) w.net.pending t.timed.at next.item next.next none in
+      absurd (omega (arith, early, late))
 
   -- no act at all
   pub none_happened : (until : ℕ) (fate fate_after : F) (w w' : WorldState) → fate_after ≡ fate → w' ≡ w
       → Stopped answers until fate fate_after w w'
-  none_happened until fate fate_after w w' same is = record { acts = []; advances = (same, is) }
+  none_happened until fate fate_after w w' same is = record { told = []; advances = (same, is) }
+
+  -- one act
+  pub one_happened : (until : ℕ) (told : Told) (fate fate_after : F) (w w' : WorldState)
+      → Happened until told fate fate_after w w' → Stopped answers until fate fate_after w w'
+  one_happened until told fate fate_after w w' one = record { told = told ∷ []; advances = one.advances }
 
   pub stopped_more : (until : ℕ) (fate drawn fate_after : F) (w between w' : WorldState)
       → Stopped answers until fate drawn w between → Stopped answers until drawn fate_after between w'
       → Stopped answers until fate fate_after w w'
   stopped_more until fate drawn fate_after w between w' front back = record {
-    acts = front.acts ++ back.acts;
-    advances = advances-append until front.acts back.acts fate drawn fate_after w between w' front.advances
+    told = front.told ++ back.told;
+    advances = advances-append until front.told back.told fate drawn fate_after w between w' front.advances
         back.advances;
   }
 
   pub stopped_later : (until later : ℕ) (fate fate_after : F) (w w' : WorldState) → until ≤ later
       → Stopped answers until fate fate_after w w' → Stopped answers later fate fate_after w w'
   stopped_later until later fate fate_after w w' less stopped = record {
-    acts = stopped.acts;
-    advances = advances-later until later stopped.acts fate fate_after w w' less stopped.advances;
+    told = stopped.told;
+    advances = advances-later until later stopped.told fate fate_after w w' less stopped.advances;
   }

@@ -1,11 +1,9 @@
--- Systems and links by their places, and the places by rising clock.
-use Rattle.std.proofs.Common.{◌≡◌, ◌≢◌, inl, inr, ℕ, ◌*◌, ◌<◌, ◌≤◌, Bool, true, false, nat_eq, List, length, map, Option, Some, None, option_map, option_and_then, slice_get, slice_index_or, Contains, refl, sym, ap, subst, ◌∙◌, arith}
+-- Systems and links by their places.
+use Rattle.std.proofs.Common.{◌≡◌, ◌≢◌, inl, inr, ℕ, ◌*◌, List, length, map, Option, Some, None, option_map, slice_get, slice_index_or, Contains, refl, sym, ap, subst, ◌∙◌, arith}
 use Rattle.std.specs.List.{All}
-use Rattle.std.proofs.lemmas.Bool.Decides.{nat_tests}
 use Rattle.std.proofs.lemmas.List.{length-map}
-use Rattle.std.proofs.lemmas.List.Sorted.{length_permutation, Contains-permutation, IsPermutation-sym}
-use Rattle.std.proofs.lemmas.Map.Keys.{IsDistinct-IsPermutation}
-use Rattle.std.proofs.lemmas.Option.{slice_get-map, slice_get-get_or, slice_get_within, get_or_from_slice_get}
+use Rattle.std.proofs.lemmas.List.Sorted.{Contains-permutation, IsPermutation-sym}
+use Rattle.std.proofs.lemmas.Option.{slice_get-map, slice_get-get_or}
 use Rattle.gptp_vector.specs.declared.port.PortId.{PortId}
 use Rattle.gptp_links.specs.declared.link.Direction.{Direction}
 use Rattle.gptp_links.specs.declared.link.Direction.TheVariants.{FromA, FromB}
@@ -15,8 +13,8 @@ use Rattle.gptp_world.specs.declared.directory.Ends.{Ends}
 use Rattle.gptp_world.specs.declared.network.Member.{Member}
 use Rattle.gptp_world.specs.declared.network.Wire.{Wire}
 use Rattle.gptp_world.specs.Network.{NetworkState, IsNetwork, IsPort, IsEnd}
-use Rattle.gptp_world.specs.Directory.{Join, clocks_of, joins_of, start_of, BeginsAt, IsPlaced, IsRanking, IsPlan, AreRising, ArePlaces, AreEnds, AreOuts, AreTables, AreNamed}
-use Rattle.gptp_world.proofs.ListLemmas.{some_same, same_there, mapped, mapped_there, contains_there, there_contains, distinct, apart}
+use Rattle.gptp_world.specs.Directory.{Join, clocks_of, joins_of, start_of, BeginsAt, IsPlaced, IsPlan, AreRising, ArePlaces, AreEnds, AreOuts, AreTables, AreNamed}
+use Rattle.gptp_world.proofs.ListLemmas.{same_there, mapped, mapped_there, contains_there, there_contains}
 
 -- ---- a network
 
@@ -107,10 +105,6 @@ bare : (a b : Option ℕ) → Some a ≡ option_map Some b → a ≡ b
 bare a None e = absurd cc
 bare a (Some b) e = cc
 
-full : (f : ℕ → Option ℕ) (a : Option ℕ) (n : ℕ) → option_map f a ≡ Some (Some n) → (p : ℕ) × (a ≡ Some p)
-full f None n e = absurd cc
-full f (Some p) n e = (p, refl)
-
 -- a place of the list is that of the number that stands there
 pub same_at : (clocks numbers places : List ℕ) (k p : ℕ) → ArePlaces clocks numbers places → slice_get places k ≡ Some p
     → slice_get clocks p ≡ slice_get numbers k
@@ -120,79 +114,14 @@ same_at clocks numbers places k p h e =
     bare (slice_get clocks p) (slice_get numbers k)
     (sym left ∙ ap (λ (v : List (Option ℕ)). slice_get v k) h ∙ slice_get-map Some numbers k)
 
--- each number has a place
-pub place_at : (clocks numbers places : List ℕ) (k n : ℕ) → ArePlaces clocks numbers places
-    → slice_get numbers k ≡ Some n
-    → (p : ℕ) × (slice_get places k ≡ Some p)
-place_at clocks numbers places k n h e =
-    full (slice_get clocks) (slice_get places k) n
-    (sym (slice_get-map (slice_get clocks) places k) ∙ ap (λ (v : List (Option ℕ)). slice_get v k) h
-    ∙ mapped_there Some numbers k n e)
-
 pub places_length : (clocks numbers places : List ℕ) → ArePlaces clocks numbers places → length places ≡ length numbers
 places_length clocks numbers places h =
     sym (length-map places (slice_get clocks)) ∙ ap length h ∙ length-map numbers Some
-
-followed : (f : ℕ → Option ℕ) (a b : Option ℕ) → option_map f a ≡ option_map Some b → option_and_then (λ p. f p) a ≡ b
-followed f None None e = refl
-followed f (Some p) (Some n) e = some_same (f p) (Some n) e
-followed f None (Some n) e = absurd cc
-followed f (Some p) None e = absurd cc
-
--- the number at a rank is the one at its place
-pub number_at : (clocks numbers places : List ℕ) (k : ℕ) → ArePlaces clocks numbers places
-    → option_and_then (λ p. slice_get clocks p) (slice_get places k) ≡ slice_get numbers k
-number_at clocks numbers places k h =
-    followed (slice_get clocks) (slice_get places k) (slice_get numbers k)
-    (sym (slice_get-map (slice_get clocks) places k) ∙ ap (λ (v : List (Option ℕ)). slice_get v k) h
-    ∙ slice_get-map Some numbers k)
-
--- ---- the ranking
 
 pub rank_there : (clocks rising : List ℕ) (place c : ℕ) → AreRising clocks rising → slice_get clocks place ≡ Some c
     → (k : ℕ) × (slice_get rising k ≡ Some c)
 rank_there clocks rising place c h e =
     there_contains rising c (Contains-permutation clocks rising c h.all (contains_there clocks place c e))
-
-each_ranked : (clocks : List ℕ) (joins : List Join) (rising ranked : List ℕ) → IsPlan clocks joins
-    → AreRising clocks rising
-    → ArePlaces clocks rising ranked → (place : ℕ) → place < length clocks
-    → (rank : ℕ) × (slice_get ranked rank ≡ Some place)
-each_ranked clocks joins rising ranked plan r h place l =
-    let c : ℕ = slice_index_or clocks place 0 in
-    let e : slice_get clocks place ≡ Some c = slice_get-get_or clocks place 0 l in
-    let k = rank_there clocks rising place c r e in
-    let p = place_at clocks rising ranked k.0 c h k.1 in
-    let same : p.0 ≡ place = plan.differ p.0 place c (same_at clocks rising ranked k.0 p.0 h p.1 ∙ k.1) e in
-    (k.0, p.1 ∙ ap Some same)
-
-below : (c d : ℕ) → c ≤ d → (c ≡ d → ⊥) → c < d
-below c d l h = tested (nat_eq c d) refl where
-  tested : (t : Bool) → nat_eq c d ≡ t → c < d
-  tested true e = absurd (h (grind (arith, nat_tests)))
-  tested false e = grind (arith, nat_tests)
-
-rises : (clocks : List ℕ) (joins : List Join) (rising : List ℕ) → IsPlan clocks joins → AreRising clocks rising
-    → (i j c d : ℕ) → i < j → slice_get rising i ≡ Some c → slice_get rising j ≡ Some d → c < d
-rises clocks joins rising plan r i j c d l e f =
-    let within = slice_get_within rising j d f in
-    let up : slice_index_or rising i 0 ≤ slice_index_or rising j 0 = r.order i j 0 (omega arith) within in
-    let at_i : slice_index_or rising i 0 ≡ c = get_or_from_slice_get rising i c 0 e in
-    let at_j : slice_index_or rising j 0 ≡ d = get_or_from_slice_get rising j d 0 f in
-    let two = IsDistinct-IsPermutation nat_eq (λ x y. grind (arith, nat_tests)) clocks rising r.all
-    (distinct clocks plan.differ) in
-    let not_same : c ≡ d → ⊥ = λ s. apart rising i j c two l e (f ∙ ap Some (sym s)) in
-    let le : c ≤ d = omega arith in below c d le not_same
-
-pub ranking_of : (clocks : List ℕ) (joins : List Join) (rising ranked : List ℕ) → IsPlan clocks joins
-    → AreRising clocks rising
-    → ArePlaces clocks rising ranked → IsRanking clocks ranked
-ranking_of clocks joins rising ranked plan r h = record {
-  count = places_length clocks rising ranked h ∙ length_permutation clocks rising r.all;
-  each = each_ranked clocks joins rising ranked plan r h;
-  rise = λ i j p q c d l at_i at_j e f. rises clocks joins rising plan r i j c d l
-      (sym (same_at clocks rising ranked i p h at_i) ∙ e) (sym (same_at clocks rising ranked j q h at_j) ∙ f);
-}
 
 -- ---- the ends of links
 
@@ -225,9 +154,9 @@ pub tables_of : (clocks : List ℕ) (joins : List Join) (ranked rising : List �
     (ends : List Ends)
     → IsPlan clocks joins → AreRising clocks rising → ArePlaces clocks rising ranked → AreEnds clocks joins ends
     → AreOuts (2 * length joins) clocks joins outs
-    → AreTables (record { clocks = clocks; joins = joins; ranked = ranked }) rising outs ends
+    → AreTables (record { clocks = clocks; joins = joins }) rising ranked outs ends
 tables_of clocks joins ranked rising outs ends plan r p e o = record {
-  directory = record { plan = plan; ranking = ranking_of clocks joins rising ranked plan r p };
+  directory = record { plan = plan };
   order = r;
   ranked = p;
   at_ends = e;

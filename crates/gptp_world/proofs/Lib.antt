@@ -35,6 +35,7 @@ pub mod QueueLemmas
 pub mod TimingLemmas
 pub mod MomentLemmas
 pub mod TimerLemmas
+pub mod TouchedLemmas
 pub mod ArrivingLemmas
 pub mod ChangingLemmas
 pub mod DirectoryLemmas
@@ -49,6 +50,7 @@ pub mod ChangeOnTimeLemmas
 pub mod SoundLemmas
 pub mod SceneLemmas
 pub mod LaterLemmas
+pub mod RisingLemmas
 pub mod ViewLemmas
 pub mod PlayLemmas
 pub mod AdvanceLemmas

@@ -1,5 +1,5 @@
 -- The timers that a system has, and that only those run and are pending.
-use Rattle.std.proofs.Common.{◌≡◌, ◌⊎◌, ℕ, zero, suc, ◌+◌, Bool, true, false, List, [], ◌∷◌, drop, length, Option, Some, None, slice_get, refl, sym, ap, subst, ◌∙◌, inl, inr, arith}
+use Rattle.std.proofs.Common.{◌≡◌, ◌⊎◌, ℕ, zero, suc, ◌+◌, ◌≤◌, Bool, true, false, List, [], ◌∷◌, drop, length, Option, Some, None, slice_get, refl, sym, ap, subst, ◌∙◌, inl, inr, arith}
 use Rattle.std.specs.Option.{option_and_then}
 use Rattle.std.proofs.lemmas.Option.{none-some}
 use Rattle.gptp_graph.specs.Members.{In}
@@ -7,6 +7,7 @@ use Rattle.gptp_system.specs.declared.port.Port.{Port}
 use Rattle.gptp_system.specs.declared.timer.Timer.{Timer}
 use Rattle.gptp_system.specs.declared.timer.Timer.TheVariants as timers
 use Rattle.gptp_system.specs.State.{SystemState, age_due, announce_due, due, held_at, number}
+use Rattle.gptp_system.specs.Steps.{IsTimerOf}
 use Rattle.gptp_world.specs.declared.item.Item.{Item}
 use Rattle.gptp_world.specs.declared.item.Item.TheVariants.{Expiry}
 use Rattle.gptp_world.specs.declared.station.Station.{Station}
@@ -16,6 +17,7 @@ use Rattle.gptp_world.specs.World.{timers_from, station_due}
 use Rattle.gptp_world.specs.Act.{set_timers}
 use Rattle.gptp_world.specs.Agrees.{OnlyItsTimers}
 use Rattle.gptp_world.proofs.PendingLemmas.{times-without_first_same, times-without_first_other}
+use Rattle.gptp_world.proofs.PlaceLemmas.{within}
 use Rattle.gptp_world.proofs.TimerLemmas.{are_set, item_is, set_all, stays_set, IsSet}
 
 -- ---- the timers that a system has
@@ -65,10 +67,25 @@ number_timers ps (suc i) = by (slice_get ps i) refl
         let same : 1 + i ≡ suc i = omega arith in
         inl (subst (λ m. HasTimers m (timers_from 1 ps)) same (port_timers 1 i ps q is))
 
+port_has : (ps : List Port) (p : ℕ) → 1 ≤ p → p ≤ length ps → HasTimers p (timers_from 1 ps)
+port_has ps zero least most = absurd (omega arith)
+port_has ps (suc i) least most =
+    let found = within ps i (omega arith) in let same : 1 + i ≡ suc i = omega arith in
+    subst (λ m. HasTimers m (timers_from 1 ps)) same (port_timers 1 i ps found.0 found.1)
+
 own_timers : (n : ℕ) (ps : List Port) → In timers.Sync (timers_from n ps) × In timers.Relay (timers_from n ps)
 own_timers n [] = (inl refl, inr (inl refl))
 own_timers n (p ∷ ps) =
     let rest = own_timers (n + 1) ps in (inr (inr (inr (inr rest.0))), inr (inr (inr (inr rest.1))))
+
+-- a timer that names a port of the system is one of them, and so are those that name none
+pub own_timer : (timer : Timer) (s : SystemState) → IsTimerOf s timer → In timer (timers_from 1 s.ports)
+own_timer (timers.Announce p) s is = (port_has s.ports p is.least is.most).announce
+own_timer (timers.Age p) s is = (port_has s.ports p is.least is.most).age
+own_timer (timers.Pdelay p) s is = (port_has s.ports p is.least is.most).pdelay
+own_timer (timers.Respond p) s is = (port_has s.ports p is.least is.most).respond
+own_timer timers.Sync s is = (own_timers 1 s.ports).0
+own_timer timers.Relay s is = (own_timers 1 s.ports).1
 
 -- a timer of a port is one of the system's, or there is no such port
 port_timer : (timer : Timer) (runs : Port → Option ℕ) (s : SystemState) (p : ℕ)

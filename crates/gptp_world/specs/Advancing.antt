@@ -11,40 +11,44 @@ use Rattle.gptp_world.specs.Scene.{WasDone}
 use Rattle.gptp_world.specs.Views.{IsNextAct}
 use Rattle.gptp_world.specs.World.{WorldState}
 
--- The next act that is pending is done, at a time or before it.
-pub record Happens {F : Type 0} (answers : Bounds → ℕ → F → Option ℕ → F → Type 0) (until : ℕ) (timed : Timed)
-    (fate fate_after : F) (w w' : WorldState) : Type 0 where
-  pub next : IsNextAct w timed
-  pub early : timed.at ≤ until
+-- an act that was done, and what was told of it
+pub record Told : Type 0 where
+  pub timed : Timed
   pub done : Done
-  pub was_done : WasDone answers timed fate fate_after w w' done
 
--- Acts one after another, each of them the next that is pending then, none later than a time.
-abbrev pub Advances : {F : Type 0} → (Bounds → ℕ → F → Option ℕ → F → Type 0) → ℕ → List Timed → F → F
+-- The next act that is pending is done, at a time or before it.
+pub record Happens {F : Type 0} (answers : Bounds → ℕ → F → Option ℕ → F → Type 0) (until : ℕ) (told : Told)
+    (fate fate_after : F) (w w' : WorldState) : Type 0 where
+  pub next : IsNextAct w told.timed
+  pub early : told.timed.at ≤ until
+  pub was_done : WasDone answers told.timed fate fate_after w w' told.done
+
+-- Acts one after another, each of them the next that is pending then, none later than a time; and what was told of
+-- each.
+abbrev pub Advances : {F : Type 0} → (Bounds → ℕ → F → Option ℕ → F → Type 0) → ℕ → List Told → F → F
     → WorldState → WorldState → Type 0
 Advances answers until [] fate fate_after w w' = (fate_after ≡ fate) × (w' ≡ w)
-Advances {F} answers until (timed ∷ acts) fate fate_after w w' =
-    (drawn : F) × (between : WorldState) × Happens answers until timed fate drawn w between
-    × Advances answers until acts drawn fate_after between w'
+Advances {F} answers until (one ∷ told) fate fate_after w w' =
+    (drawn : F) × (between : WorldState) × Happens answers until one fate drawn w between
+    × Advances answers until told drawn fate_after between w'
 
 -- It went on so, and stopped after whole acts.
 pub record Stopped {F : Type 0} (answers : Bounds → ℕ → F → Option ℕ → F → Type 0) (until : ℕ) (fate fate_after : F)
     (w w' : WorldState) : Type 0 where
-  pub acts : List Timed
-  pub advances : Advances answers until acts fate fate_after w w'
+  pub told : List Told
+  pub advances : Advances answers until told fate fate_after w w'
 
 -- It went on so until nothing was left that is due by a time, and then its time became that.
-pub record Advanced {F : Type 0} (answers : Bounds → ℕ → F → Option ℕ → F → Type 0) (until : ℕ) (fate fate_after : F)
-    (w w' : WorldState) : Type 0 where
+pub record Advanced {F : Type 0} (answers : Bounds → ℕ → F → Option ℕ → F → Type 0) (until : ℕ) (told : List Told)
+    (fate fate_after : F) (w w' : WorldState) : Type 0 where
   pub ahead : w.time ≤ until
-  pub acts : List Timed
   pub between : WorldState
-  pub advances : Advances answers until acts fate fate_after w between
+  pub advances : Advances answers until told fate fate_after w between
   pub nothing_left : NothingBefore (until + 1) between.net.pending
   pub is : w' ≡ at until between
 
--- Why it doesn't get to a time: that has passed, and nothing happens; or it stops, since there is no memory for the next
--- act.
+-- Why it doesn't get to a time: that has passed, and nothing happens; or it stops, since there is no memory for the
+-- next act.
 abbrev pub StopsShort : {F : Type 0} → (Bounds → ℕ → F → Option ℕ → F → Type 0) → ℕ → F → F
     → WorldState → WorldState → Refused → Type 0
 StopsShort answers until fate fate_after w w' InThePast = (until < w.time) × (fate_after ≡ fate) × (w' ≡ w)

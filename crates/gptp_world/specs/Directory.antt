@@ -11,11 +11,10 @@ pub use Rattle.gptp_world.specs.declared.directory.Join.{Join}
 use Rattle.gptp_world.specs.declared.network.Member.{Member}
 use Rattle.gptp_world.specs.declared.network.Wire.{Wire}
 
--- the clock of each system and the ports of each link, by place; and the places of the systems, by rising clock
+-- the clock of each system and the ports of each link, by place
 pub record DirectoryState : Type 0 where
   pub clocks : List ℕ
   pub joins : List Join
-  pub ranked : List ℕ
 
 -- the systems and links of a network
 abbrev pub clocks_of : List Member → List ℕ
@@ -46,13 +45,6 @@ pub record IsPlaced (clocks : List ℕ) (port : PortId) : Type 0 where
   pub first : 1 ≤ port.port
   pub last : port.port ≤ 16
 
--- the places of all systems, each once, by rising clock
-pub record IsRanking (clocks ranked : List ℕ) : Type 0 where
-  pub count : length ranked ≡ length clocks
-  pub each : (place : ℕ) → place < length clocks → (rank : ℕ) × (slice_get ranked rank ≡ Some place)
-  pub rise : (i j p q c d : ℕ) → i < j → slice_get ranked i ≡ Some p → slice_get ranked j ≡ Some q
-      → slice_get clocks p ≡ Some c → slice_get clocks q ≡ Some d → c < d
-
 -- clocks differ, links join ports of two systems, and at a port at most one lane begins
 pub record IsPlan (clocks : List ℕ) (joins : List Join) : Type 0 where
   pub few_systems : length clocks ≤ 512
@@ -66,7 +58,6 @@ pub record IsPlan (clocks : List ℕ) (joins : List Join) : Type 0 where
 -- what holds of every directory
 pub record IsDirectory (d : DirectoryState) : Type 0 where
   pub plan : IsPlan d.clocks d.joins
-  pub ranking : IsRanking d.clocks d.ranked
 
 -- ---- the tables of a directory
 
@@ -117,10 +108,10 @@ entered link join ends outs =
     (Some (record { link = link; direction = FromB }))
 
 -- all tables
-pub record AreTables (d : DirectoryState) (rising : List ℕ) (outs : List (Option Lane))
+pub record AreTables (d : DirectoryState) (rising places : List ℕ) (outs : List (Option Lane))
     (ends : List Ends) : Type 0 where
   pub directory : IsDirectory d
   pub order : AreRising d.clocks rising
-  pub ranked : ArePlaces d.clocks rising d.ranked
+  pub ranked : ArePlaces d.clocks rising places
   pub at_ends : AreEnds d.clocks d.joins ends
   pub lanes : AreOuts (2 * length d.joins) d.clocks d.joins outs

@@ -29,5 +29,6 @@ pub mod Sound
 pub mod Stage
 pub mod Starting
 pub mod Telling
+pub mod Touched
 pub mod Views
 pub mod World

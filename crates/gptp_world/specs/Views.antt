@@ -1,5 +1,5 @@
 -- What a world shows.
-use Rattle.std.specs.Prelude.{◌≡◌, ◌<◌, ℕ, ⊤, true, length, Option, Some, slice_get}
+use Rattle.std.specs.Prelude.{◌≡◌, ◌<◌, ℕ, nat_le, ⊤, true, if◌then◌else◌, List, [], ◌∷◌, length, map, Option, Some, slice_get}
 use Rattle.gptp_roles.specs.declared.role.Role.{Role}
 use Rattle.gptp_system.specs.Start.{role_at}
 use Rattle.gptp_system.specs.State.{SystemState, clock}
@@ -31,6 +31,20 @@ pub record IsNextAct (w : WorldState) (timed : Timed) : Type 0 where
   pub item : Item
   pub next : IsNext w.net.pending timed.at item
   pub act : IsActOf item w timed.act
+
+-- a number before the first of others that isn't below it
+abbrev pub put_rising : ℕ → List ℕ → List ℕ
+put_rising n [] = n ∷ []
+put_rising n (x ∷ xs) = if nat_le n x then n ∷ x ∷ xs else x ∷ put_rising n xs
+
+-- numbers in rising order
+abbrev pub rising : List ℕ → List ℕ
+rising [] = []
+rising (n ∷ ns) = put_rising n (rising ns)
+
+-- the clocks of all systems, live or not, in rising order
+abbrev pub rising_clocks : WorldState → List ℕ
+rising_clocks w = rising (map (λ (s : Station). clock s.system) w.stations)
 
 abbrev pub IsLiveSystem : ℕ → Station → Type 0
 IsLiveSystem place station = station.live ≡ true

@@ -24,8 +24,8 @@ fn aim_of(item: Item) -> Aim
 }
 
 impl Scene {
-    ghost use Rattle.std.specs.Prelude.{◌≡◌, ◌+◌, ◌<◌, ◌≤◌, IfErr, IfNone, IfOk, IfSome, OnErr, OnOk};
-    ghost use Rattle.gptp_world.specs.Advancing.{Advanced, Stopped, StopsShort};
+    ghost use Rattle.std.specs.Prelude.{◌≡◌, ◌+◌, ◌<◌, ◌≤◌, IfErr, IfNone, IfOk, IfSome, List, OnErr, OnOk};
+    ghost use Rattle.gptp_world.specs.Advancing.{Advanced, Stopped, StopsShort, Told};
     ghost use Rattle.gptp_world.specs.Ahead.{due_by};
     ghost use Rattle.gptp_world.specs.Pending.{IsNext, NothingBefore};
 
@@ -135,7 +135,7 @@ impl Scene {
     /// after whole acts, where there is no memory for the next.
     pub(crate) fn advance<F: Fate>(&mut self, until: u64, fate: &mut F) -> Result<(), Refused>
         requires moment { until ≤ 1000000000000000 }
-        ensures advanced { OnOk result (Advanced F.answers until fate.old fate.new self.old self.new) }
+        ensures advanced { OnOk result ((told : List Told) × Advanced F.answers until told fate.old fate.new self.old self.new) }
         ensures refused { IfErr result (StopsShort F.answers until fate.old fate.new self.old self.new) }
     {
         if until < self.stage.now {

@@ -15,6 +15,8 @@ use std::marker::Model;
 pub(crate) struct Buffers {
     alloc: Global,
     list: Vec<Vec<u8>>,
+    // How many more came back than there were places for, since buffers were last made.
+    unplaced: usize,
 }
 
 impl Model for Buffers {
@@ -37,11 +39,13 @@ impl Buffers {
         Buffers {
             alloc,
             list: Vec::new(alloc),
+            unplaced: 0,
         }
     }
 
     /// Makes buffers, until so many stand ready. Refused where there is no memory for them; those that were made by then
-    /// stand ready too. Where enough stand ready already it takes no memory.
+    /// stand ready too. Where enough stand ready already it takes no memory. Where it makes some it makes places as well for
+    /// as many as found none, so that what is in flight at once comes to have places.
     pub(crate) fn reserve(&mut self, count: usize) -> Result<(), AllocError>
         ensures ok { OnOk result (self.new.ready ≡ max self.old.ready count) }
         ensures err { OnErr result (self.new.ready < count) }
@@ -50,7 +54,9 @@ impl Buffers {
         ensures enough { count ≤ self.old.ready → self.new ≡ self.old }
     {
         if self.list.len() < count {
-            return fill(self.alloc, &mut self.list, count);
+            let unplaced = self.unplaced;
+            self.unplaced = 0;
+            return fill(self.alloc, &mut self.list, count, unplaced);
         }
         Ok(())
     }
@@ -72,8 +78,12 @@ impl Buffers {
         ensures ready { self.new.ready ≡ ready_with (vec_capacity buffer) self.old }
         ensures places { self.old.places ≤ self.new.places }
     {
-        if LONGEST_FRAME <= buffer.capacity() && self.list.len() < self.list.capacity() {
-            push_empty(&mut self.list, buffer);
+        if LONGEST_FRAME <= buffer.capacity() {
+            if self.list.len() < self.list.capacity() {
+                push_empty(&mut self.list, buffer);
+            } else {
+                self.unplaced = self.unplaced.saturating_add(1);
+            }
         }
     }
 }
@@ -105,8 +115,13 @@ fn add(alloc: Global, list: &mut Vec<Vec<u8>>) -> Result<(), AllocError>
     Ok(())
 }
 
-/// Makes buffers until there are so many, of which there are fewer.
-fn fill(alloc: Global, list: &mut Vec<Vec<u8>>, count: usize) -> Result<(), AllocError>
+/// Makes buffers until there are so many, of which there are fewer, and places for so many more.
+fn fill(
+    alloc: Global,
+    list: &mut Vec<Vec<u8>>,
+    count: usize,
+    places: usize,
+) -> Result<(), AllocError>
     requires fewer { vec_len list.old < count }
     requires buffers { AllByRecursion IsBuffer list.old.items }
     ensures buffers { AllByRecursion IsBuffer list.new.items }
@@ -115,7 +130,7 @@ fn fill(alloc: Global, list: &mut Vec<Vec<u8>>, count: usize) -> Result<(), Allo
     ensures kept { vec_len list.old ≤ vec_len list.new }
     ensures capacity { vec_capacity list.old ≤ vec_capacity list.new }
 {
-    list.reserve(count - list.len())?;
+    list.reserve((count - list.len()).saturating_add(places))?;
     for _i in list.len()..count {
         add(alloc, list)?;
     }

@@ -236,7 +236,7 @@ pub(crate) fn settling_span(params: &Params, live: u64) -> u64
     requires params { KeepParams params.now }
     requires live { live ≤ 512 }
     ensures span { result ≡ settling_span params.now live }
-    ensures bound { result ≤ 1000000000000000 }
+    ensures bound { result ≤ 160000000000000 }
 {
     let intervals = (u64::from(params.timeout) + 3) * live + u64::from(params.lost) + 5;
     times(intervals, interval_of(params.announce))
@@ -248,7 +248,7 @@ fn times(intervals: u64, interval: u64) -> u64
     requires few { intervals ≤ 10000 }
     requires short { interval ≤ 16000000000 }
     ensures span { result ≡ intervals * interval }
-    ensures bound { result ≤ 1000000000000000 }
+    ensures bound { result ≤ 160000000000000 }
 {
     intervals * interval
 }

@@ -27,9 +27,11 @@ pub(crate) fn narrowed(port: u16) -> u8
 
 impl Stage {
     ghost use Rattle.std.specs.Prelude.{◌≡◌, length, ◌<◌, OnOk};
+    ghost use Rattle.gptp_world.specs.Agrees.{Agrees};
     ghost use Rattle.gptp_world.specs.Net.{IsFrameDue};
     ghost use Rattle.gptp_world.specs.Stage.{world_of, HasRoomToCall, IsStage};
     ghost use Rattle.gptp_world.specs.Delivering.{Delivered, HasRoomToHear, HeardAt, IsHeardAt, MayHear};
+    ghost use Rattle.gptp_world.specs.Touched.{none, AreSetAt};
 
     /// The system at a place hears a frame at a port, unless it has failed.
     fn hear_if_live<F: Fate>(
@@ -42,6 +44,7 @@ impl Stage {
         requires stage { IsStage self.old }
         requires place { place < length self.old.stations.items }
         requires heard { IsHeardAt place port self.old }
+        requires set { AreSetAt none place self.old }
         requires room { HasRoomToCall 1 place self.old }
         ensures stage { IsStage self.new }
         ensures heard { HeardAt F.answers place port frame.now result fate.old fate.new self.old self.new }
@@ -57,6 +60,7 @@ impl Stage {
         requires stage { IsStage self.old }
         requires due { IsFrameDue lane self.old.now self.old.net }
         requires hears { MayHear lane self.old }
+        requires agrees { Agrees (world_of self.old) }
         requires room { HasRoomToHear lane self.old }
         ensures stage { IsStage self.new }
         ensures delivered { Delivered F.answers lane result.at result.answer result.frame.items fate.old fate.new self.old self.new }

@@ -3,8 +3,8 @@
 ghost use Rattle.std.specs.Prelude.{◌≡◌, ℕ, ◌+◌, ◌*◌, ◌<◌, ◌≤◌, None, Some, IfOk, IfSome, IsSome, Contains, length, slice_get};
 ghost use Rattle.std.specs.List.{All};
 ghost use Rattle.std.specs.List.Sorted.{IsNonDecreasing};
-ghost use Rattle.std.specs.Option.{option_and_then};
 ghost use Rattle.gptp_world.specs.Directory.{clocks_of, joins_of, end_of, entered, BeginsAt, IsPlan, IsDirectory, AreRising, ArePlaces, AreEnds, AreOuts, AreNamed};
+ghost use Rattle.gptp_world.specs.Views.{rising};
 
 use crate::cable::Lane;
 use crate::network::Network;
@@ -35,7 +35,7 @@ const PORT_SPAN: usize = 17;
 /// Who is where: the clocks of systems and the ports of links by their places, from 0, in the order in which the network
 /// took them. It doesn't change once it is made, and no call but [`new`](Self::new) takes memory.
 ///
-/// It is seen as the list of clocks, that of the ports of links, and the places of the systems by rising clock.
+/// It is seen as the list of clocks and that of the ports of links.
 #[derive(Drop)]
 pub(crate) struct Directory {
     clocks: Vec<ClockId>,
@@ -55,9 +55,9 @@ impl Model for Directory {
 
     ghost use Rattle.gptp_world.specs.Directory.{AreTables};
 
-    ghost view = { λ d. record { clocks = d.clocks.items; joins = d.joins.items; ranked = d.ranked.items } };
+    ghost view = { λ d. record { clocks = d.clocks.items; joins = d.joins.items } };
 
-    ghost invariant = { λ d. AreTables (record { clocks = d.clocks.items; joins = d.joins.items; ranked = d.ranked.items }) d.rising.items d.outs.items d.ends.items };
+    ghost invariant = { λ d. AreTables (record { clocks = d.clocks.items; joins = d.joins.items }) d.rising.items d.ranked.items d.outs.items d.ends.items };
 }
 
 impl Directory {
@@ -97,8 +97,7 @@ impl Directory {
         self.joins.len()
     }
 
-    /// Clocks differ, links join ports of two systems, at a port at most one lane begins, and the ranking is that of the
-    /// clocks.
+    /// Clocks differ, links join ports of two systems, and at a port at most one lane begins.
     pub(crate) fn well_formed(&self)
         ensures { IsDirectory self.now }
     {
@@ -124,16 +123,9 @@ impl Directory {
 
     /// A clock by its rank: the least has the rank 0. Past the last there is none.
     pub(crate) fn clock_at(&self, rank: usize) -> Option<ClockId>
-        ensures { result ≡ option_and_then (λ place. slice_get self.now.clocks place) (slice_get self.now.ranked rank) }
+        ensures { result ≡ slice_get (rising self.now.clocks) rank }
     {
         clock_among(&self.rising, rank)
-    }
-
-    /// The place of the system whose clock has a rank, from 0 for the least clock. Past the last there is none.
-    pub(crate) fn ranked(&self, rank: usize) -> Option<usize>
-        ensures { result ≡ slice_get self.now.ranked rank }
-    {
-        self.ranked.as_slice().get(rank).copied()
     }
 
     /// The lane that begins at a port of the system at a place, if there is one.

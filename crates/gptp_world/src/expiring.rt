@@ -26,6 +26,7 @@ impl Net {
 }
 
 impl Stage {
+    ghost use Rattle.gptp_world.specs.Agrees.{Agrees};
     ghost use Rattle.gptp_world.specs.Aim.{IsTimerDue};
     ghost use Rattle.gptp_world.specs.Performing.{Expired};
     ghost use Rattle.gptp_world.specs.Stage.{world_of, HasRoomToCall, IsStage};
@@ -34,6 +35,7 @@ impl Stage {
     pub(crate) fn run_out<F: Fate>(&mut self, place: usize, timer: Timer, fate: &mut F)
         requires stage { IsStage self.old }
         requires due { IsTimerDue place timer self.old.now (world_of self.old) }
+        requires agrees { Agrees (world_of self.old) }
         requires room { HasRoomToCall 1 place self.old }
         ensures stage { IsStage self.new }
         ensures expired { Expired F.answers place timer fate.old fate.new self.old self.new }

@@ -43,6 +43,7 @@ mod starting;
 mod station;
 mod telling;
 mod timing;
+mod touched;
 mod views;
 mod world;
 

@@ -222,7 +222,7 @@ impl Network {
     /// How long the network takes at most to settle after these events, in ns.
     pub fn settling_span(&self, events: &[Timed]) -> u64
         ensures span { result ≡ settling_span self.now.params (live_systems self.now.systems events.now) }
-        ensures bound { result ≤ 1000000000000000 }
+        ensures bound { result ≤ 160000000000000 }
     {
         settling_span(&self.params, live_systems(&self.systems, events))
     }

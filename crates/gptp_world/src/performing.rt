@@ -15,6 +15,7 @@ impl Stage {
     ghost use Rattle.gptp_world.specs.declared.aim.Aim.TheVariants.{LinkDown, LinkUp, LinkSet, Fail, Recover};
     ghost use Rattle.gptp_world.specs.declared.change.Act.TheVariants.{Deliver};
     ghost use Rattle.gptp_world.specs.Acts.{AtPlace, IsOldestDue};
+    ghost use Rattle.gptp_world.specs.Agrees.{Agrees};
     ghost use Rattle.gptp_world.specs.Delivering.{HasRoomToHear};
     ghost use Rattle.gptp_world.specs.Performing.{Acted, CanChange, HasRoomForAim, Turned, Turns};
     ghost use Rattle.gptp_world.specs.Sound.{IsWired};
@@ -26,6 +27,7 @@ impl Stage {
     fn arrive<F: Fate>(&mut self, lane: Lane, fate: &mut F) -> Done
         requires stage { IsStage self.old }
         requires wired { IsWired (world_of self.old) }
+        requires agrees { Agrees (world_of self.old) }
         requires due { AtPlace lane.link (world_of self.old).net (IsOldestDue lane.direction self.old.now) }
         requires room { HasRoomToHear lane self.old }
         ensures stage { IsStage self.new }

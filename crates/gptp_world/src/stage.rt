@@ -2,6 +2,7 @@
 
 use crate::net::Net;
 use crate::station::Station;
+use crate::touched::{Touched, frame_touches, timer_touches};
 use gptp_links::Fate;
 use gptp_system::{Answer, Outbox, Timer};
 
@@ -19,12 +20,16 @@ pub(crate) struct Stage {
 impl Stage {
     ghost use Rattle.gptp_system.specs.declared.answer.Answer.{Answer};
     ghost use Rattle.gptp_system.specs.Input.{Input, PortUp, PortDown, Frame, Expires, Priority};
+    ghost use Rattle.gptp_system.specs.Reach.{same_timer};
     ghost use Rattle.gptp_world.specs.declared.stage.Stage.{Stage};
     ghost use Rattle.gptp_world.specs.Stage.{Called, CalledWith, CallUses, CarriesOut, HasRoomToCall, HasStepped, IsGivenAt, IsStage, IsLiveAt, IsDueAt, IsPortAt, IsUpAt};
+    ghost use Rattle.gptp_world.specs.Touched.{none, AreSetAt, HasTouched};
 
-    /// What a step of the system at a place left is carried out: its timers follow, and then its sends go.
-    fn carry_out<F: Fate>(&mut self, place: usize, fate: &mut F)
-        requires { CarriesOut place self.old }
+    /// What a step of the system at a place left is carried out: its timers follow, of which it touched no others than
+    /// these, and then its sends go.
+    fn carry_out<F: Fate>(&mut self, place: usize, touched: Touched, fate: &mut F)
+        requires carries { CarriesOut place self.old }
+        requires touched { HasTouched touched place self.old }
         ensures stage { (before : Stage) (input : Input) (answer : Answer) → IsStage before
             → HasStepped place input answer before self.old → IsStage self.new }
         ensures called { (before : Stage) (input : Input) (answer : Answer) → HasStepped place input answer before self.old
@@ -33,7 +38,7 @@ impl Stage {
             → IsGivenAt place input before → CallUses place before self.new.net }
     {
         let station = &self.stations[place];
-        self.net.set_timers(place, station);
+        self.net.set_touched(place, station, touched);
         self.net.send_all(
             place,
             &station.system,
@@ -49,15 +54,16 @@ impl Stage {
         requires stage { IsStage self.old }
         requires live { IsLiveAt place self.old }
         requires due { IsDueAt place timer self.old }
+        requires set { AreSetAt (same_timer timer) place self.old }
         requires room { HasRoomToCall 1 place self.old }
         ensures stage { IsStage self.new }
         ensures called { Called F.answers place (Expires timer) fate.old fate.new self.old self.new }
         ensures uses { CallUses place self.old self.new.net }
     {
-        self.stations[place]
-            .system
-            .on_timer(timer, self.now, &mut self.outbox);
-        self.carry_out(place, fate);
+        let system = &mut self.stations[place].system;
+        let touched = timer_touches(system, timer);
+        system.on_timer(timer, self.now, &mut self.outbox);
+        self.carry_out(place, touched, fate);
     }
 
     /// The link of a port of the live system at a place comes up.
@@ -73,7 +79,7 @@ impl Stage {
         self.stations[place]
             .system
             .port_up(port, self.now, &mut self.outbox);
-        self.carry_out(place, fate);
+        self.carry_out(place, Touched::All, fate);
     }
 
     /// The link of a port of the live system at a place goes down.
@@ -89,7 +95,7 @@ impl Stage {
         self.stations[place]
             .system
             .port_down(port, self.now, &mut self.outbox);
-        self.carry_out(place, fate);
+        self.carry_out(place, Touched::All, fate);
     }
 
     /// The priority1 of the live system at a place becomes a value (IEEE 802.1AS-2020, 8.6.2.1).
@@ -104,7 +110,7 @@ impl Stage {
         self.stations[place]
             .system
             .set_priority(value, self.now, &mut self.outbox);
-        self.carry_out(place, fate);
+        self.carry_out(place, Touched::All, fate);
     }
 
     /// A port of the live system at a place hears a frame: what became of it.
@@ -118,6 +124,7 @@ impl Stage {
         requires stage { IsStage self.old }
         requires live { IsLiveAt place self.old }
         requires up { IsUpAt place port self.old }
+        requires set { AreSetAt none place self.old }
         requires room { HasRoomToCall 1 place self.old }
         ensures stage { IsStage self.new }
         ensures called { CalledWith F.answers place (Frame port frame.now) result fate.old fate.new self.old self.new }
@@ -126,7 +133,7 @@ impl Stage {
         let answer = self.stations[place]
             .system
             .on_frame(port, frame, self.now, &mut self.outbox);
-        self.carry_out(place, fate);
+        self.carry_out(place, frame_touches(frame, port), fate);
         answer
     }
 }

@@ -2,6 +2,7 @@
 
 use crate::net::Net;
 use crate::station::Station;
+use crate::touched::Touched;
 use gptp_system::Timer;
 
 impl Net {
@@ -11,6 +12,7 @@ impl Net {
     ghost use Rattle.gptp_world.specs.Item.{timer_port};
     ghost use Rattle.gptp_world.specs.Act.{set_timers};
     ghost use Rattle.gptp_world.specs.Net.{OnlyEntries};
+    ghost use Rattle.gptp_world.specs.Touched.{holds, selected_from, AreSetBut, IsTouchedOf};
     ghost use Rattle.gptp_world.specs.World.{timers_from};
 
     /// A timer of the system at a place is pending when it is due, and isn't where it doesn't run.
@@ -59,5 +61,52 @@ impl Net {
         }
         self.set_timer(place, station, Timer::Sync);
         self.set_timer(place, station, Timer::Relay);
+    }
+
+    /// So are the timers of a port that selection can change.
+    fn set_selected_at(&mut self, place: usize, station: &Station, port: u8)
+        requires place { place < self.old.pending.systems }
+        requires room { 2 ≤ self.old.pending.room }
+        requires port { IsPortOf station.now.system port }
+        requires few { port ≤ 16 }
+        ensures entries { self.new.pending.entries ≡ set_timers place station.now (timers.Announce port ∷ timers.Age port ∷ []) self.old.pending.entries }
+        ensures only { OnlyEntries 2 self.old self.new }
+    {
+        self.set_timer(place, station, Timer::Announce(port));
+        self.set_timer(place, station, Timer::Age(port));
+    }
+
+    /// So are all timers of the system that selection can change: of each port, by rising port, and then its own.
+    fn set_selected(&mut self, place: usize, station: &Station)
+        requires place { place < self.old.pending.systems }
+        requires few { length station.now.system.ports ≤ 16 }
+        requires room { 2 * length station.now.system.ports + 1 ≤ self.old.pending.room }
+        ensures entries { self.new.pending.entries ≡ set_timers place station.now (selected_from 1 station.now.system.ports) self.old.pending.entries }
+        ensures only { OnlyEntries (2 * length station.now.system.ports + 1) self.old self.new }
+    {
+        let mut port = 0;
+        while port < station.system.ports() {
+            port += 1;
+            self.set_selected_at(place, station, port);
+        }
+        self.set_timer(place, station, Timer::Relay);
+    }
+
+    /// So are all timers of the system, of which all but these are pending when they are due already.
+    pub(crate) fn set_touched(&mut self, place: usize, station: &Station, touched: Touched)
+        requires place { place < self.old.pending.systems }
+        requires few { length station.now.system.ports ≤ 16 }
+        requires room { 4 * length station.now.system.ports + 2 ≤ self.old.pending.room }
+        requires own { IsTouchedOf station.now.system touched }
+        requires set { AreSetBut (holds touched) place station.now self.old.pending.entries }
+        ensures entries { self.new.pending.entries ≡ set_timers place station.now (timers_from 1 station.now.system.ports) self.old.pending.entries }
+        ensures only { OnlyEntries (4 * length station.now.system.ports + 2) self.old self.new }
+    {
+        match touched {
+            Touched::Nothing => {}
+            Touched::One(timer) => self.set_timer(place, station, timer),
+            Touched::Selected => self.set_selected(place, station),
+            Touched::All => self.set_timers(place, station),
+        }
     }
 }

@@ -3,6 +3,7 @@
 ghost use Rattle.std.specs.Prelude.{◌≡◌, IfNone, IfSome};
 ghost use Rattle.gptp_system.specs.Start.{role_at};
 ghost use Rattle.gptp_system.specs.Steps.{IsPortOf};
+ghost use Rattle.gptp_world.specs.Acts.{IsFitAct};
 ghost use Rattle.gptp_world.specs.Stage.{world_of, IsStage};
 ghost use Rattle.gptp_world.specs.Views.{IsActOf, IsPlacedItem};
 
@@ -15,10 +16,10 @@ use gptp_system::System;
 use gptp_vector::{ClockId, Identity};
 
 impl Scene {
-    ghost use Rattle.std.specs.Prelude.{◌≡◌, ◌↔◌, [], IfNone, IfSome, IsTrue, length, true};
-    ghost use Rattle.gptp_world.specs.Acts.{AtSystem};
+    ghost use Rattle.std.specs.Prelude.{◌≡◌, ◌↔◌, [], IfNone, IfSome, IsTrue, length, slice_get, true};
+    ghost use Rattle.gptp_world.specs.Acts.{AtSystem, IsFitAct};
     ghost use Rattle.gptp_world.specs.Sound.{IsSound};
-    ghost use Rattle.gptp_world.specs.Views.{Follows, HasPort, HasRole, IsLiveSystem, IsNextAct, ShowsLive};
+    ghost use Rattle.gptp_world.specs.Views.{Follows, HasPort, HasRole, IsLiveSystem, IsNextAct, ShowsLive, rising_clocks};
 
     /// The time, in ns.
     pub(crate) fn now(&self) -> u64
@@ -41,9 +42,17 @@ impl Scene {
         self.stage.stations.len()
     }
 
+    /// The clock of a system by its rank: the least has place 0. Past the last there is none.
+    pub(crate) fn clock_at(&self, place: usize) -> Option<ClockId>
+        ensures { result ≡ slice_get (rising_clocks self.now) place }
+    {
+        self.stage.net.directory.clock_at(place)
+    }
+
     /// The next that is due: of all that is pending one of least time, and of those the first that was put.
     pub(crate) fn next(&self) -> Option<Timed>
         ensures next { IfSome result (IsNextAct self.now) }
+        ensures fit { IfSome result (λ timed. IsFitAct timed.act) }
         ensures none { IfNone result (self.now.net.pending ≡ []) }
     {
         match self.stage.net.pending.next() {
@@ -128,7 +137,8 @@ fn role_of(system: &System, port: u16) -> Option<Role>
 pub(crate) fn act_of(stage: &Stage, item: Item) -> Act
     requires stage { IsStage stage.now }
     requires placed { IsPlacedItem item stage.now }
-    ensures { IsActOf item (world_of stage.entry.now) result }
+    ensures act { IsActOf item (world_of stage.entry.now) result }
+    ensures fit { IsFitAct result }
 {
     match item {
         Item::Expiry { place, timer } => Act::Expire {

@@ -19,13 +19,13 @@ pub struct World<F> {
 }
 
 impl<F: Fate + Drop> World<F> {
-    ghost use Rattle.std.specs.Prelude.{◌≡◌, ◌≤◌, ◌↔◌, IsTrue, IfErr, IfNone, IfOk, IfSome, OnErr, OnOk, length, []};
+    ghost use Rattle.std.specs.Prelude.{◌≡◌, ◌≤◌, ◌↔◌, IsTrue, IfErr, IfNone, IfOk, IfSome, List, OnErr, OnOk, length, slice_get, []};
     ghost use Rattle.gptp_world.specs.Acts.{AtSystem, IsFitAct, Refuses};
     ghost use Rattle.gptp_world.specs.Playing.{AreAllowed, IsAllowed, IsPlayed, Plays, StopsAt};
-    ghost use Rattle.gptp_world.specs.Advancing.{Advanced, StopsShort};
+    ghost use Rattle.gptp_world.specs.Advancing.{Advanced, StopsShort, Told};
     ghost use Rattle.gptp_world.specs.Scene.{Begun, WasDone};
     ghost use Rattle.gptp_world.specs.Sound.{IsSound};
-    ghost use Rattle.gptp_world.specs.Views.{Follows, HasPort, HasRole, IsLiveSystem, IsNextAct, ShowsLive};
+    ghost use Rattle.gptp_world.specs.Views.{Follows, HasPort, HasRole, IsLiveSystem, IsNextAct, ShowsLive, rising_clocks};
 
     /// The world of a network at time 0: all its systems have started, in their order, and their first frames are in flight.
     /// Refused for want of memory alone; then the fate is dropped.
@@ -87,7 +87,7 @@ impl<F: Fate + Drop> World<F> {
     /// is no memory for the next act, and then it has gone on up to there, by whole acts.
     pub fn advance(&mut self, until: u64) -> Result<(), Refused>
         requires moment { until ≤ 1000000000000000 }
-        ensures advanced { OnOk result (Advanced F.answers until self.old.fate self.new.fate self.old.scene self.new.scene) }
+        ensures advanced { OnOk result ((told : List Told) × Advanced F.answers until told self.old.fate self.new.fate self.old.scene self.new.scene) }
         ensures refused { IfErr result (StopsShort F.answers until self.old.fate self.new.fate self.old.scene self.new.scene) }
     {
         self.scene.advance(until, &mut self.fate)
@@ -114,10 +114,18 @@ impl<F: Fate + Drop> World<F> {
         self.scene.count()
     }
 
+    /// The clock of a system, live or not, by its rank: the least clock has place 0. `None` past the last. Takes no memory.
+    pub fn clock_at(&self, place: usize) -> Option<ClockId>
+        ensures { result ≡ slice_get (rising_clocks self.now.scene) place }
+    {
+        self.scene.clock_at(place)
+    }
+
     /// The next act that is due: of all that is pending one of least time, and of those the first that was put. `None` where
-    /// nothing is pending.
+    /// nothing is pending. It is never a change, so [`act`](Self::act) asks nothing of it but its time.
     pub fn next(&self) -> Option<Timed>
         ensures next { IfSome result (IsNextAct self.now.scene) }
+        ensures fit { IfSome result (λ timed. IsFitAct timed.act) }
         ensures none { IfNone result (self.now.scene.net.pending ≡ []) }
     {
         self.scene.next()

@@ -3,7 +3,7 @@ use Rattle.gptp_world.specs.declared.change.Act.TheVariants.{Expire}
 use Rattle.gptp_world.proofs.EndLemmas.{station_at}
 use Rattle.gptp_world.proofs.views.act_of.Goals as goal
 
-pub returns-in-Expiry : goal.returns-in-Expiry
-returns-in-Expiry c =
+pub returns-in-Expiry-clause-act : goal.returns-in-Expiry-clause-act
+returns-in-Expiry-clause-act c =
     let stands = station_at c.args.stage.now c.in-Expiry.place c.clock_in.result c.requires.stage c.clock_in.ensures in
     rw c.in-Expiry.is (stands.station, stands.here, ap (λ number. Expire number c.in-Expiry.timer) (sym stands.named))

@@ -1,9 +1,11 @@
-use Rattle.std.proofs.Common.{subst, sym}
+use Rattle.std.proofs.Common.{subst, sym, arith}
+use Rattle.gptp_world.specs.declared.change.Timed.{Timed}
+use Rattle.gptp_world.specs.Advancing.{Told}
 use Rattle.gptp_world.specs.Pending.{IsNext}
 use Rattle.gptp_world.specs.Sound.{IsSound}
-use Rattle.gptp_world.specs.Views.{IsActOf}
+use Rattle.gptp_world.specs.Views.{IsActOf, IsNextAct}
 use Rattle.gptp_world.specs.World.{WorldState}
-use Rattle.gptp_world.proofs.AdvanceLemmas.{can_happen, happened}
+use Rattle.gptp_world.proofs.AdvanceLemmas.{can_happen, happened, one_happened}
 use Rattle.gptp_world.proofs.ViewLemmas.{next_placed}
 use Rattle.gptp_world.proofs.scene.Scene.do_next.Goals as goal
 
@@ -16,7 +18,7 @@ pub perform-requires : goal.perform-requires
 perform-requires g c =
     let can = can_happen c.args.item c.args.time c.act_of.result c.args.self.now
     (subst IsSound c.self.view_is c.self.invariant.sound) c.requires.next
-    (subst (λ w. IsActOf c.args.item w c.act_of.result) c.self.view_is c.act_of.ensures) in
+    (subst (λ w. IsActOf c.args.item w c.act_of.result) c.self.view_is c.act_of.ensures.act) in
     record {
       moment = c.requires.moment;
       fit = can.fit;
@@ -26,12 +28,19 @@ perform-requires g c =
 
 pub returns : goal.returns
 returns g c =
-    let one = happened g.F.Fate.answers c.args.item c.args.time c.act_of.result c.in_ok-done.done c.args.fate.now
-    c.perform.new.fate c.args.self.now c.perform.new.self (subst IsSound c.self.view_is c.self.invariant.sound)
-    c.requires.next (subst (λ w. IsActOf c.args.item w c.act_of.result) c.self.view_is c.act_of.ensures)
-    c.in_ok-done.ensures.done in
+    let sound : IsSound c.args.self.now = subst IsSound c.self.view_is c.self.invariant.sound in
+    let timed : Timed = record { at = c.args.time; act = c.act_of.result } in
+    let told : Told = record { timed = timed; done = c.in_ok-done.done } in
+    let next : IsNextAct c.args.self.now timed = record {
+      item = c.args.item;
+      next = c.requires.next;
+      act = subst (λ w. IsActOf c.args.item w c.act_of.result) c.self.view_is c.act_of.ensures.act;
+    } in
+    let one = happened g.F.Fate.answers c.args.time told c.args.fate.now c.perform.new.fate c.args.self.now
+    c.perform.new.self sound next (omega arith) c.in_ok-done.ensures.done in
     record {
-      went = rw c.recycle.ensures one.stopped;
+      went = rw c.recycle.ensures (one_happened g.F.Fate.answers c.args.time told c.args.fate.now c.perform.new.fate
+          c.args.self.now c.perform.new.self one);
       less = rw c.recycle.ensures one.less;
       first = rw c.recycle.ensures one.first;
       kept = tt;

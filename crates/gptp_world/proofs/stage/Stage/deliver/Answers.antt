@@ -6,6 +6,7 @@ use Rattle.gptp_world.specs.Directory.{end_of, DirectoryState}
 use Rattle.gptp_world.specs.Net.{between}
 use Rattle.gptp_world.proofs.EndLemmas.{end_placed, end_same, known_join, place_within, station_at}
 use Rattle.gptp_world.proofs.StageLemmas.{net_replaced, room_kept}
+use Rattle.gptp_world.proofs.TouchedLemmas.{set_for_frame}
 use Rattle.gptp_world.proofs.stage.Stage.deliver.Goals as goal
 
 pub narrowed-requires : goal.narrowed-requires
@@ -43,6 +44,13 @@ hear_if_live-answer-requires-clause-heard g c = λ station here live.
     c.requires.hears join c.receiver-place.result there
     (ap (λ (d : DirectoryState). slice_get d.clocks c.receiver-place.result) (sym same) ∙ place) station here live in
     rw port up
+
+pub hear_if_live-answer-requires-clause-set : goal.hear_if_live-answer-requires-clause-set
+hear_if_live-answer-requires-clause-set g c =
+    let due = c.requires.due in
+    set_for_frame c.args.self.now c.take_frame-frame.new.self c.args.lane c.take_frame-frame.result.items
+    (channel_of due.cable) c.receiver-place.result c.requires.agrees
+    (c.take_frame-frame.ensures.takes due.cable due.here)
 
 pub hear_if_live-answer-requires-clause-room : goal.hear_if_live-answer-requires-clause-room
 hear_if_live-answer-requires-clause-room g c =

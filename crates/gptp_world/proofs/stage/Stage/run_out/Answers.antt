@@ -3,6 +3,7 @@ use Rattle.gptp_world.proofs.ExpiringLemmas.{expired, known_timer}
 use Rattle.gptp_world.proofs.NextDueLemmas.{runs_out}
 use Rattle.gptp_world.proofs.StageLemmas.{room_kept}
 use Rattle.gptp_world.proofs.TellingLemmas.{net_changes}
+use Rattle.gptp_world.proofs.TouchedLemmas.{set_for_timer}
 use Rattle.gptp_world.proofs.stage.Stage.run_out.Goals as goal
 
 pub take_timer-requires-clause-known : goal.take_timer-requires-clause-known
@@ -26,6 +27,11 @@ expire-requires-clause-due g c =
     let runs = runs_out c.args.place c.args.timer c.args.self.now.now (world_of c.args.self.now) due.station due.here
     due.due in
     record { station = runs.station; here = runs.here; timer_of = runs.timer_of; due_now = runs.due_now }
+
+pub expire-requires-clause-set : goal.expire-requires-clause-set
+expire-requires-clause-set g c =
+    set_for_timer c.args.self.now c.take_timer.new.self c.args.place c.args.timer c.requires.agrees
+    c.take_timer.ensures.taken
 
 pub expire-requires-clause-room : goal.expire-requires-clause-room
 expire-requires-clause-room g c =

@@ -1,0 +1,28 @@
+use Rattle.std.proofs.Common.{◌∙◌, subst}
+use Rattle.gptp_world.specs.Touched.{holds, AreSetBut, IsTouchedOf}
+use Rattle.gptp_world.specs.World.{timers_from}
+use Rattle.gptp_world.proofs.OwnTimerLemmas.{own_timer}
+use Rattle.gptp_world.proofs.TouchedLemmas.{nothing_touched, one_touched, selection_touched}
+use Rattle.gptp_world.proofs.net.Net.set_touched.Goals as goal
+
+pub returns-in-Nothing-clause-entries : goal.returns-in-Nothing-clause-entries
+returns-in-Nothing-clause-entries c =
+    let station = c.args.station.now in let es = c.args.self.now.pending.entries in
+    nothing_touched c.args.place station (timers_from 1 station.system.ports) es
+    (subst (λ t. AreSetBut (holds t) c.args.place station es) c.in-Nothing.is c.requires.set)
+
+pub returns-in-One-clause-entries : goal.returns-in-One-clause-entries
+returns-in-One-clause-entries c =
+    let station = c.args.station.now in let es = c.args.self.now.pending.entries in
+    let own = subst (IsTouchedOf station.system) c.in-One.is c.requires.own in
+    c.set_timer.ensures.entries
+    ∙ one_touched c.args.place station (timers_from 1 station.system.ports) es c.in-One.timer
+    (own_timer c.in-One.timer station.system own)
+    (subst (λ t. AreSetBut (holds t) c.args.place station es) c.in-One.is c.requires.set)
+
+pub returns-in-Selected-clause-entries : goal.returns-in-Selected-clause-entries
+returns-in-Selected-clause-entries c =
+    let station = c.args.station.now in let es = c.args.self.now.pending.entries in
+    c.set_selected.ensures.entries
+    ∙ selection_touched c.args.place station station.system.ports es
+    (subst (λ t. AreSetBut (holds t) c.args.place station es) c.in-Selected.is c.requires.set)
