@@ -1,10 +1,17 @@
 -- The events of a document.
-use Rattle.std.proofs.Common.{◌≡◌, ◌≤◌, ◌-◌, ◌++◌, ℕ, suc, List, [], ◌∷◌, length, slice_get, Some, refl, sym, ap, ◌∙◌, arith}
+use Rattle.std.proofs.Common.{◌≡◌, ◌≤◌, ◌-◌, ◌++◌, ℕ, zero, suc, List, [], ◌∷◌, length, slice_get, Some, refl, sym, ap, subst, ◌∙◌, arith}
 use Rattle.std.specs.List.{AllByRecursion}
+use Rattle.gptp_system.specs.Intervals.{IsLog}
+use Rattle.gptp_system.proofs.SpanLemmas.{interval_most}
+use Rattle.gptp_world.specs.Acts.{IsFitAct}
 use Rattle.gptp_world.specs.Calm.{last_change}
 use Rattle.gptp_network.specs.Events.{timed, AreInOrder, AreEvents, IsEvent, IsChange}
 use Rattle.gptp_network.specs.declared.events.Event.{Event}
 use Rattle.gptp_world.specs.Network.{NetworkState}
+use Rattle.gptp_world.specs.Playing.{AreAllowed, IsAllowed}
+use Rattle.gptp_world.specs.declared.change.Act.TheVariants as acts
+use Rattle.gptp_world.specs.declared.change.Change.{Change}
+use Rattle.gptp_world.specs.declared.change.Change.TheVariants as changes
 use Rattle.gptp_world.specs.declared.change.Timed.{Timed}
 
 before_last : (n : ℕ) → suc n - 1 ≡ n
@@ -41,3 +48,35 @@ early_from n es h = from_each es h.each where
   from_each [] h = omega arith
   from_each (e ∷ []) h = h.0.early
   from_each (e ∷ f ∷ es) h = from_each (f ∷ es) h.1
+
+-- ---- events as acts
+
+fit_from : (n : NetworkState) (change : Change) → IsLog n.params.announce → IsChange n change
+    → IsFitAct (acts.Change change)
+fit_from n (changes.LinkDown name port) log is = tt
+fit_from n (changes.LinkUp name port) log is = tt
+fit_from n (changes.LinkSet name port least greatest loss) log (there, bounds) =
+    let most = interval_most n.params.announce log in let prompt = bounds.prompt in
+    record {
+      positive = bounds.positive;
+      ordered = bounds.ordered;
+      short = omega (arith, most, prompt);
+      share = bounds.share;
+    }
+fit_from n (changes.Fail name) log is = tt
+fit_from n (changes.Recover name) log is = tt
+fit_from n (changes.Priority1 name value) log is = tt
+
+allowed_from : (n : NetworkState) (t : Timed) → IsLog n.params.announce → IsEvent n t → IsAllowed t
+allowed_from n t log is = let early = is.early in record {
+  moment = omega (arith, early);
+  fit = subst IsFitAct (sym is.act) (fit_from n is.change log is.fits);
+}
+
+-- a world of the network can be asked for each of its events
+pub events_allowed : (n : NetworkState) (es : List Timed) → IsLog n.params.announce → AreEvents n es → AreAllowed es
+events_allowed n es log h = each_allowed es h.each where
+  each_allowed : (es : List Timed) → AllByRecursion (IsEvent n) es → AreAllowed es
+  each_allowed [] h place t there = absurd cc
+  each_allowed (e ∷ es) h zero t there = let same : e ≡ t = cc in subst IsAllowed same (allowed_from n e log h.0)
+  each_allowed (e ∷ es) h (suc place) t there = each_allowed es h.1 place t there

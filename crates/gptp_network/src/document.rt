@@ -1,8 +1,9 @@
 //! Documents.
 
-ghost use Rattle.std.specs.Prelude.{◌≡◌, ◌⊎◌, ◌↔◌, IsTrue, Ok, IfOk, IfErr};
+ghost use Rattle.std.specs.Prelude.{◌≡◌, ◌≤◌, ◌⊎◌, ◌↔◌, IsTrue, Ok, IfOk, IfErr};
 ghost use Rattle.toml.specs.View.{table_view};
 ghost use Rattle.gptp_world.specs.Calm.{last_change, IsCalm};
+ghost use Rattle.gptp_world.specs.Playing.{AreAllowed};
 ghost use Rattle.gptp_world.specs.SettlingTime.{settles};
 ghost use Rattle.gptp_network.specs.Events.{AreEvents};
 ghost use Rattle.gptp_network.specs.Faults.{Refuses};
@@ -82,20 +83,22 @@ impl Document {
         self.network.is_calm(&self.events)
     }
 
-    /// The time by which the network has settled, in ns, if it is calm.
+    /// The time by which the network has settled, in ns, if it is calm: at most 10^15.
     #[tactic(auto, using(crate::proofs::EventLemmas::early_from))]
     pub fn settles(&self) -> u64
-        ensures { result ≡ settles self.now.network self.now.events }
+        ensures time { result ≡ settles self.now.network self.now.events }
+        ensures bound { result ≤ 1000000000000000 }
     {
         last_change(&self.events) + self.network.settling_span(&self.events)
     }
 
     /// The events are in order, at most at 8 * 10^14, and each can be made in the network: what it names is there, and the
-    /// bounds that it sets can be those of a link.
+    /// bounds that it sets can be those of a link. So a world can be asked for each of them.
     pub fn well_formed(&self)
-        ensures { AreEvents self.now.network self.now.events }
+        ensures events { AreEvents self.now.network self.now.events }
+        ensures allowed { AreAllowed self.now.events }
     {
-        let _ = &self.events;
+        self.network.well_formed();
     }
 
     /// What is changed when, in the order of the document.

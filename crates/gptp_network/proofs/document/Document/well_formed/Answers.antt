@@ -1,0 +1,11 @@
+use Rattle.std.proofs.Common.{subst}
+use Rattle.gptp_world.specs.Playing.{AreAllowed}
+use Rattle.gptp_network.specs.Document.{DocumentState}
+use Rattle.gptp_network.proofs.EventLemmas.{events_allowed}
+use Rattle.gptp_network.proofs.document.Document.well_formed.Goals as goal
+
+pub returns-clause-allowed : goal.returns-clause-allowed
+returns-clause-allowed c =
+    let d = c.self.inside in
+    subst (λ (d : DocumentState). AreAllowed d.events) c.self.view_is
+    (events_allowed d.network d.events.items c.well_formed-2.ensures.params.ranges.params.announce c.self.invariant)
