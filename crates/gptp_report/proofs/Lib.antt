@@ -1,0 +1,5 @@
+pub mod DigitsLemmas
+pub mod LineLemmas
+pub mod FollowLemmas
+pub mod ReportLemmas
+pub mod RunLemmas

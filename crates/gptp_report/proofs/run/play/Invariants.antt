@@ -1,0 +1,8 @@
+use Rattle.std.specs.Prelude.{string_bytes, drop}
+use Rattle.gptp_report.proofs.RunLemmas.{WentSoFar}
+use Rattle.gptp_report.proofs.run.play.Given as goal
+
+-- the events before the place are made where they are due
+abbrev pub invariant-loop-place : goal.invariant-loop-place
+invariant-loop-place g l = WentSoFar g.F.Fate.answers l.until l.events (drop l.place l.events) l.frames l.initial.world.fate
+    l.world.fate l.initial.world.scene l.world.scene (string_bytes l.initial.text) (string_bytes l.text)

@@ -1,0 +1,74 @@
+-- What a document does up to a time, and the text of that (profile).
+use Rattle.std.specs.Prelude.{◌≡◌, ℕ, nat_le, Bool, true, false, List, [], ◌∷◌, ◌++◌, Option}
+use Rattle.std.specs.List.{filter}
+use Rattle.gptp_links.specs.declared.bounds.Bounds.{Bounds}
+use Rattle.gptp_network.specs.Document.{DocumentState}
+use Rattle.gptp_world.specs.declared.change.Timed.{Timed}
+use Rattle.gptp_world.specs.declared.done.Done.{Done}
+use Rattle.gptp_world.specs.declared.done.Done.TheVariants.{Quiet, Heard}
+use Rattle.gptp_world.specs.Advancing.{Advanced, Told}
+use Rattle.gptp_world.specs.Scene.{Begun, WasDone}
+use Rattle.gptp_world.specs.World.{WorldState}
+use Rattle.gptp_report.specs.declared.frame_line.FrameType.{FrameType}
+use Rattle.gptp_report.specs.FrameLine.{frame_line, IsOfType}
+use Rattle.gptp_report.specs.Report.{Reports}
+
+-- the events up to a time, in their order
+abbrev pub events_by : ℕ → List Timed → List Timed
+events_by until = filter (λ (t : Timed). nat_le t.at until)
+
+-- A change is made once all that is due by its time has happened, and leads from one state to another.
+pub record Changed {F : Type 0} (answers : Bounds → ℕ → F → Option ℕ → F → Type 0) (event : Timed) (told : List Told)
+    (fate fate_after : F) (w w' : WorldState) : Type 0 where
+  pub drawn : F
+  pub between : WorldState
+  pub advanced : Advanced answers event.at told fate drawn w between
+  pub done : Done
+  pub changed : WasDone answers event drawn fate_after between w' done
+
+-- Changes are made so, one after another; then all that is due by the end happens. This is told meanwhile.
+abbrev pub Goes : {F : Type 0} → (Bounds → ℕ → F → Option ℕ → F → Type 0) → ℕ → List Timed → List Told → F → F
+    → WorldState → WorldState → Type 0
+Goes answers until [] told fate fate_after w w' = Advanced answers until told fate fate_after w w'
+Goes {F} answers until (event ∷ events) told fate fate_after w w' =
+    (first : List Told) × (rest : List Told) × (drawn : F) × (between : WorldState)
+    × Changed answers event first fate drawn w between × Goes answers until events rest drawn fate_after between w'
+    × (told ≡ first ++ rest)
+
+-- The world of a document begins, and goes on with its events up to a time.
+pub record Plays {F : Type 0} (answers : Bounds → ℕ → F → Option ℕ → F → Type 0) (d : DocumentState) (until : ℕ)
+    (fate : F) (told : List Told) (w : WorldState) : Type 0 where
+  pub started : F
+  pub start : WorldState
+  pub begun : Begun answers d.network fate started start
+  pub drawn : F
+  pub goes : Goes answers until (events_by until d.events) told started drawn start w
+
+-- the line of an act at which a frame reached a port; none of another
+abbrev pub ShowsDone : ℕ → Done → List (List ℕ) → Type 0
+ShowsDone at Quiet lines = lines ≡ []
+ShowsDone at (Heard clock port answer frame) lines =
+    (kind : FrameType) × IsOfType frame.items kind × (lines ≡ frame_line at clock port kind answer frame.items ∷ [])
+
+-- the lines of all frames, in order of delivery
+abbrev pub ShowsFrames : List Told → List (List ℕ) → Type 0
+ShowsFrames [] lines = lines ≡ []
+ShowsFrames (t ∷ told) lines = (first : List (List ℕ)) × (rest : List (List ℕ))
+    × ShowsDone t.timed.at t.done first × ShowsFrames told rest × (lines ≡ first ++ rest)
+
+-- where they are asked for
+abbrev pub ShowsIf : Bool → List Told → List (List ℕ) → Type 0
+ShowsIf true told lines = ShowsFrames told lines
+ShowsIf false told lines = lines ≡ []
+
+-- The text of a run: the lines of its frames, where they are asked for, and the report of the world that it leads to.
+pub record RunLines {F : Type 0} (answers : Bounds → ℕ → F → Option ℕ → F → Type 0) (d : DocumentState) (until : ℕ)
+    (frames : Bool) (fate : F) (lines : List (List ℕ)) : Type 0 where
+  pub told : List Told
+  pub world : WorldState
+  pub plays : Plays answers d until fate told world
+  pub shown : List (List ℕ)
+  pub shows : ShowsIf frames told shown
+  pub report : List (List ℕ)
+  pub reports : Reports d until world report
+  pub are : lines ≡ shown ++ report

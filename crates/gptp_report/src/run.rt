@@ -1,0 +1,99 @@
+//! Runs of documents.
+
+ghost use Rattle.std.specs.Prelude.{◌≡◌, ◌≤◌, ℕ, List, IfOk, OnOk, nat_le, string_bytes};
+ghost use Rattle.gptp_world.specs.Advancing.{Told};
+ghost use Rattle.gptp_world.specs.Playing.{AreAllowed, IsAllowed, IsPlayed};
+ghost use Rattle.gptp_report.specs.Following.{ChangedIf, Showed};
+ghost use Rattle.gptp_report.specs.Lines.{text_of};
+ghost use Rattle.gptp_report.specs.Run.{events_by, Changed, Goes, RunLines};
+
+use crate::following::go_on;
+use crate::report::write_report;
+use gptp_links::Fate;
+use gptp_network::Document;
+use gptp_world::{Timed, World};
+use std::alloc::{AllocError, Global};
+
+/// An event is made at its time.
+fn change<F: Fate + Drop>(world: &mut World<F>, event: Timed) -> Result<(), AllocError>
+    requires { IsAllowed event }
+    ensures { OnOk result (IsPlayed F.answers event world.old.fate world.new.fate world.old.scene world.new.scene) }
+{
+    match world.act(event) {
+        Ok(_) => Ok(()),
+        // nothing is due before it, and what it is about is there, so that only memory can be wanting
+        Err(_) => Err(AllocError),
+    }
+}
+
+/// The world goes on up to the time of an event, which is then made.
+fn make<F: Fate + Drop>(
+    world: &mut World<F>,
+    event: Timed,
+    frames: bool,
+    text: &mut String,
+) -> Result<(), AllocError>
+    requires { IsAllowed event }
+    ensures { OnOk result ((told : List Told) × Changed F.answers event told world.old.fate world.new.fate world.old.scene world.new.scene × Showed frames told (string_bytes text.old) (string_bytes text.new)) }
+{
+    go_on(world, event.at, frames, text)?;
+    change(world, event)
+}
+
+/// So it is made where it is due by the end.
+fn make_if_due<F: Fate + Drop>(
+    world: &mut World<F>,
+    event: Timed,
+    until: u64,
+    frames: bool,
+    text: &mut String,
+) -> Result<(), AllocError>
+    requires { IsAllowed event }
+    ensures { OnOk result ((told : List Told) × ChangedIf F.answers (nat_le event.at until) event told world.old.fate world.new.fate world.old.scene world.new.scene × Showed frames told (string_bytes text.old) (string_bytes text.new)) }
+{
+    match event.at <= until {
+        true => make(world, event, frames, text),
+        false => Ok(()),
+    }
+}
+
+/// The world goes on up to a time, with the events up to then.
+fn play<F: Fate + Drop>(
+    world: &mut World<F>,
+    events: &[Timed],
+    until: u64,
+    frames: bool,
+    text: &mut String,
+) -> Result<(), AllocError>
+    requires events { AreAllowed events.now }
+    requires moment { until ≤ 1000000000000000 }
+    ensures { OnOk result ((told : List Told) × Goes F.answers until (events_by until events.now) told world.old.fate world.new.fate world.old.scene world.new.scene × Showed frames told (string_bytes text.old) (string_bytes text.new)) }
+{
+    for place in 0..events.len() {
+        make_if_due(world, events[place], until, frames, text)?;
+    }
+    go_on(world, until, frames, text)
+}
+
+/// The text of a run: the world of a document begins at time 0 and goes on up to a time, at most 10^15 ns, with the events
+/// of the document up to then. All that is due by the time of an event happens before it. Where frames are asked for, a
+/// line tells of each frame that reached a port, in order of delivery; the report of the world follows.
+///
+/// Refused for want of memory alone.
+pub fn run_text<F: Fate + Drop>(
+    alloc: Global,
+    document: &Document,
+    fate: F,
+    until: u64,
+    frames: bool,
+) -> Result<String, AllocError>
+    requires moment { until ≤ 1000000000000000 }
+    ensures { IfOk result (λ text. (lines : List (List ℕ)) × RunLines F.answers document.now until frames fate lines × (string_bytes text ≡ text_of lines)) }
+{
+    document.well_formed();
+    let mut world = World::new(alloc, document.network(), fate)?;
+    let mut text = String::new(alloc);
+    play(&mut world, document.events(), until, frames, &mut text)?;
+    write_report(&mut text, document, until, &world)?;
+    Ok(text)
+}
