@@ -1,19 +1,24 @@
 -- The words that the parser takes of the program's command line: what it finds wrong with any others.
-use Rattle.std.proofs.Common.{◌≡◌, ◌⊎◌, inl, inr, ℕ, suc, Bool, true, false, ◌==◌, List, [], ◌∷◌, Option, Some, None, length, codes, bytes_eq, refl, sym, ap, arith, chars, slice_get, drop}
+use Rattle.std.proofs.Common.{◌≡◌, ◌⊎◌, inl, inr, ℕ, suc, Bool, true, false, ◌==◌, List, [], ◌∷◌, Option, Some, None, length, codes, bytes_eq, refl, sym, ap, ◌∙◌, arith, chars, slice_get, drop}
 use Rattle.std.proofs.lemmas.Slice.Eq.{bytes_eq-Decides}
 use Rattle.std.specs.Option.{option_map_or}
-use Rattle.clap.specs.Words.{App, HasKind, Kinds, kind_of}
+use Rattle.std.specs.Prelude.{Box, option_map}
+use Rattle.std.specs.Box.{box_value}
+use Rattle.clap.specs.Words.{App, HasKind, HasMatchesOf, Kinds, Row, kind_of, subcommand_name_of, subcommand_rows}
+use Rattle.clap.specs.declared.parser.matches.ArgMatches.{ArgMatches}
+use Rattle.clap.specs.declared.parser.matches.ArgMatches.TheViews.{out-ArgMatches, out-SubCommand}
+use Rattle.clap.specs.declared.parser.matches.SubCommand.{SubCommand}
 use Rattle.clap.specs.Kinds.{or_else}
 use Rattle.clap.specs.declared.error.Error.{Error}
 use Rattle.clap.specs.declared.error.kind.ErrorKind.{ErrorKind}
 use Rattle.clap.specs.declared.error.kind.ErrorKind.TheVariants.{OutOfMemory}
 use Rattle.clap.specs.Lexer.{long_of}
 use Rattle.clap.specs.Walk.{Held, Names, Rule, Step, Text, Walk, arg_by_long, arg_by_short, bundle_met, bundle_step, after_flag, idle, long_or_other, nothing_held, plain, short_or_plain, subcommand_met, walk, walk_from, walked}
-use Rattle.clap.specs.Simple.{Shape, built, built_leaf, filled_from, help_rule, names_of, new_shape}
+use Rattle.clap.specs.Simple.{Shape, built, built_leaf, entered, filled_from, help_rule, names_of, new_shape}
 use Rattle.clap.specs.Faults.{built_fault, bundle_fault, bundle_step_fault, entered_fault, flag_word_fault, fault_of, flags_fault, is_simple_and_free, long_fault, short_fault, step_fault, stray_fault, turn_fault, walk_fault}
 use Rattle.clap.proofs.WalkLemmas.{walk_stopped}
 use Rattle.clap.proofs.OnLiterals.{clap_on_literals}
-use Rattle.gptp_sim.specs.Command.{IsCompare, NamesCompare, program}
+use Rattle.gptp_sim.specs.Command.{IsCompare, IsRun, NamesCompare, NamesRun, program}
 
 -- ---- faults, of which the first that there is counts
 
@@ -143,6 +148,11 @@ unfolding walked
 stops_at_compare words =
     ap (λ (w : Walk). w.stopped) (sym (walk_stopped help_rules names (walk_from nothing_held) (codes "compare") [] words))
 
+stops_at_run : (words : List Text) → stop (codes "run" ∷ words) ≡ Some (codes "run", words)
+unfolding walked
+stops_at_run words =
+    ap (λ (w : Walk). w.stopped) (sym (walk_stopped help_rules names (walk_from nothing_held) (codes "run") [] words))
+
 -- the words behind `compare` are left to it
 words_behind : (words : List Text) → fault (codes "compare" ∷ words) ≡ [] → (words ≡ []) ⊎ (words ≡ codes "--" ∷ [])
 words_behind words none =
@@ -169,22 +179,30 @@ named : (words : List Text) → (words ≡ []) ⊎ (words ≡ codes "--" ∷ [])
 named words (inl nothing) = inl (rw nothing refl)
 named words (inr mark) = inr (rw mark refl)
 
+-- one of the two commands is named
+abbrev NamesOne : List Text → Type 0
+NamesOne words = IsCompare words ⊎ IsRun words
+
 -- by what the first word is
-first_word : (is_compare is_help is_mark : Bool) (word : Text) (words : List Text)
-    → bytes_eq (codes "compare") word ≡ is_compare → bytes_eq (codes "help") word ≡ is_help → bytes_eq word (codes "--") ≡ is_mark
-    → fault (word ∷ words) ≡ [] → IsCompare (word ∷ words)
+first_word : (is_compare is_run is_help is_mark : Bool) (word : Text) (words : List Text)
+    → bytes_eq (codes "compare") word ≡ is_compare → bytes_eq (codes "run") word ≡ is_run
+    → bytes_eq (codes "help") word ≡ is_help → bytes_eq word (codes "--") ≡ is_mark
+    → fault (word ∷ words) ≡ [] → NamesOne (word ∷ words)
 unfolding walk_fault
-first_word true is_help is_mark word words compare help mark none =
+first_word true is_run is_help is_mark word words compare run help mark none =
     let word_is : codes "compare" ≡ word = (bytes_eq-Decides (codes "compare") word).0 compare in
-    rw (← word_is) (named words (words_behind words (rw (← word_is) at none)))
-first_word false true is_mark word words compare help mark none =
+    inl (rw (← word_is) (named words (words_behind words (rw (← word_is) at none))))
+first_word false true is_help is_mark word words compare run help mark none =
+    let word_is : codes "run" ≡ word = (bytes_eq-Decides (codes "run") word).0 run in
+    inr (words, ap (λ first. first ∷ words) (sym word_is))
+first_word false false true is_mark word words compare run help mark none =
     let word_is : codes "help" ≡ word = (bytes_eq-Decides (codes "help") word).0 help in
     absurd (help_asked words (rw (← word_is) at none))
-first_word false false true word words compare help mark none =
+first_word false false false true word words compare run help mark none =
     let word_is : word ≡ codes "--" = (bytes_eq-Decides word (codes "--")).0 mark in
     absurd (mark_alone words (rw word_is at none))
-first_word false false false word words compare help mark none =
-    let no_name : subcommand_met names idle word ≡ None = rw (compare, help) refl in
+first_word false false false false word words compare run help mark none =
+    let no_name : subcommand_met names idle word ≡ None = rw (compare, run, help) refl in
     absurd (strange top names word no_name mark (first_none _ _ (walk_finds_none (word ∷ words) none)))
 
 -- no word at all
@@ -192,17 +210,79 @@ nothing_named : fault [] ≡ [] → ⊥
 unfolding clap_on_literals
 nothing_named none = some_fault _ _ none
 
-words_named : (words : List Text) → fault words ≡ [] → IsCompare words
+words_named : (words : List Text) → fault words ≡ [] → NamesOne words
 words_named [] none = absurd (nothing_named none)
 words_named (word ∷ words) none =
-    first_word (bytes_eq (codes "compare") word) (bytes_eq (codes "help") word) (bytes_eq word (codes "--")) word words refl refl refl none
+    first_word (bytes_eq (codes "compare") word) (bytes_eq (codes "run") word) (bytes_eq (codes "help") word)
+    (bytes_eq word (codes "--")) word words refl refl refl refl none
+
+-- ---- the command that the parser enters is the one that is named
+
+-- its name
+abbrev name_in : Option (Text × List Row) → Option Text
+name_in = option_map (λ p. p.0)
+
+abbrev entered_name : List Text → Option Text
+entered_name words = name_in (entered (built program) (stop words))
+
+enters_compare : (words : List Text) → entered_name (codes "compare" ∷ words) ≡ Some (codes "compare")
+enters_compare words = rw (stops_at_compare words) refl
+
+enters_run : (words : List Text) → entered_name (codes "run" ∷ words) ≡ Some (codes "run")
+enters_run words = rw (stops_at_run words) refl
+
+compare_isn't_run : Some (codes "compare") ≡ Some (codes "run") → ⊥
+compare_isn't_run same =
+    let count : ◌≡◌ {A = ℕ} 7 3 = ap (λ name. option_map_or length name 0) same in
+    absurd (omega arith)
+
+never_run : (words : List Text) → IsCompare words → entered_name words ≡ Some (codes "run") → ⊥
+never_run words (inl alone) run = compare_isn't_run (sym (enters_compare []) ∙ rw alone at run)
+never_run words (inr marked) run = compare_isn't_run (sym (enters_compare (codes "--" ∷ [])) ∙ rw marked at run)
+
+-- `compare`, where the parser didn't enter `run`
+compare_named : (words : List Text) → NamesOne words → (entered_name words ≡ Some (codes "run") → ⊥) → IsCompare words
+compare_named words (inl compare) other = compare
+compare_named words (inr run) other = absurd (other (rw run.1 (enters_run run.0)))
+
+-- `run`, where it did
+run_named : (words : List Text) → NamesOne words → entered_name words ≡ Some (codes "run") → IsRun words
+run_named words (inl compare) run = absurd (never_run words compare run)
+run_named words (inr is_run) run = is_run
 
 -- ---- a parse of the command line, by the clauses of the parser
 
+-- the name of the subcommand, by its name and rows
+name_of : {Z : Type 0} (found : Option (Box SubCommand Z))
+    → option_map (λ b. (out-SubCommand (box_value b)).name.now) found ≡ name_in (subcommand_rows found)
+name_of None = refl
+name_of (Some sub) = refl
+
+entered_of : (parsed : App) (words : List Text) (m : ArgMatches) → parsed ≡ program → HasMatchesOf parsed words m
+    → subcommand_name_of m ≡ entered_name (drop 1 words)
+entered_of parsed words m is matches =
+    let both : HasMatchesOf program words m = rw is at matches in
+    name_of (out-ArgMatches m).subcommand ∙ ap name_in (both refl).1
+
 -- one that succeeds
-pub accepted_words : (parsed : App) (words : List Text) → parsed ≡ program
-    → (is_simple_and_free parsed ≡ true → fault_of parsed words ≡ []) → NamesCompare words
+accepted_words : (parsed : App) (words : List Text) → parsed ≡ program
+    → (is_simple_and_free parsed ≡ true → fault_of parsed words ≡ []) → NamesOne (drop 1 words)
 accepted_words parsed words is accepted = words_named (drop 1 words) (rw is at accepted refl)
+
+-- and doesn't enter `run`
+pub accepted_compare : (parsed : App) (words : List Text) (m : ArgMatches) → parsed ≡ program → HasMatchesOf parsed words m
+    → (is_simple_and_free parsed ≡ true → fault_of parsed words ≡ [])
+    → (subcommand_name_of m ≡ Some (codes "run") → ⊥) → NamesCompare words
+accepted_compare parsed words m is matches accepted other =
+    compare_named (drop 1 words) (accepted_words parsed words is accepted)
+    (λ run. other (entered_of parsed words m is matches ∙ run))
+
+-- and enters `run`
+pub accepted_run : (parsed : App) (words : List Text) (m : ArgMatches) → parsed ≡ program → HasMatchesOf parsed words m
+    → (is_simple_and_free parsed ≡ true → fault_of parsed words ≡ [])
+    → subcommand_name_of m ≡ Some (codes "run") → NamesRun words
+accepted_run parsed words m is matches accepted run =
+    run_named (drop 1 words) (accepted_words parsed words is accepted) (sym (entered_of parsed words m is matches) ∙ run)
 
 none_wrong : (words : List Text) → NamesCompare words → fault_of program words ≡ []
 unfolding clap_on_literals

@@ -1,19 +1,16 @@
 -- The text of `compare`, one line after the other, and what of it follows from the octets that were read.
 use Rattle.std.proofs.Common.{◌≡◌, ℕ, ◌≤◌, Bool, true, false, nat_le, ◌||◌, List, [], ◌∷◌, ◌++◌, length, map, Option, Some, None, refl, ap, ◌∙◌, append_assoc, append-nil, length-append, arith}
-use Rattle.std.specs.Prelude.{IfSome}
 use Rattle.std.specs.List.{list_any}
 use Rattle.std.specs.Str.Lines.{lines}
-use Rattle.std.proofs.lemmas.Bool.{leb-true, leb-false, lt-leb}
 use Rattle.std.proofs.lemmas.List.{map_push}
 use Rattle.std.proofs.lemmas.List.Concat.{flat_map-append}
 use Rattle.std.proofs.lemmas.List.Folds.{list_any-append}
 use Rattle.gptp_sim.specs.declared.answer.Answer.{Answer}
 use Rattle.gptp_sim.specs.declared.failure.Status.{Status}
 use Rattle.gptp_sim.specs.Answer.{Answers, answer_text, is_refusal}
-use Rattle.gptp_sim.specs.Source.{ReadsWhole}
 use Rattle.gptp_sim.specs.Failure.{status_by}
-use Rattle.gptp_sim.specs.Output.{text_of}
-use Rattle.gptp_sim.specs.CompareText.{size_limit, AreAnswers, AnswersLines, CompareText}
+use Rattle.gptp_report.specs.Lines.{text_of}
+use Rattle.gptp_sim.specs.CompareText.{AreAnswers, AnswersLines}
 
 -- some answers are in the text, and with the answers to the lines that are left they are the answers to all lines
 pub record Answered (input rest text : List ℕ) (refused : Bool) : Type 0 where
@@ -59,34 +56,3 @@ answered_all input rest text refused so_far none =
       },
       so_far.text_is,
     )
-
--- what is said of known octets
-pub if_some : (P Q : List ℕ → Type 0) (known : Option (List ℕ)) → ((octets : List ℕ) → P octets → Q octets) → IfSome known P → IfSome known Q
-if_some P Q None step holds = tt
-if_some P Q (Some octets) step holds = step octets holds
-
--- a front of the input that is all of it, or too long by itself
-fronts : (input octets rest : List ℕ) (fits : Bool) → input ≡ octets ++ rest → nat_le (length octets) size_limit ≡ fits → (length octets ≤ size_limit → rest ≡ [])
-    → (output : List (List ℕ)) (status : Status) → CompareText octets output status → CompareText input output status
-fronts input octets rest true split test whole output status text =
-    let none : rest ≡ [] = whole (leb-true (length octets) size_limit test) in
-    let all : input ≡ octets = split ∙ rw none (append-nil octets) in
-    rw all text
-fronts input octets rest false split test whole output status text =
-    let long = leb-false (length octets) size_limit test in
-    let longer : nat_le (length input) size_limit ≡ false = lt-leb (length input) size_limit (omega (arith, ap length split, length-append octets rest)) in
-    rw longer (rw test at text)
-
--- the text for the octets that were read is the text for all there are
-pub same_text : (left rest : Option (List ℕ)) (octets : List ℕ) → ReadsWhole size_limit left rest octets
-    → IfSome left (λ input. (output : List (List ℕ)) (status : Status) → CompareText octets output status → CompareText input output status)
-same_text None rest octets reads = tt
-same_text (Some xs) None octets reads = absurd reads.taken
-same_text (Some xs) (Some ys) octets reads = fronts xs octets ys (nat_le (length octets) size_limit) reads.taken refl reads.whole
-
--- what holds of the text for the octets that were read holds of the text for the input
-pub text_holds : (left rest : Option (List ℕ)) (octets text : List ℕ) (status : Status) (Q : List ℕ → Type 0) → ReadsWhole size_limit left rest octets
-    → (output : List (List ℕ)) × CompareText octets output status × (text ≡ text_of output) → Q text
-    → IfSome left (λ input. (output : List (List ℕ)) × CompareText input output status × Q (text_of output))
-text_holds left rest octets text status Q reads (output, compares, text-is) holds =
-    if_some _ _ left (λ input same. (output, same output status compares, rw text-is at holds)) (same_text left rest octets reads)

@@ -3,7 +3,8 @@ pub mod SinkLemmas
 pub mod SplitLemmas
 pub mod WordsLemmas
 pub mod LinesLemmas
-pub mod AnswerLemmas
+pub mod LimitedLemmas
 pub mod CompareLemmas
 pub mod LawLemmas
 pub mod CommandLemmas
+pub mod OptionLemmas

@@ -2,8 +2,7 @@
 use Rattle.std.specs.Prelude.{◌≡◌, ℕ, Bool, true, false, List, [], ◌∷◌, ◌++◌, codes, Result, Ok, Err}
 use Rattle.std.specs.declared.cmp.Ordering.{Ordering}
 use Rattle.std.specs.declared.cmp.Ordering.TheVariants as orderings
-use Rattle.byteorder.specs.Endian.{big_bytes}
-use Rattle.hex.specs.Hex.{encode_lower}
+use Rattle.gptp_report.specs.Digits.{identity_text}
 use Rattle.gptp_vector.specs.declared.vector.Vector.{Vector}
 use Rattle.gptp_vector.specs.Vector.{order}
 use Rattle.gptp_sim.specs.declared.announced.WordFault.{WordFault}
@@ -36,10 +35,6 @@ AnswersWords other answer = answer ≡ NoTwoWords
 -- a line is answered by its words
 abbrev pub Answers : List ℕ → Answer → Type 0
 Answers line answer = AnswersWords (words line) answer
-
--- the fourteen octets of an identity as digits
-abbrev pub identity_text : ℕ → List ℕ
-identity_text root = encode_lower (big_bytes 14 root)
 
 -- how an answer is shown
 abbrev pub answer_text : Answer → List ℕ

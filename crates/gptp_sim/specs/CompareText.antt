@@ -1,6 +1,5 @@
 -- What `compare` writes for an input, line by line, and its status (profile).
-use Rattle.std.specs.Prelude.{◌≡◌, ℕ, nat_le, List, [], ◌∷◌, length, map, codes}
-use Rattle.std.specs.Bool.{MatchBool}
+use Rattle.std.specs.Prelude.{◌≡◌, ℕ, List, [], ◌∷◌, map, codes}
 use Rattle.std.specs.List.{list_any}
 use Rattle.std.specs.Str.Lines.{lines}
 use Rattle.gptp_sim.specs.declared.answer.Answer.{Answer}
@@ -8,6 +7,7 @@ use Rattle.gptp_sim.specs.declared.failure.Status.{Status}
 use Rattle.gptp_sim.specs.declared.failure.Status.TheVariants.{Refused}
 use Rattle.gptp_sim.specs.Answer.{Answers, answer_text, is_refusal}
 use Rattle.gptp_sim.specs.Failure.{status_by}
+use Rattle.gptp_sim.specs.Limited.{Limited}
 
 -- how many octets an input may have
 abbrev pub size_limit : ℕ
@@ -32,4 +32,4 @@ pub record RefusesSize (output : List (List ℕ)) (status : Status) : Type 0 whe
   pub status_is : status ≡ Refused
 
 abbrev pub CompareText : List ℕ → List (List ℕ) → Status → Type 0
-CompareText input output status = MatchBool (nat_le (length input) size_limit) (AnswersLines input output status) (RefusesSize output status)
+CompareText = Limited size_limit AnswersLines RefusesSize

@@ -4,6 +4,8 @@ pub mod Failure
 pub mod Words
 pub mod Announced
 pub mod Answer
-pub mod Output
+pub mod Limited
+pub mod Written
 pub mod CompareText
+pub mod RunText
 pub mod Command

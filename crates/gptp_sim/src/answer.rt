@@ -1,11 +1,12 @@
 //! What is answered to a line of two words.
 
 ghost use Rattle.std.specs.Prelude.{◌≡◌, IfOk, IfErr};
-ghost use Rattle.gptp_sim.specs.Answer.{better_of, answer_of, identity_text, is_refusal, Answers};
+ghost use Rattle.gptp_sim.specs.Answer.{better_of, answer_of, is_refusal, Answers};
 
 use crate::announced::{WordFault, announced};
 use crate::failure::SimError;
 use crate::words::two_words;
+use gptp_report::IdentityDigits;
 use gptp_vector::{Identity, Vector};
 use std::alloc::Global;
 use std::cmp::Ordering;
@@ -41,31 +42,6 @@ impl Answer {
     }
 }
 
-/// An identity as digits.
-#[derive(Clone, Copy)]
-struct Digits(Identity);
-
-/// The digits of an identity, two for each octet.
-fn digits_of(identity: Identity) -> [u8; 28]
-    ensures { result ≡ identity_text identity }
-{
-    let mut digits = [0; 28];
-    hex::encode_to_slice(identity.octets(), &mut digits).unwrap();
-    digits
-}
-
-impl fmt::Display for Digits {
-    ghost use Rattle.std.specs.Prelude.{Some};
-    ghost use Rattle.gptp_sim.specs.Answer.{identity_text};
-
-    ghost output = { λ digits. Some (identity_text digits.0) };
-
-    fn fmt<W: fmt::Write>(&self, f: &mut fmt::Formatter<W>) -> fmt::Result {
-        let digits = digits_of(self.0);
-        f.write_str(str::from_utf8(&digits).unwrap())
-    }
-}
-
 impl fmt::Display for Answer {
     ghost use Rattle.std.specs.Prelude.{Some};
     ghost use Rattle.gptp_sim.specs.Answer.{answer_text};
@@ -74,9 +50,9 @@ impl fmt::Display for Answer {
 
     fn fmt<W: fmt::Write>(&self, f: &mut fmt::Formatter<W>) -> fmt::Result {
         match self {
-            Answer::First(root) => write!(f, "first {}", Digits(*root)),
-            Answer::Second(root) => write!(f, "second {}", Digits(*root)),
-            Answer::Equal(root) => write!(f, "equal {}", Digits(*root)),
+            Answer::First(root) => write!(f, "first {}", IdentityDigits(*root)),
+            Answer::Second(root) => write!(f, "second {}", IdentityDigits(*root)),
+            Answer::Equal(root) => write!(f, "equal {}", IdentityDigits(*root)),
             Answer::NoTwoWords => f.write_str("refused words"),
             Answer::RefusedFirst(fault) => write!(f, "refused first {fault}"),
             Answer::RefusedSecond(fault) => write!(f, "refused second {fault}"),

@@ -1,10 +1,10 @@
 //! The command `compare`: which of two announced vectors is better, line by line.
 
-ghost use Rattle.std.specs.Prelude.{◌≡◌, ◌≢◌, ◌+◌, List, ℕ, IfOk, OnOk, IfErr, IfSome, string_bytes};
-ghost use Rattle.std.specs.Io.KnownBytes.{Appends, Keeps};
+ghost use Rattle.std.specs.Prelude.{◌≡◌, ◌≢◌, ◌+◌, List, ℕ, IfOk, OnOk, IfErr, string_bytes};
+ghost use Rattle.std.specs.Io.KnownBytes.{Keeps};
 ghost use Rattle.gptp_sim.specs.Source.{ReadsWhole, TakesAtMost};
-ghost use Rattle.gptp_sim.specs.Sink.{AppendsFront};
-ghost use Rattle.gptp_sim.specs.Output.{text_of};
+ghost use Rattle.gptp_report.specs.Lines.{text_of};
+ghost use Rattle.gptp_sim.specs.Written.{Writes, WritesFront};
 ghost use Rattle.gptp_sim.specs.CompareText.{size_limit, AnswersLines, CompareText};
 
 use crate::answer::answer_to;
@@ -73,8 +73,7 @@ pub fn compare_lines<S: Source, K: Sink>(
     source: &mut S,
     sink: &mut K,
 ) -> Result<Status, SimError>
-    ensures done { IfOk result (λ status. IfSome (S.left source.old) (λ input.
-        (output : List (List ℕ)) × CompareText input output status × Appends (K.written sink.old) (K.written sink.new) (text_of output))) }
+    ensures done { IfOk result (Writes CompareText (S.left source.old) (K.written sink.old) (K.written sink.new)) }
     ensures whole { OnOk result ((octets : List ℕ) × ReadsWhole size_limit (S.left source.old) (S.left source.new) octets) }
     ensures no_further { TakesAtMost (size_limit + 1) (S.left source.old) (S.left source.new) }
 
@@ -86,8 +85,7 @@ pub fn compare_lines<S: Source, K: Sink>(
 
     // what stands written after an error
     ensures nothing { IfErr result (λ e. e ≢ SimError.Write → Keeps (K.written sink.old) (K.written sink.new)) }
-    ensures front { result ≡ Err SimError.Write → (status : Status) × IfSome (S.left source.old) (λ input.
-        (output : List (List ℕ)) × CompareText input output status × AppendsFront (K.written sink.old) (K.written sink.new) (text_of output)) }
+    ensures front { result ≡ Err SimError.Write → WritesFront CompareText (S.left source.old) (K.written sink.old) (K.written sink.new) }
 {
     let input = read_whole(alloc, source, LIMIT)?;
     let output = compare_text(alloc, &input)?;

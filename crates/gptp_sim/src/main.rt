@@ -1,11 +1,12 @@
 //! The simulator's program.
 //!
-//! `gptp_sim compare` reads lines of two Announces in hexadecimal and writes which of the two announces
-//! the better priority vector, by the order of IEEE 802.1AS-2020, 10.3.4.
+//! `gptp_sim run` reads a document, a network and its events, lets them run, and writes which root each system follows, and
+//! its ports. `gptp_sim compare` reads lines of two Announces in hexadecimal and writes which of the two announces the
+//! better priority vector, by the order of IEEE 802.1AS-2020, 10.3.4.
 //!
-//! [`compare::compare_lines`] works over any devices that tell their octets and count their failures.
-//! Its contract says that it writes the text that is defined for the octets it read and nothing else,
-//! that no failure of a device is passed over or made up, and what stands written after an error.
+//! [`run::run`] and [`compare::compare_lines`] work over any devices that tell their octets and count their failures.
+//! Their contracts say that they write the text that is defined for the octets they read and nothing else, that no failure
+//! of a device is passed over or made up, and what stands written after an error.
 #![tactic(auto)]
 
 mod announced;
@@ -19,6 +20,9 @@ mod output;
 mod reading;
 #[cfg(test)]
 mod refusal_tests;
+mod run;
+#[cfg(test)]
+mod run_tests;
 mod sink;
 mod source;
 #[cfg(test)]

@@ -1,7 +1,0 @@
--- What a command writes: a list of lines (profile).
-use Rattle.std.specs.Prelude.{ℕ, List, [], ◌∷◌, ◌++◌}
-use Rattle.std.specs.List.{flat_map}
-
--- each line ends with a line feed
-abbrev pub text_of : List (List ℕ) → List ℕ
-text_of output = flat_map (λ line. line ++ 10 ∷ []) output
