@@ -1,7 +1,11 @@
-//! A world that goes on by itself. Times are in ns.
+//! A world that goes on by itself, or by one act after another. Times are in ns.
 
-use gptp_links::{Direction, PcgFate};
+ghost use Rattle.std.specs.Prelude.{◌≡◌};
+ghost use Rattle.gptp_world.specs.Acts.{IsFitAct};
+
+use gptp_links::{Direction, ListFate, PcgFate};
 use gptp_network::Document;
+use gptp_system::Timer;
 use gptp_vector::ClockId;
 use gptp_world::{Act, Refused, Timed, World};
 use std::test::Fail;
@@ -15,9 +19,32 @@ fn clock(number: u64) -> ClockId {
     ClockId::of_octets(number.to_be_bytes())
 }
 
+/// The same two systems; each frame takes 500 to 900 ns.
+const SPREAD: &str =
+    "version = 1\n[[system]]\nclock = \"0000000000000001\"\n[[system]]\nclock = \"0000000000000002\"\n[[link]]\na = \"0000000000000001\"\na_port = 1\nb = \"0000000000000002\"\nb_port = 1\nmin = 500\nmax = 900\n";
+
+/// One system, with clock 5.
+const ONE: &str = "version = 1\n[[system]]\nclock = \"0000000000000005\"\n";
+
+/// Three systems, with clocks 9, 2 and 5.
+const THREE: &str =
+    "version = 1\n[[system]]\nclock = \"0000000000000009\"\n[[system]]\nclock = \"0000000000000002\"\n[[system]]\nclock = \"0000000000000005\"\n";
+
 /// A frame from end a of link 0 arrives.
 const ARRIVAL: Act = Act::Deliver {
     link: 0,
+    direction: Direction::FromA,
+};
+
+/// A frame from its end b arrives.
+const ARRIVAL_FROM_B: Act = Act::Deliver {
+    link: 0,
+    direction: Direction::FromB,
+};
+
+/// A frame arrives over a link that isn't there.
+const STRAY: Act = Act::Deliver {
+    link: 9,
     direction: Direction::FromA,
 };
 
@@ -68,5 +95,83 @@ fn a_world_goes_on_by_itself(rt: HostRuntime) -> Result<(), Fail> {
         }
         None => assert!(rt; false),
     }
+    Ok(())
+}
+
+#[test]
+fn clocks_stand_by_rank(rt: HostRuntime) -> Result<(), Fail> {
+    let alloc = rt.alloc();
+    let one = Document::read(alloc, ONE.as_bytes())?;
+    let world = World::new(alloc, one.network(), PcgFate::new(0))?;
+    assert_eq!(rt; world.clock_at(0), Some(clock(5)));
+    assert_eq!(rt; world.clock_at(1), None);
+    let three = Document::read(alloc, THREE.as_bytes())?;
+    let world = World::new(alloc, three.network(), PcgFate::new(0))?;
+    assert_eq!(rt; world.clock_at(0), Some(clock(2)));
+    assert_eq!(rt; world.clock_at(1), Some(clock(5)));
+    assert_eq!(rt; world.clock_at(2), Some(clock(9)));
+    assert_eq!(rt; world.clock_at(3), None);
+    assert_eq!(rt; world.clock_at(usize::MAX), None);
+    Ok(())
+}
+
+/// The first port of the system with this number answers a request.
+fn answer(number: u64) -> Act
+    ensures { IsFitAct result }
+{
+    Act::Expire {
+        clock: clock(number),
+        timer: Timer::Respond(1),
+    }
+}
+
+/// The act at that time.
+fn timed(at: u64, act: Act) -> Timed
+    ensures at { result.at ≡ at }
+    ensures act { result.act ≡ act }
+{
+    Timed { at, act }
+}
+
+#[test]
+fn an_act_is_refused_by_the_first_test(rt: HostRuntime) -> Result<(), Fail> {
+    let alloc = rt.alloc();
+    let document = Document::read(alloc, TWO.as_bytes())?;
+    let mut world = World::new(alloc, document.network(), PcgFate::new(0))?;
+    assert_eq!(rt; world.act(timed(400, ARRIVAL)).err(), Some(Refused::NotDue));
+    assert_eq!(rt;
+        world.act(timed(600, ARRIVAL)).err(),
+        Some(Refused::Untimely)
+    );
+    assert_eq!(rt; world.act(timed(0, STRAY)).err(), Some(Refused::NoSuch));
+    assert_eq!(rt; world.now(), 0);
+    assert_eq!(rt; world.act(timed(500, ARRIVAL)).err(), None);
+    assert_eq!(rt; world.now(), 500);
+    assert_eq!(rt; world.advance(1_000), Ok(()));
+    assert_eq!(rt;
+        world.act(timed(500, STRAY)).err(),
+        Some(Refused::InThePast)
+    );
+    Ok(())
+}
+
+#[test]
+fn acts_of_one_moment_go_in_any_order(rt: HostRuntime) -> Result<(), Fail> {
+    let alloc = rt.alloc();
+    let document = Document::read(alloc, SPREAD.as_bytes())?;
+    // two requests, and the first answer; then every frame takes 900 ns
+    let fate = ListFate::new(vec![in alloc; Some(500), Some(500), Some(600)]?);
+    let mut world = World::new(alloc, document.network(), fate)?;
+    assert_eq!(rt; world.next(), Some(timed(500, ARRIVAL)));
+    assert_eq!(rt; world.act(timed(500, ARRIVAL_FROM_B)).err(), None);
+    assert_eq!(rt; world.next(), Some(timed(500, ARRIVAL)));
+    assert_eq!(rt; world.act(timed(500, ARRIVAL)).err(), None);
+    // each answers 1,000 ns later: the one that heard first is next
+    assert_eq!(rt; world.next(), Some(timed(1_500, answer(1))));
+    assert_eq!(rt; world.act(timed(1_500, answer(2))).err(), None);
+    assert_eq!(rt; world.next(), Some(timed(1_500, answer(1))));
+    assert_eq!(rt; world.act(timed(1_500, answer(1))).err(), None);
+    assert_eq!(rt; world.next(), Some(timed(2_100, ARRIVAL_FROM_B)));
+    assert_eq!(rt; world.now(), 1_500);
     Ok(())
 }

@@ -8,3 +8,5 @@ mod agenda;
 mod link;
 #[cfg(test)]
 mod text;
+#[cfg(test)]
+mod world;
