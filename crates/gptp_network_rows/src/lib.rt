@@ -6,6 +6,8 @@
 #[cfg(test)]
 mod document;
 #[cfg(test)]
+mod far;
+#[cfg(test)]
 mod pending;
 #[cfg(test)]
 mod world;

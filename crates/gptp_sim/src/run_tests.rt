@@ -63,6 +63,44 @@ port 0000000000000002 1 slave capable yes delay 32768000
     Ok(())
 }
 
+/// The same two systems, but the second clock gains 1 in 2^16: its drift is 2^41 / 2^16. In units of 2^-16 ns it shows
+/// 65537 for each ns.
+///
+/// The first measures 1,000 ns out and back at its own rate, and the answerer's 1,000 ns between: its neighbour rate is
+/// 2^25, so it finds (65536 * 2000 + 2000 - 65537 * 1000) / 2 = 32768500. The second finds a rate of -33553921, the floor
+/// of -2^41 / 65537, and a delay of 32767999. The last Sync left at 25.875 s. It came 500 ns later, at 65537 *
+/// 25875000500 and a phase of 65536 * 10^6; by origin and delay it came at 65536 * 25875000500 - 2.
+const DRIFTING: &str = "version = 1
+[[system]]
+clock = \"0000000000000001\"
+[[system]]
+clock = \"0000000000000002\"
+phase = 1000000
+drift = 33554432
+[[link]]
+a = \"0000000000000001\"
+a_port = 1
+b = \"0000000000000002\"
+b_port = 1
+min = 500
+max = 500
+";
+
+#[test]
+fn a_drifting_clock_runs_ahead(rt: HostRuntime) -> Result<(), Fail> {
+    let alloc = rt.alloc();
+    let (text, _) = ran(alloc, DRIFTING.as_bytes(), &TO_THE_END)?;
+    let want = "time 26000000000
+change 0 calm yes settle 26000000000
+system 0000000000000001 root f6f8fe436af80000000000000001 steps 0 gm yes slave none offset none
+port 0000000000000001 1 master capable yes delay 32768500
+system 0000000000000002 root f6f8fe436af80000000000000001 steps 1 gm yes slave 1 offset 91411000502
+port 0000000000000002 1 slave capable yes delay 32767999
+";
+    assert_eq!(rt; text.as_slice(), want.as_bytes());
+    Ok(())
+}
+
 #[test]
 fn frames_stand_before_the_report(rt: HostRuntime) -> Result<(), Fail> {
     let alloc = rt.alloc();
@@ -240,9 +278,8 @@ port 0000000000000003 2 passive capable yes delay 32768000
     Ok(())
 }
 
-#[test]
-fn a_ring_outlives_its_best_system(rt: HostRuntime) -> Result<(), Fail> {
-    let alloc = rt.alloc();
+/// A system with clock 1, a ring of clocks 2, 3 and 4 behind it, and the failure of the first at 40 s.
+fn ring(alloc: Global) -> Result<String, AllocError> {
     let one = system(alloc, "1", 1, "")?;
     let two = system(alloc, "2", 3, "")?;
     let three = system(alloc, "3", 2, "")?;
@@ -253,7 +290,13 @@ fn a_ring_outlives_its_best_system(rt: HostRuntime) -> Result<(), Fail> {
     let across = link(alloc, "3", 2, "4", 2)?;
     let failure = "[[event]]\nat = 40000000000\nkind = \"fail\"\nclock = \"0000000000000001\"\n";
     let systems = format!(in alloc; "version = 1\n{one}{two}{three}{four}")?;
-    let document = format!(in alloc; "{systems}{head}{left}{right}{across}{failure}")?;
+    format!(in alloc; "{systems}{head}{left}{right}{across}{failure}")
+}
+
+#[test]
+fn a_ring_outlives_its_best_system(rt: HostRuntime) -> Result<(), Fail> {
+    let alloc = rt.alloc();
+    let document = ring(alloc)?;
     let (text, _) = ran(alloc, document.as_bytes(), &TO_THE_END)?;
     let want = "time 72000000000
 change 40000000000 calm yes settle 72000000000
@@ -270,6 +313,31 @@ port 0000000000000004 1 slave capable yes delay 32768000
 port 0000000000000004 2 passive capable yes delay 32768000
 ";
     assert_eq!(rt; text.as_slice(), want.as_bytes());
+    Ok(())
+}
+
+/// Whether a line tells that system 2 heard at port 3 an Announce that had passed it, over the systems 1, 2, 3 and 4.
+fn tells_of_the_loop(line: &str) -> bool {
+    line.contains(" 0000000000000002 3 announce loop ")
+        && line.ends_with("0000000000000001000000000000000200000000000000030000000000000004")
+}
+
+#[test]
+fn an_announce_that_comes_round_is_a_loop(rt: HostRuntime) -> Result<(), Fail> {
+    let alloc = rt.alloc();
+    let document = ring(alloc)?;
+    let options = RunOptions {
+        until: None,
+        seed: 1,
+        frames: true,
+    };
+    let (text, _) = ran(alloc, document.as_bytes(), &options)?;
+    let text = str::from_utf8(text.as_slice())?;
+    let mut told = false;
+    for line in text.lines() {
+        told |= tells_of_the_loop(line);
+    }
+    assert!(rt; told);
     Ok(())
 }
 
