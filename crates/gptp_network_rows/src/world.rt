@@ -155,6 +155,28 @@ fn an_act_is_refused_by_the_first_test(rt: HostRuntime) -> Result<(), Fail> {
     Ok(())
 }
 
+/// A frame that is due, and one that would have been due before.
+const ONE_TOO_LATE: [Timed; 2] = [
+    Timed {
+        at: 500,
+        act: ARRIVAL,
+    },
+    Timed {
+        at: 400,
+        act: ARRIVAL_FROM_B,
+    },
+];
+
+#[test]
+fn a_list_of_acts_stops_at_the_first_refusal(rt: HostRuntime) -> Result<(), Fail> {
+    let alloc = rt.alloc();
+    let document = Document::read(alloc, TWO.as_bytes())?;
+    let mut world = World::new(alloc, document.network(), PcgFate::new(0))?;
+    assert_eq!(rt; world.play(&ONE_TOO_LATE), Err((1, Refused::InThePast)));
+    assert_eq!(rt; world.now(), 500);
+    Ok(())
+}
+
 #[test]
 fn acts_of_one_moment_go_in_any_order(rt: HostRuntime) -> Result<(), Fail> {
     let alloc = rt.alloc();
