@@ -8,7 +8,7 @@ use crate::state::State;
 use crate::timer::Timer;
 use gptp_roles::Role;
 use gptp_scaled::ScaledNs;
-use gptp_vector::{Identity, Trace};
+use gptp_vector::{Identity, PortId, Trace};
 use std::marker::Model;
 
 /// One gPTP system in one domain: an end station or a time-aware bridge. Between its calls it is at rest: selecting
@@ -41,7 +41,7 @@ impl System {
     ghost use Rattle.gptp_pdelay.specs.Peer.{delay_of};
     ghost use Rattle.gptp_system.specs.Reach.{frame_reach, timer_reach};
     ghost use Rattle.gptp_system.specs.Start.{role_at, started};
-    ghost use Rattle.gptp_system.specs.State.{due, is_capable_at, local_time, number, trace};
+    ghost use Rattle.gptp_system.specs.State.{due, is_capable_at, local_time, number, parent, trace};
     ghost use Rattle.gptp_system.specs.Steps.{Expires, HearsFrame, IsDue, IsPortOf, IsTimerOf, IsUp};
 
     /// A system as it starts at `now`, in ns: its own root, with all ports Disabled until their links come up. The setup
@@ -124,6 +124,14 @@ impl System {
         ensures slave { result.2 ≡ self.now.slave }
     {
         (self.state.root, self.state.steps, self.state.slave)
+    }
+
+    /// The number of the Slave port, if there is one, and the port at the other end that it follows (parentPortIdentity,
+    /// IEEE 1588-2019, 8.2.3.2).
+    pub fn parent(&self) -> Option<(u8, PortId)>
+        ensures { result ≡ parent self.now }
+    {
+        self.state.parent()
     }
 
     /// How far its local clock is ahead of the grandmaster's, in 2^-16 ns, where time has come over its Slave port.

@@ -5,7 +5,7 @@ ghost use Rattle.std.specs.List.{AllByRecursion};
 ghost use Rattle.std.specs.Option.{option_and_then, option_map_or};
 ghost use Rattle.gptp_system.specs.Ready.{IsPort, IsRecent};
 ghost use Rattle.gptp_system.specs.Start.{role_by};
-ghost use Rattle.gptp_system.specs.State.{age_due, announce_due, number};
+ghost use Rattle.gptp_system.specs.State.{age_due, announce_due, number, source_of};
 
 use crate::announcing::span_of;
 use crate::port::Port;
@@ -15,7 +15,7 @@ use crate::timer::Timer;
 use gptp_receipt::{Held, due};
 use gptp_roles::{Role, slave_trace};
 use gptp_scaled::ScaledNs;
-use gptp_vector::Trace;
+use gptp_vector::{PortId, Trace};
 
 /// The role of a port that holds this, in a system at rest.
 fn role_by(is_slave: bool, held: &Held) -> Role
@@ -76,6 +76,16 @@ fn age_at(params: &Params, ports: &[Port], held: &[Held], port: u8) -> Option<u6
     due(&held[place], span_of(params, &ports[place]))
 }
 
+/// The port that what is held came from.
+fn source_of(held: &Held) -> Option<PortId>
+    ensures { result ≡ source_of held.now }
+{
+    match held {
+        Held::Received { vector, .. } => Some(vector.source),
+        Held::Disabled | Held::Aged | Held::Mine { .. } => None,
+    }
+}
+
 impl State {
     ghost use Rattle.std.specs.Prelude.{◌≡◌, ◌≤◌, length};
     ghost use Rattle.gptp_roles.specs.SystemTrace.{SlaveReceived};
@@ -83,7 +93,7 @@ impl State {
     ghost use Rattle.gptp_system.specs.Ready.{IsReady, state_of};
     ghost use Rattle.gptp_system.specs.Start.{role_at};
     ghost use Rattle.std.specs.Option.{option_and_then};
-    ghost use Rattle.gptp_system.specs.State.{due, number, trace};
+    ghost use Rattle.gptp_system.specs.State.{due, number, parent, trace};
     ghost use Rattle.gptp_system.specs.Steps.{IsTimerOf};
 
     /// The path trace that the system announces.
@@ -92,6 +102,16 @@ impl State {
         ensures { result ≡ trace (state_of self.now) }
     {
         slave_trace(self.identity.clock(), self.held.as_slice(), self.slave)
+    }
+
+    /// The number of the Slave port, and the port that it follows.
+    pub(crate) fn parent(&self) -> Option<(u8, PortId)>
+        requires { SlaveReceived (state_of self.now).held (state_of self.now).slave }
+        ensures { result ≡ parent (state_of self.now) }
+    {
+        let slave = self.slave?;
+        let source = source_of(&self.held[usize::from(slave) - 1])?;
+        Some((slave, source))
     }
 
     /// How many ports the system has.

@@ -1,5 +1,6 @@
 -- What changes make of the systems and links of a network (profile).
-use Rattle.std.specs.Prelude.{ℕ, ◌+◌, ◌*◌, ◌%◌, ◌^◌, Bool, true, false, ◌||◌, ◌==◌, if◌then◌else◌, List, [], ◌∷◌}
+use Rattle.std.specs.Prelude.{ℕ, ◌+◌, ◌*◌, ◌%◌, ◌^◌, Bool, true, false, ◌||◌, ◌==◌, if◌then◌else◌, List, [], ◌∷◌, Option, Some, None}
+use Rattle.gptp_vector.specs.declared.port.PortId.{PortId}
 use Rattle.gptp_roles.specs.Selection.{clock_of}
 use Rattle.gptp_world.specs.Network.{same_port}
 use Rattle.gptp_world.specs.declared.calm.Standing.{Standing}
@@ -79,3 +80,11 @@ link_after (t ∷ ts) w = link_after ts (link_acted t.act w)
 -- a system after these acts
 abbrev pub system_after : List Timed → Member → Standing
 system_after ts m = system_stands ts (clock_of m.identity) (standing m)
+
+-- a system that lives after these acts: its identity then, and how many ports it has
+abbrev pub live_after : List Timed → Member → Option (ℕ × ℕ)
+live_after ts m = if (system_after ts m).live then Some ((system_after ts m).identity, m.ports) else None
+
+-- the ports of a link that is up after these acts
+abbrev pub joined_after : List Timed → Wire → Option (PortId × PortId)
+joined_after ts w = if (link_after ts w).up then Some (w.a, w.b) else None

@@ -2,7 +2,7 @@
 
 ghost use Rattle.std.specs.Prelude.{◌≡◌, ◌↔◌, ◌≤◌, ◌+◌, ◌*◌, ℕ, IsTrue, true, length};
 ghost use Rattle.gptp_world.specs.Calm.{IsLive, IsUsed, IsQuiet, Rests, AllRest};
-ghost use Rattle.gptp_world.specs.Change.{standing, is_at, system_changed, link_changed, system_acted, link_acted, system_after, link_after};
+ghost use Rattle.gptp_world.specs.Change.{standing, is_at, system_changed, link_changed, system_acted, link_acted, system_after, link_after, live_after, joined_after};
 ghost use Rattle.gptp_world.specs.Params.{KeepParams};
 ghost use Rattle.gptp_world.specs.SettlingTime.{live_systems, settling_span};
 
@@ -171,6 +171,29 @@ fn link_after(events: &[Timed], wire: &Wire) -> Wire
         after = link_acted(&event.act, after);
     }
     after
+}
+
+/// A system that lives after these events: its identity then, and how many ports it has.
+pub(crate) fn live_after(events: &[Timed], member: &Member) -> Option<(Identity, u8)>
+    ensures { result ≡ live_after events.now member.now }
+{
+    let system = system_after(events, member);
+    if system.live {
+        Some((system.identity, member.ports))
+    } else {
+        None
+    }
+}
+
+/// The ports of a link that is up after these events.
+pub(crate) fn joined_after(events: &[Timed], wire: &Wire) -> Option<(PortId, PortId)>
+    ensures { result ≡ joined_after events.now wire.now }
+{
+    if link_after(events, wire).up {
+        Some((wire.a, wire.b))
+    } else {
+        None
+    }
 }
 
 /// Whether the system with this clock lives after these events.

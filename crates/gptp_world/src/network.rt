@@ -1,16 +1,17 @@
 //! Networks.
 
 ghost use Rattle.std.specs.Prelude.{◌≡◌, ◌↔◌, ◌≤◌, IsTrue, ◌&&◌, ◌||◌, true, false, length, OnOk, OnErr, IfOk, option_copied, slice_get, None, Some, IfErr};
-ghost use Rattle.std.specs.Option.{option_map};
+ghost use Rattle.std.specs.Option.{option_and_then, option_map};
 ghost use Rattle.gptp_world.specs.Faults.{IsRefusal};
 ghost use Rattle.gptp_world.specs.Params.{params_fault};
 ghost use Rattle.gptp_world.specs.Network.{member, wire, without_members, with_system, with_link, is_member_in_range, is_wire_in_range, are_bounds_in_range, has_clock, has_port, is_taken, same_port, system_fault, link_fault, IsNetwork, IsMember, IsPort, IsFree, IsFresh, CanAddSystem, CanAddLink};
 ghost use Rattle.gptp_links.specs.Bounds.{Fit};
 ghost use Rattle.gptp_world.specs.Calm.{IsCalm};
+ghost use Rattle.gptp_world.specs.Change.{joined_after, live_after};
 ghost use Rattle.gptp_world.specs.SettlingTime.{live_systems, settling_span};
 ghost use Rattle.gptp_system.specs.Intervals.{interval_of};
 
-use crate::calm::{is_calm, live_systems, settling_span};
+use crate::calm::{is_calm, joined_after, live_after, live_systems, settling_span};
 use crate::change::Timed;
 use crate::fault::NetworkFault;
 use crate::params::{interval_of, is_between, params_fault};
@@ -209,6 +210,20 @@ impl Network {
         ensures { result ≡ interval_of self.now.params.announce }
     {
         interval_of(self.params.announce)
+    }
+
+    /// The system at a place, from 0, where it lives after these events: its identity then, and how many ports it has.
+    pub fn live_after(&self, place: usize, events: &[Timed]) -> Option<(Identity, u8)>
+        ensures { result ≡ option_and_then (live_after events.now) (slice_get self.now.systems place) }
+    {
+        live_after(events, self.systems.as_slice().get(place)?)
+    }
+
+    /// The ports that the link at a place, from 0, joins, where it is up after these events.
+    pub fn joined_after(&self, place: usize, events: &[Timed]) -> Option<(PortId, PortId)>
+        ensures { result ≡ option_and_then (joined_after events.now) (slice_get self.now.links place) }
+    {
+        joined_after(events, self.links.as_slice().get(place)?)
     }
 
     /// Whether the network is calm after these events: each link that then is up between two live systems loses nothing,
