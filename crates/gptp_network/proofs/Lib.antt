@@ -1,2 +1,5 @@
 pub mod EventLemmas
 pub mod MemberLemmas
+pub mod SearchLemmas
+pub mod SnapshotLemmas
+pub mod TakingLemmas

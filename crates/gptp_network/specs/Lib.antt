@@ -6,3 +6,5 @@ pub mod Systems
 pub mod Links
 pub mod Events
 pub mod Document
+pub mod Snapshot
+pub mod SnapshotTables

@@ -7,16 +7,18 @@ ghost use Rattle.gptp_world.specs.Playing.{AreAllowed};
 ghost use Rattle.gptp_world.specs.SettlingTime.{settles};
 ghost use Rattle.gptp_network.specs.Events.{AreEvents};
 ghost use Rattle.gptp_network.specs.Faults.{Refuses};
+ghost use Rattle.gptp_network.specs.Snapshot.{IsSnapshot};
 ghost use Rattle.gptp_network.specs.Document.{document_of, whole_network_of, Parses, Means, Fails, IsNoToml};
 
-use crate::events::{events_of, last_change};
+use crate::events::{events_by, events_of, last_change};
 use crate::fault::DocumentFault;
 use crate::links::add_links;
 use crate::params::network_of;
+use crate::snapshot::Snapshot;
 use crate::systems::add_systems;
 use crate::values::natural;
 use gptp_world::{Network, Timed};
-use std::alloc::Global;
+use std::alloc::{AllocError, Global};
 use std::marker::Model;
 use toml::Table;
 
@@ -66,6 +68,14 @@ impl Document {
         ensures { result.now ≡ self.now.network }
     {
         &self.network
+    }
+
+    /// The network as it stands at a time, in ns: the live systems, and the links that are up between two of them, after all
+    /// events with time up to it. Refused for want of memory alone.
+    pub fn snapshot(&self, alloc: Global, at: u64) -> Result<Snapshot, AllocError>
+        ensures { IfOk result (IsSnapshot self.now at) }
+    {
+        Snapshot::after(alloc, &self.network, events_by(&self.events, at))
     }
 
     /// The time of the last event, in ns, or 0.

@@ -6,7 +6,8 @@ ghost use Rattle.gptp_world.specs.Calm.{last_change};
 ghost use Rattle.gptp_network.specs.Faults.{Refuses};
 ghost use Rattle.gptp_network.specs.Members.{each_of};
 ghost use Rattle.gptp_network.specs.Values.{natural};
-ghost use Rattle.gptp_network.specs.Events.{link_down_of, link_up_of, link_set_of, fail_of, recover_of, priority1_of, change_of, event_of, link_fault_at, system_fault_at, change_fault, timed, with_event_of, events_of, AreEvents, IsInRange, IsChange};
+ghost use Rattle.gptp_network.specs.Events.{link_down_of, link_up_of, link_set_of, fail_of, recover_of, priority1_of, change_of, event_of, link_fault_at, system_fault_at, change_fault, timed, with_event_of, events_of, AreEvents, AreInOrder, IsInRange, IsChange};
+ghost use Rattle.gptp_network.specs.Snapshot.{events_by};
 
 use crate::fault::DocumentFault;
 use crate::links::{delay, port_number};
@@ -195,6 +196,15 @@ pub(crate) fn last_change(events: &[Timed]) -> u64
         Some(event) => event.at,
         None => 0,
     }
+}
+
+/// The events up to a time, of events in order.
+pub(crate) fn events_by(events: &[Timed], until: u64) -> &[Timed]
+    requires { AreInOrder events.now }
+    ensures { result.now ≡ events_by until events.now }
+{
+    let count = events.partition_point(|event| event.at <= until);
+    &events[..count]
 }
 
 /// Puts an event behind the others.

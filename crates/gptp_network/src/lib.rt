@@ -3,7 +3,7 @@
 //! A [`Document`] is read from such a text exactly where no test fails (memory aside), and is refused by the first test
 //! that does. It is the network and the events that the text means: `specs/` lists the keys of each section in their
 //! order, with their ranges and defaults. It tells whether the network is calm after its last event, and by when it has
-//! settled then.
+//! settled then, and gives the network as it stands at a time, as a [`Snapshot`].
 #![tactic(auto)]
 
 mod document;
@@ -12,8 +12,11 @@ mod fault;
 mod links;
 mod members;
 mod params;
+mod snapshot;
 mod systems;
+mod taking;
 mod values;
 
 pub use document::Document;
 pub use fault::DocumentFault;
+pub use snapshot::Snapshot;

@@ -8,8 +8,8 @@ use Rattle.gptp_world.specs.World.{WorldState}
 use Rattle.gptp_network.specs.Document.{DocumentState}
 use Rattle.gptp_report.specs.Following.{ChangedIf, Showed}
 use Rattle.gptp_report.specs.Lines.{text_of}
-use Rattle.gptp_report.specs.Report.{Reports}
-use Rattle.gptp_report.specs.Run.{events_by, Goes, RunLines, ShowsIf}
+use Rattle.gptp_network.specs.Snapshot.{events_by}
+use Rattle.gptp_report.specs.Run.{Goes, LeadsTo, ShowsIf}
 use Rattle.gptp_report.proofs.FollowLemmas.{shows-append, written_more}
 
 -- ---- lines that are asked for, or aren't
@@ -96,25 +96,17 @@ module _ {F : Type 0} (answers : Bounds → ℕ → F → Option ℕ → F → T
 
   -- ---- the whole
 
-  -- the lines of the frames, and then the report, are the text of the run
-  pub run_lines : (d : DocumentState) (until : ℕ) (frames : Bool) (fate started drawn : F) (start world : WorldState)
-      (before middle after : List ℕ) (told : List Told) (report : List (List ℕ)) → before ≡ []
+  pub leads_to : (d : DocumentState) (until : ℕ) (frames : Bool) (fate started drawn : F) (start world : WorldState)
+      (before after : List ℕ) (told : List Told)
       → Begun answers d.network fate started start
-      → Goes answers until (events_by until d.events) told started drawn start world → Showed frames told before middle
-      → Reports d until world report → after ≡ middle ++ text_of report
-      → (lines : List (List ℕ)) × RunLines answers d until frames fate lines × (after ≡ text_of lines)
-  run_lines d until frames fate started drawn start world before middle after told report none begun goes showed reports written = (
-    showed.lines ++ report,
+      → Goes answers until (events_by until d.events) told started drawn start world → Showed frames told before after
+      → (lines : List (List ℕ)) × LeadsTo answers d until frames fate world lines × (after ≡ before ++ text_of lines)
+  leads_to d until frames fate started drawn start world before after told begun goes showed = (
+    showed.lines,
     record {
       told = told;
-      world = world;
       plays = record { started = started; start = start; begun = begun; drawn = drawn; goes = goes };
-      shown = showed.lines;
       shows = showed.shows;
-      report = report;
-      reports = reports;
-      are = refl;
     },
-    written_more showed.lines report before middle after showed.is written
-        ∙ ap (λ t. t ++ text_of (showed.lines ++ report)) none,
+    showed.is,
   )

@@ -1,8 +1,8 @@
--- What a document does up to a time, and the text of that (profile).
-use Rattle.std.specs.Prelude.{◌≡◌, ℕ, nat_le, Bool, true, false, List, [], ◌∷◌, ◌++◌, Option}
-use Rattle.std.specs.List.{filter}
+-- What a document does up to a time, and the lines of the frames meanwhile (profile).
+use Rattle.std.specs.Prelude.{◌≡◌, ℕ, Bool, true, false, List, [], ◌∷◌, ◌++◌, Option}
 use Rattle.gptp_links.specs.declared.bounds.Bounds.{Bounds}
 use Rattle.gptp_network.specs.Document.{DocumentState}
+use Rattle.gptp_network.specs.Snapshot.{events_by}
 use Rattle.gptp_world.specs.declared.change.Timed.{Timed}
 use Rattle.gptp_world.specs.declared.done.Done.{Done}
 use Rattle.gptp_world.specs.declared.done.Done.TheVariants.{Quiet, Heard}
@@ -11,11 +11,6 @@ use Rattle.gptp_world.specs.Scene.{Begun, WasDone}
 use Rattle.gptp_world.specs.World.{WorldState}
 use Rattle.gptp_report.specs.declared.frame_line.FrameType.{FrameType}
 use Rattle.gptp_report.specs.FrameLine.{frame_line, IsOfType}
-use Rattle.gptp_report.specs.Report.{Reports}
-
--- the events up to a time, in their order
-abbrev pub events_by : ℕ → List Timed → List Timed
-events_by until = filter (λ (t : Timed). nat_le t.at until)
 
 -- A change is made once all that is due by its time has happened, and leads from one state to another.
 pub record Changed {F : Type 0} (answers : Bounds → ℕ → F → Option ℕ → F → Type 0) (event : Timed) (told : List Told)
@@ -61,14 +56,9 @@ abbrev pub ShowsIf : Bool → List Told → List (List ℕ) → Type 0
 ShowsIf true told lines = ShowsFrames told lines
 ShowsIf false told lines = lines ≡ []
 
--- The text of a run: the lines of its frames, where they are asked for, and the report of the world that it leads to.
-pub record RunLines {F : Type 0} (answers : Bounds → ℕ → F → Option ℕ → F → Type 0) (d : DocumentState) (until : ℕ)
-    (frames : Bool) (fate : F) (lines : List (List ℕ)) : Type 0 where
+-- A document leads to this world by a time, and to the lines of the frames meanwhile, where they are asked for.
+pub record LeadsTo {F : Type 0} (answers : Bounds → ℕ → F → Option ℕ → F → Type 0) (d : DocumentState) (until : ℕ)
+    (frames : Bool) (fate : F) (w : WorldState) (lines : List (List ℕ)) : Type 0 where
   pub told : List Told
-  pub world : WorldState
-  pub plays : Plays answers d until fate told world
-  pub shown : List (List ℕ)
-  pub shows : ShowsIf frames told shown
-  pub report : List (List ℕ)
-  pub reports : Reports d until world report
-  pub are : lines ≡ shown ++ report
+  pub plays : Plays answers d until fate told w
+  pub shows : ShowsIf frames told lines

@@ -54,7 +54,7 @@ fn done_of<F: Fate + Drop>(world: &mut World<F>, timed: Timed) -> Result<Done, A
 {
     match world.act(timed) {
         Ok(done) => Ok(done),
-        // so that only memory can be wanting
+        // it is there and due
         Err(_) => Err(AllocError),
     }
 }
@@ -142,7 +142,7 @@ fn advance<F: Fate + Drop>(world: &mut World<F>, until: u64) -> Result<(), Alloc
 {
     match world.advance(until) {
         Ok(()) => Ok(()),
-        // no time of a run lies before another, so that only memory can be wanting
+        // no time of a run lies before another
         Err(_) => Err(AllocError),
     }
 }

@@ -1,14 +1,14 @@
 //! Runs of documents.
 
-ghost use Rattle.std.specs.Prelude.{◌≡◌, ◌≤◌, ℕ, List, IfOk, OnOk, nat_le, string_bytes};
+ghost use Rattle.std.specs.Prelude.{◌≡◌, ◌++◌, ◌≤◌, ℕ, List, IfOk, OnOk, nat_le, string_bytes};
 ghost use Rattle.gptp_world.specs.Advancing.{Told};
 ghost use Rattle.gptp_world.specs.Playing.{AreAllowed, IsAllowed, IsPlayed};
 ghost use Rattle.gptp_report.specs.Following.{ChangedIf, Showed};
 ghost use Rattle.gptp_report.specs.Lines.{text_of};
-ghost use Rattle.gptp_report.specs.Run.{events_by, Changed, Goes, RunLines};
+ghost use Rattle.gptp_network.specs.Snapshot.{events_by};
+ghost use Rattle.gptp_report.specs.Run.{Changed, Goes, LeadsTo};
 
 use crate::following::go_on;
-use crate::report::write_report;
 use gptp_links::Fate;
 use gptp_network::Document;
 use gptp_world::{Timed, World};
@@ -21,7 +21,7 @@ fn change<F: Fate + Drop>(world: &mut World<F>, event: Timed) -> Result<(), Allo
 {
     match world.act(event) {
         Ok(_) => Ok(()),
-        // nothing is due before it, and what it is about is there, so that only memory can be wanting
+        // nothing is due before it, and what it is about is there
         Err(_) => Err(AllocError),
     }
 }
@@ -75,25 +75,25 @@ fn play<F: Fate + Drop>(
     go_on(world, until, frames, text)
 }
 
-/// The text of a run: the world of a document begins at time 0 and goes on up to a time, at most 10^15 ns, with the events
-/// of the document up to then. All that is due by the time of an event happens before it. Where frames are asked for, a
-/// line tells of each frame that reached a port, in order of delivery; the report of the world follows.
+/// The world of a document as it is at a time, at most 10^15 ns: it begins at time 0, and goes on with the events of the
+/// document up to then. All that is due by the time of an event happens before it. Where frames are asked for, a line is
+/// appended to the text for each frame that reached a port, in order of delivery.
 ///
-/// Refused for want of memory alone.
-pub fn run_text<F: Fate + Drop>(
+/// The error is that an act was refused, which is meant to be for want of memory alone; that it is so isn't promised. What
+/// is appended then may be cut.
+pub fn run_document<F: Fate + Drop>(
     alloc: Global,
     document: &Document,
     fate: F,
     until: u64,
     frames: bool,
-) -> Result<String, AllocError>
+    text: &mut String,
+) -> Result<World<F>, AllocError>
     requires moment { until ≤ 1000000000000000 }
-    ensures { IfOk result (λ text. (lines : List (List ℕ)) × RunLines F.answers document.now until frames fate lines × (string_bytes text ≡ text_of lines)) }
+    ensures { IfOk result (λ world. (lines : List (List ℕ)) × LeadsTo F.answers document.now until frames fate world.scene lines × (string_bytes text.new ≡ string_bytes text.old ++ text_of lines)) }
 {
     document.well_formed();
     let mut world = World::new(alloc, document.network(), fate)?;
-    let mut text = String::new(alloc);
-    play(&mut world, document.events(), until, frames, &mut text)?;
-    write_report(&mut text, document, until, &world)?;
-    Ok(text)
+    play(&mut world, document.events(), until, frames, text)?;
+    Ok(world)
 }
