@@ -1,0 +1,266 @@
+-- The lines of systems, put one behind another by rising clock, are those of all live systems.
+use Rattle.std.proofs.Common.{◌≡◌, ◌⊎◌, ◌<◌, ◌≤◌, ◌+◌, ℕ, zero, suc, nat_le, Bool, true, false, if◌then◌else◌, List, [], ◌∷◌, ◌++◌, length, map, drop, get_or, slice_get, Some, refl, sym, ap, subst, ◌∙◌, inl, inr, arith, append_assoc, append-nil}
+use Rattle.std.proofs.lemmas.Bool.Decides.{nat_tests}
+use Rattle.std.proofs.lemmas.List.{drop_more}
+use Rattle.std.proofs.lemmas.Option.{same_Some, slice_get-get_or, slice_get_within}
+use Rattle.std.specs.List.{range_with_len}
+use Rattle.gptp_graph.specs.Labelling.{PortLine, SystemLine, line_clocks, port_numbers}
+use Rattle.gptp_graph.specs.Members.{In, Different}
+use Rattle.gptp_graph.specs.Order.{IsRising}
+use Rattle.gptp_graph.proofs.MemberLemmas.{In-map, In-slice_get, from_map, slice_get-In}
+use Rattle.gptp_system.specs.State.{SystemState, clock}
+use Rattle.gptp_world.specs.Acts.{AtSystem}
+use Rattle.gptp_world.specs.Sound.{HaveOwnClocks}
+use Rattle.gptp_world.specs.Views.{put_rising, rising, rising_clocks}
+use Rattle.gptp_world.specs.World.{WorldState}
+use Rattle.gptp_world.specs.declared.station.Station.{Station}
+use Rattle.gptp_world.proofs.RisingLemmas.{rising_clocks-count}
+use Rattle.gptp_certificate.specs.Certificate.{AreInOrder}
+use Rattle.gptp_certificate.specs.Stated.{stated_line, stated_port, States}
+use Rattle.gptp_certificate.specs.Stating.{stated_if, Adds}
+
+-- ---- numbers in rising order have the same members, and rise where they differ
+
+put_in : (n x y : ℕ) (xs : List ℕ) (t : Bool) → nat_le n x ≡ t → ((y ≡ n) ⊎ In y xs → In y (put_rising n xs))
+    → (y ≡ n) ⊎ In y (x ∷ xs) → In y (put_rising n (x ∷ xs))
+put_in n x y xs true e rest h = rw e h
+put_in n x y xs false e rest (inl own) = rw e (inr (rest (inl own)))
+put_in n x y xs false e rest (inr (inl first)) = rw e (inl first)
+put_in n x y xs false e rest (inr (inr later)) = rw e (inr (rest (inr later)))
+
+In-put : (n y : ℕ) (xs : List ℕ) → (y ≡ n) ⊎ In y xs → In y (put_rising n xs)
+In-put n y [] h = h
+In-put n y (x ∷ xs) h = put_in n x y xs (nat_le n x) refl (In-put n y xs) h
+
+put_from : (n x y : ℕ) (xs : List ℕ) (t : Bool) → nat_le n x ≡ t → (In y (put_rising n xs) → (y ≡ n) ⊎ In y xs)
+    → In y (put_rising n (x ∷ xs)) → (y ≡ n) ⊎ In y (x ∷ xs)
+put_from n x y xs true e rest h = rw e at h
+put_from n x y xs false e rest h = behind (rw e at h)
+  where
+    behind : In y (x ∷ put_rising n xs) → (y ≡ n) ⊎ In y (x ∷ xs)
+    behind (inl first) = inr (inl first)
+    behind (inr k) = elim (rest k) [ inl own ↦ inl own | inr later ↦ inr (inr later) ]
+
+from_put : (n y : ℕ) (xs : List ℕ) → In y (put_rising n xs) → (y ≡ n) ⊎ In y xs
+from_put n y [] h = h
+from_put n y (x ∷ xs) h = put_from n x y xs (nat_le n x) refl (from_put n y xs) h
+
+In-rising : (y : ℕ) (ns : List ℕ) → In y ns → In y (rising ns)
+In-rising y [] h = h
+In-rising y (n ∷ ns) (inl own) = In-put n y (rising ns) (inl own)
+In-rising y (n ∷ ns) (inr h) = In-put n y (rising ns) (inr (In-rising y ns h))
+
+from_rising : (y : ℕ) (ns : List ℕ) → In y (rising ns) → In y ns
+from_rising y [] h = h
+from_rising y (n ∷ ns) h = elim (from_put n y (rising ns) h) [ inl own ↦ inl own | inr k ↦ inr (from_rising y ns k) ]
+
+put_rises-step : (n x : ℕ) (xs : List ℕ) (t : Bool) → nat_le n x ≡ t → (n ≡ x → ⊥) → IsRising (x ∷ xs)
+    → IsRising (put_rising n xs) → IsRising (put_rising n (x ∷ xs))
+put_rises-step n x xs true e other up rest =
+    let le : n ≤ x = grind (arith, nat_tests) in
+    let below : n < x = less le other in
+    rw e ((λ y k. elim k [ inl same ↦ subst (λ m. n < m) (sym same) below | inr i ↦ (let b : x < y = up.0 y i in omega arith) ]), up)
+  where
+    less : n ≤ x → (n ≡ x → ⊥) → n < x
+    less le differ = omega arith
+put_rises-step n x xs false e other up rest =
+    let above : x < n = grind (arith, nat_tests) in
+    rw e ((λ y k. elim (from_put n y xs k) [ inl same ↦ subst (λ m. x < m) (sym same) above | inr i ↦ up.0 y i ]), rest)
+
+put_rises : (n : ℕ) (xs : List ℕ) → (In n xs → ⊥) → IsRising xs → IsRising (put_rising n xs)
+put_rises n [] new up = ((λ y k. absurd k), tt)
+put_rises n (x ∷ xs) new up =
+    put_rises-step n x xs (nat_le n x) refl (λ e. new (inl e)) up (put_rises n xs (λ k. new (inr k)) up.1)
+
+rising_rises : (ns : List ℕ) → Different ns → IsRising (rising ns)
+rising_rises [] d = tt
+rising_rises (n ∷ ns) d = put_rises n (rising ns) (λ k. d.0 (from_rising n ns k)) (rising_rises ns d.1)
+
+-- ---- the clocks of a world
+
+abbrev clock_of_station : Station → ℕ
+clock_of_station s = clock s.system
+
+-- stations whose places are known by their clocks have different ones
+own_clocks : (xs : List Station) → ((i j : ℕ) (a b : Station) → slice_get xs i ≡ Some a → slice_get xs j ≡ Some b
+    → clock a.system ≡ clock b.system → i ≡ j) → Different (map clock_of_station xs)
+own_clocks [] own = tt
+own_clocks (x ∷ xs) own = (
+  (λ k. let (y, at, e) = from_map clock_of_station (clock x.system) xs k in
+      let (j, there) = slice_get-In y xs at in
+      let same : 0 ≡ suc j = own 0 (suc j) x y refl there (sym e) in absurd (omega arith)),
+  own_clocks xs (λ i j a b p q e. let same : suc i ≡ suc j = own (suc i) (suc j) a b p q e in omega arith),
+)
+
+clocks_rise : (w : WorldState) → HaveOwnClocks w → IsRising (rising_clocks w)
+clocks_rise w own = rising_rises (map clock_of_station w.stations) (own_clocks w.stations own)
+
+-- ---- the lines of the systems with some clocks, one behind another
+
+abbrev AreLines : List ℕ → WorldState → List SystemLine → Type 0
+AreLines [] w lines = lines ≡ []
+AreLines (name ∷ names) w lines = (rest : List SystemLine)
+    × AtSystem name w (λ place station. lines ≡ stated_if station ++ rest) × AreLines names w rest
+
+-- The lines of some systems are there, and those of the systems that are left make them those of all.
+pub record StatedSoFar (names left : List ℕ) (w : WorldState) (lines : List SystemLine) : Type 0 where
+  pub more : (rest : List SystemLine) → AreLines left w rest → AreLines names w (lines ++ rest)
+
+pub stated_none : (names : List ℕ) (w : WorldState) → StatedSoFar names names w []
+stated_none names w = record { more = λ rest are. are }
+
+stated_more : (names : List ℕ) (name : ℕ) (left : List ℕ) (w : WorldState) (before after : List SystemLine)
+    → StatedSoFar names (name ∷ left) w before → Adds name w before after → StatedSoFar names left w after
+stated_more names name left w before after so_far one = record {
+  more = λ rest are. subst (AreLines names w) (sym (ap (λ (ls : List SystemLine). ls ++ rest) one.so ∙ append_assoc before (stated_if one.station) rest))
+      (so_far.more (stated_if one.station ++ rest)
+      (rest, record { place = one.place; station = one.station; is = one.is; so = refl }, are));
+}
+
+drop_here : (xs : List ℕ) (place x : ℕ) → slice_get xs place ≡ Some x → drop place xs ≡ x ∷ drop (place + 1) xs
+drop_here xs place x here =
+    let within = slice_get_within xs place x here in
+    let is : get_or xs place x ≡ x = same_Some (get_or xs place x) x (sym (slice_get-get_or xs place x within) ∙ here) in
+    drop_more xs place x within ∙ ap (λ y. y ∷ drop (place + 1) xs) is
+
+-- the system at a place by rising clock is the next
+pub stated_next : (w : WorldState) (place : ℕ) (before after : List SystemLine) → place < length w.stations
+    → StatedSoFar (rising_clocks w) (drop place (rising_clocks w)) w before
+    → ((name : ℕ) → slice_get (rising_clocks w) place ≡ Some name → Adds name w before after)
+    → StatedSoFar (rising_clocks w) (drop (place + 1) (rising_clocks w)) w after
+stated_next w place before after below so_far adds =
+    let names = rising_clocks w in
+    let name = get_or names place 0 in
+    let here : slice_get names place ≡ Some name = slice_get-get_or names place 0 (rw (rising_clocks-count w) below) in
+    stated_more names name (drop (place + 1) names) w before after
+    (subst (λ left. StatedSoFar names left w before) (drop_here names place name here) so_far) (adds name here)
+
+-- ---- these are those of the live systems, and rise
+
+-- of systems whose clocks are among some
+record IsStatedOf (names : List ℕ) (w : WorldState) (line : SystemLine) : Type 0 where
+  station : Station
+  there : In station w.stations
+  named : In (clock station.system) names
+  live : station.live ≡ true
+  is : line ≡ stated_line station.system
+
+if_live : (station : Station) (line : SystemLine) (live : Bool) → station.live ≡ live
+    → In line (if live then stated_line station.system ∷ [] else []) → (station.live ≡ true) × (line ≡ stated_line station.system)
+if_live station line true is (inl e) = (is, e)
+if_live station line true is (inr k) = absurd k
+if_live station line false is k = absurd k
+
+In-front : {X : Type 0} (x : X) (xs ys : List X) → In x xs → In x (xs ++ ys)
+In-front x [] ys h = absurd h
+In-front x (y ∷ xs) ys (inl e) = inl e
+In-front x (y ∷ xs) ys (inr h) = inr (In-front x xs ys h)
+
+In-back : {X : Type 0} (x : X) (xs ys : List X) → In x ys → In x (xs ++ ys)
+In-back x [] ys h = h
+In-back x (y ∷ xs) ys h = inr (In-back x xs ys h)
+
+In-append : {X : Type 0} (x : X) (xs ys : List X) → In x (xs ++ ys) → In x xs ⊎ In x ys
+In-append x [] ys h = inr h
+In-append x (y ∷ xs) ys (inl e) = inl (inl e)
+In-append x (y ∷ xs) ys (inr h) = elim (In-append x xs ys h) [ inl k ↦ inl (inr k) | inr k ↦ inr k ]
+
+stated_of : (names : List ℕ) (w : WorldState) (lines : List SystemLine) (line : SystemLine) → AreLines names w lines
+    → In line lines → IsStatedOf names w line
+stated_of [] w lines line are h = absurd (rw are at h)
+stated_of (name ∷ names) w lines line (rest, one, are) h = elim (In-append line (stated_if one.station) rest (rw one.so at h)) [
+  | inl here ↦ (let both = if_live one.station line one.station.live refl here in record {
+    station = one.station;
+    there = In-slice_get one.station w.stations one.place one.is.here;
+    named = inl one.is.named;
+    live = both.0;
+    is = both.1;
+  })
+  | inr k ↦ (let later = stated_of names w rest line are k in record {
+    station = later.station;
+    there = later.there;
+    named = inr later.named;
+    live = later.live;
+    is = later.is;
+  })
+]
+
+of_stated : (names : List ℕ) (w : WorldState) (lines : List SystemLine) (station : Station) → HaveOwnClocks w
+    → AreLines names w lines → In station w.stations → In (clock station.system) names → station.live ≡ true
+    → In (stated_line station.system) lines
+of_stated [] w lines station own are there named live = absurd named
+of_stated (name ∷ names) w lines station own (rest, one, are) there (inl e) live =
+    let (place, at) = slice_get-In station w.stations there in
+    let place_is : place ≡ one.place = own place one.place station one.station at one.is.here (e ∙ sym one.is.named) in
+    let same : one.station ≡ station =
+    same_Some one.station station (sym one.is.here ∙ ap (slice_get w.stations) (sym place_is) ∙ at) in
+    let first : In (stated_line station.system) (stated_if station) = rw live (inl refl) in
+    rw (one.so, same) (In-front (stated_line station.system) (stated_if station) rest first)
+of_stated (name ∷ names) w lines station own (rest, one, are) there (inr k) live =
+    rw one.so (In-back (stated_line station.system) (stated_if one.station) rest (of_stated names w rest station own are there k live))
+
+-- one more line rises below those of later clocks
+rises_below : (name : ℕ) (w : WorldState) (names : List ℕ) (rest : List SystemLine) (station : Station)
+    → clock station.system ≡ name → ((y : ℕ) → In y names → name < y) → AreLines names w rest
+    → IsRising (line_clocks rest) → (live : Bool) → station.live ≡ live
+    → IsRising (line_clocks (stated_if station ++ rest))
+rises_below name w names rest station named below are up true is = rw is ((λ c k. subst (λ n. n < c) (sym named) (later c k)), up)
+  where
+    later : (c : ℕ) → In c (line_clocks rest) → name < c
+    later c k =
+        let (line, at, e) = from_map (λ (l : SystemLine). l.clock) c rest k in
+        let of = stated_of names w rest line are at in
+        below c (subst (λ n. In n names) (sym (ap (λ (l : SystemLine). l.clock) of.is) ∙ e) of.named)
+rises_below name w names rest station named below are up false is = rw is up
+
+lines_rise : (names : List ℕ) (w : WorldState) (lines : List SystemLine) → IsRising names → AreLines names w lines
+    → IsRising (line_clocks lines)
+lines_rise [] w lines up are = rw are tt
+lines_rise (name ∷ names) w lines up (rest, one, are) =
+    rw one.so (rises_below name w names rest one.station one.is.named up.0 are (lines_rise names w rest up.1 are)
+    one.station.live refl)
+
+-- where none is left, the lines are those of all live systems
+pub stated_all : (w : WorldState) (lines : List SystemLine) → HaveOwnClocks w → StatedSoFar (rising_clocks w) [] w lines
+    → States w lines
+stated_all w lines own all = record {
+  rising = lines_rise names w lines (clocks_rise w own) are;
+  each = λ line. (
+    (λ k. let of = stated_of names w lines line are k in
+        record { station = of.station; there = of.there; live = of.live; is = of.is }),
+    (λ s. subst (λ l. In l lines) (sym s.is) (of_stated names w lines s.station own are s.there
+        (In-rising (clock s.station.system) (map clock_of_station w.stations)
+        (In-map clock_of_station s.station w.stations s.there)) s.live)),
+  );
+}
+  where
+    names : List ℕ
+    names = rising_clocks w
+
+    are : AreLines names w lines
+    are = subst (AreLines names w) (append-nil lines) (all.more [] refl)
+
+-- ---- the ports of a line are numbered from 1 on
+
+numbers_from : (s : SystemState) (first count k : ℕ)
+    → In k (map (λ (port : PortLine). port.number) (map (stated_port s) (range_with_len first count))) → first ≤ k
+numbers_from s first zero k h = absurd h
+numbers_from s first (suc count) k (inl e) = omega arith
+numbers_from s first (suc count) k (inr h) = let later = numbers_from s (first + 1) count k h in omega arith
+
+numbers_rise : (s : SystemState) (first count : ℕ)
+    → IsRising (map (λ (port : PortLine). port.number) (map (stated_port s) (range_with_len first count)))
+numbers_rise s first zero = tt
+numbers_rise s first (suc count) = (
+  (λ k h. let later = numbers_from s (first + 1) count k h in omega arith),
+  numbers_rise s (first + 1) count,
+)
+
+-- so what systems state is in order
+pub stated_in_order : (w : WorldState) (lines : List SystemLine) → States w lines → AreInOrder lines
+stated_in_order w lines states = record {
+  clocks = states.rising;
+  ports = λ line h. let s = (states.each line).0 h in
+      subst (λ (l : SystemLine). IsRising (port_numbers l)) (sym s.is)
+      (numbers_rise s.station.system 1 (length s.station.system.ports));
+}

@@ -1,0 +1,75 @@
+-- The lines of a certificate, one by one, and their order (profile).
+use Rattle.std.specs.Prelude.{◌≡◌, ◌<◌, ◌≤◌, ◌^◌, ⊤, ℕ, List, [], ◌∷◌, Option, Some, None, map}
+use Rattle.std.specs.List.{flat_map, AllByRecursion}
+use Rattle.gptp_graph.specs.Labelling.{PortLine, SystemLine}
+use Rattle.gptp_graph.specs.Parent.{ParentLink}
+
+-- a system line: clock, root, steps and parent; a port line: the system's clock, and the port
+pub data Entry : Type 0 where
+  SystemEntry : (clock root steps : ℕ) → Option ParentLink → Entry
+  PortEntry : (clock : ℕ) → PortLine → Entry
+
+-- a system's line without its ports
+abbrev pub system_entry : SystemLine → Entry
+system_entry line = SystemEntry line.clock line.root line.steps line.parent
+
+-- a system's line, and then its ports'
+abbrev pub entries_of_line : SystemLine → List Entry
+entries_of_line line = system_entry line ∷ map (PortEntry line.clock) line.ports
+
+-- the lines of all systems, one after another
+abbrev pub entries_of : List SystemLine → List Entry
+entries_of lines = flat_map entries_of_line lines
+
+-- ports are numbered from 1 (IEEE 1588-2019, 7.5.2.3)
+pub record IsPortNumber (number : ℕ) : Type 0 where
+  pub least : 1 ≤ number
+  pub most : number ≤ 65535
+
+-- a text can spell the parent
+pub record IsReadableLink (link : ParentLink) : Type 0 where
+  pub own_port : IsPortNumber link.own_port
+  pub clock : link.clock < 2 ^ 64
+  pub port : IsPortNumber link.port
+
+-- a text can spell it, or there is none
+abbrev pub IsReadableParent : Option ParentLink → Type 0
+IsReadableParent None = ⊤
+IsReadableParent (Some link) = IsReadableLink link
+
+-- a text can spell the line: octets hold the clock and the root, and sixteen bits the steps and the ports
+abbrev pub IsReadableEntry : Entry → Type 0
+IsReadableEntry (SystemEntry clock root steps parent) =
+    (clock < 2 ^ 64) × (root < 2 ^ 112) × (steps ≤ 65535) × IsReadableParent parent
+IsReadableEntry (PortEntry clock port) = (clock < 2 ^ 64) × IsPortNumber port.number
+
+-- a text can spell each line
+abbrev pub IsReadable : List SystemLine → Type 0
+IsReadable lines = AllByRecursion IsReadableEntry (entries_of lines)
+
+-- the clock of the system that the line is about
+abbrev pub clock_of : Entry → ℕ
+clock_of (SystemEntry clock root steps parent) = clock
+clock_of (PortEntry clock port) = clock
+
+-- a system line is before all ports of its system
+abbrev pub number_of : Entry → ℕ
+number_of (SystemEntry clock root steps parent) = 0
+number_of (PortEntry clock port) = port.number
+
+-- a line can stand right after another: a system line has a higher clock, a port line the same clock and a higher
+-- number
+abbrev pub Follows : Entry → Entry → Type 0
+Follows before (SystemEntry clock root steps parent) = clock_of before < clock
+Follows before (PortEntry clock port) = (clock_of before ≡ clock) × (number_of before < port.number)
+
+-- each line follows the one before, the first of them this entry
+abbrev pub FollowEach : Entry → List Entry → Type 0
+FollowEach before [] = ⊤
+FollowEach before (entry ∷ rest) = Follows before entry × FollowEach entry rest
+
+-- a system line is first, and each line follows the one before
+abbrev pub StandInOrder : List Entry → Type 0
+StandInOrder [] = ⊤
+StandInOrder (SystemEntry clock root steps parent ∷ rest) = FollowEach (SystemEntry clock root steps parent) rest
+StandInOrder (PortEntry clock port ∷ rest) = ⊥

@@ -1,0 +1,10 @@
+pub mod Certificate
+pub mod Stated
+pub mod Stating
+pub mod Entries
+pub mod CertificateText
+pub mod Words
+pub mod Forms
+pub mod Lines
+pub mod Faults
+pub mod Parsing
