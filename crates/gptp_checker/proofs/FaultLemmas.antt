@@ -1,0 +1,106 @@
+-- The first fault, and the choice that has none.
+use Rattle.std.proofs.Common.{Bool, IsTrue, ◌≡◌, ◌↔◌, ℕ, suc, List, [], ◌∷◌, Some, slice_get, take, drop, refl, sym, ap, subst, inl, inr}
+use Rattle.gptp_graph.specs.Members.{In}
+use Rattle.gptp_graph.specs.Snapshot.{Snapshot, IsWellFormed}
+use Rattle.gptp_graph.specs.Labelling.{SystemLine}
+use Rattle.gptp_graph.specs.LocalTests.{PassesSystems, PassesTooFar, PassesLocalTests}
+use Rattle.gptp_graph.specs.SettledChoice.{IsSettledChoice}
+use Rattle.gptp_graph.proofs.SoundLemmas.{sound}
+use Rattle.gptp_graph.proofs.CompleteLemmas.{complete}
+use Rattle.gptp_checker.specs.Faults.{test_of, later_faults, IsFirstFault}
+use Rattle.gptp_checker.specs.declared.fault.Fault.{Fault}
+use Rattle.gptp_checker.specs.declared.fault.Fault.TheVariants.{Systems, Root, Steps, Parent, Link, Identity, Tie, Role, TooFar}
+use Rattle.gptp_checker.specs.declared.line_test.LineTest.{LineTest}
+use Rattle.gptp_checker.specs.declared.line_test.LineTest.TheVariants as tests
+use Rattle.gptp_checker.specs.LineTests.{PassesEachLine}
+use Rattle.gptp_checker.proofs.LineTestLemmas.{too_far_by_line, root_by_line, steps_by_line, parent_by_line, identity_by_line, tie_by_line, role_by_line}
+use Rattle.gptp_checker.proofs.EachLemmas.{HoldBefore, around, hold_before}
+
+-- the fault that this test finds
+abbrev pub found_by : LineTest → Fault
+found_by tests.TooFar = TooFar
+found_by tests.Root = Root
+found_by tests.Steps = Steps
+found_by tests.Parent = Parent
+found_by tests.Identity = Identity
+found_by tests.Tie = Tie
+found_by tests.Role = Role
+
+module _ (g : Snapshot) (lines : List SystemLine) where
+  -- it is found line by line
+  by_lines : (test : LineTest) → IsWellFormed g → PassesSystems g lines
+      → PassesEachLine test g lines ↔ test_of (found_by test) g lines
+  by_lines tests.TooFar wf right = too_far_by_line g lines
+  by_lines tests.Root wf right = root_by_line g lines
+  by_lines tests.Steps wf right = steps_by_line g lines
+  by_lines tests.Parent wf right = parent_by_line g lines
+  by_lines tests.Identity wf right = identity_by_line g lines
+  by_lines tests.Tie wf right = tie_by_line g lines wf right
+  by_lines tests.Role wf right = role_by_line g lines
+
+  pub found_by_lines : (fault : Fault) (test : LineTest) (b : Bool) → IsWellFormed g → PassesSystems g lines
+      → fault ≡ found_by test → (IsTrue b ↔ PassesEachLine test g lines) → IsTrue b ↔ test_of fault g lines
+  found_by_lines fault test b wf right e h =
+      let each = by_lines test wf right in
+      subst (λ f. IsTrue b ↔ test_of f g lines) (sym e) ((λ t. each.0 (h.0 t)), (λ p. h.1 (each.1 p)))
+
+  -- this fault's test passes
+  abbrev pub IsAbsent : Fault → Type 0
+  IsAbsent fault = test_of fault g lines
+
+  -- where systems are wrong, that is the first fault
+  pub systems_first : (PassesSystems g lines → ⊥) → IsFirstFault g lines Systems
+  systems_first f =
+      record { before = []; after = later_faults; order = refl; passes = λ earlier k. absurd k; fails = f }
+
+  -- where they are right and the faults before a place are absent, it is the one at the place
+  pub later_first : (i : ℕ) (fault : Fault) → slice_get later_faults i ≡ Some fault → PassesSystems g lines
+      → HoldBefore IsAbsent later_faults i → (test_of fault g lines → ⊥) → IsFirstFault g lines fault
+  later_first i fault at right h f = record {
+    before = Systems ∷ take i later_faults;
+    after = drop (suc i) later_faults;
+    order = ap (λ faults. Systems ∷ faults) (around later_faults i fault at);
+    passes = passes;
+    fails = f;
+  }
+    where
+      passes : (earlier : Fault) → In earlier (Systems ∷ take i later_faults) → test_of earlier g lines
+      passes earlier (inl e) = subst IsAbsent (sym e) right
+      passes earlier (inr k) = hold_before IsAbsent later_faults i h earlier k
+
+  -- where all are absent, all tests pass
+  all_absent : PassesSystems g lines → ((fault : Fault) → In fault later_faults → test_of fault g lines)
+      → PassesLocalTests g lines
+  all_absent right h = record {
+    systems = right;
+    too_far = h TooFar (inl refl);
+    root = h Root (inr (inl refl));
+    steps = h Steps (inr (inr (inl refl)));
+    parent = h Parent (inr (inr (inr (inl refl))));
+    link = h Link (inr (inr (inr (inr (inl refl)))));
+    identity = h Identity (inr (inr (inr (inr (inr (inl refl))))));
+    tie = h Tie (inr (inr (inr (inr (inr (inr (inl refl)))))));
+    role = h Role (inr (inr (inr (inr (inr (inr (inr (inl refl))))))));
+  }
+
+  -- and the lines are the settled choice
+  pub settled : IsWellFormed g → PassesSystems g lines
+      → ((fault : Fault) → In fault later_faults → test_of fault g lines)
+      → IsSettledChoice g lines × PassesTooFar lines
+  settled wf right h = let all = all_absent right h in (sound g lines wf all, all.too_far)
+
+  -- the settled choice has no fault
+  pub no_fault : (fault : Fault) → IsWellFormed g → IsSettledChoice g lines × PassesTooFar lines
+      → test_of fault g lines
+  no_fault fault wf (is, near) = one fault (complete g lines wf is near)
+    where
+      one : (fault : Fault) → PassesLocalTests g lines → test_of fault g lines
+      one Systems h = h.systems
+      one Root h = h.root
+      one Steps h = h.steps
+      one Parent h = h.parent
+      one Link h = h.link
+      one Identity h = h.identity
+      one Tie h = h.tie
+      one Role h = h.role
+      one TooFar h = h.too_far

@@ -1,0 +1,6 @@
+pub mod EachLemmas
+pub mod PlaceLemmas
+pub mod PortLemmas
+pub mod StatedLemmas
+pub mod LineTestLemmas
+pub mod FaultLemmas

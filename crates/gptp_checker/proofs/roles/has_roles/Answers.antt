@@ -1,0 +1,41 @@
+use Rattle.std.proofs.Common.{refl, subst}
+use Rattle.gptp_certificate.specs.Certificate.{line_of, role_of}
+use Rattle.gptp_graph.specs.Labelling.{PortLine}
+use Rattle.gptp_graph.specs.LocalTests.{HasStatedRole}
+use Rattle.gptp_graph.proofs.RoleLemmas.{RoleBy-unique}
+use Rattle.gptp_checker.proofs.PortLemmas.{all_ports, next_port, port_at, port_fails, roles_agree, roles_differ, same_role}
+use Rattle.gptp_checker.proofs.roles.has_roles.Goals as goal
+
+pub returns-then-ne : goal.returns-then-ne
+returns-then-ne c =
+    let line = line_of c.args.line.now in
+    let has = HasStatedRole c.args.snapshot.now c.args.certificate.now line in
+    let P = λ (port : PortLine). has port.number port.role in
+    let port = port_at c.deref-port-items.result.now c.loop-port.port-index in (
+      (λ t. absurd cc),
+      port_fails P c.deref-port-items.result.now c.args.line.now.ports.items c.loop-port.port-index
+          c.deref-port-items.ensures.value c.loop-port-test.true
+          (λ h.
+          roles_differ c.role_at.result port.1 c.if-ne.ensures
+          (same_role c.role_at.result port.1
+          (RoleBy-unique _ _ _ (role_of c.role_at.result) (role_of port.1) c.role_at.ensures h))),
+    )
+
+pub loop-port-preserved : goal.loop-port-preserved
+loop-port-preserved c =
+    let line = line_of c.args.line.now in
+    let port = port_at c.deref-port-items.result.now c.loop-port.port-index in
+    next_port _ c.deref-port-items.result.now c.args.line.now.ports.items c.loop-port.port-index
+    c.deref-port-items.ensures.value c.loop-port-test.true c.loop-port.invariant
+    (subst (λ role. HasStatedRole c.args.snapshot.now c.args.certificate.now line port.0 (role_of role))
+    (roles_agree c.role_at.result port.1 c.if-ne.ensures) c.role_at.ensures)
+
+pub returns : goal.returns
+returns c =
+    let line = line_of c.args.line.now in
+    let has = HasStatedRole c.args.snapshot.now c.args.certificate.now line in
+    let P = λ (port : PortLine). has port.number port.role in (
+      (λ t. all_ports P c.deref-port-items.result.now c.args.line.now.ports.items c.loop-port.port-index
+          c.deref-port-items.ensures.value c.loop-port.invariant c.loop-port-test.false),
+      (λ h. refl),
+    )

@@ -1,0 +1,12 @@
+use Rattle.gptp_certificate.specs.Certificate.{line_of}
+use Rattle.gptp_graph.specs.Labelling.{PortLine}
+use Rattle.gptp_graph.specs.LocalTests.{HasStatedRole}
+use Rattle.gptp_checker.proofs.EachLemmas.{HoldBefore}
+use Rattle.gptp_checker.proofs.roles.has_roles.Given as goal
+
+-- the ports before have their roles
+abbrev pub invariant-loop-port : goal.invariant-loop-port
+invariant-loop-port l =
+    HoldBefore (λ (port : PortLine).
+    HasStatedRole l.fn.snapshot l.fn.certificate (line_of l.fn.line) port.number port.role)
+    (line_of l.fn.line).ports l.port-index

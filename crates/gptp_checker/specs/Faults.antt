@@ -1,0 +1,48 @@
+-- The faults of a certificate, and the test that finds each (profile).
+use Rattle.std.specs.Prelude.{◌≡◌, ℕ, codes, List, [], ◌∷◌, ◌++◌}
+use Rattle.gptp_graph.specs.Members.{In}
+use Rattle.gptp_graph.specs.Snapshot.{Snapshot}
+use Rattle.gptp_graph.specs.Labelling.{SystemLine}
+use Rattle.gptp_graph.specs.LocalTests.{PassesSystems, PassesTooFar, PassesRoot, PassesSteps, PassesParent, PassesLink, PassesIdentity, PassesTie, PassesRole}
+use Rattle.gptp_checker.specs.declared.fault.Fault.{Fault}
+use Rattle.gptp_checker.specs.declared.fault.Fault.TheVariants.{Systems, Root, Steps, Parent, Link, Identity, Tie, Role, TooFar}
+
+-- the test that finds this fault where it fails
+abbrev pub test_of : Fault → Snapshot → List SystemLine → Type 0
+test_of Systems g lines = PassesSystems g lines
+test_of Root g lines = PassesRoot g lines
+test_of Steps g lines = PassesSteps lines
+test_of Parent g lines = PassesParent g lines
+test_of Link g lines = PassesLink g lines
+test_of Identity g lines = PassesIdentity g lines
+test_of Tie g lines = PassesTie g lines
+test_of Role g lines = PassesRole g lines
+test_of TooFar g lines = PassesTooFar lines
+
+-- the faults that are looked for where the systems are right, in this order
+abbrev pub later_faults : List Fault
+later_faults = TooFar ∷ Root ∷ Steps ∷ Parent ∷ Link ∷ Identity ∷ Tie ∷ Role ∷ []
+
+-- all faults in the order in which they are looked for
+abbrev pub faults_in_order : List Fault
+faults_in_order = Systems ∷ later_faults
+
+-- the tests of all faults before this one pass, and its own test doesn't
+pub record IsFirstFault (g : Snapshot) (lines : List SystemLine) (fault : Fault) : Type 0 where
+  pub before : List Fault
+  pub after : List Fault
+  pub order : before ++ fault ∷ after ≡ faults_in_order
+  pub passes : (earlier : Fault) → In earlier before → test_of earlier g lines
+  pub fails : test_of fault g lines → ⊥
+
+-- a fault as its number and its name
+abbrev pub fault_text : Fault → List ℕ
+fault_text Systems = codes "1 Systems"
+fault_text Root = codes "2 Root"
+fault_text Steps = codes "3 Steps"
+fault_text Parent = codes "4 Parent"
+fault_text Link = codes "5 Link"
+fault_text Identity = codes "6 Identity"
+fault_text Tie = codes "7 Tie"
+fault_text Role = codes "8 Role"
+fault_text TooFar = codes "9 TooFar"

@@ -1,0 +1,139 @@
+//! The tests that each line has to pass.
+
+ghost use Rattle.std.specs.Prelude.{◌≡◌, ◌↔◌, IsTrue, Some, slice_get};
+ghost use Rattle.gptp_certificate.specs.Certificate.{line_of, parent_of};
+ghost use Rattle.gptp_graph.specs.LocalTests.{PassesSystems};
+ghost use Rattle.gptp_graph.specs.Labelling as graphs;
+ghost use Rattle.gptp_graph.specs.Members.{In};
+ghost use Rattle.gptp_graph.specs.Snapshot.{clocks};
+ghost use Rattle.gptp_checker.specs.LineTests.{FitsParent, Follows, HasLowRoot, HasOwnRoot, PassesEachLine, PassesLine};
+ghost use Rattle.gptp_checker.specs.declared.line_test.LineTest.TheVariants as tests;
+
+use crate::line_test::LineTest;
+use crate::roles::has_roles;
+use crate::stated::{identity_of, joins, steps_of};
+use crate::ties::follows_lowest;
+use gptp_certificate::{Certificate, SystemLine};
+use gptp_network::Snapshot;
+use gptp_vector::PortId;
+
+/// Whether a line with no parent states the system's own identity as root.
+fn has_own_root(snapshot: &Snapshot, line: &SystemLine) -> bool
+    requires { In line.now.clock (clocks snapshot.now) }
+    ensures { IsTrue result ↔ HasOwnRoot snapshot.now (line_of line.now) }
+{
+    snapshot.well_formed();
+    match identity_of(snapshot, line.clock) {
+        Some(identity) => line.parent.is_some() || line.root == identity,
+        None => false,
+    }
+}
+
+/// Whether the root of a line isn't above the system's own identity.
+fn has_low_root(snapshot: &Snapshot, line: &SystemLine) -> bool
+    requires { In line.now.clock (clocks snapshot.now) }
+    ensures { IsTrue result ↔ HasLowRoot snapshot.now (line_of line.now) }
+{
+    snapshot.well_formed();
+    match identity_of(snapshot, line.clock) {
+        Some(identity) => line.root <= identity,
+        None => false,
+    }
+}
+
+/// Whether the steps of a line are 0 exactly where it has no parent.
+fn fits_parent(line: &SystemLine) -> bool
+    ensures { IsTrue result ↔ FitsParent (line_of line.now).parent line.now.steps }
+{
+    match line.parent {
+        Some(_) => line.steps > 0,
+        None => line.steps == 0,
+    }
+}
+
+/// Whether a link joins an own port to the parent's port, and the parent's steps are one less than these.
+fn follows(
+    snapshot: &Snapshot,
+    certificate: &Certificate,
+    own: PortId,
+    steps: u16,
+    parent: PortId,
+) -> bool
+    requires { PassesSystems snapshot.now certificate.now }
+    ensures { IsTrue result
+        ↔ Follows snapshot.now certificate.now own.clock steps (parent_of (own.port, parent)) }
+{
+    let clock = parent.clock;
+    if !joins(snapshot, own, parent) {
+        return false;
+    }
+    match steps_of(snapshot, certificate, clock) {
+        Some(there) => u32::from(there) + 1 == u32::from(steps),
+        None => false,
+    }
+}
+
+/// Whether a line with a parent is linked with it, and one step farther.
+fn follows_parent(snapshot: &Snapshot, certificate: &Certificate, line: &SystemLine) -> bool
+    requires { PassesSystems snapshot.now certificate.now }
+    ensures { IsTrue result ↔ PassesLine tests.Parent snapshot.now certificate.now (line_of line.now) }
+{
+    let clock = line.clock;
+    let steps = line.steps;
+    match line.parent {
+        Some((port, parent)) => follows(
+            snapshot,
+            certificate,
+            PortId { clock, port },
+            steps,
+            parent,
+        ),
+        None => true,
+    }
+}
+
+/// Whether a line passes a test.
+fn passes(snapshot: &Snapshot, certificate: &Certificate, line: &SystemLine, test: LineTest) -> bool
+    requires systems { PassesSystems snapshot.now certificate.now }
+    requires stated { In (line_of line.now) certificate.now }
+    ensures { IsTrue result ↔ PassesLine test snapshot.now certificate.now (line_of line.now) }
+{
+    match test {
+        LineTest::TooFar => line.steps < 255,
+        LineTest::Root => has_own_root(snapshot, line),
+        LineTest::Steps => fits_parent(line),
+        LineTest::Parent => follows_parent(snapshot, certificate, line),
+        LineTest::Identity => has_low_root(snapshot, line),
+        LineTest::Tie => follows_lowest(snapshot, certificate, line),
+        LineTest::Role => has_roles(snapshot, certificate, line),
+    }
+}
+
+/// Whether the line at a place passes a test.
+fn passes_at(snapshot: &Snapshot, certificate: &Certificate, place: usize, test: LineTest) -> bool
+    requires { PassesSystems snapshot.now certificate.now }
+    ensures { IsTrue result ↔ ((line : graphs.SystemLine) → slice_get certificate.now place ≡ Some line
+        → PassesLine test snapshot.now certificate.now line) }
+{
+    match certificate.line(place) {
+        Some(line) => passes(snapshot, certificate, line, test),
+        None => true,
+    }
+}
+
+/// Whether every line passes a test.
+pub(crate) fn every_line_passes(
+    snapshot: &Snapshot,
+    certificate: &Certificate,
+    test: LineTest,
+) -> bool
+    requires { PassesSystems snapshot.now certificate.now }
+    ensures { IsTrue result ↔ PassesEachLine test snapshot.now certificate.now }
+{
+    for place in 0..certificate.len() {
+        if !passes_at(snapshot, certificate, place, test) {
+            return false;
+        }
+    }
+    true
+}

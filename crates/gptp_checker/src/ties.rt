@@ -1,0 +1,88 @@
+//! Whether a parent is the first of those that are as near.
+
+ghost use Rattle.std.specs.Prelude.{◌↔◌, [], ◌∷◌, IsTrue};
+ghost use Rattle.gptp_certificate.specs.Certificate.{line_of, parent_of};
+ghost use Rattle.gptp_graph.specs.LocalTests.{PassesSystems};
+ghost use Rattle.gptp_graph.specs.Order.{IsLower};
+ghost use Rattle.gptp_graph.specs.Parent.{key};
+ghost use Rattle.gptp_checker.specs.LineTests.{AreNoLower, IsNoLower, PassesLine};
+ghost use Rattle.gptp_checker.specs.declared.line_test.LineTest.TheVariants as tests;
+
+use crate::stated::steps_of;
+use gptp_certificate::{Certificate, SystemLine};
+use gptp_network::Snapshot;
+use gptp_vector::PortId;
+
+/// Whether the link from an own port to another goes before the link of the parent: by the clock there, the port
+/// there, and the own port.
+fn is_lower(other: PortId, number: u16, parent: PortId, own_port: u16) -> bool
+    ensures { IsTrue result
+        ↔ IsLower (other.clock ∷ other.port ∷ number ∷ []) (key (parent_of (own_port, parent))) }
+{
+    (other, number) < (parent, own_port)
+}
+
+/// Whether the link at a port, if it leads to a system whose steps are one less, doesn't go before that of the parent.
+fn is_no_lower(
+    snapshot: &Snapshot,
+    certificate: &Certificate,
+    line: &SystemLine,
+    own_port: u16,
+    parent: &PortId,
+    number: u16,
+) -> bool
+    requires { PassesSystems snapshot.now certificate.now }
+    ensures { IsTrue result
+        ↔ IsNoLower snapshot.now certificate.now (line_of line.now) (parent_of (own_port, parent.now)) number }
+{
+    snapshot.well_formed();
+    let port = PortId {
+        clock: line.clock,
+        port: number,
+    };
+    let Some(other) = snapshot.other_end(port) else {
+        return true;
+    };
+    let Some(steps) = steps_of(snapshot, certificate, other.clock) else {
+        return true;
+    };
+    if u32::from(steps) + 1 != u32::from(line.steps) {
+        return true;
+    }
+    !is_lower(other, number, *parent, own_port)
+}
+
+/// Whether no link at a port of a line leads to a system whose steps are one less and goes before that of the parent.
+fn are_no_lower(
+    snapshot: &Snapshot,
+    certificate: &Certificate,
+    line: &SystemLine,
+    own_port: u16,
+    parent: PortId,
+) -> bool
+    requires { PassesSystems snapshot.now certificate.now }
+    ensures { IsTrue result
+        ↔ AreNoLower snapshot.now certificate.now (line_of line.now) (parent_of (own_port, parent)) }
+{
+    for port in &line.ports {
+        if !is_no_lower(snapshot, certificate, line, own_port, &parent, port.0) {
+            return false;
+        }
+    }
+    true
+}
+
+/// Whether the parent of a line, if it has one, goes first among those that are as near.
+pub(crate) fn follows_lowest(
+    snapshot: &Snapshot,
+    certificate: &Certificate,
+    line: &SystemLine,
+) -> bool
+    requires { PassesSystems snapshot.now certificate.now }
+    ensures { IsTrue result ↔ PassesLine tests.Tie snapshot.now certificate.now (line_of line.now) }
+{
+    match line.parent {
+        Some((own_port, parent)) => are_no_lower(snapshot, certificate, line, own_port, parent),
+        None => true,
+    }
+}
