@@ -1,12 +1,11 @@
 -- The text of `compare`, one line after the other, and what of it follows from the octets that were read.
-use Rattle.std.proofs.Common.{◌≡◌, ℕ, ◌≤◌, Bool, true, false, nat_le, ◌||◌, List, [], ◌∷◌, ◌++◌, length, map, Option, Some, None, refl, ap, ◌∙◌, append_assoc, append-nil, length-append, arith}
+use Rattle.std.proofs.Common.{◌≡◌, ℕ, Bool, true, false, ◌||◌, List, [], ◌∷◌, ◌++◌, map, refl, ap, ◌∙◌, append_assoc, append-nil}
 use Rattle.std.specs.List.{list_any}
 use Rattle.std.specs.Str.Lines.{lines}
 use Rattle.std.proofs.lemmas.List.{map_push}
 use Rattle.std.proofs.lemmas.List.Concat.{flat_map-append}
 use Rattle.std.proofs.lemmas.List.Folds.{list_any-append}
 use Rattle.gptp_sim.specs.declared.answer.Answer.{Answer}
-use Rattle.gptp_sim.specs.declared.failure.Status.{Status}
 use Rattle.gptp_sim.specs.Answer.{Answers, answer_text, is_refusal}
 use Rattle.gptp_sim.specs.Failure.{status_by}
 use Rattle.gptp_report.specs.Lines.{text_of}

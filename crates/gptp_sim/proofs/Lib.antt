@@ -8,3 +8,4 @@ pub mod CompareLemmas
 pub mod LawLemmas
 pub mod CommandLemmas
 pub mod OptionLemmas
+pub mod CheckLemmas

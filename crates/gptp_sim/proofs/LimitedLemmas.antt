@@ -1,5 +1,6 @@
 -- What is written for the octets that were read is written for all there are.
 use Rattle.std.proofs.Common.{◌≡◌, ℕ, ◌≤◌, Bool, true, false, nat_le, List, ◌++◌, [], length, Option, Some, None, refl, ap, ◌∙◌, append-nil, length-append, arith}
+use Rattle.std.specs.Bool.{MatchBool}
 use Rattle.std.specs.Prelude.{IfSome}
 use Rattle.std.proofs.lemmas.Bool.{leb-true, leb-false, lt-leb}
 use Rattle.gptp_sim.specs.declared.failure.Status.{Status}
@@ -8,10 +9,22 @@ use Rattle.gptp_report.specs.Lines.{text_of}
 use Rattle.gptp_sim.specs.Source.{ReadsWhole}
 
 -- what is said of known octets
-if_some : (P Q : List ℕ → Type 0) (known : Option (List ℕ)) → ((octets : List ℕ) → P octets → Q octets) → IfSome known P
+pub if_some : (P Q : List ℕ → Type 0) (known : Option (List ℕ)) → ((octets : List ℕ) → P octets → Q octets) → IfSome known P
     → IfSome known Q
 if_some P Q None step holds = tt
 if_some P Q (Some octets) step holds = step octets holds
+
+-- what an input within its size is answered may mean more
+pub limited_weaker : (limit : ℕ) (Within More : List ℕ → List (List ℕ) → Status → Type 0)
+    (Past : List (List ℕ) → Status → Type 0) (input : List ℕ) (output : List (List ℕ)) (status : Status)
+    → (Within input output status → More input output status) → Limited limit Within Past input output status
+    → Limited limit More Past input output status
+limited_weaker limit Within More Past input output status more text = by_size (nat_le (length input) limit) text
+  where
+    by_size : (fits : Bool) → MatchBool fits (Within input output status) (Past output status)
+        → MatchBool fits (More input output status) (Past output status)
+    by_size true within = more within
+    by_size false past = past
 
 module _ (limit : ℕ) (Within : List ℕ → List (List ℕ) → Status → Type 0) (Past : List (List ℕ) → Status → Type 0) where
   abbrev Text : List ℕ → List (List ℕ) → Status → Type 0
@@ -32,7 +45,7 @@ module _ (limit : ℕ) (Within : List ℕ → List (List ℕ) → Status → Typ
       rw longer (rw test at text)
 
   -- the text for the octets that were read is the text for all there are
-  same_text : (left rest : Option (List ℕ)) (octets : List ℕ) → ReadsWhole limit left rest octets
+  pub same_text : (left rest : Option (List ℕ)) (octets : List ℕ) → ReadsWhole limit left rest octets
       → IfSome left (λ input. (output : List (List ℕ)) (status : Status) → Text octets output status → Text input output status)
   same_text None rest octets reads = tt
   same_text (Some xs) None octets reads = absurd reads.taken

@@ -8,4 +8,5 @@ pub mod Limited
 pub mod Written
 pub mod CompareText
 pub mod RunText
+pub mod CheckText
 pub mod Command

@@ -1,5 +1,5 @@
 -- What `run` writes for a document, and its status (profile).
-use Rattle.std.specs.Prelude.{◌≡◌, ◌⊎◌, ℕ, List, [], ◌∷◌, ◌++◌, Option, codes, unwrap_or}
+use Rattle.std.specs.Prelude.{◌≡◌, ◌⊎◌, ℕ, Bool, true, false, List, [], ◌∷◌, ◌++◌, Option, codes, unwrap_or}
 use Rattle.rand_core.specs.Pcg32Seed.{pcg32_seed}
 use Rattle.rand_pcg.specs.Lcg.{Lcg}
 use Rattle.rand_pcg.specs.Pcg.{pcg64_of_seed}
@@ -10,7 +10,12 @@ use Rattle.gptp_network.specs.declared.fault.DocumentFault.TheVariants.{TooMany}
 use Rattle.gptp_network.specs.Document.{DocumentState, Fails, Means}
 use Rattle.gptp_network.specs.Faults.{fault_text}
 use Rattle.gptp_world.specs.SettlingTime.{settles}
-use Rattle.gptp_report.specs.Run.{RunLines}
+use Rattle.gptp_world.specs.World.{WorldState}
+use Rattle.gptp_graph.specs.Labelling.{SystemLine}
+use Rattle.gptp_report.specs.Report.{Reports}
+use Rattle.gptp_report.specs.Run.{LeadsTo}
+use Rattle.gptp_certificate.specs.CertificateText.{certificate_lines}
+use Rattle.gptp_certificate.specs.Stated.{States}
 use Rattle.gptp_sim.specs.declared.failure.Status.{Status}
 use Rattle.gptp_sim.specs.declared.failure.Status.TheVariants.{Done, Refused}
 use Rattle.gptp_sim.specs.declared.run.RunOptions.{RunOptions}
@@ -31,10 +36,28 @@ draws bounds sent before answer after = (answer, after) ≡ drawn bounds before
 abbrev pub generator : ℕ → Lcg
 generator seed = pcg64_of_seed (pcg32_seed 32 seed)
 
+-- the lines of the frames, where they are asked for, and the report of the world that the document leads to
+pub record ReportsRun (d : DocumentState) (options : RunOptions) (w : WorldState) (lines : List (List ℕ)) : Type 0 where
+  pub frames : List (List ℕ)
+  pub leads : LeadsTo draws d (until_of options d) options.frames (generator options.seed) w frames
+  pub report : List (List ℕ)
+  pub reports : Reports d (until_of options d) w report
+  pub are : lines ≡ frames ++ report
+
+-- the certificate of a world, where it is asked for
+abbrev pub CertifiesIf : Bool → WorldState → List (List ℕ) → Type 0
+CertifiesIf true w lines = (stated : List SystemLine) × States w stated × (lines ≡ certificate_lines stated)
+CertifiesIf false w lines = lines ≡ []
+
 -- the text of the run of a document
 pub record PlaysDocument (d : DocumentState) (options : RunOptions) (output : List (List ℕ)) (status : Status)
     : Type 0 where
-  pub lines : RunLines draws d (until_of options d) options.frames (generator options.seed) output
+  pub world : WorldState
+  pub report : List (List ℕ)
+  pub reports : ReportsRun d options world report
+  pub certificate : List (List ℕ)
+  pub certifies : CertifiesIf options.certificate world certificate
+  pub lines : output ≡ report ++ certificate
   pub status_is : status ≡ Done
 
 -- a document that is refused

@@ -1,30 +1,34 @@
 //! The command line: which command runs, and how the process ends.
 
-ghost use Rattle.std.specs.Prelude.{◌≡◌, ◌≢◌, ◌<◌, ◌≤◌, ◌^◌, IfErr, IfOk, IfSome, List, None, Some, codes, false, map, string_bytes, true, ℕ};
+ghost use Rattle.std.specs.Prelude.{◌≡◌, ◌≤◌, IfErr, IfOk, codes, false, map, string_bytes};
 ghost use Rattle.std.specs.Process.{exit_status as process_status};
-ghost use Rattle.clap.specs.Words.{app_of, found_of, one_text, rule_of, subcommand_name_of};
+ghost use Rattle.clap.specs.Words.{app_of, found_of, one_text, rows_of, rule_of};
 ghost use Rattle.clap.specs.declared.builder.command.Command.TheViews.{out-Command as fields_of};
-ghost use Rattle.gptp_sim.specs.Command.{AreInRange, NamesCompare, NamesRun, WritesNumber, command_line_status, program};
-ghost use Rattle.gptp_sim.specs.Command.{frames_rule, run_command, seed_rule, until_rule};
+ghost use Rattle.gptp_sim.specs.Command.{AsksFor, Enters, IsPlain, IsUntil, IsSeed, OrderIsInRange, ReadsCheck, ReadsRun};
+ghost use Rattle.gptp_sim.specs.Command.{IsEndInRange, command_line_status, program};
+ghost use Rattle.gptp_sim.specs.Command.{certificate_rule, file_rule, frames_rule, seed_rule, until_rule};
+ghost use Rattle.gptp_sim.specs.Command.{check_command, first_program, played_command, run_command};
 ghost use Rattle.gptp_sim.specs.declared.command.CommandLineError.TheVariants.{Memory};
 
+use crate::check::check;
 use crate::compare::compare_lines;
 use crate::failure::{SimError, Status, exit_status};
 use crate::run::RunOptions;
-use crate::sink::CountedWriter;
-use crate::source::CountedReader;
+use crate::sink::{CountedWriter, Sink};
+use crate::source::{CountedReader, Source};
 use clap::error::ErrorKind;
 use clap::{Arg, ArgAction, ArgMatches, Command};
 use std::alloc::{AllocError, Global};
 use std::env::{self, Env};
-use std::io;
 use std::process::ExitCode;
+use std::rt::Files;
+use std::{fs, io};
 use thiserror::Error;
 
 /// The exit status where the command line isn't read.
 const NOT_READ: u8 = 2;
 
-/// The latest end that a run may have, in ns.
+/// The latest time that `--until` may give, in ns.
 const MOST_UNTIL: u64 = 1_000_000_000_000_000;
 
 /// What help says of the input of `compare`.
@@ -42,13 +46,31 @@ Input: standard input, a document in TOML of at most 32 MiB (33,554,432 octets),
   ports = 1
 Example: gptp_sim run --until 5000000000 --seed 7 < examples/vehicle.toml";
 
+/// What help says of the inputs of `check`.
+const CHECK_HELP: &str = "\
+Input: standard input, a document in TOML of at most 32 MiB (33,554,432 octets), and FILE, a
+certificate of at most 1 MiB (1,048,576 octets), such as 'run --certificate' writes.
+Example: gptp_sim check certificate.txt < examples/vehicle.toml";
+
+/// What is asked of `check`.
+#[derive(Debug, Drop, PartialEq, Eq)]
+pub struct CheckOptions {
+    /// The path of the file that holds the certificate.
+    pub file: String,
+    /// The time of the network that is meant, in ns, at most 10^15; `None` where it is the network after all
+    /// events.
+    pub until: Option<u64>,
+}
+
 /// What a command line asks for.
-#[derive(Clone, Copy, Debug, PartialEq, Eq)]
+#[derive(Debug, Drop, PartialEq, Eq)]
 enum Order {
     /// The command `compare`.
     Compare,
     /// The command `run`, with these options.
     Run(RunOptions),
+    /// The command `check`, with these options.
+    Check(CheckOptions),
 }
 
 /// Why no command runs.
@@ -121,8 +143,8 @@ impl From<clap::Error> for CommandLineError {
     }
 }
 
-/// The option of `run` that says when the run ends.
-fn until_option<'a>(alloc: Global) -> Arg<'a>
+/// The option that gives a time, of which help says what is meant.
+fn until_option<'a>(alloc: Global, help: &'a str) -> Arg<'a>
     ensures rule { rule_of result ≡ until_rule }
     ensures local { result.global ≡ false }
 {
@@ -131,7 +153,7 @@ fn until_option<'a>(alloc: Global) -> Arg<'a>
         .action(ArgAction::Set)
         .value_name("NS")
         .value_parser(clap::value_parser!(u64).range(0..=1_000_000_000_000_000))
-        .help("When the run ends, in ns; by default when the network has settled")
+        .help(help)
 }
 
 /// The option of `run` that chooses delays and losses.
@@ -159,22 +181,73 @@ fn frames_option<'a>(alloc: Global) -> Arg<'a>
         .help("Write a line for each frame")
 }
 
-/// The command `run` with its options.
-fn run_grammar<'a>(alloc: Global) -> Result<Command<'a>, AllocError>
-    ensures app { IfOk result (λ command. app_of command ≡ run_command) }
+/// The option of `run` that asks for the certificate.
+fn certificate_option<'a>(alloc: Global) -> Arg<'a>
+    ensures rule { rule_of result ≡ certificate_rule }
+    ensures local { result.global ≡ false }
+{
+    Arg::new(alloc, "certificate")
+        .long("certificate")
+        .action(ArgAction::SetTrue)
+        .help("Write what each system has chosen, as a certificate")
+}
+
+/// The argument of `check` that says where the certificate is.
+fn file_argument<'a>(alloc: Global) -> Arg<'a>
+    ensures rule { rule_of result ≡ file_rule }
+    ensures local { result.global ≡ false }
+{
+    Arg::new(alloc, "file")
+        .required(true)
+        .action(ArgAction::Set)
+        .value_name("FILE")
+        .help("The file that holds the certificate")
+}
+
+/// The command `run` with the options that say how the network runs.
+fn played_grammar<'a>(alloc: Global) -> Result<Command<'a>, AllocError>
+    ensures app { IfOk result (λ command. app_of command ≡ played_command) }
     ensures local { IfOk result (λ command. (fields_of command).has_globals ≡ false) }
 {
     Command::new(alloc, "run")
         .about("Runs the network of a document and says what each system follows")
         .after_help(RUN_HELP)
-        .arg(until_option(alloc))?
-        .arg(seed_option(alloc))?
-        .arg(frames_option(alloc))
+        .arg(until_option(
+            alloc,
+            "When the run ends, in ns; by default when the network has settled",
+        ))?
+        .arg(seed_option(alloc))
 }
 
-/// What the command line may say.
-fn grammar<'a>(alloc: Global) -> Result<Command<'a>, AllocError>
-    ensures { IfOk result (λ command. app_of command ≡ program) }
+/// The command `run` with all its options.
+fn run_grammar<'a>(alloc: Global) -> Result<Command<'a>, AllocError>
+    ensures app { IfOk result (λ command. app_of command ≡ run_command) }
+    ensures local { IfOk result (λ command. (fields_of command).has_globals ≡ false) }
+{
+    played_grammar(alloc)?
+        .arg(frames_option(alloc))?
+        .arg(certificate_option(alloc))
+}
+
+/// The command `check` with its file and its option.
+fn check_grammar<'a>(alloc: Global) -> Result<Command<'a>, AllocError>
+    ensures app { IfOk result (λ command. app_of command ≡ check_command) }
+    ensures local { IfOk result (λ command. (fields_of command).has_globals ≡ false) }
+{
+    Command::new(alloc, "check")
+        .about("Says whether a certificate is the choice that a network settles at")
+        .after_help(CHECK_HELP)
+        .arg(file_argument(alloc))?
+        .arg(until_option(
+            alloc,
+            "The time of the network that is meant, in ns; by default after all events",
+        ))
+}
+
+/// The program with its first command, of which one has to be named.
+fn first_grammar<'a>(alloc: Global) -> Result<Command<'a>, AllocError>
+    ensures app { IfOk result (λ command. app_of command ≡ first_program) }
+    ensures local { IfOk result (λ command. (fields_of command).has_globals ≡ false) }
 {
     let compare = Command::new(alloc, "compare")
         .about("Says of each line of two Announces which announces the better vector")
@@ -182,17 +255,21 @@ fn grammar<'a>(alloc: Global) -> Result<Command<'a>, AllocError>
     Command::new(alloc, "gptp_sim")
         .about("Simulates networks that run gPTP")
         .subcommand_required(true)
-        .subcommand(compare)?
-        .subcommand(run_grammar(alloc)?)
+        .subcommand(compare)
 }
 
-/// When the run ends, where the command line says so. The parser lets no number through that is above
-/// the most.
+/// What the command line may say.
+fn grammar<'a>(alloc: Global) -> Result<Command<'a>, AllocError>
+    ensures { IfOk result (λ command. app_of command ≡ program) }
+{
+    first_grammar(alloc)?
+        .subcommand(run_grammar(alloc)?)?
+        .subcommand(check_grammar(alloc)?)
+}
+
+/// The time that `--until` gives. The parser lets no number through that is above the most.
 fn until_in(matches: &ArgMatches) -> Option<u64>
-    ensures bound { IfSome result (λ until. until ≤ 1000000000000000) }
-    ensures none { one_text (found_of matches.now) (codes "until") ≡ None → result ≡ None }
-    ensures given { (text : List ℕ) (until : ℕ) → one_text (found_of matches.now) (codes "until") ≡ Some text
-        → WritesNumber text until → until ≤ 1000000000000000 → result ≡ Some until }
+    ensures { IsUntil (one_text (found_of matches.now) (codes "until")) result }
 {
     matches
         .get_one::<u64>("until")
@@ -201,39 +278,42 @@ fn until_in(matches: &ArgMatches) -> Option<u64>
 
 /// The seed that the command line gives, or its default.
 fn seed_in(matches: &ArgMatches) -> u32
-    ensures { (text : List ℕ) (seed : ℕ) → one_text (found_of matches.now) (codes "seed") ≡ Some text
-        → WritesNumber text seed → seed < 2 ^ 32 → result ≡ seed }
+    ensures { IsSeed (one_text (found_of matches.now) (codes "seed")) result }
 {
     matches.get_one::<u32>("seed").unwrap_or(1)
 }
 
 /// What is asked of `run`.
 fn options_in(matches: &ArgMatches) -> RunOptions
-    ensures range { AreInRange result }
-    ensures no_until { one_text (found_of matches.now) (codes "until") ≡ None → result.until ≡ None }
-    ensures until { (text : List ℕ) (until : ℕ) → one_text (found_of matches.now) (codes "until") ≡ Some text
-        → WritesNumber text until → until ≤ 1000000000000000 → result.until ≡ Some until }
-    ensures seed { (text : List ℕ) (seed : ℕ) → one_text (found_of matches.now) (codes "seed") ≡ Some text
-        → WritesNumber text seed → seed < 2 ^ 32 → result.seed ≡ seed }
-    ensures frames { one_text (found_of matches.now) (codes "frames") ≡ Some (codes "true") → result.frames ≡ true }
-    ensures no_frames { one_text (found_of matches.now) (codes "frames") ≡ Some (codes "false") → result.frames ≡ false }
+    ensures { ReadsRun (rows_of (found_of matches.now)) result }
 {
     RunOptions {
         until: until_in(matches),
         seed: u64::from(seed_in(matches)),
         frames: matches.get_flag("frames"),
+        certificate: matches.get_flag("certificate"),
     }
 }
 
+/// What is asked of `check`. The parser lets no command line through that gives no file.
+fn check_options_in(alloc: Global, matches: &ArgMatches) -> Result<CheckOptions, AllocError>
+    ensures { IfOk result (ReadsCheck (rows_of (found_of matches.now))) }
+{
+    let file = matches.get_str("file").unwrap_or("");
+    Ok(CheckOptions {
+        file: String::from_str(alloc, file)?,
+        until: until_in(matches),
+    })
+}
+
 /// What is asked for, by the command that the parser entered.
-fn order_in(matches: &ArgMatches) -> Order
-    ensures compare { result ≡ Order.Compare → subcommand_name_of matches.now ≢ Some (codes "run") }
-    ensures run { (options : RunOptions) → result ≡ Order.Run options
-        → (subcommand_name_of matches.now ≡ Some (codes "run")) × AreInRange options }
+fn order_in(alloc: Global, matches: &ArgMatches) -> Result<Order, AllocError>
+    ensures { IfOk result (Enters matches.now) }
 {
     match matches.subcommand() {
-        Some(("run", matches)) => Order::Run(options_in(matches)),
-        _ => Order::Compare,
+        Some(("run", matches)) => Ok(Order::Run(options_in(matches))),
+        Some(("check", matches)) => Ok(Order::Check(check_options_in(alloc, matches)?)),
+        _ => Ok(Order::Compare),
     }
 }
 
@@ -243,39 +323,59 @@ fn order_in(matches: &ArgMatches) -> Order
 /// NotRead where they name no command, or anything that the command doesn't take, or ask for help;
 /// Memory.
 fn read_words(alloc: Global, words: &[String]) -> Result<Order, CommandLineError>
-    ensures compare { IfOk result (λ order. order ≡ Order.Compare → NamesCompare (map string_bytes words.now)) }
-    ensures run { IfOk result (λ order. (options : RunOptions) → order ≡ Order.Run options
-        → NamesRun (map string_bytes words.now) × AreInRange options) }
-    ensures refused { IfErr result (λ e. NamesCompare (map string_bytes words.now) → e ≡ Memory) }
+    ensures asks { IfOk result (AsksFor (map string_bytes words.now)) }
+    ensures refused { IfErr result (λ e. IsPlain (map string_bytes words.now) → e ≡ Memory) }
 {
     let matches = grammar(alloc)?.try_get_matches_from(words)?;
-    Ok(order_in(&matches))
+    Ok(order_in(alloc, &matches)?)
 }
 
 /// Reads the command line.
 fn read_command_line<R: Env + AllocGlobal>(rt: &R) -> Result<Order, CommandLineError>
-    ensures { IfOk result (λ order. (options : RunOptions) → order ≡ Order.Run options → AreInRange options) }
+    ensures { IfOk result OrderIsInRange }
 {
     let alloc = rt.alloc();
     let words: Vec<String> = env::args(rt)?.collect(alloc)?;
     read_words(alloc, words.as_slice())
 }
 
+/// Checks the certificate in a file against a document.
+///
+/// Read also where the file can't be opened, and then nothing is written.
+fn check_file<R: Files + AllocGlobal, S: Source, K: Sink>(
+    rt: &R,
+    document: &mut S,
+    sink: &mut K,
+    options: &CheckOptions,
+) -> Result<Status, SimError>
+    requires { IsEndInRange options.now.until }
+{
+    let Ok(file) = fs::open(rt, options.file.as_str()) else {
+        return Err(SimError::Read);
+    };
+    let mut certificate = CountedReader::new(file);
+    check(rt.alloc(), document, &mut certificate, sink, options.until)
+}
+
 /// Runs a command from standard input to standard output.
-fn carry_out<R: Input + Print + AllocGlobal>(rt: &R, order: &Order) -> Result<Status, SimError>
-    requires { (options : RunOptions) → order.now ≡ Order.Run options → AreInRange options }
+fn carry_out<R: Input + Print + Files + AllocGlobal>(
+    rt: &R,
+    order: &Order,
+) -> Result<Status, SimError>
+    requires { OrderIsInRange order.now }
 {
     let mut source = CountedReader::new(rt.reader());
     let mut sink = CountedWriter::new(io::writer(rt));
     match order {
         Order::Compare => compare_lines(rt.alloc(), &mut source, &mut sink),
         Order::Run(options) => crate::run::run(rt.alloc(), &mut source, &mut sink, options),
+        Order::Check(options) => check_file(rt, &mut source, &mut sink, options),
     }
 }
 
 /// Runs what the command line says, and tells of errors on standard error. The process ends with 0, 1 or
 /// 3 after a command, and with 2 or 3 where none runs.
-pub fn run<R: Env + Input + Print + Eprint + AllocGlobal>(rt: &R) -> ExitCode
+pub fn run<R: Env + Input + Print + Eprint + Files + AllocGlobal>(rt: &R) -> ExitCode
     ensures { process_status result ≤ 3 }
 {
     match read_command_line(rt) {

@@ -22,7 +22,7 @@ const LIMIT: usize = 1_048_576;
 
 /// The answers to the lines of an input.
 fn answer_lines(alloc: Global, input: &[u8]) -> Result<Output, SimError>
-    ensures answers { IfOk result (λ o. (output : List (List ℕ)) × AnswersLines input.now output o.status × (string_bytes o.text ≡ text_of output)) }
+    ensures answers { IfOk result (λ o. (output : List (List ℕ)) × AnswersLines input.now output o.status × (o.text.items ≡ text_of output)) }
     ensures memory { IfErr result (λ e. e ≡ SimError.Memory) }
 {
     let mut text = String::new(alloc);
@@ -35,22 +35,19 @@ fn answer_lines(alloc: Global, input: &[u8]) -> Result<Output, SimError>
         refused |= answer.is_refusal();
         rest = after;
     }
-    Ok(Output {
-        text,
-        status: Status::of_refusal(refused),
-    })
+    Ok(Output::of(text, Status::of_refusal(refused)))
 }
 
 /// What is written for an input. The only error is [`SimError::Memory`].
 fn compare_text(alloc: Global, input: &[u8]) -> Result<Output, SimError>
-    ensures text { IfOk result (λ o. (output : List (List ℕ)) × CompareText input.now output o.status × (string_bytes o.text ≡ text_of output)) }
+    ensures text { IfOk result (λ o. (output : List (List ℕ)) × CompareText input.now output o.status × (o.text.items ≡ text_of output)) }
     ensures memory { IfErr result (λ e. e ≡ SimError.Memory) }
 {
     if input.len() <= LIMIT {
         return answer_lines(alloc, input);
     }
     Ok(Output {
-        text: String::from_str(alloc, "refused size\n")?,
+        text: Vec::from_slice(alloc, b"refused size\n")?,
         status: Status::Refused,
     })
 }
@@ -89,6 +86,6 @@ pub fn compare_lines<S: Source, K: Sink>(
 {
     let input = read_whole(alloc, source, LIMIT)?;
     let output = compare_text(alloc, &input)?;
-    write_whole(sink, output.text.as_bytes())?;
+    write_whole(sink, &output.text)?;
     Ok(output.status)
 }

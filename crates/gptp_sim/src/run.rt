@@ -1,28 +1,28 @@
 //! The command `run`: what becomes of the network of a document.
 
-ghost use Rattle.std.specs.Prelude.{◌≡◌, ◌≢◌, ◌≤◌, ◌+◌, List, ℕ, IfOk, OnOk, IfErr, IfSome, string_bytes, unwrap_or};
+ghost use Rattle.std.specs.Prelude.{◌≡◌, ◌≢◌, ◌≤◌, ◌+◌, ◌++◌, List, ℕ, IfOk, OnOk, IfErr, IfSome, string_bytes, unwrap_or};
 ghost use Rattle.std.specs.Io.KnownBytes.{Keeps};
 ghost use Rattle.gptp_network.specs.Document.{Means};
 ghost use Rattle.gptp_network.specs.Faults.{fault_text};
 ghost use Rattle.gptp_world.specs.SettlingTime.{settles};
 ghost use Rattle.gptp_report.specs.Lines.{text_of};
 ghost use Rattle.gptp_sim.specs.Source.{ReadsWhole, TakesAtMost};
-ghost use Rattle.gptp_sim.specs.RunText.{document_limit, until_of, AnswersDocument, PlaysDocument, RefusesFault, RunText};
+ghost use Rattle.gptp_sim.specs.RunText.{document_limit, until_of, AnswersDocument, CertifiesIf, PlaysDocument, ReportsRun, RunText};
 ghost use Rattle.gptp_sim.specs.Written.{Writes, WritesFront};
 
+use crate::documents::{DOCUMENT_LIMIT, refuse};
 use crate::failure::{SimError, Status};
 use crate::output::Output;
 use crate::reading::read_whole;
 use crate::sink::Sink;
 use crate::source::Source;
 use crate::writing::write_whole;
+use gptp_certificate::{print, write_certificate};
 use gptp_links::PcgFate;
 use gptp_network::{Document, DocumentFault};
-use gptp_report::run_text;
+use gptp_report::{run_document, write_report};
+use gptp_world::World;
 use std::alloc::Global;
-
-/// How many octets a document may have.
-const LIMIT: usize = 33_554_432;
 
 /// What is asked of a run.
 #[derive(Clone, Copy, Debug, PartialEq, Eq)]
@@ -34,6 +34,8 @@ pub struct RunOptions {
     pub seed: u64,
     /// Whether a line tells of each frame.
     pub frames: bool,
+    /// Whether the certificate follows.
+    pub certificate: bool,
 }
 
 /// When the run of a document ends.
@@ -48,6 +50,41 @@ fn until_of(document: &Document, options: &RunOptions) -> u64
     }
 }
 
+/// The lines of the frames, where they are asked for, and the report, with the world that they tell of.
+fn report(
+    alloc: Global,
+    document: &Document,
+    options: &RunOptions,
+    text: &mut String,
+) -> Result<World<PcgFate>, SimError>
+    requires { IfSome options.now.until (λ until. until ≤ 1000000000000000) }
+    ensures reports { IfOk result (λ world. (lines : List (List ℕ)) × ReportsRun document.now options.now world.scene lines × (string_bytes text.new ≡ string_bytes text.old ++ text_of lines)) }
+    ensures memory { IfErr result (λ e. e ≡ SimError.Memory) }
+{
+    let until = until_of(document, options);
+    let fate = PcgFate::new(options.seed);
+    let world = run_document(alloc, document, fate, until, options.frames, text)?;
+    write_report(text, document, until, &world)?;
+    Ok(world)
+}
+
+/// The certificate of a world, where it is asked for.
+fn certify(
+    alloc: Global,
+    world: &World<PcgFate>,
+    wanted: bool,
+    text: &mut Vec<u8>,
+) -> Result<(), SimError>
+    ensures certifies { OnOk result ((lines : List (List ℕ)) × CertifiesIf wanted world.now.scene lines × (text.new.items ≡ text.old.items ++ text_of lines)) }
+    ensures memory { IfErr result (λ e. e ≡ SimError.Memory) }
+{
+    if wanted {
+        let certificate = write_certificate(alloc, world)?;
+        print(&certificate, text)?;
+    }
+    Ok(())
+}
+
 /// The text of the run of a document.
 fn play_document(
     alloc: Global,
@@ -55,35 +92,23 @@ fn play_document(
     options: &RunOptions,
 ) -> Result<Output, SimError>
     requires { IfSome options.now.until (λ until. until ≤ 1000000000000000) }
-    ensures plays { IfOk result (λ o. (output : List (List ℕ)) × PlaysDocument document.now options.now output o.status × (string_bytes o.text ≡ text_of output)) }
+    ensures plays { IfOk result (λ o. (output : List (List ℕ)) × PlaysDocument document.now options.now output o.status × (o.text.items ≡ text_of output)) }
     ensures memory { IfErr result (λ e. e ≡ SimError.Memory) }
 {
-    let until = until_of(document, options);
-    let fate = PcgFate::new(options.seed);
-    let text = run_text(alloc, document, fate, until, options.frames)?;
+    let mut text = String::new(alloc);
+    let world = report(alloc, document, options, &mut text)?;
+    let mut text = text.into_bytes();
+    certify(alloc, &world, options.certificate, &mut text)?;
     Ok(Output {
         text,
         status: Status::Done,
     })
 }
 
-/// The line of a document that is refused.
-fn refuse(alloc: Global, fault: DocumentFault) -> Result<Output, SimError>
-    ensures refuses { IfOk result (λ o. (output : List (List ℕ)) × RefusesFault fault output o.status × (string_bytes o.text ≡ text_of output)) }
-    ensures memory { IfErr result (λ e. e ≡ SimError.Memory) }
-{
-    let mut text = String::new(alloc);
-    writeln!(text, "refused {fault}")?;
-    Ok(Output {
-        text,
-        status: Status::Refused,
-    })
-}
-
 /// The text for a document within its size.
 fn answer_document(alloc: Global, input: &[u8], options: &RunOptions) -> Result<Output, SimError>
     requires { IfSome options.now.until (λ until. until ≤ 1000000000000000) }
-    ensures answers { IfOk result (λ o. (output : List (List ℕ)) × AnswersDocument options.now input.now output o.status × (string_bytes o.text ≡ text_of output)) }
+    ensures answers { IfOk result (λ o. (output : List (List ℕ)) × AnswersDocument options.now input.now output o.status × (o.text.items ≡ text_of output)) }
     ensures memory { IfErr result (λ e. e ≡ SimError.Memory) }
 {
     match Document::read(alloc, input) {
@@ -96,10 +121,10 @@ fn answer_document(alloc: Global, input: &[u8], options: &RunOptions) -> Result<
 /// What is written for an input. The only error is [`SimError::Memory`].
 fn output_of(alloc: Global, input: &[u8], options: &RunOptions) -> Result<Output, SimError>
     requires { IfSome options.now.until (λ until. until ≤ 1000000000000000) }
-    ensures text { IfOk result (λ o. (output : List (List ℕ)) × RunText options.now input.now output o.status × (string_bytes o.text ≡ text_of output)) }
+    ensures text { IfOk result (λ o. (output : List (List ℕ)) × RunText options.now input.now output o.status × (o.text.items ≡ text_of output)) }
     ensures memory { IfErr result (λ e. e ≡ SimError.Memory) }
 {
-    if input.len() <= LIMIT {
+    if input.len() <= DOCUMENT_LIMIT {
         return answer_document(alloc, input, options);
     }
     refuse(alloc, DocumentFault::TooMany)
@@ -107,7 +132,7 @@ fn output_of(alloc: Global, input: &[u8], options: &RunOptions) -> Result<Output
 
 /// Reads a document, a network and its events as TOML, lets them run up to a time, and writes what became of them: with
 /// `frames` a line for each frame that reached a port, in order of delivery; then the time, the last change, and for each
-/// system by rising clock what it follows, and its ports.
+/// system by rising clock what it follows, and its ports; then, with `certificate`, what each live system says.
 ///
 /// A document that is refused is the one line `refused` with the number and name of [`gptp_network::DocumentFault`]. Of an
 /// input of more than 33,554,432 octets no more than one further octet is read, and it is `refused 11 TooMany`. The whole
@@ -137,8 +162,8 @@ pub fn run<S: Source, K: Sink>(
     ensures nothing { IfErr result (λ e. e ≢ SimError.Write → Keeps (K.written sink.old) (K.written sink.new)) }
     ensures front { result ≡ Err SimError.Write → WritesFront (RunText options.now) (S.left source.old) (K.written sink.old) (K.written sink.new) }
 {
-    let input = read_whole(alloc, source, LIMIT)?;
+    let input = read_whole(alloc, source, DOCUMENT_LIMIT)?;
     let output = output_of(alloc, &input, options)?;
-    write_whole(sink, output.text.as_bytes())?;
+    write_whole(sink, &output.text)?;
     Ok(output.status)
 }

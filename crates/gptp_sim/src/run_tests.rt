@@ -2,6 +2,7 @@
 
 ghost use Rattle.std.specs.Prelude.{◌≤◌, IfSome};
 
+use crate::check_tests::checked;
 use crate::failure::{SimError, Status};
 use crate::run::{RunOptions, run};
 use crate::sink::CountedWriter;
@@ -10,10 +11,11 @@ use std::alloc::{AllocError, Global};
 use std::test::Fail;
 
 /// What is asked of most runs.
-const TO_THE_END: RunOptions = RunOptions {
+pub const TO_THE_END: RunOptions = RunOptions {
     until: None,
     seed: 1,
     frames: false,
+    certificate: false,
 };
 
 /// What `run` writes for a document, and its status.
@@ -32,7 +34,7 @@ pub fn ran(
 }
 
 /// Two systems, clocks 1 and 2, the second 1 ms ahead; their first ports are linked.
-const TWO: &str = "version = 1
+pub const TWO: &str = "version = 1
 [[system]]
 clock = \"0000000000000001\"
 [[system]]
@@ -108,6 +110,7 @@ fn frames_stand_before_the_report(rt: HostRuntime) -> Result<(), Fail> {
         until: Some(500),
         seed: 1,
         frames: true,
+        certificate: false,
     };
     let (text, status) = ran(alloc, TWO.as_bytes(), &options)?;
     let want =
@@ -160,6 +163,7 @@ fn a_change_of_priority1_shows_at_once(rt: HostRuntime) -> Result<(), Fail> {
         until: Some(30_000_001_000),
         seed: 1,
         frames: false,
+        certificate: false,
     };
     let (text, status) = ran(alloc, document.as_bytes(), &options)?;
     let want = "time 30000001000
@@ -182,6 +186,7 @@ fn a_link_that_loses_everything_parts_two_systems(rt: HostRuntime) -> Result<(),
         until: Some(40_000_000_000),
         seed: 1,
         frames: false,
+        certificate: false,
     };
     let (text, status) = ran(alloc, document.as_bytes(), &options)?;
     let want = "time 40000000000
@@ -197,12 +202,12 @@ port 0000000000000002 1 disabled capable no delay none
 }
 
 /// A system with so many ports.
-fn system(alloc: Global, clock: &str, ports: u8, rest: &str) -> Result<String, AllocError> {
+pub fn system(alloc: Global, clock: &str, ports: u8, rest: &str) -> Result<String, AllocError> {
     format!(in alloc; "[[system]]\nclock = \"000000000000000{clock}\"\nports = {ports}\n{rest}")
 }
 
 /// A link between two ports.
-fn link(alloc: Global, a: &str, a_port: u8, b: &str, b_port: u8) -> Result<String, AllocError> {
+pub fn link(alloc: Global, a: &str, a_port: u8, b: &str, b_port: u8) -> Result<String, AllocError> {
     let ends = format!(in alloc;
         "a = \"000000000000000{a}\"\na_port = {a_port}\nb = \"000000000000000{b}\"\nb_port = {b_port}\n"
     )?;
@@ -293,12 +298,31 @@ fn ring(alloc: Global) -> Result<String, AllocError> {
     format!(in alloc; "{systems}{head}{left}{right}{across}{failure}")
 }
 
+/// What the three systems of the ring say then.
+const RING_CERTIFICATE: &str = "gptp-certificate 1
+system 0000000000000002 root f6f8fe436af80000000000000002 steps 0 parent none
+port 0000000000000002 1 disabled
+port 0000000000000002 2 master
+port 0000000000000002 3 master
+system 0000000000000003 root f6f8fe436af80000000000000002 steps 1 parent 1 0000000000000002 2
+port 0000000000000003 1 slave
+port 0000000000000003 2 master
+system 0000000000000004 root f6f8fe436af80000000000000002 steps 1 parent 1 0000000000000002 3
+port 0000000000000004 1 slave
+port 0000000000000004 2 passive
+end
+";
+
 #[test]
 fn a_ring_outlives_its_best_system(rt: HostRuntime) -> Result<(), Fail> {
     let alloc = rt.alloc();
     let document = ring(alloc)?;
-    let (text, _) = ran(alloc, document.as_bytes(), &TO_THE_END)?;
-    let want = "time 72000000000
+    let options = RunOptions {
+        certificate: true,
+        ..TO_THE_END
+    };
+    let (text, _) = ran(alloc, document.as_bytes(), &options)?;
+    let report = "time 72000000000
 change 40000000000 calm yes settle 72000000000
 system 0000000000000001 failed
 system 0000000000000002 root f6f8fe436af80000000000000002 steps 0 gm yes slave none offset none
@@ -312,7 +336,16 @@ system 0000000000000004 root f6f8fe436af80000000000000002 steps 1 gm yes slave 1
 port 0000000000000004 1 slave capable yes delay 32768000
 port 0000000000000004 2 passive capable yes delay 32768000
 ";
+    let want = format!(in alloc; "{report}{RING_CERTIFICATE}")?;
     assert_eq!(rt; text.as_slice(), want.as_bytes());
+    let (verdict, status) = checked(
+        alloc,
+        document.as_bytes(),
+        RING_CERTIFICATE.as_bytes(),
+        None,
+    )?;
+    assert_eq!(rt; verdict.as_slice(), "accepted\n".as_bytes());
+    assert_eq!(rt; status, Status::Done);
     Ok(())
 }
 
@@ -330,6 +363,7 @@ fn an_announce_that_comes_round_is_a_loop(rt: HostRuntime) -> Result<(), Fail> {
         until: None,
         seed: 1,
         frames: true,
+        certificate: false,
     };
     let (text, _) = ran(alloc, document.as_bytes(), &options)?;
     let text = str::from_utf8(text.as_slice())?;

@@ -12,4 +12,4 @@ loop-rest-preserved c =
 pub returns-clause-answers : goal.returns-clause-answers
 returns-clause-answers c =
     let none : c.loop-rest.rest.now ≡ [] = nil_from_length c.loop-rest.rest.now (grind (arith, nat_tests)) in
-    rw c.of_refusal.ensures (answered_all c.args.input.now _ _ _ c.loop-rest.invariant none)
+    rw (c.of.ensures.text, c.of.ensures.status, c.of_refusal.ensures) (answered_all c.args.input.now _ _ _ c.loop-rest.invariant none)
