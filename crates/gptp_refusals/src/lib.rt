@@ -5,6 +5,8 @@
 #[cfg(test)]
 mod agenda;
 #[cfg(test)]
+mod certificate;
+#[cfg(test)]
 mod link;
 #[cfg(test)]
 mod text;
