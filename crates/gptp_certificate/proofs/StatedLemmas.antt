@@ -9,12 +9,12 @@ use Rattle.gptp_graph.specs.Members.{In, Different}
 use Rattle.gptp_graph.specs.Order.{IsRising}
 use Rattle.gptp_graph.proofs.MemberLemmas.{In-map, In-slice_get, from_map, slice_get-In}
 use Rattle.gptp_system.specs.State.{SystemState, clock}
-use Rattle.gptp_world.specs.Acts.{AtSystem}
-use Rattle.gptp_world.specs.Sound.{HaveOwnClocks}
-use Rattle.gptp_world.specs.Views.{put_rising, rising, rising_clocks}
-use Rattle.gptp_world.specs.World.{WorldState}
-use Rattle.gptp_world.specs.declared.station.Station.{Station}
-use Rattle.gptp_world.proofs.RisingLemmas.{rising_clocks-count}
+use Rattle.gptp_acts.specs.Acts.{AtSystem}
+use Rattle.gptp_acts.specs.Sound.{HaveOwnClocks}
+use Rattle.gptp_acts.specs.Views.{put_rising, rising, rising_clocks}
+use Rattle.gptp_acts.specs.World.{WorldState}
+use Rattle.gptp_acts.specs.declared.station.Station.{Station}
+use Rattle.gptp_acts.proofs.RisingLemmas.{rising_clocks-count}
 use Rattle.gptp_certificate.specs.Certificate.{AreInOrder}
 use Rattle.gptp_certificate.specs.Stated.{stated_line, stated_port, States}
 use Rattle.gptp_certificate.specs.Stating.{stated_if, Adds}

@@ -7,8 +7,8 @@ use Rattle.gptp_graph.specs.Members.{In}
 use Rattle.gptp_graph.specs.Order.{IsRising}
 use Rattle.gptp_system.specs.Start.{role_at}
 use Rattle.gptp_system.specs.State.{SystemState, clock, parent}
-use Rattle.gptp_world.specs.World.{WorldState}
-use Rattle.gptp_world.specs.declared.station.Station.{Station}
+use Rattle.gptp_acts.specs.World.{WorldState}
+use Rattle.gptp_acts.specs.declared.station.Station.{Station}
 use Rattle.gptp_certificate.specs.Certificate.{parent_of, role_of}
 
 -- the role of a port, and what a system follows with all its ports: by the system's own state

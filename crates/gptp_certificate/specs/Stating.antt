@@ -1,9 +1,9 @@
 -- How the lines of systems are put one behind another.
 use Rattle.std.specs.Prelude.{◌≡◌, ℕ, List, [], ◌∷◌, ◌++◌, if◌then◌else◌}
 use Rattle.gptp_graph.specs.Labelling.{SystemLine}
-use Rattle.gptp_world.specs.Acts.{AtSystem}
-use Rattle.gptp_world.specs.World.{WorldState}
-use Rattle.gptp_world.specs.declared.station.Station.{Station}
+use Rattle.gptp_acts.specs.Acts.{AtSystem}
+use Rattle.gptp_acts.specs.World.{WorldState}
+use Rattle.gptp_acts.specs.declared.station.Station.{Station}
 use Rattle.gptp_certificate.specs.Stated.{stated_line}
 
 -- the line of a system, where it lives

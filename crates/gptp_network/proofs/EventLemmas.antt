@@ -3,16 +3,16 @@ use Rattle.std.proofs.Common.{◌≡◌, ◌≤◌, ◌-◌, ◌++◌, ℕ, zero
 use Rattle.std.specs.List.{AllByRecursion}
 use Rattle.gptp_system.specs.Intervals.{IsLog}
 use Rattle.gptp_system.proofs.SpanLemmas.{interval_most}
-use Rattle.gptp_world.specs.Acts.{IsFitAct}
-use Rattle.gptp_world.specs.Calm.{last_change}
+use Rattle.gptp_acts.specs.Acts.{IsFitAct}
+use Rattle.gptp_acts.specs.Calm.{last_change}
 use Rattle.gptp_network.specs.Events.{timed, AreInOrder, AreEvents, IsEvent, IsChange}
 use Rattle.gptp_network.specs.declared.events.Event.{Event}
-use Rattle.gptp_world.specs.Network.{NetworkState}
-use Rattle.gptp_world.specs.Playing.{AreAllowed, IsAllowed}
-use Rattle.gptp_world.specs.declared.change.Act.TheVariants as acts
-use Rattle.gptp_world.specs.declared.change.Change.{Change}
-use Rattle.gptp_world.specs.declared.change.Change.TheVariants as changes
-use Rattle.gptp_world.specs.declared.change.Timed.{Timed}
+use Rattle.gptp_acts.specs.Network.{NetworkState}
+use Rattle.gptp_acts.specs.Playing.{AreAllowed, IsAllowed}
+use Rattle.gptp_acts.specs.declared.change.Act.TheVariants as acts
+use Rattle.gptp_acts.specs.declared.change.Change.{Change}
+use Rattle.gptp_acts.specs.declared.change.Change.TheVariants as changes
+use Rattle.gptp_acts.specs.declared.change.Timed.{Timed}
 
 before_last : (n : ℕ) → suc n - 1 ≡ n
 before_last n = omega arith

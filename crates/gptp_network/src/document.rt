@@ -2,9 +2,9 @@
 
 ghost use Rattle.std.specs.Prelude.{◌≡◌, ◌≤◌, ◌⊎◌, ◌↔◌, IsTrue, Ok, IfOk, IfErr};
 ghost use Rattle.toml.specs.View.{table_view};
-ghost use Rattle.gptp_world.specs.Calm.{last_change, IsCalm};
-ghost use Rattle.gptp_world.specs.Playing.{AreAllowed};
-ghost use Rattle.gptp_world.specs.SettlingTime.{settles};
+ghost use Rattle.gptp_acts.specs.Calm.{last_change, IsCalm};
+ghost use Rattle.gptp_acts.specs.Playing.{AreAllowed};
+ghost use Rattle.gptp_acts.specs.SettlingTime.{settles};
 ghost use Rattle.gptp_network.specs.Events.{AreEvents};
 ghost use Rattle.gptp_network.specs.Faults.{Refuses};
 ghost use Rattle.gptp_network.specs.Snapshot.{IsSnapshot};

@@ -2,7 +2,7 @@
 
 ghost use Rattle.std.specs.Prelude.{◌≡◌, ◌≤◌, ◌++◌, ◌∷◌, [], Ok, Some, None, OnOk, IfOk, IfErr};
 ghost use Rattle.toml.specs.View.{view, items_view, table_view};
-ghost use Rattle.gptp_world.specs.Calm.{last_change};
+ghost use Rattle.gptp_acts.specs.Calm.{last_change};
 ghost use Rattle.gptp_network.specs.Faults.{Refuses};
 ghost use Rattle.gptp_network.specs.Members.{each_of};
 ghost use Rattle.gptp_network.specs.Values.{natural};

@@ -1,7 +1,7 @@
 //! A world that goes on by itself, or by one act after another. Times are in ns.
 
 ghost use Rattle.std.specs.Prelude.{◌≡◌};
-ghost use Rattle.gptp_world.specs.Acts.{IsFitAct};
+ghost use Rattle.gptp_acts.specs.Acts.{IsFitAct};
 
 use gptp_links::{Direction, ListFate, PcgFate};
 use gptp_network::Document;

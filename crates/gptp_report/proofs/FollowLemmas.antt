@@ -2,11 +2,11 @@
 use Rattle.std.proofs.Common.{◌≡◌, ◌≤◌, ◌+◌, ℕ, Bool, true, false, List, [], ◌∷◌, ◌++◌, Option, refl, ap, sym, subst, ◌∙◌, append_assoc, append-nil, arith}
 use Rattle.std.proofs.lemmas.List.Concat.{flat_map-append}
 use Rattle.gptp_links.specs.declared.bounds.Bounds.{Bounds}
-use Rattle.gptp_world.specs.Acts.{at}
-use Rattle.gptp_world.specs.Advancing.{Advances, Advanced, Told}
-use Rattle.gptp_world.specs.Pending.{NothingBefore}
-use Rattle.gptp_world.specs.World.{WorldState}
-use Rattle.gptp_world.proofs.AdvanceLemmas.{advances-append, advances-later, nothing_happens, Happened}
+use Rattle.gptp_acts.specs.Acts.{at}
+use Rattle.gptp_acts.specs.Advancing.{Advances, Advanced, Told}
+use Rattle.gptp_acts.specs.Pending.{NothingBefore}
+use Rattle.gptp_acts.specs.World.{WorldState}
+use Rattle.gptp_acts.proofs.AdvanceLemmas.{advances-append, advances-later, nothing_happens, Happened}
 use Rattle.gptp_system.specs.declared.answer.Answer.{Answer}
 use Rattle.gptp_report.specs.declared.frame_line.FrameType.{FrameType}
 use Rattle.gptp_report.specs.FrameLine.{frame_line, IsOfType}

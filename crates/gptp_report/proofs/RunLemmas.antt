@@ -1,10 +1,10 @@
 -- Events, one after another.
 use Rattle.std.proofs.Common.{◌≡◌, ℕ, nat_le, Bool, true, false, List, [], ◌∷◌, ◌++◌, Option, refl, ap, sym, subst, ◌∙◌, append_assoc, append-nil}
 use Rattle.gptp_links.specs.declared.bounds.Bounds.{Bounds}
-use Rattle.gptp_world.specs.declared.change.Timed.{Timed}
-use Rattle.gptp_world.specs.Advancing.{Told}
-use Rattle.gptp_world.specs.Scene.{Begun}
-use Rattle.gptp_world.specs.World.{WorldState}
+use Rattle.gptp_acts.specs.declared.change.Timed.{Timed}
+use Rattle.gptp_acts.specs.Advancing.{Told}
+use Rattle.gptp_acts.specs.Course.{Begun}
+use Rattle.gptp_acts.specs.World.{WorldState}
 use Rattle.gptp_network.specs.Document.{DocumentState}
 use Rattle.gptp_report.specs.Following.{ChangedIf, Showed}
 use Rattle.gptp_report.specs.Lines.{text_of}

@@ -1,9 +1,9 @@
 -- A world that goes on, and the lines that are written meanwhile.
 use Rattle.std.specs.Prelude.{◌≡◌, ℕ, Bool, true, false, List, ◌++◌, [], Option}
 use Rattle.gptp_links.specs.declared.bounds.Bounds.{Bounds}
-use Rattle.gptp_world.specs.declared.change.Timed.{Timed}
-use Rattle.gptp_world.specs.Advancing.{Advances, Told}
-use Rattle.gptp_world.specs.World.{WorldState}
+use Rattle.gptp_acts.specs.declared.change.Timed.{Timed}
+use Rattle.gptp_acts.specs.Advancing.{Advances, Told}
+use Rattle.gptp_acts.specs.World.{WorldState}
 use Rattle.gptp_report.specs.Lines.{text_of}
 use Rattle.gptp_report.specs.Run.{Changed, ShowsFrames, ShowsIf}
 

@@ -3,12 +3,12 @@ use Rattle.std.specs.Prelude.{◌≡◌, ℕ, Bool, true, false, List, [], ◌�
 use Rattle.gptp_links.specs.declared.bounds.Bounds.{Bounds}
 use Rattle.gptp_network.specs.Document.{DocumentState}
 use Rattle.gptp_network.specs.Snapshot.{events_by}
-use Rattle.gptp_world.specs.declared.change.Timed.{Timed}
-use Rattle.gptp_world.specs.declared.done.Done.{Done}
-use Rattle.gptp_world.specs.declared.done.Done.TheVariants.{Quiet, Heard}
-use Rattle.gptp_world.specs.Advancing.{Advanced, Told}
-use Rattle.gptp_world.specs.Scene.{Begun, WasDone}
-use Rattle.gptp_world.specs.World.{WorldState}
+use Rattle.gptp_acts.specs.declared.change.Timed.{Timed}
+use Rattle.gptp_acts.specs.declared.done.Done.{Done}
+use Rattle.gptp_acts.specs.declared.done.Done.TheVariants.{Quiet, Heard}
+use Rattle.gptp_acts.specs.Advancing.{Advanced, Told}
+use Rattle.gptp_acts.specs.Course.{Begun, WasDone}
+use Rattle.gptp_acts.specs.World.{WorldState}
 use Rattle.gptp_report.specs.declared.frame_line.FrameType.{FrameType}
 use Rattle.gptp_report.specs.FrameLine.{frame_line, IsOfType}
 

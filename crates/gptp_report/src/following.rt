@@ -1,13 +1,13 @@
 //! Worlds that go on, with a line for each frame.
 
 ghost use Rattle.std.specs.Prelude.{◌≡◌, ◌++◌, ◌≤◌, ◌<◌, ◌+◌, ℕ, List, true, IfNone, IfOk, IfSome, OnOk, string_bytes};
-ghost use Rattle.gptp_world.specs.declared.change.Timed.{Timed};
-ghost use Rattle.gptp_world.specs.Advancing.{Advanced, Told};
-ghost use Rattle.gptp_world.specs.Ahead.{due_by};
-ghost use Rattle.gptp_world.specs.Pending.{NothingBefore};
-ghost use Rattle.gptp_world.specs.Playing.{IsAllowed};
-ghost use Rattle.gptp_world.specs.Scene.{WasDone};
-ghost use Rattle.gptp_world.specs.Views.{IsNextAct};
+ghost use Rattle.gptp_acts.specs.declared.change.Timed.{Timed};
+ghost use Rattle.gptp_acts.specs.Advancing.{Advanced, Told};
+ghost use Rattle.gptp_acts.specs.Ahead.{due_by};
+ghost use Rattle.gptp_acts.specs.Pending.{NothingBefore};
+ghost use Rattle.gptp_acts.specs.Playing.{IsAllowed};
+ghost use Rattle.gptp_acts.specs.Course.{WasDone};
+ghost use Rattle.gptp_acts.specs.Views.{IsNextAct};
 ghost use Rattle.gptp_report.specs.Following.{Follows, Showed};
 ghost use Rattle.gptp_report.specs.Lines.{text_of};
 ghost use Rattle.gptp_report.specs.Run.{ShowsDone};

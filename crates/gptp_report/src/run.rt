@@ -1,8 +1,8 @@
 //! Runs of documents.
 
 ghost use Rattle.std.specs.Prelude.{◌≡◌, ◌++◌, ◌≤◌, ℕ, List, IfOk, OnOk, nat_le, string_bytes};
-ghost use Rattle.gptp_world.specs.Advancing.{Told};
-ghost use Rattle.gptp_world.specs.Playing.{AreAllowed, IsAllowed, IsPlayed};
+ghost use Rattle.gptp_acts.specs.Advancing.{Told};
+ghost use Rattle.gptp_acts.specs.Playing.{AreAllowed, IsAllowed, IsPlayed};
 ghost use Rattle.gptp_report.specs.Following.{ChangedIf, Showed};
 ghost use Rattle.gptp_report.specs.Lines.{text_of};
 ghost use Rattle.gptp_network.specs.Snapshot.{events_by};

@@ -8,7 +8,7 @@ use Rattle.gptp_network.specs.declared.fault.DocumentFault.{DocumentFault}
 use Rattle.gptp_network.specs.declared.fault.DocumentFault.TheVariants.{TooMany}
 use Rattle.gptp_network.specs.Document.{DocumentState, Fails as FailsDocument, Means}
 use Rattle.gptp_network.specs.Snapshot.{IsSnapshot}
-use Rattle.gptp_world.specs.Calm.{last_change}
+use Rattle.gptp_acts.specs.Calm.{last_change}
 use Rattle.gptp_certificate.specs.declared.fault.CertificateFault.{CertificateFault}
 use Rattle.gptp_certificate.specs.declared.fault.CertificateFault.TheVariants.{Line}
 use Rattle.gptp_certificate.specs.Faults as certificates

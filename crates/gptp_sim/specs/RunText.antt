@@ -9,8 +9,8 @@ use Rattle.gptp_network.specs.declared.fault.DocumentFault.{DocumentFault}
 use Rattle.gptp_network.specs.declared.fault.DocumentFault.TheVariants.{TooMany}
 use Rattle.gptp_network.specs.Document.{DocumentState, Fails, Means}
 use Rattle.gptp_network.specs.Faults.{fault_text}
-use Rattle.gptp_world.specs.SettlingTime.{settles}
-use Rattle.gptp_world.specs.World.{WorldState}
+use Rattle.gptp_acts.specs.SettlingTime.{settles}
+use Rattle.gptp_acts.specs.World.{WorldState}
 use Rattle.gptp_graph.specs.Labelling.{SystemLine}
 use Rattle.gptp_report.specs.Report.{Reports}
 use Rattle.gptp_report.specs.Run.{LeadsTo}

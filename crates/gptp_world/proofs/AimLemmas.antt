@@ -11,18 +11,26 @@ use Rattle.gptp_vector.specs.declared.port.PortId.{PortId}
 use Rattle.gptp_world.specs.declared.cable.Lane.{Lane}
 use Rattle.gptp_world.specs.declared.net.Net.{Net as Between}
 use Rattle.gptp_world.specs.declared.stage.Stage.{Stage}
-use Rattle.gptp_world.specs.declared.station.Station.{Station}
-use Rattle.gptp_world.specs.Acts.{AnyLink, AnySystem, AtLink, AtSystem, IsOldestDue}
-use Rattle.gptp_world.specs.Aim.{IsLinkAt, IsSystemAt, IsTimerAt}
+use Rattle.gptp_acts.specs.declared.station.Station.{Station}
+use Rattle.gptp_acts.specs.declared.change.Act.{Act}
+use Rattle.gptp_acts.specs.declared.item.Item.{Item}
+use Rattle.gptp_acts.specs.declared.item.Item.TheVariants.{Expiry, Arrival}
+use Rattle.gptp_acts.specs.Agrees.{Agrees}
+use Rattle.gptp_acts.specs.Pending.{IsNext}
+use Rattle.gptp_acts.specs.Sound.{IsSound}
+use Rattle.gptp_acts.specs.Views.{IsActOf}
+use Rattle.gptp_acts.specs.Acts.{AnyLink, AnySystem, AtLink, AtSystem, IsOldestDue}
+use Rattle.gptp_world.specs.Aim.{aim_of, IsAimOf, IsLinkAt, IsSystemAt, IsTimerAt}
 use Rattle.gptp_world.specs.Cable.{channel_of}
-use Rattle.gptp_world.specs.Changing.{IsChannel}
+use Rattle.gptp_acts.specs.Changing.{IsChannel}
 use Rattle.gptp_world.specs.Directory.{start_of, BeginsAt, DirectoryState, IsDirectory, IsPlaced}
 use Rattle.gptp_world.specs.Net.{between, IsNet}
 use Rattle.gptp_world.specs.Stage.{clock_at, world_of, IsStage}
-use Rattle.gptp_world.specs.World.{Channel, queue, sender}
+use Rattle.gptp_acts.specs.World.{Channel, WorldState, queue, sender}
 use Rattle.gptp_world.proofs.EndLemmas.{station_at}
 use Rattle.gptp_world.proofs.NetLemmas.{known_cable, known_lane}
-use Rattle.gptp_world.proofs.PlaceLemmas.{get-map}
+use Rattle.gptp_acts.proofs.NextDueLemmas.{next_comes, next_runs_out}
+use Rattle.gptp_acts.proofs.PlaceLemmas.{get-map}
 
 -- ---- links
 
@@ -130,3 +138,30 @@ pub due_oldest : (direction : Direction) (channel : Channel) (time : ℕ) → Is
     → option_map (λ (f : Frame). f.due) (first (queue direction channel)) ≡ Some time
 due_oldest direction channel time is =
     ap (λ fs. option_map (λ (f : Frame). f.due) (first fs)) is.front ∙ ap Some is.due
+
+-- ---- what is next
+
+timer_aimed : (place : ℕ) (timer : Timer) (time : ℕ) (w : WorldState) (station : Station) → Agrees w
+    → IsNext w.net.pending time (Expiry place timer) → slice_get w.stations place ≡ Some station
+    → IsTimerOf station.system timer
+timer_aimed place timer time w station agrees next here =
+    let runs = next_runs_out place timer time w agrees next in
+    subst (λ (s : Station). IsTimerOf s.system timer) (same_Some runs.station station (sym runs.here ∙ here)) runs.timer_of
+
+-- the act that an item is, is about what the item is about
+pub next_aimed : (item : Item) (time : ℕ) (act : Act) (w : WorldState) → IsSound w → IsNext w.net.pending time item
+    → IsActOf item w act → IsAimOf act w (aim_of item)
+next_aimed (Arrival link direction) time act w sound next is =
+    let comes = next_comes link direction time w
+    (λ channel here. (sound.wired.flow link direction channel here).order) sound.agrees next in
+    subst (λ a. IsAimOf a w (aim_of (Arrival link direction))) (sym is)
+    (refl, (refl, record { channel = comes.channel; here = comes.here; so = tt }))
+next_aimed (Expiry place timer) time act w sound next (station, here, is) =
+    subst (λ a. IsAimOf a w (aim_of (Expiry place timer))) (sym is) (
+      record {
+        station = station;
+        is = record { here = here; named = refl };
+        timer_of = timer_aimed place timer time w station sound.agrees next here;
+      },
+      refl,
+    )

@@ -6,12 +6,12 @@ use Rattle.gptp_vector.specs.declared.port.PortId.{PortId}
 use Rattle.gptp_world.specs.declared.cable.Cable.{Cable}
 use Rattle.gptp_world.specs.declared.cable.Lane.{Lane}
 use Rattle.gptp_world.specs.Directory.{Join}
-use Rattle.gptp_world.specs.declared.item.Item.TheVariants.{Arrival}
-use Rattle.gptp_world.specs.Act.{Takes}
+use Rattle.gptp_acts.specs.declared.item.Item.TheVariants.{Arrival}
+use Rattle.gptp_acts.specs.Act.{Takes}
 use Rattle.gptp_world.specs.Cable.{join_of, channel_of, net_of}
-use Rattle.gptp_world.specs.Pending.{PendingState, without_first}
-use Rattle.gptp_world.specs.World.{with_queue}
-use Rattle.gptp_world.proofs.PlaceLemmas.{get-map, map-set, map-set_same}
+use Rattle.gptp_acts.specs.Pending.{PendingState, without_first}
+use Rattle.gptp_acts.specs.World.{with_queue}
+use Rattle.gptp_acts.proofs.PlaceLemmas.{get-map, map-set, map-set_same}
 use Rattle.gptp_world.proofs.SendingLemmas.{channel_sent, queue_same}
 
 abbrev made : PortId → PortId → Join

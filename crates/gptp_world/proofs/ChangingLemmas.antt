@@ -5,9 +5,9 @@ use Rattle.gptp_world.specs.declared.cable.Cable.{Cable}
 use Rattle.gptp_world.specs.declared.net.Net.{Net as Between}
 use Rattle.gptp_world.specs.Cable.{join_of, channel_of, net_of}
 use Rattle.gptp_world.specs.Net.{IsNet}
-use Rattle.gptp_world.specs.Pending.{Entry, PendingState}
-use Rattle.gptp_world.specs.World.{Channel, Net}
-use Rattle.gptp_world.proofs.PlaceLemmas.{map-set}
+use Rattle.gptp_acts.specs.Pending.{Entry, PendingState}
+use Rattle.gptp_acts.specs.World.{Channel, Net}
+use Rattle.gptp_acts.proofs.PlaceLemmas.{map-set}
 use Rattle.gptp_world.proofs.ArrivingLemmas.{joins_kept}
 
 abbrev made : List Channel → List Entry → Net

@@ -5,19 +5,19 @@ use Rattle.gptp_system.specs.declared.timer.Timer.{Timer}
 use Rattle.gptp_world.specs.declared.aim.Aim.{Aim}
 use Rattle.gptp_world.specs.declared.aim.Aim.TheVariants as aims
 use Rattle.gptp_world.specs.declared.cable.Lane.{Lane}
-use Rattle.gptp_world.specs.declared.change.Act.{Act}
-use Rattle.gptp_world.specs.declared.change.Act.TheVariants.{Deliver, Expire, Change as Changing}
-use Rattle.gptp_world.specs.declared.change.Change.{Change}
-use Rattle.gptp_world.specs.declared.change.Change.TheVariants as changes
-use Rattle.gptp_world.specs.declared.item.Item.{Item}
+use Rattle.gptp_acts.specs.declared.change.Act.{Act}
+use Rattle.gptp_acts.specs.declared.change.Act.TheVariants.{Deliver, Expire, Change as Changing}
+use Rattle.gptp_acts.specs.declared.change.Change.{Change}
+use Rattle.gptp_acts.specs.declared.change.Change.TheVariants as changes
+use Rattle.gptp_acts.specs.declared.item.Item.{Item}
 use Rattle.gptp_world.specs.declared.stage.Stage.{Stage}
-use Rattle.gptp_world.specs.declared.station.Station.{Station}
-use Rattle.gptp_world.specs.Acts.{IsDueThen, IsEarlier, IsOldestDue, IsThere}
+use Rattle.gptp_acts.specs.declared.station.Station.{Station}
+use Rattle.gptp_acts.specs.Acts.{IsDueThen, IsEarlier, IsOldestDue, IsThere}
 use Rattle.gptp_world.specs.Aim.{IsAimOf, IsAimOfChange}
 use Rattle.gptp_world.specs.Directory.{IsDirectory}
-use Rattle.gptp_world.specs.Pending.{Entry, entry, IsNext}
+use Rattle.gptp_acts.specs.Pending.{Entry, entry, IsNext}
 use Rattle.gptp_world.specs.Stage.{world_of, IsStage}
-use Rattle.gptp_world.specs.World.{Channel, WorldState, station_due}
+use Rattle.gptp_acts.specs.World.{Channel, WorldState, station_due}
 use Rattle.gptp_world.proofs.AimLemmas.{system_clock}
 
 -- ---- something is due earlier

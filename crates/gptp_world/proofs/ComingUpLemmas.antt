@@ -13,18 +13,19 @@ use Rattle.gptp_system.specs.State.{SystemState, clock}
 use Rattle.gptp_world.specs.declared.cable.Lane.{Lane}
 use Rattle.gptp_world.specs.declared.net.Net.{Net as Between}
 use Rattle.gptp_world.specs.declared.stage.Stage.{Stage}
-use Rattle.gptp_world.specs.declared.station.Station.{Station}
-use Rattle.gptp_world.specs.Act.{in_state, Calls}
-use Rattle.gptp_world.specs.Changing.{is_up_at, CallsAll}
-use Rattle.gptp_world.specs.Net.{between, port_id, IsUpLane}
-use Rattle.gptp_world.specs.Sends.{IsUnlinked}
+use Rattle.gptp_acts.specs.declared.station.Station.{Station}
+use Rattle.gptp_acts.specs.Act.{in_state, Calls}
+use Rattle.gptp_acts.specs.Changing.{is_up_at, CallsAll}
+use Rattle.gptp_world.specs.Net.{between, IsUpLane}
+use Rattle.gptp_acts.specs.World.{port_id}
+use Rattle.gptp_acts.specs.Sends.{IsUnlinked}
 use Rattle.gptp_world.specs.Room.{both, for_call, nothing, repeated, HasRoom, Need, Uses}
 use Rattle.gptp_world.specs.Stage.{clock_at, world_of, Called, CallUses, HasRoomToCall, IsStage}
 use Rattle.gptp_world.specs.Starting.{CameUp, HasRoomForPorts}
-use Rattle.gptp_world.specs.World.{WorldState}
+use Rattle.gptp_acts.specs.World.{WorldState}
 use Rattle.gptp_world.proofs.NeedLemmas.{covered, left_of, unsent, uses_both, uses_less, Covers}
-use Rattle.gptp_world.proofs.PlaceLemmas.{get-map, get-set_same}
-use Rattle.gptp_world.proofs.StageLemmas.{same_clock, same_ports}
+use Rattle.gptp_acts.proofs.PlaceLemmas.{get-map, get-set_same}
+use Rattle.gptp_acts.proofs.SteadyLemmas.{same_clock, same_ports}
 use Rattle.gptp_world.proofs.UpPortLemmas.{calls_all_up, up_tells}
 
 -- ---- calls one after another

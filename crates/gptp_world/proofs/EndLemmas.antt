@@ -6,14 +6,14 @@ use Rattle.gptp_links.specs.declared.link.Direction.TheVariants.{FromA, FromB}
 use Rattle.gptp_world.specs.declared.cable.Cable.{Cable}
 use Rattle.gptp_world.specs.declared.net.Net.{Net as Between}
 use Rattle.gptp_world.specs.declared.stage.Stage.{Stage}
-use Rattle.gptp_world.specs.declared.station.Station.{Station}
+use Rattle.gptp_acts.specs.declared.station.Station.{Station}
 use Rattle.gptp_world.specs.Cable.{channel_of, join_of}
 use Rattle.gptp_world.specs.Directory.{end_of, DirectoryState, IsDirectory, IsPlaced, Join}
 use Rattle.gptp_world.specs.Net.{IsNet}
 use Rattle.gptp_world.specs.Stage.{clock_at, IsStage}
-use Rattle.gptp_world.specs.World.{receiver}
+use Rattle.gptp_acts.specs.World.{receiver}
 use Rattle.gptp_world.proofs.NetLemmas.{from_map}
-use Rattle.gptp_world.proofs.PlaceLemmas.{get-map}
+use Rattle.gptp_acts.proofs.PlaceLemmas.{get-map}
 
 -- the directory knows the ports that a link joins
 pub known_join : (net : Between) (link : ℕ) (cable : Cable) → IsNet net → slice_get net.cables.items link ≡ Some cable

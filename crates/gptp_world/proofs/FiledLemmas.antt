@@ -9,12 +9,13 @@ use Rattle.gptp_links.specs.declared.link.Direction.TheVariants.{FromA, FromB}
 use Rattle.gptp_scheduler.specs.Pending.{Entry as Numbered, entry as numbered, without as without_number, RiseFrom}
 use Rattle.gptp_system.specs.declared.timer.Timer.{Timer}
 use Rattle.gptp_world.specs.declared.filed.Running.{Running}
-use Rattle.gptp_world.specs.declared.item.Item.{Item}
-use Rattle.gptp_world.specs.declared.item.Item.TheVariants.{Expiry, Arrival}
-use Rattle.gptp_world.proofs.PendingLemmas.{without_first-none}
-use Rattle.gptp_world.proofs.SlotLemmas.{kind_below, cut, length-cut, in_slot-push_same, in_slot-push_other, in_slot-cut_same, in_slot-cut_other, all-cut, removed, times-plain, plain-cut}
+use Rattle.gptp_acts.specs.declared.item.Item.{Item}
+use Rattle.gptp_acts.specs.declared.item.Item.TheVariants.{Expiry, Arrival}
+use Rattle.gptp_acts.proofs.PendingLemmas.{without_first-none}
+use Rattle.gptp_acts.proofs.TimerLemmas.{kind_below}
+use Rattle.gptp_world.proofs.SlotLemmas.{cut, length-cut, in_slot-push_same, in_slot-push_other, in_slot-cut_same, in_slot-cut_other, all-cut, removed, times-plain, plain-cut}
 use Rattle.gptp_world.proofs.QueueLemmas.{queue-same, queue-other, popped_numbers, length-plain}
-use Rattle.gptp_world.specs.Pending.{Entry, plain, times, without_first, IsKnown, arrival_place}
+use Rattle.gptp_acts.specs.Pending.{Entry, plain, times, without_first, IsKnown, arrival_place}
 use Rattle.gptp_world.specs.Filed.{QueueState, FiledState, queue_at, with_queue, slot_of, timer_place, in_slot, running, number_of, one_or_none, pushed, popped, AreFiled}
 
 -- ---- places

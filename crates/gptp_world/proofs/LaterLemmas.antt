@@ -2,18 +2,18 @@
 use Rattle.std.proofs.Common.{ℕ, ◌≤◌}
 use Rattle.gptp_world.specs.declared.aim.Aim.{Aim}
 use Rattle.gptp_world.specs.declared.aim.Aim.TheVariants as aims
-use Rattle.gptp_world.specs.declared.change.Act.{Act}
-use Rattle.gptp_world.specs.declared.change.Act.TheVariants.{Deliver, Expire, Change as Changing}
-use Rattle.gptp_world.specs.declared.change.Change.{Change}
-use Rattle.gptp_world.specs.declared.change.Change.TheVariants as changes
+use Rattle.gptp_acts.specs.declared.change.Act.{Act}
+use Rattle.gptp_acts.specs.declared.change.Act.TheVariants.{Deliver, Expire, Change as Changing}
+use Rattle.gptp_acts.specs.declared.change.Change.{Change}
+use Rattle.gptp_acts.specs.declared.change.Change.TheVariants as changes
 use Rattle.gptp_world.specs.declared.stage.Stage.{Stage}
-use Rattle.gptp_world.specs.Acts.{at, IsDueThen}
+use Rattle.gptp_acts.specs.Acts.{at, IsDueThen}
 use Rattle.gptp_world.specs.Aim.{IsAimOf, IsAimOfChange}
 use Rattle.gptp_world.specs.Performing.{HasRoomForAim}
 use Rattle.gptp_world.specs.Stage.{HasRoomToCall, IsStage}
 use Rattle.gptp_world.specs.Starting.{HasRoomToStart}
 use Rattle.gptp_world.specs.Telling.{HasRoomAtEnds}
-use Rattle.gptp_world.specs.World.{WorldState}
+use Rattle.gptp_acts.specs.World.{WorldState}
 
 change_later : (c : Change) (w : WorldState) (time : ℕ) (aim : Aim) → IsAimOfChange c w aim → IsAimOfChange c (at time w) aim
 change_later (changes.LinkDown number port) w time (aims.Arrival lane) is = is

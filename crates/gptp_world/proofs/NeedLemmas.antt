@@ -13,8 +13,9 @@ use Rattle.gptp_world.specs.declared.cable.Lane.{Lane}
 use Rattle.gptp_world.specs.declared.net.Net.{Net as Between}
 use Rattle.gptp_world.specs.Cable.{HasRoomOn}
 use Rattle.gptp_world.specs.Directory.{start_of, BeginsAt}
-use Rattle.gptp_world.specs.Net.{port_id, IsUpLane, OnlyEntries}
-use Rattle.gptp_world.specs.Pending.{PendingState}
+use Rattle.gptp_world.specs.Net.{IsUpLane, OnlyEntries}
+use Rattle.gptp_acts.specs.World.{port_id}
+use Rattle.gptp_acts.specs.Pending.{PendingState}
 use Rattle.gptp_world.specs.Room.{both, for_sends, for_timers, nothing, repeated, sends_from, HasRoom, KeepsRoomOn, Need, Uses}
 use Rattle.gptp_world.proofs.SendingLemmas.{same_lane}
 

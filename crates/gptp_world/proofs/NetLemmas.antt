@@ -10,12 +10,12 @@ use Rattle.gptp_world.specs.declared.net.Net.{Net as Between}
 use Rattle.gptp_world.specs.Cable.{join_of, channel_of}
 use Rattle.gptp_world.specs.Directory.{start_of, BeginsAt}
 use Rattle.gptp_world.specs.Net.{between, IsNet}
-use Rattle.gptp_world.specs.Sends.{IsUnlinked}
-use Rattle.gptp_world.specs.World.{Channel, sender}
+use Rattle.gptp_acts.specs.Sends.{IsUnlinked}
+use Rattle.gptp_acts.specs.World.{Channel, sender}
 use Rattle.std.specs.Prelude.{Vec}
 use Rattle.std.specs.Vec.{with_items}
 use Rattle.std.proofs.lemmas.List.{with_items_is, length-map}
-use Rattle.gptp_world.proofs.PlaceLemmas.{get-map}
+use Rattle.gptp_acts.proofs.PlaceLemmas.{get-map}
 
 -- what stands in a list that was made of another, backwards
 pub record MadeOf {X Y : Type 0} (f : X → Y) (xs : List X) (i : ℕ) (y : Y) : Type 0 where

@@ -16,29 +16,29 @@ use Rattle.gptp_world.specs.declared.aim.Aim.{Aim}
 use Rattle.gptp_world.specs.declared.aim.Aim.TheVariants as aims
 use Rattle.gptp_world.specs.declared.cable.Cable.{Cable}
 use Rattle.gptp_world.specs.declared.cable.Lane.{Lane}
-use Rattle.gptp_world.specs.declared.change.Act.{Act}
-use Rattle.gptp_world.specs.declared.change.Act.TheVariants.{Deliver, Expire, Change as Changing}
-use Rattle.gptp_world.specs.declared.change.Change.{Change}
-use Rattle.gptp_world.specs.declared.change.Change.TheVariants as changes
-use Rattle.gptp_world.specs.declared.done.Done.{Done}
-use Rattle.gptp_world.specs.declared.done.Done.TheVariants.{Quiet}
+use Rattle.gptp_acts.specs.declared.change.Act.{Act}
+use Rattle.gptp_acts.specs.declared.change.Act.TheVariants.{Deliver, Expire, Change as Changing}
+use Rattle.gptp_acts.specs.declared.change.Change.{Change}
+use Rattle.gptp_acts.specs.declared.change.Change.TheVariants as changes
+use Rattle.gptp_acts.specs.declared.done.Done.{Done}
+use Rattle.gptp_acts.specs.declared.done.Done.TheVariants.{Quiet}
 use Rattle.gptp_world.specs.declared.stage.Stage.{Stage}
-use Rattle.gptp_world.specs.declared.station.Station.{Station}
-use Rattle.gptp_world.specs.Acts.{Acts, AtPlace, Changes, IsFitAct, IsOldestDue, Tells}
+use Rattle.gptp_acts.specs.declared.station.Station.{Station}
+use Rattle.gptp_acts.specs.Acts.{Acts, AtPlace, Changes, IsFitAct, IsOldestDue, Tells}
 use Rattle.gptp_world.specs.Aim.{IsAimOf, IsAimOfChange}
 use Rattle.gptp_world.specs.Cable.{channel_of, join_of}
-use Rattle.gptp_world.specs.Changing.{with_bounds, with_setup, with_station, CallsIfLive}
+use Rattle.gptp_acts.specs.Changing.{with_bounds, with_setup, with_station, CallsIfLive}
 use Rattle.gptp_world.specs.Delivering.{Delivered, MayHear}
 use Rattle.gptp_world.specs.Directory.{end_of, Join}
 use Rattle.gptp_world.specs.Net.{IsFrameDue}
 use Rattle.gptp_world.specs.Performing.{Acted, CanChange, HasRoomForAim, OfLink, OfSystem, Turned, Turns}
-use Rattle.gptp_world.specs.Sound.{AreLinked, Flows, IsSound, IsWired}
+use Rattle.gptp_acts.specs.Sound.{AreLinked, Flows, IsSound, IsWired}
 use Rattle.gptp_world.specs.Stage.{clock_at, world_of, IsStage}
 use Rattle.gptp_world.specs.Telling.{HasRoomAtEnds}
-use Rattle.gptp_world.specs.World.{Channel, WorldState, queue, receiver}
+use Rattle.gptp_acts.specs.World.{Channel, WorldState, queue, receiver}
 use Rattle.gptp_world.proofs.EndLemmas.{end_same, known_join}
 use Rattle.gptp_world.proofs.NetLemmas.{from_map}
-use Rattle.gptp_world.proofs.PlaceLemmas.{get-map, read}
+use Rattle.gptp_acts.proofs.PlaceLemmas.{get-map, read}
 use Rattle.gptp_world.proofs.SendingLemmas.{queue_same}
 
 -- ---- where it is

@@ -7,11 +7,11 @@ use Rattle.std.proofs.lemmas.Bool.Decides.{nat_tests}
 use Rattle.std.proofs.lemmas.List.{get_or-set_same, get_or-set_other}
 use Rattle.gptp_links.specs.declared.link.Direction.{Direction}
 use Rattle.gptp_scheduler.specs.Pending.{Entry as Numbered}
-use Rattle.gptp_world.specs.declared.item.Item.{Item}
-use Rattle.gptp_world.specs.declared.item.Item.TheVariants.{Arrival}
+use Rattle.gptp_acts.specs.declared.item.Item.{Item}
+use Rattle.gptp_acts.specs.declared.item.Item.TheVariants.{Arrival}
 use Rattle.gptp_world.proofs.SlotLemmas.{same_slot}
-use Rattle.gptp_world.specs.Item.{same_item}
-use Rattle.gptp_world.specs.Pending.{plain, arrival_place}
+use Rattle.gptp_acts.specs.Item.{same_item}
+use Rattle.gptp_acts.specs.Pending.{plain, arrival_place}
 use Rattle.gptp_world.specs.Filed.{QueueState, FiledState, no_queue, queue_at, with_queue, slot_of, popped, popped_from, head_of, first_number, rooms_of}
 
 -- ---- queues with no number

@@ -13,18 +13,19 @@ use Rattle.gptp_world.specs.declared.cable.Cable.{Cable}
 use Rattle.gptp_world.specs.declared.cable.Lane.{Lane}
 use Rattle.gptp_world.specs.declared.net.Net.{Net as Between}
 use Rattle.gptp_world.specs.declared.stage.Stage.{Stage}
-use Rattle.gptp_world.specs.declared.station.Station.{Station}
+use Rattle.gptp_acts.specs.declared.station.Station.{Station}
 use Rattle.gptp_world.specs.Cable.{channel_of, join_of, HasRoomOn}
 use Rattle.gptp_world.specs.Directory.{BeginsAt, IsDirectory, Join}
-use Rattle.gptp_world.specs.Net.{port_id, IsNet}
-use Rattle.gptp_world.specs.Pending.{PendingState, arrival_room, HasArrivalRoom, KeepsArrivalRoom}
+use Rattle.gptp_world.specs.Net.{IsNet}
+use Rattle.gptp_acts.specs.World.{port_id}
+use Rattle.gptp_acts.specs.Pending.{PendingState, arrival_room, HasArrivalRoom, KeepsArrivalRoom}
 use Rattle.gptp_world.specs.Room.{both, for_call, for_timers, repeated, HasRoomAtPorts, HasRoomBothWays, HasRoomFrom, KeepsRoomOn, Need, OnlyRoom}
 use Rattle.gptp_world.specs.Stage.{clock_at, HasRoomToCall, HasRoomToCallBoth, IsStage}
 use Rattle.gptp_world.specs.Starting.{for_start, HasRoomToStart}
-use Rattle.gptp_world.specs.World.{Channel, Net}
+use Rattle.gptp_acts.specs.World.{Channel, Net}
 use Rattle.gptp_world.proofs.NeedLemmas.{covered, repeated-covered, Covers}
 use Rattle.gptp_world.proofs.NetLemmas.{known_cable}
-use Rattle.gptp_world.proofs.PlaceLemmas.{get-map, get-set_same, get-set_other, same_place}
+use Rattle.gptp_acts.proofs.PlaceLemmas.{get-map, get-set_same, get-set_other, same_place}
 
 -- ---- one link
 

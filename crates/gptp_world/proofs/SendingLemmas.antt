@@ -12,13 +12,13 @@ use Rattle.gptp_links.specs.Queue.{Frame, Queue, frame, due_after, with_sent, Is
 use Rattle.gptp_links.specs.State as links
 use Rattle.gptp_world.specs.declared.cable.Cable.{Cable}
 use Rattle.gptp_world.specs.declared.cable.Lane.{Lane}
-use Rattle.gptp_world.specs.declared.item.Item.TheVariants.{Arrival}
-use Rattle.gptp_world.specs.Item.{same_item}
-use Rattle.gptp_world.specs.Pending.{PendingState, put_if, arrival_room, KeepsOtherRoom}
-use Rattle.gptp_world.specs.World.{Channel, sender, queue, with_queue}
-use Rattle.gptp_world.specs.Sends.{entered}
+use Rattle.gptp_acts.specs.declared.item.Item.TheVariants.{Arrival}
+use Rattle.gptp_acts.specs.Item.{same_item}
+use Rattle.gptp_acts.specs.Pending.{PendingState, put_if, arrival_room, KeepsOtherRoom}
+use Rattle.gptp_acts.specs.World.{Channel, sender, queue, with_queue}
+use Rattle.gptp_acts.specs.Sends.{entered}
 use Rattle.gptp_world.specs.Cable.{net_of, channel_of, HasRoomOn, SentOne}
-use Rattle.gptp_world.proofs.PlaceLemmas.{get-set_same, get-set_other, get-map, map-set, map-set_same, same_place}
+use Rattle.gptp_acts.proofs.PlaceLemmas.{get-set_same, get-set_other, get-map, map-set, map-set_same, same_place}
 
 -- a link whose queue in one direction became another, and nothing else of it
 pub channel_sent : (d : Direction) (old new : Cable) (frames : List Frame) → new.a ≡ old.a → new.b ≡ old.b → links.ChangesOnly d old.link new.link

@@ -6,12 +6,12 @@ use Rattle.gptp_links.specs.declared.link.Direction.TheVariants.{FromA, FromB}
 use Rattle.gptp_scheduler.specs.Pending.{Entry as Numbered, without as without_number, RiseFrom}
 use Rattle.gptp_scheduler.proofs.EntryLemmas.{without-other_head}
 use Rattle.gptp_system.specs.declared.timer.Timer.{Timer}
-use Rattle.gptp_system.specs.declared.timer.Timer.TheVariants as timers
-use Rattle.gptp_world.specs.declared.item.Item.{Item}
-use Rattle.gptp_world.specs.declared.item.Item.TheVariants.{Expiry, Arrival}
-use Rattle.gptp_world.specs.Item.{timer_kind, timer_port, same_item}
-use Rattle.gptp_world.specs.Pending.{entry, plain, times, without_first, IsKnown}
+use Rattle.gptp_acts.specs.declared.item.Item.{Item}
+use Rattle.gptp_acts.specs.declared.item.Item.TheVariants.{Expiry, Arrival}
+use Rattle.gptp_acts.specs.Item.{timer_kind, timer_port, same_item}
+use Rattle.gptp_acts.specs.Pending.{entry, plain, times, without_first, IsKnown}
 use Rattle.gptp_world.specs.Filed.{slot_of, in_slot}
+use Rattle.gptp_acts.proofs.TimerLemmas.{kind_below}
 
 -- ---- slots
 
@@ -19,14 +19,6 @@ pub both_tests : (a b : Bool) → (a ≡ true → b ≡ true) → (b ≡ true �
 both_tests true b f g = sym (f refl)
 both_tests false true f g = g refl
 both_tests false false f g = refl
-
-pub kind_below : (timer : Timer) → timer_kind timer < 6
-kind_below (timers.Pdelay p) = omega arith
-kind_below (timers.Respond p) = omega arith
-kind_below (timers.Announce p) = omega arith
-kind_below (timers.Age p) = omega arith
-kind_below timers.Sync = omega arith
-kind_below timers.Relay = omega arith
 
 -- a number tells its parts
 parts : (p k q p' k' q' : ℕ) → k < 6 → k' < 6 → q ≤ 16 → q' ≤ 16

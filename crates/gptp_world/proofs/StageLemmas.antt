@@ -14,11 +14,12 @@ use Rattle.gptp_system.specs.State.{SystemState, clock}
 use Rattle.gptp_vector.specs.declared.port.PortId.{PortId}
 use Rattle.gptp_world.specs.declared.cable.Lane.{Lane}
 use Rattle.gptp_world.specs.declared.net.Net.{Net as Between}
-use Rattle.gptp_world.specs.declared.station.Station.{Station}
-use Rattle.gptp_world.specs.Act.{set_timers, all_timers, in_state}
+use Rattle.gptp_acts.specs.declared.station.Station.{Station}
+use Rattle.gptp_acts.specs.Act.{set_timers, all_timers, in_state}
 use Rattle.gptp_world.specs.Cable.{SentAll}
 use Rattle.gptp_world.specs.Directory.{BeginsAt}
-use Rattle.gptp_world.specs.Net.{between, port_id, IsNet, OnlyEntries}
+use Rattle.gptp_world.specs.Net.{between, IsNet, OnlyEntries}
+use Rattle.gptp_acts.specs.World.{port_id}
 use Rattle.gptp_world.specs.Room.{both, for_call, nothing, repeated, sends_from, HasRoom, Uses}
 use Rattle.gptp_system.specs.Reach.{may_select, reach, timer_reach}
 use Rattle.gptp_system.specs.declared.timer.Timer.{Timer}
@@ -29,9 +30,10 @@ use Rattle.gptp_system.proofs.ReachLemmas.{steps_reach}
 use Rattle.gptp_system.proofs.StepLemmas.{steps_sound}
 use Rattle.gptp_world.specs.declared.stage.Stage.{Stage}
 use Rattle.gptp_world.specs.Stage.{clock_at, for_left, CalledWith, CallUses, CarriesOut, HasRoomToCall, HasStepped, IsGivenAt, IsLiveAt, IsOf, IsStage}
-use Rattle.gptp_world.specs.World.{timers_from}
+use Rattle.gptp_acts.specs.World.{timers_from}
 use Rattle.gptp_world.proofs.NeedLemmas.{covered, nothing_with, once, uses_less, Covers}
-use Rattle.gptp_world.proofs.PlaceLemmas.{read, get-set_same, get-set_other, map-set_same, same_place}
+use Rattle.gptp_acts.proofs.SteadyLemmas.{same_clock, same_ports}
+use Rattle.gptp_acts.proofs.PlaceLemmas.{read, get-set_same, get-set_other, map-set_same, same_place}
 
 -- ---- the timers are set
 
@@ -71,14 +73,6 @@ within_few (reaches.Port p) ports xs within has =
 within_few reaches.All ports xs within has = record { all = within.few; each = within.each }
 
 -- ---- one call
-
-pub same_ports : (input : Input) (now : ℕ) (s s' : SystemState) (sends : List Sending) (answer : Answer) → Steps input now s s' sends answer
-    → length s'.ports ≡ length s.ports
-same_ports input now s s' sends answer steps = keeps_length s s' (steps_sound input now s s' sends answer steps).kept
-
-pub same_clock : (input : Input) (now : ℕ) (s s' : SystemState) (sends : List Sending) (answer : Answer) → Steps input now s s' sends answer
-    → clock s' ≡ clock s
-same_clock input now s s' sends answer steps = (steps_sound input now s s' sends answer steps).kept.same_clock
 
 clocks_kept : (stage : Stage) (place : ℕ) (old new : Station) → IsStage stage → slice_get stage.stations.items place ≡ Some old
     → clock new.system ≡ clock old.system

@@ -12,20 +12,21 @@ use Rattle.gptp_vector.specs.declared.port.PortId.{PortId}
 use Rattle.gptp_world.specs.declared.cable.Cable.{Cable}
 use Rattle.gptp_world.specs.declared.net.Net.{Net as Between}
 use Rattle.gptp_world.specs.declared.stage.Stage.{Stage}
-use Rattle.gptp_world.specs.declared.station.Station.{Station}
+use Rattle.gptp_acts.specs.declared.station.Station.{Station}
 use Rattle.gptp_world.specs.declared.telling.End.{End}
-use Rattle.gptp_world.specs.Act.{in_state}
+use Rattle.gptp_acts.specs.Act.{in_state}
 use Rattle.gptp_world.specs.Cable.{channel_of, join_of}
-use Rattle.gptp_world.specs.Changing.{CallsIfLive, TellsEnds}
+use Rattle.gptp_acts.specs.Changing.{CallsIfLive, TellsEnds}
 use Rattle.gptp_world.specs.Directory.{end_of, start_of, DirectoryState, IsDirectory, IsPlan, Join}
-use Rattle.gptp_world.specs.Net.{port_id, IsNet}
+use Rattle.gptp_world.specs.Net.{IsNet}
+use Rattle.gptp_acts.specs.World.{port_id}
 use Rattle.gptp_world.specs.Room.{both, for_call, nothing, repeated, HasRoom, Need, Uses}
 use Rattle.gptp_world.specs.Stage.{clock_at, world_of, CallUses, HasRoomToCall, HasRoomToCallBoth, IsPortAt, IsStage}
 use Rattle.gptp_world.specs.Telling.{AreEndsOf, HasRoomAtEnds, IsEndAt, Told}
-use Rattle.gptp_world.specs.World.{Channel, Net, WorldState}
+use Rattle.gptp_acts.specs.World.{Channel, Net, WorldState}
 use Rattle.gptp_world.proofs.NeedLemmas.{covered, left_of}
 use Rattle.gptp_world.proofs.NetLemmas.{from_map, lane_of, MadeOf}
-use Rattle.gptp_world.proofs.PlaceLemmas.{get-map, get-set_other, read}
+use Rattle.gptp_acts.proofs.PlaceLemmas.{get-map, get-set_other, read}
 use Rattle.gptp_world.proofs.RoomLemmas.{joins_kept}
 
 -- ---- the ends of a link

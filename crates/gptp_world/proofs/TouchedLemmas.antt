@@ -16,26 +16,26 @@ use Rattle.gptp_system.specs.Steps.{IsPortOf, IsTimerOf, IsUp}
 use Rattle.gptp_system.proofs.ReachLemmas.{steps_reach}
 use Rattle.gptp_system.proofs.SystemLemmas.{up_is_port}
 use Rattle.gptp_world.specs.declared.cable.Lane.{Lane}
-use Rattle.gptp_world.specs.declared.item.Item.TheVariants.{Expiry, Arrival}
+use Rattle.gptp_acts.specs.declared.item.Item.TheVariants.{Expiry, Arrival}
 use Rattle.gptp_world.specs.declared.net.Net.{Net as Between}
 use Rattle.gptp_world.specs.declared.stage.Stage.{Stage}
-use Rattle.gptp_world.specs.declared.station.Station.{Station}
+use Rattle.gptp_acts.specs.declared.station.Station.{Station}
 use Rattle.gptp_world.specs.declared.touched.Touched.{Touched}
 use Rattle.gptp_world.specs.declared.touched.Touched.TheVariants as touches
-use Rattle.gptp_world.specs.Act.{in_state, set_timers, Takes}
-use Rattle.gptp_world.specs.Agrees.{Agrees}
-use Rattle.gptp_world.specs.Item.{same_item}
-use Rattle.gptp_world.specs.Pending.{Entry, set_due, times, without_first}
+use Rattle.gptp_acts.specs.Act.{in_state, set_timers, Takes}
+use Rattle.gptp_acts.specs.Agrees.{Agrees}
+use Rattle.gptp_acts.specs.Item.{same_item}
+use Rattle.gptp_acts.specs.Pending.{Entry, set_due, times, without_first}
 use Rattle.gptp_world.specs.Net.{between}
 use Rattle.gptp_world.specs.Stage.{world_of, HasStepped}
 use Rattle.gptp_world.specs.Touched.{frame_touches, holds, none, selected_from, timer_touches, type_touches, AreSetAt, AreSetBut, HasTouched, IsTouchedOf}
-use Rattle.gptp_world.specs.World.{station_due, timers_from, Channel, Net}
-use Rattle.gptp_world.proofs.AgreeLemmas.{no_arrival, running}
-use Rattle.gptp_world.proofs.OwnTimerLemmas.{set_timers_is}
-use Rattle.gptp_world.proofs.PendingLemmas.{set_due-kept, times-set_due_same, times-without_first_other}
-use Rattle.gptp_world.proofs.PlaceLemmas.{get-set_same}
-use Rattle.gptp_world.proofs.StageLemmas.{same_ports}
-use Rattle.gptp_world.proofs.TimerLemmas.{same_timer as same_expiry, set_all, set_all-kept, stays_set, IsSet}
+use Rattle.gptp_acts.specs.World.{station_due, timers_from, Channel, Net}
+use Rattle.gptp_acts.proofs.AgreeLemmas.{no_arrival, running}
+use Rattle.gptp_acts.proofs.OwnTimerLemmas.{set_timers_is}
+use Rattle.gptp_acts.proofs.PendingLemmas.{set_due-kept, times-set_due_same, times-without_first_other}
+use Rattle.gptp_acts.proofs.PlaceLemmas.{get-set_same}
+use Rattle.gptp_acts.proofs.SteadyLemmas.{same_ports}
+use Rattle.gptp_acts.proofs.TimerLemmas.{same_timer as same_expiry, set_all, set_all-kept, stays_set, IsSet}
 
 -- ---- the same timer
 

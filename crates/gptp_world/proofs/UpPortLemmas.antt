@@ -14,14 +14,15 @@ use Rattle.gptp_system.specs.State.{SystemState}
 use Rattle.gptp_vector.specs.declared.port.PortId.{PortId}
 use Rattle.gptp_world.specs.declared.cable.Lane.{Lane}
 use Rattle.gptp_world.specs.declared.net.Net.{Net as Between}
-use Rattle.gptp_world.specs.Act.{all_timers, in_state, Calls}
+use Rattle.gptp_acts.specs.Act.{all_timers, in_state, Calls}
 use Rattle.gptp_world.specs.Cable.{channel_of}
-use Rattle.gptp_world.specs.Changing.{is_end, is_up_at, CallsAll}
-use Rattle.gptp_world.specs.Net.{between, port_id, IsNet, IsUpLane}
-use Rattle.gptp_world.specs.Sends.{entered, IsUnlinked, SendsAll, SendsOne}
-use Rattle.gptp_world.specs.World.{Channel, Net, WorldState, sender, with_queue}
+use Rattle.gptp_acts.specs.Changing.{is_end, is_up_at, CallsAll}
+use Rattle.gptp_world.specs.Net.{between, IsNet, IsUpLane}
+use Rattle.gptp_acts.specs.World.{port_id}
+use Rattle.gptp_acts.specs.Sends.{entered, IsUnlinked, SendsAll, SendsOne}
+use Rattle.gptp_acts.specs.World.{Channel, Net, WorldState, sender, with_queue}
 use Rattle.gptp_world.proofs.NetLemmas.{known_cable}
-use Rattle.gptp_world.proofs.PlaceLemmas.{get-map}
+use Rattle.gptp_acts.proofs.PlaceLemmas.{get-map}
 
 -- ---- the ends of a link
 

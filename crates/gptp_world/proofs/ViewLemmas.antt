@@ -3,18 +3,19 @@ use Rattle.std.proofs.Common.{◌≡◌, ℕ, Option, None, Some, IfNone, slice_
 use Rattle.std.proofs.lemmas.Option.{same_Some, slice_get_within}
 use Rattle.gptp_system.specs.State.{SystemState}
 use Rattle.gptp_system.specs.Steps.{IsPortOf}
-use Rattle.gptp_world.specs.declared.item.Item.{Item}
-use Rattle.gptp_world.specs.declared.item.Item.TheVariants.{Expiry, Arrival}
+use Rattle.gptp_acts.specs.declared.item.Item.{Item}
+use Rattle.gptp_acts.specs.declared.item.Item.TheVariants.{Expiry, Arrival}
 use Rattle.gptp_world.specs.declared.stage.Stage.{Stage}
-use Rattle.gptp_world.specs.declared.station.Station.{Station}
-use Rattle.gptp_world.specs.Acts.{AtSystem}
-use Rattle.gptp_world.specs.Agrees.{Agrees}
-use Rattle.gptp_world.specs.Pending.{IsNext}
+use Rattle.gptp_acts.specs.declared.station.Station.{Station}
+use Rattle.gptp_acts.specs.Acts.{AtSystem}
+use Rattle.gptp_acts.specs.Agrees.{Agrees}
+use Rattle.gptp_acts.specs.Pending.{IsNext}
 use Rattle.gptp_world.specs.Stage.{world_of}
-use Rattle.gptp_world.specs.Sound.{IsSound}
-use Rattle.gptp_world.specs.Views.{HasPort, IsPlacedItem, ShowsLive}
-use Rattle.gptp_world.specs.World.{WorldState}
-use Rattle.gptp_world.proofs.NextDueLemmas.{next_runs_out}
+use Rattle.gptp_acts.specs.Sound.{IsSound}
+use Rattle.gptp_world.specs.Stage.{IsPlacedItem}
+use Rattle.gptp_acts.specs.Views.{HasPort, ShowsLive}
+use Rattle.gptp_acts.specs.World.{WorldState}
+use Rattle.gptp_acts.proofs.NextDueLemmas.{next_runs_out}
 
 -- the system of what is next is there
 pub next_placed : (stage : Stage) (time : ℕ) (item : Item) → Agrees (world_of stage)

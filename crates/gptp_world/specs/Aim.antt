@@ -5,17 +5,17 @@ use Rattle.gptp_system.specs.Steps.{IsTimerOf}
 use Rattle.gptp_vector.specs.declared.port.PortId.{PortId}
 use Rattle.gptp_world.specs.declared.aim.Aim.{Aim}
 use Rattle.gptp_world.specs.declared.aim.Aim.TheVariants as aims
-use Rattle.gptp_world.specs.declared.change.Act.{Act}
-use Rattle.gptp_world.specs.declared.change.Act.TheVariants.{Deliver, Expire, Change as Changing}
-use Rattle.gptp_world.specs.declared.change.Change.{Change}
-use Rattle.gptp_world.specs.declared.change.Change.TheVariants as changes
-use Rattle.gptp_world.specs.declared.item.Item.{Item}
-use Rattle.gptp_world.specs.declared.item.Item.TheVariants.{Expiry, Arrival}
-use Rattle.gptp_world.specs.declared.station.Station.{Station}
-use Rattle.gptp_world.specs.Acts.{set_to, AtPlace, IsOldestDue}
-use Rattle.gptp_world.specs.Changing.{IsChannel, IsStation}
-use Rattle.gptp_world.specs.Net.{port_id}
-use Rattle.gptp_world.specs.World.{Channel, WorldState, station_due}
+use Rattle.gptp_acts.specs.declared.change.Act.{Act}
+use Rattle.gptp_acts.specs.declared.change.Act.TheVariants.{Deliver, Expire, Change as Changing}
+use Rattle.gptp_acts.specs.declared.change.Change.{Change}
+use Rattle.gptp_acts.specs.declared.change.Change.TheVariants as changes
+use Rattle.gptp_acts.specs.declared.item.Item.{Item}
+use Rattle.gptp_acts.specs.declared.item.Item.TheVariants.{Expiry, Arrival}
+use Rattle.gptp_acts.specs.declared.station.Station.{Station}
+use Rattle.gptp_acts.specs.Acts.{set_to, AtPlace, IsOldestDue}
+use Rattle.gptp_acts.specs.Changing.{IsChannel, IsStation}
+use Rattle.gptp_acts.specs.World.{port_id}
+use Rattle.gptp_acts.specs.World.{Channel, WorldState, station_due}
 
 -- the link at this place is at the port
 pub record IsLinkAt (port : PortId) (w : WorldState) (place : ℕ) : Type 0 where

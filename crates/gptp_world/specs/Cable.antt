@@ -9,9 +9,9 @@ use Rattle.gptp_vector.specs.declared.port.PortId.{PortId}
 use Rattle.gptp_world.specs.declared.cable.Cable.{Cable}
 use Rattle.gptp_world.specs.declared.cable.Lane.{Lane}
 use Rattle.gptp_world.specs.Directory.{Join}
-use Rattle.gptp_world.specs.Pending.{PendingState, arrival_room}
-use Rattle.gptp_world.specs.World.{Channel, Net}
-use Rattle.gptp_world.specs.Sends.{SendsOne, SendsAll}
+use Rattle.gptp_acts.specs.Pending.{PendingState, arrival_room}
+use Rattle.gptp_acts.specs.World.{Channel, Net}
+use Rattle.gptp_acts.specs.Sends.{SendsOne, SendsAll}
 
 -- a link without the room that it has
 abbrev pub channel_of : Cable → Channel

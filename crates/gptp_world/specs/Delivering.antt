@@ -7,8 +7,8 @@ use Rattle.gptp_system.specs.Steps.{IsUp}
 use Rattle.gptp_vector.specs.declared.port.PortId.{PortId}
 use Rattle.gptp_world.specs.declared.cable.Lane.{Lane}
 use Rattle.gptp_world.specs.declared.stage.Stage.{Stage}
-use Rattle.gptp_world.specs.declared.station.Station.{Station}
-use Rattle.gptp_world.specs.Act.{Delivers, Hears}
+use Rattle.gptp_acts.specs.declared.station.Station.{Station}
+use Rattle.gptp_acts.specs.Act.{Delivers, Hears}
 use Rattle.gptp_world.specs.Directory.{end_of, Join}
 use Rattle.gptp_world.specs.Stage.{world_of, HasRoomToCall}
 

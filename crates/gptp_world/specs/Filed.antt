@@ -4,10 +4,10 @@ use Rattle.std.specs.List.{AllByRecursion, filter}
 use Rattle.gptp_scheduler.specs.Pending.{Entry as Numbered}
 use Rattle.gptp_system.specs.declared.timer.Timer.{Timer}
 use Rattle.gptp_world.specs.declared.filed.Running.{Running}
-use Rattle.gptp_world.specs.declared.item.Item.{Item}
-use Rattle.gptp_world.specs.declared.item.Item.TheVariants.{Expiry, Arrival}
-use Rattle.gptp_world.specs.Item.{timer_kind, timer_port}
-use Rattle.gptp_world.specs.Pending.{IsKnown, arrival_place}
+use Rattle.gptp_acts.specs.declared.item.Item.{Item}
+use Rattle.gptp_acts.specs.declared.item.Item.TheVariants.{Expiry, Arrival}
+use Rattle.gptp_acts.specs.Item.{timer_kind, timer_port}
+use Rattle.gptp_acts.specs.Pending.{IsKnown, arrival_place}
 
 -- the numbers of the entries of one direction of a link, in order of putting, and room for more
 pub record QueueState : Type 0 where

@@ -9,8 +9,8 @@ use Rattle.gptp_world.specs.declared.cable.Lane.{Lane}
 use Rattle.gptp_world.specs.declared.net.Net.{Net as Between}
 use Rattle.gptp_world.specs.Cable.{join_of, net_of, SentOne}
 use Rattle.gptp_world.specs.Directory.{BeginsAt}
-use Rattle.gptp_world.specs.Sends.{IsUnlinked}
-use Rattle.gptp_world.specs.World.{Net}
+use Rattle.gptp_acts.specs.Sends.{IsUnlinked}
+use Rattle.gptp_acts.specs.World.{Net}
 
 -- the links and what is pending
 abbrev pub between : Between → Net
@@ -30,9 +30,6 @@ pub record OnlyEntries (used : ℕ) (net net' : Between) : Type 0 where
   pub links : net'.pending.links ≡ net.pending.links
   pub rooms : net'.pending.rooms ≡ net.pending.rooms
   pub room : net.pending.room ≤ net'.pending.room + used
-
-abbrev pub port_id : ℕ → ℕ → PortId
-port_id clock port = record { clock = clock; port = port }
 
 -- a lane of a link that is up begins at this port
 pub record IsUpLane (net : Between) (port : PortId) (lane : Lane) : Type 0 where

@@ -10,8 +10,9 @@ use Rattle.gptp_world.specs.declared.cable.Lane.{Lane}
 use Rattle.gptp_world.specs.declared.net.Net.{Net as Between}
 use Rattle.gptp_world.specs.Cable.{HasRoomOn}
 use Rattle.gptp_world.specs.Directory.{BeginsAt}
-use Rattle.gptp_world.specs.Net.{between, port_id}
-use Rattle.gptp_world.specs.Pending.{PendingState}
+use Rattle.gptp_world.specs.Net.{between}
+use Rattle.gptp_acts.specs.World.{port_id}
+use Rattle.gptp_acts.specs.Pending.{PendingState}
 
 -- ---- what is needed
 

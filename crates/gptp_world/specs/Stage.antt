@@ -1,5 +1,5 @@
 -- What the code keeps of a world.
-use Rattle.std.specs.Prelude.{◌≡◌, ◌≤◌, ◌+◌, ◌*◌, ◌^◌, ℕ, ⊤, true, List, [], length, map, Option, Some, slice_get, slice_set}
+use Rattle.std.specs.Prelude.{◌≡◌, ◌<◌, ◌≤◌, ◌+◌, ◌*◌, ◌^◌, ℕ, ⊤, true, List, [], length, map, Option, Some, slice_get, slice_set}
 use Rattle.gptp_links.specs.declared.bounds.Bounds.{Bounds}
 use Rattle.gptp_links.specs.Fate.{Draw, Draws}
 use Rattle.gptp_system.specs.declared.answer.Answer.{Answer}
@@ -9,14 +9,17 @@ use Rattle.gptp_system.specs.Input.{Input, Steps, PortUp, PortDown, Frame, Expir
 use Rattle.gptp_system.specs.State.{SystemState, clock, due}
 use Rattle.gptp_system.specs.Steps.{IsPortOf, IsTimerOf, IsUp}
 use Rattle.gptp_world.specs.declared.cable.Lane.{Lane}
+use Rattle.gptp_acts.specs.declared.item.Item.{Item}
+use Rattle.gptp_acts.specs.declared.item.Item.TheVariants.{Expiry, Arrival}
 use Rattle.gptp_world.specs.declared.net.Net.{Net as Between}
 use Rattle.gptp_world.specs.declared.stage.Stage.{Stage}
-use Rattle.gptp_world.specs.declared.station.Station.{Station}
-use Rattle.gptp_world.specs.Act.{in_state, Calls}
+use Rattle.gptp_acts.specs.declared.station.Station.{Station}
+use Rattle.gptp_acts.specs.Act.{in_state, Calls}
 use Rattle.gptp_world.specs.Directory.{BeginsAt}
-use Rattle.gptp_world.specs.Net.{between, port_id, IsNet}
+use Rattle.gptp_world.specs.Net.{between, IsNet}
+use Rattle.gptp_acts.specs.World.{port_id}
 use Rattle.gptp_world.specs.Room.{both, for_call, for_sends, for_timers, repeated, HasRoom, Need, Uses}
-use Rattle.gptp_world.specs.World.{WorldState}
+use Rattle.gptp_acts.specs.World.{WorldState}
 
 -- the state of the world
 abbrev pub world_of : Stage → WorldState
@@ -138,3 +141,8 @@ pub record Called {F : Type 0} (answers : Bounds → ℕ → F → Option ℕ �
     (stage stage_after : Stage) : Type 0 where
   pub answer : Answer
   pub called : CalledWith answers place input answer fate fate_after stage stage_after
+
+-- the system of an item that is a timer is there
+abbrev pub IsPlacedItem : Item → Stage → Type 0
+IsPlacedItem (Arrival link direction) stage = ⊤
+IsPlacedItem (Expiry place timer) stage = place < length stage.stations.items

@@ -7,13 +7,13 @@ use Rattle.gptp_system.specs.declared.timer.Timer.TheVariants as timers
 use Rattle.gptp_system.specs.Reach.{is_selected, may_select, same_timer, stops_at}
 use Rattle.gptp_system.specs.State.{SystemState}
 use Rattle.gptp_system.specs.Steps.{IsTimerOf}
-use Rattle.gptp_world.specs.declared.item.Item.TheVariants.{Expiry}
+use Rattle.gptp_acts.specs.declared.item.Item.TheVariants.{Expiry}
 use Rattle.gptp_world.specs.declared.stage.Stage.{Stage}
-use Rattle.gptp_world.specs.declared.station.Station.{Station}
+use Rattle.gptp_acts.specs.declared.station.Station.{Station}
 use Rattle.gptp_world.specs.declared.touched.Touched.{Touched}
 use Rattle.gptp_world.specs.declared.touched.Touched.TheVariants as touches
-use Rattle.gptp_world.specs.Pending.{Entry, listed, times}
-use Rattle.gptp_world.specs.World.{station_due}
+use Rattle.gptp_acts.specs.Pending.{Entry, listed, times}
+use Rattle.gptp_acts.specs.World.{station_due}
 
 -- ---- which timers
 

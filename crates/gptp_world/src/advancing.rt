@@ -5,11 +5,9 @@ ghost use Rattle.gptp_world.specs.Aim.{aim_of};
 
 use crate::aim::Aim;
 use crate::cable::Lane;
-use crate::change::Timed;
-use crate::done::{Done, Refused};
-use crate::item::Item;
 use crate::scene::Scene;
 use crate::views::act_of;
+use gptp_acts::{Done, Item, Refused, Timed};
 use gptp_links::Fate;
 use std::alloc::AllocError;
 
@@ -25,9 +23,9 @@ fn aim_of(item: Item) -> Aim
 
 impl Scene {
     ghost use Rattle.std.specs.Prelude.{◌≡◌, ◌+◌, ◌<◌, ◌≤◌, IfErr, IfNone, IfOk, IfSome, List, OnErr, OnOk};
-    ghost use Rattle.gptp_world.specs.Advancing.{Advanced, Stopped, StopsShort, Told};
-    ghost use Rattle.gptp_world.specs.Ahead.{due_by};
-    ghost use Rattle.gptp_world.specs.Pending.{IsNext, NothingBefore};
+    ghost use Rattle.gptp_acts.specs.Advancing.{Advanced, Stopped, StopsShort, Told};
+    ghost use Rattle.gptp_acts.specs.Ahead.{due_by};
+    ghost use Rattle.gptp_acts.specs.Pending.{IsNext, NothingBefore};
 
     /// The next that is pending, and its time, where that is at most this.
     fn next_by(&self, until: u64) -> Option<(u64, Item)>

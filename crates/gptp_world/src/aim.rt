@@ -3,9 +3,9 @@
 ghost use Rattle.std.specs.Prelude.{◌≡◌, ◌↔◌, ◌≤◌, IsTrue, Some};
 
 use crate::cable::Lane;
-use crate::change::{Act, Change};
 use crate::delivering::narrowed;
 use crate::stage::Stage;
+use gptp_acts::{Act, Change};
 use gptp_links::{Bounds, Direction};
 use gptp_system::Timer;
 use gptp_vector::ClockId;
@@ -34,12 +34,12 @@ pub(crate) enum Aim {
 impl Stage {
     ghost use Rattle.std.specs.Prelude.{◌≡◌, ◌↔◌, ◌<◌, IfSome, IfNone, IsTrue, length, Some, slice_get};
     ghost use Rattle.gptp_system.specs.Steps.{IsTimerOf};
-    ghost use Rattle.gptp_world.specs.declared.change.Act.TheVariants.{Deliver, Expire};
-    ghost use Rattle.gptp_world.specs.declared.station.Station.{Station};
-    ghost use Rattle.gptp_world.specs.World.{Channel};
-    ghost use Rattle.gptp_world.specs.Acts.{set_to, AtLink, AnyLink, AtSystem, AnySystem, IsThere, IsThereToChange};
+    ghost use Rattle.gptp_acts.specs.declared.change.Act.TheVariants.{Deliver, Expire};
+    ghost use Rattle.gptp_acts.specs.declared.station.Station.{Station};
+    ghost use Rattle.gptp_acts.specs.World.{Channel};
+    ghost use Rattle.gptp_acts.specs.Acts.{set_to, AtLink, AnyLink, AtSystem, AnySystem, IsThere, IsThereToChange};
     ghost use Rattle.gptp_world.specs.Aim.{IsAimOf, IsAimOfChange, IsLinkAt, IsSystemAt};
-    ghost use Rattle.gptp_world.specs.Net.{port_id};
+    ghost use Rattle.gptp_acts.specs.World.{port_id};
     ghost use Rattle.gptp_world.specs.Stage.{world_of, IsStage};
 
     /// The place of the link at a port, if there is one.
@@ -189,11 +189,11 @@ impl Stage {
 impl Stage {
     ghost use Rattle.std.specs.Prelude.{◌≡◌, ◌↔◌, ◌<◌, IsTrue, length, Some, slice_get};
     ghost use Rattle.gptp_system.specs.Steps.{IsTimerOf};
-    ghost use Rattle.gptp_world.specs.declared.station.Station.{Station};
-    ghost use Rattle.gptp_world.specs.Acts.{IsDueThen, IsOldestDue};
+    ghost use Rattle.gptp_acts.specs.declared.station.Station.{Station};
+    ghost use Rattle.gptp_acts.specs.Acts.{IsDueThen, IsOldestDue};
     ghost use Rattle.gptp_world.specs.Aim.{IsAimOf};
     ghost use Rattle.gptp_world.specs.Stage.{world_of, IsStage};
-    ghost use Rattle.gptp_world.specs.World.{station_due, Channel};
+    ghost use Rattle.gptp_acts.specs.World.{station_due, Channel};
 
     /// Whether the oldest frame of a lane is due at a time.
     pub(crate) fn is_frame_due(&self, lane: Lane, time: u64) -> bool

@@ -5,8 +5,8 @@ ghost use Rattle.gptp_links.specs.Queue.{IsDue, IsTaken};
 ghost use Rattle.gptp_links.specs.State.{queue, ChangesOnly, KeepsRoom};
 
 use crate::cable::{Cable, Lane};
-use crate::item::Item;
 use crate::net::Net;
+use gptp_acts::Item;
 use gptp_links::Direction;
 
 /// The oldest frame of a link in a direction, which is due.
@@ -25,7 +25,7 @@ impl Net {
     ghost use Rattle.std.specs.Prelude.{◌≡◌, ◌≤◌, ℕ, Some, slice_get};
     ghost use Rattle.gptp_world.specs.declared.cable.Cable.{Cable};
     ghost use Rattle.gptp_world.specs.declared.cable.Lane.{Lane};
-    ghost use Rattle.gptp_world.specs.Act.{Takes};
+    ghost use Rattle.gptp_acts.specs.Act.{Takes};
     ghost use Rattle.gptp_world.specs.Cable.{channel_of};
     ghost use Rattle.gptp_world.specs.Room.{nothing, Uses};
     ghost use Rattle.gptp_world.specs.Net.{between, IsNet, IsFrameDue};

@@ -8,7 +8,7 @@ impl Net {
     ghost use Rattle.gptp_links.specs.Bounds.{Fit};
     ghost use Rattle.gptp_world.specs.declared.cable.Cable.{Cable};
     ghost use Rattle.gptp_world.specs.Cable.{channel_of};
-    ghost use Rattle.gptp_world.specs.Changing.{taken_down, brought_up, with_bounds};
+    ghost use Rattle.gptp_acts.specs.Changing.{taken_down, brought_up, with_bounds};
     ghost use Rattle.gptp_world.specs.Net.{between, IsNet};
     ghost use Rattle.gptp_world.specs.Room.{nothing, Uses};
 

@@ -1,16 +1,15 @@
 //! Whether an act can be done.
 
 use crate::aim::Aim;
-use crate::change::{Act, Timed};
-use crate::done::Refused;
 use crate::stage::Stage;
+use gptp_acts::{Act, Refused, Timed};
 
 impl Stage {
     ghost use Rattle.std.specs.Prelude.{◌≡◌, ◌≢◌, ◌↔◌, IsTrue, IfOk, IfErr, true, false};
-    ghost use Rattle.gptp_world.specs.declared.done.Refused.TheVariants.{OutOfMemory};
-    ghost use Rattle.gptp_world.specs.Acts.{IsDueThen, IsEarlier, IsReadyAct, Refuses};
+    ghost use Rattle.gptp_acts.specs.declared.done.Refused.TheVariants.{OutOfMemory};
+    ghost use Rattle.gptp_acts.specs.Acts.{IsDueThen, IsEarlier, IsReadyAct, Refuses};
     ghost use Rattle.gptp_world.specs.Aim.{IsAimOf};
-    ghost use Rattle.gptp_world.specs.Pending.{NothingBefore};
+    ghost use Rattle.gptp_acts.specs.Pending.{NothingBefore};
     ghost use Rattle.gptp_world.specs.Stage.{world_of, IsStage};
 
     /// Whether nothing is due before a time.

@@ -27,7 +27,7 @@ pub(crate) fn narrowed(port: u16) -> u8
 
 impl Stage {
     ghost use Rattle.std.specs.Prelude.{◌≡◌, length, ◌<◌, OnOk};
-    ghost use Rattle.gptp_world.specs.Agrees.{Agrees};
+    ghost use Rattle.gptp_acts.specs.Agrees.{Agrees};
     ghost use Rattle.gptp_world.specs.Net.{IsFrameDue};
     ghost use Rattle.gptp_world.specs.Stage.{world_of, HasRoomToCall, IsStage};
     ghost use Rattle.gptp_world.specs.Delivering.{Delivered, HasRoomToHear, HeardAt, IsHeardAt, MayHear};

@@ -4,10 +4,10 @@ ghost use Rattle.std.specs.Prelude.{◌≡◌, ℕ, ◌+◌, ◌*◌, ◌<◌, �
 ghost use Rattle.std.specs.List.{All};
 ghost use Rattle.std.specs.List.Sorted.{IsNonDecreasing};
 ghost use Rattle.gptp_world.specs.Directory.{clocks_of, joins_of, end_of, entered, BeginsAt, IsPlan, IsDirectory, AreRising, ArePlaces, AreEnds, AreOuts, AreNamed};
-ghost use Rattle.gptp_world.specs.Views.{rising};
+ghost use Rattle.gptp_acts.specs.Views.{rising};
 
 use crate::cable::Lane;
-use crate::network::Network;
+use gptp_acts::Network;
 use gptp_links::Direction;
 use gptp_vector::{ClockId, PortId};
 use std::alloc::{AllocError, Global};

@@ -1,16 +1,16 @@
 //! Timers that expire.
 
-use crate::item::Item;
 use crate::net::Net;
 use crate::stage::Stage;
+use gptp_acts::Item;
 use gptp_links::Fate;
 use gptp_system::Timer;
 
 impl Net {
     ghost use Rattle.std.specs.Prelude.{◌≡◌};
-    ghost use Rattle.gptp_world.specs.declared.item.Item.TheVariants.{Expiry};
+    ghost use Rattle.gptp_acts.specs.declared.item.Item.TheVariants.{Expiry};
     ghost use Rattle.gptp_world.specs.Net.{between, IsNet};
-    ghost use Rattle.gptp_world.specs.Pending.{without_first, IsKnown};
+    ghost use Rattle.gptp_acts.specs.Pending.{without_first, IsKnown};
     ghost use Rattle.gptp_world.specs.Room.{nothing, Uses};
 
     /// A timer of the system at a place, which expires, is no longer pending.
@@ -26,7 +26,7 @@ impl Net {
 }
 
 impl Stage {
-    ghost use Rattle.gptp_world.specs.Agrees.{Agrees};
+    ghost use Rattle.gptp_acts.specs.Agrees.{Agrees};
     ghost use Rattle.gptp_world.specs.Aim.{IsTimerDue};
     ghost use Rattle.gptp_world.specs.Performing.{Expired};
     ghost use Rattle.gptp_world.specs.Stage.{world_of, HasRoomToCall, IsStage};

@@ -22,9 +22,10 @@ impl Net {
     ghost use Rattle.std.specs.Prelude.{◌≡◌, ℕ, ◌+◌, ◌*◌, ◌^◌, ◌<◌, ◌≤◌, List, [], ◌∷◌, length, Some, slice_get, IfSome, IfNone};
     ghost use Rattle.gptp_system.specs.State.{clock, own};
     ghost use Rattle.gptp_world.specs.declared.cable.Cable.{Cable};
-    ghost use Rattle.gptp_world.specs.Sends.{written, IsUnlinked};
+    ghost use Rattle.gptp_acts.specs.Sends.{written, IsUnlinked};
     ghost use Rattle.gptp_world.specs.Cable.{SentAll};
-    ghost use Rattle.gptp_world.specs.Net.{between, port_id, IsNet, IsUpLane, SentNext};
+    ghost use Rattle.gptp_world.specs.Net.{between, IsNet, IsUpLane, SentNext};
+    ghost use Rattle.gptp_acts.specs.World.{port_id};
     ghost use Rattle.gptp_world.specs.Room.{for_sends, HasRoom, Uses};
 
     /// The lane that begins at a port of the system at a place, where that link is up.

@@ -2,7 +2,7 @@
 
 ghost use Rattle.std.specs.Prelude.{◌≡◌, ◌≤◌, [], length, vec_capacity};
 ghost use Rattle.gptp_messages.specs.Grammar.{PathHasRoom, Written};
-ghost use Rattle.gptp_world.specs.Sends.{message_of, written};
+ghost use Rattle.gptp_acts.specs.Sends.{message_of, written};
 
 use gptp_messages::{
     AnnounceBody, FollowUp, Head, Message, PdelayResp, PdelayRespFollowUp, encode, encode_announce,

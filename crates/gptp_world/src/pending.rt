@@ -2,13 +2,13 @@
 
 ghost use Rattle.std.specs.Prelude.{◌≡◌, ℕ, ◌+◌, ◌<◌, ◌≤◌, [], length, not, true, false, Option, IsOk, IfOk, OnOk, IfSome, IfNone, IsTrue};
 ghost use Rattle.std.specs.List.{AllByRecursion};
-ghost use Rattle.gptp_world.specs.Item.{timer_port};
-ghost use Rattle.gptp_world.specs.Pending.{arrival_room, listed, put, set_due, times, without, without_first, HasArrivalRoom, IsKnown, IsNext, KeepsArrivalRoom, KeepsOtherRoom};
-ghost use Rattle.gptp_world.specs.declared.item.Item.TheVariants.{Expiry, Arrival};
+ghost use Rattle.gptp_acts.specs.Item.{timer_port};
+ghost use Rattle.gptp_acts.specs.Pending.{arrival_room, listed, put, set_due, times, without, without_first, HasArrivalRoom, IsKnown, IsNext, KeepsArrivalRoom, KeepsOtherRoom};
+ghost use Rattle.gptp_acts.specs.declared.item.Item.TheVariants.{Expiry, Arrival};
 ghost use Rattle.gptp_links.specs.declared.link.Direction.TheVariants.{FromA, FromB};
 
 use crate::filed::{Filed, Running, arrival_place, timer_place};
-use crate::item::Item;
+use gptp_acts::Item;
 use gptp_links::Direction;
 use gptp_scheduler::Agenda;
 use gptp_system::Timer;
@@ -30,11 +30,11 @@ pub struct Pending {
 }
 
 impl Model for Pending {
-    ghost use Rattle.gptp_world.specs.Pending.{PendingState};
+    ghost use Rattle.gptp_acts.specs.Pending.{PendingState};
 
     ghost Value = { PendingState };
 
-    ghost use Rattle.gptp_world.specs.Pending.{plain};
+    ghost use Rattle.gptp_acts.specs.Pending.{plain};
     ghost use Rattle.gptp_world.specs.Filed.{rooms_of, AreFiled};
 
     ghost view = { λ p. record {

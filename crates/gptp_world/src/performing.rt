@@ -2,10 +2,9 @@
 
 use crate::aim::Aim;
 use crate::cable::Lane;
-use crate::change::Act;
 use crate::delivering::Reached;
-use crate::done::Done;
 use crate::stage::Stage;
+use gptp_acts::{Act, Done};
 use gptp_links::{Bounds, Fate};
 use std::alloc::AllocError;
 
@@ -13,12 +12,12 @@ impl Stage {
     ghost use Rattle.std.specs.Prelude.{◌≡◌, ◌<◌, [], length};
     ghost use Rattle.gptp_links.specs.Bounds.{Fit};
     ghost use Rattle.gptp_world.specs.declared.aim.Aim.TheVariants.{LinkDown, LinkUp, LinkSet, Fail, Recover};
-    ghost use Rattle.gptp_world.specs.declared.change.Act.TheVariants.{Deliver};
-    ghost use Rattle.gptp_world.specs.Acts.{AtPlace, IsOldestDue};
-    ghost use Rattle.gptp_world.specs.Agrees.{Agrees};
+    ghost use Rattle.gptp_acts.specs.declared.change.Act.TheVariants.{Deliver};
+    ghost use Rattle.gptp_acts.specs.Acts.{AtPlace, IsOldestDue};
+    ghost use Rattle.gptp_acts.specs.Agrees.{Agrees};
     ghost use Rattle.gptp_world.specs.Delivering.{HasRoomToHear};
     ghost use Rattle.gptp_world.specs.Performing.{Acted, CanChange, HasRoomForAim, Turned, Turns};
-    ghost use Rattle.gptp_world.specs.Sound.{IsWired};
+    ghost use Rattle.gptp_acts.specs.Sound.{IsWired};
     ghost use Rattle.gptp_world.specs.Stage.{world_of, HasRoomToCall, IsStage};
     ghost use Rattle.gptp_world.specs.Starting.{CanStart, HasRoomToStart};
     ghost use Rattle.gptp_world.specs.Telling.{HasRoomAtEnds};
@@ -127,10 +126,10 @@ impl Stage {
 
 impl Stage {
     ghost use Rattle.std.specs.Prelude.{◌≡◌, OnOk};
-    ghost use Rattle.gptp_world.specs.Acts.{IsDueThen, IsFitAct};
+    ghost use Rattle.gptp_acts.specs.Acts.{IsDueThen, IsFitAct};
     ghost use Rattle.gptp_world.specs.Aim.{IsAimOf};
     ghost use Rattle.gptp_world.specs.Performing.{Acted, HasRoomForAim};
-    ghost use Rattle.gptp_world.specs.Sound.{IsSound};
+    ghost use Rattle.gptp_acts.specs.Sound.{IsSound};
     ghost use Rattle.gptp_world.specs.Stage.{world_of, IsStage};
 
     /// Makes room for whatever an act can leave. Refused where there is no memory for it. The state of the world doesn't

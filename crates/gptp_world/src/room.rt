@@ -32,7 +32,8 @@ fn make_room_on(
 
 impl Net {
     ghost use Rattle.std.specs.Prelude.{◌≡◌, ◌≤◌, ◌<◌, ◌+◌, ◌*◌, ℕ, length, Some, slice_get, OnOk};
-    ghost use Rattle.gptp_world.specs.Net.{port_id, IsNet};
+    ghost use Rattle.gptp_world.specs.Net.{IsNet};
+    ghost use Rattle.gptp_acts.specs.World.{port_id};
     ghost use Rattle.gptp_world.specs.Room.{HasRoomAtPorts, HasRoomFrom, OnlyRoom};
 
     /// Makes room for so many more frames that a port of the system at a place sends. Refused where there is no memory for

@@ -5,10 +5,8 @@ ghost use Rattle.gptp_world.specs.Starting.{Started};
 ghost use Rattle.gptp_world.specs.Scene.{IsScene, SystemsStarted};
 
 use crate::aim::Aim;
-use crate::change::Timed;
-use crate::done::{Done, Refused};
-use crate::network::Network;
 use crate::stage::Stage;
+use gptp_acts::{Done, Network, Refused, Timed};
 use gptp_links::Fate;
 use std::alloc::{AllocError, Global};
 use std::marker::Model;
@@ -20,7 +18,7 @@ pub(crate) struct Scene {
 }
 
 impl Model for Scene {
-    ghost use Rattle.gptp_world.specs.World.{WorldState};
+    ghost use Rattle.gptp_acts.specs.World.{WorldState};
 
     ghost Value = { WorldState };
 
@@ -59,9 +57,9 @@ fn start_all<F: Fate>(stage: &mut Stage, fate: &mut F) -> Result<(), AllocError>
 
 impl Scene {
     ghost use Rattle.std.specs.Prelude.{◌≡◌, ◌≤◌, IfErr, IfOk, OnErr};
-    ghost use Rattle.gptp_world.specs.Acts.{IsFitAct, IsReadyAct, Refuses};
+    ghost use Rattle.gptp_acts.specs.Acts.{IsFitAct, IsReadyAct, Refuses};
     ghost use Rattle.gptp_world.specs.Aim.{IsAimOf};
-    ghost use Rattle.gptp_world.specs.Scene.{Begun, WasDone};
+    ghost use Rattle.gptp_acts.specs.Course.{Begun, WasDone};
 
     /// The world of a network at time 0, whose systems have all started, in their order. Refused for want of memory alone.
     pub(crate) fn new<F: Fate>(

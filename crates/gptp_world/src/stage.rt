@@ -1,8 +1,8 @@
 //! The systems of a world and what is between them.
 
 use crate::net::Net;
-use crate::station::Station;
 use crate::touched::{Touched, frame_touches, timer_touches};
+use gptp_acts::Station;
 use gptp_links::Fate;
 use gptp_system::{Answer, Outbox, Timer};
 

@@ -1,19 +1,19 @@
 //! What is pending of a system's timers.
 
 use crate::net::Net;
-use crate::station::Station;
 use crate::touched::Touched;
+use gptp_acts::Station;
 use gptp_system::Timer;
 
 impl Net {
     ghost use Rattle.std.specs.Prelude.{◌≡◌, ◌≤◌, ◌<◌, ◌+◌, ◌*◌, ◌∷◌, [], length};
     ghost use Rattle.gptp_system.specs.Steps.{IsPortOf, IsTimerOf};
     ghost use Rattle.gptp_system.specs.declared.timer.Timer.TheVariants as timers;
-    ghost use Rattle.gptp_world.specs.Item.{timer_port};
-    ghost use Rattle.gptp_world.specs.Act.{set_timers};
+    ghost use Rattle.gptp_acts.specs.Item.{timer_port};
+    ghost use Rattle.gptp_acts.specs.Act.{set_timers};
     ghost use Rattle.gptp_world.specs.Net.{OnlyEntries};
     ghost use Rattle.gptp_world.specs.Touched.{holds, selected_from, AreSetBut, IsTouchedOf};
-    ghost use Rattle.gptp_world.specs.World.{timers_from};
+    ghost use Rattle.gptp_acts.specs.World.{timers_from};
 
     /// A timer of the system at a place is pending when it is due, and isn't where it doesn't run.
     fn set_timer(&mut self, place: usize, station: &Station, timer: Timer)

@@ -3,23 +3,23 @@
 ghost use Rattle.std.specs.Prelude.{◌≡◌, IfNone, IfSome};
 ghost use Rattle.gptp_system.specs.Start.{role_at};
 ghost use Rattle.gptp_system.specs.Steps.{IsPortOf};
-ghost use Rattle.gptp_world.specs.Acts.{IsFitAct};
+ghost use Rattle.gptp_acts.specs.Acts.{IsFitAct};
 ghost use Rattle.gptp_world.specs.Stage.{world_of, IsStage};
-ghost use Rattle.gptp_world.specs.Views.{IsActOf, IsPlacedItem};
+ghost use Rattle.gptp_world.specs.Stage.{IsPlacedItem};
+ghost use Rattle.gptp_acts.specs.Views.{IsActOf};
 
-use crate::change::{Act, Timed};
-use crate::item::Item;
 use crate::scene::Scene;
 use crate::stage::Stage;
+use gptp_acts::{Act, Item, Timed};
 use gptp_roles::Role;
 use gptp_system::System;
 use gptp_vector::{ClockId, Identity};
 
 impl Scene {
     ghost use Rattle.std.specs.Prelude.{◌≡◌, ◌↔◌, [], IfNone, IfSome, IsTrue, length, slice_get, true};
-    ghost use Rattle.gptp_world.specs.Acts.{AtSystem, IsFitAct};
-    ghost use Rattle.gptp_world.specs.Sound.{IsSound};
-    ghost use Rattle.gptp_world.specs.Views.{Follows, HasPort, HasRole, IsLiveSystem, IsNextAct, ShowsLive, rising_clocks};
+    ghost use Rattle.gptp_acts.specs.Acts.{AtSystem, IsFitAct};
+    ghost use Rattle.gptp_acts.specs.Sound.{IsSound};
+    ghost use Rattle.gptp_acts.specs.Views.{Follows, HasPort, HasRole, IsLiveSystem, IsNextAct, ShowsLive, rising_clocks};
 
     /// The time, in ns.
     pub(crate) fn now(&self) -> u64

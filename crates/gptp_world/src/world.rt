@@ -1,9 +1,7 @@
 //! Simulated worlds.
 
-use crate::change::Timed;
-use crate::done::{Done, Refused};
-use crate::network::Network;
 use crate::scene::Scene;
+use gptp_acts::{Done, Network, Refused, Timed};
 use gptp_links::Fate;
 use gptp_roles::Role;
 use gptp_system::System;
@@ -20,12 +18,12 @@ pub struct World<F> {
 
 impl<F: Fate + Drop> World<F> {
     ghost use Rattle.std.specs.Prelude.{◌≡◌, ◌≤◌, ◌↔◌, IsTrue, IfErr, IfNone, IfOk, IfSome, List, OnErr, OnOk, length, slice_get, []};
-    ghost use Rattle.gptp_world.specs.Acts.{AtSystem, IsFitAct, Refuses};
-    ghost use Rattle.gptp_world.specs.Playing.{AreAllowed, IsAllowed, IsPlayed, Plays, StopsAt};
-    ghost use Rattle.gptp_world.specs.Advancing.{Advanced, StopsShort, Told};
-    ghost use Rattle.gptp_world.specs.Scene.{Begun, WasDone};
-    ghost use Rattle.gptp_world.specs.Sound.{IsSound};
-    ghost use Rattle.gptp_world.specs.Views.{Follows, HasPort, HasRole, IsLiveSystem, IsNextAct, ShowsLive, rising_clocks};
+    ghost use Rattle.gptp_acts.specs.Acts.{AtSystem, IsFitAct, Refuses};
+    ghost use Rattle.gptp_acts.specs.Playing.{AreAllowed, IsAllowed, IsPlayed, Plays, StopsAt};
+    ghost use Rattle.gptp_acts.specs.Advancing.{Advanced, StopsShort, Told};
+    ghost use Rattle.gptp_acts.specs.Course.{Begun, WasDone};
+    ghost use Rattle.gptp_acts.specs.Sound.{IsSound};
+    ghost use Rattle.gptp_acts.specs.Views.{Follows, HasPort, HasRole, IsLiveSystem, IsNextAct, ShowsLive, rising_clocks};
 
     /// The world of a network at time 0: all its systems have started, in their order, and their first frames are in flight.
     /// Refused for want of memory alone; then the fate is dropped.

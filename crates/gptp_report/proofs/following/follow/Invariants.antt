@@ -1,5 +1,5 @@
 use Rattle.std.specs.Prelude.{string_bytes, ◌+◌, ◌-◌}
-use Rattle.gptp_world.specs.Pending.{NothingBefore}
+use Rattle.gptp_acts.specs.Pending.{NothingBefore}
 use Rattle.gptp_report.specs.Following.{Follows}
 use Rattle.gptp_report.proofs.following.follow.Given as goal
 

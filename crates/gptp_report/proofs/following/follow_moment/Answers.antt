@@ -1,8 +1,8 @@
 use Rattle.std.proofs.Common.{◌≡◌, ◌<◌, subst, arith}
 use Rattle.std.specs.Prelude.{string_bytes}
-use Rattle.gptp_world.specs.Ahead.{due_by}
-use Rattle.gptp_world.specs.Pending.{NothingBefore}
-use Rattle.gptp_world.proofs.AdvanceLemmas.{next_not_before}
+use Rattle.gptp_acts.specs.Ahead.{due_by}
+use Rattle.gptp_acts.specs.Pending.{NothingBefore}
+use Rattle.gptp_acts.proofs.AdvanceLemmas.{next_not_before}
 use Rattle.gptp_report.specs.Following.{Follows}
 use Rattle.gptp_report.proofs.FollowLemmas.{follows_more}
 use Rattle.gptp_report.proofs.following.follow_moment.Goals as goal

@@ -1,6 +1,6 @@
 use Rattle.std.specs.Prelude.{string_bytes}
-use Rattle.gptp_world.specs.Ahead.{due_by}
-use Rattle.gptp_world.specs.Pending.{NothingBefore}
+use Rattle.gptp_acts.specs.Ahead.{due_by}
+use Rattle.gptp_acts.specs.Pending.{NothingBefore}
 use Rattle.gptp_report.specs.Following.{Follows}
 use Rattle.gptp_report.proofs.following.follow_moment.Given as goal
 

@@ -1,6 +1,6 @@
 use Rattle.std.proofs.Common.{arith}
 use Rattle.std.specs.Prelude.{string_bytes}
-use Rattle.gptp_world.proofs.AdvanceLemmas.{next_not_before}
+use Rattle.gptp_acts.proofs.AdvanceLemmas.{next_not_before}
 use Rattle.gptp_report.proofs.FollowLemmas.{follows_later}
 use Rattle.gptp_report.proofs.following.follow_next.Goals as goal
 

@@ -1,8 +1,8 @@
 use Rattle.std.proofs.Common.{arith}
 use Rattle.std.specs.Prelude.{string_bytes}
 use Rattle.std.proofs.lemmas.Result.{on_ok_weaker}
-use Rattle.gptp_world.specs.Advancing.{Told}
-use Rattle.gptp_world.proofs.AdvanceLemmas.{happened, Happened}
+use Rattle.gptp_acts.specs.Advancing.{Told}
+use Rattle.gptp_acts.proofs.AdvanceLemmas.{happened, Happened}
 use Rattle.gptp_report.proofs.FollowLemmas.{follows_one}
 use Rattle.gptp_report.proofs.following.follow_one.Goals as goal
 

@@ -1,6 +1,6 @@
 use Rattle.std.proofs.Common.{◌≡◌, ◌<◌, length, ap, ◌∙◌}
 use Rattle.gptp_world.specs.Stage.{world_of}
-use Rattle.gptp_world.specs.World.{WorldState}
+use Rattle.gptp_acts.specs.World.{WorldState}
 use Rattle.gptp_world.proofs.SceneLemmas.{can_start, same_sound, start_count, start_sound}
 use Rattle.gptp_world.proofs.scene.start_next.Goals as goal
 

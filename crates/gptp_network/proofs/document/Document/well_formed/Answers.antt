@@ -1,5 +1,5 @@
 use Rattle.std.proofs.Common.{subst}
-use Rattle.gptp_world.specs.Playing.{AreAllowed}
+use Rattle.gptp_acts.specs.Playing.{AreAllowed}
 use Rattle.gptp_network.specs.Document.{DocumentState}
 use Rattle.gptp_network.proofs.EventLemmas.{events_allowed}
 use Rattle.gptp_network.proofs.document.Document.well_formed.Goals as goal

@@ -1,7 +1,7 @@
 use Rattle.std.proofs.Common.{◌∙◌, subst}
 use Rattle.gptp_world.specs.Touched.{holds, AreSetBut, IsTouchedOf}
-use Rattle.gptp_world.specs.World.{timers_from}
-use Rattle.gptp_world.proofs.OwnTimerLemmas.{own_timer}
+use Rattle.gptp_acts.specs.World.{timers_from}
+use Rattle.gptp_acts.proofs.OwnTimerLemmas.{own_timer}
 use Rattle.gptp_world.proofs.TouchedLemmas.{nothing_touched, one_touched, selection_touched}
 use Rattle.gptp_world.proofs.net.Net.set_touched.Goals as goal
 

@@ -1,5 +1,5 @@
 use Rattle.std.proofs.Common.{refl, ap, arith}
-use Rattle.gptp_world.specs.Pending.{PendingState}
+use Rattle.gptp_acts.specs.Pending.{PendingState}
 use Rattle.gptp_world.proofs.NeedLemmas.{uses_nothing}
 use Rattle.gptp_world.proofs.net.Net.take_timer.Goals as goal
 

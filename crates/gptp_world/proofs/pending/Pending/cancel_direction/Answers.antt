@@ -1,7 +1,7 @@
 use Rattle.std.proofs.Common.{refl, sym, ap, ◌∙◌, arith}
-use Rattle.gptp_world.specs.declared.item.Item.TheVariants.{Arrival}
-use Rattle.gptp_world.specs.Pending.{PendingState, without}
-use Rattle.gptp_world.proofs.PendingLemmas.{same_state, without-first, without-none, without_first-none}
+use Rattle.gptp_acts.specs.declared.item.Item.TheVariants.{Arrival}
+use Rattle.gptp_acts.specs.Pending.{PendingState, without}
+use Rattle.gptp_acts.proofs.PendingLemmas.{same_state, without-first, without-none, without_first-none}
 use Rattle.gptp_world.proofs.pending.Pending.cancel_direction.Goals as goal
 
 pub loop-direction-preserved : goal.loop-direction-preserved

@@ -1,6 +1,6 @@
 use Rattle.std.proofs.Common.{sym, ap, ◌∙◌}
 use Rattle.std.specs.Prelude.{option_copied}
-use Rattle.gptp_world.proofs.NextLemmas.{next_is, next_known}
+use Rattle.gptp_acts.proofs.NextLemmas.{next_is, next_known}
 use Rattle.gptp_world.proofs.pending.Pending.next.Goals as goal
 
 pub returns-clause-next : goal.returns-clause-next

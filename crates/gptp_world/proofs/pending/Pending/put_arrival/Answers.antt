@@ -1,5 +1,5 @@
 use Rattle.std.proofs.Common.{◌<◌, length, arith}
-use Rattle.gptp_world.specs.Pending.{arrival_place}
+use Rattle.gptp_acts.specs.Pending.{arrival_place}
 use Rattle.gptp_world.specs.Filed.{pushed, queue_at}
 use Rattle.gptp_world.proofs.QueueLemmas.{other_place, room-here, room-other, room_is}
 use Rattle.gptp_world.proofs.FiledLemmas.{arrival_within}

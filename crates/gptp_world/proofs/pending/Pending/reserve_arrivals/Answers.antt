@@ -1,7 +1,7 @@
 use Rattle.std.proofs.Common.{◌<◌, ◌≤◌, length, arith}
 use Rattle.gptp_links.specs.declared.link.Direction.TheVariants.{FromA, FromB}
 use Rattle.gptp_world.specs.Filed.{queue_at}
-use Rattle.gptp_world.specs.Pending.{arrival_place}
+use Rattle.gptp_acts.specs.Pending.{arrival_place}
 use Rattle.gptp_world.proofs.QueueLemmas.{made-kept, made-len, on_ok, room_is}
 use Rattle.gptp_world.proofs.pending.Pending.reserve_arrivals.Goals as goal
 

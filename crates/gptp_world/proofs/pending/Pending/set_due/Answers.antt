@@ -1,7 +1,7 @@
 use Rattle.std.proofs.Common.{◌≡◌, refl, sym, ap, ◌∙◌}
-use Rattle.gptp_world.specs.declared.item.Item.TheVariants.{Expiry}
-use Rattle.gptp_world.specs.Pending.{PendingState, put, put_if, set_due, times, without_first}
-use Rattle.gptp_world.proofs.PendingLemmas.{not_listed, same_state, set_due-replaced, times-stopped}
+use Rattle.gptp_acts.specs.declared.item.Item.TheVariants.{Expiry}
+use Rattle.gptp_acts.specs.Pending.{PendingState, put, put_if, set_due, times, without_first}
+use Rattle.gptp_acts.proofs.PendingLemmas.{not_listed, same_state, set_due-replaced, times-stopped}
 use Rattle.gptp_world.proofs.pending.Pending.set_due.Goals as goal
 
 pub start-requires-clause-stopped : goal.start-requires-clause-stopped

@@ -1,5 +1,5 @@
 use Rattle.std.proofs.Common.{refl, sym, ◌∙◌}
-use Rattle.gptp_world.proofs.PendingLemmas.{same_state}
+use Rattle.gptp_acts.proofs.PendingLemmas.{same_state}
 use Rattle.gptp_world.proofs.FiledLemmas.{filed-stopped, plain-stopped, plain-not_filed, times-once}
 use Rattle.gptp_world.proofs.pending.Pending.stop.Goals as goal
 

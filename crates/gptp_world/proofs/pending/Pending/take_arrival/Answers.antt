@@ -1,8 +1,8 @@
 use Rattle.std.proofs.Common.{◌<◌, length, refl, sym, ◌∙◌, arith}
-use Rattle.gptp_world.specs.Pending.{arrival_place, plain}
+use Rattle.gptp_acts.specs.Pending.{arrival_place, plain}
 use Rattle.gptp_world.specs.Filed.{popped, queue_at}
-use Rattle.gptp_world.specs.declared.item.Item.TheVariants.{Arrival}
-use Rattle.gptp_world.proofs.PendingLemmas.{same_state, without_first-none}
+use Rattle.gptp_acts.specs.declared.item.Item.TheVariants.{Arrival}
+use Rattle.gptp_acts.proofs.PendingLemmas.{same_state, without_first-none}
 use Rattle.gptp_world.proofs.QueueLemmas.{front_is, no_front, popped-room, room-kept}
 use Rattle.gptp_world.proofs.FiledLemmas.{arrival_within, filed-taken, plain-taken, shrinks-taken, times-no_arrival}
 use Rattle.gptp_world.proofs.pending.Pending.take_arrival.Goals as goal

@@ -1,10 +1,10 @@
 use Rattle.std.proofs.Common.{◌+◌, subst, sym, arith}
-use Rattle.gptp_world.specs.Pending.{NothingBefore}
+use Rattle.gptp_acts.specs.Pending.{NothingBefore}
 use Rattle.gptp_world.specs.Stage.{world_of}
-use Rattle.gptp_world.specs.World.{WorldState}
-use Rattle.gptp_world.proofs.AdvanceLemmas.{nothing_sooner}
+use Rattle.gptp_acts.specs.World.{WorldState}
+use Rattle.gptp_acts.proofs.AdvanceLemmas.{nothing_sooner}
 use Rattle.gptp_world.proofs.LaterLemmas.{stage_later}
-use Rattle.gptp_world.proofs.SoundLemmas.{later_sound}
+use Rattle.gptp_acts.proofs.SoundLemmas.{later_sound}
 use Rattle.gptp_world.proofs.scene.Scene.advance.Goals as goal
 
 pub invariant_of-self : goal.invariant_of-self

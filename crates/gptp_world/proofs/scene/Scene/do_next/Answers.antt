@@ -1,11 +1,12 @@
 use Rattle.std.proofs.Common.{subst, sym, arith}
-use Rattle.gptp_world.specs.declared.change.Timed.{Timed}
-use Rattle.gptp_world.specs.Advancing.{Told}
-use Rattle.gptp_world.specs.Pending.{IsNext}
-use Rattle.gptp_world.specs.Sound.{IsSound}
-use Rattle.gptp_world.specs.Views.{IsActOf, IsNextAct}
-use Rattle.gptp_world.specs.World.{WorldState}
-use Rattle.gptp_world.proofs.AdvanceLemmas.{can_happen, happened, one_happened}
+use Rattle.gptp_acts.specs.declared.change.Timed.{Timed}
+use Rattle.gptp_acts.specs.Advancing.{Told}
+use Rattle.gptp_acts.specs.Pending.{IsNext}
+use Rattle.gptp_acts.specs.Sound.{IsSound}
+use Rattle.gptp_acts.specs.Views.{IsActOf, IsNextAct}
+use Rattle.gptp_acts.specs.World.{WorldState}
+use Rattle.gptp_acts.proofs.AdvanceLemmas.{can_happen, happened, one_happened}
+use Rattle.gptp_world.proofs.AimLemmas.{next_aimed}
 use Rattle.gptp_world.proofs.ViewLemmas.{next_placed}
 use Rattle.gptp_world.proofs.scene.Scene.do_next.Goals as goal
 
@@ -16,13 +17,15 @@ act_of-requires-clause-placed g c =
 
 pub perform-requires : goal.perform-requires
 perform-requires g c =
-    let can = can_happen c.args.item c.args.time c.act_of.result c.args.self.now
-    (subst IsSound c.self.view_is c.self.invariant.sound) c.requires.next
-    (subst (λ w. IsActOf c.args.item w c.act_of.result) c.self.view_is c.act_of.ensures.act) in
+    let sound : IsSound c.args.self.now = subst IsSound c.self.view_is c.self.invariant.sound in
+    let is : IsActOf c.args.item c.args.self.now c.act_of.result =
+    subst (λ w. IsActOf c.args.item w c.act_of.result) c.self.view_is c.act_of.ensures.act in
+    let can = can_happen c.args.item c.args.time c.act_of.result c.args.self.now sound c.requires.next is in
     record {
       moment = c.requires.moment;
       fit = can.fit;
-      aim = rw c.aim_of.ensures can.is_aim;
+      aim = rw c.aim_of.ensures
+          (next_aimed c.args.item c.args.time c.act_of.result c.args.self.now sound c.requires.next is);
       ready = can.ready;
     }
 

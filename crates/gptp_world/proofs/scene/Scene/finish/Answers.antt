@@ -1,8 +1,8 @@
 use Rattle.std.proofs.Common.{◌≡◌, ◌<◌, subst, arith}
-use Rattle.gptp_world.specs.Advancing.{Stopped}
-use Rattle.gptp_world.specs.Ahead.{due_by}
-use Rattle.gptp_world.specs.Pending.{NothingBefore}
-use Rattle.gptp_world.proofs.AdvanceLemmas.{next_not_before, stopped_more}
+use Rattle.gptp_acts.specs.Advancing.{Stopped}
+use Rattle.gptp_acts.specs.Ahead.{due_by}
+use Rattle.gptp_acts.specs.Pending.{NothingBefore}
+use Rattle.gptp_acts.proofs.AdvanceLemmas.{next_not_before, stopped_more}
 use Rattle.gptp_world.proofs.scene.Scene.finish.Goals as goal
 
 pub loop-due-smaller : goal.loop-due-smaller

@@ -1,6 +1,6 @@
-use Rattle.gptp_world.specs.Advancing.{Stopped}
-use Rattle.gptp_world.specs.Ahead.{due_by}
-use Rattle.gptp_world.specs.Pending.{NothingBefore}
+use Rattle.gptp_acts.specs.Advancing.{Stopped}
+use Rattle.gptp_acts.specs.Ahead.{due_by}
+use Rattle.gptp_acts.specs.Pending.{NothingBefore}
 use Rattle.gptp_world.proofs.scene.Scene.finish.Given as goal
 
 -- it went on so far, and nothing is pending before the time

@@ -1,5 +1,5 @@
 use Rattle.std.proofs.Common.{arith}
-use Rattle.gptp_world.proofs.AdvanceLemmas.{next_not_before, stopped_later}
+use Rattle.gptp_acts.proofs.AdvanceLemmas.{next_not_before, stopped_later}
 use Rattle.gptp_world.proofs.scene.Scene.finish_next.Goals as goal
 
 pub returns-in_err-finish-in-Some-clause-went : goal.returns-in_err-finish-in-Some-clause-went

@@ -1,4 +1,4 @@
-use Rattle.gptp_world.proofs.AdvanceLemmas.{stopped_more}
+use Rattle.gptp_acts.proofs.AdvanceLemmas.{stopped_more}
 use Rattle.gptp_world.proofs.scene.Scene.go_on.Goals as goal
 
 pub returns-in_err-from-clause-went : goal.returns-in_err-from-clause-went

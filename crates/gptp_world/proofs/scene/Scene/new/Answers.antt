@@ -1,4 +1,4 @@
-use Rattle.gptp_world.specs.Initial.{initial}
+use Rattle.gptp_acts.specs.Initial.{initial}
 use Rattle.gptp_world.specs.Stage.{world_of}
 use Rattle.gptp_world.proofs.InitialLemmas.{initial_sound}
 use Rattle.gptp_world.proofs.SceneLemmas.{same_sound}

@@ -1,11 +1,11 @@
 use Rattle.std.proofs.Common.{◌≡◌, subst, sym, ◌∙◌}
-use Rattle.gptp_world.specs.Acts.{at}
+use Rattle.gptp_acts.specs.Acts.{at}
 use Rattle.gptp_world.specs.Aim.{IsAimOf}
-use Rattle.gptp_world.specs.Sound.{IsSound}
+use Rattle.gptp_acts.specs.Sound.{IsSound}
 use Rattle.gptp_world.specs.Stage.{world_of}
 use Rattle.gptp_world.proofs.LaterLemmas.{aim_later, room_later}
 use Rattle.gptp_world.proofs.SceneLemmas.{ready_sound}
-use Rattle.gptp_world.proofs.SoundLemmas.{acts_sound}
+use Rattle.gptp_acts.proofs.SoundLemmas.{acts_sound}
 use Rattle.gptp_world.proofs.scene.Scene.perform.Goals as goal
 
 pub perform-requires-clause-sound : goal.perform-requires-clause-sound

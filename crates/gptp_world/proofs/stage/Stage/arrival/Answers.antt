@@ -1,6 +1,6 @@
 use Rattle.std.proofs.Common.{◌<◌, length, refl, arith}
 use Rattle.gptp_world.specs.Cable.{channel_of}
-use Rattle.gptp_world.proofs.PlaceLemmas.{get-map, within}
+use Rattle.gptp_acts.proofs.PlaceLemmas.{get-map, within}
 use Rattle.gptp_world.proofs.stage.Stage.arrival.Goals as goal
 
 pub returns-clause-some : goal.returns-clause-some

@@ -1,13 +1,13 @@
 use Rattle.std.proofs.Common.{◌≡◌, ◌+◌, ◌*◌, length, Some, slice_get, refl, ap, ◌∙◌}
 use Rattle.gptp_system.specs.State.{clock}
-use Rattle.gptp_world.specs.Act.{all_timers, in_state}
+use Rattle.gptp_acts.specs.Act.{all_timers, in_state}
 use Rattle.gptp_world.specs.Cable.{SentAll}
-use Rattle.gptp_world.specs.declared.station.Station.{Station}
+use Rattle.gptp_acts.specs.declared.station.Station.{Station}
 use Rattle.gptp_world.specs.Net.{between}
 use Rattle.gptp_world.specs.Room.{for_sends, for_timers, HasRoom, Uses}
 use Rattle.gptp_world.specs.Stage.{for_left}
 use Rattle.gptp_world.proofs.NeedLemmas.{left_of, uses_both, uses_timers}
-use Rattle.gptp_world.proofs.PlaceLemmas.{read, get-set_same}
+use Rattle.gptp_acts.proofs.PlaceLemmas.{read, get-set_same}
 use Rattle.gptp_world.proofs.StageLemmas.{call_uses, called, stays, timers_set}
 use Rattle.gptp_world.proofs.stage.Stage.carry_out.Goals as goal
 

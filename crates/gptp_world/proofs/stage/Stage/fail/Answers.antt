@@ -1,5 +1,5 @@
 use Rattle.std.proofs.Common.{false, refl}
-use Rattle.gptp_world.specs.declared.station.Station.{Station}
+use Rattle.gptp_acts.specs.declared.station.Station.{Station}
 use Rattle.gptp_world.specs.Room.{HasRoom}
 use Rattle.gptp_world.specs.Starting.{for_all_timers}
 use Rattle.gptp_world.proofs.StartingLemmas.{can_set_timers, replaced_stage, replaced_world, stands_there, timers_stage}

@@ -2,7 +2,7 @@ use Rattle.std.proofs.Common.{◌≡◌, refl, subst, sym, ◌∙◌}
 use Rattle.std.proofs.lemmas.Option.{same_Some}
 use Rattle.gptp_system.specs.Input.{Frame}
 use Rattle.gptp_system.specs.Steps.{IsUp}
-use Rattle.gptp_world.specs.declared.station.Station.{Station}
+use Rattle.gptp_acts.specs.declared.station.Station.{Station}
 use Rattle.gptp_world.specs.Touched.{none}
 use Rattle.gptp_world.proofs.StageLemmas.{carries, stepped}
 use Rattle.gptp_world.proofs.TouchedLemmas.{frame_covers, frame_touches_own, has_touched}

@@ -2,10 +2,10 @@ use Rattle.std.proofs.Common.{◌≡◌, ap, sym, ◌∙◌}
 use Rattle.std.specs.Option.{option_map}
 use Rattle.gptp_links.specs.Queue.{first, Frame}
 use Rattle.gptp_world.specs.Cable.{channel_of}
-use Rattle.gptp_world.specs.World.{Channel, queue}
+use Rattle.gptp_acts.specs.World.{Channel, queue}
 use Rattle.gptp_world.proofs.AimLemmas.{due_oldest, oldest_due}
 use Rattle.gptp_world.proofs.NetLemmas.{from_map}
-use Rattle.gptp_world.proofs.PlaceLemmas.{read}
+use Rattle.gptp_acts.proofs.PlaceLemmas.{read}
 use Rattle.gptp_world.proofs.SendingLemmas.{queue_same}
 use Rattle.gptp_world.proofs.stage.Stage.is_frame_due.Goals as goal
 

@@ -1,7 +1,7 @@
 use Rattle.std.proofs.Common.{arith}
 use Rattle.std.proofs.lemmas.Option.{none-some}
 use Rattle.gptp_world.specs.Directory.{BeginsAt}
-use Rattle.gptp_world.specs.Net.{port_id}
+use Rattle.gptp_acts.specs.World.{port_id}
 use Rattle.gptp_world.proofs.AimLemmas.{begins_placed, link_found, no_lane}
 use Rattle.gptp_world.proofs.stage.Stage.link_at.Goals as goal
 

@@ -1,5 +1,5 @@
 use Rattle.gptp_system.specs.Input.{PortDown}
-use Rattle.gptp_world.specs.Changing.{taken_down}
+use Rattle.gptp_acts.specs.Changing.{taken_down}
 use Rattle.gptp_world.specs.Net.{between}
 use Rattle.gptp_world.proofs.TellingLemmas.{both_told, can_tell, can_tell_second, net_changes, room_first}
 use Rattle.gptp_world.proofs.stage.Stage.link_down.Goals as goal

@@ -2,7 +2,7 @@ use Rattle.gptp_world.specs.Cable.{join_of}
 use Rattle.gptp_world.specs.Directory.{end_of}
 use Rattle.gptp_world.proofs.DeliveringLemmas.{room_to_hear}
 use Rattle.gptp_world.proofs.EndLemmas.{known_join, place_within}
-use Rattle.gptp_world.proofs.PlaceLemmas.{within}
+use Rattle.gptp_acts.proofs.PlaceLemmas.{within}
 use Rattle.gptp_world.proofs.QueueLemmas.{on_ok}
 use Rattle.gptp_world.proofs.stage.Stage.make_room_to_hear.Goals as goal
 

@@ -1,6 +1,6 @@
 use Rattle.gptp_world.specs.Stage.{world_of}
 use Rattle.gptp_world.proofs.ExpiringLemmas.{expired, known_timer}
-use Rattle.gptp_world.proofs.NextDueLemmas.{runs_out}
+use Rattle.gptp_acts.proofs.NextDueLemmas.{runs_out}
 use Rattle.gptp_world.proofs.StageLemmas.{room_kept}
 use Rattle.gptp_world.proofs.TellingLemmas.{net_changes}
 use Rattle.gptp_world.proofs.TouchedLemmas.{set_for_timer}

@@ -1,6 +1,6 @@
 use Rattle.std.proofs.Common.{◌≡◌, ◌+◌, [], ◌∷◌, ◌++◌, take, ap, sym, ◌∙◌}
 use Rattle.std.proofs.lemmas.List.{take_more}
-use Rattle.gptp_world.proofs.PlayLemmas.{plays_more}
+use Rattle.gptp_acts.proofs.PlayLemmas.{plays_more}
 use Rattle.gptp_world.proofs.world.World.play.Goals as goal
 
 pub loop-place-preserved : goal.loop-place-preserved

@@ -1,5 +1,5 @@
 use Rattle.std.proofs.Common.{take}
-use Rattle.gptp_world.specs.Playing.{Plays}
+use Rattle.gptp_acts.specs.Playing.{Plays}
 use Rattle.gptp_world.proofs.world.World.play.Given as goal
 
 -- those before this place were done

@@ -1,0 +1,127 @@
+-- Where what is pending agrees with the state, what is next is due by the state too.
+use Rattle.std.proofs.Common.{◌≡◌, ℕ, zero, suc, ◌≤◌, Bool, true, false, List, [], ◌∷◌, Option, Some, None, slice_get, refl, ap, ◌∙◌, arith}
+use Rattle.std.specs.List.{AllByRecursion}
+use Rattle.std.specs.Option.{option_and_then}
+use Rattle.std.proofs.lemmas.Option.{none-some, slice_get_within}
+use Rattle.gptp_links.specs.declared.link.Direction.{Direction}
+use Rattle.gptp_links.specs.Queue.{Frame, AreDueInOrder}
+use Rattle.gptp_system.specs.declared.port.Port.{Port}
+use Rattle.gptp_system.specs.declared.timer.Timer.{Timer}
+use Rattle.gptp_system.specs.declared.timer.Timer.TheVariants as timers
+use Rattle.gptp_system.specs.State.{SystemState, age_due, announce_due, due, held_at, number}
+use Rattle.gptp_system.specs.Steps.{IsPortOf, IsTimerOf}
+use Rattle.gptp_acts.specs.declared.item.Item.TheVariants.{Expiry, Arrival}
+use Rattle.gptp_acts.specs.declared.station.Station.{Station}
+use Rattle.gptp_acts.specs.Pending.{IsNext}
+use Rattle.gptp_acts.specs.World.{Channel, WorldState, queue, station_due}
+use Rattle.gptp_acts.specs.Agrees.{Agrees}
+use Rattle.gptp_acts.proofs.AgreeLemmas.{arriving, dues, running}
+use Rattle.gptp_acts.proofs.MomentLemmas.{next-due, next-first}
+
+-- ---- a timer
+
+number_within : (s : SystemState) (p : ℕ) (q : Port) → number s.ports p ≡ Some q → IsPortOf s p
+number_within s zero q here = absurd (none-some q here)
+number_within s (suc i) q here =
+    let within = slice_get_within s.ports i q here in record { least = omega arith; most = omega arith }
+
+port_due : (runs : Port → Option ℕ) (s : SystemState) (p time : ℕ) → option_and_then runs (number s.ports p) ≡ Some time
+    → IsPortOf s p
+port_due runs s p time is = by (number s.ports p) refl
+  where
+    by : (here : Option Port) → number s.ports p ≡ here → IsPortOf s p
+    by None none = let never : None ≡ Some time = rw none at is in absurd (none-some time never)
+    by (Some q) here = number_within s p q here
+
+-- a timer that runs is one of the system
+pub due_timer : (timer : Timer) (s : SystemState) (time : ℕ) → due timer s ≡ Some time → IsTimerOf s timer
+due_timer (timers.Announce p) s time is = port_due (λ q. announce_due q (held_at s p)) s p time is
+due_timer (timers.Age p) s time is = port_due (λ q. age_due s.params q (held_at s p)) s p time is
+due_timer (timers.Pdelay p) s time is = port_due (λ (q : Port). q.pdelay) s p time is
+due_timer (timers.Respond p) s time is = port_due (λ (q : Port). q.respond) s p time is
+due_timer timers.Sync s time is = tt
+due_timer timers.Relay s time is = tt
+
+-- a timer of a live system is due
+pub record RunsOut (place : ℕ) (timer : Timer) (time : ℕ) (w : WorldState) : Type 0 where
+  pub station : Station
+  pub here : slice_get w.stations place ≡ Some station
+  pub live : station.live ≡ true
+  pub timer_of : IsTimerOf station.system timer
+  pub due_now : due timer station.system ≡ Some time
+
+pub runs_out : (place : ℕ) (timer : Timer) (time : ℕ) (w : WorldState) (station : Station)
+    → slice_get w.stations place ≡ Some station → station_due timer station ≡ Some time → RunsOut place timer time w
+runs_out place timer time w station here is = by station.live refl
+  where
+    by : (live : Bool) → station.live ≡ live → RunsOut place timer time w
+    by true live =
+        let now : due timer station.system ≡ Some time = rw live at is in record {
+          station = station;
+          here = here;
+          live = live;
+          timer_of = due_timer timer station.system time now;
+          due_now = now;
+        }
+    by false failed = let never : None ≡ Some time = rw failed at is in absurd (none-some time never)
+
+-- a timer that is next runs out
+pub next_runs_out : (place : ℕ) (timer : Timer) (time : ℕ) (w : WorldState) → Agrees w
+    → IsNext w.net.pending time (Expiry place timer) → RunsOut place timer time w
+next_runs_out place timer time w agrees next = by (slice_get w.stations place) refl
+  where
+    by : (here : Option Station) → slice_get w.stations place ≡ here → RunsOut place timer time w
+    by None none =
+        absurd (none-some time (next-due w.net.pending time (Expiry place timer) None next
+        (agrees (Expiry place timer) ∙ ap (running timer) none)))
+    by (Some station) here =
+        runs_out place timer time w station here
+        (next-due w.net.pending time (Expiry place timer) (station_due timer station) next
+        (agrees (Expiry place timer) ∙ ap (running timer) here))
+
+-- ---- a frame
+
+-- the oldest frame of a link in a direction is due
+pub record Comes (link : ℕ) (direction : Direction) (time : ℕ) (w : WorldState) : Type 0 where
+  pub channel : Channel
+  pub oldest : Frame
+  pub rest : List Frame
+  pub here : slice_get w.net.channels link ≡ Some channel
+  pub front : queue direction channel ≡ oldest ∷ rest
+  pub due_now : oldest.due ≡ time
+
+lower : (t u : ℕ) (ts : List ℕ) → t ≤ u → AllByRecursion (λ v. u ≤ v) ts → AllByRecursion (λ v. t ≤ v) ts
+lower t u [] below all = tt
+lower t u (v ∷ vs) below all = let first = all.0 in (omega arith, lower t u vs below all.1)
+
+-- no frame is due before the oldest
+pub later_dues : (f : Frame) (fs : List Frame) → AreDueInOrder (f ∷ fs) → AllByRecursion (λ u. f.due ≤ u) (dues fs)
+later_dues f [] order = tt
+later_dues f (g ∷ fs) order = (order.0, lower f.due g.due (dues fs) order.0 (later_dues g fs order.1))
+
+-- a frame that is next is the oldest of its queue
+pub next_comes : (link : ℕ) (direction : Direction) (time : ℕ) (w : WorldState)
+    → ((channel : Channel) → slice_get w.net.channels link ≡ Some channel → AreDueInOrder (queue direction channel))
+    → Agrees w → IsNext w.net.pending time (Arrival link direction) → Comes link direction time w
+next_comes link direction time w ordered agrees next = by (slice_get w.net.channels link) refl
+  where
+    by : (here : Option Channel) → slice_get w.net.channels link ≡ here → Comes link direction time w
+    by None none =
+        absurd (none-some time (next-due w.net.pending time (Arrival link direction) None next
+        (agrees (Arrival link direction) ∙ ap (arriving direction) none)))
+    by (Some channel) here = on (queue direction channel) refl (ordered channel here)
+      where
+        on : (frames : List Frame) → queue direction channel ≡ frames → AreDueInOrder frames
+            → Comes link direction time w
+        on [] none order =
+            absurd (none-some time (next-due w.net.pending time (Arrival link direction) None next
+            (agrees (Arrival link direction) ∙ ap (arriving direction) here ∙ ap dues none)))
+        on (f ∷ fs) front order = record {
+          channel = channel;
+          oldest = f;
+          rest = fs;
+          here = here;
+          front = front;
+          due_now = next-first w.net.pending time (Arrival link direction) next f.due (dues fs)
+              (agrees (Arrival link direction) ∙ ap (arriving direction) here ∙ ap dues front) (later_dues f fs order);
+        }

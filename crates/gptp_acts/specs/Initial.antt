@@ -1,0 +1,58 @@
+-- The world that a network makes, before its systems start (profile).
+use Rattle.std.specs.Prelude.{false, List, [], map}
+use Rattle.gptp_system.specs.declared.setup.Params.{Params}
+use Rattle.gptp_system.specs.declared.setup.Setup.{Setup}
+use Rattle.gptp_system.specs.Start.{started}
+use Rattle.gptp_acts.specs.declared.network.Member.{Member}
+use Rattle.gptp_acts.specs.declared.network.Wire.{Wire}
+use Rattle.gptp_acts.specs.declared.station.Station.{Station}
+use Rattle.gptp_acts.specs.Network.{NetworkState}
+use Rattle.gptp_acts.specs.World.{Channel, Net, WorldState}
+
+-- what a system of a network starts with
+abbrev pub setup_of : Params → Member → Setup
+setup_of params member = record {
+  identity = member.identity;
+  ports = member.ports;
+  phase = member.phase;
+  drift = member.drift;
+  params = params;
+}
+
+-- it isn't live yet
+abbrev pub station_of : Params → Member → Station
+station_of params member = record {
+  setup = setup_of params member;
+  system = started (setup_of params member) 0;
+  live = false;
+}
+
+-- a link, with nothing in flight
+abbrev pub channel_from : Wire → Channel
+channel_from wire = record {
+  a = wire.a;
+  b = wire.b;
+  bounds = wire.bounds;
+  up = wire.up;
+  from_a = [];
+  from_b = [];
+}
+
+abbrev pub stations_of : NetworkState → List Station
+stations_of n = map (station_of n.params) n.systems
+
+abbrev pub channels_of : NetworkState → List Channel
+channels_of n = map channel_from n.links
+
+-- nothing is in flight or pending
+abbrev pub idle : NetworkState → Net
+idle n = record { channels = channels_of n; pending = [] }
+
+-- the world at time 0, with no system live
+abbrev pub initial : NetworkState → WorldState
+initial n = record {
+  time = 0;
+  last_change = 0;
+  stations = stations_of n;
+  net = idle n;
+}

@@ -1,0 +1,41 @@
+-- What can be pending, and when two such things are the same.
+use Rattle.std.specs.Prelude.{ℕ, ◌==◌, ◌&&◌, Bool}
+use Rattle.gptp_links.specs.declared.link.Direction.TheVariants.{FromA, FromB}
+use Rattle.gptp_system.specs.declared.timer.Timer.{Timer}
+use Rattle.gptp_system.specs.declared.timer.Timer.TheVariants as timers
+use Rattle.gptp_acts.specs.declared.item.Item.{Item}
+use Rattle.gptp_acts.specs.declared.item.Item.TheVariants.{Expiry, Arrival}
+
+-- the kind of a timer, and the number of its port; 0 where it belongs to the system
+abbrev pub timer_kind : Timer → ℕ
+timer_kind (timers.Pdelay p) = 0
+timer_kind (timers.Respond p) = 1
+timer_kind (timers.Announce p) = 2
+timer_kind (timers.Age p) = 3
+timer_kind timers.Sync = 4
+timer_kind timers.Relay = 5
+
+abbrev pub timer_port : Timer → ℕ
+timer_port (timers.Pdelay p) = p
+timer_port (timers.Respond p) = p
+timer_port (timers.Announce p) = p
+timer_port (timers.Age p) = p
+timer_port timers.Sync = 0
+timer_port timers.Relay = 0
+
+-- what tells an item from all others: the place of its system or link, its kind and its port
+abbrev pub place_of : Item → ℕ
+place_of (Expiry place timer) = place
+place_of (Arrival link direction) = link
+
+abbrev pub kind_of : Item → ℕ
+kind_of (Expiry place timer) = timer_kind timer
+kind_of (Arrival link FromA) = 6
+kind_of (Arrival link FromB) = 7
+
+abbrev pub port_of : Item → ℕ
+port_of (Expiry place timer) = timer_port timer
+port_of (Arrival link direction) = 0
+
+abbrev pub same_item : Item → Item → Bool
+same_item a b = place_of a == place_of b && (kind_of a == kind_of b && port_of a == port_of b)
