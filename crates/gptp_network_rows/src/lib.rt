@@ -1,4 +1,4 @@
-//! Worked rows of networks, documents and what is pending, as an outside caller sees them.
+//! Worked rows of networks, worlds and documents, as an outside caller sees them.
 //!
 //! What they expect was written down before the code.
 #![tactic(auto)]
@@ -7,7 +7,5 @@
 mod document;
 #[cfg(test)]
 mod far;
-#[cfg(test)]
-mod pending;
 #[cfg(test)]
 mod world;

@@ -2,8 +2,7 @@
 //!
 //! A [`World`] begins with all systems of a [`Network`] started. An act that is timely, there and due is done whole, as
 //! `specs/Acts.antt` of gptp_acts says. Any other act is refused by the first test that it fails, and changes nothing. Left
-//! to itself a world does what is next, up to a time. [`Pending`] is the list of all timers and frames in flight, in order
-//! of putting.
+//! to itself a world does what is next, up to a time.
 #![tactic(auto)]
 
 mod advancing;
@@ -33,6 +32,5 @@ mod touched;
 mod views;
 mod world;
 
-pub use gptp_acts::{Act, Change, Done, Item, Network, NetworkFault, Params, Refused, Timed};
-pub use pending::Pending;
+pub use gptp_acts::{Act, Change, Done, Network, NetworkFault, Params, Refused, Timed};
 pub use world::World;
