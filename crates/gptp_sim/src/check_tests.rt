@@ -1,23 +1,26 @@
 //! Certificates checked over memory.
 
+ghost use Rattle.std.specs.Prelude.{◌≢◌};
+
 use crate::check::check;
 use crate::failure::{SimError, Status};
 use crate::run_tests::{TWO, link, system};
 use crate::sink::CountedWriter;
-use crate::source::CountedReader;
 use std::alloc::{AllocError, Global};
 use std::test::Fail;
 
-/// What `check` writes for a document and a certificate, and its status.
+/// What `check` writes for a document and a certificate, and its status. No read of memory fails.
 pub fn checked(
     alloc: Global,
     document: &[u8],
     certificate: &[u8],
     until: Option<u64>,
-) -> Result<(Vec<u8>, Status), SimError> {
+) -> Result<(Vec<u8>, Status), SimError>
+    ensures { result ≢ Err SimError.Read }
+{
     let mut written = Vec::new(alloc);
-    let mut first = CountedReader::new(document);
-    let mut second = CountedReader::new(certificate);
+    let mut first = document;
+    let mut second = certificate;
     let mut sink = CountedWriter::new(&mut written);
     let status = check(alloc, &mut first, &mut second, &mut sink, until)?;
     Ok((written, status))
@@ -261,15 +264,14 @@ fn a_certificate_is_read_to_its_size(rt: HostRuntime) -> Result<(), Fail> {
         (1_048_580, "certificate refused 2 Line\n", 3),
     ] {
         let octets = vec![in alloc; b'0'; length]?;
-        let mut rest = octets.as_slice();
+        let mut certificate = octets.as_slice();
         let mut written = Vec::new(alloc);
-        let mut document = CountedReader::new(TWO.as_bytes());
-        let mut certificate = CountedReader::new(&mut rest);
+        let mut document = TWO.as_bytes();
         let mut sink = CountedWriter::new(&mut written);
         let status = check(alloc, &mut document, &mut certificate, &mut sink, None)?;
         assert_eq!(rt; written.as_slice(), want.as_bytes(), "at {length}");
         assert_eq!(rt; status, Status::Refused, "at {length}");
-        assert_eq!(rt; rest.len(), left, "at {length}");
+        assert_eq!(rt; certificate.len(), left, "at {length}");
     }
     Ok(())
 }

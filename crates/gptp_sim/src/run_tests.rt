@@ -1,12 +1,11 @@
 //! Whole runs of documents over memory. Links take 500 ns for each frame where nothing else is said.
 
-ghost use Rattle.std.specs.Prelude.{◌≤◌, IfSome};
+ghost use Rattle.std.specs.Prelude.{◌≤◌, ◌≢◌, IfSome};
 
 use crate::check_tests::checked;
 use crate::failure::{SimError, Status};
 use crate::run::{RunOptions, run};
 use crate::sink::CountedWriter;
-use crate::source::CountedReader;
 use std::alloc::{AllocError, Global};
 use std::test::Fail;
 
@@ -18,16 +17,17 @@ pub const TO_THE_END: RunOptions = RunOptions {
     certificate: false,
 };
 
-/// What `run` writes for a document, and its status.
+/// What `run` writes for a document, and its status. No read of memory fails.
 pub fn ran(
     alloc: Global,
     document: &[u8],
     options: &RunOptions,
 ) -> Result<(Vec<u8>, Status), SimError>
     requires { IfSome options.now.until (λ until. until ≤ 1000000000000000) }
+    ensures { result ≢ Err SimError.Read }
 {
     let mut written = Vec::new(alloc);
-    let mut source = CountedReader::new(document);
+    let mut source = document;
     let mut sink = CountedWriter::new(&mut written);
     let status = run(alloc, &mut source, &mut sink, options)?;
     Ok((written, status))
@@ -414,14 +414,13 @@ fn a_document_is_read_to_its_size(rt: HostRuntime) -> Result<(), Fail> {
         (33_554_440, "refused 11 TooMany\n", 7),
     ] {
         let octets = vec![in alloc; b'0'; length]?;
-        let mut rest = octets.as_slice();
+        let mut source = octets.as_slice();
         let mut written = Vec::new(alloc);
-        let mut source = CountedReader::new(&mut rest);
         let mut sink = CountedWriter::new(&mut written);
         let status = run(alloc, &mut source, &mut sink, &TO_THE_END)?;
         assert_eq!(rt; written.as_slice(), want.as_bytes(), "at {length}");
         assert_eq!(rt; status, Status::Refused, "at {length}");
-        assert_eq!(rt; rest.len(), left, "at {length}");
+        assert_eq!(rt; source.len(), left, "at {length}");
     }
     Ok(())
 }

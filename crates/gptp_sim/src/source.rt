@@ -63,3 +63,16 @@ impl<R: Read> Source for CountedReader<R> {
         }
     }
 }
+
+/// Memory as a source: the octets that are left of it. It never fails.
+impl Source for &[u8] {
+    ghost use Rattle.std.specs.Prelude.{Some};
+
+    ghost left = { λ octets. Some octets.now };
+
+    ghost failures = { λ octets. 0 };
+
+    fn read(&mut self, buffer: &mut [u8]) -> Result<usize, ReadFailed> {
+        Ok(Read::read(self, buffer).unwrap())
+    }
+}

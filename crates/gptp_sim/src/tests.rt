@@ -1,5 +1,7 @@
 //! Whole runs of `compare` over memory, and over devices that fail.
 
+ghost use Rattle.std.specs.Prelude.{◌≢◌};
+
 use crate::compare::compare_lines;
 use crate::failure::{SimError, Status};
 use crate::sink::CountedWriter;
@@ -58,10 +60,12 @@ impl Frame {
     }
 }
 
-/// What `compare` writes for an input, and its status.
-pub fn compared(alloc: Global, input: &[u8]) -> Result<(Vec<u8>, Status), SimError> {
+/// What `compare` writes for an input, and its status. No read of memory fails.
+pub fn compared(alloc: Global, input: &[u8]) -> Result<(Vec<u8>, Status), SimError>
+    ensures { result ≢ Err SimError.Read }
+{
     let mut written = Vec::new(alloc);
-    let mut source = CountedReader::new(input);
+    let mut source = input;
     let mut sink = CountedWriter::new(&mut written);
     let status = compare_lines(alloc, &mut source, &mut sink)?;
     Ok((written, status))
@@ -169,14 +173,13 @@ fn refuses_one_octet_past_the_size(rt: HostRuntime) -> Result<(), Fail> {
         (1_048_600, "refused size\n", 23),
     ] {
         let octets = vec![in alloc; b'0'; length]?;
-        let mut rest = octets.as_slice();
+        let mut source = octets.as_slice();
         let mut written = Vec::new(alloc);
-        let mut source = CountedReader::new(&mut rest);
         let mut sink = CountedWriter::new(&mut written);
         let status = compare_lines(alloc, &mut source, &mut sink)?;
         assert_eq!(rt; written.as_slice(), want.as_bytes(), "at {length}");
         assert_eq!(rt; status, Status::Refused, "at {length}");
-        assert_eq!(rt; rest.len(), left, "at {length}");
+        assert_eq!(rt; source.len(), left, "at {length}");
     }
     Ok(())
 }
@@ -260,7 +263,7 @@ fn write_fails_with_a_front_written(rt: HostRuntime) -> Result<(), Fail> {
             calls_before,
             most: 10,
         };
-        let mut source = CountedReader::new(line.as_bytes());
+        let mut source = line.as_bytes();
         let mut sink = CountedWriter::new(device);
         let outcome = compare_lines(alloc, &mut source, &mut sink);
         let (want, length) = if calls_before < WRITES {
