@@ -1,0 +1,15 @@
+pub mod DueLemmas
+pub mod AtRestLemmas
+pub mod LaterLemmas
+pub mod LimitLemmas
+pub mod MeasuringLemmas
+pub mod KeptLemmas
+pub mod ActLemmas
+pub mod ChangeLemmas
+pub mod RunningLemmas
+pub mod OnLinkLemmas
+pub mod ComesUpLemmas
+pub mod GoesDownLemmas
+pub mod StartsLemmas
+pub mod LinkActLemmas
+pub mod KnownLemmas

@@ -1,0 +1,7 @@
+pub mod AtRest
+pub mod Due
+pub mod Known
+pub mod Laws
+pub mod Linked
+pub mod Measuring
+pub mod Prompt

@@ -1,0 +1,4 @@
+pub mod View
+pub mod Legible
+pub mod SeenLaws
+pub mod LegibleLaws

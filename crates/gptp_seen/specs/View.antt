@@ -1,0 +1,146 @@
+-- A world as the machine of gptp_settling sees it.
+use Rattle.std.specs.Prelude.{◌≡◌, ℕ, ◌+◌, ◌*◌, Bool, List, [], ◌∷◌, map}
+use Rattle.gptp_graph.specs.Snapshot.{PortIdentity, port_of}
+use Rattle.gptp_vector.specs.declared.port.PortId.{PortId}
+use Rattle.gptp_messages.specs.declared.announce.AnnounceView.{AnnounceView}
+use Rattle.gptp_messages.specs.declared.message.Message.TheVariants as messages
+use Rattle.gptp_messages.specs.Grammar.{Reads}
+use Rattle.gptp_links.specs.declared.link.Direction.{Direction}
+use Rattle.gptp_links.specs.declared.link.Direction.TheVariants.{FromA, FromB}
+use Rattle.gptp_links.specs.Queue.{Frame}
+use Rattle.gptp_receipt.specs.declared.held.Held.{Held}
+use Rattle.gptp_receipt.specs.declared.held.Held.TheVariants as helds
+use Rattle.gptp_receipt.specs.Held.{Reception}
+use Rattle.gptp_system.specs.declared.port.Port.{Port}
+use Rattle.gptp_system.specs.declared.sending.Sending.{Sending}
+use Rattle.gptp_system.specs.declared.setup.Params.{Params}
+use Rattle.gptp_system.specs.Intervals.{interval_of}
+use Rattle.gptp_system.specs.State.{SystemState, clock, span_of, trace}
+use Rattle.gptp_system.specs.Touch.{Touch, Hear, Tick, Grow, Enable, Disable, Other}
+use Rattle.gptp_acts.specs.declared.station.Station.{Station}
+use Rattle.gptp_acts.specs.Sends.{written}
+use Rattle.gptp_acts.specs.World.{Channel, WorldState, sender, receiver, queue}
+use Rattle.gptp_settling.specs.Frame.{Announce, Says, Frame as SeenFrame, Lane, Send}
+use Rattle.gptp_settling.specs.Station.{Reception as SeenReception, Held as SeenHeld, Disabled, Aged, Mine, Received, Port as SeenPort, Station as SeenStation, State}
+use Rattle.gptp_settling.specs.Touch.{Touch as SeenTouch}
+use Rattle.gptp_settling.specs.Touch as touches
+
+-- ---- octets
+
+-- a port by the clock of its system and its number
+abbrev pub identity_of : PortId → PortIdentity
+identity_of p = port_of p.clock p.port
+
+-- what an Announce says of the root and the way to it (IEEE 802.1AS-2020, 10.6.3)
+abbrev pub said : AnnounceView → Announce
+said a =
+    record { root = a.body.root; steps = a.body.steps; source = identity_of a.head.source; path = a.path }
+
+-- octets say an Announce exactly where they read as one
+abbrev pub says : Says
+says octets a = (m : AnnounceView) × Reads octets (messages.Announce m) × (a ≡ said m)
+
+-- ---- systems
+
+-- how long what a port receives stays there: announceReceiptTimeout times its announce interval (10.7.3.2)
+abbrev pub span_at : Params → Port → ℕ
+span_at params q = span_of params q
+
+-- what was received, as an Announce that stays for this span
+abbrev pub reception_view : ℕ → Reception → SeenReception
+reception_view span r = record {
+  said = record {
+    root = r.vector.root;
+    steps = r.vector.steps;
+    source = identity_of r.vector.source;
+    path = r.path;
+  };
+  at = r.at;
+  span = span;
+}
+
+-- what a port holds, where what is received stays for this span
+abbrev pub held_view : ℕ → Held → SeenHeld
+held_view span helds.Disabled = Disabled
+held_view span helds.Aged = Aged
+held_view span (helds.Mine root steps) = Mine root steps
+held_view span (helds.Received vector path at) =
+    Received (reception_view span (record { vector = vector; path = path; at = at }))
+
+-- a port, with what it holds
+abbrev pub port_view : Params → Held → Port → SeenPort
+port_view params h q = record {
+  held = held_view (span_at params q) h;
+  interval = interval_of q.log_interval;
+  announce = q.announce;
+}
+
+-- the ports of a system, each with what it holds
+abbrev pub ports_view : Params → List Held → List Port → List SeenPort
+ports_view params [] qs = []
+ports_view params (h ∷ hs) [] = []
+ports_view params (h ∷ hs) (q ∷ qs) = port_view params h q ∷ ports_view params hs qs
+
+-- a system in this state
+abbrev pub system_view : Bool → SystemState → SeenStation
+system_view live s = record {
+  live = live;
+  clock = clock s;
+  identity = s.identity;
+  ports = ports_view s.params s.held s.ports;
+  root = s.root;
+  steps = s.steps;
+  slave = s.slave;
+  trace = trace s;
+}
+
+abbrev pub station_view : Station → SeenStation
+station_view station = system_view station.live station.system
+
+-- what a system sends, with the octets that it writes in this state
+abbrev pub send_view : SystemState → Sending → Send
+send_view s x = record { port = x.port; octets = written s x }
+
+-- an input, so far as Announces are concerned
+abbrev pub touch_view : Touch → SeenTouch
+touch_view (Hear p a) = touches.Hear p (said a)
+touch_view (Tick p) = touches.Tick p
+touch_view (Grow p) = touches.Grow p
+touch_view (Enable p) = touches.Enable p
+touch_view (Disable p) = touches.Disable p
+touch_view Other = touches.Other
+
+-- ---- links
+
+-- a frame in flight
+abbrev pub frame_view : Frame → SeenFrame
+frame_view f = record { due = f.due; octets = f.octets }
+
+-- one direction of a link
+abbrev pub lane_view : Direction → Channel → Lane
+lane_view direction channel = record {
+  from = identity_of (sender direction channel);
+  to = identity_of (receiver direction channel);
+  loss = channel.bounds.loss;
+  is_up = channel.up;
+  frames = map frame_view (queue direction channel);
+}
+
+-- each link twice, once each way
+abbrev pub lanes_view : List Channel → List Lane
+lanes_view [] = []
+lanes_view (channel ∷ channels) = lane_view FromA channel ∷ lane_view FromB channel ∷ lanes_view channels
+
+-- where the lane of a link in a direction stands
+abbrev pub lane_place : ℕ → Direction → ℕ
+lane_place link FromA = 2 * link
+lane_place link FromB = 2 * link + 1
+
+-- ---- the whole world
+
+abbrev pub view : WorldState → State
+view w = record {
+  time = w.time;
+  stations = map station_view w.stations;
+  lanes = lanes_view w.net.channels;
+}
