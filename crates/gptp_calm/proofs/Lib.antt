@@ -1,0 +1,12 @@
+pub mod CountLemmas
+pub mod BetweenLemmas
+pub mod SystemLemmas
+pub mod WayLemmas
+pub mod StandsLemmas
+pub mod KeptLemmas
+pub mod FoundLemmas
+pub mod PortLemmas
+pub mod AtRestLemmas
+pub mod FactLemmas
+pub mod DelayLemmas
+pub mod CalmLemmas

@@ -1,0 +1,4 @@
+pub mod Standing
+pub mod StandingLaws
+pub mod Calm
+pub mod CalmLaws
