@@ -1,0 +1,5 @@
+pub mod WorldLemmas
+pub mod MomentLemmas
+pub mod ClaimLemmas
+pub mod ParentLemmas
+pub mod SettledLemmas
