@@ -1,0 +1,2 @@
+pub mod Unanswered
+pub mod Laws
