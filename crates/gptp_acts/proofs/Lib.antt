@@ -24,4 +24,5 @@ pub mod ChangeOnTimeLemmas
 pub mod SoundLemmas
 pub mod RisingLemmas
 pub mod PlayLemmas
+pub mod PromptLemmas
 pub mod AdvanceLemmas

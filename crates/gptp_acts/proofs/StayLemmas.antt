@@ -1,4 +1,5 @@
--- What no act changes of a world: the clock and the ports of each system, and the ports that each link joins.
+-- What no act changes of a world: the clock, the ports and the parameters of each system, and the ports that each link
+-- joins.
 use Rattle.std.proofs.Common.{◌≡◌, ℕ, Bool, true, false, List, [], ◌∷◌, map, length, Option, Some, None, slice_get, slice_set, refl, sym, ap, subst, ◌∙◌, inl, inr}
 use Rattle.gptp_vector.specs.declared.port.PortId.{PortId}
 use Rattle.gptp_links.specs.declared.bounds.Bounds.{Bounds}
@@ -10,17 +11,26 @@ use Rattle.gptp_roles.specs.Selection.{clock_of}
 use Rattle.gptp_system.specs.declared.answer.Answer.{Answer}
 use Rattle.gptp_system.specs.declared.sending.Sending.{Sending}
 use Rattle.gptp_system.specs.declared.timer.Timer.{Timer}
-use Rattle.gptp_system.specs.Input.{Input, PortUp, PortDown, Frame as FrameHeard, Expires as TimerExpires}
+use Rattle.gptp_system.specs.Input.{Input, PortUp, PortDown, Priority, Frame as FrameHeard, Expires as TimerExpires}
 use Rattle.gptp_system.specs.Start.{started}
 use Rattle.gptp_system.specs.State.{SystemState, clock, own}
 use Rattle.gptp_system.proofs.ReadyLemmas.{length-new_ports}
 use Rattle.gptp_system.proofs.TouchedLemmas.{priority_clock}
+use Rattle.gptp_acts.specs.declared.change.Act.{Act}
+use Rattle.gptp_acts.specs.declared.change.Act.TheVariants.{Deliver, Expire, Change as Changing}
+use Rattle.gptp_acts.specs.declared.change.Change.{Change}
+use Rattle.gptp_acts.specs.declared.change.Change.TheVariants.{LinkDown, LinkUp, LinkSet, Fail, Recover, Priority1}
+use Rattle.gptp_acts.specs.declared.change.Timed.{Timed}
+use Rattle.gptp_acts.specs.declared.done.Done.{Done}
 use Rattle.gptp_acts.specs.declared.station.Station.{Station}
 use Rattle.gptp_acts.specs.World.{Channel, Net, WorldState, sender, receiver, with_queue}
 use Rattle.gptp_acts.specs.Sends.{entered, written, SendsAll, SendsOne}
 use Rattle.gptp_acts.specs.Act.{all_timers, in_state, Calls, Delivers, Expires, Hears, Takes}
+use Rattle.gptp_acts.specs.Acts.{at, set_to, Acts, Changes}
+use Rattle.gptp_acts.specs.Advancing.{Advanced, Advances, Told}
 use Rattle.gptp_acts.specs.Agrees.{stopped}
 use Rattle.gptp_acts.specs.Changing.{brought_up, failed, fresh, lost, taken_down, up_ports, with_bounds, with_setup, with_station, CallsAll, CallsIfLive, ComesUpIf, FailsIf, GoesDownIf, RecoversIf, Starts, StartsAll, TellsEnds}
+use Rattle.gptp_acts.specs.Course.{WasDone}
 use Rattle.gptp_acts.specs.Sound.{AreApart, HaveOwnClocks, HaveTheirSetups, IsItsSetup, JoinPorts}
 use Rattle.gptp_acts.proofs.AgreeLemmas.{replaced}
 use Rattle.gptp_acts.proofs.PlaceLemmas.{set_each}
@@ -165,10 +175,11 @@ tells_ends_carry input channel w draws w' tells =
 
 -- ---- what stays
 
--- a system has its clock and its ports, and its setup is its own
+-- a system has its clock, its ports and its parameters, and its setup is its own
 pub record IsSameSystem (old new : Station) : Type 0 where
   pub named : clock new.system ≡ clock old.system
   pub count : length new.system.ports ≡ length old.system.ports
+  pub params : new.setup.params ≡ old.setup.params
   pub its : IsItsSetup new
 
 pub record IsAsBefore (stations : List Station) (place : ℕ) (new : Station) : Type 0 where
@@ -193,6 +204,7 @@ stays_on first second third f g = record {
         same = record {
           named = near.same.named ∙ far.same.named;
           count = near.same.count ∙ far.same.count;
+          params = near.same.params ∙ far.same.params;
           its = near.same.its;
         };
       };
@@ -207,7 +219,7 @@ net_stays w net setups joins = record {
       record {
         old = new;
         here = there;
-        same = record { named = refl; count = refl; its = setups place new there };
+        same = record { named = refl; count = refl; params = refl; its = setups place new there };
       };
   links = joins;
 }
@@ -226,7 +238,7 @@ station_stays place w old new net here same setups joins = record {
       record {
         old = x;
         here = there;
-        same = record { named = refl; count = refl; its = setups other x there };
+        same = record { named = refl; count = refl; params = refl; its = setups other x there };
       });
   links = joins;
 }
@@ -272,6 +284,7 @@ called_same input w place draws answer w' calls its =
     record {
       named = named;
       count = count;
+      params = refl;
       its = record {
         ports = count ∙ its.ports;
         few = its.few;
@@ -391,6 +404,7 @@ failed_stays place station w here setups =
     (record {
       named = refl;
       count = refl;
+      params = refl;
       its = record { ports = its.ports; few = its.few; phase = its.phase; drift = its.drift; named = its.named };
     })
     setups (join_same w.net.channels)
@@ -412,6 +426,7 @@ with_setup_stays value place station w here setups =
     (record {
       named = refl;
       count = refl;
+      params = refl;
       its = record {
         ports = its.ports;
         few = its.few;
@@ -432,6 +447,7 @@ fresh_same now station its =
     record {
       named = its.named;
       count = ports ∙ sym its.ports;
+      params = refl;
       its = record { ports = ports; few = its.few; phase = its.phase; drift = its.drift; named = refl };
     }
 
@@ -462,3 +478,55 @@ starts_all_stay [] w draws w' setups starts = subst (Stays w) (sym starts.1) (sa
 starts_all_stay (place ∷ places) w draws w' setups (first, rest, between, is, one, more) =
     let begun = starts_stays place w first between setups one in
     stays_on w between w' begun (starts_all_stay places between rest w' (stays_setups w between begun) more)
+
+-- ---- all acts
+
+pub changes_stay : (change : Change) (w : WorldState) (draws : List Draw) (w' : WorldState) → HaveTheirSetups w
+    → Changes change w draws w' → Stays w w'
+changes_stay (LinkDown number port) w draws w' setups k =
+    goes_down_stays k.channel.up k.place k.channel w draws w' k.is.here setups k.so
+changes_stay (LinkUp number port) w draws w' setups k =
+    comes_up_stays k.channel.up k.place k.channel w draws w' k.is.here setups k.so
+changes_stay (LinkSet number port min max loss) w draws w' setups k =
+    subst (Stays w) (sym k.so.1)
+    (with_bounds_stays (set_to min max loss k.channel) k.place k.channel w k.is.here setups)
+changes_stay (Fail number) w draws w' setups k =
+    fails_stays k.station.live k.place k.station w draws w' k.is.here setups k.so
+changes_stay (Recover number) w draws w' setups k =
+    recovers_stays k.station.live k.place w draws w' setups k.so
+changes_stay (Priority1 number value) w draws w' setups k =
+    let set : WorldState = with_station k.place (with_setup value k.station) w in
+    let stays = with_setup_stays value k.place k.station w k.is.here setups in
+    stays_on w set w' stays
+    (calls_if_live_stay k.place (Priority value) set draws w' (stays_setups w set stays) k.so)
+
+pub acts_stay : (act : Act) (w : WorldState) (draws : List Draw) (done : Done) (w' : WorldState) → HaveTheirSetups w
+    → Acts act w draws done w' → Stays w w'
+acts_stay (Deliver link direction) w draws done w' setups k =
+    delivers_stay link direction k.octets w draws k.answer w' setups k.delivers
+acts_stay (Expire number timer) w draws done w' setups k = expires_stay k.1.place timer w draws w' setups k.1.so
+acts_stay (Changing change) w draws done w' setups k =
+    let stays = changes_stay change (record w { last_change = w.time }) draws w' setups k.1 in
+    record { stations = stays.stations; links = stays.links }
+
+module _ {F : Type 0} (answers : Bounds → ℕ → F → Option ℕ → F → Type 0) where
+  pub done_stays : (timed : Timed) (fate fate_after : F) (w w' : WorldState) (done : Done) → HaveTheirSetups w
+      → WasDone answers timed fate fate_after w w' done → Stays w w'
+  done_stays timed fate fate_after w w' done setups k =
+      let stays = acts_stay timed.act (at timed.at w) k.draws done w' setups k.acts in
+      record { stations = stays.stations; links = stays.links }
+
+  pub advances_stay : (until : ℕ) (told : List Told) (fate fate_after : F) (w w' : WorldState) → HaveTheirSetups w
+      → Advances answers until told fate fate_after w w' → Stays w w'
+  advances_stay until [] fate fate_after w w' setups (same, is) = subst (Stays w) (sym is) (same_stays w setups)
+  advances_stay until (one ∷ told) fate fate_after w w' setups (drawn, between, happens, rest) =
+      let first = done_stays one.timed fate drawn w between one.done setups happens.was_done in
+      stays_on w between w' first
+      (advances_stay until told drawn fate_after between w' (stays_setups w between first) rest)
+
+  pub advanced_stays : (until : ℕ) (told : List Told) (fate fate_after : F) (w w' : WorldState) → HaveTheirSetups w
+      → Advanced answers until told fate fate_after w w' → Stays w w'
+  advanced_stays until told fate fate_after w w' setups k =
+      let stays = advances_stay until told fate fate_after w k.between setups k.advances in
+      let later : Stays w (at until k.between) = record { stations = stays.stations; links = stays.links } in
+      subst (Stays w) (sym k.is) later

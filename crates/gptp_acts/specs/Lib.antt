@@ -14,6 +14,7 @@ pub mod Network
 pub mod Params
 pub mod Pending
 pub mod Playing
+pub mod Prompt
 pub mod Sends
 pub mod SettlingTime
 pub mod Sound

@@ -4,25 +4,21 @@ use Rattle.std.proofs.lemmas.Option.{slice_get_within}
 use Rattle.gptp_links.specs.Fate.{Draw}
 use Rattle.gptp_vector.specs.declared.port.PortId.{PortId}
 use Rattle.gptp_roles.specs.Selection.{clock_of}
-use Rattle.gptp_system.specs.Input.{Priority}
 use Rattle.gptp_system.specs.State.{clock}
 use Rattle.gptp_system.proofs.ReadyLemmas.{length-new_ports}
 use Rattle.gptp_acts.specs.declared.change.Act.{Act}
-use Rattle.gptp_acts.specs.declared.change.Act.TheVariants.{Deliver, Expire, Change as Changing}
-use Rattle.gptp_acts.specs.declared.change.Change.{Change}
-use Rattle.gptp_acts.specs.declared.change.Change.TheVariants.{LinkDown, LinkUp, LinkSet, Fail, Recover, Priority1}
 use Rattle.gptp_acts.specs.declared.done.Done.{Done}
 use Rattle.gptp_acts.specs.declared.network.Wire.{Wire}
 use Rattle.gptp_acts.specs.declared.station.Station.{Station}
-use Rattle.gptp_acts.specs.Acts.{Acts, Changes, set_to}
-use Rattle.gptp_acts.specs.Changing.{StartsAll, with_setup, with_station}
+use Rattle.gptp_acts.specs.Acts.{Acts}
+use Rattle.gptp_acts.specs.Changing.{StartsAll}
 use Rattle.gptp_acts.specs.Initial.{channel_from, initial, setup_of, station_of, stations_of}
 use Rattle.gptp_acts.specs.Network.{IsNetwork, IsPort, IsWire, NetworkState}
-use Rattle.gptp_acts.specs.Sound.{HaveTheirSetups, IsSound}
+use Rattle.gptp_acts.specs.Sound.{IsSound}
 use Rattle.gptp_acts.specs.World.{WorldState}
 use Rattle.gptp_acts.proofs.ListLemmas.{mapped, mapped_there, same_there}
 use Rattle.gptp_acts.proofs.PlaceLemmas.{member_there}
-use Rattle.gptp_acts.proofs.StayLemmas.{Stays, calls_if_live_stay, comes_up_stays, delivers_stay, expires_stay, fails_stays, goes_down_stays, recovers_stays, starts_all_stay, stays_on, stays_setups, with_bounds_stays, with_setup_stays}
+use Rattle.gptp_acts.proofs.StayLemmas.{Stays, acts_stay, starts_all_stay}
 use Rattle.gptp_calm.specs.Standing.{AreBetween, HasPort, IsBetween}
 use Rattle.gptp_calm.proofs.CountLemmas.{acts_count, count, starts_all_count}
 
@@ -89,34 +85,7 @@ starts_between places w draws w' sound between k =
 
 -- ---- acts
 
-changes_stay : (change : Change) (w : WorldState) (draws : List Draw) (w' : WorldState) → HaveTheirSetups w
-    → Changes change w draws w' → Stays w w'
-changes_stay (LinkDown number port) w draws w' setups k =
-    goes_down_stays k.channel.up k.place k.channel w draws w' k.is.here setups k.so
-changes_stay (LinkUp number port) w draws w' setups k =
-    comes_up_stays k.channel.up k.place k.channel w draws w' k.is.here setups k.so
-changes_stay (LinkSet number port min max loss) w draws w' setups k =
-    subst (Stays w) (sym k.so.1)
-    (with_bounds_stays (set_to min max loss k.channel) k.place k.channel w k.is.here setups)
-changes_stay (Fail number) w draws w' setups k =
-    fails_stays k.station.live k.place k.station w draws w' k.is.here setups k.so
-changes_stay (Recover number) w draws w' setups k =
-    recovers_stays k.station.live k.place w draws w' setups k.so
-changes_stay (Priority1 number value) w draws w' setups k =
-    let set : WorldState = with_station k.place (with_setup value k.station) w in
-    let stays = with_setup_stays value k.place k.station w k.is.here setups in
-    stays_on w set w' stays
-    (calls_if_live_stay k.place (Priority value) set draws w' (stays_setups w set stays) k.so)
-
 pub acts_between : (act : Act) (w : WorldState) (draws : List Draw) (done : Done) (w' : WorldState) → IsSound w
     → AreBetween w → Acts act w draws done w' → AreBetween w'
-acts_between (Deliver link direction) w draws done w' sound between k =
-    stays_between w w' (delivers_stay link direction k.octets w draws k.answer w' sound.wired.setups k.delivers)
-    (acts_count (Deliver link direction) w draws done w' k) between
-acts_between (Expire number timer) w draws done w' sound between k =
-    stays_between w w' (expires_stay k.1.place timer w draws w' sound.wired.setups k.1.so)
-    (acts_count (Expire number timer) w draws done w' k) between
-acts_between (Changing change) w draws done w' sound between k =
-    let marked : WorldState = record w { last_change = w.time } in
-    stays_between marked w' (changes_stay change marked draws w' sound.wired.setups k.1)
-    (acts_count (Changing change) w draws done w' k) between
+acts_between act w draws done w' sound between k =
+    stays_between w w' (acts_stay act w draws done w' sound.wired.setups k) (acts_count act w draws done w' k) between

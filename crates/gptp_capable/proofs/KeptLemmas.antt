@@ -19,11 +19,11 @@ use Rattle.gptp_acts.specs.Acts.{Acts, IsFitAct, at as at_time}
 use Rattle.gptp_acts.specs.Course.{WasDone}
 use Rattle.gptp_acts.specs.Params.{KeepParams}
 use Rattle.gptp_acts.specs.Pending.{NothingBefore}
+use Rattle.gptp_acts.specs.Prompt.{IsPromptAct}
 use Rattle.gptp_acts.specs.Sound.{IsSound}
 use Rattle.gptp_acts.specs.World.{Channel, WorldState, receiver, sender}
 use Rattle.gptp_acts.proofs.ListLemmas.{mapped, mapped_there}
 use Rattle.gptp_acts.proofs.SoundLemmas.{later_sound}
-use Rattle.gptp_known.specs.Prompt.{IsPromptAct}
 use Rattle.gptp_linked.specs.Measured.{IsLiveAt, IsMeasured, StandsAt}
 use Rattle.gptp_linked.specs.View.{LinkPlace}
 use Rattle.gptp_linked.specs.Watched.{IsWatched}

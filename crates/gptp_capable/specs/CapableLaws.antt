@@ -14,9 +14,9 @@ use Rattle.gptp_acts.specs.Initial.{initial}
 use Rattle.gptp_acts.specs.Network.{IsNetwork, NetworkState}
 use Rattle.gptp_acts.specs.Params.{KeepParams}
 use Rattle.gptp_acts.specs.Pending.{NothingBefore}
+use Rattle.gptp_acts.specs.Prompt.{IsPromptAct}
 use Rattle.gptp_acts.specs.Sound.{IsSound}
 use Rattle.gptp_acts.specs.World.{WorldState}
-use Rattle.gptp_known.specs.Prompt.{IsPromptAct}
 use Rattle.gptp_linked.specs.Measured.{IsMeasured}
 use Rattle.gptp_seen.specs.LegibleLaws.{SetsAnOctet}
 use Rattle.gptp_seen.specs.SeenLaws.{IsNoChange}

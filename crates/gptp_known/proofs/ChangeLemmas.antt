@@ -24,6 +24,7 @@ use Rattle.gptp_acts.specs.Act.{all_timers}
 use Rattle.gptp_acts.specs.Acts.{set_to, Changes}
 use Rattle.gptp_acts.specs.Ahead.{HasPorts, IsPortAmong}
 use Rattle.gptp_acts.specs.Changing.{CallsAll, CallsIfLive, ComesUpIf, FailsIf, GoesDownIf, RecoversIf, Starts, StartsAll, TellsEnds, brought_up, failed, fresh, taken_down, up_ports, with_bounds, with_setup, with_station}
+use Rattle.gptp_acts.specs.Prompt.{IsPromptAct}
 use Rattle.gptp_acts.specs.Sound.{IsWired}
 use Rattle.gptp_acts.specs.World.{Channel, WorldState, sender}
 use Rattle.gptp_acts.proofs.AgreeLemmas.{replaced}
@@ -34,7 +35,6 @@ use Rattle.gptp_acts.proofs.PlaceLemmas.{get-set_all, get-set_same}
 use Rattle.gptp_acts.proofs.SteadyLemmas.{started_steady}
 use Rattle.gptp_acts.proofs.UpLemmas.{brought_ports}
 use Rattle.gptp_known.specs.Known.{IsSetTo}
-use Rattle.gptp_known.specs.Prompt.{IsPromptAct}
 use Rattle.gptp_known.proofs.KeptLemmas.{IsKept, IsKeptStation, calls_kept, fresh_limit, near_limit, net_kept, station_kept}
 use Rattle.gptp_known.proofs.LimitLemmas.{IsLimited, keep_all, lost_keep, up_keep}
 use Rattle.gptp_known.proofs.MeasuringLemmas.{started_measure}

@@ -16,6 +16,7 @@ use Rattle.gptp_acts.specs.Acts.{Acts, at}
 use Rattle.gptp_acts.specs.Course.{Begun, WasDone}
 use Rattle.gptp_acts.specs.Initial.{channel_from, initial, setup_of, station_of}
 use Rattle.gptp_acts.specs.Network.{IsNetwork, NetworkState}
+use Rattle.gptp_acts.specs.Prompt.{IsPromptAct}
 use Rattle.gptp_acts.specs.Sound.{IsSound}
 use Rattle.gptp_acts.specs.World.{WorldState}
 use Rattle.gptp_acts.proofs.ListLemmas.{mapped}
@@ -24,7 +25,6 @@ use Rattle.gptp_acts.proofs.SteadyLemmas.{started_steady}
 use Rattle.gptp_acts.proofs.WiredLemmas.{time_wired}
 use Rattle.gptp_known.specs.Known.{IsKnown}
 use Rattle.gptp_known.specs.Linked.{MeasureLinks}
-use Rattle.gptp_known.specs.Prompt.{IsPromptAct}
 use Rattle.gptp_known.proofs.ActLemmas.{delivers_kept, expires_kept}
 use Rattle.gptp_known.proofs.ChangeLemmas.{changed_kept, changes_kept, started_set, starts_all_kept}
 use Rattle.gptp_known.proofs.KeptLemmas.{IsKept, IsKeptStation, fresh_limit, kept_known, known_kept, near_limit}

@@ -13,13 +13,13 @@ use Rattle.gptp_acts.specs.declared.done.Done.{Done}
 use Rattle.gptp_acts.specs.Acts.{Acts, at}
 use Rattle.gptp_acts.specs.Course.{Begun, WasDone}
 use Rattle.gptp_acts.specs.Network.{IsNetwork, NetworkState}
+use Rattle.gptp_acts.specs.Prompt.{IsPromptAct}
 use Rattle.gptp_acts.specs.Sends.{IsUnlinked}
 use Rattle.gptp_acts.specs.Sound.{IsSound}
 use Rattle.gptp_acts.specs.World.{Channel, WorldState}
 use Rattle.gptp_known.specs.AtRest.{IsPortAtRest, OfEachSystem}
 use Rattle.gptp_known.specs.Due.{IsPortKnown, IsWithin, OfEachPort}
 use Rattle.gptp_known.specs.Known.{IsKnown, OfEachFrame}
-use Rattle.gptp_known.specs.Prompt.{IsPromptAct}
 
 -- ---- it begins, and is kept
 

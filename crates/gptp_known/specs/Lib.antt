@@ -4,4 +4,3 @@ pub mod Known
 pub mod Laws
 pub mod Linked
 pub mod Measuring
-pub mod Prompt

@@ -15,13 +15,13 @@ use Rattle.gptp_acts.specs.Acts.{Acts, IsFitAct, at}
 use Rattle.gptp_acts.specs.Course.{Begun, WasDone}
 use Rattle.gptp_acts.specs.Initial.{initial}
 use Rattle.gptp_acts.specs.Network.{IsNetwork as IsSimulated, NetworkState}
+use Rattle.gptp_acts.specs.Prompt.{IsPromptAct}
 use Rattle.gptp_acts.specs.World.{WorldState}
 use Rattle.gptp_settling.specs.Acts.{Steps}
 use Rattle.gptp_settling.specs.Calm.{Calm}
 use Rattle.gptp_settling.specs.Levels.{Invariant}
 use Rattle.gptp_settling.specs.Network.{IsNetwork}
 use Rattle.gptp_settling.proofs.LevelLemmas.{invariant_begins, invariant_kept}
-use Rattle.gptp_known.specs.Prompt.{IsPromptAct}
 use Rattle.gptp_seen.specs.LegibleLaws.{SetsAnOctet}
 use Rattle.gptp_seen.specs.SeenLaws.{IsNoChange}
 use Rattle.gptp_seen.specs.View.{says, view}

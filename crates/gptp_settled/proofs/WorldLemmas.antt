@@ -9,10 +9,10 @@ use Rattle.gptp_acts.specs.declared.change.Timed.{Timed}
 use Rattle.gptp_acts.specs.declared.done.Done.{Done}
 use Rattle.gptp_acts.specs.Acts.{Acts, IsFitAct, IsReadyAct, at}
 use Rattle.gptp_acts.specs.Course.{WasDone}
+use Rattle.gptp_acts.specs.Prompt.{IsPromptAct}
 use Rattle.gptp_acts.specs.Sound.{IsSound}
 use Rattle.gptp_acts.specs.World.{WorldState}
 use Rattle.gptp_acts.proofs.SoundLemmas.{acts_sound, later_sound}
-use Rattle.gptp_known.specs.Prompt.{IsPromptAct}
 use Rattle.gptp_known.proofs.KnownLemmas.{acts_known}
 use Rattle.gptp_known.proofs.LaterLemmas.{later_known}
 use Rattle.gptp_seen.specs.LegibleLaws.{SetsAnOctet}

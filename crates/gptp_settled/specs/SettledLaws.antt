@@ -12,10 +12,10 @@ use Rattle.gptp_acts.specs.declared.done.Done.{Done}
 use Rattle.gptp_acts.specs.Acts.{Acts, IsFitAct, at}
 use Rattle.gptp_acts.specs.Course.{Begun, WasDone}
 use Rattle.gptp_acts.specs.Network.{IsNetwork, NetworkState}
+use Rattle.gptp_acts.specs.Prompt.{IsPromptAct}
 use Rattle.gptp_acts.specs.SettlingTime.{settling_span}
 use Rattle.gptp_acts.specs.Sound.{IsSound}
 use Rattle.gptp_acts.specs.World.{WorldState}
-use Rattle.gptp_known.specs.Prompt.{IsPromptAct}
 use Rattle.gptp_seen.specs.LegibleLaws.{SetsAnOctet}
 use Rattle.gptp_seen.specs.SeenLaws.{IsNoChange}
 use Rattle.gptp_calm.specs.Calm.{IsQuietWorld}
