@@ -5,7 +5,6 @@ use Rattle.std.proofs.lemmas.Bool.Decides.{nat_tests}
 use Rattle.gptp_links.specs.declared.link.Direction.TheVariants.{FromA, FromB}
 use Rattle.gptp_scheduler.specs.Pending.{Entry as Numbered, without as without_number, RiseFrom}
 use Rattle.gptp_scheduler.proofs.EntryLemmas.{without-other_head}
-use Rattle.gptp_system.specs.declared.timer.Timer.{Timer}
 use Rattle.gptp_acts.specs.declared.item.Item.{Item}
 use Rattle.gptp_acts.specs.declared.item.Item.TheVariants.{Expiry, Arrival}
 use Rattle.gptp_acts.specs.Item.{timer_kind, timer_port, same_item}

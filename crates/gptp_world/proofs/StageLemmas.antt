@@ -25,9 +25,7 @@ use Rattle.gptp_system.specs.Reach.{may_select, reach, timer_reach}
 use Rattle.gptp_system.specs.declared.timer.Timer.{Timer}
 use Rattle.gptp_system.specs.declared.timer.Timer.TheVariants as timers
 use Rattle.gptp_system.specs.Steps.{IsTimerOf}
-use Rattle.gptp_system.proofs.FactLemmas.{keeps_length}
 use Rattle.gptp_system.proofs.ReachLemmas.{steps_reach}
-use Rattle.gptp_system.proofs.StepLemmas.{steps_sound}
 use Rattle.gptp_world.specs.declared.stage.Stage.{Stage}
 use Rattle.gptp_world.specs.Stage.{clock_at, for_left, CalledWith, CallUses, CarriesOut, HasRoomToCall, HasStepped, IsGivenAt, IsLiveAt, IsOf, IsStage}
 use Rattle.gptp_acts.specs.World.{timers_from}

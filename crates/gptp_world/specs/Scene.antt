@@ -1,18 +1,12 @@
 -- A world and its fate: how it begins, and what an act makes of it.
-use Rattle.std.specs.Prelude.{ℕ, List, length, Option}
+use Rattle.std.specs.Prelude.{ℕ, List, Option}
 use Rattle.std.specs.List.{range_with_len}
 use Rattle.gptp_links.specs.declared.bounds.Bounds.{Bounds}
 use Rattle.gptp_links.specs.Fate.{Draw, Draws}
-use Rattle.gptp_acts.specs.declared.change.Timed.{Timed}
-use Rattle.gptp_acts.specs.declared.done.Done.{Done}
 use Rattle.gptp_world.specs.declared.stage.Stage.{Stage}
-use Rattle.gptp_acts.specs.Acts.{at, Acts, IsReadyAct}
 use Rattle.gptp_acts.specs.Changing.{StartsAll}
-use Rattle.gptp_acts.specs.Initial.{initial}
-use Rattle.gptp_acts.specs.Network.{NetworkState}
 use Rattle.gptp_acts.specs.Sound.{IsSound}
 use Rattle.gptp_world.specs.Stage.{world_of, IsStage}
-use Rattle.gptp_acts.specs.World.{WorldState}
 
 -- what the code keeps of a world, between acts
 pub record IsScene (stage : Stage) : Type 0 where

@@ -1,8 +1,21 @@
 //! Whether an act can be done.
 
+ghost use Rattle.std.specs.Prelude.{◌≡◌, ◌<◌, ℕ};
+ghost use Rattle.gptp_acts.specs.declared.change.Act.TheVariants.{Change as Changing};
+ghost use Rattle.gptp_acts.specs.declared.change.Change.TheVariants.{Priority1};
+
 use crate::aim::Aim;
 use crate::stage::Stage;
-use gptp_acts::{Act, Refused, Timed};
+use gptp_acts::{Act, Change, Refused, Timed};
+
+/// A priority1 that is set is an octet.
+pub(crate) fn sets_an_octet(act: &Act)
+    ensures { (number value : ℕ) → act.now ≡ Changing (Priority1 number value) → value < 256 }
+{
+    if let Act::Change(Change::Priority1 { clock: _, value }) = act {
+        let _value = *value;
+    }
+}
 
 impl Stage {
     ghost use Rattle.std.specs.Prelude.{◌≡◌, ◌≢◌, ◌↔◌, IsTrue, IfOk, IfErr, true, false};

@@ -5,6 +5,7 @@ ghost use Rattle.gptp_world.specs.Starting.{Started};
 ghost use Rattle.gptp_world.specs.Scene.{IsScene, SystemsStarted};
 
 use crate::aim::Aim;
+use crate::checking::sets_an_octet;
 use crate::stage::Stage;
 use gptp_acts::{Done, Network, Refused, Timed};
 use gptp_links::Fate;
@@ -58,6 +59,7 @@ fn start_all<F: Fate>(stage: &mut Stage, fate: &mut F) -> Result<(), AllocError>
 impl Scene {
     ghost use Rattle.std.specs.Prelude.{◌≡◌, ◌≤◌, IfErr, IfOk, OnErr};
     ghost use Rattle.gptp_acts.specs.Acts.{IsFitAct, IsReadyAct, Refuses};
+    ghost use Rattle.gptp_acts.specs.Prompt.{IsPromptIn};
     ghost use Rattle.gptp_world.specs.Aim.{IsAimOf};
     ghost use Rattle.gptp_acts.specs.Course.{Begun, WasDone};
 
@@ -79,11 +81,13 @@ impl Scene {
     pub(crate) fn act<F: Fate>(&mut self, timed: &Timed, fate: &mut F) -> Result<Done, Refused>
         requires moment { timed.now.at ≤ 1000000000000000 }
         requires fit { IsFitAct timed.now.act }
+        requires prompt { IsPromptIn self.old timed.now.act }
         ensures done { IfOk result (WasDone F.answers timed.now fate.old fate.new self.old self.new) }
         ensures refused { IfErr result (Refuses timed.now.act timed.now.at self.old) }
         ensures kept { OnErr result (self.new ≡ self.old) }
         ensures fate { OnErr result (fate.new ≡ fate.old) }
     {
+        sets_an_octet(&timed.act);
         match self.stage.check(timed) {
             Ok(aim) => match self.perform(timed, aim, fate) {
                 Ok(done) => Ok(done),

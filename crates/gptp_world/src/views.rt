@@ -18,6 +18,7 @@ use gptp_vector::{ClockId, Identity};
 impl Scene {
     ghost use Rattle.std.specs.Prelude.{◌≡◌, ◌↔◌, [], IfNone, IfSome, IsTrue, length, slice_get, true};
     ghost use Rattle.gptp_acts.specs.Acts.{AtSystem, IsFitAct};
+    ghost use Rattle.gptp_acts.specs.Prompt.{IsPromptIn};
     ghost use Rattle.gptp_acts.specs.Sound.{IsSound};
     ghost use Rattle.gptp_acts.specs.Views.{Follows, HasPort, HasRole, IsLiveSystem, IsNextAct, ShowsLive, rising_clocks};
 
@@ -53,6 +54,7 @@ impl Scene {
     pub(crate) fn next(&self) -> Option<Timed>
         ensures next { IfSome result (IsNextAct self.now) }
         ensures fit { IfSome result (λ timed. IsFitAct timed.act) }
+        ensures prompt { IfSome result (λ timed. IsPromptIn self.now timed.act) }
         ensures none { IfNone result (self.now.net.pending ≡ []) }
     {
         match self.stage.net.pending.next() {

@@ -20,6 +20,7 @@ impl<F: Fate + Drop> World<F> {
     ghost use Rattle.std.specs.Prelude.{◌≡◌, ◌≤◌, ◌↔◌, IsTrue, IfErr, IfNone, IfOk, IfSome, List, OnErr, OnOk, length, slice_get, []};
     ghost use Rattle.gptp_acts.specs.Acts.{AtSystem, IsFitAct, Refuses};
     ghost use Rattle.gptp_acts.specs.Playing.{AreAllowed, IsAllowed, IsPlayed, Plays, StopsAt};
+    ghost use Rattle.gptp_acts.specs.Prompt.{ArePromptIn, IsPromptIn};
     ghost use Rattle.gptp_acts.specs.Advancing.{Advanced, StopsShort, Told};
     ghost use Rattle.gptp_acts.specs.Course.{Begun, WasDone};
     ghost use Rattle.gptp_acts.specs.Sound.{IsSound};
@@ -36,7 +37,8 @@ impl<F: Fate + Drop> World<F> {
     }
 
     /// An act is done at its time: a frame that is due is delivered, a timer that is due expires, or the network is changed.
-    /// Times are at most 10^15 ns, and bounds that are set keep their ranges.
+    /// Times are at most 10^15 ns; the bounds that a link is set to keep their ranges, and its greatest delay is at most the
+    /// announce interval.
     ///
     /// Refused, in this order, with `InThePast` where its time has passed, `Untimely` where something is due earlier, `NoSuch`
     /// where there is no such link or system, no such port of a timer, or no link at the port of a change, `NotDue`, and
@@ -44,6 +46,7 @@ impl<F: Fate + Drop> World<F> {
     pub fn act(&mut self, timed: Timed) -> Result<Done, Refused>
         requires moment { timed.at ≤ 1000000000000000 }
         requires fit { IsFitAct timed.act }
+        requires prompt { IsPromptIn self.old.scene timed.act }
         ensures done { IfOk result (WasDone F.answers timed self.old.fate self.new.fate self.old.scene self.new.scene) }
         ensures refused { IfErr result (Refuses timed.act timed.at self.old.scene) }
         ensures kept { OnErr result (self.new ≡ self.old) }
@@ -52,13 +55,16 @@ impl<F: Fate + Drop> World<F> {
     }
 
     /// The acts of a list are done, one after another, up to the first that is refused: answered with its place, from 0, and
-    /// why. Those before it stand.
+    /// why. Those before it stand. Each keeps the limits that [`act`](Self::act) asks for: times are at most 10^15 ns, the
+    /// bounds that a link is set to keep their ranges, and its greatest delay is at most the announce interval.
     pub fn play(&mut self, acts: &[Timed]) -> Result<(), (usize, Refused)>
-        requires { AreAllowed acts.now }
+        requires allowed { AreAllowed acts.now }
+        requires prompt { ArePromptIn self.old.scene acts.now }
         ensures ok { OnOk result (Plays F.answers acts.now self.old.fate self.new.fate self.old.scene self.new.scene) }
         ensures err { IfErr result (λ e. StopsAt F.answers acts.now e.0 e.1 self.old.fate self.new.fate self.old.scene self.new.scene) }
     {
         for place in 0..acts.len() {
+            self.well_formed();
             self.play_next(place, acts[place])?;
         }
         Ok(())
@@ -66,7 +72,8 @@ impl<F: Fate + Drop> World<F> {
 
     /// The act at a place of a list is done, or refused with its place.
     fn play_next(&mut self, place: usize, timed: Timed) -> Result<(), (usize, Refused)>
-        requires { IsAllowed timed }
+        requires allowed { IsAllowed timed }
+        requires prompt { IsPromptIn self.old.scene timed.act }
         ensures played { OnOk result (IsPlayed F.answers timed self.old.fate self.new.fate self.old.scene self.new.scene) }
         ensures place { IfErr result (λ e. e.0 ≡ place) }
         ensures refused { IfErr result (λ e. Refuses timed.act timed.at self.old.scene e.1) }
@@ -124,6 +131,7 @@ impl<F: Fate + Drop> World<F> {
     pub fn next(&self) -> Option<Timed>
         ensures next { IfSome result (IsNextAct self.now.scene) }
         ensures fit { IfSome result (λ timed. IsFitAct timed.act) }
+        ensures prompt { IfSome result (λ timed. IsPromptIn self.now.scene timed.act) }
         ensures none { IfNone result (self.now.scene.net.pending ≡ []) }
     {
         self.scene.next()
