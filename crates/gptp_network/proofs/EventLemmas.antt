@@ -9,6 +9,7 @@ use Rattle.gptp_network.specs.Events.{timed, AreInOrder, AreEvents, IsEvent, IsC
 use Rattle.gptp_network.specs.declared.events.Event.{Event}
 use Rattle.gptp_acts.specs.Network.{NetworkState}
 use Rattle.gptp_acts.specs.Playing.{AreAllowed, IsAllowed}
+use Rattle.gptp_acts.specs.Prompt.{ArePromptActs, IsPromptAct}
 use Rattle.gptp_acts.specs.declared.change.Act.TheVariants as acts
 use Rattle.gptp_acts.specs.declared.change.Change.{Change}
 use Rattle.gptp_acts.specs.declared.change.Change.TheVariants as changes
@@ -80,3 +81,25 @@ events_allowed n es log h = each_allowed es h.each where
   each_allowed [] h place t there = absurd cc
   each_allowed (e ∷ es) h zero t there = let same : e ≡ t = cc in subst IsAllowed same (allowed_from n e log h.0)
   each_allowed (e ∷ es) h (suc place) t there = each_allowed es h.1 place t there
+
+-- ---- events as prompt acts
+
+prompt_from : (n : NetworkState) (change : Change) → IsChange n change → IsPromptAct n.params (acts.Change change)
+prompt_from n (changes.LinkDown name port) is = tt
+prompt_from n (changes.LinkUp name port) is = tt
+prompt_from n (changes.LinkSet name port least greatest loss) (there, bounds) = bounds.prompt
+prompt_from n (changes.Fail name) is = tt
+prompt_from n (changes.Recover name) is = tt
+prompt_from n (changes.Priority1 name value) is = tt
+
+-- none sets a link to a delay above the announce interval
+pub events_prompt : (n : NetworkState) (es : List Timed) → AreEvents n es → ArePromptActs n.params es
+events_prompt n es h = each_prompt es h.each where
+  each_prompt : (es : List Timed) → AllByRecursion (IsEvent n) es → ArePromptActs n.params es
+  each_prompt [] h place t there = absurd cc
+  each_prompt (e ∷ es) h zero t there =
+      let is = h.0 in
+      let prompt : IsPromptAct n.params e.act =
+      subst (IsPromptAct n.params) (sym is.act) (prompt_from n is.change is.fits) in
+      let same : e ≡ t = cc in subst (λ (x : Timed). IsPromptAct n.params x.act) same prompt
+  each_prompt (e ∷ es) h (suc place) t there = each_prompt es h.1 place t there

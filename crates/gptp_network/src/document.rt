@@ -4,6 +4,7 @@ ghost use Rattle.std.specs.Prelude.{◌≡◌, ◌≤◌, ◌⊎◌, ◌↔◌, 
 ghost use Rattle.toml.specs.View.{table_view};
 ghost use Rattle.gptp_acts.specs.Calm.{last_change, IsCalm};
 ghost use Rattle.gptp_acts.specs.Playing.{AreAllowed};
+ghost use Rattle.gptp_acts.specs.Prompt.{ArePromptActs};
 ghost use Rattle.gptp_acts.specs.SettlingTime.{settles};
 ghost use Rattle.gptp_network.specs.Events.{AreEvents};
 ghost use Rattle.gptp_network.specs.Faults.{Refuses};
@@ -103,10 +104,12 @@ impl Document {
     }
 
     /// The events are in order, at most at 8 * 10^14, and each can be made in the network: what it names is there, and the
-    /// bounds that it sets can be those of a link. So a world can be asked for each of them.
+    /// bounds that it sets can be those of a link: its greatest delay is at most the announce interval. So a world can be
+    /// asked for each of them.
     pub fn well_formed(&self)
         ensures events { AreEvents self.now.network self.now.events }
         ensures allowed { AreAllowed self.now.events }
+        ensures prompt { ArePromptActs self.now.network.params self.now.events }
     {
         self.network.well_formed();
     }
