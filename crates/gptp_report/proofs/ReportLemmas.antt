@@ -4,14 +4,13 @@ use Rattle.std.proofs.lemmas.List.{drop_more}
 use Rattle.std.proofs.lemmas.Option.{same_Some, slice_get-get_or, slice_get_within}
 use Rattle.gptp_acts.specs.Views.{rising_clocks}
 use Rattle.gptp_acts.proofs.RisingLemmas.{rising_clocks-count}
-use Rattle.gptp_acts.specs.Acts.{AtSystem}
 use Rattle.gptp_system.specs.State.{clock}
 use Rattle.gptp_acts.specs.declared.station.Station.{Station}
 use Rattle.gptp_acts.specs.World.{WorldState}
 use Rattle.gptp_report.specs.Lines.{text_of}
 use Rattle.gptp_report.specs.Report.{ShowsSystems, WritesSystem}
 use Rattle.gptp_report.specs.SystemLines.{failed_line, system_lines}
-use Rattle.gptp_report.proofs.FollowLemmas.{text_append, written_more}
+use Rattle.gptp_report.proofs.FollowLemmas.{written_more}
 
 -- ---- one system that has failed
 

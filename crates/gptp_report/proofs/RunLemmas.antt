@@ -1,15 +1,17 @@
 -- Events, one after another.
-use Rattle.std.proofs.Common.{◌≡◌, ℕ, nat_le, Bool, true, false, List, [], ◌∷◌, ◌++◌, Option, refl, ap, sym, subst, ◌∙◌, append_assoc, append-nil}
+use Rattle.std.proofs.Common.{◌≡◌, ℕ, nat_le, Bool, true, false, List, [], ◌∷◌, ◌++◌, Option, refl, sym, subst, append_assoc, append-nil}
 use Rattle.gptp_links.specs.declared.bounds.Bounds.{Bounds}
 use Rattle.gptp_acts.specs.declared.change.Timed.{Timed}
 use Rattle.gptp_acts.specs.Advancing.{Told}
 use Rattle.gptp_acts.specs.Course.{Begun}
+use Rattle.gptp_acts.specs.Sound.{HaveTheirSetups}
 use Rattle.gptp_acts.specs.World.{WorldState}
+use Rattle.gptp_acts.proofs.StayLemmas.{Stays, advanced_stays, done_stays, same_stays, stays_on, stays_setups}
 use Rattle.gptp_network.specs.Document.{DocumentState}
 use Rattle.gptp_report.specs.Following.{ChangedIf, Showed}
 use Rattle.gptp_report.specs.Lines.{text_of}
 use Rattle.gptp_network.specs.Snapshot.{events_by}
-use Rattle.gptp_report.specs.Run.{Goes, LeadsTo, ShowsIf}
+use Rattle.gptp_report.specs.Run.{Changed, Goes, LeadsTo, ShowsIf}
 use Rattle.gptp_report.proofs.FollowLemmas.{shows-append, written_more}
 
 -- ---- lines that are asked for, or aren't
@@ -37,6 +39,21 @@ showed_more frames told more before middle after front back = record {
 -- ---- events
 
 module _ {F : Type 0} (answers : Bounds → ℕ → F → Option ℕ → F → Type 0) where
+  -- an event leaves each system with its parameters
+  changed_stays : (event : Timed) (told : List Told) (fate fate_after : F) (w w' : WorldState) → HaveTheirSetups w
+      → Changed answers event told fate fate_after w w' → Stays w w'
+  changed_stays event told fate fate_after w w' setups k =
+      let first = advanced_stays answers event.at told fate k.drawn w k.between setups k.advanced in
+      stays_on w k.between w' first
+      (done_stays answers event k.drawn fate_after k.between w' k.done (stays_setups w k.between first) k.changed)
+
+  pub changed_if_stays : (due : Bool) (event : Timed) (told : List Told) (fate fate_after : F) (w w' : WorldState)
+      → HaveTheirSetups w → ChangedIf answers due event told fate fate_after w w' → Stays w w'
+  changed_if_stays true event told fate fate_after w w' setups k =
+      changed_stays event told fate fate_after w w' setups k
+  changed_if_stays false event told fate fate_after w w' setups (none, same, is) =
+      subst (Stays w) (sym is) (same_stays w setups)
+
   -- The world went on with some events, and with those that are left it goes on with all.
   pub record WentSoFar (until : ℕ) (events left : List Timed) (frames : Bool) (fate drawn : F) (w between : WorldState)
       (before text : List ℕ) : Type 0 where

@@ -6,6 +6,7 @@ ghost use Rattle.gptp_acts.specs.Advancing.{Advanced, Told};
 ghost use Rattle.gptp_acts.specs.Ahead.{due_by};
 ghost use Rattle.gptp_acts.specs.Pending.{NothingBefore};
 ghost use Rattle.gptp_acts.specs.Playing.{IsAllowed};
+ghost use Rattle.gptp_acts.specs.Prompt.{IsPromptIn};
 ghost use Rattle.gptp_acts.specs.Course.{WasDone};
 ghost use Rattle.gptp_acts.specs.Views.{IsNextAct};
 ghost use Rattle.gptp_report.specs.Following.{Follows, Showed};
@@ -49,7 +50,8 @@ fn next_by<F: Fate + Drop>(world: &World<F>, until: u64) -> Option<Timed>
 
 /// An act that is there and due is done.
 fn done_of<F: Fate + Drop>(world: &mut World<F>, timed: Timed) -> Result<Done, AllocError>
-    requires { IsAllowed timed }
+    requires allowed { IsAllowed timed }
+    requires prompt { IsPromptIn world.old.scene timed.act }
     ensures { IfOk result (WasDone F.answers timed world.old.fate world.new.fate world.old.scene world.new.scene) }
 {
     match world.act(timed) {

@@ -3,6 +3,7 @@
 ghost use Rattle.std.specs.Prelude.{◌≡◌, ◌++◌, ◌≤◌, ℕ, List, IfOk, OnOk, nat_le, string_bytes};
 ghost use Rattle.gptp_acts.specs.Advancing.{Told};
 ghost use Rattle.gptp_acts.specs.Playing.{AreAllowed, IsAllowed, IsPlayed};
+ghost use Rattle.gptp_acts.specs.Prompt.{ArePromptIn, IsPromptIn};
 ghost use Rattle.gptp_report.specs.Following.{ChangedIf, Showed};
 ghost use Rattle.gptp_report.specs.Lines.{text_of};
 ghost use Rattle.gptp_network.specs.Snapshot.{events_by};
@@ -16,7 +17,8 @@ use std::alloc::{AllocError, Global};
 
 /// An event is made at its time.
 fn change<F: Fate + Drop>(world: &mut World<F>, event: Timed) -> Result<(), AllocError>
-    requires { IsAllowed event }
+    requires allowed { IsAllowed event }
+    requires prompt { IsPromptIn world.old.scene event.act }
     ensures { OnOk result (IsPlayed F.answers event world.old.fate world.new.fate world.old.scene world.new.scene) }
 {
     match world.act(event) {
@@ -33,9 +35,11 @@ fn make<F: Fate + Drop>(
     frames: bool,
     text: &mut String,
 ) -> Result<(), AllocError>
-    requires { IsAllowed event }
+    requires allowed { IsAllowed event }
+    requires prompt { IsPromptIn world.old.scene event.act }
     ensures { OnOk result ((told : List Told) × Changed F.answers event told world.old.fate world.new.fate world.old.scene world.new.scene × Showed frames told (string_bytes text.old) (string_bytes text.new)) }
 {
+    world.well_formed();
     go_on(world, event.at, frames, text)?;
     change(world, event)
 }
@@ -48,7 +52,8 @@ fn make_if_due<F: Fate + Drop>(
     frames: bool,
     text: &mut String,
 ) -> Result<(), AllocError>
-    requires { IsAllowed event }
+    requires allowed { IsAllowed event }
+    requires prompt { IsPromptIn world.old.scene event.act }
     ensures { OnOk result ((told : List Told) × ChangedIf F.answers (nat_le event.at until) event told world.old.fate world.new.fate world.old.scene world.new.scene × Showed frames told (string_bytes text.old) (string_bytes text.new)) }
 {
     match event.at <= until {
@@ -66,10 +71,12 @@ fn play<F: Fate + Drop>(
     text: &mut String,
 ) -> Result<(), AllocError>
     requires events { AreAllowed events.now }
+    requires prompt { ArePromptIn world.old.scene events.now }
     requires moment { until ≤ 1000000000000000 }
     ensures { OnOk result ((told : List Told) × Goes F.answers until (events_by until events.now) told world.old.fate world.new.fate world.old.scene world.new.scene × Showed frames told (string_bytes text.old) (string_bytes text.new)) }
 {
     for place in 0..events.len() {
+        world.well_formed();
         make_if_due(world, events[place], until, frames, text)?;
     }
     go_on(world, until, frames, text)
@@ -93,7 +100,9 @@ pub fn run_document<F: Fate + Drop>(
     ensures { IfOk result (λ world. (lines : List (List ℕ)) × LeadsTo F.answers document.now until frames fate world.scene lines × (string_bytes text.new ≡ string_bytes text.old ++ text_of lines)) }
 {
     document.well_formed();
-    let mut world = World::new(alloc, document.network(), fate)?;
+    let network = document.network();
+    network.well_formed();
+    let mut world = World::new(alloc, network, fate)?;
     play(&mut world, document.events(), until, frames, text)?;
     Ok(world)
 }

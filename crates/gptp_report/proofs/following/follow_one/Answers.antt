@@ -2,7 +2,7 @@ use Rattle.std.proofs.Common.{arith}
 use Rattle.std.specs.Prelude.{string_bytes}
 use Rattle.std.proofs.lemmas.Result.{on_ok_weaker}
 use Rattle.gptp_acts.specs.Advancing.{Told}
-use Rattle.gptp_acts.proofs.AdvanceLemmas.{happened, Happened}
+use Rattle.gptp_acts.proofs.AdvanceLemmas.{happened}
 use Rattle.gptp_report.proofs.FollowLemmas.{follows_one}
 use Rattle.gptp_report.proofs.following.follow_one.Goals as goal
 

@@ -1,5 +1,5 @@
 use Rattle.std.specs.Prelude.{string_bytes}
-use Rattle.std.proofs.Common.{drop, ◌+◌, subst, arith}
+use Rattle.std.proofs.Common.{subst, arith}
 use Rattle.std.proofs.lemmas.List.{drop_all}
 use Rattle.gptp_acts.specs.Views.{rising_clocks}
 use Rattle.gptp_acts.proofs.RisingLemmas.{rising_clocks-count}
