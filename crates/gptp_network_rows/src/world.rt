@@ -1,7 +1,9 @@
 //! A world that goes on by itself, or by one act after another. Times are in ns.
 
 ghost use Rattle.std.specs.Prelude.{◌≡◌};
+ghost use Rattle.gptp_system.specs.declared.setup.Params.{Params};
 ghost use Rattle.gptp_acts.specs.Acts.{IsFitAct};
+ghost use Rattle.gptp_acts.specs.Prompt.{IsPromptAct};
 
 use gptp_links::{Direction, ListFate, PcgFate};
 use gptp_network::Document;
@@ -117,7 +119,8 @@ fn clocks_stand_by_rank(rt: HostRuntime) -> Result<(), Fail> {
 
 /// The first port of the system with this number answers a request.
 fn answer(number: u64) -> Act
-    ensures { IsFitAct result }
+    ensures fit { IsFitAct result }
+    ensures prompt { (p : Params) → IsPromptAct p result }
 {
     Act::Expire {
         clock: clock(number),
