@@ -1,9 +1,6 @@
 //! A world that goes on by itself, or by one act after another. Times are in ns.
 
 ghost use Rattle.std.specs.Prelude.{◌≡◌};
-ghost use Rattle.gptp_system.specs.declared.setup.Params.{Params};
-ghost use Rattle.gptp_acts.specs.Acts.{IsFitAct};
-ghost use Rattle.gptp_acts.specs.Prompt.{IsPromptAct};
 
 use gptp_links::{Direction, ListFate, PcgFate};
 use gptp_network::Document;
@@ -117,13 +114,12 @@ fn clocks_stand_by_rank(rt: HostRuntime) -> Result<(), Fail> {
     Ok(())
 }
 
-/// The first port of the system with this number answers a request.
-fn answer(number: u64) -> Act
-    ensures fit { IsFitAct result }
-    ensures prompt { (p : Params) → IsPromptAct p result }
+/// The first port of the system with this clock answers a request.
+fn answer(clock: ClockId) -> Act
+    ensures { result ≡ Act.Expire clock (Timer.Respond 1) }
 {
     Act::Expire {
-        clock: clock(number),
+        clock,
         timer: Timer::Respond(1),
     }
 }
@@ -192,10 +188,10 @@ fn acts_of_one_moment_go_in_any_order(rt: HostRuntime) -> Result<(), Fail> {
     assert_eq!(rt; world.next(), Some(timed(500, ARRIVAL)));
     assert_eq!(rt; world.act(timed(500, ARRIVAL)).err(), None);
     // each answers 1,000 ns later: the one that heard first is next
-    assert_eq!(rt; world.next(), Some(timed(1_500, answer(1))));
-    assert_eq!(rt; world.act(timed(1_500, answer(2))).err(), None);
-    assert_eq!(rt; world.next(), Some(timed(1_500, answer(1))));
-    assert_eq!(rt; world.act(timed(1_500, answer(1))).err(), None);
+    assert_eq!(rt; world.next(), Some(timed(1_500, answer(clock(1)))));
+    assert_eq!(rt; world.act(timed(1_500, answer(clock(2)))).err(), None);
+    assert_eq!(rt; world.next(), Some(timed(1_500, answer(clock(1)))));
+    assert_eq!(rt; world.act(timed(1_500, answer(clock(1)))).err(), None);
     assert_eq!(rt; world.next(), Some(timed(2_100, ARRIVAL_FROM_B)));
     assert_eq!(rt; world.now(), 1_500);
     Ok(())
