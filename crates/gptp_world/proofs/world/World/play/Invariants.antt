@@ -6,6 +6,7 @@ use Rattle.gptp_world.proofs.world.World.play.Given as goal
 -- those before this place were done, and all are as prompt as they were
 abbrev pub invariant-loop-place : goal.invariant-loop-place
 invariant-loop-place g l = record {
-  played : Plays g.F.Fate.answers (take l.place l.acts) l.initial.self.fate l.self.fate l.initial.self.scene l.self.scene;
+  played : Plays g.F.Fate.answers (take l.place l.acts) l.initial.self.fate l.self.fate l.initial.self.scene
+      l.self.scene;
   prompt : ArePromptIn l.self.scene l.acts;
 }
