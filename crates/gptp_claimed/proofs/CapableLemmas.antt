@@ -1,6 +1,5 @@
 -- From the start on a port is capable exactly where a link of the snapshot is at it.
 use Rattle.std.proofs.Common.{◌≡◌, ◌⊎◌, ◌≤◌, ℕ, suc, Bool, true, false, List, Option, Some, None, slice_get, refl, sym, ap, subst, ◌∙◌, inl, inr}
-use Rattle.std.specs.Prelude.{◌&&◌}
 use Rattle.gptp_graph.specs.Snapshot.{IsLinked, Joins, Snapshot}
 use Rattle.gptp_graph.proofs.MemberLemmas.{In-map}
 use Rattle.gptp_vector.specs.declared.port.PortId.{PortId}

@@ -1,5 +1,5 @@
 -- The claim begins with the world of a network, and is kept.
-use Rattle.std.proofs.Common.{◌≡◌, ◌≢◌, ◌≤◌, ℕ, List, Option, length, sym, ap, ◌∙◌}
+use Rattle.std.proofs.Common.{◌≢◌, ◌≤◌, ℕ, Option, length, sym, ap, ◌∙◌}
 use Rattle.std.specs.List.{range_with_len}
 use Rattle.gptp_links.specs.declared.bounds.Bounds.{Bounds}
 use Rattle.gptp_system.specs.declared.setup.Params.{Params}
@@ -27,7 +27,7 @@ use Rattle.gptp_calm.proofs.BetweenLemmas.{networks_between, starts_between}
 use Rattle.gptp_settled.specs.Claim.{AreCapable, IsWorld}
 use Rattle.gptp_settled.proofs.ClaimLemmas.{done_holds, first_begins as holds_first, later_holds}
 use Rattle.gptp_settled.proofs.MomentLemmas.{change_is_last, starts_all_moment}
-use Rattle.gptp_settled.proofs.WorldLemmas.{done_stays, ready_stays, time_stays}
+use Rattle.gptp_settled.proofs.WorldLemmas.{done_stays, time_stays}
 use Rattle.gptp_capable.proofs.BeginLemmas.{first_begins as watches_first, first_measured}
 use Rattle.gptp_capable.proofs.KeptLemmas.{done_measured, done_watches, later_watches}
 use Rattle.gptp_unanswered.specs.Unanswered.{AreSilent}

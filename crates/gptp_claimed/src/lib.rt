@@ -10,4 +10,6 @@
 
 mod laws;
 
-pub use laws::{claim_begins, claim_is_kept, claimed_begins, claimed_is_kept, ports_settle, worlds_settle};
+pub use laws::{
+    claim_begins, claim_is_kept, claimed_begins, claimed_is_kept, ports_settle, worlds_settle,
+};
