@@ -21,7 +21,6 @@ use Rattle.gptp_known.proofs.KnownLemmas.{begins_known}
 use Rattle.gptp_linked.specs.Measured.{IsMeasured}
 use Rattle.gptp_linked.proofs.ChangeKeptLemmas.{later_measured}
 use Rattle.gptp_seen.specs.LegibleLaws.{SetsAnOctet}
-use Rattle.gptp_seen.specs.SeenLaws.{IsNoChange}
 use Rattle.gptp_seen.proofs.ActLegibleLemmas.{initial_legible, starts_legible}
 use Rattle.gptp_calm.proofs.BetweenLemmas.{networks_between, starts_between}
 use Rattle.gptp_settled.specs.Claim.{AreCapable, IsWorld}
@@ -92,12 +91,6 @@ claim_later p w time later sound first is =
 
 -- ---- from act to act
 
--- such an act is no change
-no_change : (act : Act) → IsNoChange act → (change : Change) → act ≢ Changing change
-no_change (Deliver link direction) none change same = absurd cc
-no_change (Expire number timer) none change same = absurd cc
-no_change (Changing other) none change same = absurd none
-
 module _ {F : Type 0} (answers : Bounds → ℕ → F → Option ℕ → F → Type 0) (p : Params) (timed : Timed)
     (fate fate_after : F) (w w' : WorldState) (done : Done) (fit : IsFitAct timed.act)
     (prompt : IsPromptAct p timed.act) (octet : SetsAnOctet timed.act)
@@ -122,14 +115,15 @@ module _ {F : Type 0} (answers : Bounds → ℕ → F → Option ℕ → F → T
   silent_after : AreSilent p w'
   silent_after = by timed.act k.acts
     where
-      still : (act : Act) → IsNoChange act → Acts act then k.draws done w' → AreSilent p w'
+      still : (act : Act) → ((change : Change) → act ≢ Changing change) → Acts act then k.draws done w'
+          → AreSilent p w'
       still act none acts =
           acts_leave_silent p act then w' k.draws done claim_then.world.sound claim_then.measured
-          claim_then.world.known (no_change act none) acts claim_then.silent
+          claim_then.world.known none acts claim_then.silent
 
       by : (act : Act) → Acts act then k.draws done w' → AreSilent p w'
-      by (Deliver link direction) acts = still (Deliver link direction) tt acts
-      by (Expire number timer) acts = still (Expire number timer) tt acts
+      by (Deliver link direction) acts = still (Deliver link direction) (λ change same. absurd cc) acts
+      by (Expire number timer) acts = still (Expire number timer) (λ change same. absurd cc) acts
       by (Changing change) acts =
           silent_at_first p w' world_after.sound measured_after world_after.known
           (change_is_last change then k.draws done w' acts)

@@ -67,8 +67,8 @@ ClaimedLater = (w : WorldState) (time : ℕ)
 
 -- ---- what it promises
 
--- Where the world has been calm for L + 5 announce intervals, L being how many requests may be lost, each port of a live
--- system is capable exactly where a link of the snapshot is at it, and Disabled exactly where it isn't.
+-- Where the world has been calm for L + 5 announce intervals, L being how many requests may be lost, each port of a
+-- live system is capable exactly where a link of the snapshot is at it, and Disabled exactly where it isn't.
 abbrev pub ClaimedCapable : Type 0
 ClaimedCapable = (w : WorldState) → Claimed w → IsCalmFor capable_span w → ArePortsSettled w
 
