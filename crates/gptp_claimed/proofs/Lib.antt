@@ -1,0 +1,3 @@
+pub mod CapableLemmas
+pub mod ClaimLemmas
+pub mod CalmLemmas
