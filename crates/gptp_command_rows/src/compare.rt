@@ -1,0 +1,291 @@
+//! Whole runs of `compare` over memory, and over devices that fail.
+
+ghost use Rattle.std.specs.Prelude.{◌≢◌};
+
+use gptp_commands::compare::compare_lines;
+use gptp_commands::failure::{SimError, Status};
+use gptp_commands::sink::CountedWriter;
+use gptp_commands::source::CountedReader;
+use std::alloc::{AllocError, Global};
+use std::io::{self, Read, Write};
+use std::test::Fail;
+
+/// An Announce as digits, in the parts that the rows below change.
+#[derive(Clone, Copy)]
+pub struct Frame {
+    pub message_type: &'static str,
+    pub version: &'static str,
+    pub message_length: &'static str,
+    pub domain: &'static str,
+    pub priority1: &'static str,
+    pub steps: &'static str,
+    pub tlv_length: &'static str,
+    pub last_octet: &'static str,
+}
+
+/// The first Announce of the system with clock 1, its own root, at port 1.
+pub const ANNOUNCE: Frame = Frame {
+    message_type: "1b",
+    version: "12",
+    message_length: "004c",
+    domain: "00",
+    priority1: "f6",
+    steps: "0000",
+    tlv_length: "0008",
+    last_octet: "01",
+};
+
+/// What stands between domainNumber and grandmasterPriority1, and between that and stepsRemoved.
+const BEFORE_ROOT: &str =
+    "000008000000000000000000000000000000000000000100010000000000000000000000000000002500";
+
+const ROOT: &str = "f8fe436af80000000000000001";
+
+impl Frame {
+    /// The digits of the whole frame.
+    pub fn digits(&self, alloc: Global) -> Result<String, AllocError> {
+        let Frame {
+            message_type,
+            version,
+            message_length,
+            domain,
+            priority1,
+            steps,
+            tlv_length,
+            last_octet,
+        } = *self;
+        let header = format!(in alloc; "{message_type}{version}{message_length}{domain}")?;
+        let root = format!(in alloc; "{BEFORE_ROOT}{priority1}{ROOT}{steps}a0")?;
+        format!(in alloc; "{header}{root}0008{tlv_length}00000000000000{last_octet}")
+    }
+}
+
+/// What `compare` writes for an input, and its status. No read of memory fails.
+pub fn compared(alloc: Global, input: &[u8]) -> Result<(Vec<u8>, Status), SimError>
+    ensures { result ≢ Err SimError.Read }
+{
+    let mut written = Vec::new(alloc);
+    let mut source = input;
+    let mut sink = CountedWriter::new(&mut written);
+    let status = compare_lines(alloc, &mut source, &mut sink)?;
+    Ok((written, status))
+}
+
+#[test]
+fn announces_the_better_root(rt: HostRuntime) -> Result<(), Fail> {
+    let alloc = rt.alloc();
+    let one_step = Frame {
+        steps: "0001",
+        ..ANNOUNCE
+    };
+    let two_steps = Frame {
+        steps: "0002",
+        ..ANNOUNCE
+    };
+    let worse_root = Frame {
+        priority1: "f7",
+        ..ANNOUNCE
+    };
+    for (first, second, want) in [
+        (one_step, two_steps, "first f6f8fe436af80000000000000001\n"),
+        (ANNOUNCE, ANNOUNCE, "equal f6f8fe436af80000000000000001\n"),
+        (
+            worse_root,
+            ANNOUNCE,
+            "second f6f8fe436af80000000000000001\n",
+        ),
+        (
+            worse_root,
+            worse_root,
+            "equal f7f8fe436af80000000000000001\n",
+        ),
+    ] {
+        let first = first.digits(alloc)?;
+        let second = second.digits(alloc)?;
+        let line = format!(in alloc; "{first} {second}\n")?;
+        let (text, status) = compared(alloc, line.as_bytes())?;
+        assert_eq!(rt; text.as_slice(), want.as_bytes(), "at {want}");
+        assert_eq!(rt; status, Status::Done, "at {want}");
+    }
+    Ok(())
+}
+
+#[test]
+fn splits_lines_and_words(rt: HostRuntime) -> Result<(), Fail> {
+    let alloc = rt.alloc();
+    let word = ANNOUNCE.digits(alloc)?;
+    let mut upper = ANNOUNCE.digits(alloc)?;
+    upper.make_ascii_uppercase();
+    let equal = "equal f6f8fe436af80000000000000001\n";
+    for (input, want) in [
+        (format!(in alloc; "")?, ""),
+        (format!(in alloc; "\n")?, "refused words\n"),
+        (format!(in alloc; " \t \n")?, "refused words\n"),
+        (format!(in alloc; "{word}\n")?, "refused words\n"),
+        (
+            format!(in alloc; "{word} {word} {word}\n")?,
+            "refused words\n",
+        ),
+        (format!(in alloc; "\t {word} \t  {word}\t\n")?, equal),
+        (format!(in alloc; "{upper} {word}\n")?, equal),
+        (format!(in alloc; "{word} {word}\r\n")?, equal),
+        (format!(in alloc; "{word} {word}")?, equal),
+        (
+            format!(in alloc; "{word} {word}\r")?,
+            "refused second hex\n",
+        ),
+        (
+            format!(in alloc; "{word}\r {word}\n")?,
+            "refused first hex\n",
+        ),
+        (
+            format!(in alloc; "{word}0 {word}\n")?,
+            "refused first hex\n",
+        ),
+        (
+            format!(in alloc; "{word}0g {word}\n")?,
+            "refused first hex\n",
+        ),
+        (format!(in alloc; "{word} 0\n")?, "refused second hex\n"),
+        (
+            format!(in alloc; "\n\n{word}")?,
+            "refused words\nrefused words\nrefused words\n",
+        ),
+        (
+            format!(in alloc; "{word}\n{word} {word}\n")?,
+            "refused words\nequal f6f8fe436af80000000000000001\n",
+        ),
+    ] {
+        let (text, status) = compared(alloc, input.as_bytes())?;
+        assert_eq!(rt; text.as_slice(), want.as_bytes(), "at {input}");
+        let is_done = want == "" || want == equal;
+        assert_eq!(rt; status == Status::Done, is_done, "at {input}");
+    }
+    Ok(())
+}
+
+#[test]
+fn refuses_one_octet_past_the_size(rt: HostRuntime) -> Result<(), Fail> {
+    let alloc = rt.alloc();
+    for (length, want, left) in [
+        (1_048_576, "refused words\n", 0),
+        (1_048_577, "refused size\n", 0),
+        (1_048_600, "refused size\n", 23),
+    ] {
+        let octets = vec![in alloc; b'0'; length]?;
+        let mut source = octets.as_slice();
+        let mut written = Vec::new(alloc);
+        let mut sink = CountedWriter::new(&mut written);
+        let status = compare_lines(alloc, &mut source, &mut sink)?;
+        assert_eq!(rt; written.as_slice(), want.as_bytes(), "at {length}");
+        assert_eq!(rt; status, Status::Refused, "at {length}");
+        assert_eq!(rt; source.len(), left, "at {length}");
+    }
+    Ok(())
+}
+
+/// A device of which one call fails. Every other call moves at most `most` octets.
+#[derive(Drop)]
+struct FailsOnce<D> {
+    device: D,
+    calls_before: u64,
+    most: usize,
+}
+
+impl<D: Read> Read for FailsOnce<D> {
+    fn read(&mut self, buffer: &mut [u8]) -> io::Result<usize> {
+        if self.calls_before == 0 {
+            return Err(io::Error::from(io::ErrorKind::Other));
+        }
+        self.calls_before -= 1;
+        let length = self.most.min(buffer.len());
+        self.device.read(&mut buffer[..length])
+    }
+}
+
+impl<D: Write> Write for FailsOnce<D> {
+    fn write(&mut self, text: &[u8]) -> io::Result<usize> {
+        if self.calls_before == 0 {
+            return Ok(0);
+        }
+        self.calls_before -= 1;
+        let length = self.most.min(text.len());
+        self.device.write(&text[..length])
+    }
+
+    fn flush(&mut self) -> io::Result<()> {
+        self.device.flush()
+    }
+}
+
+/// 306 octets by 20 take 16 reads, and one more finds the end.
+const READS: u64 = 17;
+
+#[test]
+fn read_fails_with_nothing_written(rt: HostRuntime) -> Result<(), Fail> {
+    let alloc = rt.alloc();
+    let word = ANNOUNCE.digits(alloc)?;
+    let line = format!(in alloc; "{word} {word}\n")?;
+    for calls_before in 0..=READS {
+        let mut written = Vec::new(alloc);
+        let device = FailsOnce {
+            device: line.as_bytes(),
+            calls_before,
+            most: 20,
+        };
+        let mut source = CountedReader::new(device);
+        let mut sink = CountedWriter::new(&mut written);
+        let outcome = compare_lines(alloc, &mut source, &mut sink);
+        let (want, length) = if calls_before < READS {
+            (Err(SimError::Read), 0)
+        } else {
+            (Ok(Status::Done), 35)
+        };
+        assert_eq!(rt; outcome, want, "at {calls_before}");
+        assert_eq!(rt; written.len(), length, "at {calls_before}");
+    }
+    Ok(())
+}
+
+/// 49 octets by 10.
+const WRITES: u64 = 5;
+
+#[test]
+fn write_fails_with_a_front_written(rt: HostRuntime) -> Result<(), Fail> {
+    let alloc = rt.alloc();
+    let word = ANNOUNCE.digits(alloc)?;
+    let line = format!(in alloc; "{word} {word}\n\n")?;
+    let text = b"equal f6f8fe436af80000000000000001\nrefused words\n";
+    for calls_before in 0..=WRITES {
+        let mut written = Vec::new(alloc);
+        let device = FailsOnce {
+            device: &mut written,
+            calls_before,
+            most: 10,
+        };
+        let mut source = line.as_bytes();
+        let mut sink = CountedWriter::new(device);
+        let outcome = compare_lines(alloc, &mut source, &mut sink);
+        let (want, length) = if calls_before < WRITES {
+            (Err(SimError::Write), 10 * calls_before as usize)
+        } else {
+            (Ok(Status::Refused), 49)
+        };
+        assert_eq!(rt; outcome, want, "at {calls_before}");
+        assert_eq!(rt;
+            Some(written.as_slice()),
+            text.get(..length),
+            "at {calls_before}"
+        );
+    }
+    Ok(())
+}
+
+#[test]
+fn program_never_wants_memory(rt: HostRuntime) -> Result<(), Fail> {
+    let alloc = rt.alloc();
+    let word = ANNOUNCE.digits(alloc)?;
+    let line = format!(in alloc; "{word} {word}\n")?;
+    assert!(rt; compared(alloc, line.as_bytes()).is_ok());
+    Ok(())
+}

@@ -1,0 +1,15 @@
+//! Worked rows of the commands, as an outside caller sees them: whole runs over memory, and over devices that fail.
+//!
+//! What they expect was written down before the code.
+#![tactic(auto)]
+
+#[cfg(test)]
+mod check;
+#[cfg(test)]
+mod compare;
+#[cfg(test)]
+mod far;
+#[cfg(test)]
+mod refusals;
+#[cfg(test)]
+mod run;

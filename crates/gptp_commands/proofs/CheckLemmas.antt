@@ -1,0 +1,40 @@
+-- What is written for a document and a certificate as they were read is written for all there is of both.
+use Rattle.std.proofs.Common.{◌≡◌, ℕ, List, Option, Some, None, inl, inr}
+use Rattle.std.specs.Prelude.{IfSome}
+use Rattle.gptp_certificate.specs.declared.fault.CertificateFault.TheVariants.{Line}
+use Rattle.gptp_network.specs.declared.fault.DocumentFault.TheVariants.{TooMany}
+use Rattle.gptp_report.specs.Lines.{text_of}
+use Rattle.gptp_commands.specs.declared.failure.Status.{Status}
+use Rattle.gptp_commands.specs.CheckText.{certificate_limit, AnswersBoth, AnswersCertificate, CheckText, RefusesCertificate}
+use Rattle.gptp_commands.specs.RunText.{document_limit, RefusesFault}
+use Rattle.gptp_commands.specs.Source.{ReadsWhole}
+use Rattle.gptp_commands.proofs.LimitedLemmas.{limited_weaker, same_text, text_holds}
+
+-- the answer to a document, with the certificate as it was read, is that with all there is of it
+same_answer : (until : Option ℕ) (all : List ℕ) (known : Option (List ℕ)) (octets document : List ℕ)
+    (output : List (List ℕ)) (status : Status) → ReadsWhole certificate_limit (Some all) known octets
+    → AnswersBoth until octets document output status → AnswersBoth until all document output status
+same_answer until all known octets document output status reads (inl (d, means, limited)) =
+    inl (
+      d,
+      means,
+      same_text certificate_limit (AnswersCertificate d until) (RefusesCertificate Line) (Some all) known
+          octets reads output status limited,
+    )
+same_answer until all known octets document output status reads (inr refused) = inr refused
+
+-- what holds of the text for the octets that were read holds of the text for both inputs
+pub check_holds : (until : Option ℕ) (left rest behind after : Option (List ℕ)) (document certificate text : List ℕ)
+    (status : Status) (Q : List ℕ → Type 0) → ReadsWhole document_limit left rest document
+    → ReadsWhole certificate_limit behind after certificate
+    → (output : List (List ℕ)) × CheckText until certificate document output status × (text ≡ text_of output) → Q text
+    → IfSome behind (λ octets. IfSome left (λ input.
+    (output : List (List ℕ)) × CheckText until octets input output status × Q (text_of output)))
+check_holds until left rest None after document certificate text status Q reads_document reads_certificate shown holds = tt
+check_holds until left rest (Some all) after document certificate text status Q reads_document reads_certificate (output, shows, is) holds =
+    text_holds document_limit (AnswersBoth until all) (RefusesFault TooMany) left rest document text status Q reads_document (
+      output,
+      limited_weaker document_limit (AnswersBoth until certificate) (AnswersBoth until all) (RefusesFault TooMany) document
+          output status (same_answer until all after certificate document output status reads_certificate) shows,
+      is,
+    ) holds

@@ -1,0 +1,432 @@
+-- The words that the parser takes of the program's command line: what it finds wrong with any others.
+use Rattle.std.proofs.Common.{◌≡◌, ◌⊎◌, inl, inr, ℕ, suc, Bool, true, false, ◌==◌, List, [], ◌∷◌, Option, Some, None, length, codes, bytes_eq, refl, sym, ap, ap₂, ◌∙◌, arith, chars, slice_get, drop}
+use Rattle.std.proofs.lemmas.Option.{same_Some}
+use Rattle.std.proofs.lemmas.Slice.Eq.{bytes_eq-Decides}
+use Rattle.std.specs.Option.{option_map_or}
+use Rattle.std.specs.Prelude.{Box, cond, is_some, option_and_then, option_map}
+use Rattle.std.specs.Box.{box_value}
+use Rattle.clap.specs.Words.{App, HasKind, HasMatchesOf, Kinds, Row, kind_of, subcommand_name_of, subcommand_of, subcommand_rows, subcommand_rows_of}
+use Rattle.clap.specs.declared.parser.matches.ArgMatches.{ArgMatches}
+use Rattle.clap.specs.declared.parser.matches.ArgMatches.TheViews.{out-ArgMatches, out-SubCommand}
+use Rattle.clap.specs.declared.parser.matches.SubCommand.{SubCommand}
+use Rattle.clap.specs.Kinds.{or_else}
+use Rattle.clap.specs.declared.error.Error.{Error}
+use Rattle.clap.specs.declared.error.kind.ErrorKind.{ErrorKind}
+use Rattle.clap.specs.declared.error.kind.ErrorKind.TheVariants.{OutOfMemory}
+use Rattle.clap.specs.Lexer.{long_of, long_of_rest, short_of, short_of_rest, strip_byte}
+use Rattle.clap.specs.Walk.{Held, Names, Rule, Step, Text, Walk, after_step, arg_by_long, arg_by_short, bundle_met, finished, settled, trailing, value as value_step, word_met, bundle_step, after_flag, idle, long_or_other, nothing_held, plain, short_or_plain, subcommand_met, walk, walk_from, walked}
+use Rattle.clap.specs.Simple.{Shape, built, built_leaf, entered, filled_from, help_rule, names_of, new_shape}
+use Rattle.clap.specs.Faults.{built_fault, check_fault, defaults_fault, level_fault, settle_fault, word_fault, bundle_fault, bundle_step_fault, entered_fault, flag_word_fault, fault_of, flags_fault, is_simple_and_free, long_fault, short_fault, step_fault, stray_fault, turn_fault, walk_fault}
+use Rattle.clap.proofs.WalkLemmas.{walk_stopped}
+use Rattle.clap.proofs.OnLiterals.{clap_on_literals}
+use Rattle.gptp_commands.specs.Command.{AsksFor, BeginsWith, Enters, IsCompare, IsNoOption, IsPlain, OrderIsInRange, check_command, program}
+use Rattle.gptp_commands.specs.declared.command.Order.{Order}
+use Rattle.gptp_commands.specs.declared.command.Order.TheVariants.{Check, Compare, Run}
+
+-- ---- faults, of which the first that there is counts
+
+some_isn't_none : {A : Type 0} (a : A) → Some a ≡ None → ⊥
+some_isn't_none a same =
+    let count : ◌≡◌ {A = ℕ} 1 0 = ap (λ o. option_map_or (λ x. 1) o 0) same in
+    absurd (omega arith)
+
+some_fault : (kind : ErrorKind) (others : Kinds) → kind ∷ others ≡ [] → ⊥
+some_fault kind others none =
+    let count : suc (length others) ≡ 0 = ap length none in
+    absurd (omega arith)
+
+first_none : (first second : Kinds) → or_else first second ≡ [] → first ≡ []
+first_none [] second none = refl
+first_none (kind ∷ others) second none = none
+
+second_none : (first second : Kinds) → or_else first second ≡ [] → second ≡ []
+second_none [] second none = none
+second_none (kind ∷ others) second none = absurd (some_fault kind others none)
+
+-- ---- a level whose rules are those that building adds: `-h` and `--help`
+
+abbrev help_rules : List Rule
+help_rules = filled_from 1 (help_rule ∷ [])
+
+abbrev with_help : Shape → Shape
+with_help level = record level { rules = help_rules; args_override_self = false }
+
+-- a value is no argument of it
+stray_by : (leaf : Bool) (s : Shape) → s.is_leaf ≡ leaf → stray_fault s ≡ [] → ⊥
+stray_by true s is none = some_fault _ _ (rw is at none)
+stray_by false s is none = some_fault _ _ (rw is at none)
+
+stray : (s : Shape) → stray_fault s ≡ [] → ⊥
+stray s = stray_by s.is_leaf s refl
+
+-- a short flag calls for help or isn't known
+short_wrong : (is_help : Bool) (flag : ℕ) (rest : Text) (next : Held → Kinds) → (104 == flag) ≡ is_help
+    → short_fault help_rules false (arg_by_short help_rules flag) rest nothing_held next ≡ [] → ⊥
+short_wrong true flag rest next is none = some_fault _ _ (rw is at none)
+short_wrong false flag rest next is none = some_fault _ _ (rw is at none)
+
+-- so does a long one
+long_wrong : (is_help : Bool) (name : Text) (value : Option Text) → bytes_eq (codes "help") name ≡ is_help
+    → long_fault help_rules false (arg_by_long help_rules name) value nothing_held ≡ [] → ⊥
+long_wrong true name None is none = some_fault _ _ (rw is at none)
+long_wrong true name (Some text) is none = some_fault _ _ (rw is at none)
+long_wrong false name value is none = some_fault _ _ (rw is at none)
+
+-- ---- a word that names no command and isn't `--`: as a flag it is wrong, and so it is as a value
+
+-- its faults, by those that it has as a flag and by the step that it takes then
+abbrev wrong : Shape → Kinds → Held × Step → Kinds
+wrong s as_flag step = or_else as_flag (step_fault (with_help s) 1 step.0 step.1)
+
+wrong_character : (s : Shape) (word flags : Text) (others : ℕ) (flag : Option ℕ)
+    → wrong s (bundle_step_fault help_rules false flag flags 0 nothing_held (flags_fault help_rules false others))
+    (after_flag help_rules idle word (bundle_step help_rules flag flags 0 plain nothing_held (bundle_met help_rules others)).0
+    (bundle_step help_rules flag flags 0 plain nothing_held (bundle_met help_rules others)).1) ≡ [] → ⊥
+wrong_character s word flags others None none = stray (with_help s) none
+wrong_character s word flags others (Some flag) none = short_wrong (104 == flag) flag _ _ refl (first_none _ _ none)
+
+wrong_bundle : (s : Shape) (word flags : Text)
+    → wrong s (bundle_fault help_rules false flags nothing_held) (short_or_plain help_rules idle word (Some flags) nothing_held) ≡ [] → ⊥
+unfolding flags_fault bundle_met
+wrong_bundle s word [] none = stray (with_help s) none
+wrong_bundle s word (x ∷ xs) none = wrong_character s word (x ∷ xs) (length xs) (slice_get (chars (x ∷ xs)) 0) none
+
+wrong_short : (s : Shape) (word : Text) (short : Option Text)
+    → wrong s (option_map_or (λ flags. bundle_fault help_rules false flags nothing_held) short []) (short_or_plain help_rules idle word short nothing_held) ≡ [] → ⊥
+wrong_short s word None none = stray (with_help s) none
+wrong_short s word (Some flags) none = wrong_bundle s word flags none
+
+wrong_word : (s : Shape) (word : Text) (long : Option (Text × Option Text))
+    → wrong s (flag_word_fault help_rules false long word nothing_held) (long_or_other help_rules idle word long nothing_held) ≡ [] → ⊥
+wrong_word s word None none = wrong_short s word _ none
+wrong_word s word (Some parts) none = long_wrong (bytes_eq (codes "help") parts.0) parts.0 parts.1 refl (first_none _ _ none)
+
+-- where a level begins
+strange : (s : Shape) (names : Names) (word : Text) → subcommand_met names idle word ≡ None → bytes_eq word (codes "--") ≡ false
+    → turn_fault (with_help s) names (walk_from nothing_held) word ≡ [] → ⊥
+strange s names word no-name no-mark none = wrong_word s word (long_of word) (rw (no-name, no-mark) at none)
+
+-- nothing may follow the mark `--`
+trailing_words : (s : Shape) (names : Names) (words : List Text)
+    → walk_fault (with_help s) names (record (walk_from nothing_held) { is_trailing = true }) words ≡ [] → words ≡ []
+unfolding walk_fault
+trailing_words s names [] none = refl
+trailing_words s names (word ∷ words) none = absurd (stray (with_help s) (first_none _ _ none))
+
+-- ---- the words behind `compare`
+
+abbrev below : Shape
+below = with_help (built_leaf (new_shape (codes "compare")))
+
+word_below : (is_mark : Bool) (word : Text) (words : List Text) → bytes_eq word (codes "--") ≡ is_mark
+    → walk_fault below [] (walk_from nothing_held) (word ∷ words) ≡ [] → word ∷ words ≡ codes "--" ∷ []
+unfolding walk_fault walked
+word_below true word words mark none =
+    let word_is : word ≡ codes "--" = (bytes_eq-Decides word (codes "--")).0 mark in
+    let rest : words ≡ [] = trailing_words below [] words (rw word_is at none) in
+    rw (word_is, rest) refl
+word_below false word words mark none = absurd (strange below [] word refl mark (first_none _ _ none))
+
+words_below : (words : List Text) → walk_fault below [] (walk_from nothing_held) words ≡ []
+    → (words ≡ []) ⊎ (words ≡ codes "--" ∷ [])
+words_below [] none = inl refl
+words_below (word ∷ words) none = inr (word_below (bytes_eq word (codes "--")) word words refl none)
+
+-- ---- the words behind the program's name
+
+abbrev top : Shape
+top = with_help (built program).top
+
+abbrev names : Names
+names = names_of (built program)
+
+-- what is wrong with them
+abbrev fault : List Text → Kinds
+fault = built_fault (built program) nothing_held
+
+walk_finds_none : (words : List Text) → fault words ≡ [] → walk_fault top names (walk_from nothing_held) words ≡ []
+walk_finds_none words none = first_none (walk_fault top names (walk_from nothing_held) words) _ none
+
+-- where the walk over them stopped at a command
+abbrev stop : List Text → Option (Text × List Text)
+stop words = (walk help_rules names nothing_held words).stopped
+
+stops_at_compare : (words : List Text) → stop (codes "compare" ∷ words) ≡ Some (codes "compare", words)
+unfolding walked
+stops_at_compare words =
+    ap (λ (w : Walk). w.stopped) (sym (walk_stopped help_rules names (walk_from nothing_held) (codes "compare") [] words))
+
+stops_at_run : (words : List Text) → stop (codes "run" ∷ words) ≡ Some (codes "run", words)
+unfolding walked
+stops_at_run words =
+    ap (λ (w : Walk). w.stopped) (sym (walk_stopped help_rules names (walk_from nothing_held) (codes "run") [] words))
+
+stops_at_check : (words : List Text) → stop (codes "check" ∷ words) ≡ Some (codes "check", words)
+unfolding walked
+stops_at_check words =
+    ap (λ (w : Walk). w.stopped) (sym (walk_stopped help_rules names (walk_from nothing_held) (codes "check") [] words))
+
+-- the words behind `compare` are left to it
+words_behind : (words : List Text) → fault (codes "compare" ∷ words) ≡ [] → (words ≡ []) ⊎ (words ≡ codes "--" ∷ [])
+words_behind words none =
+    let later = second_none (walk_fault top names (walk_from nothing_held) (codes "compare" ∷ words)) _ none in
+    let entered : entered_fault (built program) (stop (codes "compare" ∷ words)) ≡ [] = first_none _ _ later in
+    words_below words (first_none (walk_fault below [] (walk_from nothing_held) words) _ (rw (stops_at_compare words) at entered))
+
+-- the mark `--` in place of a command
+mark_alone : (words : List Text) → fault (codes "--" ∷ words) ≡ [] → ⊥
+unfolding clap_on_literals
+mark_alone [] none = some_fault _ _ none
+mark_alone (word ∷ words) none =
+    let nothing : word ∷ words ≡ [] = trailing_words top names (word ∷ words) (walk_finds_none (codes "--" ∷ word ∷ words) none) in
+    let count : suc (length words) ≡ 0 = ap length nothing in
+    absurd (omega arith)
+
+-- a call for help
+help_asked : (words : List Text) → fault (codes "help" ∷ words) ≡ [] → ⊥
+unfolding walk_fault
+help_asked words none = some_fault _ _ (walk_finds_none (codes "help" ∷ words) none)
+
+-- `compare`, and what may stand behind it
+named : (words : List Text) → (words ≡ []) ⊎ (words ≡ codes "--" ∷ []) → IsCompare (codes "compare" ∷ words)
+named words (inl nothing) = inl (rw nothing refl)
+named words (inr mark) = inr (rw mark refl)
+
+-- one of the three commands is named
+abbrev NamesOne : List Text → Type 0
+NamesOne words = IsCompare words ⊎ (BeginsWith (codes "run") words ⊎ BeginsWith (codes "check") words)
+
+-- the first word is the name
+begins : (name word : Text) (words : List Text) → bytes_eq name word ≡ true → BeginsWith name (word ∷ words)
+begins name word words same = (words, ap (λ first. first ∷ words) (sym ((bytes_eq-Decides name word).0 same)))
+
+-- by what the first word is
+first_word : (is_compare is_run is_check is_help is_mark : Bool) (word : Text) (words : List Text)
+    → bytes_eq (codes "compare") word ≡ is_compare → bytes_eq (codes "run") word ≡ is_run
+    → bytes_eq (codes "check") word ≡ is_check → bytes_eq (codes "help") word ≡ is_help
+    → bytes_eq word (codes "--") ≡ is_mark → fault (word ∷ words) ≡ [] → NamesOne (word ∷ words)
+unfolding walk_fault
+first_word true is_run is_check is_help is_mark word words compare run check help mark none =
+    let word_is : codes "compare" ≡ word = (bytes_eq-Decides (codes "compare") word).0 compare in
+    inl (rw (← word_is) (named words (words_behind words (rw (← word_is) at none))))
+first_word false true is_check is_help is_mark word words compare run check help mark none =
+    inr (inl (begins (codes "run") word words run))
+first_word false false true is_help is_mark word words compare run check help mark none =
+    inr (inr (begins (codes "check") word words check))
+first_word false false false true is_mark word words compare run check help mark none =
+    let word_is : codes "help" ≡ word = (bytes_eq-Decides (codes "help") word).0 help in
+    absurd (help_asked words (rw (← word_is) at none))
+first_word false false false false true word words compare run check help mark none =
+    let word_is : word ≡ codes "--" = (bytes_eq-Decides word (codes "--")).0 mark in
+    absurd (mark_alone words (rw word_is at none))
+first_word false false false false false word words compare run check help mark none =
+    let no_name : subcommand_met names idle word ≡ None = rw (compare, run, check, help) refl in
+    absurd (strange top names word no_name mark (first_none _ _ (walk_finds_none (word ∷ words) none)))
+
+-- no word at all
+nothing_named : fault [] ≡ [] → ⊥
+unfolding clap_on_literals
+nothing_named none = some_fault _ _ none
+
+words_named : (words : List Text) → fault words ≡ [] → NamesOne words
+words_named [] none = absurd (nothing_named none)
+words_named (word ∷ words) none =
+    first_word (bytes_eq (codes "compare") word) (bytes_eq (codes "run") word) (bytes_eq (codes "check") word)
+    (bytes_eq (codes "help") word) (bytes_eq word (codes "--")) word words refl refl refl refl refl none
+
+-- ---- the command that the parser enters is the one that is named
+
+-- its name
+abbrev name_in : Option (Text × List Row) → Option Text
+name_in = option_map (λ p. p.0)
+
+abbrev entered_name : List Text → Option Text
+entered_name words = name_in (entered (built program) (stop words))
+
+enters_compare : (words : List Text) → IsCompare words → entered_name words ≡ Some (codes "compare")
+enters_compare words (inl alone) = rw (alone, stops_at_compare []) refl
+enters_compare words (inr marked) = rw (marked, stops_at_compare (codes "--" ∷ [])) refl
+
+enters_run : (words : List Text) → BeginsWith (codes "run") words → entered_name words ≡ Some (codes "run")
+enters_run words run = rw (run.1, stops_at_run run.0) refl
+
+enters_check : (words : List Text) → BeginsWith (codes "check") words → entered_name words ≡ Some (codes "check")
+enters_check words check = rw (check.1, stops_at_check check.0) refl
+
+-- it enters one command only
+one_length : (words : List Text) (name other : Text) → entered_name words ≡ Some name → entered_name words ≡ Some other
+    → length name ≡ length other
+one_length words name other is also = ap (λ entered. option_map_or length entered 0) (sym is ∙ also)
+
+-- `compare`, where the parser entered neither of the others
+compare_named : (words : List Text) → NamesOne words → (entered_name words ≡ Some (codes "run") → ⊥)
+    → (entered_name words ≡ Some (codes "check") → ⊥) → IsCompare words
+compare_named words (inl compare) not_run not_check = compare
+compare_named words (inr (inl run)) not_run not_check = absurd (not_run (enters_run words run))
+compare_named words (inr (inr check)) not_run not_check = absurd (not_check (enters_check words check))
+
+-- `run`, where it entered that
+run_named : (words : List Text) → NamesOne words → entered_name words ≡ Some (codes "run") → BeginsWith (codes "run") words
+run_named words (inl compare) is_run =
+    let count : ◌≡◌ {A = ℕ} 7 3 = one_length words (codes "compare") (codes "run") (enters_compare words compare) is_run in
+    absurd (omega arith)
+run_named words (inr (inl run)) is_run = run
+run_named words (inr (inr check)) is_run =
+    let count : ◌≡◌ {A = ℕ} 5 3 = one_length words (codes "check") (codes "run") (enters_check words check) is_run in
+    absurd (omega arith)
+
+-- `check`, where it entered that
+check_named : (words : List Text) → NamesOne words → entered_name words ≡ Some (codes "check") → BeginsWith (codes "check") words
+check_named words (inl compare) is_check =
+    let count : ◌≡◌ {A = ℕ} 7 5 = one_length words (codes "compare") (codes "check") (enters_compare words compare) is_check in
+    absurd (omega arith)
+check_named words (inr (inl run)) is_check =
+    let count : ◌≡◌ {A = ℕ} 3 5 = one_length words (codes "run") (codes "check") (enters_run words run) is_check in
+    absurd (omega arith)
+check_named words (inr (inr check)) is_check = check
+
+-- ---- a parse of the command line, by the clauses of the parser
+
+-- the name of the subcommand, by its name and rows
+name_of : {Z : Type 0} (found : Option (Box SubCommand Z))
+    → option_map (λ b. (out-SubCommand (box_value b)).name.now) found ≡ name_in (subcommand_rows found)
+name_of None = refl
+name_of (Some sub) = refl
+
+-- the command that was entered, with what was found
+rows_of_words : (parsed : App) (words : List Text) (m : ArgMatches) → parsed ≡ program → HasMatchesOf parsed words m
+    → subcommand_rows_of m ≡ subcommand_of program words
+rows_of_words parsed words m is matches =
+    let both : HasMatchesOf program words m = rw is at matches in
+    (both refl).1
+
+entered_of : (parsed : App) (words : List Text) (m : ArgMatches) → parsed ≡ program → HasMatchesOf parsed words m
+    → subcommand_name_of m ≡ entered_name (drop 1 words)
+entered_of parsed words m is matches = name_of (out-ArgMatches m).subcommand ∙ ap name_in (rows_of_words parsed words m is matches)
+
+-- a command that was entered by this name, with these rows
+pub entered_is : {Z : Type 0} (found : Option (Box SubCommand Z)) (name : Text) (rows : List Row)
+    → option_map (λ b. (out-SubCommand (box_value b)).name.now) found ≡ Some name
+    → option_map (λ p. p.1) (subcommand_rows found) ≡ Some rows → subcommand_rows found ≡ Some (name, rows)
+entered_is None name rows named has = absurd (some_isn't_none name (sym named))
+entered_is (Some sub) name rows named has =
+    let names = same_Some _ name named in
+    let holds = same_Some _ rows has in
+    ap₂ (λ n r. Some (n, r)) names holds
+
+-- one that succeeds
+accepted_words : (parsed : App) (words : List Text) → parsed ≡ program
+    → (is_simple_and_free parsed ≡ true → fault_of parsed words ≡ []) → NamesOne (drop 1 words)
+accepted_words parsed words is accepted = words_named (drop 1 words) (rw is at accepted refl)
+
+-- what the matches ask for is what the words ask for
+pub asked : (parsed : App) (words : List Text) (m : ArgMatches) (order : Order) → parsed ≡ program → HasMatchesOf parsed words m
+    → (is_simple_and_free parsed ≡ true → fault_of parsed words ≡ []) → Enters m order → AsksFor words order
+asked parsed words m Compare is matches accepted entered =
+    let same = entered_of parsed words m is matches in
+    compare_named (drop 1 words) (accepted_words parsed words is accepted)
+    (λ run. entered.0 (same ∙ run)) (λ check. entered.1 (same ∙ check))
+asked parsed words m (Run options) is matches accepted entered =
+    let rows_are = sym (rows_of_words parsed words m is matches) ∙ entered.1 in
+    (run_named (drop 1 words) (accepted_words parsed words is accepted) (ap name_in rows_are), (entered.0, rows_are, entered.2))
+asked parsed words m (Check options) is matches accepted entered =
+    let rows_are = sym (rows_of_words parsed words m is matches) ∙ entered.1 in
+    (check_named (drop 1 words) (accepted_words parsed words is accepted) (ap name_in rows_are), (entered.0, rows_are, entered.2))
+
+pub asked_in_range : (words : List Text) (order : Order) → AsksFor words order → OrderIsInRange order
+asked_in_range words Compare asks = tt
+asked_in_range words (Run options) asks = (asks.1.2.until.range, asks.1.2.seed.range)
+asked_in_range words (Check options) asks = asks.1.2.until.range
+
+-- `check` with a file alone
+no_mark : (word : Text) → IsNoOption word → bytes_eq word (codes "--") ≡ false
+no_mark [] no_option = refl
+no_mark (x ∷ xs) no_option = no_hyphen (x == 45) refl
+  where
+    no_hyphen : (is_hyphen : Bool) → (x == 45) ≡ is_hyphen → bytes_eq (x ∷ xs) (codes "--") ≡ false
+    no_hyphen true is = absurd (some_isn't_none xs (rw is at no_option))
+    no_hyphen false is = rw is refl
+
+no_long : (word : Text) → IsNoOption word → long_of word ≡ None
+no_long word no_option = ap (λ rest. option_and_then long_of_rest (option_and_then (strip_byte 45) rest)) no_option
+
+no_short : (word : Text) → IsNoOption word → short_of word ≡ None
+no_short word no_option = ap (option_and_then short_of_rest) no_option
+
+-- it is a value, and nothing is wrong with it as a flag
+value_met : (rules : List Rule) (word : Text) → IsNoOption word
+    → word_met rules [] false idle 1 word nothing_held ≡ (nothing_held, value_step)
+value_met rules word no_option =
+    ap (λ is_mark. cond is_mark (nothing_held, trailing 1) (long_or_other rules idle word (long_of word) nothing_held)) (no_mark word no_option)
+    ∙ ap (λ long. long_or_other rules idle word long nothing_held) (no_long word no_option)
+    ∙ ap (λ short. short_or_plain rules idle word short nothing_held) (no_short word no_option)
+
+value_passes : (s : Shape) (word : Text) → IsNoOption word → word_fault s [] false idle word nothing_held ≡ []
+value_passes s word no_option =
+    ap (λ is_mark. cond is_mark [] (flag_word_fault s.rules s.args_override_self (long_of word) word nothing_held)) (no_mark word no_option)
+    ∙ ap (λ long. flag_word_fault s.rules s.args_override_self long word nothing_held) (no_long word no_option)
+    ∙ ap (λ short. option_map_or (λ flags. bundle_fault s.rules s.args_override_self flags nothing_held) short []) (no_short word no_option)
+
+abbrev checking : Shape
+checking = built_leaf check_command.top
+
+-- the walk over it
+file_walked : (file : Text) → IsNoOption file → walked checking.rules [] (walk_from nothing_held) file
+    ≡ after_step checking.rules file (walk_from nothing_held) nothing_held value_step
+unfolding walked
+file_walked file no_option =
+    ap (λ (met : Held × Step). after_step checking.rules file (walk_from nothing_held) met.0 met.1) (value_met checking.rules file no_option)
+
+file_passes : (file : Text) → IsNoOption file → walk_fault checking [] (walk_from nothing_held) (file ∷ []) ≡ []
+unfolding walk_fault
+file_passes file no_option = ap₂ (λ (as_flag : Kinds) (met : Held × Step). or_else (or_else as_flag (step_fault checking 1 met.0 met.1)) [])
+    (value_passes checking file no_option) (value_met checking.rules file no_option)
+
+-- what is wrong behind `check`, by what is wrong in the walk and by its end
+abbrev wrong_behind : Kinds → Walk → Kinds
+wrong_behind in_walk end =
+    or_else in_walk (or_else [] (or_else (settle_fault checking.rules checking.args_override_self end.held)
+    (or_else (defaults_fault (settled checking.rules end.held).rows checking.rules)
+    (check_fault checking (finished checking.rules end.held) false))))
+
+nothing_wrong : (file : Text)
+    → wrong_behind [] (after_step checking.rules file (walk_from nothing_held) nothing_held value_step) ≡ []
+unfolding clap_on_literals
+nothing_wrong file = refl
+
+file_behind : (file : Text) → IsNoOption file → level_fault checking [] nothing_held (file ∷ []) false [] ≡ []
+file_behind file no_option =
+    ap₂ wrong_behind (file_passes file no_option) (file_walked file no_option) ∙ nothing_wrong file
+
+file_entered : (file : Text) → IsNoOption file → entered_fault (built program) (stop (codes "check" ∷ file ∷ [])) ≡ []
+file_entered file no_option = ap (entered_fault (built program)) (stops_at_check (file ∷ [])) ∙ file_behind file no_option
+
+above_check : (file : Text) → level_fault (built program).top names nothing_held (codes "check" ∷ file ∷ []) true [] ≡ []
+unfolding clap_on_literals
+above_check file = refl
+
+has_check : (file : Text) → is_some (entered (built program) (stop (codes "check" ∷ file ∷ []))) ≡ true
+has_check file = ap (λ stopped. is_some (entered (built program) stopped)) (stops_at_check (file ∷ []))
+
+plain_file : (file : Text) → IsNoOption file → fault (codes "check" ∷ file ∷ []) ≡ []
+plain_file file no_option =
+    ap₂ (level_fault (built program).top names nothing_held (codes "check" ∷ file ∷ [])) (has_check file) (file_entered file no_option)
+    ∙ above_check file
+
+none_wrong : (words : List Text) → IsPlain words → fault_of program words ≡ []
+unfolding clap_on_literals
+none_wrong words (inl (inl compare)) = rw compare refl
+none_wrong words (inl (inr compare)) = rw compare refl
+none_wrong words (inr (inl run)) = rw run refl
+none_wrong words (inr (inr check)) = rw check.1.0 (plain_file check.0 check.1.1)
+
+no_kind : (error : Error) → HasKind [] error → kind_of error ≡ OutOfMemory
+no_kind error (inl memory) = memory
+no_kind error (inr none) = absurd none
+
+-- one that fails
+pub refused_words : (parsed : App) (words : List Text) (error : Error) → parsed ≡ program
+    → (is_simple_and_free parsed ≡ true → HasKind (fault_of parsed words) error) → IsPlain words → kind_of error ≡ OutOfMemory
+refused_words parsed words error is refused named =
+    let kinds : HasKind (fault_of program words) error = rw is at refused refl in
+    no_kind error (rw (none_wrong words named) at kinds)

@@ -1,0 +1,14 @@
+use Rattle.std.proofs.Common.{codes}
+use Rattle.clap.specs.Words.{found_of}
+use Rattle.gptp_commands.proofs.OptionLemmas.{flag_of_rows, seed_of_rows, until_of_rows}
+use Rattle.gptp_commands.proofs.command.options_in.Goals as goal
+
+pub returns : goal.returns
+returns c =
+    let found = found_of c.args.matches.now in
+    record {
+      until = until_of_rows found (codes "until") c.until_in.result c.until_in.ensures;
+      seed = rw c.from.ensures (seed_of_rows found (codes "seed") c.seed_in.result c.seed_in.ensures);
+      frames = flag_of_rows found (codes "frames") c.get_flag.result c.get_flag.ensures.value c.get_flag.ensures.other;
+      certificate = flag_of_rows found (codes "certificate") c.get_flag-2.result c.get_flag-2.ensures.value c.get_flag-2.ensures.other;
+    }

@@ -1,0 +1,67 @@
+-- What `check` writes for a document and a certificate, and its status (profile).
+use Rattle.std.specs.Prelude.{◌≡◌, ◌⊎◌, ℕ, List, [], ◌∷◌, ◌++◌, Option, codes, unwrap_or}
+use Rattle.gptp_graph.specs.Labelling.{SystemLine}
+use Rattle.gptp_graph.specs.LocalTests.{PassesTooFar}
+use Rattle.gptp_graph.specs.SettledChoice.{IsSettledChoice}
+use Rattle.gptp_graph.specs.Snapshot.{Snapshot}
+use Rattle.gptp_network.specs.declared.fault.DocumentFault.{DocumentFault}
+use Rattle.gptp_network.specs.declared.fault.DocumentFault.TheVariants.{TooMany}
+use Rattle.gptp_network.specs.Document.{DocumentState, Fails as FailsDocument, Means}
+use Rattle.gptp_network.specs.Snapshot.{IsSnapshot}
+use Rattle.gptp_acts.specs.Calm.{last_change}
+use Rattle.gptp_certificate.specs.declared.fault.CertificateFault.{CertificateFault}
+use Rattle.gptp_certificate.specs.declared.fault.CertificateFault.TheVariants.{Line}
+use Rattle.gptp_certificate.specs.Faults as certificates
+use Rattle.gptp_certificate.specs.CertificateText.{certificate_text}
+use Rattle.gptp_certificate.specs.Entries.{IsReadable}
+use Rattle.gptp_certificate.specs.Parsing.{Fails}
+use Rattle.gptp_checker.specs.declared.fault.Fault.{Fault}
+use Rattle.gptp_checker.specs.Faults.{IsFirstFault, fault_text}
+use Rattle.gptp_commands.specs.declared.failure.Status.{Status}
+use Rattle.gptp_commands.specs.declared.failure.Status.TheVariants.{Done, Refused}
+use Rattle.gptp_commands.specs.Limited.{Limited}
+use Rattle.gptp_commands.specs.RunText.{document_limit, RefusesFault}
+
+-- how many octets a certificate may have
+abbrev pub certificate_limit : ℕ
+certificate_limit = 1048576
+
+-- the time of the network that is meant: after all events, where none is asked for
+abbrev pub moment_of : Option ℕ → DocumentState → ℕ
+moment_of until d = unwrap_or until (last_change d.events)
+
+-- the output is one line
+pub record Says (line : List ℕ) (is : Status) (output : List (List ℕ)) (status : Status) : Type 0 where
+  pub shown : output ≡ line ∷ []
+  pub status_is : status ≡ is
+
+-- the verdict on a certificate for a network
+abbrev pub Judges : Snapshot → List SystemLine → List (List ℕ) → Status → Type 0
+Judges g lines output status =
+    (IsSettledChoice g lines × PassesTooFar lines × Says (codes "accepted") Done output status)
+    ⊎ ((fault : Fault) × IsFirstFault g lines fault × Says (codes "not accepted " ++ fault_text fault) Refused output status)
+
+-- it is judged for the network as it stands at that time
+abbrev pub JudgesAt : DocumentState → Option ℕ → List SystemLine → List (List ℕ) → Status → Type 0
+JudgesAt d until lines output status =
+    (g : Snapshot) × IsSnapshot d (moment_of until d) g × Judges g lines output status
+
+-- a certificate that is refused
+abbrev pub RefusesCertificate : CertificateFault → List (List ℕ) → Status → Type 0
+RefusesCertificate fault = Says (codes "certificate refused " ++ certificates.fault_text fault) Refused
+
+-- a text is a certificate, which is judged, or fails a test
+abbrev pub AnswersCertificate : DocumentState → Option ℕ → List ℕ → List (List ℕ) → Status → Type 0
+AnswersCertificate d until input output status =
+    ((lines : List SystemLine) × (input ≡ certificate_text lines) × IsReadable lines × JudgesAt d until lines output status)
+    ⊎ ((fault : CertificateFault) × Fails input fault × RefusesCertificate fault output status)
+
+-- so it is with one within its size, for a text that is a document
+abbrev pub AnswersBoth : Option ℕ → List ℕ → List ℕ → List (List ℕ) → Status → Type 0
+AnswersBoth until certificate document output status =
+    ((d : DocumentState) × Means document d
+    × Limited certificate_limit (AnswersCertificate d until) (RefusesCertificate Line) certificate output status)
+    ⊎ ((fault : DocumentFault) × FailsDocument document fault × RefusesFault fault output status)
+
+abbrev pub CheckText : Option ℕ → List ℕ → List ℕ → List (List ℕ) → Status → Type 0
+CheckText until certificate = Limited document_limit (AnswersBoth until certificate) (RefusesFault TooMany)

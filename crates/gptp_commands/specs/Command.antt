@@ -1,0 +1,189 @@
+-- Command lines that are read: what the parser is told, and the words that it takes then.
+use Rattle.std.specs.Prelude.{◌≡◌, ◌≢◌, ◌⊎◌, ◌<◌, ◌≤◌, ◌^◌, ⊤, IfSome, ℕ, Bool, true, false, pos, List, [], ◌∷◌, Option, Some, None, drop, codes, string_bytes}
+use Rattle.std.specs.Str.Parse.{IsNumeral, digits_value, without_leading_plus}
+use Rattle.clap.specs.Words.{App, Row, Rule, first_of, new_app, new_rule, one_of, subcommand_name_of, subcommand_of, subcommand_rows_of, with_rule, with_subcommand}
+use Rattle.clap.specs.Lexer.{strip_byte}
+use Rattle.clap.specs.declared.builder.action.ArgAction.TheVariants.{Set, SetTrue}
+use Rattle.clap.specs.declared.builder.value_parser.ValueParser.TheVariants.{Signed, Unsigned}
+use Rattle.clap.specs.declared.parser.matches.ArgMatches.{ArgMatches}
+use Rattle.clap.specs.Simple.{on_top}
+use Rattle.gptp_commands.specs.declared.command.CheckOptions.{CheckOptions}
+use Rattle.gptp_commands.specs.declared.command.CommandLineError.{CommandLineError}
+use Rattle.gptp_commands.specs.declared.command.CommandLineError.TheVariants.{Memory, NotText, NotRead}
+use Rattle.gptp_commands.specs.declared.command.Order.{Order}
+use Rattle.gptp_commands.specs.declared.command.Order.TheVariants.{Check, Compare, Run}
+use Rattle.gptp_commands.specs.declared.run.RunOptions.{RunOptions}
+
+-- `--until NS`, at most 10^15
+abbrev pub until_rule : Rule
+until_rule = record (new_rule (codes "until")) {
+  long = Some (codes "until");
+  action = Some Set;
+  value_names = 1;
+  parser = Some (Unsigned 0 1000000000000000);
+}
+
+-- `--seed N`, below 2^32, and 1 where it isn't given
+abbrev pub seed_rule : Rule
+seed_rule = record (new_rule (codes "seed")) {
+  long = Some (codes "seed");
+  action = Some Set;
+  value_names = 1;
+  defaults = codes "1" ∷ [];
+  parser = Some (Signed (pos 0) (pos 4294967295));
+}
+
+-- `--frames`
+abbrev pub frames_rule : Rule
+frames_rule = record (new_rule (codes "frames")) { long = Some (codes "frames"); action = Some SetTrue }
+
+-- `--certificate`
+abbrev pub certificate_rule : Rule
+certificate_rule =
+    record (new_rule (codes "certificate")) { long = Some (codes "certificate"); action = Some SetTrue }
+
+-- `FILE`, which has to be given
+abbrev pub file_rule : Rule
+file_rule = record (new_rule (codes "file")) { action = Some Set; value_names = 1; required = true }
+
+-- the command `compare`, which has no options, the command `run`, which has four, and the command `check`, which has a
+-- file and one option
+abbrev pub compare_command : App
+compare_command = new_app (codes "compare")
+
+-- without those that say what is written
+abbrev pub played_command : App
+played_command = with_rule (with_rule (new_app (codes "run")) until_rule) seed_rule
+
+abbrev pub run_command : App
+run_command = with_rule (with_rule played_command frames_rule) certificate_rule
+
+abbrev pub check_command : App
+check_command = with_rule (with_rule (new_app (codes "check")) file_rule) until_rule
+
+-- the program with its three commands, of which one has to be named; first with `compare` alone
+abbrev pub first_program : App
+first_program =
+    let top = on_top (λ top. record top { subcommand_required = true }) (new_app (codes "gptp_sim")) in
+    with_subcommand top compare_command.top
+
+abbrev pub program : App
+program = with_subcommand (with_subcommand first_program run_command.top) check_command.top
+
+-- ---- the words that name a command
+
+-- words that name `compare`, and nothing behind it but the mark `--`, which ends the options
+abbrev pub IsCompare : List (List ℕ) → Type 0
+IsCompare words = (words ≡ codes "compare" ∷ []) ⊎ (words ≡ codes "compare" ∷ codes "--" ∷ [])
+
+-- words that begin with the name of a command, whatever stands behind it
+abbrev pub BeginsWith : List ℕ → List (List ℕ) → Type 0
+BeginsWith name words = (others : List (List ℕ)) × (words ≡ name ∷ others)
+
+-- a command line, the program's name first
+abbrev pub NamesCompare : List (List ℕ) → Type 0
+NamesCompare words = IsCompare (drop 1 words)
+
+abbrev pub NamesRun : List (List ℕ) → Type 0
+NamesRun words = BeginsWith (codes "run") (drop 1 words)
+
+abbrev pub NamesCheck : List (List ℕ) → Type 0
+NamesCheck words = BeginsWith (codes "check") (drop 1 words)
+
+-- a text that begins with no hyphen (45)
+abbrev pub IsNoOption : List ℕ → Type 0
+IsNoOption text = strip_byte 45 text ≡ None
+
+-- `check` with a file and nothing else
+abbrev pub ChecksOnly : List ℕ → List (List ℕ) → Type 0
+ChecksOnly file words = (drop 1 words ≡ codes "check" ∷ file ∷ []) × IsNoOption file
+
+-- a command with nothing that may be left out: such a command line is read
+abbrev pub IsPlain : List (List ℕ) → Type 0
+IsPlain words = NamesCompare words ⊎ ((drop 1 words ≡ codes "run" ∷ []) ⊎ ((file : List ℕ) × ChecksOnly file words))
+
+-- ---- the options, by the texts that the parser finds
+
+-- the text is the number in decimal digits; a plus may stand first
+abbrev pub WritesNumber : List ℕ → ℕ → Type 0
+WritesNumber text number =
+    IsNumeral 10 (without_leading_plus text) × (digits_value 10 (without_leading_plus text) ≡ number)
+
+-- the time of `--until` is in its range
+abbrev pub IsEndInRange : Option ℕ → Type 0
+IsEndInRange until = IfSome until (λ until. until ≤ 1000000000000000)
+
+-- the time of `--until`, by its text
+pub record IsUntil (found : Option (List ℕ)) (until : Option ℕ) : Type 0 where
+  pub range : IsEndInRange until
+  pub none : found ≡ None → until ≡ None
+  pub given : (text : List ℕ) (number : ℕ) → found ≡ Some text → WritesNumber text number
+      → number ≤ 1000000000000000 → until ≡ Some number
+
+-- the seed of `--seed`, by its text
+pub record IsSeed (found : Option (List ℕ)) (seed : ℕ) : Type 0 where
+  pub range : seed < 2 ^ 32
+  pub given : (text : List ℕ) (number : ℕ) → found ≡ Some text → WritesNumber text number
+      → number < 2 ^ 32 → seed ≡ number
+
+-- a flag, by its text
+pub record IsFlag (found : Option (List ℕ)) (flag : Bool) : Type 0 where
+  pub set : found ≡ Some (codes "true") → flag ≡ true
+  pub unset : found ≡ Some (codes "false") → flag ≡ false
+
+-- the options of `run`, by what was found for its arguments
+pub record ReadsRun (rows : List Row) (options : RunOptions) : Type 0 where
+  pub until : IsUntil (one_of (codes "until") rows) options.until
+  pub seed : IsSeed (one_of (codes "seed") rows) options.seed
+  pub frames : IsFlag (one_of (codes "frames") rows) options.frames
+  pub certificate : IsFlag (one_of (codes "certificate") rows) options.certificate
+
+-- the file and the option of `check`, by what was found for its arguments
+pub record ReadsCheck (rows : List Row) (options : CheckOptions) : Type 0 where
+  pub file : (text : List ℕ) → first_of (codes "file") rows ≡ Some text → string_bytes options.file ≡ text
+  pub until : IsUntil (one_of (codes "until") rows) options.until
+
+-- ---- what a command line asks for
+
+-- the command that was entered is `run`, with these options
+abbrev pub IsRunOf : Option (List ℕ × List Row) → RunOptions → Type 0
+IsRunOf entered options = (rows : List Row) × (entered ≡ Some (codes "run", rows)) × ReadsRun rows options
+
+-- it is `check`, with these options
+abbrev pub IsCheckOf : Option (List ℕ × List Row) → CheckOptions → Type 0
+IsCheckOf entered options = (rows : List Row) × (entered ≡ Some (codes "check", rows)) × ReadsCheck rows options
+
+-- what the matches of a command line ask for
+abbrev pub Enters : ArgMatches → Order → Type 0
+Enters m Compare =
+    (subcommand_name_of m ≢ Some (codes "run")) × (subcommand_name_of m ≢ Some (codes "check"))
+Enters m (Run options) = IsRunOf (subcommand_rows_of m) options
+Enters m (Check options) = IsCheckOf (subcommand_rows_of m) options
+
+-- what its words ask for: the command that they name, with what the parser finds behind its name
+abbrev pub AsksFor : List (List ℕ) → Order → Type 0
+AsksFor words Compare = NamesCompare words
+AsksFor words (Run options) = NamesRun words × IsRunOf (subcommand_of program words) options
+AsksFor words (Check options) = NamesCheck words × IsCheckOf (subcommand_of program words) options
+
+-- the numbers of the options of `run` are in their ranges
+abbrev pub AreInRange : RunOptions → Type 0
+AreInRange options = IsEndInRange options.until × (options.seed < 2 ^ 32)
+
+-- the numbers of the options of a command are in their ranges
+abbrev pub OrderIsInRange : Order → Type 0
+OrderIsInRange Compare = ⊤
+OrderIsInRange (Run options) = AreInRange options
+OrderIsInRange (Check options) = IsEndInRange options.until
+
+-- ---- where no command runs
+
+-- why no command runs, where an error came: memory ran out, or the error as it came
+abbrev pub MemoryOr : Type 0 → CommandLineError → CommandLineError → Type 0
+MemoryOr ran_out other reason = (ran_out → reason ≡ Memory) × (¬ ran_out → reason ≡ other)
+
+-- the exit status of a process that runs no command
+abbrev pub command_line_status : CommandLineError → ℕ
+command_line_status Memory = 3
+command_line_status (NotText error) = 2
+command_line_status (NotRead error) = 2

@@ -1,0 +1,75 @@
+-- What `run` writes for a document, and its status (profile).
+use Rattle.std.specs.Prelude.{◌≡◌, ◌⊎◌, ℕ, Bool, true, false, List, [], ◌∷◌, ◌++◌, Option, codes, unwrap_or}
+use Rattle.rand_core.specs.Pcg32Seed.{pcg32_seed}
+use Rattle.rand_pcg.specs.Lcg.{Lcg}
+use Rattle.rand_pcg.specs.Pcg.{pcg64_of_seed}
+use Rattle.gptp_links.specs.declared.bounds.Bounds.{Bounds}
+use Rattle.gptp_links.specs.Draws.{drawn}
+use Rattle.gptp_network.specs.declared.fault.DocumentFault.{DocumentFault}
+use Rattle.gptp_network.specs.declared.fault.DocumentFault.TheVariants.{TooMany}
+use Rattle.gptp_network.specs.Document.{DocumentState, Fails, Means}
+use Rattle.gptp_network.specs.Faults.{fault_text}
+use Rattle.gptp_acts.specs.SettlingTime.{settles}
+use Rattle.gptp_acts.specs.World.{WorldState}
+use Rattle.gptp_graph.specs.Labelling.{SystemLine}
+use Rattle.gptp_report.specs.Report.{Reports}
+use Rattle.gptp_report.specs.Run.{LeadsTo}
+use Rattle.gptp_certificate.specs.CertificateText.{certificate_lines}
+use Rattle.gptp_certificate.specs.Stated.{States}
+use Rattle.gptp_commands.specs.declared.failure.Status.{Status}
+use Rattle.gptp_commands.specs.declared.failure.Status.TheVariants.{Done, Refused}
+use Rattle.gptp_commands.specs.declared.run.RunOptions.{RunOptions}
+use Rattle.gptp_commands.specs.Limited.{Limited}
+
+-- how many octets a document may have
+abbrev pub document_limit : ℕ
+document_limit = 33554432
+
+-- the end of the run, where none is asked for: when the network has settled, or would have if it were calm
+abbrev pub until_of : RunOptions → DocumentState → ℕ
+until_of options d = unwrap_or options.until (settles d.network d.events)
+
+-- delays and losses are drawn from the generator of the seed
+abbrev pub draws : Bounds → ℕ → Lcg → Option ℕ → Lcg → Type 0
+draws bounds sent before answer after = (answer, after) ≡ drawn bounds before
+
+abbrev pub generator : ℕ → Lcg
+generator seed = pcg64_of_seed (pcg32_seed 32 seed)
+
+-- the lines of the frames, where they are asked for, and the report of the world that the document leads to
+pub record ReportsRun (d : DocumentState) (options : RunOptions) (w : WorldState) (lines : List (List ℕ)) : Type 0 where
+  pub frames : List (List ℕ)
+  pub leads : LeadsTo draws d (until_of options d) options.frames (generator options.seed) w frames
+  pub report : List (List ℕ)
+  pub reports : Reports d (until_of options d) w report
+  pub are : lines ≡ frames ++ report
+
+-- the certificate of a world, where it is asked for
+abbrev pub CertifiesIf : Bool → WorldState → List (List ℕ) → Type 0
+CertifiesIf true w lines = (stated : List SystemLine) × States w stated × (lines ≡ certificate_lines stated)
+CertifiesIf false w lines = lines ≡ []
+
+-- the text of the run of a document
+pub record PlaysDocument (d : DocumentState) (options : RunOptions) (output : List (List ℕ)) (status : Status)
+    : Type 0 where
+  pub world : WorldState
+  pub report : List (List ℕ)
+  pub reports : ReportsRun d options world report
+  pub certificate : List (List ℕ)
+  pub certifies : CertifiesIf options.certificate world certificate
+  pub lines : output ≡ report ++ certificate
+  pub status_is : status ≡ Done
+
+-- a document that is refused
+pub record RefusesFault (fault : DocumentFault) (output : List (List ℕ)) (status : Status) : Type 0 where
+  pub shown : output ≡ (codes "refused " ++ fault_text fault) ∷ []
+  pub status_is : status ≡ Refused
+
+-- an input is a document, which is run, or fails a test
+abbrev pub AnswersDocument : RunOptions → List ℕ → List (List ℕ) → Status → Type 0
+AnswersDocument options input output status =
+    ((d : DocumentState) × Means input d × PlaysDocument d options output status)
+    ⊎ ((fault : DocumentFault) × Fails input fault × RefusesFault fault output status)
+
+abbrev pub RunText : RunOptions → List ℕ → List (List ℕ) → Status → Type 0
+RunText options = Limited document_limit (AnswersDocument options) (RefusesFault TooMany)

@@ -1,0 +1,394 @@
+//! The command line: which command runs, and how the process ends.
+
+ghost use Rattle.std.specs.Prelude.{◌≡◌, ◌≤◌, IfErr, IfOk, codes, false, map, string_bytes};
+ghost use Rattle.std.specs.Process.{exit_status as process_status};
+ghost use Rattle.clap.specs.Words.{app_of, found_of, one_text, rows_of, rule_of};
+ghost use Rattle.clap.specs.declared.builder.command.Command.TheViews.{out-Command as fields_of};
+ghost use Rattle.gptp_commands.specs.Command.{AsksFor, Enters, IsPlain, IsUntil, IsSeed, OrderIsInRange, ReadsCheck, ReadsRun};
+ghost use Rattle.gptp_commands.specs.Command.{IsEndInRange, command_line_status, program};
+ghost use Rattle.gptp_commands.specs.Command.{certificate_rule, file_rule, frames_rule, seed_rule, until_rule};
+ghost use Rattle.gptp_commands.specs.Command.{check_command, first_program, played_command, run_command};
+ghost use Rattle.gptp_commands.specs.declared.command.CommandLineError.TheVariants.{Memory};
+
+use crate::check::check;
+use crate::compare::compare_lines;
+use crate::failure::{SimError, Status, exit_status};
+use crate::run::RunOptions;
+use crate::sink::{CountedWriter, Sink};
+use crate::source::{CountedReader, Source};
+use clap::error::ErrorKind;
+use clap::{Arg, ArgAction, ArgMatches, Command};
+use std::alloc::{AllocError, Global};
+use std::env::{self, Env};
+use std::process::ExitCode;
+use std::rt::Files;
+use std::{fs, io};
+use thiserror::Error;
+
+/// The exit status where the command line isn't read.
+const NOT_READ: u8 = 2;
+
+/// The latest time that `--until` may give, in ns.
+const MOST_UNTIL: u64 = 1_000_000_000_000_000;
+
+/// What help says of the input of `compare`.
+const COMPARE_HELP: &str = "\
+Input: standard input, of at most 1 MiB (1,048,576 octets). Each line has two Announce messages in
+hexadecimal, with a blank between them.
+Example: gptp_sim compare < examples/announces.txt";
+
+/// What help says of the input of `run`.
+const RUN_HELP: &str = "\
+Input: standard input, a document in TOML of at most 32 MiB (33,554,432 octets), such as
+  version = 1
+  [[system]]
+  clock = '00a0deFFFE000001'
+  ports = 1
+Example: gptp_sim run --until 5000000000 --seed 7 < examples/vehicle.toml";
+
+/// What help says of the inputs of `check`.
+const CHECK_HELP: &str = "\
+Input: standard input, a document in TOML of at most 32 MiB (33,554,432 octets), and FILE, a
+certificate of at most 1 MiB (1,048,576 octets), such as 'run --certificate' writes.
+Example: gptp_sim check certificate.txt < examples/vehicle.toml";
+
+/// What is asked of `check`.
+#[derive(Debug, Drop, PartialEq, Eq)]
+pub struct CheckOptions {
+    /// The path of the file that holds the certificate.
+    pub file: String,
+    /// The time of the network that is meant, in ns, at most 10^15; `None` where it is the network after all
+    /// events.
+    pub until: Option<u64>,
+}
+
+/// What a command line asks for.
+#[derive(Debug, Drop, PartialEq, Eq)]
+enum Order {
+    /// The command `compare`.
+    Compare,
+    /// The command `run`, with these options.
+    Run(RunOptions),
+    /// The command `check`, with these options.
+    Check(CheckOptions),
+}
+
+/// Why no command runs.
+#[derive(Debug, Drop, Error)]
+enum CommandLineError {
+    /// Memory ran out.
+    #[error("memory\n")]
+    Memory,
+    /// A word isn't text.
+    #[error("{0}\n")]
+    NotText(io::Error),
+    /// The words name no command. The parser's text has its own line feeds.
+    #[error("{0}")]
+    NotRead(clap::Error),
+}
+
+impl CommandLineError {
+    /// The exit status of a process that runs no command.
+    fn status(&self) -> u8
+        ensures { result ≡ command_line_status self.now }
+    {
+        match self {
+            CommandLineError::Memory => exit_status(&Err(SimError::Memory)),
+            CommandLineError::NotText(_) | CommandLineError::NotRead(_) => NOT_READ,
+        }
+    }
+}
+
+impl From<AllocError> for CommandLineError {
+    ghost from_gives = { λ _ e. e ≡ Memory };
+
+    fn from(_error: AllocError) -> CommandLineError {
+        CommandLineError::Memory
+    }
+}
+
+impl From<io::Error> for CommandLineError {
+    ghost use Rattle.std.specs.Prelude.{◌≡◌};
+    ghost use Rattle.std.specs.IoError.{error_kind};
+    ghost use Rattle.std.specs.declared.io.ErrorKind.TheVariants.{OutOfMemory};
+    ghost use Rattle.gptp_commands.specs.Command.{MemoryOr};
+    ghost use Rattle.gptp_commands.specs.declared.command.CommandLineError.TheVariants.{NotText};
+
+    ghost from_gives = { λ error e. MemoryOr (error_kind error ≡ OutOfMemory) (NotText error) e };
+
+    fn from(error: io::Error) -> CommandLineError {
+        if error.kind() == io::ErrorKind::OutOfMemory {
+            CommandLineError::Memory
+        } else {
+            CommandLineError::NotText(error)
+        }
+    }
+}
+
+impl From<clap::Error> for CommandLineError {
+    ghost use Rattle.std.specs.Prelude.{◌≡◌};
+    ghost use Rattle.clap.specs.Words.{kind_of};
+    ghost use Rattle.clap.specs.declared.error.kind.ErrorKind.TheVariants.{OutOfMemory};
+    ghost use Rattle.gptp_commands.specs.Command.{MemoryOr};
+    ghost use Rattle.gptp_commands.specs.declared.command.CommandLineError.TheVariants.{NotRead};
+
+    ghost from_gives = { λ error e. MemoryOr (kind_of error ≡ OutOfMemory) (NotRead error) e };
+
+    fn from(error: clap::Error) -> CommandLineError {
+        if error.kind() == ErrorKind::OutOfMemory {
+            CommandLineError::Memory
+        } else {
+            CommandLineError::NotRead(error)
+        }
+    }
+}
+
+/// The option that gives a time, of which help says what is meant.
+fn until_option<'a>(alloc: Global, help: &'a str) -> Arg<'a>
+    ensures rule { rule_of result ≡ until_rule }
+    ensures local { result.global ≡ false }
+{
+    Arg::new(alloc, "until")
+        .long("until")
+        .action(ArgAction::Set)
+        .value_name("NS")
+        .value_parser(clap::value_parser!(u64).range(0..=1_000_000_000_000_000))
+        .help(help)
+}
+
+/// The option of `run` that chooses delays and losses.
+fn seed_option<'a>(alloc: Global) -> Arg<'a>
+    ensures rule { rule_of result ≡ seed_rule }
+    ensures local { result.global ≡ false }
+{
+    Arg::new(alloc, "seed")
+        .long("seed")
+        .action(ArgAction::Set)
+        .value_name("N")
+        .value_parser(clap::value_parser!(u32))
+        .default_value("1")
+        .help("The seed of delays and losses")
+}
+
+/// The option of `run` that asks for lines on frames.
+fn frames_option<'a>(alloc: Global) -> Arg<'a>
+    ensures rule { rule_of result ≡ frames_rule }
+    ensures local { result.global ≡ false }
+{
+    Arg::new(alloc, "frames")
+        .long("frames")
+        .action(ArgAction::SetTrue)
+        .help("Write a line for each frame")
+}
+
+/// The option of `run` that asks for the certificate.
+fn certificate_option<'a>(alloc: Global) -> Arg<'a>
+    ensures rule { rule_of result ≡ certificate_rule }
+    ensures local { result.global ≡ false }
+{
+    Arg::new(alloc, "certificate")
+        .long("certificate")
+        .action(ArgAction::SetTrue)
+        .help("Write what each system has chosen, as a certificate")
+}
+
+/// The argument of `check` that says where the certificate is.
+fn file_argument<'a>(alloc: Global) -> Arg<'a>
+    ensures rule { rule_of result ≡ file_rule }
+    ensures local { result.global ≡ false }
+{
+    Arg::new(alloc, "file")
+        .required(true)
+        .action(ArgAction::Set)
+        .value_name("FILE")
+        .help("The file that holds the certificate")
+}
+
+/// The command `run` with the options that say how the network runs.
+fn played_grammar<'a>(alloc: Global) -> Result<Command<'a>, AllocError>
+    ensures app { IfOk result (λ command. app_of command ≡ played_command) }
+    ensures local { IfOk result (λ command. (fields_of command).has_globals ≡ false) }
+{
+    Command::new(alloc, "run")
+        .about("Runs the network of a document and says what each system follows")
+        .after_help(RUN_HELP)
+        .arg(until_option(
+            alloc,
+            "When the run ends, in ns; by default when the network has settled",
+        ))?
+        .arg(seed_option(alloc))
+}
+
+/// The command `run` with all its options.
+fn run_grammar<'a>(alloc: Global) -> Result<Command<'a>, AllocError>
+    ensures app { IfOk result (λ command. app_of command ≡ run_command) }
+    ensures local { IfOk result (λ command. (fields_of command).has_globals ≡ false) }
+{
+    played_grammar(alloc)?
+        .arg(frames_option(alloc))?
+        .arg(certificate_option(alloc))
+}
+
+/// The command `check` with its file and its option.
+fn check_grammar<'a>(alloc: Global) -> Result<Command<'a>, AllocError>
+    ensures app { IfOk result (λ command. app_of command ≡ check_command) }
+    ensures local { IfOk result (λ command. (fields_of command).has_globals ≡ false) }
+{
+    Command::new(alloc, "check")
+        .about("Says whether a certificate is the choice that a network settles at")
+        .after_help(CHECK_HELP)
+        .arg(file_argument(alloc))?
+        .arg(until_option(
+            alloc,
+            "The time of the network that is meant, in ns; by default after all events",
+        ))
+}
+
+/// The program with its first command, of which one has to be named.
+fn first_grammar<'a>(alloc: Global) -> Result<Command<'a>, AllocError>
+    ensures app { IfOk result (λ command. app_of command ≡ first_program) }
+    ensures local { IfOk result (λ command. (fields_of command).has_globals ≡ false) }
+{
+    let compare = Command::new(alloc, "compare")
+        .about("Says of each line of two Announces which announces the better vector")
+        .after_help(COMPARE_HELP);
+    Command::new(alloc, "gptp_sim")
+        .about("Simulates networks that run gPTP")
+        .subcommand_required(true)
+        .subcommand(compare)
+}
+
+/// What the command line may say.
+fn grammar<'a>(alloc: Global) -> Result<Command<'a>, AllocError>
+    ensures { IfOk result (λ command. app_of command ≡ program) }
+{
+    first_grammar(alloc)?
+        .subcommand(run_grammar(alloc)?)?
+        .subcommand(check_grammar(alloc)?)
+}
+
+/// The time that `--until` gives. The parser lets no number through that is above the most.
+fn until_in(matches: &ArgMatches) -> Option<u64>
+    ensures { IsUntil (one_text (found_of matches.now) (codes "until")) result }
+{
+    matches
+        .get_one::<u64>("until")
+        .filter(|until| *until <= MOST_UNTIL)
+}
+
+/// The seed that the command line gives, or its default.
+fn seed_in(matches: &ArgMatches) -> u32
+    ensures { IsSeed (one_text (found_of matches.now) (codes "seed")) result }
+{
+    matches.get_one::<u32>("seed").unwrap_or(1)
+}
+
+/// What is asked of `run`.
+fn options_in(matches: &ArgMatches) -> RunOptions
+    ensures { ReadsRun (rows_of (found_of matches.now)) result }
+{
+    RunOptions {
+        until: until_in(matches),
+        seed: u64::from(seed_in(matches)),
+        frames: matches.get_flag("frames"),
+        certificate: matches.get_flag("certificate"),
+    }
+}
+
+/// What is asked of `check`. The parser lets no command line through that gives no file.
+fn check_options_in(alloc: Global, matches: &ArgMatches) -> Result<CheckOptions, AllocError>
+    ensures { IfOk result (ReadsCheck (rows_of (found_of matches.now))) }
+{
+    let file = matches.get_str("file").unwrap_or("");
+    Ok(CheckOptions {
+        file: String::from_str(alloc, file)?,
+        until: until_in(matches),
+    })
+}
+
+/// What is asked for, by the command that the parser entered.
+fn order_in(alloc: Global, matches: &ArgMatches) -> Result<Order, AllocError>
+    ensures { IfOk result (Enters matches.now) }
+{
+    match matches.subcommand() {
+        Some(("run", matches)) => Ok(Order::Run(options_in(matches))),
+        Some(("check", matches)) => Ok(Order::Check(check_options_in(alloc, matches)?)),
+        _ => Ok(Order::Compare),
+    }
+}
+
+/// Reads the words of a command line, the program's name first: the command that they name, with its
+/// options.
+///
+/// NotRead where they name no command, or anything that the command doesn't take, or ask for help;
+/// Memory.
+fn read_words(alloc: Global, words: &[String]) -> Result<Order, CommandLineError>
+    ensures asks { IfOk result (AsksFor (map string_bytes words.now)) }
+    ensures refused { IfErr result (λ e. IsPlain (map string_bytes words.now) → e ≡ Memory) }
+{
+    let matches = grammar(alloc)?.try_get_matches_from(words)?;
+    Ok(order_in(alloc, &matches)?)
+}
+
+/// Reads the command line.
+fn read_command_line<R: Env + AllocGlobal>(rt: &R) -> Result<Order, CommandLineError>
+    ensures { IfOk result OrderIsInRange }
+{
+    let alloc = rt.alloc();
+    let words: Vec<String> = env::args(rt)?.collect(alloc)?;
+    read_words(alloc, words.as_slice())
+}
+
+/// Checks the certificate in a file against a document.
+///
+/// Read also where the file can't be opened, and then nothing is written.
+fn check_file<R: Files + AllocGlobal, S: Source, K: Sink>(
+    rt: &R,
+    document: &mut S,
+    sink: &mut K,
+    options: &CheckOptions,
+) -> Result<Status, SimError>
+    requires { IsEndInRange options.now.until }
+{
+    let Ok(file) = fs::open(rt, options.file.as_str()) else {
+        return Err(SimError::Read);
+    };
+    let mut certificate = CountedReader::new(file);
+    check(rt.alloc(), document, &mut certificate, sink, options.until)
+}
+
+/// Runs a command from standard input to standard output.
+fn carry_out<R: Input + Print + Files + AllocGlobal>(
+    rt: &R,
+    order: &Order,
+) -> Result<Status, SimError>
+    requires { OrderIsInRange order.now }
+{
+    let mut source = CountedReader::new(rt.reader());
+    let mut sink = CountedWriter::new(io::writer(rt));
+    match order {
+        Order::Compare => compare_lines(rt.alloc(), &mut source, &mut sink),
+        Order::Run(options) => crate::run::run(rt.alloc(), &mut source, &mut sink, options),
+        Order::Check(options) => check_file(rt, &mut source, &mut sink, options),
+    }
+}
+
+/// Runs what the command line says, and tells of errors on standard error. The process ends with 0, 1 or
+/// 3 after a command, and with 2 or 3 where none runs.
+pub fn run<R: Env + Input + Print + Eprint + Files + AllocGlobal>(rt: &R) -> ExitCode
+    ensures { process_status result ≤ 3 }
+{
+    match read_command_line(rt) {
+        Ok(order) => {
+            let outcome = carry_out(rt, &order);
+            if let Err(error) = &outcome {
+                let _ = eprintln!(rt; "{error}");
+            }
+            ExitCode::from(exit_status(&outcome))
+        }
+        Err(error) => {
+            let _ = eprint!(rt; "{error}");
+            ExitCode::from(error.status())
+        }
+    }
+}
