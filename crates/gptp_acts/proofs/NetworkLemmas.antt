@@ -1,5 +1,5 @@
 -- What a network keeps when a system or a link is added.
-use Rattle.std.proofs.Common.{◌≡◌, inl, inr, ℕ, ◌+◌, List, [], ◌∷◌, ◌++◌, length, Some, slice_get, sym, ap, subst, ◌∙◌, arith}
+use Rattle.std.proofs.Common.{◌≡◌, ◌<◌, ◌^◌, inl, inr, ℕ, ◌+◌, List, [], ◌∷◌, ◌++◌, length, Some, slice_get, sym, ap, subst, ◌∙◌, arith}
 use Rattle.std.proofs.lemmas.List.{length-append}
 use Rattle.std.proofs.lemmas.Option.{none-some}
 use Rattle.gptp_vector.specs.declared.port.PortId.{PortId}
@@ -17,6 +17,7 @@ none_yet p h = record {
   few_systems = omega arith;
   few_links = omega arith;
   systems = λ i m e. absurd (none-some m e);
+  identities = λ i m e. absurd (none-some m e);
   clocks = λ i j l m e f same. absurd (none-some l e);
   links = λ i w e. absurd (none-some w e);
   one_link = λ i j v w q e f at_v at_w. absurd (none-some v e);
@@ -36,14 +37,19 @@ kept_port systems m p h = record {
   last = h.last;
 }
 
-pub system_added : (n : NetworkState) (m : Member) → IsNetwork n → CanAddSystem n m → IsNetwork (with_system m n)
-system_added n m h c = record {
+pub system_added : (n : NetworkState) (m : Member) → IsNetwork n → CanAddSystem n m → m.identity < 2 ^ 112
+    → IsNetwork (with_system m n)
+system_added n m h c octets = record {
   params = h.params;
   few_systems = let e = length_behind n.systems m in let r = c.room in omega arith;
   few_links = h.few_links;
   systems = λ i x e. elim (behind n.systems m x i e) [
     | inl f ↦ h.systems i x f
     | inr f ↦ subst IsMember f.1 c.limits
+  ];
+  identities = λ i x e. elim (behind n.systems m x i e) [
+    | inl f ↦ h.identities i x f
+    | inr f ↦ subst (λ (y : Member). y.identity < 2 ^ 112) f.1 octets
   ];
   clocks = λ i j l x e f same. elim (behind n.systems m l i e) [
     | inl e' ↦ elim (behind n.systems m x j f) [
@@ -91,6 +97,7 @@ link_added n w h c = record {
   few_systems = h.few_systems;
   few_links = let e = length_behind n.links w in let r = c.room in omega arith;
   systems = h.systems;
+  identities = h.identities;
   clocks = h.clocks;
   links = λ i x e. elim (behind n.links w x i e) [
     | inl f ↦ kept_wire n w x i (h.links i x f)

@@ -139,13 +139,14 @@ pub record CanAddLink (n : NetworkState) (w : Wire) : Type 0 where
   pub free_a : IsFree n.links w.a
   pub free_b : IsFree n.links w.b
 
--- What holds of every network: its values are within the limits, clocks differ, a link joins ports of two systems, and
--- a port has one link at most.
+-- What holds of every network: its values are within the limits, identities have fourteen octets, clocks differ, a link
+-- joins ports of two systems, and a port has one link at most.
 pub record IsNetwork (n : NetworkState) : Type 0 where
   pub params : KeepParams n.params
   pub few_systems : length n.systems ≤ 512
   pub few_links : length n.links ≤ 2048
   pub systems : (i : ℕ) (m : Member) → slice_get n.systems i ≡ Some m → IsMember m
+  pub identities : (i : ℕ) (m : Member) → slice_get n.systems i ≡ Some m → m.identity < 2 ^ 112
   pub clocks : (i j : ℕ) (l m : Member) → slice_get n.systems i ≡ Some l → slice_get n.systems j ≡ Some m
       → clock_of l.identity ≡ clock_of m.identity → i ≡ j
   pub links : (i : ℕ) (w : Wire) → slice_get n.links i ≡ Some w → IsWire n i w

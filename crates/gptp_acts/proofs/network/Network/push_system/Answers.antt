@@ -1,8 +1,8 @@
 -- A network with a system that can be added is a network.
-use Rattle.std.proofs.Common.{subst, sym}
+use Rattle.std.proofs.Common.{rules, subst, sym}
 use Rattle.gptp_acts.specs.Network.{CanAddSystem}
 use Rattle.gptp_acts.proofs.NetworkLemmas.{system_added}
 use Rattle.gptp_acts.proofs.network.Network.push_system.Goals as goal
 
 pub invariant_of-self-2 : goal.invariant_of-self-2
-invariant_of-self-2 c = rw c.in_ok-push.ensures.items (system_added _ c.args.member c.self.invariant (subst (λ n. CanAddSystem n c.args.member) (sym c.self.view_is) c.requires))
+invariant_of-self-2 c = rw c.in_ok-push.ensures.items (system_added _ c.args.member c.self.invariant (subst (λ n. CanAddSystem n c.args.member) (sym c.self.view_is) c.requires) (search rules))
