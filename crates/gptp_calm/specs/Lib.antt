@@ -1,4 +1,0 @@
-pub mod Standing
-pub mod StandingLaws
-pub mod Calm
-pub mod CalmLaws

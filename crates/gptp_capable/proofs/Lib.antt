@@ -1,3 +1,0 @@
-pub mod BeginLemmas
-pub mod KeptLemmas
-pub mod CapableLemmas

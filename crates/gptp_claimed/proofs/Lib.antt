@@ -1,3 +1,0 @@
-pub mod CapableLemmas
-pub mod ClaimLemmas
-pub mod CalmLemmas

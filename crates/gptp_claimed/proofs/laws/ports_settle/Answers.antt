@@ -1,8 +1,0 @@
-use Rattle.gptp_claimed.proofs.CalmLemmas.{claimed_capable, settled_capable}
-use Rattle.gptp_claimed.proofs.laws.ports_settle.Goals as goal
-
-pub returns-clause-ports : goal.returns-clause-ports
-returns-clause-ports c = claimed_capable
-
-pub returns-clause-sooner : goal.returns-clause-sooner
-returns-clause-sooner c = settled_capable

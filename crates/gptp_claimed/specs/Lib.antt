@@ -1,3 +1,0 @@
-pub mod Claim
-pub mod Calm
-pub mod ClaimLaws

@@ -1,0 +1,154 @@
+-- The view of a sound, legible and known world has the facts of which the laws of settling speak.
+use Rattle.std.proofs.Common.{◌≡◌, ◌⊎◌, ◌≤◌, ◌+◌, ◌*◌, ℕ, true, List, Some, slice_get, sym, ap, subst, ◌∙◌, inl, inr, arith}
+use Rattle.std.proofs.lemmas.Bool.{and_from}
+use Rattle.gptp_graph.specs.Members.{In}
+use Rattle.gptp_graph.specs.Snapshot.{Joins, System, clocks}
+use Rattle.gptp_links.specs.declared.link.Direction.{Direction}
+use Rattle.gptp_links.specs.declared.link.Direction.TheVariants.{FromA, FromB}
+use Rattle.gptp_links.specs.Queue.{Frame}
+use Rattle.gptp_system.specs.declared.setup.Params.{Params}
+use Rattle.gptp_system.specs.Follows.{FollowsItself, FollowsPort}
+use Rattle.gptp_system.specs.Intervals.{interval_of}
+use Rattle.gptp_system.specs.State.{clock}
+use Rattle.gptp_acts.specs.Ahead.{IsSteady}
+use Rattle.gptp_acts.specs.declared.station.Station.{Station}
+use Rattle.gptp_acts.specs.Sound.{IsSound}
+use Rattle.gptp_acts.specs.World.{Channel, WorldState, queue, receiver, sender}
+use Rattle.gptp_settling.specs.Facts.{Facts, FollowsItself as SeenItself, FollowsPort as SeenFollows, IsInTime, IsStation, Setting}
+use Rattle.gptp_settling.specs.Frame.{Frame as SeenFrame, Lane}
+use Rattle.gptp_settling.specs.Network.{setting}
+use Rattle.gptp_settling.specs.Station.{Reception as SeenReception, Station as SeenStation, HoldsAt}
+use Rattle.gptp_kept.specs.Known.{IsKnown}
+use Rattle.gptp_kept.proofs.KnownAtRestLemmas.{systems_follow}
+use Rattle.gptp_kept.proofs.DueLemmas.{frames_on_links, ports_known}
+use Rattle.gptp_kept.specs.View.{frame_view, lane_view, lanes_view, reception_view, station_view, view}
+use Rattle.gptp_kept.proofs.SeenLaneLemmas.{lane_from}
+use Rattle.gptp_kept.proofs.OrderLemmas.{in_contains}
+use Rattle.gptp_kept.proofs.PlaceLemmas.{In-mapped, station_from}
+use Rattle.gptp_kept.specs.Calm.{network_of}
+use Rattle.gptp_kept.specs.Standing.{has_clock, is_used, live_systems, snapshot_of}
+use Rattle.gptp_kept.proofs.PortLemmas.{held_from, holds_there, same_standing, span_is}
+use Rattle.gptp_kept.proofs.SystemLemmas.{clock_there, live_there}
+use Rattle.gptp_kept.proofs.WayLemmas.{used_joins}
+
+-- ---- frames
+
+-- a frame that is seen on a lane is in flight on a link, in that direction
+pub record IsFrameAt (w : WorldState) (lane : Lane) (seen : SeenFrame) : Type 0 where
+  pub link : ℕ
+  pub direction : Direction
+  pub channel : Channel
+  pub here : slice_get w.net.channels link ≡ Some channel
+  pub lane_is : lane ≡ lane_view direction channel
+  pub frame : Frame
+  pub among : In frame (queue direction channel)
+  pub is : seen ≡ frame_view frame
+
+pub frame_from : (w : WorldState) (j : ℕ) (lane : Lane) (seen : SeenFrame)
+    → slice_get (lanes_view w.net.channels) j ≡ Some lane → In seen lane.frames → IsFrameAt w lane seen
+frame_from w j lane seen there member =
+    let at = lane_from w.net.channels j lane there in
+    let (frame, among, is) = In-mapped frame_view seen (queue at.direction at.channel)
+    (subst (λ (l : Lane). In seen l.frames) at.is member) in
+    record {
+      link = at.link;
+      direction = at.direction;
+      channel = at.channel;
+      here = at.here;
+      lane_is = at.is;
+      frame = frame;
+      among = among;
+      is = is;
+    }
+
+-- a link that is up between two of the systems is used
+used_is : (systems : List System) (direction : Direction) (channel : Channel) → channel.up ≡ true
+    → has_clock systems (sender direction channel).clock ≡ true
+    → has_clock systems (receiver direction channel).clock ≡ true
+    → is_used systems channel ≡ true
+used_is systems FromA channel up from to = and_from channel.up _ up (and_from _ _ from to)
+used_is systems FromB channel up from to = and_from channel.up _ up (and_from _ _ to from)
+
+-- where a frame is in flight from a live system to a live one, the snapshot has that link
+linked : (w : WorldState) → IsSound w → (j : ℕ) (lane : Lane) (seen : SeenFrame)
+    → slice_get (lanes_view w.net.channels) j ≡ Some lane → In seen lane.frames
+    → In lane.from.clock (clocks (snapshot_of w)) → In lane.to.clock (clocks (snapshot_of w))
+    → Joins (snapshot_of w) lane.from lane.to
+linked w sound j lane seen there member from to =
+    let systems = live_systems w.stations in
+    let g = snapshot_of w in
+    let at = frame_from w j lane seen there member in
+    let up = frames_on_links w sound at.link at.direction at.channel at.frame at.here at.among in
+    let sends = subst (λ (l : Lane). In l.from.clock (clocks g)) at.lane_is from in
+    let hears = subst (λ (l : Lane). In l.to.clock (clocks g)) at.lane_is to in
+    let used = used_is systems at.direction at.channel up (clock_there systems _ sends) (clock_there systems _ hears) in
+    subst (λ (l : Lane). Joins g l.from l.to) (sym at.lane_is)
+    (used_joins w at.link at.direction at.channel at.here used)
+
+-- ---- systems
+
+-- it follows itself, or what one of its ports is seen to hold
+follows_seen : (station : Station) → IsSteady station.system
+    → FollowsItself station.system ⊎ FollowsPort station.system
+    → SeenItself (station_view station) ⊎ SeenFollows (station_view station)
+follows_seen station steady (inl k) = inl (record { root = k.root; steps = k.steps; trace = k.path })
+follows_seen station steady (inr k) =
+    let (span, holds) = holds_there station.live station.system steady.shown k.place k.held k.reception k.there k.holds
+    in
+    let more = k.steps in
+    inr (record {
+      place = k.place;
+      r = reception_view span k.reception;
+      holds = holds;
+      root = k.root;
+      steps = omega arith;
+      trace = k.path;
+    })
+
+module _ (p : Params) (start : ℕ) (w : WorldState) (sound : IsSound w) (known : IsKnown p w) where
+  abbrev k : Setting
+  k = setting (network_of p start w)
+
+  -- what a port received is in time
+  in_time : (place : ℕ) (station : Station) → slice_get w.stations place ≡ Some station → station.live ≡ true
+      → (i : ℕ) (seen : SeenReception) → HoldsAt (station_view station) i seen
+      → IsInTime k w.time (clock station.system) seen
+  in_time place station here live i seen holds =
+      let s = station.system in
+      let steady = (sound.on_time.stations place station here).steady in
+      let at = held_from station.live s i seen holds in
+      let span = span_is p station (known.set place station here) i at.port at.there in
+      let within = (ports_known p w sound known place station here live i at.held at.port at.stands at.there).came
+      at.reception at.got in
+      subst (IsInTime k w.time (clock s)) (sym at.is)
+      (record {
+        came = within.least;
+        stays = subst (λ n. w.time ≤ at.reception.at + n) (sym span) within.most;
+        short = subst (λ n. n ≤ p.timeout * interval_of p.announce) (sym span) (omega arith);
+        no_loop = λ member.
+            (steady.held i at.held at.stands at.reception at.got).no_loop (in_contains (clock s) _ member);
+      })
+
+  station_seen : (place : ℕ) (station : Station) → slice_get w.stations place ≡ Some station → station.live ≡ true
+      → IsStation k w.time (station_view station)
+  station_seen place station here live =
+      let steady = (sound.on_time.stations place station here).steady in
+      record {
+        known = subst (λ x. In x (live_systems w.stations)) (same_standing station steady.shown)
+            (live_there w.stations place station here live);
+        follows = follows_seen station steady (systems_follow w sound place station here live);
+        held = in_time place station here live;
+      }
+
+  pub facts : Facts k (view w)
+  facts = record {
+    stations = λ i seen there lives.
+        let at = station_from w.stations i seen there in
+        let live = ap (λ (x : SeenStation). x.live) (sym at.is) ∙ lives in
+        subst (IsStation k w.time) (sym at.is) (station_seen i at.station at.here live);
+    near = λ j lane seen there member.
+        let at = frame_from w j lane seen there member in
+        subst (λ (f : SeenFrame). f.due ≤ w.time + interval_of p.announce) (sym at.is)
+        (known.near at.link at.direction at.channel at.frame at.here at.among);
+    linked = linked w sound;
+  }

@@ -1,0 +1,253 @@
+-- What a delivery and an expiry leave of the network that a world has.
+use Rattle.std.proofs.Common.{◌≡◌, ◌≢◌, ℕ, zero, suc, true, List, [], ◌∷◌, map, Option, Some, None, slice_get, slice_set, refl, sym, ap, subst, ◌∙◌, inl, inr}
+use Rattle.std.specs.Prelude.{if◌then◌else◌, ◌==◌, max}
+use Rattle.std.proofs.lemmas.Option.{same_Some}
+use Rattle.gptp_graph.specs.Snapshot.{PortIdentity, System}
+use Rattle.gptp_vector.specs.declared.port.PortId.{PortId}
+use Rattle.gptp_links.specs.declared.link.Direction.{Direction}
+use Rattle.gptp_links.specs.declared.link.Direction.TheVariants.{FromA, FromB}
+use Rattle.gptp_links.specs.Fate.{Draw}
+use Rattle.gptp_links.specs.Queue.{Frame}
+use Rattle.gptp_system.specs.declared.answer.Answer.{Answer}
+use Rattle.gptp_system.specs.declared.sending.Sending.{Sending}
+use Rattle.gptp_system.specs.declared.setup.Params.{Params}
+use Rattle.gptp_system.specs.declared.timer.Timer.{Timer}
+use Rattle.gptp_system.specs.Input.{Input, Frame as FrameHeard, Priority, Expires as TimerExpires}
+use Rattle.gptp_system.specs.Intervals.{interval_of}
+use Rattle.gptp_system.specs.State.{SystemState, clock, own}
+use Rattle.gptp_system.proofs.StepLemmas.{steps_steady}
+use Rattle.gptp_acts.specs.declared.change.Act.{Act}
+use Rattle.gptp_acts.specs.declared.change.Act.TheVariants.{Deliver, Expire, Change as Changing}
+use Rattle.gptp_acts.specs.declared.done.Done.{Done}
+use Rattle.gptp_acts.specs.declared.station.Station.{Station}
+use Rattle.gptp_acts.specs.Act.{Calls, Delivers, Expires, Hears, all_timers, in_state}
+use Rattle.gptp_acts.specs.Acts.{Acts}
+use Rattle.gptp_acts.specs.Agrees.{stopped}
+use Rattle.gptp_acts.specs.Sends.{SendsAll, SendsOne, entered, written}
+use Rattle.gptp_acts.specs.World.{Channel, Net, WorldState, receiver, with_queue}
+use Rattle.gptp_acts.proofs.ListLemmas.{mapped, mapped_there}
+use Rattle.gptp_acts.proofs.PlaceLemmas.{map-set_same}
+use Rattle.gptp_acts.proofs.SteadyLemmas.{same_clock, same_ports}
+use Rattle.gptp_kept.specs.SeenLaws.{IsNoChange}
+use Rattle.gptp_kept.specs.View.{lane_place}
+use Rattle.gptp_kept.specs.Calm.{IsQuietWorld, greatest_delay, is_port, lane_of, network_of, place_of}
+use Rattle.gptp_kept.specs.Standing.{is_used, joined, live_systems, snapshot_of, standing, used_links}
+
+-- ---- systems
+
+-- one system becomes another that stands as it stood
+systems_kept : (stations : List Station) (place : ℕ) (old new : Station) → slice_get stations place ≡ Some old
+    → new.live ≡ old.live → standing new ≡ standing old
+    → live_systems (slice_set stations place new) ≡ live_systems stations
+systems_kept [] place old new here live same = refl
+systems_kept (first ∷ stations) zero old new here live same =
+    let one = same_Some first old here in
+    let lives : new.live ≡ first.live = live ∙ ap (λ (x : Station). x.live) (sym one) in
+    let stands : standing new ≡ standing first = same ∙ ap standing (sym one) in
+    rw (lives, stands) refl
+systems_kept (first ∷ stations) (suc place) old new here live same =
+    ap (λ rest. if first.live then standing first ∷ rest else rest)
+    (systems_kept stations place old new here live same)
+
+-- one of its clock
+places_kept : (stations : List Station) (place : ℕ) (old new : Station) → slice_get stations place ≡ Some old
+    → clock new.system ≡ clock old.system → (number : ℕ)
+    → place_of (slice_set stations place new) number ≡ place_of stations number
+places_kept [] place old new here same number = refl
+places_kept (first ∷ stations) zero old new here same number =
+    let one = same_Some first old here in
+    let named : clock new.system ≡ clock first.system = same ∙ ap (λ (x : Station). clock x.system) (sym one) in
+    rw named refl
+places_kept (first ∷ stations) (suc place) old new here same number =
+    ap (λ rest. if clock first.system == number then 0 else suc rest)
+    (places_kept stations place old new here same number)
+
+-- ---- links
+
+-- a link without what is in flight on it
+abbrev bare : Channel → Channel
+bare channel = record channel { from_a = []; from_b = [] }
+
+-- links become others in what is in flight on them alone
+abbrev KeepLinks : List Channel → List Channel → Type 0
+KeepLinks before after = map bare after ≡ map bare before
+
+queue_kept : (channels : List Channel) (place : ℕ) (direction : Direction) (channel : Channel) (frames : List Frame)
+    → slice_get channels place ≡ Some channel
+    → KeepLinks channels (slice_set channels place (with_queue direction frames channel))
+queue_kept channels place FromA channel frames here =
+    map-set_same bare channels place channel (with_queue FromA frames channel) here refl
+queue_kept channels place FromB channel frames here =
+    map-set_same bare channels place channel (with_queue FromB frames channel) here refl
+
+entered_kept : (place : ℕ) (direction : Direction) (channel : Channel) (now : ℕ) (octets : List ℕ)
+    (answer : Option ℕ) (net : Net) → slice_get net.channels place ≡ Some channel
+    → KeepLinks net.channels (entered place direction channel now octets answer net).channels
+entered_kept place direction channel now octets None net here = refl
+entered_kept place direction channel now octets (Some delay) net here =
+    queue_kept net.channels place direction channel _ here
+
+sends_one_kept : (now : ℕ) (from : PortId) (octets : List ℕ) (draw : Draw) (net net' : Net)
+    → SendsOne now from octets draw net net' → KeepLinks net.channels net'.channels
+sends_one_kept now from octets draw net net' one =
+    subst (λ (n : Net). KeepLinks net.channels n.channels) (sym one.after)
+    (entered_kept one.place one.direction one.channel now octets draw.answer net one.here)
+
+sends_kept : (now : ℕ) (s : SystemState) (xs : List Sending) (draws : List Draw) (net net' : Net)
+    → SendsAll now s xs draws net net' → KeepLinks net.channels net'.channels
+sends_kept now s [] draws net net' sends = ap (λ (n : Net). map bare n.channels) sends.1
+sends_kept now s (x ∷ xs) draws net net' (inl (draw, rest, between, is, one, sends)) =
+    sends_kept now s xs rest between net' sends
+    ∙ sends_one_kept now (own s x.port) (written s x) draw net between one
+sends_kept now s (x ∷ xs) draws net net' (inr (unlinked, sends)) = sends_kept now s xs draws net net' sends
+
+-- ---- what doesn't look at what is in flight
+
+used_bare : (systems : List System) (channels : List Channel)
+    → used_links systems (map bare channels) ≡ used_links systems channels
+used_bare systems [] = refl
+used_bare systems (first ∷ channels) =
+    ap (λ rest. if is_used systems first then joined first ∷ rest else rest) (used_bare systems channels)
+
+lane_bare : (port : PortIdentity) (channels : List Channel) → lane_of (map bare channels) port ≡ lane_of channels port
+lane_bare port [] = refl
+lane_bare port (first ∷ channels) =
+    ap (λ rest. if is_port first.a port then lane_place 0 FromA
+    else (if is_port first.b port then lane_place 0 FromB else suc (suc rest)))
+    (lane_bare port channels)
+
+delay_bare : (systems : List System) (channels : List Channel)
+    → greatest_delay systems (map bare channels) ≡ greatest_delay systems channels
+delay_bare systems [] = refl
+delay_bare systems (first ∷ channels) =
+    ap (λ rest. if is_used systems first then max first.bounds.max rest else rest) (delay_bare systems channels)
+
+-- so it is the same of links that are kept
+of_kept : {X : Type 0} (f : List Channel → X) → ((channels : List Channel) → f (map bare channels) ≡ f channels)
+    → (before after : List Channel) → KeepLinks before after → f after ≡ f before
+of_kept f each before after kept = sym (each after) ∙ ap f kept ∙ each before
+
+-- ---- the network
+
+-- The systems live that did, and stand where they stood; only what is in flight on the links is another; and the last
+-- change is the same.
+pub record KeepsNetwork (w w' : WorldState) : Type 0 where
+  pub systems : live_systems w'.stations ≡ live_systems w.stations
+  pub places : (number : ℕ) → place_of w'.stations number ≡ place_of w.stations number
+  pub links : KeepLinks w.net.channels w'.net.channels
+  pub change : w'.last_change ≡ w.last_change
+
+keeps_on : (first second third : WorldState) → KeepsNetwork first second → KeepsNetwork second third
+    → KeepsNetwork first third
+keeps_on first second third f g = record {
+  systems = g.systems ∙ f.systems;
+  places = λ number. g.places number ∙ f.places number;
+  links = g.links ∙ f.links;
+  change = g.change ∙ f.change;
+}
+
+-- the links alone are others
+net_keeps : (w : WorldState) (net : Net) → KeepLinks w.net.channels net.channels
+    → KeepsNetwork w (record w { net = net })
+net_keeps w net links = record { systems = refl; places = λ number. refl; links = links; change = refl }
+
+module _ (w w' : WorldState) (k : KeepsNetwork w w') where
+  links_kept : used_links (live_systems w'.stations) w'.net.channels
+      ≡ used_links (live_systems w.stations) w.net.channels
+  links_kept =
+      let systems = live_systems w.stations in
+      ap (λ s. used_links s w'.net.channels) k.systems
+      ∙ of_kept (used_links systems) (used_bare systems) w.net.channels w'.net.channels k.links
+
+  delay_kept : greatest_delay (live_systems w'.stations) w'.net.channels
+      ≡ greatest_delay (live_systems w.stations) w.net.channels
+  delay_kept =
+      let systems = live_systems w.stations in
+      ap (λ s. greatest_delay s w'.net.channels) k.systems
+      ∙ of_kept (greatest_delay systems) (delay_bare systems) w.net.channels w'.net.channels k.links
+
+  lanes_kept : (port : PortIdentity) → lane_of w'.net.channels port ≡ lane_of w.net.channels port
+  lanes_kept port =
+      of_kept (λ channels. lane_of channels port) (lane_bare port) w.net.channels w'.net.channels k.links
+
+  pub same_snapshot : snapshot_of w' ≡ snapshot_of w
+  same_snapshot = λ i. record { systems = k.systems i; links = links_kept i }
+
+  pub same_network : (p : Params) (start : ℕ) → network_of p start w' ≡ network_of p start w
+  same_network p start = λ i. record {
+    graph = same_snapshot i;
+    place = λ number. k.places number i;
+    lane = λ port. lanes_kept port i;
+    interval_of = λ port. interval_of p.announce;
+    interval = interval_of p.announce;
+    most = delay_kept i;
+    timeout = p.timeout;
+    start = start;
+  }
+
+  -- links that are quiet stay so
+  pub stays_quiet : (p : Params) → IsQuietWorld p w → IsQuietWorld p w'
+  stays_quiet p quiet link channel here used =
+      let there = ap (λ cs. slice_get cs link) (sym k.links) ∙ mapped_there bare w'.net.channels link channel here in
+      let (old, stands, same) = mapped bare w.net.channels link (bare channel) there in
+      let uses : is_used (live_systems w.stations) old ≡ true =
+      ap (is_used (live_systems w.stations)) same ∙ ap (λ s. is_used s channel) (sym k.systems) ∙ used in
+      let is = quiet link old stands uses in
+      let bounds = ap (λ (c : Channel). c.bounds) same in
+      record { lossless = rw⁻¹ bounds is.lossless; good = rw⁻¹ bounds is.good }
+
+-- ---- acts
+
+-- a call that sets no priority1
+calls_keep : (place : ℕ) (input : Input) (w : WorldState) (draws : List Draw) (answer : Answer) (w' : WorldState)
+    → ((value : ℕ) → input ≢ Priority value) → Calls place input w draws answer w' → KeepsNetwork w w'
+calls_keep place input w draws answer w' other k =
+    subst (KeepsNetwork w) (sym k.is)
+    (record {
+      systems = systems_kept w.stations place k.station called k.here refl stands;
+      places = places_kept w.stations place k.station called k.here named;
+      links = sends_kept w.time k.after k.sends draws (all_timers place called w.net) k.net k.sent;
+      change = refl;
+    })
+  where
+    called : Station
+    called = in_state k.after k.station
+
+    named : clock k.after ≡ clock k.station.system
+    named = same_clock input w.time k.station.system k.after k.sends answer k.steps
+
+    stands : standing called ≡ standing k.station
+    stands =
+        let same = (steps_steady input w.time k.station.system k.after k.sends answer other k.steps).identity in
+        let count = same_ports input w.time k.station.system k.after k.sends answer k.steps in
+        rw (same, count) refl
+
+hears_keep : (place port : ℕ) (octets : List ℕ) (w : WorldState) (draws : List Draw) (answer : Option Answer)
+    (w' : WorldState) → Hears place port octets w draws answer w' → KeepsNetwork w w'
+hears_keep place port octets w draws (Some answer) w' hears =
+    calls_keep place (FrameHeard port octets) w draws answer w' (λ value e. cc) hears
+hears_keep place port octets w draws None w' hears = subst (KeepsNetwork w) (sym hears.2) (net_keeps w w.net refl)
+
+pub delivers_keep : (link : ℕ) (direction : Direction) (octets : List ℕ) (w : WorldState) (draws : List Draw)
+    (answer : Option Answer) (w' : WorldState) → Delivers link direction octets w draws answer w' → KeepsNetwork w w'
+delivers_keep link direction octets w draws answer w' k =
+    let taken : WorldState = record w { net = k.net } in
+    keeps_on w taken w'
+    (net_keeps w k.net
+    (subst (λ (n : Net). KeepLinks w.net.channels n.channels) (sym k.takes.is)
+    (queue_kept w.net.channels link direction k.channel k.takes.rest k.takes.here)))
+    (hears_keep k.place (receiver direction k.channel).port octets taken draws answer w' k.hears)
+
+pub expires_keep : (place : ℕ) (timer : Timer) (w : WorldState) (draws : List Draw) (w' : WorldState)
+    → Expires place timer w draws w' → KeepsNetwork w w'
+expires_keep place timer w draws w' k =
+    let at : WorldState = stopped place timer w in
+    keeps_on w at w' (net_keeps w at.net refl)
+    (calls_keep place (TimerExpires timer) at draws k.answer w' (λ value e. cc) k.calls)
+
+pub acts_keep : (act : Act) (w : WorldState) (draws : List Draw) (done : Done) (w' : WorldState) → IsNoChange act
+    → Acts act w draws done w' → KeepsNetwork w w'
+acts_keep (Deliver link direction) w draws done w' none k =
+    delivers_keep link direction k.octets w draws k.answer w' k.delivers
+acts_keep (Expire number timer) w draws done w' none (told, k) = expires_keep k.place timer w draws w' k.so
+acts_keep (Changing change) w draws done w' none k = absurd none

@@ -1,0 +1,212 @@
+-- A calm world is seen as a calm state of the machine.
+use Rattle.std.proofs.Common.{◌≡◌, ◌≤◌, ◌<◌, ◌+◌, ℕ, suc, true, Some, slice_get, refl, sym, ap, subst, ◌∙◌, arith}
+use Rattle.gptp_graph.specs.Members.{In}
+use Rattle.gptp_graph.specs.Snapshot.{Joins, PortIdentity, System, port_of}
+use Rattle.gptp_links.specs.declared.link.Direction.{Direction}
+use Rattle.gptp_links.specs.declared.link.Direction.TheVariants.{FromA, FromB}
+use Rattle.gptp_receipt.specs.declared.held.Held.{Held}
+use Rattle.gptp_system.specs.declared.port.Port.{Port}
+use Rattle.gptp_system.specs.declared.setup.Params.{Params}
+use Rattle.gptp_system.specs.Intervals.{AreParams, interval_of}
+use Rattle.gptp_system.specs.State.{clock, is_mine}
+use Rattle.gptp_acts.specs.declared.station.Station.{Station}
+use Rattle.gptp_acts.specs.Sound.{IsSound}
+use Rattle.gptp_acts.specs.World.{Channel, WorldState, receiver, sender}
+use Rattle.gptp_settling.specs.Calm.{Calm, HasLane, HasStation, IsCalmPort, IsCalmStation}
+use Rattle.gptp_settling.specs.Frame.{Frame as SeenFrame, Lane}
+use Rattle.gptp_settling.specs.Network.{IsNetwork, Network}
+use Rattle.gptp_settling.specs.Station.{Reception as SeenReception, Received, Station as SeenStation}
+use Rattle.gptp_kept.specs.Known.{IsKnown}
+use Rattle.gptp_kept.proofs.DueLemmas.{frames_fresh, frames_not_late, ports_known}
+use Rattle.gptp_kept.specs.Legible.{IsLegible}
+use Rattle.gptp_kept.specs.View.{held_view, identity_of, lane_place, lane_view, lanes_view, port_view, span_at, station_view, view}
+use Rattle.gptp_kept.proofs.SeenLaneLemmas.{lane_from, lane_there}
+use Rattle.gptp_kept.proofs.MidLemmas.{seen_on}
+use Rattle.gptp_kept.proofs.PlaceLemmas.{port_from, station_from, station_there}
+use Rattle.gptp_kept.proofs.ReactLemmas.{received_back}
+use Rattle.gptp_kept.specs.Calm.{AreCapableFrom, IsQuietWorld, lane_of, network_of, place_of}
+use Rattle.gptp_kept.specs.Standing.{AreBetween, live_systems, snapshot_of}
+use Rattle.gptp_kept.proofs.CalmAtRestLemmas.{rest_seen}
+use Rattle.gptp_kept.proofs.DelayLemmas.{delay_of_used, delay_short, receipts_stay}
+use Rattle.gptp_kept.proofs.CalmFactLemmas.{facts, frame_from}
+use Rattle.gptp_kept.proofs.FoundLemmas.{lane_is, place_is}
+use Rattle.gptp_kept.proofs.PortLemmas.{interval_is, mine_back, same_standing, span_is}
+use Rattle.gptp_kept.proofs.StandsLemmas.{stands_well, used_up}
+use Rattle.gptp_kept.proofs.SystemLemmas.{live_from}
+use Rattle.gptp_kept.proofs.WayLemmas.{IsWay, one_way, way_of}
+
+-- ---- the network
+
+pub network : (p : Params) (start : ℕ) (w : WorldState) → IsSound w → AreBetween w → IsLegible w → IsKnown p w
+    → IsNetwork (network_of p start w)
+network p start w sound between legible known = record {
+  graph = stands_well w sound between legible;
+  round = λ port linked. let short = delay_short p w known in omega arith;
+}
+
+-- ---- directions
+
+abbrev opposite : Direction → Direction
+opposite FromA = FromB
+opposite FromB = FromA
+
+-- a lane leads to where the other lane of its link begins
+hears_there : (direction : Direction) (channel : Channel)
+    → receiver direction channel ≡ sender (opposite direction) channel
+hears_there FromA channel = refl
+hears_there FromB channel = refl
+
+same_direction : (direction way : Direction) → opposite direction ≡ opposite way → direction ≡ way
+same_direction FromA FromA same = refl
+same_direction FromB FromB same = refl
+same_direction FromA FromB same = sym same
+same_direction FromB FromA same = sym same
+
+-- ---- the state
+
+module _ (p : Params) (start : ℕ) (w : WorldState) (sound : IsSound w) (legible : IsLegible w) (known : IsKnown p w)
+    (quiet : IsQuietWorld p w) (old : w.last_change + interval_of p.announce ≤ start)
+    (capable : AreCapableFrom start w) where
+  abbrev n : Network
+  n = network_of p start w
+
+  -- ---- systems
+
+  -- a port is calm
+  module _ (place : ℕ) (station : Station) (here : slice_get w.stations place ≡ Some station)
+      (live : station.live ≡ true) (i : ℕ) (h : Held) (q : Port) (stands : slice_get station.system.held i ≡ Some h)
+      (there : slice_get station.system.ports i ≡ Some q) where
+    abbrev span : ℕ
+    span = span_at station.system.params q
+
+    abbrev itself : PortIdentity
+    itself = port_of (clock station.system) (suc i)
+
+    -- what it received stays longer than an announce interval and the greatest delay
+    stays : (r : SeenReception) → held_view span h ≡ Received r → interval_of p.announce + n.most < r.span
+    stays r holds =
+        let params = subst AreParams (known.set place station here).setup
+        (sound.on_time.stations place station here).setup in
+        let back = received_back span h r holds in
+        let is = ap (λ (x : SeenReception). x.span) back.2
+        ∙ span_is p station (known.set place station here) i q there in
+        subst (λ t. interval_of p.announce + n.most < t) (sym is) (receipts_stay p w params known)
+
+    port_seen : IsCalmPort n w.time itself (port_view station.system.params h q)
+    port_seen = record {
+      interval = interval_is p station (known.set place station here) i q there;
+      timer = λ root steps mine.
+          let within = (ports_known p w sound known place station here live i h q stands there).announces
+          (ap is_mine (mine_back span h root steps mine)) in
+          (within.least, within.most);
+      capable = λ begun linked.
+          seen_on span h ((capable begun place station here live i h q stands there).capable linked);
+      unlinked = λ begun none.
+          ap (held_view span) ((capable begun place station here live i h q stands there).unlinked none);
+      long = λ r from holds begun joins source. stays r holds;
+    }
+
+  station_seen : (place : ℕ) (station : Station) → slice_get w.stations place ≡ Some station → station.live ≡ true
+      → IsCalmStation n w.time (station_view station)
+  station_seen place station here live =
+      let s = station.system in
+      let steady = (sound.on_time.stations place station here).steady in
+      record {
+        at_rest = rest_seen station.live s steady.shown steady.held steady.rest;
+        ports = λ i seen there.
+            let at = port_from s.params s.held s.ports i seen there in
+            subst (IsCalmPort n w.time (port_of (clock s) (suc i))) (sym at.is)
+            (port_seen place station here live i at.held at.port at.held_there at.port_there);
+      }
+
+  -- a system of the snapshot stands at its place
+  system_there : (s : System) → In s (live_systems w.stations) → HasStation n (view w) s
+  system_there s member =
+      let at = live_from w.stations s member in
+      let steady = (sound.on_time.stations at.place at.station at.here).steady in
+      let place = place_is w sound.wired.clocks at.place at.station at.here
+      ∙ ap (λ (x : System). place_of w.stations x.clock) (sym at.is) in
+      record {
+        station = station_view at.station;
+        there = subst (λ k. slice_get (view w).stations k ≡ Some (station_view at.station)) place
+            (station_there w.stations at.place at.station at.here);
+        live = at.live;
+        is = sym (same_standing at.station steady.shown) ∙ sym at.is;
+      }
+
+  -- ---- links
+
+  -- the lane of a link of the snapshot stands at its place
+  lane_of_link : (from to : PortIdentity) → IsWay w from to → HasLane n (view w) from to
+  lane_of_link from to way =
+      let place = lane_is w sound legible way.link way.direction way.channel way.here
+      ∙ ap (lane_of w.net.channels) way.from in
+      let lane = lane_view way.direction way.channel in
+      record {
+        lane = lane;
+        there = subst (λ k. slice_get (lanes_view w.net.channels) k ≡ Some lane) place
+            (lane_there w.net.channels way.link way.direction way.channel way.here);
+        from = way.from;
+        to = way.to;
+        loss = (quiet way.link way.channel way.here way.used).lossless;
+        is_up = used_up (live_systems w.stations) way.channel way.used;
+      }
+
+  -- no two lanes lead to one port
+  lead_apart : (i j : ℕ) (l m : Lane) → slice_get (lanes_view w.net.channels) i ≡ Some l
+      → slice_get (lanes_view w.net.channels) j ≡ Some m → l.to ≡ m.to → i ≡ j
+  lead_apart i j l m at also same =
+      let x = lane_from w.net.channels i l at in
+      let y = lane_from w.net.channels j m also in
+      let lead = ap (λ (z : Lane). z.to) (sym x.is) ∙ same ∙ ap (λ (z : Lane). z.to) y.is in
+      let begin = ap identity_of (sym (hears_there x.direction x.channel)) ∙ lead
+      ∙ ap identity_of (hears_there y.direction y.channel) in
+      let one = one_way w sound legible x.link y.link (opposite x.direction) (opposite y.direction) x.channel y.channel
+      x.here y.here begin in
+      x.at
+      ∙ ap (λ link. lane_place link x.direction) one.same_link
+      ∙ ap (lane_place y.link) (same_direction x.direction y.direction one.same_way)
+      ∙ sym y.at
+
+  -- ---- frames
+
+  not_late : (j : ℕ) (l : Lane) (f : SeenFrame) → slice_get (lanes_view w.net.channels) j ≡ Some l → In f l.frames
+      → w.time ≤ f.due
+  not_late j l f there member =
+      let at = frame_from w j l f there member in
+      subst (λ (x : SeenFrame). w.time ≤ x.due) (sym at.is)
+      (frames_not_late w sound at.link at.direction at.channel at.frame at.here at.among)
+
+  -- from the start a frame on a link of the snapshot is due within the greatest delay
+  due_soon : (j : ℕ) (l : Lane) (f : SeenFrame) → slice_get (lanes_view w.net.channels) j ≡ Some l → In f l.frames
+      → start ≤ w.time → Joins (snapshot_of w) l.from l.to → f.due ≤ w.time + n.most
+  due_soon j l f there member begun joins =
+      let at = frame_from w j l f there member in
+      let way = way_of w l.from l.to joins in
+      let one = one_way w sound legible way.link at.link way.direction at.direction way.channel at.channel way.here
+      at.here (way.from ∙ ap (λ (z : Lane). z.from) at.lane_is) in
+      let short = subst (λ (c : Channel). c.bounds.max ≤ n.most) one.same_channel
+      (delay_of_used (live_systems w.stations) w.net.channels way.link way.channel way.here way.used) in
+      let passed : w.last_change + interval_of p.announce ≤ w.time = omega arith in
+      let soon = (frames_fresh p w sound known passed at.link at.direction at.channel at.frame at.here at.among).most in
+      subst (λ (x : SeenFrame). x.due ≤ w.time + n.most) (sym at.is) (omega arith)
+
+  -- ---- the whole state
+
+  pub calm : Calm n (view w)
+  calm = record {
+    facts = facts p start w sound known;
+    stations = λ i seen there lives.
+        let at = station_from w.stations i seen there in
+        let live = ap (λ (x : SeenStation). x.live) (sym at.is) ∙ lives in
+        subst (IsCalmStation n w.time) (sym at.is) (station_seen i at.station at.here live);
+    placed = λ i seen there.
+        let at = station_from w.stations i seen there in
+        place_is w sound.wired.clocks i at.station at.here
+        ∙ ap (λ (x : SeenStation). place_of w.stations x.clock) (sym at.is);
+    there = system_there;
+    lanes = λ from to joins. lane_of_link from to (way_of w from to joins);
+    apart = lead_apart;
+    left = not_late;
+    due = due_soon;
+  }

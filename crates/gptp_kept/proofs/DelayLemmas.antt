@@ -1,0 +1,62 @@
+-- The greatest delay of the links of a snapshot.
+use Rattle.std.proofs.Common.{◌≡◌, ◌≤◌, ◌<◌, ◌+◌, ◌*◌, ℕ, zero, suc, Bool, true, false, List, [], ◌∷◌, Some, slice_get, refl, ap, ◌∙◌, arith, mul-le-mul}
+use Rattle.std.specs.Prelude.{if◌then◌else◌, max}
+use Rattle.std.proofs.lemmas.Option.{none-some, same_Some}
+use Rattle.gptp_graph.specs.Snapshot.{System}
+use Rattle.gptp_system.specs.declared.setup.Params.{Params}
+use Rattle.gptp_system.specs.Intervals.{AreParams, interval_of}
+use Rattle.gptp_system.proofs.StartedLemmas.{interval_positive}
+use Rattle.gptp_acts.specs.World.{Channel, WorldState}
+use Rattle.gptp_kept.specs.Known.{IsKnown}
+use Rattle.gptp_kept.specs.Calm.{greatest_delay}
+use Rattle.gptp_kept.specs.Standing.{is_used, live_systems}
+
+-- it is no more than what no link exceeds
+delay_within : (systems : List System) (channels : List Channel) (bound : ℕ)
+    → ((link : ℕ) (channel : Channel) → slice_get channels link ≡ Some channel → channel.bounds.max ≤ bound)
+    → greatest_delay systems channels ≤ bound
+delay_within systems [] bound each = omega arith
+delay_within systems (first ∷ channels) bound each =
+    by (is_used systems first) (delay_within systems channels bound (λ link. each (suc link)))
+  where
+    by : (used : Bool) → greatest_delay systems channels ≤ bound
+        → (if used then max first.bounds.max (greatest_delay systems channels) else greatest_delay systems channels)
+        ≤ bound
+    by true later = let one = each zero first refl in omega arith
+    by false later = later
+
+-- and no less than the delay of any used link
+pub delay_of_used : (systems : List System) (channels : List Channel) (link : ℕ) (channel : Channel)
+    → slice_get channels link ≡ Some channel → is_used systems channel ≡ true
+    → channel.bounds.max ≤ greatest_delay systems channels
+delay_of_used systems [] link channel here used = absurd (none-some channel here)
+delay_of_used systems (first ∷ channels) zero channel here used =
+    let same = same_Some first channel here in
+    let is : is_used systems first ≡ true = ap (is_used systems) same ∙ used in
+    let most = ap (λ (c : Channel). c.bounds.max) same in
+    rw is (omega arith)
+delay_of_used systems (first ∷ channels) (suc link) channel here used =
+    by (is_used systems first) (delay_of_used systems channels link channel here used)
+  where
+    by : (is : Bool) → channel.bounds.max ≤ greatest_delay systems channels
+        → channel.bounds.max
+        ≤ (if is then max first.bounds.max (greatest_delay systems channels) else greatest_delay systems channels)
+    by true later = omega arith
+    by false later = later
+
+-- so it is at most an announce interval
+pub delay_short : (p : Params) (w : WorldState) → IsKnown p w
+    → greatest_delay (live_systems w.stations) w.net.channels ≤ interval_of p.announce
+delay_short p w known = delay_within (live_systems w.stations) w.net.channels (interval_of p.announce) known.prompt
+
+-- and what is received stays longer than an announce interval and that delay
+pub receipts_stay : (p : Params) (w : WorldState) → AreParams p → IsKnown p w
+    → interval_of p.announce + greatest_delay (live_systems w.stations) w.net.channels
+    < p.timeout * interval_of p.announce
+receipts_stay p w params known =
+    let short = delay_short p w known in
+    let positive = interval_positive p.announce params.announce in
+    let same : interval_of p.announce ≤ interval_of p.announce = omega arith in
+    let long : 3 * interval_of p.announce ≤ p.timeout * interval_of p.announce =
+    mul-le-mul params.timeout-least same in
+    omega arith

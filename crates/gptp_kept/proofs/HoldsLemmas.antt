@@ -1,0 +1,136 @@
+-- The claim begins by itself, and is kept.
+use Rattle.std.proofs.Common.{◌≡◌, ◌<◌, ◌≤◌, ◌+◌, ◌*◌, ℕ, List, Option, length, refl, sym, ap, subst, ◌∙◌, inl, inr, arith}
+use Rattle.std.specs.List.{range_with_len}
+use Rattle.gptp_links.specs.declared.bounds.Bounds.{Bounds}
+use Rattle.gptp_links.specs.Fate.{Draw}
+use Rattle.gptp_system.specs.declared.setup.Params.{Params}
+use Rattle.gptp_system.specs.Intervals.{AreParams, interval_of}
+use Rattle.gptp_system.proofs.StartedLemmas.{interval_positive}
+use Rattle.gptp_acts.specs.declared.change.Act.{Act}
+use Rattle.gptp_acts.specs.declared.change.Act.TheVariants.{Deliver, Expire, Change as Changing}
+use Rattle.gptp_acts.specs.declared.change.Change.{Change}
+use Rattle.gptp_acts.specs.declared.change.Timed.{Timed}
+use Rattle.gptp_acts.specs.declared.done.Done.{Done}
+use Rattle.gptp_acts.specs.Acts.{Acts, IsFitAct, at}
+use Rattle.gptp_acts.specs.Course.{Begun, WasDone}
+use Rattle.gptp_acts.specs.Initial.{initial}
+use Rattle.gptp_acts.specs.Network.{IsNetwork as IsSimulated, NetworkState}
+use Rattle.gptp_acts.specs.Prompt.{IsPromptAct}
+use Rattle.gptp_acts.specs.World.{WorldState}
+use Rattle.gptp_settling.specs.Acts.{Steps}
+use Rattle.gptp_settling.specs.Calm.{Calm}
+use Rattle.gptp_settling.specs.Levels.{Invariant}
+use Rattle.gptp_settling.specs.Network.{IsNetwork}
+use Rattle.gptp_settling.proofs.LevelLemmas.{invariant_begins, invariant_kept}
+use Rattle.gptp_kept.specs.LegibleLaws.{SetsAnOctet}
+use Rattle.gptp_kept.specs.SeenLaws.{IsNoChange}
+use Rattle.gptp_kept.specs.View.{says, view}
+use Rattle.gptp_kept.proofs.SeenActLemmas.{acts_seen}
+use Rattle.gptp_kept.specs.Calm.{IsQuietWorld, network_of}
+use Rattle.gptp_kept.proofs.CalmLemmas.{calm, network}
+use Rattle.gptp_kept.proofs.CalmKeptLemmas.{KeepsNetwork, acts_keep, same_network, stays_quiet}
+use Rattle.gptp_kept.specs.Holds.{AreCapable, Holds, IsWorld, settling_network, start_of}
+use Rattle.gptp_kept.proofs.MomentLemmas.{change_is_last, starts_all_moment}
+use Rattle.gptp_kept.proofs.SettledWorldLemmas.{done_stays, ready_stays, still_acts_stay}
+
+-- ---- one world
+
+-- its network is one of the machine
+pub is_network : (p : Params) (w : WorldState) → IsWorld p w → IsNetwork (settling_network p w)
+is_network p w is = network p (start_of p w) w is.sound is.between is.legible is.known
+
+-- and a quiet one is a calm state
+pub is_calm : (p : Params) (w : WorldState) → IsWorld p w → IsQuietWorld p w → AreCapable p w
+    → Calm (settling_network p w) (view w)
+is_calm p w is quiet capable =
+    let passed : w.last_change + interval_of p.announce ≤ start_of p w = omega arith in
+    calm p (start_of p w) w is.sound is.legible is.known quiet passed (capable quiet)
+
+-- before the start nothing is claimed
+pub begins : (p : Params) (w : WorldState) → IsWorld p w → w.time < start_of p w → Holds p w
+begins p w is early quiet =
+    let state = is_calm p w is quiet (λ still begun. absurd (omega arith)) in
+    invariant_begins says (settling_network p w) (view w) state early
+
+-- nor where no time has passed since the last change
+fresh_begins : (p : Params) (w : WorldState) → AreParams p → w.last_change ≡ w.time → IsWorld p w → Holds p w
+fresh_begins p w params now is =
+    let positive = interval_positive p.announce params.announce in begins p w is (omega arith)
+
+pub changes_begin : (p : Params) (change : Change) (w : WorldState) (draws : List Draw) (done : Done) (w' : WorldState)
+    → AreParams p → Acts (Changing change) w draws done w' → IsWorld p w' → Holds p w'
+changes_begin p change w draws done w' params k = fresh_begins p w' params (change_is_last change w draws done w' k)
+
+pub first_begins : {F : Type 0} (answers : Bounds → ℕ → F → Option ℕ → F → Type 0) (n : NetworkState)
+    (fate fate_after : F) (w : WorldState) → IsSimulated n → Begun answers n fate fate_after w → IsWorld n.params w
+    → Holds n.params w
+first_begins answers n fate fate_after w network k =
+    let same = starts_all_moment (range_with_len 0 (length n.systems)) (initial n) k.draws w k.starts in
+    fresh_begins n.params w network.params.ranges.params
+    (ap (λ (m : ℕ × ℕ). m.1) same ∙ sym (ap (λ (m : ℕ × ℕ). m.0) same))
+
+-- ---- from one world to the next
+
+-- a step of the machine keeps the claim, where the network and its links stay as they are
+step_keeps : (p : Params) (w w' : WorldState) → IsWorld p w → IsWorld p w' → AreCapable p w → AreCapable p w'
+    → settling_network p w' ≡ settling_network p w → (IsQuietWorld p w' → IsQuietWorld p w)
+    → Steps says (view w) (view w') → Holds p w → Holds p w'
+step_keeps p w w' is is' capable capable' same back step holds quiet =
+    let before = is_calm p w is (back quiet) capable in
+    let after = subst (λ n. Calm n (view w')) same (is_calm p w' is' quiet capable') in
+    subst (λ n. Invariant says n (view w')) (sym same)
+    (invariant_kept says (settling_network p w) (is_network p w is) (view w) (view w') before after step
+    (holds (back quiet)))
+
+-- what keeps a network is kept by the way back
+kept_back : (w w' : WorldState) → KeepsNetwork w w' → KeepsNetwork w' w
+kept_back w w' k = record {
+  systems = sym k.systems;
+  places = λ number. sym (k.places number);
+  links = sym k.links;
+  change = sym k.change;
+}
+
+-- so a world has the same network from the same start
+same_settling : (p : Params) (w w' : WorldState) → KeepsNetwork w w' → settling_network p w' ≡ settling_network p w
+same_settling p w w' k =
+    ap (λ change. network_of p (change + (p.lost + 5) * interval_of p.announce) w') k.change
+    ∙ same_network w w' k p (start_of p w)
+
+pub acts_hold : (p : Params) (act : Act) (w : WorldState) (draws : List Draw) (done : Done) (w' : WorldState)
+    → IsNoChange act → Acts act w draws done w' → IsWorld p w → AreCapable p w → AreCapable p w' → Holds p w
+    → Holds p w'
+acts_hold p act w draws done w' none k is capable capable' =
+    let keeps = acts_keep act w draws done w' none k in
+    step_keeps p w w' is (still_acts_stay p act w draws done w' none k is) capable capable'
+    (same_settling p w w' keeps) (stays_quiet w' w (kept_back w w' keeps) p)
+    (inr (acts_seen act w draws done w' none is.sound is.legible k))
+
+pub later_holds : (p : Params) (w : WorldState) (time : ℕ) → w.time ≤ time → IsWorld p w → IsWorld p (at time w)
+    → AreCapable p w → AreCapable p (at time w) → Holds p w → Holds p (at time w)
+later_holds p w time later is is' capable capable' =
+    step_keeps p w (at time w) is is' capable capable' refl (λ quiet. quiet)
+    (inl (record { time = time; later = later; is = refl }))
+
+-- so the claim is kept from act to act
+pub done_holds : {F : Type 0} (answers : Bounds → ℕ → F → Option ℕ → F → Type 0) (p : Params) (timed : Timed)
+    (fate fate_after : F) (w w' : WorldState) (done : Done) → AreParams p → IsFitAct timed.act
+    → IsPromptAct p timed.act → SetsAnOctet timed.act → WasDone answers timed fate fate_after w w' done → IsWorld p w
+    → AreCapable p w → AreCapable p (at timed.at w) → AreCapable p w' → Holds p w → Holds p w'
+done_holds answers p timed fate fate_after w w' done params fit prompt octet k is capable then capable' holds =
+    by timed.act k.acts
+  where
+    now : IsWorld p (at timed.at w)
+    now = ready_stays p timed.act timed.at w k.ready is
+
+    still : (act : Act) → IsNoChange act → Acts act (at timed.at w) k.draws done w' → Holds p w'
+    still act none acts =
+        acts_hold p act (at timed.at w) k.draws done w' none acts now then capable'
+        (later_holds p w timed.at k.ready.timely.now is now capable then holds)
+
+    by : (act : Act) → Acts act (at timed.at w) k.draws done w' → Holds p w'
+    by (Deliver link direction) acts = still (Deliver link direction) tt acts
+    by (Expire number timer) acts = still (Expire number timer) tt acts
+    by (Changing change) acts =
+        changes_begin p change (at timed.at w) k.draws done w' params acts
+        (done_stays answers p timed fate fate_after w w' done fit prompt octet k is)

@@ -1,0 +1,567 @@
+-- A delivery, seen at a link: the port that asks hears, the port that answers hears, or others send.
+use Rattle.std.proofs.Common.{◌≡◌, ◌≢◌, ◌⊎◌, ℕ, Bool, true, false, List, [], ◌∷◌, ◌++◌, map, Option, Some, None, slice_get, slice_set, refl, sym, ap, subst, ◌∙◌, inl, inr, eq-eqb, eqb-true}
+use Rattle.std.specs.Prelude.{if◌then◌else◌, ◌==◌}
+use Rattle.std.proofs.lemmas.List.{append-nil, map-append}
+use Rattle.gptp_graph.specs.Members.{In}
+use Rattle.gptp_graph.proofs.MemberLemmas.{In-map}
+use Rattle.gptp_vector.specs.declared.port.PortId.{PortId}
+use Rattle.gptp_links.specs.declared.bounds.Bounds.{Bounds}
+use Rattle.gptp_links.specs.declared.link.Direction.{Direction}
+use Rattle.gptp_links.specs.declared.link.Direction.TheVariants.{FromA, FromB}
+use Rattle.gptp_links.specs.Fate.{Draw}
+use Rattle.gptp_links.specs.Queue.{Frame, frame}
+use Rattle.gptp_pdelay.specs.GoodLink.{IsGoodLink}
+use Rattle.gptp_system.specs.declared.answer.Answer.{Answer}
+use Rattle.gptp_system.specs.declared.setup.Params.{Params}
+use Rattle.gptp_system.specs.Input.{Frame as FrameHeard}
+use Rattle.gptp_system.specs.Intervals.{interval_of}
+use Rattle.gptp_system.specs.Measures.{IsPartAfter, Part, part_heard, part_of}
+use Rattle.gptp_system.specs.State.{SystemState, clock}
+use Rattle.gptp_system.specs.Steps.{IsUp}
+use Rattle.gptp_acts.specs.declared.station.Station.{Station}
+use Rattle.gptp_acts.specs.Act.{Calls, Delivers, HasFailed, Hears}
+use Rattle.gptp_acts.specs.Sound.{IsSound}
+use Rattle.gptp_acts.specs.World.{Channel, Net, WorldState, queue, receiver, sender, with_queue}
+use Rattle.gptp_acts.proofs.ListLemmas.{same_there}
+use Rattle.gptp_acts.proofs.PlaceLemmas.{get-set_other, get-set_same, same_place}
+use Rattle.gptp_acts.proofs.StayLemmas.{carry_join, sender_same, takes_carry}
+use Rattle.gptp_measuring.specs.Acts.{Acts, AskerHears, AnswererHears, asker_hears, answerer_hears, others_send}
+use Rattle.gptp_measuring.specs.Answerer.{Notes}
+use Rattle.gptp_measuring.specs.Asker.{Takes}
+use Rattle.gptp_measuring.specs.ExchangeLaws.{HasLocalClocks}
+use Rattle.gptp_measuring.specs.Facts.{IsSentInTime}
+use Rattle.gptp_kept.specs.LinkView.{IsEndOf, IsLinkOf, LinkPlace, SaysWhatFits, asker_view, asks, frame_view, identity_of, lane_view, opposite, pair, replies, setting, waits_view}
+use Rattle.gptp_kept.specs.LinkActs.{IsOneAct, IsSeen}
+use Rattle.gptp_kept.proofs.LinkCallLemmas.{asker_is, back_in_time, back_is, back_mute, back_stays, others_send as others_seen, out_in_time, out_is, out_mute, out_stays, seen_from, sent_in_time}
+use Rattle.gptp_kept.proofs.EndLemmas.{PartStep, renamed}
+use Rattle.gptp_kept.proofs.LinkExpiryLemmas.{clock_is}
+use Rattle.gptp_kept.proofs.HearLemmas.{Hears as PartHears, hears_notes, hears_takes}
+use Rattle.gptp_kept.proofs.LinkLaneLemmas.{IsDueSoon}
+use Rattle.gptp_kept.proofs.LinkLemmas.{IsOrderly, LinkStep, clocks_apart, link_called, net_orderly, receiver_same, sender_opposite, sound_orderly}
+
+-- ---- a frame leaves its lane
+
+-- a link of which only the frames in flight change
+record SameLink (old new : Channel) : Type 0 where
+  a : new.a ≡ old.a
+  b : new.b ≡ old.b
+  bounds : new.bounds ≡ old.bounds
+  up : new.up ≡ old.up
+
+same_link : (direction : Direction) (frames : List Frame) (channel : Channel)
+    → SameLink channel (with_queue direction frames channel)
+same_link FromA frames channel = record { a = refl; b = refl; bounds = refl; up = refl }
+same_link FromB frames channel = record { a = refl; b = refl; bounds = refl; up = refl }
+
+queue_set : (direction : Direction) (frames : List Frame) (channel : Channel)
+    → queue direction (with_queue direction frames channel) ≡ frames
+queue_set FromA frames channel = refl
+queue_set FromB frames channel = refl
+
+queue_left : (direction : Direction) (frames : List Frame) (channel : Channel)
+    → queue (opposite direction) (with_queue direction frames channel) ≡ queue (opposite direction) channel
+queue_left FromA frames channel = refl
+queue_left FromB frames channel = refl
+
+opposite_twice : (direction : Direction) → opposite (opposite direction) ≡ direction
+opposite_twice FromA = refl
+opposite_twice FromB = refl
+
+-- a direction is this one or the other
+which_way : (direction way : Direction) → (direction ≡ way) ⊎ (direction ≡ opposite way)
+which_way FromA FromA = inl refl
+which_way FromA FromB = inr refl
+which_way FromB FromA = inr refl
+which_way FromB FromB = inl refl
+
+receiver_opposite : (direction : Direction) (channel : Channel)
+    → receiver (opposite direction) channel ≡ sender direction channel
+receiver_opposite FromA channel = refl
+receiver_opposite FromB channel = refl
+
+-- the link with the oldest frame gone
+module _ (at : LinkPlace) (w : WorldState) (l : IsLinkOf at w) (direction : Direction) (front : Frame)
+    (rest : List Frame) (was : queue direction l.channel ≡ front ∷ rest) (net : Net)
+    (here : slice_get net.channels at.link ≡ Some (with_queue direction rest l.channel)) where
+  abbrev popped : Channel
+  popped = with_queue direction rest l.channel
+
+  carried : SameLink l.channel popped
+  carried = same_link direction rest l.channel
+
+  popped_sender : sender at.direction popped ≡ sender at.direction l.channel
+  popped_sender = sender_same at.direction l.channel popped carried.a carried.b
+
+  popped_receiver : receiver at.direction popped ≡ receiver at.direction l.channel
+  popped_receiver = receiver_same at.direction l.channel popped carried.a carried.b
+
+  left_there : (way : Direction) (f : Frame) → In f (queue way popped) → In f (queue way l.channel)
+  left_there way f member = by (which_way way direction)
+    where
+      by : (way ≡ direction) ⊎ (way ≡ opposite direction) → In f (queue way l.channel)
+      by (inl e) =
+          let among : In f rest =
+          subst (In f) (queue_set direction rest l.channel) (subst (λ d. In f (queue d popped)) e member) in
+          let whole : In f (front ∷ rest) = inr among in
+          subst (λ d. In f (queue d l.channel)) (sym e) (subst (In f) (sym was) whole)
+      by (inr e) =
+          subst (λ d. In f (queue d l.channel)) (sym e)
+          (subst (In f) (queue_left direction rest l.channel) (subst (λ d. In f (queue d popped)) e member))
+
+  most_same : popped.bounds.max ≡ l.channel.bounds.max
+  most_same = ap (λ (b : Bounds). b.max) carried.bounds
+
+  abbrev popped_link : IsLinkOf at (record w { net = net })
+  popped_link = record {
+    channel = popped;
+    here = here;
+    up = carried.up ∙ l.up;
+    lossless = ap (λ (b : Bounds). b.loss) carried.bounds ∙ l.lossless;
+    asking = renamed at.asking (sender at.direction l.channel) (sender at.direction popped) w (sym popped_sender)
+        l.asking;
+    answering = renamed at.answering (receiver at.direction l.channel) (receiver at.direction popped) w
+        (sym popped_receiver) l.answering;
+    apart = l.apart;
+    good = subst (λ most. IsGoodLink most l.answering.station.setup.params.turnaround
+        l.asking.station.setup.params.threshold) (sym most_same) l.good;
+    fit = λ way f member. l.fit way f (left_there way f member);
+  }
+
+  popped_settled : setting at (record w { net = net }) popped_link ≡ setting at w l
+  popped_settled = λ i. record (setting at w l) {
+    asking = identity_of (popped_sender i);
+    answering = identity_of (popped_receiver i);
+    most = most_same i;
+  }
+
+-- ---- what the receiver is given
+
+module _ (link : ℕ) (direction : Direction) (octets : List ℕ) (w : WorldState) (draws : List Draw)
+    (answer : Option Answer) (w' : WorldState) (k : Delivers link direction octets w draws answer w')
+    (sound : IsSound w)
+  where
+    abbrev port : PortId
+    port = receiver direction k.channel
+
+    -- the world without the frame
+    abbrev emptied : WorldState
+    emptied = record w { net = k.net }
+
+    channels_are : k.net.channels ≡ slice_set w.net.channels link (with_queue direction k.takes.rest k.channel)
+    channels_are = ap (λ (n : Net). n.channels) k.takes.is
+
+    orderly : IsOrderly emptied
+    orderly =
+        net_orderly w k.net
+        (carry_join w.net.channels k.net.channels
+        (takes_carry link direction w.time octets k.channel w.net k.net k.takes)) (sound_orderly w sound)
+
+    -- the link is up, since a frame was in flight
+    channel_up : k.channel.up ≡ true
+    channel_up = go k.channel.up refl
+      where
+        go : (b : Bool) → k.channel.up ≡ b → k.channel.up ≡ true
+        go true e = e
+        go false e =
+            let none : frame w.time octets ∷ k.takes.rest ≡ [] =
+            sym k.takes.front ∙ (sound.wired.flow link direction k.channel k.takes.here).still e in
+            absurd cc
+
+    -- so the port that hears the frame is up
+    is_up : (station : Station) → slice_get w.stations k.place ≡ Some station → station.live ≡ true
+        → IsUp station.system port.port
+    is_up station there live =
+        let one : k.station ≡ station = same_there w.stations k.place k.station station k.there there in
+        let begins : sender (opposite direction) k.channel ≡ port = sender_opposite direction k.channel in
+        subst (λ (p : PortId). IsUp station.system p.port) begins
+        (sound.wired.linked link k.place (opposite direction) k.channel station k.takes.here channel_up there live
+        (ap (λ (x : Station). clock x.system) (sym one) ∙ k.is_end ∙ ap (λ (p : PortId). p.clock) (sym begins)))
+
+    -- the station at an end of its clock is the one that hears
+    place_is : (place : ℕ) (end : PortId) → (e : IsEndOf place end w) → end.clock ≡ port.clock → place ≡ k.place
+    place_is place end e named =
+        sound.wired.clocks place k.place e.station k.station e.here k.there (e.named ∙ named ∙ sym k.is_end)
+
+    -- ---- a frame on another link
+
+    module _ (at : LinkPlace) (l : IsLinkOf at w) (other : link ≢ at.link) where
+      stands : slice_get k.net.channels at.link ≡ Some l.channel
+      stands =
+          ap (λ cs. slice_get cs at.link) channels_are
+          ∙ get-set_other w.net.channels link at.link _ (λ e. other (sym e)) ∙ l.here
+
+      abbrev left_link : IsLinkOf at emptied
+      left_link = record {
+        channel = l.channel;
+        here = stands;
+        up = l.up;
+        lossless = l.lossless;
+        asking = l.asking;
+        answering = l.answering;
+        apart = l.apart;
+        good = l.good;
+        fit = l.fit;
+      }
+
+      -- the port that hears isn't one of this link
+      not_here : (way : Direction) → sender way l.channel ≢ port
+      not_here way e =
+          other (sound.wired.apart link at.link (opposite direction) way k.channel l.channel k.takes.here l.here
+          (sender_opposite direction k.channel ∙ sym e))
+
+      not_asker : (place : ℕ) (end : PortId) (way : Direction) → sender way l.channel ≡ end → IsEndOf place end w
+          → place ≡ k.place → end.port ≢ port.port
+      not_asker place end way begins e same number =
+          let one : k.station ≡ e.station =
+          same_there w.stations k.place k.station e.station k.there (ap (slice_get w.stations) (sym same) ∙ e.here) in
+          let named : end.clock ≡ port.clock =
+          sym e.named ∙ ap (λ (x : Station). clock x.system) (sym one) ∙ k.is_end in
+          not_here way (begins ∙ (λ i. record { clock = named i; port = number i }))
+
+      -- where nothing hears it nothing is sent
+      unheard : IsOneAct at w emptied l
+      unheard = record {
+        after = left_link;
+        settled = refl;
+        so = record {
+          acts = others_send (record {
+            time = refl;
+            asker = refl;
+            waits = refl;
+            ahead = [];
+            behind = [];
+            out = sym (append-nil (pair at w l).out);
+            back = sym (append-nil (pair at w l).back);
+            asks_nothing = λ f member. absurd member;
+            replies_nothing = λ f member. absurd member;
+          });
+          out = λ f member. inl member;
+          back = λ f member. inl member;
+        };
+      }
+
+      part_left : (place : ℕ) (end : PortId) (way : Direction) → sender way l.channel ≡ end → (e : IsEndOf place end w)
+          → (x x' : Part)
+          → PartStep k.place (FrameHeard port.port octets) w.time place e.station.system end.port x x' → x' ≡ x
+      part_left place end way begins e x x' (inr (apart, is)) = is
+      part_left place end way begins e x x' (inl (same, inr (unread, is))) = is
+      part_left place end way begins e x x' (inl (same, inl (m, reads, is))) =
+          go (end.port == port.port) refl is
+        where
+          go : (b : Bool) → (end.port == port.port) ≡ b
+              → x' ≡ (if b then part_heard e.station.system w.time m x else x) → x' ≡ x
+          go true number is = absurd (not_asker place end way begins e same (eqb-true end.port port.port number))
+          go false apart is = is
+
+      heard_elsewhere : (told : Answer) → Calls k.place (FrameHeard port.port octets) emptied draws told w'
+          → IsOneAct at w w' l
+      heard_elsewhere told calls =
+          let answerer_begins = sender_opposite at.direction l.channel in
+          let step = link_called at k.place (FrameHeard port.port octets) emptied draws told w' calls
+          (is_up calls.station calls.here calls.live) orderly left_link
+          (λ same number. absurd (not_asker at.asking (sender at.direction l.channel) at.direction refl l.asking same
+          number))
+          (λ same number. absurd (not_asker at.answering (receiver at.direction l.channel) (opposite at.direction)
+          answerer_begins l.answering same number)) in
+          let asker = part_left at.asking (sender at.direction l.channel) at.direction refl l.asking
+          (part_of l.asking.state) (part_of step.after.asking.state) step.asking in
+          let answerer = part_left at.answering (receiver at.direction l.channel) (opposite at.direction)
+          answerer_begins l.answering (part_of l.answering.state) (part_of step.after.answering.state) step.answering in
+          record {
+            after = step.after;
+            settled = step.settled;
+            so = record {
+              acts = others_send (others_seen step
+                  (ap (asker_view (interval_of l.asking.station.setup.params.pdelay)) asker) (ap waits_view answerer)
+                  (out_mute step (λ same e. absurd cc) (λ p e. absurd cc))
+                  (back_mute step (λ same e. absurd cc)));
+              out = out_in_time step;
+              back = back_in_time step;
+            };
+          }
+
+      elsewhere_seen : (told : Option Answer) → Hears k.place port.port octets emptied draws told w'
+          → IsOneAct at w w' l
+      elsewhere_seen (Some told) calls = heard_elsewhere told calls
+      elsewhere_seen None (failed, none, is) = subst (λ u. IsOneAct at w u l) (sym is) unheard
+
+    -- ---- a frame on this link
+
+    module _ (at : LinkPlace) (l : IsLinkOf at w) (here : link ≡ at.link) where
+      channel_is : k.channel ≡ l.channel
+      channel_is =
+          same_there w.net.channels link k.channel l.channel k.takes.here (ap (slice_get w.net.channels) here ∙ l.here)
+
+      was : queue direction l.channel ≡ frame w.time octets ∷ k.takes.rest
+      was = ap (queue direction) (sym channel_is) ∙ k.takes.front
+
+      stands_now : slice_get k.net.channels at.link ≡ Some (with_queue direction k.takes.rest l.channel)
+      stands_now =
+          ap (λ cs. slice_get cs at.link) channels_are
+          ∙ ap (λ c. slice_get (slice_set w.net.channels link (with_queue direction k.takes.rest c)) at.link) channel_is
+          ∙ ap (λ n. slice_get (slice_set w.net.channels n (with_queue direction k.takes.rest l.channel)) at.link) here
+          ∙ get-set_same w.net.channels at.link l.channel (with_queue direction k.takes.rest l.channel) l.here
+
+      abbrev less : IsLinkOf at emptied
+      less = popped_link at w l direction (frame w.time octets) k.takes.rest was k.net stands_now
+
+      port_is : port ≡ receiver direction l.channel
+      port_is = ap (receiver direction) channel_is
+
+      -- what is heard is one of the frames in flight
+      octets_fit : SaysWhatFits octets
+      octets_fit =
+          l.fit direction (frame w.time octets)
+          (subst (In (frame w.time octets)) (sym was) (inl refl))
+
+      -- a live system hears it
+      not_failed : (place : ℕ) (end : PortId) → IsEndOf place end w → place ≡ k.place → HasFailed k.place emptied → ⊥
+      not_failed place end e same failed =
+          let one : e.station ≡ failed.station =
+          same_there w.stations place e.station failed.station e.here (ap (slice_get w.stations) same ∙ failed.here) in
+          let live = sym e.live ∙ ap (λ (x : Station). x.live) one ∙ failed.failed in
+          absurd cc
+
+      module _ (told : Answer) (calls : Calls k.place (FrameHeard port.port octets) emptied draws told w') where
+        step : LinkStep at k.place (FrameHeard port.port octets) emptied w' less calls.station.system calls.after
+            calls.sends
+        step =
+            link_called at k.place (FrameHeard port.port octets) emptied draws told w' calls
+            (is_up calls.station calls.here calls.live) orderly less (λ same number. octets_fit)
+            (λ same number. octets_fit)
+
+        settled : setting at w' step.after ≡ setting at w l
+        settled =
+            step.settled
+            ∙ popped_settled at w l direction (frame w.time octets) k.takes.rest was k.net stands_now
+
+        -- what a port hears that the frame reaches
+        hears_here : (end : PortId) → (e : SystemState) → (x x' : Part) → end.port ≡ port.port
+            → IsPartAfter e w.time (FrameHeard port.port octets) end.port x x' → PartHears e w.time octets x x'
+        hears_here end e x x' number (inr (unread, is)) = inr (unread, is)
+        hears_here end e x x' number (inl (m, reads, is)) =
+            inl (
+              m,
+              reads,
+              is ∙ ap (λ b. if b then part_heard e w.time m x else x) (eq-eqb end.port port.port number),
+            )
+
+        abbrev period : ℕ
+        period = interval_of l.asking.station.setup.params.pdelay
+
+        -- ---- at the port that answers
+
+        module _ (way : direction ≡ at.direction) where
+          port_answers : port ≡ receiver at.direction l.channel
+          port_answers = port_is ∙ ap (λ d. receiver d l.channel) way
+
+          answers_here : at.answering ≡ k.place
+          answers_here =
+              place_is at.answering (receiver at.direction l.channel) l.answering
+              (ap (λ (p : PortId). p.clock) (sym port_answers))
+
+          asks_elsewhere : at.asking ≢ k.place
+          asks_elsewhere same = l.apart (same ∙ sym answers_here)
+
+          asker_left : asker_view period (part_of step.after.asking.state) ≡ asker_view period (part_of l.asking.state)
+          asker_left = elim step.asking [
+            | inl called ↦ absurd (asks_elsewhere called.0)
+            | inr left ↦ ap (asker_view period) left.1
+          ]
+
+          request_noted : Notes (setting at w l) asks w.time octets (waits_view (part_of l.answering.state))
+              (waits_view (part_of step.after.answering.state))
+          request_noted = elim step.answering [
+            | inl called ↦
+                hears_notes (setting at w l) l.answering.station.system w.time octets (part_of l.answering.state)
+                (part_of step.after.answering.state)
+                (hears_here (receiver at.direction less.channel) l.answering.station.system (part_of l.answering.state)
+                (part_of step.after.answering.state)
+                (ap (λ (p : PortId). p.port)
+                (popped_receiver at w l direction (frame w.time octets) k.takes.rest was k.net stands_now
+                ∙ sym port_answers)) called.1)
+                (clock_is at.answering (receiver at.direction l.channel) w l.answering w.time)
+                (ap (λ (p : Params). p.turnaround) (sym l.answering.set_up.params))
+            | inr left ↦ absurd (left.0 answers_here)
+          ]
+
+          answerer_seen : AnswererHears (setting at w l) asks replies (pair at w l) (pair at w' step.after)
+          answerer_seen = record {
+            time = step.time;
+            asker = asker_is step ∙ asker_left;
+            front = frame_view (frame w.time octets);
+            rest = map frame_view k.takes.rest;
+            was = ap (map frame_view) (ap (λ d. queue d l.channel) (sym way) ∙ was);
+            now = refl;
+            out = out_stays step asks_elsewhere
+                ∙ ap (map frame_view)
+                (ap (λ d. queue d less.channel) (sym way) ∙ queue_set direction k.takes.rest l.channel);
+            waits = request_noted;
+            news = map frame_view (step.grows.news (opposite at.direction));
+            back = back_is step
+                ∙ ap (λ fs. map frame_view fs ++ map frame_view (step.grows.news (opposite at.direction)))
+                (ap (λ d. queue (opposite d) less.channel) (sym way) ∙ queue_left direction k.takes.rest l.channel
+                ∙ ap (λ d. queue (opposite d) l.channel) way);
+            mute = back_mute step (λ same e. absurd cc);
+          }
+
+        -- ---- at the port that asks
+
+        module _ (way : direction ≡ opposite at.direction) where
+          port_asks : port ≡ sender at.direction l.channel
+          port_asks = port_is ∙ ap (λ d. receiver d l.channel) way ∙ receiver_opposite at.direction l.channel
+
+          asks_here : at.asking ≡ k.place
+          asks_here =
+              place_is at.asking (sender at.direction l.channel) l.asking (ap (λ (p : PortId). p.clock) (sym port_asks))
+
+          answers_elsewhere : at.answering ≢ k.place
+          answers_elsewhere same = l.apart (asks_here ∙ sym same)
+
+          waits_left : waits_view (part_of step.after.answering.state) ≡ waits_view (part_of l.answering.state)
+          waits_left = elim step.answering [
+            | inl called ↦ absurd (answers_elsewhere called.0)
+            | inr left ↦ ap waits_view left.1
+          ]
+
+          local_clocks : HasLocalClocks (setting at w l)
+          local_clocks = record {
+            asking_phase = l.asking.station.setup.phase;
+            asking_drift = l.asking.station.setup.drift;
+            answering_phase = l.answering.station.setup.phase;
+            answering_drift = l.answering.station.setup.drift;
+            asking_limit = (sound.wired.setups at.asking l.asking.station l.asking.here).drift;
+            answering_limit = (sound.wired.setups at.answering l.answering.station l.answering.here).drift;
+            asking = λ t. refl;
+            answering = λ t. refl;
+          }
+
+          reply_taken : Takes (setting at w l) replies w.time octets (asker_view period (part_of l.asking.state))
+              (asker_view period (part_of step.after.asking.state))
+          reply_taken = elim step.asking [
+            | inl called ↦
+                hears_takes (setting at w l) l.asking.station.system w.time period octets (part_of l.asking.state)
+                (part_of step.after.asking.state)
+                (hears_here (sender at.direction less.channel) l.asking.station.system (part_of l.asking.state)
+                (part_of step.after.asking.state)
+                (ap (λ (p : PortId). p.port)
+                (popped_sender at w l direction (frame w.time octets) k.takes.rest was k.net stands_now
+                ∙ sym port_asks)) called.1)
+                (sender at.direction l.channel) (receiver at.direction l.channel) refl refl
+                (clock_is at.asking (sender at.direction l.channel) w l.asking w.time) l.asking.measures.own
+                (clocks_apart at w l sound.wired.clocks)
+                (subst (IsGoodLink l.channel.bounds.max l.answering.station.setup.params.turnaround)
+                (sym l.asking.measures.threshold) l.good)
+                local_clocks
+            | inr left ↦ absurd (left.0 asks_here)
+          ]
+
+          other_way : at.direction ≡ opposite direction
+          other_way = sym (opposite_twice at.direction) ∙ ap opposite (sym way)
+
+          asker_seen : AskerHears (setting at w l) asks replies (pair at w l) (pair at w' step.after)
+          asker_seen = record {
+            time = step.time;
+            waits = waits_left;
+            front = frame_view (frame w.time octets);
+            rest = map frame_view k.takes.rest;
+            was = ap (map frame_view) (ap (λ d. queue d l.channel) (sym way) ∙ was);
+            now = refl;
+            back = back_stays step answers_elsewhere
+                ∙ ap (map frame_view)
+                (ap (λ d. queue d less.channel) (sym way) ∙ queue_set direction k.takes.rest l.channel);
+            asker = subst (Takes (setting at w l) replies w.time octets (asker_view period (part_of l.asking.state)))
+                (sym (asker_is step)) reply_taken;
+            news = map frame_view (step.grows.news at.direction);
+            out = out_is step
+                ∙ ap (λ fs. map frame_view fs ++ map frame_view (step.grows.news at.direction))
+                (ap (λ d. queue d less.channel) other_way ∙ queue_left direction k.takes.rest l.channel
+                ∙ ap (λ d. queue d l.channel) (sym other_way));
+            mute = out_mute step (λ same e. absurd cc) (λ p e. absurd cc);
+          }
+
+        heard_act : Acts (setting at w l) asks replies (pair at w l) (pair at w' step.after)
+        heard_act = elim (which_way direction at.direction) [
+          | inl way ↦ answerer_hears (answerer_seen way)
+          | inr way ↦ asker_hears (asker_seen way)
+        ]
+
+        -- what is sent is due in time, though a frame is gone
+        lane_in_time : (way : Direction)
+            → IsSentInTime (setting at w l) w.time (lane_view way l.channel) (lane_view way step.after.channel)
+        lane_in_time way =
+            sent_in_time (setting at w l) w.time (queue way less.channel) (step.grows.news way)
+            (lane_view way l.channel)
+            (lane_view way step.after.channel)
+            (ap (map frame_view) (step.grows.queues way)
+            ∙ map-append frame_view (queue way less.channel) (step.grows.news way))
+            (λ g member.
+            let (f, among, is) = seen_from (queue way less.channel) g member in
+            subst (λ x. In x (lane_view way l.channel)) (sym is)
+            (In-map frame_view f (queue way l.channel)
+            (left_there at w l direction (frame w.time octets) k.takes.rest was k.net stands_now way f among)))
+            (λ f member. subst (λ most. IsDueSoon w.time most (queue way less.channel) f)
+            (most_same at w l direction (frame w.time octets) k.takes.rest was k.net stands_now)
+            (step.grows.dues way f member))
+
+      -- one of the two stations hears it, and both are live
+      no_one_failed : HasFailed k.place emptied → ⊥
+      no_one_failed failed = elim (which_way direction at.direction) [
+        | inl way ↦
+            let same : port ≡ receiver at.direction l.channel = port_is ∙ ap (λ d. receiver d l.channel) way in
+            not_failed at.answering (receiver at.direction l.channel) l.answering
+            (place_is at.answering (receiver at.direction l.channel) l.answering
+            (ap (λ (p : PortId). p.clock) (sym same))) failed
+        | inr way ↦
+            let same : port ≡ sender at.direction l.channel =
+            port_is ∙ ap (λ d. receiver d l.channel) way ∙ receiver_opposite at.direction l.channel in
+            not_failed at.asking (sender at.direction l.channel) l.asking
+            (place_is at.asking (sender at.direction l.channel) l.asking (ap (λ (p : PortId). p.clock) (sym same)))
+            failed
+      ]
+
+      here_seen : (told : Option Answer) → Hears k.place port.port octets emptied draws told w'
+          → IsOneAct at w w' l
+      here_seen (Some told) calls = record {
+        after = (step told calls).after;
+        settled = settled told calls;
+        so = record {
+          acts = heard_act told calls;
+          out = lane_in_time told calls at.direction;
+          back = lane_in_time told calls (opposite at.direction);
+        };
+      }
+      here_seen None (failed, none, is) = absurd (no_one_failed failed)
+
+    -- a frame on this link is heard by the port at its end
+    pub answerer_hears_seen : (at : LinkPlace) (l : IsLinkOf at w) → link ≡ at.link → direction ≡ at.direction
+        → IsSeen (λ k p p'. AnswererHears k asks replies p p') at w w' l
+    answerer_hears_seen at l here way = go answer k.hears
+      where
+        go : (told : Option Answer) → Hears k.place port.port octets emptied draws told w'
+            → IsSeen (λ k p p'. AnswererHears k asks replies p p') at w w' l
+        go None (failed, none, is) = absurd (no_one_failed at l here failed)
+        go (Some told) calls = record {
+          after = (step at l here told calls).after;
+          settled = settled at l here told calls;
+          so = answerer_seen at l here told calls way;
+        }
+
+    pub asker_hears_seen : (at : LinkPlace) (l : IsLinkOf at w) → link ≡ at.link → direction ≡ opposite at.direction
+        → IsSeen (λ k p p'. AskerHears k asks replies p p') at w w' l
+    asker_hears_seen at l here way = go answer k.hears
+      where
+        go : (told : Option Answer) → Hears k.place port.port octets emptied draws told w'
+            → IsSeen (λ k p p'. AskerHears k asks replies p p') at w w' l
+        go None (failed, none, is) = absurd (no_one_failed at l here failed)
+        go (Some told) calls = record {
+          after = (step at l here told calls).after;
+          settled = settled at l here told calls;
+          so = asker_seen at l here told calls way;
+        }
+
+    pub delivers_seen : (at : LinkPlace) (l : IsLinkOf at w) → IsOneAct at w w' l
+    delivers_seen at l = elim (same_place link at.link) [
+      | inl here ↦ here_seen at l here answer k.hears
+      | inr other ↦ elsewhere_seen at l other answer k.hears
+    ]

@@ -1,0 +1,82 @@
+-- Where the systems of a world and their ports stand in its view, and members of mapped lists.
+use Rattle.std.proofs.Common.{◌≡◌, ℕ, zero, suc, List, [], ◌∷◌, map, Some, slice_get, refl, sym, ap, ◌∙◌, inl, inr}
+use Rattle.std.proofs.lemmas.Option.{none-some, same_Some}
+use Rattle.gptp_graph.specs.Members.{In}
+use Rattle.gptp_receipt.specs.declared.held.Held.{Held}
+use Rattle.gptp_system.specs.declared.port.Port.{Port}
+use Rattle.gptp_system.specs.declared.setup.Params.{Params}
+use Rattle.gptp_acts.specs.declared.station.Station.{Station}
+use Rattle.gptp_acts.proofs.ListLemmas.{mapped, mapped_there}
+use Rattle.gptp_settling.specs.Station.{Port as SeenPort, Station as SeenStation}
+use Rattle.gptp_kept.specs.View.{port_view, ports_view, station_view}
+
+-- ---- systems
+
+pub station_there : (stations : List Station) (place : ℕ) (station : Station) → slice_get stations place ≡ Some station
+    → slice_get (map station_view stations) place ≡ Some (station_view station)
+station_there stations place station here = mapped_there station_view stations place station here
+
+-- what stands at a place is the system there
+pub record IsStationAt (stations : List Station) (place : ℕ) (seen : SeenStation) : Type 0 where
+  pub station : Station
+  pub here : slice_get stations place ≡ Some station
+  pub is : seen ≡ station_view station
+
+pub station_from : (stations : List Station) (place : ℕ) (seen : SeenStation)
+    → slice_get (map station_view stations) place ≡ Some seen → IsStationAt stations place seen
+station_from stations place seen there =
+    let (station, here, is) = mapped station_view stations place seen there in
+    record { station = station; here = here; is = sym is }
+
+-- ---- ports
+
+pub port_there : (params : Params) (hs : List Held) (qs : List Port) (i : ℕ) (h : Held) (q : Port)
+    → slice_get hs i ≡ Some h → slice_get qs i ≡ Some q
+    → slice_get (ports_view params hs qs) i ≡ Some (port_view params h q)
+port_there params [] qs i h q held there = absurd (none-some h held)
+port_there params (g ∷ hs) [] i h q held there = absurd (none-some q there)
+port_there params (g ∷ hs) (p ∷ qs) zero h q held there =
+    ap (λ x. Some (port_view params x p)) (same_Some g h held)
+    ∙ ap (λ x. Some (port_view params h x)) (same_Some p q there)
+port_there params (g ∷ hs) (p ∷ qs) (suc i) h q held there = port_there params hs qs i h q held there
+
+-- what stands at a place is the port there, with what it holds
+pub record IsPortAt (params : Params) (hs : List Held) (qs : List Port) (i : ℕ) (seen : SeenPort) : Type 0 where
+  pub held : Held
+  pub port : Port
+  pub held_there : slice_get hs i ≡ Some held
+  pub port_there : slice_get qs i ≡ Some port
+  pub is : seen ≡ port_view params held port
+
+pub port_from : (params : Params) (hs : List Held) (qs : List Port) (i : ℕ) (seen : SeenPort)
+    → slice_get (ports_view params hs qs) i ≡ Some seen → IsPortAt params hs qs i seen
+port_from params [] qs i seen there = absurd (none-some seen there)
+port_from params (h ∷ hs) [] i seen there = absurd (none-some seen there)
+port_from params (h ∷ hs) (q ∷ qs) zero seen there = record {
+  held = h;
+  port = q;
+  held_there = refl;
+  port_there = refl;
+  is = sym (same_Some (port_view params h q) seen there);
+}
+port_from params (h ∷ hs) (q ∷ qs) (suc i) seen there =
+    let later = port_from params hs qs i seen there in
+    record {
+      held = later.held;
+      port = later.port;
+      held_there = later.held_there;
+      port_there = later.port_there;
+      is = later.is;
+    }
+
+-- ---- members of mapped lists
+
+pub In-map : {X Y : Type 0} (f : X → Y) (x : X) (xs : List X) → In x xs → In (f x) (map f xs)
+In-map f x [] h = absurd h
+In-map f x (y ∷ ys) (inl same) = inl (ap f same)
+In-map f x (y ∷ ys) (inr h) = inr (In-map f x ys h)
+
+pub In-mapped : {X Y : Type 0} (f : X → Y) (y : Y) (xs : List X) → In y (map f xs) → (x : X) × In x xs × (y ≡ f x)
+In-mapped f y [] h = absurd h
+In-mapped f y (x ∷ xs) (inl same) = (x, inl refl, same)
+In-mapped f y (x ∷ xs) (inr h) = let (z, among, same) = In-mapped f y xs h in (z, inr among, same)

@@ -1,0 +1,119 @@
+-- What the view of a world makes of the ports of its systems.
+use Rattle.std.proofs.Common.{◌≡◌, ◌*◌, ℕ, suc, Bool, List, [], ◌∷◌, length, Some, slice_get, refl, sym, ap, ◌∙◌, arith}
+use Rattle.std.proofs.lemmas.Option.{none-some, same_Some, slice_get_within}
+use Rattle.gptp_receipt.specs.declared.held.Held.{Held}
+use Rattle.gptp_receipt.specs.declared.held.Held.TheVariants as helds
+use Rattle.gptp_receipt.specs.Held.{Reception, received}
+use Rattle.gptp_system.specs.declared.port.Port.{Port}
+use Rattle.gptp_system.specs.declared.setup.Params.{Params}
+use Rattle.gptp_system.specs.Facts.{AreShown}
+use Rattle.gptp_system.specs.Intervals.{interval_of}
+use Rattle.gptp_system.specs.State.{SystemState}
+use Rattle.gptp_acts.specs.declared.station.Station.{Station}
+use Rattle.gptp_acts.proofs.PlaceLemmas.{member_there}
+use Rattle.gptp_settling.specs.Facts.{system_of}
+use Rattle.gptp_settling.specs.Station.{Reception as SeenReception, Aged, Mine, Received, Port as SeenPort, HoldsAt}
+use Rattle.gptp_kept.specs.Known.{IsSetTo}
+use Rattle.gptp_kept.specs.View.{held_view, ports_view, port_view, reception_view, span_at, station_view, system_view}
+use Rattle.gptp_kept.proofs.PlaceLemmas.{port_from, port_there}
+use Rattle.gptp_kept.proofs.ReactLemmas.{received_back}
+use Rattle.gptp_kept.specs.Standing.{standing}
+
+-- ---- what is held
+
+pub received_seen : (span : ℕ) (h : Held) (r : Reception) → received h ≡ Some r
+    → held_view span h ≡ Received (reception_view span r)
+received_seen span helds.Disabled r got = absurd (none-some r got)
+received_seen span helds.Aged r got = absurd (none-some r got)
+received_seen span (helds.Mine root steps) r got = absurd (none-some r got)
+received_seen span (helds.Received vector path at) r got =
+    ap (λ x. Received (reception_view span x)) (same_Some _ r got)
+
+pub mine_back : (span : ℕ) (h : Held) (root steps : ℕ) → held_view span h ≡ Mine root steps → h ≡ helds.Mine root steps
+mine_back span helds.Disabled root steps same = absurd cc
+mine_back span helds.Aged root steps same = absurd cc
+mine_back span (helds.Mine r t) root steps same = cc
+mine_back span (helds.Received vector path at) root steps same = absurd cc
+
+pub aged_back : (span : ℕ) (h : Held) → held_view span h ≡ Aged → h ≡ helds.Aged
+aged_back span helds.Disabled same = absurd cc
+aged_back span helds.Aged same = refl
+aged_back span (helds.Mine root steps) same = absurd cc
+aged_back span (helds.Received vector path at) same = absurd cc
+
+-- ---- ports
+
+-- a system is seen with as many ports as it has
+length-ports : (params : Params) (hs : List Held) (qs : List Port) → length hs ≡ length qs
+    → length (ports_view params hs qs) ≡ length qs
+length-ports params [] [] same = refl
+length-ports params [] (q ∷ qs) same = absurd cc
+length-ports params (h ∷ hs) [] same = absurd cc
+length-ports params (h ∷ hs) (q ∷ qs) same =
+    let rest : length hs ≡ length qs = omega arith in ap suc (length-ports params hs qs rest)
+
+-- so the snapshot has it as it is seen
+pub same_standing : (station : Station) → AreShown station.system
+    → standing station ≡ system_of (station_view station)
+same_standing station shown =
+    let s = station.system in
+    let count = length-ports s.params s.held s.ports shown.places in
+    rw count refl
+
+-- at each place of what is held there is a port
+pub port_of_held : (s : SystemState) → AreShown s → (i : ℕ) (h : Held) → slice_get s.held i ≡ Some h
+    → (q : Port) × (slice_get s.ports i ≡ Some q)
+port_of_held s shown i h stands =
+    let within = slice_get_within s.held i h stands in
+    let places = shown.places in
+    member_there s.ports i (omega arith)
+
+-- what a port received is seen at its place
+pub holds_there : (live : Bool) (s : SystemState) → AreShown s → (i : ℕ) (h : Held) (r : Reception)
+    → slice_get s.held i ≡ Some h → received h ≡ Some r
+    → (span : ℕ) × HoldsAt (system_view live s) i (reception_view span r)
+holds_there live s shown i h r stands got =
+    let (q, there) = port_of_held s shown i h stands in
+    let seen = port_there s.params s.held s.ports i h q stands there in
+    (span_at s.params q, (port_view s.params h q, seen, received_seen (span_at s.params q) h r got))
+
+-- what is seen as received is what the port there received
+pub record IsHeldAt (s : SystemState) (i : ℕ) (seen : SeenReception) : Type 0 where
+  pub held : Held
+  pub port : Port
+  pub reception : Reception
+  pub stands : slice_get s.held i ≡ Some held
+  pub there : slice_get s.ports i ≡ Some port
+  pub got : received held ≡ Some reception
+  pub is : seen ≡ reception_view (span_at s.params port) reception
+
+pub held_from : (live : Bool) (s : SystemState) (i : ℕ) (seen : SeenReception) → HoldsAt (system_view live s) i seen
+    → IsHeldAt s i seen
+held_from live s i seen (q, there, holds) =
+    let at = port_from s.params s.held s.ports i q there in
+    let back = received_back (span_at s.params at.port) at.held seen
+    (ap (λ (x : SeenPort). x.held) (sym at.is) ∙ holds) in
+    record {
+      held = at.held;
+      port = at.port;
+      reception = back.0;
+      stands = at.held_there;
+      there = at.port_there;
+      got = back.1;
+      is = back.2;
+    }
+
+-- ---- a station of a network
+
+-- its ports announce at the network's interval, and what they receive stays for the network's timeout
+pub interval_is : (p : Params) (station : Station) → IsSetTo p station → (i : ℕ) (q : Port)
+    → slice_get station.system.ports i ≡ Some q → interval_of q.log_interval ≡ interval_of p.announce
+interval_is p station set i q there = ap interval_of (set.logs i q there)
+
+pub span_is : (p : Params) (station : Station) → IsSetTo p station → (i : ℕ) (q : Port)
+    → slice_get station.system.ports i ≡ Some q
+    → span_at station.system.params q ≡ p.timeout * interval_of p.announce
+span_is p station set i q there =
+    let log = set.logs i q there in
+    let params = set.system in
+    rw (params, log) refl

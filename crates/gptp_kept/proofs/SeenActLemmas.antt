@@ -1,0 +1,28 @@
+-- Every act that changes nothing of the network is a step of the machine.
+use Rattle.std.proofs.Common.{◌⊎◌, List, inl, inr}
+use Rattle.gptp_links.specs.Fate.{Draw}
+use Rattle.gptp_system.specs.State.{number}
+use Rattle.gptp_acts.specs.declared.change.Act.{Act}
+use Rattle.gptp_acts.specs.declared.change.Act.TheVariants.{Deliver, Expire, Change as Changing}
+use Rattle.gptp_acts.specs.declared.done.Done.{Done}
+use Rattle.gptp_acts.specs.Acts.{Acts}
+use Rattle.gptp_acts.specs.Sound.{IsSound}
+use Rattle.gptp_acts.specs.World.{WorldState}
+use Rattle.gptp_settling.specs.Acts.{Acts as SeenActs, Arrives, Drops}
+use Rattle.gptp_kept.specs.Legible.{IsLegible}
+use Rattle.gptp_kept.specs.SeenLaws.{IsNoChange}
+use Rattle.gptp_kept.specs.View.{says, view}
+use Rattle.gptp_kept.proofs.SeenDeliveryLemmas.{delivers_seen}
+use Rattle.gptp_kept.proofs.SeenExpiryLemmas.{expires_seen}
+
+pub acts_seen : (act : Act) (w : WorldState) (draws : List Draw) (done : Done) (w' : WorldState) → IsNoChange act
+    → IsSound w → IsLegible w → Acts act w draws done w' → SeenActs says (view w) (view w')
+acts_seen (Deliver link direction) w draws done w' none sound legible k =
+    by (delivers_seen link direction k.octets w draws k.answer w' sound legible k.delivers)
+  where
+    by : Arrives says (view w) (view w') ⊎ Drops says (view w) (view w') → SeenActs says (view w) (view w')
+    by (inl arrives) = inl arrives
+    by (inr drops) = inr (inl drops)
+acts_seen (Expire number timer) w draws done w' none sound legible (told, k) =
+    inr (inr (expires_seen k.place timer w draws w' sound legible k.so))
+acts_seen (Changing change) w draws done w' none sound legible k = absurd none

@@ -1,0 +1,87 @@
+-- From the last change on a port whose link's other end has failed is unanswered, and stops being capable.
+use Rattle.std.proofs.Common.{◌≡◌, ◌≤◌, ◌+◌, ◌*◌, ℕ, zero, suc, Bool, true, false, Some, refl, sym, subst, arith}
+use Rattle.std.proofs.lemmas.Option.{none-some}
+use Rattle.gptp_vector.specs.declared.port.PortId.{PortId}
+use Rattle.gptp_pdelay.specs.Peer.{is_capable}
+use Rattle.gptp_system.specs.declared.setup.Params.{Params}
+use Rattle.gptp_system.specs.Intervals.{AreParams, interval_of}
+use Rattle.gptp_system.specs.State.{number}
+use Rattle.gptp_system.proofs.StartedLemmas.{interval_positive}
+use Rattle.gptp_acts.specs.World.{WorldState, sender}
+use Rattle.gptp_measuring.specs.Setting.{Setting}
+use Rattle.gptp_measuring.specs.Silence.{InvUnanswered}
+use Rattle.gptp_measuring.proofs.SilenceLemmas.{silence_settles, unanswered_begins, unanswered_kept, unanswered_later}
+use Rattle.gptp_kept.specs.LinkView.{IsEndOf, opposite}
+use Rattle.gptp_kept.specs.Known.{IsKnown}
+use Rattle.gptp_kept.specs.UnansweredLaws.{PortsBecomeIncapable, SilenceBegins, SilenceGoesOn, SilenceIsKept}
+use Rattle.gptp_kept.specs.Unanswered.{setting, view}
+use Rattle.gptp_kept.proofs.UnansweredActLemmas.{acts_seen}
+use Rattle.gptp_kept.proofs.UnansweredStandLemmas.{timers_known}
+
+-- no more requests of an end are lost than may be
+end_lost : (p : Params) (place : ℕ) (port : PortId) (w : WorldState) → IsKnown p w → (e : IsEndOf place port w)
+    → e.state.peer.lost ≤ e.state.peer.allowed
+end_lost p place port w known e = go port.port e.there
+  where
+    go : (n : ℕ) → number e.station.system.ports n ≡ Some e.state → e.state.peer.lost ≤ e.state.peer.allowed
+    go zero there = absurd (none-some e.state there)
+    go (suc i) there = (known.measuring place e.station e.here e.live i e.state there).peer.lost
+
+pub silence_begins : SilenceBegins
+silence_begins at p w sound known l changed =
+    let gone = w.last_change + interval_of p.announce in
+    let lost = end_lost p at.asking (sender at.direction l.channel) w known l.asking in
+    let allowed = l.asking.measures.allowed in
+    let timers = timers_known at p w l sound known in
+    record {
+      link = l;
+      old = λ f member.
+          let near = known.near at.link (opposite at.direction) l.channel f l.here member in omega arith;
+      inv = unanswered_begins (setting at w l) gone (view at w l) (omega (arith, lost, allowed))
+          (omega (arith, timers.asked, changed));
+    }
+
+pub silence_kept : SilenceIsKept
+silence_kept at gone p act w w' draws done sound measured known calm acts is =
+    let k = setting at w is.link in
+    let seen = acts_seen at gone act w w' draws done is.link sound measured is.old calm acts in
+    let s = view at w is.link in
+    let s' = view at w' seen.after in
+    let inv = unanswered_kept k gone s s' (timers_known at p w is.link sound known) seen.so is.inv in
+    record {
+      link = seen.after;
+      old = seen.old;
+      inv = subst (λ (x : Setting). InvUnanswered x gone s') (sym seen.settled) inv;
+    }
+
+pub silence_goes_on : SilenceGoesOn
+silence_goes_on at gone time w is = record {
+  link = is.link;
+  old = is.old;
+  inv = unanswered_later (setting at w is.link) gone time (view at w is.link) is.inv;
+}
+
+pub become_incapable : PortsBecomeIncapable
+become_incapable at p change w sound known short l past = go (is_capable l.link.asking.state.peer) refl
+  where
+    set_to : l.link.asking.station.setup.params ≡ p
+    set_to = (known.set at.asking l.link.asking.station l.link.asking.here).setup
+
+    params : AreParams p
+    params =
+        subst AreParams (known.set at.asking l.link.asking.station l.link.asking.here).system
+        (sound.on_time.stations at.asking l.link.asking.station l.link.asking.here).steady.params
+
+    short_here : (setting at w l.link).period ≤ interval_of p.announce
+    short_here = subst (λ (x : Params). interval_of x.pdelay ≤ interval_of p.announce) (sym set_to) short
+
+    past_here : change + ((setting at w l.link).allowed + 5) * interval_of p.announce ≤ w.time
+    past_here =
+        subst (λ (x : Params). change + (x.lost + 5) * interval_of p.announce ≤ w.time) (sym set_to) past
+
+    go : (b : Bool) → is_capable l.link.asking.state.peer ≡ b → is_capable l.link.asking.state.peer ≡ false
+    go true capable =
+        absurd (silence_settles (setting at w l.link) change (interval_of p.announce) (view at w l.link)
+        (omega (arith, interval_positive p.announce params.announce)) short_here
+        (timers_known at p w l.link sound known) l.inv past_here capable)
+    go false other = other

@@ -1,0 +1,131 @@
+-- What a system sends says its own Announces, and nothing else.
+use Rattle.std.proofs.Common.{◌≡◌, ◌≤◌, ◌<◌, ◌^◌, ℕ, suc, pos, Bool, List, length, refl, sym, ap, subst, ◌∙◌, arith}
+use Rattle.std.proofs.lemmas.Option.{slice_get_within}
+use Rattle.gptp_graph.specs.Members.{In}
+use Rattle.gptp_graph.specs.Snapshot.{port_of}
+use Rattle.gptp_messages.specs.declared.announce.AnnounceView.{AnnounceView}
+use Rattle.gptp_messages.specs.declared.head.Head.{Head}
+use Rattle.gptp_messages.specs.declared.message.Message.TheVariants as messages
+use Rattle.gptp_messages.specs.Grammar.{Reads, Written}
+use Rattle.gptp_messages.proofs.GrammarLemmas.{one_reading}
+use Rattle.gptp_receipt.specs.declared.held.Held.TheVariants as helds
+use Rattle.gptp_system.specs.declared.sending.Body.{Body}
+use Rattle.gptp_system.specs.declared.sending.Body.TheVariants as bodies
+use Rattle.gptp_system.specs.declared.sending.Sending.{Sending}
+use Rattle.gptp_system.specs.Facts.{AreShown}
+use Rattle.gptp_system.specs.Reacts.{IsAnnounce, IsOwnAnnounce}
+use Rattle.gptp_system.specs.Sends.{announcement}
+use Rattle.gptp_system.specs.State.{SystemState, clock, own, trace}
+use Rattle.gptp_system.proofs.TypeLemmas.{type_is}
+use Rattle.gptp_acts.specs.Sends.{message_of, written}
+use Rattle.gptp_acts.proofs.PlaceLemmas.{member_there}
+use Rattle.gptp_settling.specs.Frame.{Announce}
+use Rattle.gptp_settling.specs.Reacts.{IsMasterAt}
+use Rattle.gptp_kept.specs.Legible.{AreClocks, SayWhatFits}
+use Rattle.gptp_kept.specs.View.{port_view, said, system_view}
+use Rattle.gptp_kept.proofs.AnnounceLemmas.{announce_reads}
+use Rattle.gptp_kept.proofs.FitLemmas.{TellsWhatFits, all_clocks, clock_fits}
+use Rattle.gptp_kept.proofs.SeenOctetLemmas.{same_announce}
+use Rattle.gptp_kept.proofs.PlaceLemmas.{port_there}
+use Rattle.gptp_kept.proofs.ReactLemmas.{AreOwn, AreRead}
+
+-- what is no Announce isn't read as one
+read_announce : (path : List ℕ) (head : Head) (body : Body) (a : AnnounceView)
+    → Reads (Written (message_of path head body)) (messages.Announce a) → IsAnnounce body
+read_announce path head (bodies.Announce body) a reads = (body, refl)
+read_announce path head bodies.Sync a reads =
+    absurd (let kind = type_is _ (messages.Announce a) reads in omega arith)
+read_announce path head (bodies.FollowUp origin rate) a reads =
+    absurd (let kind = type_is _ (messages.Announce a) reads in omega arith)
+read_announce path head bodies.PdelayReq a reads =
+    absurd (let kind = type_is _ (messages.Announce a) reads in omega arith)
+read_announce path head (bodies.PdelayResp stamp requester) a reads =
+    absurd (let kind = type_is _ (messages.Announce a) reads in omega arith)
+read_announce path head (bodies.PdelayRespFollowUp stamp requester) a reads =
+    absurd (let kind = type_is _ (messages.Announce a) reads in omega arith)
+
+-- what a system announces at a port
+abbrev pub own_announce : SystemState → ℕ → Announce
+own_announce s n = record { root = s.root; steps = s.steps; source = port_of (clock s) n; path = trace s }
+
+module _ (s : SystemState) (fits : TellsWhatFits s) (few : length s.ports ≤ 16) (shown : AreShown s) where
+  -- an own Announce is of one of the ports
+  own_within : (x : Sending) (k : IsOwnAnnounce s x) → k.place < length s.ports
+  own_within x k =
+      let places = shown.places in
+      let inside = slice_get_within s.held k.place (helds.Mine s.root s.steps) k.holds in
+      omega arith
+
+  -- it reads as itself
+  own_reads : (x : Sending) → IsOwnAnnounce s x
+      → (m : AnnounceView) × Reads (written s x) (messages.Announce m) × (said m ≡ own_announce s x.port)
+  own_reads x k =
+      let y = announcement (own s (suc k.place)) s.root s.steps k.port in
+      let within = own_within x k in
+      let near = fits.steps in
+      subst
+      (λ (z : Sending). (m : AnnounceView) × Reads (written s z) (messages.Announce m)
+      × (said m ≡ own_announce s z.port))
+      (sym k.is)
+      (announce_reads y.head
+      (record { utc_offset = pos 37; root = s.root; steps = s.steps; time_source = 0xA0 }) (trace s)
+      (record { clock = clock_fits s; port = omega arith })
+      (record {
+        utc_offset = record { sfits = omega arith };
+        root = fits.root;
+        steps = omega arith;
+        time_source = omega arith;
+      })
+      (record { clocks = all_clocks (trace s) fits.path; room = fits.room }))
+
+  -- and as nothing else
+  own_said : (x : Sending) → IsOwnAnnounce s x → (m : AnnounceView) → Reads (written s x) (messages.Announce m)
+      → said m ≡ own_announce s x.port
+  own_said x k m reads =
+      let (n, also, is) = own_reads x k in
+      let one = one_reading (written s x) (messages.Announce m) (messages.Announce n) reads also in
+      ap said (same_announce m n one) ∙ is
+
+  own_master : (live : Bool) (x : Sending) → IsOwnAnnounce s x → IsMasterAt (system_view live s) x.port
+  own_master live x k =
+      let (q, there) = member_there s.ports k.place (own_within x k) in
+      let mine = helds.Mine s.root s.steps in (
+        k.place,
+        port_view s.params mine q,
+        k.number_is,
+        port_there s.params s.held s.ports k.place mine q k.holds there,
+        refl,
+      )
+
+  -- ---- all that it sends, where each Announce is its own
+  module _ (sends : List Sending) (tells : (x : Sending) → In x sends → IsAnnounce x.body → IsOwnAnnounce s x) where
+    -- what is read as an Announce is an own one
+    own_read : (x : Sending) → In x sends → (m : AnnounceView) → Reads (written s x) (messages.Announce m)
+        → IsOwnAnnounce s x
+    own_read x among m reads = tells x among (read_announce (trace s) x.head x.body m reads)
+
+    pub are_read : AreRead s sends
+    are_read x among announce =
+        let (m, reads, is) = own_reads x (tells x among announce) in (said m, (m, reads, refl))
+
+    pub are_own : (live : Bool) → AreOwn live s sends
+    are_own live x a among (m, reads, is) =
+        let k = own_read x among m reads in
+        let all : a ≡ own_announce s x.port = is ∙ own_said x k m reads in (
+          record {
+            root = ap (λ (b : Announce). b.root) all;
+            steps = ap (λ (b : Announce). b.steps) all;
+            source = ap (λ (b : Announce). b.source) all;
+            path = ap (λ (b : Announce). b.path) all;
+          },
+          own_master live x k,
+        )
+
+    -- what is sent says what fits
+    pub sends_fit : (x : Sending) → In x sends → SayWhatFits (written s x)
+    sends_fit x among m reads =
+        let all = own_said x (own_read x among m reads) m reads in
+        record {
+          root = subst (λ r. r < 2 ^ 112) (sym (ap (λ (b : Announce). b.root) all)) fits.root;
+          path = subst AreClocks (sym (ap (λ (b : Announce). b.path) all)) fits.path;
+        }

@@ -1,0 +1,173 @@
+-- Traces in a calm world become clean.
+use Rattle.std.proofs.Common.{◌≡◌, ◌≤◌, ◌+◌, ◌*◌, ℕ, zero, suc, true, List, ◌∷◌, map, length, Option, Some, None, slice_get, refl, sym, ap, subst, ◌∙◌, inl, arith}
+use Rattle.std.proofs.lemmas.Option.{none-some, same_Some, slice_get_within}
+use Rattle.gptp_graph.specs.Members.{In}
+use Rattle.gptp_graph.specs.Snapshot.{port_of}
+use Rattle.gptp_messages.specs.declared.announce.AnnounceView.{AnnounceView}
+use Rattle.gptp_messages.specs.declared.message.Message.TheVariants as messages
+use Rattle.gptp_messages.specs.Grammar.{Reads}
+use Rattle.gptp_links.specs.declared.bounds.Bounds.{Bounds}
+use Rattle.gptp_links.specs.declared.link.Direction.{Direction}
+use Rattle.gptp_links.specs.Fate.{Draw}
+use Rattle.gptp_links.specs.Queue.{Frame, frame}
+use Rattle.gptp_receipt.specs.declared.held.Held.{Held}
+use Rattle.gptp_receipt.specs.declared.held.Held.TheVariants as helds
+use Rattle.gptp_receipt.specs.Held.{Reception, received}
+use Rattle.gptp_system.specs.declared.setup.Params.{Params}
+use Rattle.gptp_system.specs.State.{SystemState, clock, held_at}
+use Rattle.gptp_acts.specs.declared.change.Act.{Act}
+use Rattle.gptp_acts.specs.declared.change.Act.TheVariants.{Deliver, Expire, Change as Changing}
+use Rattle.gptp_acts.specs.declared.change.Timed.{Timed}
+use Rattle.gptp_acts.specs.declared.done.Done.{Done}
+use Rattle.gptp_acts.specs.declared.done.Done.TheVariants.{Quiet, Heard}
+use Rattle.gptp_acts.specs.declared.station.Station.{Station}
+use Rattle.gptp_acts.specs.Acts.{Acts, Delivery, at as at_time}
+use Rattle.gptp_acts.specs.Course.{WasDone}
+use Rattle.gptp_acts.specs.Views.{ShowsLive}
+use Rattle.gptp_acts.specs.World.{Channel, WorldState, queue, receiver, sender}
+use Rattle.gptp_acts.proofs.PlaceLemmas.{member_there}
+use Rattle.gptp_settling.specs.Calm.{Calm}
+use Rattle.gptp_settling.specs.CleanInvariant.{StationIsClean, TracesAreClean}
+use Rattle.gptp_settling.specs.Facts.{IsStation, Late, Setting}
+use Rattle.gptp_settling.specs.Frame.{Frame as SeenFrame}
+use Rattle.gptp_settling.specs.Network.{setting}
+use Rattle.gptp_settling.proofs.CleanLemmas.{may_say}
+use Rattle.gptp_kept.specs.View.{frame_view, identity_of, lane_place, lane_view, port_view, reception_view, said, says, span_at, station_view, view}
+use Rattle.gptp_kept.proofs.SeenLaneLemmas.{lane_there}
+use Rattle.gptp_kept.proofs.PlaceLemmas.{port_there, station_there}
+use Rattle.gptp_kept.specs.Calm.{IsQuietWorld}
+use Rattle.gptp_kept.specs.Standing.{snapshot_of}
+use Rattle.gptp_kept.specs.Holds.{settling_network, start_of}
+use Rattle.gptp_kept.proofs.HoldsLemmas.{is_calm}
+use Rattle.gptp_kept.specs.Claimed.{Claimed, IsClaimed}
+use Rattle.gptp_kept.specs.Traces.{AreHeldCleanInTime, IsCleanInTime, IsFrameClean, IsHeardClean, IsHeldClean, IsTraceClean, announced, turn_of}
+use Rattle.gptp_kept.proofs.ClaimedLemmas.{set_alike}
+use Rattle.gptp_kept.proofs.ClaimLemmas.{claim_capable}
+
+module _ (p : Params) (w : WorldState) (is : IsClaimed p w) (quiet : IsQuietWorld p w) where
+  abbrev k : Setting
+  k = setting (settling_network p w)
+
+  state : Calm (settling_network p w) (view w)
+  state = is_calm p w is.world quiet (claim_capable p w is)
+
+  traces : TracesAreClean says k (view w)
+  traces = (is.settling quiet).traces
+
+  -- ---- one live system
+
+  module _ (place : ℕ) (station : Station) (here : slice_get w.stations place ≡ Some station)
+      (live : station.live ≡ true) where
+    abbrev s : SystemState
+    s = station.system
+
+    known : IsStation k w.time (station_view station)
+    known = state.facts.stations place (station_view station) (station_there w.stations place station here) live
+
+    clean : StationIsClean k (station_view station)
+    clean = traces.stations place (station_view station) (station_there w.stations place station here) live
+
+    trace_clean : (c : ℕ) → start_of p w + c * turn_of p ≤ w.time → IsTraceClean (snapshot_of w) c s
+    trace_clean c late =
+        (may_say k w.time (station_view station) known clean c 0 (announced s)
+        (record { root = refl; steps = refl; source = refl; path = refl }) late).clean
+
+    held_clean : (c n : ℕ) (r : Reception) → received (held_at s n) ≡ Some r → Late k c r.at
+        → IsHeldClean (snapshot_of w) (suc c) (clock s) n r
+    held_clean c zero r holds late = absurd (none-some r holds)
+    held_clean c (suc i) r holds late = by (slice_get s.held i) refl holds
+      where
+        -- what stands there is received
+        came : (h : Held) → slice_get s.held i ≡ Some h → received h ≡ Some r
+            → IsHeldClean (snapshot_of w) (suc c) (clock s) (suc i) r
+        came helds.Disabled there none = absurd (none-some r none)
+        came helds.Aged there none = absurd (none-some r none)
+        came (helds.Mine root steps) there none = absurd (none-some r none)
+        came (helds.Received vector path at) there some =
+            let one : Reception = record { vector = vector; path = path; at = at } in
+            let same : one ≡ r = same_Some one r some in
+            let places = (is.world.sound.on_time.stations place station here).steady.shown.places in
+            let within : suc i ≤ length s.held = slice_get_within s.held i (helds.Received vector path at) there in
+            let (q, port) = member_there s.ports i (rw places at within) in
+            let seen = port_there s.params s.held s.ports i (helds.Received vector path at) q there port in
+            let hit = clean i (reception_view (span_at s.params q) one) c
+            (port_view s.params (helds.Received vector path at) q, seen, refl)
+            (subst (λ (x : Reception). Late k c x.at) (sym same) late) in
+            subst (IsHeldClean (snapshot_of w) (suc c) (clock s) (suc i)) same
+            (record { from = hit.from; joins = hit.joins; good = hit.good })
+
+        by : (found : Option Held) → slice_get s.held i ≡ found
+            → received (held_at s (suc i)) ≡ Some r
+            → IsHeldClean (snapshot_of w) (suc c) (clock s) (suc i) r
+        by None none holds = absurd (none-some r (rw none at holds))
+        by (Some h) there holds = came h there (rw there at holds)
+
+  -- ---- a frame that arrives
+
+  frame_clean : (c link : ℕ) (direction : Direction) (channel : Channel) (time : ℕ) (octets : List ℕ)
+      (rest : List Frame) (m : AnnounceView) → slice_get w.net.channels link ≡ Some channel
+      → queue direction channel ≡ frame time octets ∷ rest → Reads octets (messages.Announce m) → Late k c time
+      → IsFrameClean (snapshot_of w) (suc c) (identity_of (receiver direction channel)) (said m)
+  frame_clean c link direction channel time octets rest m here front reads late =
+      let lane = lane_there w.net.channels link direction channel here in
+      let f : SeenFrame = frame_view (frame time octets) in
+      let flies : In f (map frame_view (queue direction channel)) = rw front (inl refl) in
+      let (from, good) =
+      traces.lanes (lane_place link direction) (lane_view direction channel) lane f (said m) c flies (m, reads, refl) late in
+      record {
+        from = identity_of (sender direction channel);
+        live = from;
+        joins = λ to. state.facts.linked (lane_place link direction) (lane_view direction channel) f lane flies from to;
+        good = good;
+      }
+
+-- ---- what is shown
+
+pub traces_become_clean : (number : ℕ) (w : WorldState) (s : SystemState) → Claimed w → ShowsLive number w s
+    → IsCleanInTime w s
+traces_become_clean number w s claimed shows c calm =
+    let is = set_alike w claimed calm.params calm.set shows.place shows.station shows.is.here in
+    let late = calm.late in
+    subst (IsTraceClean (snapshot_of w) c) (sym shows.state)
+    (trace_clean calm.params w is calm.quiet shows.place shows.station shows.is.here shows.live c (omega arith))
+
+pub held_becomes_clean : (number : ℕ) (w : WorldState) (s : SystemState) → Claimed w → ShowsLive number w s
+    → AreHeldCleanInTime w s
+held_becomes_clean number w s claimed shows calm c n r holds late =
+    let is = set_alike w claimed calm.params calm.set shows.place shows.station shows.is.here in
+    let same = shows.state in
+    subst (λ (x : SystemState). IsHeldClean (snapshot_of w) (suc c) (clock x) n r) (sym same)
+    (held_clean calm.params w is calm.quiet shows.place shows.station shows.is.here shows.live c n r
+    (subst (λ (x : SystemState). received (held_at x n) ≡ Some r) same holds) (omega (arith, late)))
+
+-- what a delivery tells
+delivered_clean : (link : ℕ) (direction : Direction) (time : ℕ) (done : Done) (w w' : WorldState) (draws : List Draw)
+    → Claimed w → Delivery link direction done (at_time time w) draws w' → IsHeardClean w time done
+delivered_clean link direction time Quiet w w' draws claimed delivery = tt
+delivered_clean link direction time (Heard number port answer octets) w w' draws claimed delivery = λ calm c m reads late.
+    let takes = delivery.delivers.takes in
+    let channel = delivery.delivers.channel in
+    let same : delivery.channel ≡ channel =
+    same_Some delivery.channel channel (sym delivery.here ∙ takes.here) in
+    let (clock_is, port_is, told, octets_are) = delivery.told in
+    let end = (claimed.is.world.between link channel takes.here).a in
+    let is = set_alike w claimed calm.params calm.set end.place end.station end.here in
+    let read = subst (λ o. Reads o (messages.Announce m)) octets_are reads in
+    let clean = frame_clean calm.params w is calm.quiet c link direction channel time delivery.octets takes.rest m
+    takes.here takes.front read (omega (arith, late)) in
+    let reached : identity_of (receiver direction channel) ≡ port_of number port =
+    ap (λ (x : Channel). identity_of (receiver direction x)) (sym same)
+    ∙ (ap (λ n. port_of n (receiver direction delivery.channel).port) (sym clock_is)
+    ∙ ap (λ n. port_of number n) (sym port_is)) in
+    subst (λ x. IsFrameClean (snapshot_of w) (suc c) x (said m)) reached clean
+
+pub frames_become_clean : {F : Type 0} (answers : Bounds → ℕ → F → Option ℕ → F → Type 0) (timed : Timed)
+    (fate fate_after : F) (w w' : WorldState) (done : Done) → Claimed w
+    → WasDone answers timed fate fate_after w w' done → IsHeardClean w timed.at done
+frames_become_clean answers timed fate fate_after w w' done claimed k = by timed.act k.acts
+  where
+    by : (act : Act) → Acts act (at_time timed.at w) k.draws done w' → IsHeardClean w timed.at done
+    by (Deliver link direction) delivery =
+        delivered_clean link direction timed.at done w w' k.draws claimed delivery
+    by (Expire number timer) (quiet, rest) = rw quiet tt
+    by (Changing change) (quiet, rest) = rw quiet tt

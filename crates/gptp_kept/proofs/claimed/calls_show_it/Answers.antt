@@ -1,0 +1,14 @@
+use Rattle.gptp_kept.proofs.ShownLemmas.{capable_shown, choice_shown, enabled_shown, role_shown}
+use Rattle.gptp_kept.proofs.claimed.calls_show_it.Goals as goal
+
+pub returns-clause-capable : goal.returns-clause-capable
+returns-clause-capable c = capable_shown
+
+pub returns-clause-enabled : goal.returns-clause-enabled
+returns-clause-enabled c = enabled_shown
+
+pub returns-clause-choice : goal.returns-clause-choice
+returns-clause-choice c = choice_shown
+
+pub returns-clause-roles : goal.returns-clause-roles
+returns-clause-roles c = role_shown

@@ -1,0 +1,8 @@
+use Rattle.gptp_kept.proofs.ClaimedLemmas.{claimed_capable, settled_capable}
+use Rattle.gptp_kept.proofs.claimed.ports_settle.Goals as goal
+
+pub returns-clause-ports : goal.returns-clause-ports
+returns-clause-ports c = claimed_capable
+
+pub returns-clause-sooner : goal.returns-clause-sooner
+returns-clause-sooner c = settled_capable

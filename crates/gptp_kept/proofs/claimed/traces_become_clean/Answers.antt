@@ -1,0 +1,11 @@
+use Rattle.gptp_kept.proofs.TraceLemmas.{frames_become_clean, held_becomes_clean, traces_become_clean}
+use Rattle.gptp_kept.proofs.claimed.traces_become_clean.Goals as goal
+
+pub returns-clause-traces : goal.returns-clause-traces
+returns-clause-traces g c = traces_become_clean
+
+pub returns-clause-held : goal.returns-clause-held
+returns-clause-held g c = held_becomes_clean
+
+pub returns-clause-frames : goal.returns-clause-frames
+returns-clause-frames g c = frames_become_clean g.F.Fate.answers

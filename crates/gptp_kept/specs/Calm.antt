@@ -1,0 +1,83 @@
+-- A calm world, and the network of the machine of gptp_settling that it then has.
+use Rattle.std.specs.Prelude.{◌≡◌, ◌≢◌, ◌≤◌, ◌==◌, ◌&&◌, ℕ, suc, max, Bool, true, if◌then◌else◌, List, [], ◌∷◌, Some, slice_get}
+use Rattle.gptp_graph.specs.Snapshot.{IsLinked, PortIdentity, Snapshot, System}
+use Rattle.gptp_vector.specs.declared.port.PortId.{PortId}
+use Rattle.gptp_links.specs.declared.link.Direction.TheVariants.{FromA, FromB}
+use Rattle.gptp_pdelay.specs.GoodLink.{IsGoodLink}
+use Rattle.gptp_receipt.specs.declared.held.Held.{Held}
+use Rattle.gptp_receipt.specs.declared.held.Held.TheVariants.{Disabled}
+use Rattle.gptp_system.specs.declared.setup.Params.{Params}
+use Rattle.gptp_system.specs.Intervals.{interval_of}
+use Rattle.gptp_system.specs.State.{clock}
+use Rattle.gptp_acts.specs.declared.station.Station.{Station}
+use Rattle.gptp_acts.specs.World.{Channel, WorldState}
+use Rattle.gptp_settling.specs.Network.{Network}
+use Rattle.gptp_kept.specs.Due.{OfEachPort}
+use Rattle.gptp_kept.specs.View.{identity_of, lane_place}
+use Rattle.gptp_kept.specs.Standing.{is_used, live_systems, snapshot_of}
+
+-- ---- links
+
+-- a link loses nothing, and is short enough for the threshold
+pub record IsQuietLink (p : Params) (channel : Channel) : Type 0 where
+  pub lossless : channel.bounds.loss ≡ 0
+  pub good : IsGoodLink channel.bounds.max p.turnaround p.threshold
+
+-- so is each link that is up between two live systems
+abbrev pub IsQuietWorld : Params → WorldState → Type 0
+IsQuietWorld p w = (link : ℕ) (channel : Channel) → slice_get w.net.channels link ≡ Some channel
+    → is_used (live_systems w.stations) channel ≡ true → IsQuietLink p channel
+
+-- the greatest delay of those links, or 0
+abbrev pub greatest_delay : List System → List Channel → ℕ
+greatest_delay systems [] = 0
+greatest_delay systems (channel ∷ channels) =
+    if is_used systems channel
+    then max channel.bounds.max (greatest_delay systems channels)
+    else greatest_delay systems channels
+
+-- ---- places
+
+-- where the system with this clock stands
+abbrev pub place_of : List Station → ℕ → ℕ
+place_of [] number = 0
+place_of (station ∷ stations) number =
+    if clock station.system == number then 0 else suc (place_of stations number)
+
+-- the port has this clock and number
+abbrev pub is_port : PortId → PortIdentity → Bool
+is_port p port = p.clock == port.clock && p.port == port.port
+
+-- Where the lane stands that begins at this port: it is one of the first link, or it stands two places behind where it
+-- stands among the lanes of the others.
+abbrev pub lane_of : List Channel → PortIdentity → ℕ
+lane_of [] port = 0
+lane_of (channel ∷ channels) port =
+    if is_port channel.a port then lane_place 0 FromA
+    else (if is_port channel.b port then lane_place 0 FromB else suc (suc (lane_of channels port)))
+
+-- ---- ports
+
+-- a port that holds this is Disabled exactly where no link of the snapshot is at it
+pub record IsCapableAt (g : Snapshot) (itself : PortId) (h : Held) : Type 0 where
+  pub capable : IsLinked g (identity_of itself) → h ≢ Disabled
+  pub unlinked : (IsLinked g (identity_of itself) → ⊥) → h ≡ Disabled
+
+-- from this time on it is so of each port of a live system
+abbrev pub AreCapableFrom : ℕ → WorldState → Type 0
+AreCapableFrom start w = start ≤ w.time → OfEachPort (λ itself h q. IsCapableAt (snapshot_of w) itself h) w
+
+-- ---- the network
+
+-- The network that a world has, of which claims are made from this time on. All ports have one announce interval.
+abbrev pub network_of : Params → ℕ → WorldState → Network
+network_of p start w = record {
+  graph = snapshot_of w;
+  place = place_of w.stations;
+  lane = lane_of w.net.channels;
+  interval_of = λ port. interval_of p.announce;
+  interval = interval_of p.announce;
+  most = greatest_delay (live_systems w.stations) w.net.channels;
+  timeout = p.timeout;
+  start = start;
+}

@@ -1,0 +1,82 @@
+-- Laws on worlds whose good links in use are watched.
+use Rattle.std.specs.Prelude.{◌≤◌, ℕ, List, Option}
+use Rattle.gptp_links.specs.declared.bounds.Bounds.{Bounds}
+use Rattle.gptp_links.specs.Fate.{Draw}
+use Rattle.gptp_system.specs.declared.setup.Params.{Params}
+use Rattle.gptp_acts.specs.declared.change.Act.{Act}
+use Rattle.gptp_acts.specs.declared.change.Act.TheVariants.{Change as Changing}
+use Rattle.gptp_acts.specs.declared.change.Change.{Change}
+use Rattle.gptp_acts.specs.declared.change.Timed.{Timed}
+use Rattle.gptp_acts.specs.declared.done.Done.{Done}
+use Rattle.gptp_acts.specs.Acts.{Acts, IsFitAct, at}
+use Rattle.gptp_acts.specs.Course.{Begun, WasDone}
+use Rattle.gptp_acts.specs.Initial.{initial}
+use Rattle.gptp_acts.specs.Network.{IsNetwork, NetworkState}
+use Rattle.gptp_acts.specs.Params.{KeepParams}
+use Rattle.gptp_acts.specs.Pending.{NothingBefore}
+use Rattle.gptp_acts.specs.Prompt.{IsPromptAct}
+use Rattle.gptp_acts.specs.Sound.{IsSound}
+use Rattle.gptp_acts.specs.World.{WorldState}
+use Rattle.gptp_kept.specs.Measured.{IsMeasured}
+use Rattle.gptp_kept.specs.LegibleLaws.{SetsAnOctet}
+use Rattle.gptp_kept.specs.SeenLaws.{IsNoChange}
+use Rattle.gptp_kept.specs.Calm.{IsQuietWorld}
+use Rattle.gptp_kept.specs.Holds.{IsWorld, start_of}
+use Rattle.gptp_kept.specs.Watch.{AreUsedCapable, Watches}
+
+-- ---- worlds stay measured
+
+-- the world of a network is as it begins
+abbrev pub MeasuredAtFirst : {F : Type 0} → (Bounds → ℕ → F → Option ℕ → F → Type 0) → Type 0
+MeasuredAtFirst {F} answers = (n : NetworkState) (fate fate_after : F) (w : WorldState)
+    → IsSound (initial n) → Begun answers n fate fate_after w
+    → IsMeasured w
+
+-- and stays so from act to act
+abbrev pub MeasuredDone : {F : Type 0} → (Bounds → ℕ → F → Option ℕ → F → Type 0) → Type 0
+MeasuredDone {F} answers = (timed : Timed) (fate fate_after : F) (w w' : WorldState) (done : Done)
+    → WasDone answers timed fate fate_after w w' done → IsSound w → IsMeasured w
+    → IsMeasured w'
+
+-- ---- the claim begins
+
+-- after every change of the network
+abbrev pub WatchesChanged : Type 0
+WatchesChanged = (p : Params) (change : Change) (w : WorldState) (draws : List Draw) (done : Done) (w' : WorldState)
+    → KeepParams p → Acts (Changing change) w draws done w' → IsWorld p w' → IsMeasured w'
+    → Watches p w'
+
+-- and as the world of a network begins
+abbrev pub WatchesAtFirst : {F : Type 0} → (Bounds → ℕ → F → Option ℕ → F → Type 0) → Type 0
+WatchesAtFirst {F} answers = (n : NetworkState) (fate fate_after : F) (w : WorldState)
+    → IsNetwork n → Begun answers n fate fate_after w → IsWorld n.params w → IsMeasured w
+    → Watches n.params w
+
+-- ---- it is kept
+
+-- an act that changes nothing of the network keeps it
+abbrev pub WatchesKept : Type 0
+WatchesKept = (p : Params) (act : Act) (w : WorldState) (draws : List Draw) (done : Done) (w' : WorldState)
+    → IsNoChange act → Acts act w draws done w' → IsWorld p w → Watches p w
+    → Watches p w'
+
+-- and so does time that passes, up to when something is due
+abbrev pub WatchesLater : Type 0
+WatchesLater = (p : Params) (w : WorldState) (time : ℕ)
+    → w.time ≤ time → NothingBefore time w.net.pending → IsWorld p w → Watches p w
+    → Watches p (at time w)
+
+-- so it is kept from act to act, a change included
+abbrev pub WatchesDone : {F : Type 0} → (Bounds → ℕ → F → Option ℕ → F → Type 0) → Type 0
+WatchesDone {F} answers = (p : Params) (timed : Timed) (fate fate_after : F) (w w' : WorldState) (done : Done)
+    → KeepParams p → IsFitAct timed.act → IsPromptAct p timed.act → SetsAnOctet timed.act
+    → WasDone answers timed fate fate_after w w' done → IsWorld p w → IsMeasured w → Watches p w
+    → Watches p w'
+
+-- ---- ports become capable
+
+-- a quiet world of which it holds has capable ports at all links of its snapshot, from the start on
+abbrev pub UsedPortsCapable : Type 0
+UsedPortsCapable = (p : Params) (w : WorldState)
+    → KeepParams p → IsWorld p w → IsQuietWorld p w → Watches p w → start_of p w ≤ w.time
+    → AreUsedCapable w

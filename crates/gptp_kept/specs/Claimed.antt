@@ -1,0 +1,24 @@
+-- What every world of a network keeps.
+use Rattle.gptp_system.specs.declared.setup.Params.{Params}
+use Rattle.gptp_acts.specs.Params.{KeepParams}
+use Rattle.gptp_acts.specs.World.{WorldState}
+use Rattle.gptp_kept.specs.Measured.{IsMeasured}
+use Rattle.gptp_kept.specs.Holds.{Holds, IsWorld}
+use Rattle.gptp_kept.specs.Watch.{Watches}
+use Rattle.gptp_kept.specs.Unanswered.{AreSilent}
+
+-- What every world of a network with these parameters keeps: they are within their limits; it is sound, legible and
+-- known; its ports measure; good links in use are watched, and ports beside failed systems are unanswered; and it
+-- settles as the machine of gptp_settling does.
+pub record IsClaimed (p : Params) (w : WorldState) : Type 0 where
+  pub params : KeepParams p
+  pub world : IsWorld p w
+  pub measured : IsMeasured w
+  pub watched : Watches p w
+  pub silent : AreSilent p w
+  pub settling : Holds p w
+
+-- what every world of a network keeps
+pub record Claimed (w : WorldState) : Type 0 where
+  pub params : Params
+  pub is : IsClaimed params w

@@ -1,0 +1,81 @@
+-- Laws on what every world of a network keeps.
+use Rattle.std.specs.Prelude.{◌≤◌, ℕ, Option}
+use Rattle.gptp_links.specs.declared.bounds.Bounds.{Bounds}
+use Rattle.gptp_system.specs.declared.setup.Params.{Params}
+use Rattle.gptp_acts.specs.declared.change.Timed.{Timed}
+use Rattle.gptp_acts.specs.declared.done.Done.{Done}
+use Rattle.gptp_acts.specs.Acts.{IsFitAct, at}
+use Rattle.gptp_acts.specs.Course.{Begun, WasDone}
+use Rattle.gptp_acts.specs.Initial.{initial}
+use Rattle.gptp_acts.specs.Network.{IsNetwork, NetworkState}
+use Rattle.gptp_acts.specs.Pending.{NothingBefore}
+use Rattle.gptp_acts.specs.SettlingTime.{settling_span}
+use Rattle.gptp_acts.specs.Sound.{IsSound}
+use Rattle.gptp_acts.specs.World.{WorldState}
+use Rattle.gptp_acts.specs.Prompt.{IsPromptAct, IsPromptIn}
+use Rattle.gptp_kept.specs.LegibleLaws.{SetsAnOctet}
+use Rattle.gptp_kept.specs.Holds.{AreCapable}
+use Rattle.gptp_kept.specs.Settled.{Settled}
+use Rattle.gptp_kept.specs.CalmFor.{ArePortsSettled, IsCalmFor, capable_span}
+use Rattle.gptp_kept.specs.Claimed.{Claimed, IsClaimed}
+
+-- ---- with the parameters of the network
+
+-- the world of a network keeps it as it begins
+abbrev pub ClaimBegins : {F : Type 0} → (Bounds → ℕ → F → Option ℕ → F → Type 0) → Type 0
+ClaimBegins {F} answers = (n : NetworkState) (fate fate_after : F) (w : WorldState)
+    → IsNetwork n → IsSound (initial n) → Begun answers n fate fate_after w
+    → IsClaimed n.params w
+
+-- it is kept from act to act, a change included
+abbrev pub ClaimKept : {F : Type 0} → (Bounds → ℕ → F → Option ℕ → F → Type 0) → Type 0
+ClaimKept {F} answers = (p : Params) (timed : Timed) (fate fate_after : F) (w w' : WorldState) (done : Done)
+    → IsFitAct timed.act → IsPromptAct p timed.act → SetsAnOctet timed.act
+    → WasDone answers timed fate fate_after w w' done → IsClaimed p w
+    → IsClaimed p w'
+
+-- and as time passes, up to when something is due
+abbrev pub ClaimLater : Type 0
+ClaimLater = (p : Params) (w : WorldState) (time : ℕ)
+    → w.time ≤ time → NothingBefore time w.net.pending → IsClaimed p w
+    → IsClaimed p (at time w)
+
+-- from the start on the ports of live systems are disabled exactly where no link of the snapshot is at them
+abbrev pub ClaimIsCapable : Type 0
+ClaimIsCapable = (p : Params) (w : WorldState) → IsClaimed p w → AreCapable p w
+
+-- ---- without them
+
+-- the world of a network keeps it as it begins
+abbrev pub ClaimedBegins : {F : Type 0} → (Bounds → ℕ → F → Option ℕ → F → Type 0) → Type 0
+ClaimedBegins {F} answers = (n : NetworkState) (fate fate_after : F) (w : WorldState)
+    → IsNetwork n → IsSound (initial n) → Begun answers n fate fate_after w
+    → Claimed w
+
+-- it is kept from act to act, a change included
+abbrev pub ClaimedKept : {F : Type 0} → (Bounds → ℕ → F → Option ℕ → F → Type 0) → Type 0
+ClaimedKept {F} answers = (timed : Timed) (fate fate_after : F) (w w' : WorldState) (done : Done)
+    → IsFitAct timed.act → IsPromptIn w timed.act → SetsAnOctet timed.act
+    → WasDone answers timed fate fate_after w w' done → Claimed w
+    → Claimed w'
+
+-- and as time passes, up to when something is due
+abbrev pub ClaimedLater : Type 0
+ClaimedLater = (w : WorldState) (time : ℕ)
+    → w.time ≤ time → NothingBefore time w.net.pending → Claimed w
+    → Claimed (at time w)
+
+-- ---- what it promises
+
+-- Where the world has been calm for L + 5 announce intervals, L being how many requests may be lost, each port of a
+-- live system is capable exactly where a link of the snapshot is at it, and Disabled exactly where it isn't.
+abbrev pub ClaimedCapable : Type 0
+ClaimedCapable = (w : WorldState) → Claimed w → IsCalmFor capable_span w → ArePortsSettled w
+
+-- where it has been for the settling span of its live systems, it has settled
+abbrev pub ClaimedSettled : Type 0
+ClaimedSettled = (w : WorldState) → Claimed w → IsCalmFor settling_span w → Settled w
+
+-- by then its ports have too
+abbrev pub SettledIsCapable : Type 0
+SettledIsCapable = (w : WorldState) → IsCalmFor settling_span w → IsCalmFor capable_span w

@@ -1,0 +1,36 @@
+-- What is claimed of a world between two changes of its network.
+use Rattle.std.specs.Prelude.{◌+◌, ◌*◌, ℕ}
+use Rattle.gptp_system.specs.declared.setup.Params.{Params}
+use Rattle.gptp_system.specs.Intervals.{interval_of}
+use Rattle.gptp_acts.specs.Sound.{IsSound}
+use Rattle.gptp_acts.specs.World.{WorldState}
+use Rattle.gptp_settling.specs.Levels.{Invariant}
+use Rattle.gptp_settling.specs.Network.{Network}
+use Rattle.gptp_kept.specs.Known.{IsKnown}
+use Rattle.gptp_kept.specs.Legible.{IsLegible}
+use Rattle.gptp_kept.specs.View.{says, view}
+use Rattle.gptp_kept.specs.Calm.{AreCapableFrom, IsQuietWorld, network_of}
+use Rattle.gptp_kept.specs.Standing.{AreBetween}
+
+-- a world of a network with these parameters, at any time
+pub record IsWorld (p : Params) (w : WorldState) : Type 0 where
+  pub sound : IsSound w
+  pub legible : IsLegible w
+  pub known : IsKnown p w
+  pub between : AreBetween w
+
+-- from when every port is capable that will be
+abbrev pub start_of : Params → WorldState → ℕ
+start_of p w = w.last_change + (p.lost + 5) * interval_of p.announce
+
+-- it is so of the ports of live systems, where the links are quiet
+abbrev pub AreCapable : Params → WorldState → Type 0
+AreCapable p w = IsQuietWorld p w → AreCapableFrom (start_of p w) w
+
+-- the network of the machine of gptp_settling that the world then has
+abbrev pub settling_network : Params → WorldState → Network
+settling_network p w = network_of p (start_of p w) w
+
+-- where the links are quiet, the invariant of that machine holds of what it sees of the world
+abbrev pub Holds : Params → WorldState → Type 0
+Holds p w = IsQuietWorld p w → Invariant says (settling_network p w) (view w)

@@ -1,0 +1,96 @@
+-- Laws on worlds that settle.
+use Rattle.std.specs.Prelude.{◌<◌, ◌≤◌, ◌+◌, ℕ, List, length, Option}
+use Rattle.gptp_links.specs.declared.bounds.Bounds.{Bounds}
+use Rattle.gptp_links.specs.Fate.{Draw}
+use Rattle.gptp_system.specs.declared.setup.Params.{Params}
+use Rattle.gptp_system.specs.Intervals.{AreParams}
+use Rattle.gptp_acts.specs.declared.change.Act.{Act}
+use Rattle.gptp_acts.specs.declared.change.Act.TheVariants.{Change as Changing}
+use Rattle.gptp_acts.specs.declared.change.Change.{Change}
+use Rattle.gptp_acts.specs.declared.change.Timed.{Timed}
+use Rattle.gptp_acts.specs.declared.done.Done.{Done}
+use Rattle.gptp_acts.specs.Acts.{Acts, IsFitAct, at}
+use Rattle.gptp_acts.specs.Course.{Begun, WasDone}
+use Rattle.gptp_acts.specs.Network.{IsNetwork, NetworkState}
+use Rattle.gptp_acts.specs.Prompt.{IsPromptAct}
+use Rattle.gptp_acts.specs.SettlingTime.{settling_span}
+use Rattle.gptp_acts.specs.Sound.{IsSound}
+use Rattle.gptp_acts.specs.World.{WorldState}
+use Rattle.gptp_kept.specs.LegibleLaws.{SetsAnOctet}
+use Rattle.gptp_kept.specs.SeenLaws.{IsNoChange}
+use Rattle.gptp_kept.specs.Calm.{IsQuietWorld}
+use Rattle.gptp_kept.specs.Standing.{snapshot_of}
+use Rattle.gptp_kept.specs.Holds.{AreCapable, Holds, IsWorld, start_of}
+use Rattle.gptp_kept.specs.Settled.{Settled}
+
+-- ---- worlds
+
+-- every act that keeps the limits leaves a world one
+abbrev pub ActsStayWorlds : Type 0
+ActsStayWorlds = (p : Params) (act : Act) (w : WorldState) (draws : List Draw) (done : Done) (w' : WorldState)
+    → IsFitAct act → IsPromptAct p act → SetsAnOctet act → Acts act w draws done w' → IsWorld p w
+    → IsWorld p w'
+
+-- so does time that passes, where nothing is due before it
+abbrev pub TimeStaysWorld : Type 0
+TimeStaysWorld = (p : Params) (w : WorldState) (time : ℕ)
+    → w.time ≤ time → IsSound (at time w) → IsWorld p w
+    → IsWorld p (at time w)
+
+-- so one is left from act to act
+abbrev pub DoneStaysWorld : {F : Type 0} → (Bounds → ℕ → F → Option ℕ → F → Type 0) → Type 0
+DoneStaysWorld {F} answers = (p : Params) (timed : Timed) (fate fate_after : F) (w w' : WorldState) (done : Done)
+    → IsFitAct timed.act → IsPromptAct p timed.act → SetsAnOctet timed.act
+    → WasDone answers timed fate fate_after w w' done → IsWorld p w
+    → IsWorld p w'
+
+-- ---- the claim begins
+
+-- before the start it holds of every world
+abbrev pub HoldsBegins : Type 0
+HoldsBegins = (p : Params) (w : WorldState)
+    → IsWorld p w → w.time < start_of p w
+    → Holds p w
+
+-- so it does after every change of the network
+abbrev pub HoldsChanged : Type 0
+HoldsChanged = (p : Params) (change : Change) (w : WorldState) (draws : List Draw) (done : Done) (w' : WorldState)
+    → AreParams p → Acts (Changing change) w draws done w' → IsWorld p w'
+    → Holds p w'
+
+-- and as the world of a network begins
+abbrev pub HoldsAtFirst : {F : Type 0} → (Bounds → ℕ → F → Option ℕ → F → Type 0) → Type 0
+HoldsAtFirst {F} answers = (n : NetworkState) (fate fate_after : F) (w : WorldState)
+    → IsNetwork n → Begun answers n fate fate_after w → IsWorld n.params w
+    → Holds n.params w
+
+-- ---- it is kept
+
+-- an act that changes nothing of the network keeps it
+abbrev pub HoldsKept : Type 0
+HoldsKept = (p : Params) (act : Act) (w : WorldState) (draws : List Draw) (done : Done) (w' : WorldState)
+    → IsNoChange act → Acts act w draws done w' → IsWorld p w → AreCapable p w → AreCapable p w' → Holds p w
+    → Holds p w'
+
+-- and so does time that passes
+abbrev pub HoldsLater : Type 0
+HoldsLater = (p : Params) (w : WorldState) (time : ℕ)
+    → w.time ≤ time → IsWorld p w → IsWorld p (at time w) → AreCapable p w → AreCapable p (at time w) → Holds p w
+    → Holds p (at time w)
+
+-- so it is kept from act to act, where the ports are capable before the act, at its time, and after it
+abbrev pub HoldsDone : {F : Type 0} → (Bounds → ℕ → F → Option ℕ → F → Type 0) → Type 0
+HoldsDone {F} answers = (p : Params) (timed : Timed) (fate fate_after : F) (w w' : WorldState) (done : Done)
+    → AreParams p → IsFitAct timed.act → IsPromptAct p timed.act → SetsAnOctet timed.act
+    → WasDone answers timed fate fate_after w w' done → IsWorld p w
+    → AreCapable p w → AreCapable p (at timed.at w) → AreCapable p w' → Holds p w
+    → Holds p w'
+
+-- ---- the world settles
+
+-- a quiet world of which it holds has settled once the span of its live systems has passed from the last change
+abbrev pub HoldsSettled : Type 0
+HoldsSettled = (p : Params) (w : WorldState)
+    → IsWorld p w → IsQuietWorld p w → AreCapable p w → Holds p w
+    → w.last_change + settling_span p (length (snapshot_of w).systems) ≤ w.time
+    → Settled w

@@ -1,0 +1,50 @@
+-- What the calls of a world show once it has been calm for long enough.
+use Rattle.std.specs.Prelude.{◌≡◌, ◌≢◌, ◌↔◌, ℕ, true, Option}
+use Rattle.gptp_graph.specs.Distance.{IsDistance, IsNear}
+use Rattle.gptp_graph.specs.SettledChoice.{IsBestIdentity}
+use Rattle.gptp_graph.specs.SettledRole.{IsSettledRole}
+use Rattle.gptp_graph.specs.Snapshot.{IsLinked, Snapshot, port_of}
+use Rattle.gptp_roles.specs.declared.role.Role.{Role}
+use Rattle.gptp_roles.specs.declared.role.Role.TheVariants.{Disabled}
+use Rattle.gptp_system.specs.State.{SystemState, clock, is_capable_at}
+use Rattle.gptp_system.specs.Steps.{IsPortOf}
+use Rattle.gptp_acts.specs.SettlingTime.{settling_span}
+use Rattle.gptp_acts.specs.World.{WorldState}
+use Rattle.gptp_settling.specs.Settled.{IsSlaveOf}
+use Rattle.gptp_kept.specs.Standing.{snapshot_of}
+use Rattle.gptp_kept.specs.Settled.{role_of}
+use Rattle.gptp_kept.specs.CalmFor.{IsCalmFor, capable_span}
+
+-- ---- capability
+
+-- a port of a system is capable exactly where a link of the snapshot is at it
+abbrev pub AreCapable : Snapshot → SystemState → Type 0
+AreCapable g s = (n : ℕ) → IsPortOf s n → (is_capable_at s n ≡ true) ↔ IsLinked g (port_of (clock s) n)
+
+-- so it is with the system, once the world has been calm for as long as ports take to become capable
+abbrev pub IsCapableInTime : WorldState → SystemState → Type 0
+IsCapableInTime w s = IsCalmFor capable_span w → AreCapable (snapshot_of w) s
+
+-- and by then a port of the system with this clock is Disabled exactly where none is at it
+abbrev pub IsEnabledInTime : ℕ → ℕ → WorldState → Role → Type 0
+IsEnabledInTime number port w role =
+    IsCalmFor capable_span w → (role ≢ Disabled) ↔ IsLinked (snapshot_of w) (port_of number port)
+
+-- ---- the choice
+
+-- the best's identity, the distance, and the own port of the parent, or none where there is no parent
+pub record IsSettledFor (g : Snapshot) (number root steps : ℕ) (slave : Option ℕ) : Type 0 where
+  pub best : IsBestIdentity g number root
+  pub distance : IsDistance g number steps
+  pub parent : IsSlaveOf g number slave
+
+-- that is what the near system with this clock follows, once the world has been calm for the settling span
+abbrev pub FollowsInTime : ℕ → WorldState → ℕ → ℕ → Option ℕ → Type 0
+FollowsInTime number w root steps slave =
+    IsCalmFor settling_span w → IsNear (snapshot_of w) number → IsSettledFor (snapshot_of w) number root steps slave
+
+-- and by then each of its ports has its settled role
+abbrev pub PlaysInTime : ℕ → ℕ → WorldState → Role → Type 0
+PlaysInTime number port w role =
+    IsCalmFor settling_span w → IsNear (snapshot_of w) number
+    → IsSettledRole (snapshot_of w) (port_of number port) (role_of role)

@@ -1,0 +1,33 @@
+-- Laws on what the calls of a world show.
+use Rattle.std.specs.Prelude.{ℕ, Option}
+use Rattle.gptp_roles.specs.declared.role.Role.{Role}
+use Rattle.gptp_system.specs.State.{SystemState}
+use Rattle.gptp_acts.specs.Acts.{AtSystem}
+use Rattle.gptp_acts.specs.Views.{Follows, HasRole, ShowsLive}
+use Rattle.gptp_acts.specs.World.{WorldState}
+use Rattle.gptp_kept.specs.Claimed.{Claimed}
+use Rattle.gptp_kept.specs.Shown.{FollowsInTime, IsCapableInTime, IsEnabledInTime, PlaysInTime}
+
+-- a live system that is shown has its ports capable in time
+abbrev pub SystemsAreCapable : Type 0
+SystemsAreCapable = (number : ℕ) (w : WorldState) (s : SystemState)
+    → Claimed w → ShowsLive number w s
+    → IsCapableInTime w s
+
+-- and a role that is shown says so
+abbrev pub RolesAreEnabled : Type 0
+RolesAreEnabled = (number port : ℕ) (w : WorldState) (role : Role)
+    → Claimed w → AtSystem number w (HasRole port role)
+    → IsEnabledInTime number port w role
+
+-- what a live system is shown to follow is settled in time
+abbrev pub SystemsSettle : Type 0
+SystemsSettle = (number root steps : ℕ) (slave : Option ℕ) (w : WorldState)
+    → Claimed w → AtSystem number w (Follows root steps slave)
+    → FollowsInTime number w root steps slave
+
+-- and so is the role of each port that is shown
+abbrev pub RolesSettle : Type 0
+RolesSettle = (number port : ℕ) (w : WorldState) (role : Role)
+    → Claimed w → AtSystem number w (HasRole port role)
+    → PlaysInTime number port w role

@@ -1,0 +1,29 @@
+-- Laws on traces in calm worlds.
+use Rattle.std.specs.Prelude.{ℕ, Option}
+use Rattle.gptp_links.specs.declared.bounds.Bounds.{Bounds}
+use Rattle.gptp_system.specs.State.{SystemState}
+use Rattle.gptp_acts.specs.declared.change.Timed.{Timed}
+use Rattle.gptp_acts.specs.declared.done.Done.{Done}
+use Rattle.gptp_acts.specs.Course.{WasDone}
+use Rattle.gptp_acts.specs.Views.{ShowsLive}
+use Rattle.gptp_acts.specs.World.{WorldState}
+use Rattle.gptp_kept.specs.Claimed.{Claimed}
+use Rattle.gptp_kept.specs.Traces.{AreHeldCleanInTime, IsCleanInTime, IsHeardClean}
+
+-- the trace of a live system that is shown becomes clean
+abbrev pub TracesBecomeClean : Type 0
+TracesBecomeClean = (number : ℕ) (w : WorldState) (s : SystemState)
+    → Claimed w → ShowsLive number w s
+    → IsCleanInTime w s
+
+-- and so does what its ports hold
+abbrev pub HeldBecomesClean : Type 0
+HeldBecomesClean = (number : ℕ) (w : WorldState) (s : SystemState)
+    → Claimed w → ShowsLive number w s
+    → AreHeldCleanInTime w s
+
+-- and what an act delivers
+abbrev pub FramesBecomeClean : {F : Type 0} → (Bounds → ℕ → F → Option ℕ → F → Type 0) → Type 0
+FramesBecomeClean {F} answers = (timed : Timed) (fate fate_after : F) (w w' : WorldState) (done : Done)
+    → Claimed w → WasDone answers timed fate fate_after w w' done
+    → IsHeardClean w timed.at done

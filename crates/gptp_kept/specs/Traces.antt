@@ -1,0 +1,92 @@
+-- How clean path traces are in a world that has been calm for so long.
+use Rattle.std.specs.Prelude.{◌≡◌, ◌⊎◌, ◌≤◌, ◌+◌, ◌*◌, ℕ, ⊤, suc, length, Some}
+use Rattle.gptp_graph.specs.Members.{In}
+use Rattle.gptp_graph.specs.Snapshot.{Joins, PortIdentity, Snapshot, clocks, port_of}
+use Rattle.gptp_receipt.specs.Held.{Reception, received}
+use Rattle.gptp_messages.specs.declared.announce.AnnounceView.{AnnounceView}
+use Rattle.gptp_messages.specs.declared.message.Message.TheVariants as messages
+use Rattle.gptp_messages.specs.Grammar.{Reads}
+use Rattle.gptp_system.specs.declared.setup.Params.{Params}
+use Rattle.gptp_system.specs.Intervals.{interval_of}
+use Rattle.gptp_system.specs.State.{SystemState, clock, held_at, trace}
+use Rattle.gptp_acts.specs.declared.done.Done.{Done}
+use Rattle.gptp_acts.specs.declared.done.Done.TheVariants.{Quiet, Heard}
+use Rattle.gptp_acts.specs.World.{WorldState}
+use Rattle.gptp_settling.specs.Clean.{Clean, Good, Whole}
+use Rattle.gptp_settling.specs.Frame.{Announce}
+use Rattle.gptp_kept.specs.View.{identity_of, said}
+use Rattle.gptp_kept.specs.Standing.{snapshot_of}
+use Rattle.gptp_kept.specs.CalmFor.{IsCalmFor, capable_span}
+
+-- A turn is the longest time from when an Announce is sent to when a system last sends on what it took from it: what is
+-- received stays for k announce intervals, and an Announce is under way for one at most.
+abbrev pub turn_of : Params → ℕ
+turn_of p = p.timeout * interval_of p.announce + interval_of p.announce
+
+-- so many turns after ports have become capable
+abbrev pub turns_span : ℕ → Params → ℕ → ℕ
+turns_span c p n = capable_span p n + c * turn_of p
+
+-- the world is calm, for however long
+abbrev pub IsCalm : WorldState → Type 0
+IsCalm = IsCalmFor (λ p n. 0)
+
+-- what arrived at this time was sent so many turns after ports have become capable
+abbrev pub WasSentAfter : ℕ → ℕ → (w : WorldState) → IsCalm w → Type 0
+WasSentAfter c time w calm =
+    w.last_change + turns_span c calm.params (length (snapshot_of w).systems) + interval_of calm.params.announce ≤ time
+
+-- ---- what a system announces
+
+-- root, steps and trace, as it announces them
+abbrev pub announced : SystemState → Announce
+announced s = record { root = s.root; steps = s.steps; source = port_of (clock s) 0; path = trace s }
+
+-- The last c + 1 members of the system's trace are different live systems, each joined to the next, up to the system
+-- itself; or the trace is wholly so, from the root that it announces, and its steps are as many as there are links.
+abbrev pub IsTraceClean : Snapshot → ℕ → SystemState → Type 0
+IsTraceClean g c s = Clean g (suc c) (clock s) (trace s) ⊎ Whole g (clock s) (announced s)
+
+-- so it is once the world has been calm for c turns after its ports have become capable
+abbrev pub IsCleanInTime : WorldState → SystemState → Type 0
+IsCleanInTime w s = (c : ℕ) → IsCalmFor (turns_span c) w → IsTraceClean (snapshot_of w) c s
+
+-- ---- what its ports hold
+
+-- what a port received, as an Announce
+abbrev pub heard : Reception → Announce
+heard r = record {
+  root = r.vector.root;
+  steps = r.vector.steps;
+  source = identity_of r.vector.source;
+  path = r.path;
+}
+
+-- it came over the port's link, and its trace is clean by so many members or wholly
+pub record IsHeldClean (g : Snapshot) (m number port : ℕ) (r : Reception) : Type 0 where
+  pub from : PortIdentity
+  pub joins : Joins g from (port_of number port)
+  pub good : Good g m from (heard r)
+
+-- so is what each port received that was sent c turns after ports have become capable
+abbrev pub AreHeldCleanInTime : WorldState → SystemState → Type 0
+AreHeldCleanInTime w s = (calm : IsCalm w) (c n : ℕ) (r : Reception)
+    → received (held_at s n) ≡ Some r → WasSentAfter c r.at w calm
+    → IsHeldClean (snapshot_of w) (suc c) (clock s) n r
+
+-- ---- what reaches a port
+
+-- an Announce came from a live system, over the link at this port where a live system has it, and is clean so
+pub record IsFrameClean (g : Snapshot) (m : ℕ) (reached : PortIdentity) (a : Announce) : Type 0 where
+  pub from : PortIdentity
+  pub live : In from.clock (clocks g)
+  pub joins : In reached.clock (clocks g) → Joins g from reached
+  pub good : Good g m from a
+
+-- each frame that reaches a port and reads as an Announce, where it was sent c turns after ports have become capable
+abbrev pub IsHeardClean : WorldState → ℕ → Done → Type 0
+IsHeardClean w time Quiet = ⊤
+IsHeardClean w time (Heard number port answer frame) =
+    (calm : IsCalm w) (c : ℕ) (m : AnnounceView)
+    → Reads frame.items (messages.Announce m) → WasSentAfter c time w calm
+    → IsFrameClean (snapshot_of w) (suc c) (port_of number port) (said m)

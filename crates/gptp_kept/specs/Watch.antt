@@ -1,0 +1,31 @@
+-- What is claimed of the links in use between two changes of the network, and of their ports.
+use Rattle.std.specs.Prelude.{◌≡◌, ◌≢◌, ◌+◌, ◌*◌, true}
+use Rattle.gptp_graph.specs.Snapshot.{IsLinked}
+use Rattle.gptp_pdelay.specs.Peer.{is_capable}
+use Rattle.gptp_receipt.specs.declared.held.Held.{Held}
+use Rattle.gptp_receipt.specs.declared.held.Held.TheVariants.{Disabled}
+use Rattle.gptp_system.specs.declared.port.Port.{Port}
+use Rattle.gptp_system.specs.declared.setup.Params.{Params}
+use Rattle.gptp_system.specs.Intervals.{interval_of}
+use Rattle.gptp_acts.specs.World.{WorldState}
+use Rattle.gptp_kept.specs.Due.{OfEachPort}
+use Rattle.gptp_kept.specs.Measured.{StandsAt}
+use Rattle.gptp_kept.specs.LinkView.{LinkPlace}
+use Rattle.gptp_kept.specs.Watched.{IsWatched}
+use Rattle.gptp_kept.specs.View.{identity_of}
+use Rattle.gptp_kept.specs.Standing.{snapshot_of}
+
+-- Wherever two live systems stand at a link that is up, loses nothing and is good, it is watched, in either direction:
+-- old frames are gone an announce interval after the last change, and exchanges from two on find nothing old.
+abbrev pub Watches : Params → WorldState → Type 0
+Watches p w = (at : LinkPlace) → StandsAt at w
+    → IsWatched (w.last_change + interval_of p.announce) (w.last_change + 2 * interval_of p.announce) at w
+
+-- a port that holds this is capable, and so it isn't Disabled
+pub record IsCapablePort (h : Held) (q : Port) : Type 0 where
+  pub capable : is_capable q.peer ≡ true
+  pub enabled : h ≢ Disabled
+
+-- so it is with each port of a live system at which a link of the snapshot is
+abbrev pub AreUsedCapable : WorldState → Type 0
+AreUsedCapable w = OfEachPort (λ itself h q. IsLinked (snapshot_of w) (identity_of itself) → IsCapablePort h q) w

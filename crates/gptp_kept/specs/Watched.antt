@@ -1,0 +1,14 @@
+-- A link of which the facts and the invariant of the machine of gptp_measuring hold.
+use Rattle.std.specs.Prelude.{ℕ}
+use Rattle.gptp_measuring.specs.Facts.{Facts, IsGood}
+use Rattle.gptp_measuring.specs.Invariant.{Inv}
+use Rattle.gptp_acts.specs.World.{WorldState}
+use Rattle.gptp_kept.specs.LinkView.{IsLinkOf, LinkPlace, asks, pair, replies, setting}
+
+-- old frames are gone at one time, and exchanges from the other on find nothing old; what is due is known, and how far
+-- the exchanges are
+pub record IsWatched (gone calm : ℕ) (at : LinkPlace) (w : WorldState) : Type 0 where
+  pub link : IsLinkOf at w
+  pub good : IsGood (setting at w link) gone calm
+  pub facts : Facts (setting at w link) gone (pair at w link)
+  pub inv : Inv (setting at w link) asks replies gone calm (pair at w link)

@@ -1,0 +1,64 @@
+//! Laws on what every world of a network keeps.
+
+ghost use Rattle.gptp_kept.specs.ClaimedLaws.{ClaimBegins, ClaimIsCapable, ClaimKept, ClaimLater};
+ghost use Rattle.gptp_kept.specs.ClaimedLaws.{ClaimedBegins, ClaimedKept, ClaimedLater};
+ghost use Rattle.gptp_kept.specs.ClaimedLaws.{ClaimedCapable, ClaimedSettled, SettledIsCapable};
+ghost use Rattle.gptp_kept.specs.ShownLaws.{RolesAreEnabled, RolesSettle, SystemsAreCapable, SystemsSettle};
+ghost use Rattle.gptp_kept.specs.TraceLaws.{FramesBecomeClean, HeldBecomesClean, TracesBecomeClean};
+
+use gptp_links::Fate;
+
+/// The claim holds of the world of a network as it begins, with the parameters of that network.
+pub fn claim_begins<F: Fate>()
+    ensures { ClaimBegins F.answers }
+{}
+
+/// Every act that keeps the limits keeps it, a change included, whatever is drawn for its frames; and so does time that
+/// passes. In a quiet world it says from the start on which ports are disabled.
+pub fn claim_is_kept<F: Fate>()
+    ensures done { ClaimKept F.answers }
+    ensures time { ClaimLater }
+    ensures capable { ClaimIsCapable }
+{}
+
+/// So it holds of the world of a network with some parameters.
+pub fn claimed_begins<F: Fate>()
+    ensures { ClaimedBegins F.answers }
+{}
+
+/// And it is kept, where a link is set to no delay above the announce interval of any system.
+pub fn claimed_is_kept<F: Fate>()
+    ensures done { ClaimedKept F.answers }
+    ensures time { ClaimedLater }
+{}
+
+/// Where a world of which it holds has been calm for L + 5 announce intervals, L being how many requests may be lost,
+/// each port of a live system is capable exactly where a link of the snapshot is at it, and Disabled exactly where it
+/// isn't. It has been for as long where it has been for the settling span of its live systems.
+pub fn ports_settle()
+    ensures ports { ClaimedCapable }
+    ensures sooner { SettledIsCapable }
+{}
+
+/// Where such a world has been calm for the settling span of its live systems, it has settled: each near live system
+/// has the identity of its component's best as its root and its distance as its steps, it follows its parent over its
+/// slave port, and each of its ports has its settled role.
+pub fn worlds_settle()
+    ensures { ClaimedSettled }
+{}
+
+/// What the calls of such a world show is capable and settled in time.
+pub fn calls_show_it()
+    ensures capable { SystemsAreCapable }
+    ensures enabled { RolesAreEnabled }
+    ensures choice { SystemsSettle }
+    ensures roles { RolesSettle }
+{}
+
+/// Traces in such a world become clean: those that systems announce, those that their ports hold, and those of frames
+/// that reach a port.
+pub fn traces_become_clean<F: Fate>()
+    ensures traces { TracesBecomeClean }
+    ensures held { HeldBecomesClean }
+    ensures frames { FramesBecomeClean F.answers }
+{}

@@ -1,4 +1,0 @@
-pub mod View
-pub mod Legible
-pub mod SeenLaws
-pub mod LegibleLaws

@@ -1,5 +1,0 @@
-pub mod WorldLemmas
-pub mod MomentLemmas
-pub mod ClaimLemmas
-pub mod ParentLemmas
-pub mod SettledLemmas

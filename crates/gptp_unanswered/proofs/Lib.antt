@@ -1,9 +1,0 @@
-pub mod StandLemmas
-pub mod LaneLemmas
-pub mod CallLemmas
-pub mod ExpiryLemmas
-pub mod DeliveryLemmas
-pub mod ActLemmas
-pub mod SilentLemmas
-pub mod BeforeLemmas
-pub mod WorldLemmas

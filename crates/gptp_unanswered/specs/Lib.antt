@@ -1,2 +1,0 @@
-pub mod Unanswered
-pub mod Laws
