@@ -5,6 +5,7 @@ pub mod NeedLemmas
 pub mod EndLemmas
 pub mod AimLemmas
 pub mod CheckLemmas
+pub mod ClaimedLemmas
 pub mod InitialLemmas
 pub mod SendsLemmas
 pub mod RoomLemmas

@@ -1,6 +1,8 @@
 -- What a world shows is what its state says.
 use Rattle.std.proofs.Common.{◌≡◌, ℕ, Option, None, Some, IfNone, slice_get, sym, ap, subst, ◌∙◌}
 use Rattle.std.proofs.lemmas.Option.{same_Some, slice_get_within}
+use Rattle.gptp_roles.specs.declared.role.Role.{Role}
+use Rattle.gptp_system.specs.Start.{role_at}
 use Rattle.gptp_system.specs.State.{SystemState}
 use Rattle.gptp_system.specs.Steps.{IsPortOf}
 use Rattle.gptp_acts.specs.declared.item.Item.{Item}
@@ -13,7 +15,7 @@ use Rattle.gptp_acts.specs.Pending.{IsNext}
 use Rattle.gptp_world.specs.Stage.{world_of}
 use Rattle.gptp_acts.specs.Sound.{IsSound}
 use Rattle.gptp_world.specs.Stage.{IsPlacedItem}
-use Rattle.gptp_acts.specs.Views.{HasPort, ShowsLive}
+use Rattle.gptp_acts.specs.Views.{Follows, HasPort, HasRole, ShowsLive}
 use Rattle.gptp_acts.specs.World.{WorldState}
 use Rattle.gptp_acts.proofs.NextDueLemmas.{next_runs_out}
 
@@ -36,6 +38,35 @@ no_port number port w s is shows none at =
     let of : IsPortOf s port =
     subst (λ x. IsPortOf x port) (ap (λ (x : Station). x.system) one ∙ sym shows.state) at.so.port_of in
     none of
+
+-- what a live system follows is what it shows
+pub follows_shown : (number root steps : ℕ) (slave : Option ℕ) (w : WorldState) (s : SystemState) → ShowsLive number w s
+    → root ≡ s.root → steps ≡ s.steps → slave ≡ s.slave → AtSystem number w (Follows root steps slave)
+follows_shown number root steps slave w s shows same_root same_steps same_slave = record {
+  place = shows.place;
+  station = shows.station;
+  is = shows.is;
+  so = record {
+    live = shows.live;
+    root_is = same_root ∙ ap (λ (x : SystemState). x.root) shows.state;
+    steps_are = same_steps ∙ ap (λ (x : SystemState). x.steps) shows.state;
+    slave_is = same_slave ∙ ap (λ (x : SystemState). x.slave) shows.state;
+  };
+}
+
+-- and so are the roles of its ports
+pub role_shown : (number port : ℕ) (w : WorldState) (s : SystemState) (role : Role) → ShowsLive number w s
+    → IsPortOf s port → role ≡ role_at s port → AtSystem number w (HasRole port role)
+role_shown number port w s role shows of same = record {
+  place = shows.place;
+  station = shows.station;
+  is = shows.is;
+  so = record {
+    live = shows.live;
+    port_of = subst (λ x. IsPortOf x port) shows.state of;
+    role_is = same ∙ ap (λ x. role_at x port) shows.state;
+  };
+}
 
 -- what follows where nothing was found
 pub on_none : {X : Type 0} (found : Option X) (P Q : Type 0) → (P → Q) → IfNone found P → IfNone found Q

@@ -1,8 +1,6 @@
 //! Whether an act can be done.
 
-ghost use Rattle.std.specs.Prelude.{◌≡◌, ◌<◌, ℕ};
-ghost use Rattle.gptp_acts.specs.declared.change.Act.TheVariants.{Change as Changing};
-ghost use Rattle.gptp_acts.specs.declared.change.Change.TheVariants.{Priority1};
+ghost use Rattle.gptp_kept.specs.LegibleLaws.{SetsAnOctet};
 
 use crate::aim::Aim;
 use crate::stage::Stage;
@@ -10,7 +8,7 @@ use gptp_acts::{Act, Change, Refused, Timed};
 
 /// A priority1 that is set is an octet.
 pub(crate) fn sets_an_octet(act: &Act)
-    ensures { (number value : ℕ) → act.now ≡ Changing (Priority1 number value) → value < 256 }
+    ensures { SetsAnOctet act.now }
 {
     if let Act::Change(Change::Priority1 { clock: _, value }) = act {
         let _value = *value;

@@ -2,7 +2,7 @@
 
 ghost use Rattle.std.specs.Prelude.{◌≡◌, ◌<◌, length, OnOk};
 ghost use Rattle.gptp_world.specs.Starting.{Started};
-ghost use Rattle.gptp_world.specs.Scene.{IsScene, SystemsStarted};
+ghost use Rattle.gptp_world.specs.Scene.{IsFounded, SystemsStarted};
 
 use crate::aim::Aim;
 use crate::checking::sets_an_octet;
@@ -33,9 +33,9 @@ impl Model for Scene {
 
 /// The system at a place starts, once room is made for it. Refused where there is no memory for that.
 fn start_next<F: Fate>(stage: &mut Stage, place: usize, fate: &mut F) -> Result<(), AllocError>
-    requires scene { IsScene stage.old }
+    requires scene { IsFounded stage.old }
     requires place { place < length stage.old.stations.items }
-    ensures scene { OnOk result (IsScene stage.new) }
+    ensures scene { OnOk result (IsFounded stage.new) }
     ensures count { OnOk result (length stage.new.stations.items ≡ length stage.old.stations.items) }
     ensures started { OnOk result (Started F.answers place fate.old fate.new stage.old stage.new) }
 {
@@ -46,8 +46,8 @@ fn start_next<F: Fate>(stage: &mut Stage, place: usize, fate: &mut F) -> Result<
 
 /// All systems start, in their order. Refused where there is no memory for that.
 fn start_all<F: Fate>(stage: &mut Stage, fate: &mut F) -> Result<(), AllocError>
-    requires { IsScene stage.old }
-    ensures scene { OnOk result (IsScene stage.new) }
+    requires { IsFounded stage.old }
+    ensures scene { OnOk result (IsFounded stage.new) }
     ensures started { OnOk result (SystemsStarted F.answers (length stage.old.stations.items) fate.old fate.new stage.old stage.new) }
 {
     for place in 0..stage.stations.len() {
@@ -60,6 +60,8 @@ impl Scene {
     ghost use Rattle.std.specs.Prelude.{◌≡◌, ◌≤◌, IfErr, IfOk, OnErr};
     ghost use Rattle.gptp_acts.specs.Acts.{IsFitAct, IsReadyAct, Refuses};
     ghost use Rattle.gptp_acts.specs.Prompt.{IsPromptIn};
+    ghost use Rattle.gptp_kept.specs.LegibleLaws.{SetsAnOctet};
+    ghost use Rattle.gptp_kept.specs.Traces.{IsHeardClean};
     ghost use Rattle.gptp_world.specs.Aim.{IsAimOf};
     ghost use Rattle.gptp_acts.specs.Course.{Begun, WasDone};
 
@@ -83,11 +85,13 @@ impl Scene {
         requires fit { IsFitAct timed.now.act }
         requires prompt { IsPromptIn self.old timed.now.act }
         ensures done { IfOk result (WasDone F.answers timed.now fate.old fate.new self.old self.new) }
+        ensures clean { IfOk result (IsHeardClean self.old timed.now.at) }
         ensures refused { IfErr result (Refuses timed.now.act timed.now.at self.old) }
         ensures kept { OnErr result (self.new ≡ self.old) }
         ensures fate { OnErr result (fate.new ≡ fate.old) }
     {
         sets_an_octet(&timed.act);
+        self.well_formed();
         match self.stage.check(timed) {
             Ok(aim) => match self.perform(timed, aim, fate) {
                 Ok(done) => Ok(done),
@@ -107,6 +111,8 @@ impl Scene {
     ) -> Result<Done, AllocError>
         requires moment { timed.now.at ≤ 1000000000000000 }
         requires fit { IsFitAct timed.now.act }
+        requires prompt { IsPromptIn self.old timed.now.act }
+        requires octet { SetsAnOctet timed.now.act }
         requires aim { IsAimOf timed.now.act self.old aim }
         requires ready { IsReadyAct timed.now.act timed.now.at self.old }
         ensures done { IfOk result (WasDone F.answers timed.now fate.old fate.new self.old self.new) }

@@ -21,6 +21,9 @@ impl Scene {
     ghost use Rattle.gptp_acts.specs.Prompt.{IsPromptIn};
     ghost use Rattle.gptp_acts.specs.Sound.{IsSound};
     ghost use Rattle.gptp_acts.specs.Views.{Follows, HasPort, HasRole, IsLiveSystem, IsNextAct, ShowsLive, rising_clocks};
+    ghost use Rattle.gptp_kept.specs.Claimed.{Claimed};
+    ghost use Rattle.gptp_kept.specs.Shown.{FollowsInTime, IsCapableInTime, IsEnabledInTime, PlaysInTime};
+    ghost use Rattle.gptp_kept.specs.Traces.{AreHeldCleanInTime, IsCleanInTime};
 
     /// The time, in ns.
     pub(crate) fn now(&self) -> u64
@@ -66,8 +69,20 @@ impl Scene {
         }
     }
 
-    /// The live system with a clock, if there is one.
+    /// The live system with a clock, if there is one. In time its ports are capable where they can be, and traces clean.
     pub(crate) fn system(&self, clock: ClockId) -> Option<&System>
+        ensures some { IfSome result (λ system. ShowsLive clock self.now system.now) }
+        ensures none { IfNone result (AtSystem clock self.now IsLiveSystem → ⊥) }
+        ensures capable { IfSome result (λ system. IsCapableInTime self.now system.now) }
+        ensures clean { IfSome result (λ system. IsCleanInTime self.now system.now) }
+        ensures held { IfSome result (λ system. AreHeldCleanInTime self.now system.now) }
+    {
+        self.well_formed();
+        self.live_system(clock)
+    }
+
+    /// The live system with a clock, if there is one.
+    fn live_system(&self, clock: ClockId) -> Option<&System>
         ensures some { IfSome result (λ system. ShowsLive clock self.now system.now) }
         ensures none { IfNone result (AtSystem clock self.now IsLiveSystem → ⊥) }
     {
@@ -87,37 +102,44 @@ impl Scene {
     pub(crate) fn live(&self, clock: ClockId) -> bool
         ensures { IsTrue result ↔ AtSystem clock self.now IsLiveSystem }
     {
-        match self.system(clock) {
+        match self.live_system(clock) {
             Some(_) => true,
             None => false,
         }
     }
 
     /// The root that the live system with a clock follows, how many steps away that is, and the number of its Slave port.
+    /// In time these are the settled choice.
     pub(crate) fn follows(&self, clock: ClockId) -> Option<(Identity, u16, Option<u8>)>
         ensures some { IfSome result (λ f. AtSystem clock self.now (Follows f.0 f.1 f.2)) }
         ensures none { IfNone result (AtSystem clock self.now IsLiveSystem → ⊥) }
+        ensures settled { IfSome result (λ f. FollowsInTime clock self.now f.0 f.1 f.2) }
     {
-        match self.system(clock) {
+        self.well_formed();
+        match self.live_system(clock) {
             Some(system) => Some(system.follows()),
             None => None,
         }
     }
 
-    /// What is pending agrees with the state, nothing is due before now, and the rest of what is true of every world.
+    /// What is pending agrees with the state, nothing is due before now, and the rest of what is true of every world, from
+    /// which it follows that it settles.
     pub(crate) fn well_formed(&self)
-        ensures { IsSound self.now }
+        ensures sound { IsSound self.now }
+        ensures claimed { Claimed self.now }
     {
         let _ = &self.stage;
     }
 
-    /// The role of a port of the live system with a clock.
+    /// The role of a port of the live system with a clock. In time it is Disabled where no link is at it, and settled.
     pub(crate) fn role(&self, clock: ClockId, port: u16) -> Option<Role>
         ensures some { IfSome result (λ role. AtSystem clock self.now (HasRole port role)) }
         ensures none { IfNone result (AtSystem clock self.now (HasPort port) → ⊥) }
+        ensures enabled { IfSome result (λ role. IsEnabledInTime clock port self.now role) }
+        ensures settled { IfSome result (λ role. PlaysInTime clock port self.now role) }
     {
         self.well_formed();
-        match self.system(clock) {
+        match self.live_system(clock) {
             Some(system) => role_of(system, port),
             None => None,
         }

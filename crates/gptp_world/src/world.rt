@@ -24,6 +24,9 @@ impl<F: Fate + Drop> World<F> {
     ghost use Rattle.gptp_acts.specs.Advancing.{Advanced, StopsShort, Told};
     ghost use Rattle.gptp_acts.specs.Course.{Begun, WasDone};
     ghost use Rattle.gptp_acts.specs.Sound.{IsSound};
+    ghost use Rattle.gptp_kept.specs.Claimed.{Claimed};
+    ghost use Rattle.gptp_kept.specs.Shown.{FollowsInTime, IsCapableInTime, IsEnabledInTime, PlaysInTime};
+    ghost use Rattle.gptp_kept.specs.Traces.{AreHeldCleanInTime, IsCleanInTime, IsHeardClean};
     ghost use Rattle.gptp_acts.specs.Views.{Follows, HasPort, HasRole, IsLiveSystem, IsNextAct, ShowsLive, rising_clocks};
 
     /// The world of a network at time 0: all its systems have started, in their order, and their first frames are in flight.
@@ -48,6 +51,7 @@ impl<F: Fate + Drop> World<F> {
         requires fit { IsFitAct timed.act }
         requires prompt { IsPromptIn self.old.scene timed.act }
         ensures done { IfOk result (WasDone F.answers timed self.old.fate self.new.fate self.old.scene self.new.scene) }
+        ensures clean { IfOk result (IsHeardClean self.old.scene timed.at) }
         ensures refused { IfErr result (Refuses timed.act timed.at self.old.scene) }
         ensures kept { OnErr result (self.new ≡ self.old) }
     {
@@ -138,17 +142,29 @@ impl<F: Fate + Drop> World<F> {
     }
 
     /// The live system with a clock; `None` where there is none.
+    ///
+    /// A world is calm where each link that is up between two live systems loses nothing and is good. Once it has been calm
+    /// for L + 5 announce intervals since the last change, L being how many requests may be lost, a port of the system is
+    /// capable exactly where such a link is at it. From then on traces become clean, by one member in each turn of k + 1
+    /// announce intervals, k being the announce receipt timeout: after c turns the last c + 1 members of the trace that the
+    /// system announces, and of each that its ports hold and that was sent by then, are different live systems, each linked
+    /// with the next; or the trace is so as a whole, from the root that it names.
     pub fn system(&self, clock: ClockId) -> Option<&System>
         ensures some { IfSome result (λ system. ShowsLive clock self.now.scene system.now) }
         ensures none { IfNone result (AtSystem clock self.now.scene IsLiveSystem → ⊥) }
+        ensures capable { IfSome result (λ system. IsCapableInTime self.now.scene system.now) }
+        ensures clean { IfSome result (λ system. IsCleanInTime self.now.scene system.now) }
+        ensures held { IfSome result (λ system. AreHeldCleanInTime self.now.scene system.now) }
     {
         self.scene.system(clock)
     }
 
     /// What is true of every world: what is pending agrees with the state, nothing is due before now, each system is at rest and
-    /// keeps its setup, and each port of a live system at a link that is up measures that link.
+    /// keeps its setup, and each port of a live system at a link that is up measures that link. From what more every world
+    /// keeps, whatever happened in it, it follows that it settles.
     pub fn well_formed(&self)
-        ensures { IsSound self.now.scene }
+        ensures sound { IsSound self.now.scene }
+        ensures claimed { Claimed self.now.scene }
     {
         self.scene.well_formed();
     }
@@ -162,18 +178,29 @@ impl<F: Fate + Drop> World<F> {
 
     /// The root that the live system with a clock follows, how many steps away that is, and the number of its Slave port,
     /// if it has one (IEEE 802.1AS-2020, 10.3.5); `None` where there is no such system.
+    ///
+    /// Once the world has been calm for (k+3)n + L + 5 announce intervals since the last change, with n systems that live,
+    /// these are the identity of the best system of its component, the least number of steps to that, and the own port of
+    /// the parent, where the system is near: fewer than 255 steps away. The best has no Slave port.
     pub fn follows(&self, clock: ClockId) -> Option<(Identity, u16, Option<u8>)>
         ensures some { IfSome result (λ f. AtSystem clock self.now.scene (Follows f.0 f.1 f.2)) }
         ensures none { IfNone result (AtSystem clock self.now.scene IsLiveSystem → ⊥) }
+        ensures settled { IfSome result (λ f. FollowsInTime clock self.now.scene f.0 f.1 f.2) }
     {
         self.scene.follows(clock)
     }
 
     /// The role of a port, from 1, of the live system with a clock (IEEE 802.1AS-2020, 10.3.6); `None` where there is no such
     /// system or port.
+    ///
+    /// Once the world has been calm for L + 5 announce intervals since the last change, the port is Disabled exactly where no
+    /// link that is up leads from it to a live system; and once it has been for (k+3)n + L + 5, each port of a near system
+    /// has the role that the tree of fewest steps to the best gives it.
     pub fn role(&self, clock: ClockId, port: u16) -> Option<Role>
         ensures some { IfSome result (λ role. AtSystem clock self.now.scene (HasRole port role)) }
         ensures none { IfNone result (AtSystem clock self.now.scene (HasPort port) → ⊥) }
+        ensures enabled { IfSome result (λ role. IsEnabledInTime clock port self.now.scene role) }
+        ensures settled { IfSome result (λ role. PlaysInTime clock port self.now.scene role) }
     {
         self.scene.role(clock, port)
     }

@@ -10,7 +10,7 @@ pub returns-clause-followed : goal.returns-clause-followed
 returns-clause-followed g c = on_ok_weaker c.write_done.result (λ written.
     let told : Told = record { timed = c.args.timed; done = c.in_ok-done.done } in
     let one = happened g.F.Fate.answers c.args.timed.at told c.args.world.now.fate c.done_of.new.world.fate
-    c.args.world.now.scene c.done_of.new.world.scene c.well_formed-2.ensures c.requires.next (omega arith)
+    c.args.world.now.scene c.done_of.new.world.scene c.well_formed-2.ensures.sound c.requires.next (omega arith)
     c.in_ok-done.ensures in
     follows_one g.F.Fate.answers c.args.timed.at told c.args.world.now.fate c.done_of.new.world.fate
     c.args.world.now.scene c.done_of.new.world.scene written.0 (string_bytes c.args.text.now)
@@ -20,12 +20,12 @@ pub returns-clause-less : goal.returns-clause-less
 returns-clause-less g c = on_ok_weaker c.write_done.result (λ written.
     let told : Told = record { timed = c.args.timed; done = c.in_ok-done.done } in
     (happened g.F.Fate.answers c.args.timed.at told c.args.world.now.fate c.done_of.new.world.fate
-    c.args.world.now.scene c.done_of.new.world.scene c.well_formed-2.ensures c.requires.next (omega arith)
+    c.args.world.now.scene c.done_of.new.world.scene c.well_formed-2.ensures.sound c.requires.next (omega arith)
     c.in_ok-done.ensures).less) c.write_done.ensures
 
 pub returns-clause-first : goal.returns-clause-first
 returns-clause-first g c = on_ok_weaker c.write_done.result (λ written.
     let told : Told = record { timed = c.args.timed; done = c.in_ok-done.done } in
     (happened g.F.Fate.answers c.args.timed.at told c.args.world.now.fate c.done_of.new.world.fate
-    c.args.world.now.scene c.done_of.new.world.scene c.well_formed-2.ensures c.requires.next (omega arith)
+    c.args.world.now.scene c.done_of.new.world.scene c.well_formed-2.ensures.sound c.requires.next (omega arith)
     c.in_ok-done.ensures).first) c.write_done.ensures

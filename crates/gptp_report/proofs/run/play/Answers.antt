@@ -24,7 +24,7 @@ loop-place-preserved g c =
       prompt = stay_prompt events c.loop-place.world.scene c.make_if_due.new.world.scene
           (changed_if_stays g.F.Fate.answers (nat_le event.at c.args.until) event made.0 c.loop-place.world.fate
           c.make_if_due.new.world.fate c.loop-place.world.scene c.make_if_due.new.world.scene
-          c.well_formed-in-loop-place.ensures.wired.setups made.1) c.loop-place.invariant.prompt;
+          c.well_formed-in-loop-place.ensures.sound.wired.setups made.1) c.loop-place.invariant.prompt;
     }
 
 pub returns : goal.returns

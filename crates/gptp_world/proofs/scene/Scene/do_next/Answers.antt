@@ -6,7 +6,9 @@ use Rattle.gptp_acts.specs.Sound.{IsSound}
 use Rattle.gptp_acts.specs.Views.{IsActOf, IsNextAct}
 use Rattle.gptp_acts.specs.World.{WorldState}
 use Rattle.gptp_acts.proofs.AdvanceLemmas.{can_happen, happened, one_happened}
+use Rattle.gptp_acts.proofs.PromptLemmas.{next_prompt}
 use Rattle.gptp_world.proofs.AimLemmas.{next_aimed}
+use Rattle.gptp_world.proofs.ClaimedLemmas.{next_octet}
 use Rattle.gptp_world.proofs.ViewLemmas.{next_placed}
 use Rattle.gptp_world.proofs.scene.Scene.do_next.Goals as goal
 
@@ -24,6 +26,9 @@ perform-requires g c =
     record {
       moment = c.requires.moment;
       fit = can.fit;
+      prompt = next_prompt c.args.self.now (record { at = c.args.time; act = c.act_of.result })
+          (record { item = c.args.item; next = c.requires.next; act = is });
+      octet = next_octet c.args.item c.act_of.result c.args.self.now is;
       aim = rw c.aim_of.ensures
           (next_aimed c.args.item c.args.time c.act_of.result c.args.self.now sound c.requires.next is);
       ready = can.ready;

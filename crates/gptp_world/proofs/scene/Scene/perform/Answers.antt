@@ -3,6 +3,8 @@ use Rattle.gptp_acts.specs.Acts.{at}
 use Rattle.gptp_world.specs.Aim.{IsAimOf}
 use Rattle.gptp_acts.specs.Sound.{IsSound}
 use Rattle.gptp_world.specs.Stage.{world_of}
+use Rattle.gptp_kept.specs.Claimed.{Claimed}
+use Rattle.gptp_world.proofs.ClaimedLemmas.{acted_claimed}
 use Rattle.gptp_world.proofs.LaterLemmas.{aim_later, room_later}
 use Rattle.gptp_world.proofs.SceneLemmas.{ready_sound}
 use Rattle.gptp_acts.proofs.SoundLemmas.{acts_sound}
@@ -35,4 +37,8 @@ invariant_of-self-2 g c =
       stage_kept = c.perform.ensures.stage;
       sound = acts_sound act (at time made) acted.draws c.perform.result (world_of c.perform.new.self) sound
           c.requires.fit acted.acts;
+      claimed = acted_claimed g.F.Fate.answers c.args.timed.now c.args.fate.now c.perform.new.fate c.args.self.now made
+          (world_of c.perform.new.self) acted.draws c.perform.result
+          (subst Claimed c.self.view_is c.self.invariant.claimed) (c.make_room_for.ensures.world ∙ c.self.view_is)
+          c.requires.fit c.requires.prompt c.requires.octet c.requires.ready acted.drawn acted.acts;
     }

@@ -1,15 +1,19 @@
-use Rattle.std.proofs.Common.{subst, sym}
-use Rattle.std.proofs.lemmas.Option.{none-some}
-use Rattle.gptp_acts.specs.Acts.{AtSystem}
-use Rattle.gptp_world.specs.Stage.{world_of}
-use Rattle.gptp_acts.specs.Views.{IsLiveSystem}
-use Rattle.gptp_world.proofs.AimLemmas.{no_system}
+use Rattle.std.proofs.lemmas.Option.{IfSome_then}
+use Rattle.gptp_kept.proofs.ShownLemmas.{capable_shown}
+use Rattle.gptp_kept.proofs.TraceLemmas.{held_becomes_clean, traces_become_clean}
 use Rattle.gptp_world.proofs.scene.Scene.system.Goals as goal
 
-pub returns-in-None-clause-none : goal.returns-in-None-clause-none
-returns-in-None-clause-none c = λ shown.
-    let stage = c.self.inside.stage in
-    let at : AtSystem c.args.clock (world_of stage) IsLiveSystem =
-    subst (λ w. AtSystem c.args.clock w IsLiveSystem) (sym c.self.view_is) shown in
-    no_system stage c.args.clock c.self.invariant.stage_kept (λ place there. none-some place (c.in-None.ensures.only place there))
-    (record { place = at.place; station = at.station; is = at.is; so = tt })
+pub returns-clause-capable : goal.returns-clause-capable
+returns-clause-capable c =
+    IfSome_then c.live_system.result c.live_system.ensures.some
+    (λ system shows. capable_shown c.args.clock c.args.self.now system.now c.well_formed-2.ensures.claimed shows)
+
+pub returns-clause-clean : goal.returns-clause-clean
+returns-clause-clean c =
+    IfSome_then c.live_system.result c.live_system.ensures.some
+    (λ system shows. traces_become_clean c.args.clock c.args.self.now system.now c.well_formed-2.ensures.claimed shows)
+
+pub returns-clause-held : goal.returns-clause-held
+returns-clause-held c =
+    IfSome_then c.live_system.result c.live_system.ensures.some
+    (λ system shows. held_becomes_clean c.args.clock c.args.self.now system.now c.well_formed-2.ensures.claimed shows)

@@ -1,0 +1,7 @@
+use Rattle.gptp_kept.proofs.TraceLemmas.{frames_become_clean}
+use Rattle.gptp_world.proofs.scene.Scene.act.Goals as goal
+
+pub returns-in-Ok-perform-clause-clean : goal.returns-in-Ok-perform-clause-clean
+returns-in-Ok-perform-clause-clean g c =
+    frames_become_clean g.F.Fate.answers c.args.timed.now c.args.fate.now c.perform.new.fate c.args.self.now
+    c.perform.new.self c.in-Ok-perform.done c.well_formed-2.ensures.claimed c.in-Ok-perform.ensures.done
