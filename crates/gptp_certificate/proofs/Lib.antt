@@ -8,3 +8,4 @@ pub mod LineLemmas
 pub mod OrderLemmas
 pub mod ReadingLemmas
 pub mod LawLemmas
+pub mod SettledLemmas

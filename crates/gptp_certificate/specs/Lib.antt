@@ -8,3 +8,4 @@ pub mod Forms
 pub mod Lines
 pub mod Faults
 pub mod Parsing
+pub mod Settled

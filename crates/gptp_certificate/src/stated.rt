@@ -6,6 +6,7 @@ ghost use Rattle.gptp_system.specs.State.{clock, parent};
 ghost use Rattle.gptp_acts.specs.Acts.{AnySystem, AtSystem};
 ghost use Rattle.gptp_acts.specs.Views.{rising_clocks};
 ghost use Rattle.gptp_certificate.specs.Certificate.{line_of, lines_of, parent_of, port_line_of};
+ghost use Rattle.gptp_certificate.specs.Settled.{IsRightInTime};
 ghost use Rattle.gptp_certificate.specs.Stated.{stated_line, stated_port, States};
 ghost use Rattle.gptp_certificate.specs.Stating.{Adds};
 
@@ -119,14 +120,17 @@ fn list_lines<F: Fate + Drop>(
     Ok(lines)
 }
 
-/// The certificate of a world as it stands: of each live system, by rising clock, what its own state says now. It is the
-/// right choice for the network only where the network has settled. Refused for want of memory alone.
+/// The certificate of a world as it stands: of each live system, by rising clock, what its own state says now. Once the
+/// world has been calm for its settling span since the last change, where all live systems are fewer than 255 steps from
+/// the best of their component, it is the settled choice of the network. Refused for want of memory alone.
 pub fn write_certificate<F: Fate + Drop>(
     alloc: Global,
     world: &World<F>,
 ) -> Result<Certificate, AllocError>
-    ensures { IfOk result (States world.now.scene) }
+    ensures states { IfOk result (States world.now.scene) }
+    ensures right { IfOk result (IsRightInTime world.now.scene) }
 {
+    world.well_formed();
     let lines = list_lines(alloc, world)?;
     Ok(Certificate { lines })
 }

@@ -17,5 +17,5 @@ returns g c =
     let w = c.args.world.now.scene in let lines = lines_of c.loop-place.lines.items in
     let count = rising_clocks-count w in let test = c.loop-place-test.false in let total = c.count-place-end.ensures in
     let none = drop_all c.loop-place.place (rising_clocks w) (omega (arith, count, test, total)) in
-    stated_all w lines c.well_formed-2.ensures.wired.clocks
+    stated_all w lines c.well_formed-2.ensures.sound.wired.clocks
     (subst (λ left. StatedSoFar (rising_clocks w) left w lines) none c.loop-place.invariant)

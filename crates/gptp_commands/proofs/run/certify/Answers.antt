@@ -7,6 +7,6 @@ pub returns-in_ok-print-clause-certifies : goal.returns-in_ok-print-clause-certi
 returns-in_ok-print-clause-certifies c =
     let stated = c.in_ok-certificate.certificate in (
       certificate_lines stated,
-      rw c.if-wanted.true (stated, c.in_ok-certificate.ensures, refl),
+      rw c.if-wanted.true (stated, c.in_ok-certificate.ensures.states, refl),
       c.in_ok-print.ensures.written ∙ ap (λ t. c.args.text.now.items ++ t) (text_of_lines stated),
     )
