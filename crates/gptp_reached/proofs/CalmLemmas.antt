@@ -1,0 +1,151 @@
+-- A world that a network and its events lead to is as calm as the network then is.
+use Rattle.std.proofs.Common.{◌≡◌, ◌∙◌, ◌+◌, ◌≤◌, ℕ, Bool, true, false, List, ◌∷◌, length, map, Some, None, cond, slice_get, refl, sym, ap, subst, arith}
+use Rattle.std.specs.Prelude.{if◌then◌else◌}
+use Rattle.std.specs.List.{All, cons_option, filter_map}
+use Rattle.std.proofs.lemmas.List.Recursion.{is_count_by}
+use Rattle.std.proofs.lemmas.Option.{get_or_from_slice_get, slice_get_within}
+use Rattle.gptp_roles.specs.Selection.{clock_of}
+use Rattle.gptp_acts.specs.declared.change.Timed.{Timed}
+use Rattle.gptp_acts.specs.declared.network.Member.{Member}
+use Rattle.gptp_acts.specs.declared.network.Wire.{Wire}
+use Rattle.gptp_acts.specs.declared.station.Station.{Station}
+use Rattle.gptp_acts.specs.Calm.{IsCalm, IsLive, IsQuiet, Rests}
+use Rattle.gptp_acts.specs.Change.{link_after, live_after, system_after}
+use Rattle.gptp_acts.specs.Network.{NetworkState}
+use Rattle.gptp_acts.specs.SettlingTime as acts
+use Rattle.gptp_acts.specs.SettlingTime.{settles, settling_span}
+use Rattle.gptp_acts.specs.Sound.{IsSound}
+use Rattle.gptp_acts.specs.World.{WorldState}
+use Rattle.gptp_acts.proofs.ListLemmas.{mapped, mapped_there}
+use Rattle.gptp_network.specs.Document.{DocumentState}
+use Rattle.gptp_network.specs.Snapshot as network
+use Rattle.gptp_network.specs.Snapshot.{events_by}
+use Rattle.gptp_network.proofs.SnapshotLemmas.{clock_after}
+use Rattle.gptp_kept.specs.Calm.{IsQuietWorld}
+use Rattle.gptp_kept.specs.CalmFor.{IsCalmFor}
+use Rattle.gptp_kept.specs.Claimed.{Claimed}
+use Rattle.gptp_kept.specs.Known.{AreSet, IsSetTo}
+use Rattle.gptp_kept.specs.Standing.{has_clock, live_systems, snapshot_of}
+use Rattle.gptp_kept.proofs.StandsLemmas.{sender_lives, used_up}
+use Rattle.gptp_kept.proofs.SystemLemmas.{clock_in, clock_lives, live_from}
+use Rattle.gptp_links.specs.declared.link.Direction.TheVariants.{FromA, FromB}
+use Rattle.gptp_reached.specs.Reached.{Shape, StandsAs, shape, shape_after, wire_of}
+use Rattle.gptp_reached.specs.PlayedLaws.{IsAtRest, IsReached}
+use Rattle.gptp_reached.proofs.SnapshotLemmas.{systems_stand}
+
+-- ---- how many systems live
+
+network_count : (events : List Timed) (members : List Member)
+    → length (network.live_systems members events) ≡ acts.live_systems members events
+network_count events =
+    is_count_by (λ members. length (network.live_systems members events)) (λ m. (system_after events m).live) refl one
+  where
+    one : (m : Member) (members : List Member)
+        → length (network.live_systems (m ∷ members) events)
+        ≡ cond (system_after events m).live (1 + length (network.live_systems members events))
+        (length (network.live_systems members events))
+    one m members = by (system_after events m).live
+      where
+        by : (live : Bool)
+            → length (map network.system_of
+            (cons_option (if live then Some ((system_after events m).identity, m.ports) else None)
+            (filter_map (live_after events) members)))
+            ≡ cond live (1 + length (network.live_systems members events))
+            (length (network.live_systems members events))
+        by true = omega arith
+        by false = refl
+
+pub count_stands : (n : NetworkState) (events : List Timed) (w : WorldState) → StandsAs n events w → IsSound w
+    → length (snapshot_of w).systems ≡ acts.live_systems n.systems events
+count_stands n events w so sound = ap length (systems_stand n events w so sound) ∙ network_count events n.systems
+
+-- ---- one of the network
+
+-- what stands somewhere is one of the network's after the events
+record IsMemberAt (n : NetworkState) (events : List Timed) (place : ℕ) (station : Station) : Type 0 where
+  pub member : Member
+  pub there : slice_get n.systems place ≡ Some member
+  pub is : shape_after n.params events member ≡ shape station
+
+member_at : (n : NetworkState) (events : List Timed) (w : WorldState) → StandsAs n events w → (place : ℕ)
+    (station : Station) → slice_get w.stations place ≡ Some station → IsMemberAt n events place station
+member_at n events w so place station here =
+    let (m, there, is) = mapped (shape_after n.params events) n.systems place (shape station)
+    (ap (λ ss. slice_get ss place) (sym so.systems) ∙ mapped_there shape w.stations place station here) in
+    record { member = m; there = there; is = is }
+
+-- ---- links
+
+lives_so : (n : NetworkState) (events : List Timed) (w : WorldState) → StandsAs n events w → (number : ℕ)
+    → has_clock (live_systems w.stations) number ≡ true → IsLive n.systems events number
+lives_so n events w so number has =
+    let (s, among, same) = clock_lives w.stations number has in
+    let at = live_from w.stations s among in
+    let of = member_at n events w so at.place at.station at.here in
+    let given : clock_of (shape at.station).identity ≡ clock_of at.station.system.identity = rw at.live refl in
+    record {
+      place = at.place;
+      system = of.member;
+      there = of.there;
+      clock = sym (clock_after events of.member) ∙ ap (λ (x : Shape). clock_of x.identity) of.is ∙ given
+          ∙ ap clock_in (sym at.is) ∙ same;
+      live = ap (λ (x : Shape). x.live) of.is ∙ at.live;
+    }
+
+pub each_at : {X : Type 0} (P : X → Type 0) (xs : List X) → All P xs → (place : ℕ) (x : X)
+    → slice_get xs place ≡ Some x → P x
+each_at P xs each place x there =
+    subst P (get_or_from_slice_get xs place x x there) (each place x (slice_get_within xs place x there))
+
+pub quiet_stands : (n : NetworkState) (events : List Timed) (w : WorldState) → StandsAs n events w → IsCalm n events
+    → IsQuietWorld n.params w
+quiet_stands n events w so calm link channel here used =
+    let systems = live_systems w.stations in
+    let (v, there, is) = mapped (link_after events) n.links link (wire_of channel)
+    (ap (λ vs. slice_get vs link) (sym so.links) ∙ mapped_there wire_of w.net.channels link channel here) in
+    let rests = each_at (Rests n.params n.systems events) n.links calm link v there in
+    let a = lives_so n events w so channel.a.clock (sender_lives systems FromA channel used) in
+    let b = lives_so n events w so channel.b.clock (sender_lives systems FromB channel used) in
+    let quiet = rests (record {
+      up = ap (λ (x : Wire). x.up) is ∙ used_up systems channel used;
+      a = subst (λ (x : Wire). IsLive n.systems events x.a.clock) (sym is) a;
+      b = subst (λ (x : Wire). IsLive n.systems events x.b.clock) (sym is) b;
+    }) in
+    let same = subst (IsQuiet n.params.turnaround n.params.threshold) is quiet in
+    record { lossless = same.lossless; good = same.good }
+
+-- ---- parameters
+
+pub set_stands : (n : NetworkState) (events : List Timed) (w : WorldState) → StandsAs n events w → Claimed w
+    → AreSet n.params w
+set_stands n events w so claimed place station here =
+    let of = member_at n events w so place station here in
+    let set = claimed.is.world.known.set place station here in
+    let same : claimed.params ≡ n.params =
+    sym set.setup ∙ ap (λ (x : Shape). x.setup.params) (sym of.is) in
+    subst (λ p. IsSetTo p station) same set
+
+-- ---- a document
+
+pub document_calm : (d : DocumentState) (until : ℕ) (w : WorldState) → IsReached d until w → Claimed w
+    → IsAtRest d until → IsCalmFor settling_span w
+document_calm d until w reached claimed rest = record {
+  params = n.params;
+  set = set_stands n events w so claimed;
+  quiet = quiet_stands n events w so rest.calm;
+  late = late;
+}
+  where
+    n : NetworkState
+    n = d.network
+
+    events : List Timed
+    events = events_by until d.events
+
+    so : StandsAs n events w
+    so = reached.stands
+
+    late : w.last_change + settling_span n.params (length (snapshot_of w).systems) ≤ w.time
+    late =
+        let count = count_stands n events w so reached.sound in
+        rw (so.last, count, reached.now) rest.settled

@@ -1,0 +1,311 @@
+-- A change leads to a world that stands as the network does after one event more.
+use Rattle.std.proofs.Common.{◌≡◌, ◌≢◌, ◌⊎◌, ℕ, ◌+◌, ◌*◌, ◌^◌, ◌%◌, Bool, true, false, List, [], ◌∷◌, ◌++◌, map, Some, slice_get, slice_set, refl, sym, ap, subst, ◌∙◌, inl, inr}
+use Rattle.std.specs.Prelude.{if◌then◌else◌, ◌==◌}
+use Rattle.std.proofs.lemmas.Bool.{and_from, and_parts, eq-eqb, eqb-true, or_cases, or_left, or_right}
+use Rattle.gptp_vector.specs.declared.port.PortId.{PortId}
+use Rattle.gptp_links.specs.declared.link.Direction.{Direction}
+use Rattle.gptp_links.specs.declared.link.Direction.TheVariants.{FromA, FromB}
+use Rattle.gptp_links.specs.Fate.{Draw}
+use Rattle.gptp_roles.specs.Selection.{clock_of}
+use Rattle.gptp_system.specs.Input.{PortDown, PortUp}
+use Rattle.gptp_system.specs.State.{clock}
+use Rattle.gptp_acts.specs.declared.change.Act.TheVariants.{Change as Changing}
+use Rattle.gptp_acts.specs.declared.change.Change.{Change}
+use Rattle.gptp_acts.specs.declared.change.Change.TheVariants.{LinkDown, LinkUp, LinkSet, Fail, Recover, Priority1}
+use Rattle.gptp_acts.specs.declared.change.Timed.{Timed}
+use Rattle.gptp_acts.specs.declared.done.Done.{Done}
+use Rattle.gptp_acts.specs.declared.network.Member.{Member}
+use Rattle.gptp_acts.specs.declared.network.Wire.{Wire}
+use Rattle.gptp_acts.specs.declared.station.Station.{Station}
+use Rattle.gptp_acts.specs.Acts.{Acts, Changes, at, set_to}
+use Rattle.gptp_acts.specs.Change.{is_at, link_acted, link_after, link_changed, system_acted, system_after, system_changed, standing, with_bounds, with_up}
+use Rattle.gptp_acts.specs.Changing.{ComesUpIf, GoesDownIf, IsChannel, IsStation, brought_up, lost, taken_down, with_setup}
+use Rattle.gptp_acts.specs.Initial.{setup_of}
+use Rattle.gptp_acts.specs.Network.{NetworkState, same_port}
+use Rattle.gptp_acts.specs.Sound.{IsSound}
+use Rattle.gptp_acts.specs.World.{Channel, WorldState, port_id, sender}
+use Rattle.gptp_acts.proofs.ListLemmas.{mapped, mapped_there}
+use Rattle.gptp_acts.proofs.PlaceLemmas.{map-set, map-set_same}
+use Rattle.gptp_network.proofs.SnapshotLemmas.{clock_after}
+use Rattle.gptp_reached.specs.Reached.{Shape, StandsAs, shape, shape_after, wire_of}
+use Rattle.gptp_reached.proofs.KeptLemmas.{tells_keep}
+use Rattle.gptp_reached.proofs.BeginLemmas.{SystemBecomes, of_setup}
+use Rattle.gptp_reached.proofs.EventLemmas.{last_behind, link_behind, map_each, set_one, system_behind}
+use Rattle.gptp_reached.proofs.SystemLemmas.{fails_becomes, prioritized_becomes, recovers_becomes}
+
+-- ---- ports
+
+-- one of a link's ends is this port
+ending : (channel : Channel) (port : PortId) → (channel.a ≡ port) ⊎ (channel.b ≡ port)
+    → (direction : Direction) × (sender direction channel ≡ port)
+ending channel port (inl same) = (FromA, same)
+ending channel port (inr same) = (FromB, same)
+
+same_port_is : (p q : PortId) → same_port p q ≡ true → p ≡ q
+same_port_is p q same =
+    let both = and_parts (p.clock == q.clock) (p.port == q.port) same in
+    let clocks = eqb-true p.clock q.clock both.0 in
+    let ports = eqb-true p.port q.port both.1 in
+    λ i. record { clock = clocks i; port = ports i }
+
+is_same_port : (p q : PortId) → p ≡ q → same_port p q ≡ true
+is_same_port p q same =
+    and_from (p.clock == q.clock) (p.port == q.port)
+    (eq-eqb p.clock q.clock (ap (λ (x : PortId). x.clock) same))
+    (eq-eqb p.port q.port (ap (λ (x : PortId). x.port) same))
+
+is_at_port : (number port : ℕ) (v : Wire) → (v.a ≡ port_id number port) ⊎ (v.b ≡ port_id number port)
+    → is_at number port v ≡ true
+is_at_port number port v (inl same) = or_left _ _ (is_same_port v.a (port_id number port) same)
+is_at_port number port v (inr same) = or_right _ _ (is_same_port v.b (port_id number port) same)
+
+at_port : (number port : ℕ) (v : Wire) → is_at number port v ≡ true
+    → (v.a ≡ port_id number port) ⊎ (v.b ≡ port_id number port)
+at_port number port v is = elim (or_cases (same_port v.a (port_id number port)) (same_port v.b (port_id number port)) is) [
+  | inl same ↦ inl (same_port_is v.a (port_id number port) same)
+  | inr same ↦ inr (same_port_is v.b (port_id number port) same)
+]
+
+-- ---- links
+
+-- one link stands otherwise, and all else as it stood
+record LinkBecomes (place : ℕ) (new : Wire) (w w' : WorldState) : Type 0 where
+  pub systems : map shape w'.stations ≡ map shape w.stations
+  pub links : map wire_of w'.net.channels ≡ slice_set (map wire_of w.net.channels) place new
+  pub last : w'.last_change ≡ w.last_change
+
+goes_down_becomes : (up : Bool) (place : ℕ) (channel : Channel) (w : WorldState) (draws : List Draw) (w' : WorldState)
+    → slice_get w.net.channels place ≡ Some channel → channel.up ≡ up → GoesDownIf up place channel w draws w'
+    → LinkBecomes place (with_up false (wire_of channel)) w w'
+goes_down_becomes true place channel w draws w' here is k =
+    let down : WorldState = record w { net = taken_down place channel w.net } in
+    let kept = tells_keep PortDown channel down draws w' (λ port value e. cc) k in
+    record {
+      systems = kept.systems;
+      links = kept.links ∙ map-set wire_of w.net.channels place (lost channel);
+      last = kept.last;
+    }
+goes_down_becomes false place channel w draws w' here is k =
+    subst (LinkBecomes place (with_up false (wire_of channel)) w) (sym k.1)
+    (record {
+      systems = refl;
+      links = sym (map-set_same wire_of w.net.channels place channel (record channel { up = false }) here (rw is refl))
+          ∙ map-set wire_of w.net.channels place (record channel { up = false });
+      last = refl;
+    })
+
+comes_up_becomes : (up : Bool) (place : ℕ) (channel : Channel) (w : WorldState) (draws : List Draw) (w' : WorldState)
+    → slice_get w.net.channels place ≡ Some channel → channel.up ≡ up → ComesUpIf up place channel w draws w'
+    → LinkBecomes place (with_up true (wire_of channel)) w w'
+comes_up_becomes false place channel w draws w' here is k =
+    let risen : WorldState = record w { net = brought_up place channel w.net } in
+    let kept = tells_keep PortUp channel risen draws w' (λ port value e. cc) k in
+    record {
+      systems = kept.systems;
+      links = kept.links ∙ map-set wire_of w.net.channels place (record channel { up = true });
+      last = kept.last;
+    }
+comes_up_becomes true place channel w draws w' here is k =
+    subst (LinkBecomes place (with_up true (wire_of channel)) w) (sym k.1)
+    (record {
+      systems = refl;
+      links = sym (map-set_same wire_of w.net.channels place channel (record channel { up = true }) here (rw is refl))
+          ∙ map-set wire_of w.net.channels place (record channel { up = true });
+      last = refl;
+    })
+
+-- ---- one event more
+
+-- the world at the time of the event, of which it is the last change
+abbrev marked : Timed → WorldState → WorldState
+marked timed w = record (at timed.at w) { last_change = timed.at }
+
+module _ (n : NetworkState) (events : List Timed) (timed : Timed) (change : Change) (w w' : WorldState)
+    (act : timed.act ≡ Changing change) (sound : IsSound w) (so : StandsAs n events w) where
+  abbrev more : List Timed
+  more = events ++ timed ∷ []
+
+  wire_more : (v : Wire) → link_after more v ≡ link_changed change (link_after events v)
+  wire_more v = link_behind events timed v ∙ ap (λ a. link_acted a (link_after events v)) act
+
+  shape_more : (m : Member) → shape_after n.params more m
+      ≡ (let s = system_changed change (clock_of m.identity) (system_after events m) in
+      record { setup = record (setup_of n.params m) { identity = s.identity }; live = s.live; identity = s.identity })
+  shape_more m =
+      ap (λ s. record {
+        setup = record (setup_of n.params m) { identity = s.identity };
+        live = s.live;
+        identity = s.identity;
+      })
+      (system_behind events timed (clock_of m.identity) (standing m)
+      ∙ ap (λ a. system_acted a (clock_of m.identity) (system_after events m)) act)
+
+  -- a change of one link, at a port
+  link_stands : (number port place : ℕ) (channel : Channel) (step : Wire → Wire)
+      → IsChannel (port_id number port) place w.net channel
+      → ((v : Wire) → link_changed change v ≡ (if is_at number port v then step v else v))
+      → ((m : Member) → shape_after n.params more m ≡ shape_after n.params events m)
+      → LinkBecomes place (step (wire_of channel)) (marked timed w) w' → StandsAs n more w'
+  link_stands number port place channel step is does still k = record {
+    systems = k.systems ∙ so.systems
+        ∙ sym (map_each (shape_after n.params events) (shape_after n.params more) n.systems (λ i m there. still m));
+    links = links;
+    last = k.last ∙ sym (last_behind events timed);
+  }
+    where
+      -- the link of the network that stands there
+      own : (v : Wire) × (slice_get n.links place ≡ Some v) × (link_after events v ≡ wire_of channel)
+      own =
+          mapped (link_after events) n.links place (wire_of channel)
+          (ap (λ vs. slice_get vs place) (sym so.links) ∙ mapped_there wire_of w.net.channels place channel is.here)
+
+      hit : link_after more own.0 ≡ step (wire_of channel)
+      hit =
+          wire_more own.0 ∙ ap (link_changed change) own.2 ∙ does (wire_of channel)
+          ∙ ap (λ b. if b then step (wire_of channel) else wire_of channel)
+          (is_at_port number port (wire_of channel) is.joined)
+
+      -- no other is at the port
+      missed : (i : ℕ) (v : Wire) (other : Channel) → i ≢ place → slice_get w.net.channels i ≡ Some other
+          → wire_of other ≡ v → (b : Bool) → is_at number port v ≡ b → (if b then step v else v) ≡ v
+      missed i v other apart here same false off = refl
+      missed i v other apart here same true on =
+          let one = ending other (port_id number port)
+          (at_port number port (wire_of other) (ap (is_at number port) same ∙ on)) in
+          let two = ending channel (port_id number port) is.joined in
+          absurd (apart (sound.wired.apart i place one.0 two.0 other channel here is.here (one.1 ∙ sym two.1)))
+
+      miss : (i : ℕ) (v : Wire) → i ≢ place → slice_get n.links i ≡ Some v → link_after more v ≡ link_after events v
+      miss i v apart there =
+          let (other, here, same) = mapped wire_of w.net.channels i (link_after events v)
+          (ap (λ vs. slice_get vs i) so.links ∙ mapped_there (link_after events) n.links i v there) in
+          let now = link_after events v in
+          wire_more v ∙ does now ∙ missed i now other apart here same (is_at number port now) refl
+
+      links : map wire_of w'.net.channels ≡ map (link_after more) n.links
+      links =
+          k.links ∙ ap (λ vs. slice_set vs place (step (wire_of channel))) so.links
+          ∙ ap (slice_set (map (link_after events) n.links) place) (sym hit)
+          ∙ set_one (link_after events) (link_after more) n.links place own.0 own.1 miss
+
+  -- the system that stands at a place
+  record Found (place : ℕ) (station : Station) : Type 0 where
+    member : Member
+    there : slice_get n.systems place ≡ Some member
+    same : shape station ≡ shape_after n.params events member
+    named : clock_of member.identity ≡ clock station.system
+
+  found : (place : ℕ) (station : Station) → slice_get w.stations place ≡ Some station → Found place station
+  found place station here =
+      let (m, there, same) = mapped (shape_after n.params events) n.systems place (shape station)
+      (ap (λ ss. slice_get ss place) (sym so.systems) ∙ mapped_there shape w.stations place station here) in
+      record {
+        member = m;
+        there = there;
+        same = sym same;
+        named = sym (clock_after events m) ∙ ap (λ (s : Shape). clock_of s.setup.identity) same
+            ∙ (sound.wired.setups place station here).named;
+      }
+
+  -- a change of one system
+  system_stands_so : (number place : ℕ) (station : Station) (new : Shape) → IsStation number place w station
+      → ((m : Member) → (number == clock_of m.identity) ≡ false
+      → shape_after n.params more m ≡ shape_after n.params events m)
+      → ((m : Member) → (number == clock_of m.identity) ≡ true → shape station ≡ shape_after n.params events m
+      → new ≡ shape_after n.params more m)
+      → ((v : Wire) → link_changed change v ≡ v)
+      → SystemBecomes place new (marked timed w) w' → StandsAs n more w'
+  system_stands_so number place station new is others becomes still k = record {
+    systems = k.systems ∙ ap (λ ss. slice_set ss place new) so.systems
+        ∙ ap (slice_set (map (shape_after n.params events) n.systems) place) hit
+        ∙ set_one (shape_after n.params events) (shape_after n.params more) n.systems place own.member own.there miss;
+    links = k.links ∙ so.links
+        ∙ sym (map_each (link_after events) (link_after more) n.links
+        (λ i v there. wire_more v ∙ still (link_after events v)));
+    last = k.last ∙ sym (last_behind events timed);
+  }
+    where
+      own : Found place station
+      own = found place station is.here
+
+      hit : new ≡ shape_after n.params more own.member
+      hit = becomes own.member (eq-eqb number (clock_of own.member.identity) (sym is.named ∙ sym own.named)) own.same
+
+      missed : (i : ℕ) (m : Member) → i ≢ place → slice_get n.systems i ≡ Some m → (b : Bool)
+          → (number == clock_of m.identity) ≡ b → shape_after n.params more m ≡ shape_after n.params events m
+      missed i m apart there false off = others m off
+      missed i m apart there true on =
+          let (at, here, same) = mapped shape w.stations i (shape_after n.params events m)
+          (ap (λ ss. slice_get ss i) so.systems ∙ mapped_there (shape_after n.params events) n.systems i m there) in
+          let named : clock at.system ≡ clock_of m.identity =
+          sym (sound.wired.setups i at here).named ∙ ap (λ (s : Shape). clock_of s.setup.identity) same
+          ∙ clock_after events m in
+          let one = eqb-true number (clock_of m.identity) on in
+          absurd (apart (sound.wired.clocks i place at station here is.here (named ∙ sym one ∙ sym is.named)))
+
+      miss : (i : ℕ) (m : Member) → i ≢ place → slice_get n.systems i ≡ Some m
+          → shape_after n.params more m ≡ shape_after n.params events m
+      miss i m apart there = missed i m apart there (number == clock_of m.identity) refl
+
+changed_stands : (change : Change) (n : NetworkState) (events : List Timed) (timed : Timed) (w : WorldState)
+    (draws : List Draw) (w' : WorldState) → timed.act ≡ Changing change → IsSound w → StandsAs n events w
+    → Changes change (marked timed w) draws w' → StandsAs n (events ++ timed ∷ []) w'
+changed_stands (LinkDown number port) n events timed w draws w' act sound so k =
+    let change = LinkDown number port in
+    link_stands n events timed change w w' act sound so number port k.place k.channel (with_up false) k.is (λ v. refl)
+    (shape_more n events timed change w w' act sound so)
+    (goes_down_becomes k.channel.up k.place k.channel (marked timed w) draws w' k.is.here refl k.so)
+changed_stands (LinkUp number port) n events timed w draws w' act sound so k =
+    let change = LinkUp number port in
+    link_stands n events timed change w w' act sound so number port k.place k.channel (with_up true) k.is (λ v. refl)
+    (shape_more n events timed change w w' act sound so)
+    (comes_up_becomes k.channel.up k.place k.channel (marked timed w) draws w' k.is.here refl k.so)
+changed_stands (LinkSet number port min max loss) n events timed w draws w' act sound so k =
+    let change = LinkSet number port min max loss in
+    let new : Channel = record k.channel { bounds = set_to min max loss k.channel } in
+    link_stands n events timed change w w' act sound so number port k.place k.channel (with_bounds min max loss) k.is
+    (λ v. refl) (shape_more n events timed change w w' act sound so)
+    (subst (LinkBecomes k.place (with_bounds min max loss (wire_of k.channel)) (marked timed w)) (sym k.so.1)
+    (record { systems = refl; links = map-set wire_of w.net.channels k.place new; last = refl }))
+changed_stands (Fail number) n events timed w draws w' act sound so k =
+    let change = Fail number in
+    let is : IsStation number k.place w k.station = record { here = k.is.here; named = k.is.named } in
+    let shapes = shape_more n events timed change w w' act sound so in
+    system_stands_so n events timed change w w' act sound so number k.place k.station (of_setup false k.station.setup) is
+    (λ m off. shapes m ∙ rw off refl)
+    (λ m on same. ap (λ (s : Shape). of_setup false s.setup) same ∙ sym (shapes m ∙ rw on refl)) (λ v. refl)
+    (fails_becomes k.station.live k.place k.station (marked timed w) draws w' k.is.here refl k.so)
+changed_stands (Recover number) n events timed w draws w' act sound so k =
+    let change = Recover number in
+    let is : IsStation number k.place w k.station = record { here = k.is.here; named = k.is.named } in
+    let shapes = shape_more n events timed change w w' act sound so in
+    let own = found n events timed change w w' act sound so k.place k.station k.is.here in
+    system_stands_so n events timed change w w' act sound so number k.place k.station (of_setup true k.station.setup) is
+    (λ m off. shapes m ∙ rw off refl)
+    (λ m on same. ap (λ (s : Shape). of_setup true s.setup) same ∙ sym (shapes m ∙ rw on refl)) (λ v. refl)
+    (recovers_becomes k.station.live k.place k.station (marked timed w) draws w' k.is.here refl
+    (own.same ∙ ap (λ (s : Shape). of_setup s.live s.setup) (sym own.same)) k.so)
+changed_stands (Priority1 number value) n events timed w draws w' act sound so k =
+    let change = Priority1 number value in
+    let is : IsStation number k.place w k.station = record { here = k.is.here; named = k.is.named } in
+    let shapes = shape_more n events timed change w w' act sound so in
+    let own = found n events timed change w w' act sound so k.place k.station k.is.here in
+    system_stands_so n events timed change w w' act sound so number k.place k.station
+    (of_setup k.station.live (with_setup value k.station).setup) is
+    (λ m off. shapes m ∙ rw off refl)
+    (λ m on same.
+    ap (λ (s : Shape). of_setup s.live (record s.setup {
+      identity = value * 2 ^ 104 + s.setup.identity % 2 ^ 104;
+    }))
+    same
+    ∙ sym (shapes m ∙ rw on refl))
+    (λ v. refl)
+    (prioritized_becomes value k.place k.station (marked timed w) draws w' k.is.here
+    (own.same ∙ ap (λ (s : Shape). of_setup s.live s.setup) (sym own.same)) k.so)
+
+pub changes_stand : (n : NetworkState) (events : List Timed) (timed : Timed) (change : Change) (w : WorldState)
+    (draws : List Draw) (done : Done) (w' : WorldState) → timed.act ≡ Changing change → IsSound w
+    → Acts timed.act (at timed.at w) draws done w' → StandsAs n events w → StandsAs n (events ++ timed ∷ []) w'
+changes_stand n events timed change w draws done w' act sound k so =
+    changed_stands change n events timed w draws w' act sound so
+    (subst (λ a. Acts a (at timed.at w) draws done w') act k).1

@@ -1,0 +1,163 @@
+-- What a delivery, an expiry and a call leave of how a world stands.
+use Rattle.std.proofs.Common.{◌≡◌, ◌≢◌, ℕ, List, [], ◌∷◌, map, Option, Some, None, slice_get, slice_set, refl, sym, ap, subst, ◌∙◌, inl, inr}
+use Rattle.gptp_vector.specs.declared.port.PortId.{PortId}
+use Rattle.gptp_links.specs.declared.link.Direction.{Direction}
+use Rattle.gptp_links.specs.declared.link.Direction.TheVariants.{FromA, FromB}
+use Rattle.gptp_links.specs.Fate.{Draw}
+use Rattle.gptp_links.specs.Queue.{Frame}
+use Rattle.gptp_system.specs.declared.answer.Answer.{Answer}
+use Rattle.gptp_system.specs.declared.sending.Sending.{Sending}
+use Rattle.gptp_system.specs.declared.timer.Timer.{Timer}
+use Rattle.gptp_system.specs.Input.{Input, Frame as FrameHeard, Priority, Expires as TimerExpires}
+use Rattle.gptp_system.specs.State.{SystemState, own}
+use Rattle.gptp_system.proofs.StepLemmas.{steps_steady}
+use Rattle.gptp_acts.specs.declared.change.Act.{Act}
+use Rattle.gptp_acts.specs.declared.change.Act.TheVariants.{Deliver, Expire, Change as Changing}
+use Rattle.gptp_acts.specs.declared.change.Timed.{Timed}
+use Rattle.gptp_acts.specs.declared.done.Done.{Done}
+use Rattle.gptp_acts.specs.declared.station.Station.{Station}
+use Rattle.gptp_acts.specs.Act.{Calls, Delivers, Expires, Hears, all_timers, in_state}
+use Rattle.gptp_acts.specs.Acts.{Acts, at}
+use Rattle.gptp_acts.specs.Agrees.{stopped}
+use Rattle.gptp_acts.specs.Changing.{CallsIfLive, TellsEnds}
+use Rattle.gptp_acts.specs.Network.{NetworkState}
+use Rattle.gptp_acts.specs.Sends.{SendsAll, SendsOne, entered, written}
+use Rattle.gptp_acts.specs.World.{Channel, Net, WorldState, receiver, with_queue}
+use Rattle.gptp_acts.proofs.PlaceLemmas.{map-set_same}
+use Rattle.gptp_kept.specs.SeenLaws.{IsNoChange}
+use Rattle.gptp_reached.specs.Reached.{StandsAs, shape, wire_of}
+
+-- ---- links
+
+-- links become others in what is in flight on them alone
+abbrev pub KeepLinks : List Channel → List Channel → Type 0
+KeepLinks before after = map wire_of after ≡ map wire_of before
+
+queue_kept : (channels : List Channel) (place : ℕ) (direction : Direction) (channel : Channel) (frames : List Frame)
+    → slice_get channels place ≡ Some channel
+    → KeepLinks channels (slice_set channels place (with_queue direction frames channel))
+queue_kept channels place FromA channel frames here =
+    map-set_same wire_of channels place channel (with_queue FromA frames channel) here refl
+queue_kept channels place FromB channel frames here =
+    map-set_same wire_of channels place channel (with_queue FromB frames channel) here refl
+
+entered_kept : (place : ℕ) (direction : Direction) (channel : Channel) (now : ℕ) (octets : List ℕ)
+    (answer : Option ℕ) (net : Net) → slice_get net.channels place ≡ Some channel
+    → KeepLinks net.channels (entered place direction channel now octets answer net).channels
+entered_kept place direction channel now octets None net here = refl
+entered_kept place direction channel now octets (Some delay) net here =
+    queue_kept net.channels place direction channel _ here
+
+sends_one_kept : (now : ℕ) (from : PortId) (octets : List ℕ) (draw : Draw) (net net' : Net)
+    → SendsOne now from octets draw net net' → KeepLinks net.channels net'.channels
+sends_one_kept now from octets draw net net' one =
+    subst (λ (n : Net). KeepLinks net.channels n.channels) (sym one.after)
+    (entered_kept one.place one.direction one.channel now octets draw.answer net one.here)
+
+pub sends_kept : (now : ℕ) (s : SystemState) (xs : List Sending) (draws : List Draw) (net net' : Net)
+    → SendsAll now s xs draws net net' → KeepLinks net.channels net'.channels
+sends_kept now s [] draws net net' sends = ap (λ (n : Net). map wire_of n.channels) sends.1
+sends_kept now s (x ∷ xs) draws net net' (inl (draw, rest, between, is, one, sends)) =
+    sends_kept now s xs rest between net' sends
+    ∙ sends_one_kept now (own s x.port) (written s x) draw net between one
+sends_kept now s (x ∷ xs) draws net net' (inr (unlinked, sends)) = sends_kept now s xs draws net net' sends
+
+-- ---- the whole world
+
+-- its systems and links stand as they stood, and the last change is the same
+pub record Keeps (w w' : WorldState) : Type 0 where
+  pub systems : map shape w'.stations ≡ map shape w.stations
+  pub links : KeepLinks w.net.channels w'.net.channels
+  pub last : w'.last_change ≡ w.last_change
+
+pub keeps_on : (first second third : WorldState) → Keeps first second → Keeps second third → Keeps first third
+keeps_on first second third f g =
+    record { systems = g.systems ∙ f.systems; links = g.links ∙ f.links; last = g.last ∙ f.last }
+
+pub same_keeps : (w w' : WorldState) → w' ≡ w → Keeps w w'
+same_keeps w w' same = subst (Keeps w) (sym same) (record { systems = refl; links = refl; last = refl })
+
+-- ---- calls
+
+-- a call that sets no priority1
+pub calls_keep : (place : ℕ) (input : Input) (w : WorldState) (draws : List Draw) (answer : Answer) (w' : WorldState)
+    → ((value : ℕ) → input ≢ Priority value) → Calls place input w draws answer w' → Keeps w w'
+calls_keep place input w draws answer w' other k =
+    subst (Keeps w) (sym k.is)
+    (record {
+      systems = map-set_same shape w.stations place k.station called k.here stands;
+      links = sends_kept w.time k.after k.sends draws (all_timers place called w.net) k.net k.sent;
+      last = refl;
+    })
+  where
+    called : Station
+    called = in_state k.after k.station
+
+    stands : shape called ≡ shape k.station
+    stands =
+        let same = (steps_steady input w.time k.station.system k.after k.sends answer other k.steps).identity in
+        rw same refl
+
+calls_if_live_keep : (place : ℕ) (input : Input) (w : WorldState) (draws : List Draw) (w' : WorldState)
+    → ((value : ℕ) → input ≢ Priority value) → CallsIfLive place input w draws w' → Keeps w w'
+calls_if_live_keep place input w draws w' other (inl (answer, calls)) =
+    calls_keep place input w draws answer w' other calls
+calls_if_live_keep place input w draws w' other (inr (failed, none, same)) = same_keeps w w' same
+
+pub tells_keep : (input : ℕ → Input) (channel : Channel) (w : WorldState) (draws : List Draw) (w' : WorldState)
+    → ((port value : ℕ) → input port ≢ Priority value) → TellsEnds input channel w draws w' → Keeps w w'
+tells_keep input channel w draws w' other k =
+    keeps_on w k.between w'
+    (calls_if_live_keep k.place_a (input channel.a.port) w k.first k.between (other channel.a.port) k.at_a)
+    (calls_if_live_keep k.place_b (input channel.b.port) k.between k.second w' (other channel.b.port) k.at_b)
+
+-- ---- acts
+
+hears_keep : (place port : ℕ) (octets : List ℕ) (w : WorldState) (draws : List Draw) (answer : Option Answer)
+    (w' : WorldState) → Hears place port octets w draws answer w' → Keeps w w'
+hears_keep place port octets w draws (Some answer) w' hears =
+    calls_keep place (FrameHeard port octets) w draws answer w' (λ value e. cc) hears
+hears_keep place port octets w draws None w' hears = same_keeps w w' hears.2
+
+delivers_keep : (link : ℕ) (direction : Direction) (octets : List ℕ) (w : WorldState) (draws : List Draw)
+    (answer : Option Answer) (w' : WorldState) → Delivers link direction octets w draws answer w' → Keeps w w'
+delivers_keep link direction octets w draws answer w' k =
+    let taken : WorldState = record w { net = k.net } in
+    keeps_on w taken w'
+    (record {
+      systems = refl;
+      links = subst (λ (n : Net). KeepLinks w.net.channels n.channels) (sym k.takes.is)
+          (queue_kept w.net.channels link direction k.channel k.takes.rest k.takes.here);
+      last = refl;
+    })
+    (hears_keep k.place (receiver direction k.channel).port octets taken draws answer w' k.hears)
+
+expires_keep : (place : ℕ) (timer : Timer) (w : WorldState) (draws : List Draw) (w' : WorldState)
+    → Expires place timer w draws w' → Keeps w w'
+expires_keep place timer w draws w' k =
+    let at : WorldState = stopped place timer w in
+    keeps_on w at w' (record { systems = refl; links = refl; last = refl })
+    (calls_keep place (TimerExpires timer) at draws k.answer w' (λ value e. cc) k.calls)
+
+acts_keep : (act : Act) (w : WorldState) (draws : List Draw) (done : Done) (w' : WorldState) → IsNoChange act
+    → Acts act w draws done w' → Keeps w w'
+acts_keep (Deliver link direction) w draws done w' none k =
+    delivers_keep link direction k.octets w draws k.answer w' k.delivers
+acts_keep (Expire number timer) w draws done w' none (told, k) = expires_keep k.place timer w draws w' k.so
+acts_keep (Changing change) w draws done w' none k = absurd none
+
+-- ---- it stands as it stood
+
+pub keeps_standing : (n : NetworkState) (events : List Timed) (w w' : WorldState) → Keeps w w' → StandsAs n events w
+    → StandsAs n events w'
+keeps_standing n events w w' k so =
+    record { systems = k.systems ∙ so.systems; links = k.links ∙ so.links; last = k.last ∙ so.last }
+
+pub acts_stand : (n : NetworkState) (events : List Timed) (act : Act) (w : WorldState) (draws : List Draw) (done : Done)
+    (w' : WorldState) → IsNoChange act → Acts act w draws done w' → StandsAs n events w → StandsAs n events w'
+acts_stand n events act w draws done w' none k =
+    keeps_standing n events w w' (acts_keep act w draws done w' none k)
+
+pub time_stands : (n : NetworkState) (events : List Timed) (w : WorldState) (time : ℕ) → StandsAs n events w
+    → StandsAs n events (at time w)
+time_stands n events w time so = record { systems = so.systems; links = so.links; last = so.last }

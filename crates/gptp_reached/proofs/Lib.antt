@@ -1,0 +1,13 @@
+pub mod KeptLemmas
+pub mod BeginLemmas
+pub mod EventLemmas
+pub mod SystemLemmas
+pub mod ChangeLemmas
+pub mod PlayedLemmas
+pub mod SnapshotLemmas
+pub mod CalmLemmas
+pub mod AlikeLemmas
+pub mod SettleLemmas
+pub mod ClaimedLemmas
+pub mod OctetLemmas
+pub mod RunLemmas

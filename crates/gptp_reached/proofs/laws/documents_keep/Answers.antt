@@ -1,0 +1,5 @@
+use Rattle.gptp_reached.proofs.ClaimedLemmas.{played_claimed}
+use Rattle.gptp_reached.proofs.laws.documents_keep.Goals as goal
+
+pub returns : goal.returns
+returns g c = played_claimed g.F.Fate.answers

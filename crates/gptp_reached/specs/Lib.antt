@@ -1,0 +1,7 @@
+pub mod Reached
+pub mod ReachedLaws
+pub mod PlayedLaws
+pub mod StandingLaws
+pub mod AlikeLaws
+pub mod SettleLaws
+pub mod RunLaws

@@ -1,0 +1,40 @@
+-- Laws on what stands in a world that a network and its events lead to.
+use Rattle.std.specs.Prelude.{◌≡◌, List, length}
+use Rattle.std.specs.List.Sorted.{IsPermutation}
+use Rattle.gptp_graph.specs.Snapshot.{Snapshot}
+use Rattle.gptp_acts.specs.declared.change.Timed.{Timed}
+use Rattle.gptp_acts.specs.Calm.{IsCalm}
+use Rattle.gptp_acts.specs.Network.{NetworkState}
+use Rattle.gptp_acts.specs.SettlingTime.{live_systems}
+use Rattle.gptp_acts.specs.Sound.{IsSound}
+use Rattle.gptp_acts.specs.World.{WorldState}
+use Rattle.gptp_network.specs.Snapshot.{StandsAfter}
+use Rattle.gptp_kept.specs.Calm.{IsQuietWorld}
+use Rattle.gptp_kept.specs.Claimed.{Claimed}
+use Rattle.gptp_kept.specs.Known.{AreSet}
+use Rattle.gptp_kept.specs.Standing.{snapshot_of}
+use Rattle.gptp_reached.specs.Reached.{StandsAs}
+
+-- its snapshot is that of the network after those events, but for the order of the systems
+abbrev pub StandsSnapshot : Type 0
+StandsSnapshot = (n : NetworkState) (events : List Timed) (w : WorldState) (g : Snapshot)
+    → StandsAs n events w → IsSound w → StandsAfter n events g
+    → IsPermutation (snapshot_of w).systems g.systems × ((snapshot_of w).links ≡ g.links)
+
+-- as many systems live
+abbrev pub StandsCount : Type 0
+StandsCount = (n : NetworkState) (events : List Timed) (w : WorldState)
+    → StandsAs n events w → IsSound w
+    → length (snapshot_of w).systems ≡ live_systems n.systems events
+
+-- it is quiet where the network is calm
+abbrev pub StandsQuiet : Type 0
+StandsQuiet = (n : NetworkState) (events : List Timed) (w : WorldState)
+    → StandsAs n events w → IsCalm n events
+    → IsQuietWorld n.params w
+
+-- all its systems have the parameters of the network
+abbrev pub StandsSet : Type 0
+StandsSet = (n : NetworkState) (events : List Timed) (w : WorldState)
+    → StandsAs n events w → Claimed w
+    → AreSet n.params w

@@ -1,0 +1,91 @@
+//! Laws on worlds that stand as a network does after its events.
+
+ghost use Rattle.gptp_reached.specs.AlikeLaws.{SameChoice, SameNear};
+ghost use Rattle.gptp_reached.specs.PlayedLaws.{DocumentIsCalm, DocumentsArePlayable, EventsAreMade, PlayedClaimed, PlayedStands};
+ghost use Rattle.gptp_reached.specs.ReachedLaws.{ActsStand, BegunStands, ChangesStand, TimeStands};
+ghost use Rattle.gptp_reached.specs.RunLaws.{RunsSettle};
+ghost use Rattle.gptp_reached.specs.SettleLaws.{DocumentsSettle, PlayedSettle};
+ghost use Rattle.gptp_reached.specs.StandingLaws.{StandsCount, StandsQuiet, StandsSet, StandsSnapshot};
+
+use gptp_links::Fate;
+
+/// The world of a network stands, as it begins, as the network does before all events.
+pub fn worlds_begin_so<F: Fate>()
+    ensures { BegunStands F.answers }
+{}
+
+/// A delivery, an expiry and time that passes leave a world as it stands.
+pub fn worlds_stay_so()
+    ensures acts { ActsStand }
+    ensures time { TimeStands }
+{}
+
+/// A change leads to a world that stands as the network does after one event more.
+pub fn changes_stand()
+    ensures { ChangesStand }
+{}
+
+/// A sound world that stands as a network does after its events has the snapshot that the network then has, but for the
+/// order of the systems.
+pub fn snapshots_stand()
+    ensures { StandsSnapshot }
+{}
+
+/// As many systems of it live as of the network; it is quiet where the network is calm; and in a world that keeps what
+/// every world keeps, all systems have the parameters of the network.
+pub fn calm_stands()
+    ensures count { StandsCount }
+    ensures quiet { StandsQuiet }
+    ensures set { StandsSet }
+{}
+
+/// Lines that are right of a snapshot are right of each that differs in the order of the systems alone; and where all
+/// systems of the one are near, so are those of the other.
+pub fn order_does_not_matter()
+    ensures choice { SameChoice }
+    ensures near { SameNear }
+{}
+
+/// Every document that a text means can be played, where its network and its events are within their limits.
+pub fn documents_are_playable()
+    ensures { DocumentsArePlayable }
+{}
+
+/// Each event of a document up to a time can be made.
+pub fn events_are_made()
+    ensures { EventsAreMade }
+{}
+
+/// The world that a document leads to by a time is sound, its time is that, and it stands as the network of the document
+/// does after the events up to then.
+pub fn documents_stand<F: Fate>()
+    ensures { PlayedStands F.answers }
+{}
+
+/// It keeps what every world keeps, where no event sets a priority1 that is no octet.
+pub fn documents_keep<F: Fate>()
+    ensures { PlayedClaimed F.answers }
+{}
+
+/// Where the network of a document is calm after the events up to a time, and has settled by then, the world that it
+/// leads to by that time has been calm for the settling span of its live systems.
+pub fn documents_are_calm()
+    ensures { DocumentIsCalm }
+{}
+
+/// Where a document is at rest at a time, and all systems of its snapshot are near, what the live systems of the world
+/// that it leads to say is the settled choice of that snapshot, with all steps below 255.
+pub fn documents_settle()
+    ensures { DocumentsSettle }
+{}
+
+/// So it is of every document that can be played, whatever is drawn for the frames meanwhile.
+pub fn played_documents_settle<F: Fate>()
+    ensures { PlayedSettle F.answers }
+{}
+
+/// The run of a document that can be played, and is at rest at the end of the run, reports a world that has settled; and
+/// its certificate, where it is asked for and all systems of the document's snapshot are near, is the settled choice.
+pub fn runs_settle()
+    ensures { RunsSettle }
+{}
