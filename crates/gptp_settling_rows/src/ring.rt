@@ -1,0 +1,130 @@
+//! A network of three systems in a ring, with a fourth before them that fails; and what is to come of it. Times are in ns.
+
+use gptp_links::PcgFate;
+use gptp_network::Document;
+use gptp_roles::Role;
+use gptp_vector::{ClockId, Identity};
+use gptp_world::{Act, Change, Refused, Timed, World};
+use std::alloc::{AllocError, Global};
+use std::test::Fail;
+
+/// Clocks 1 to 4, with all defaults and as many ports as there are links at them.
+const SYSTEMS: &str =
+    "version = 1\n[[system]]\nclock = \"0000000000000001\"\n[[system]]\nclock = \"0000000000000002\"\nports = 3\n[[system]]\nclock = \"0000000000000003\"\nports = 2\n[[system]]\nclock = \"0000000000000004\"\nports = 2\n";
+
+/// What each link joins: clock 1 hangs on clock 2, and 2, 3 and 4 are a ring.
+const LINKS: [&str; 4] = [
+    "[[link]]\na = \"0000000000000001\"\na_port = 1\nb = \"0000000000000002\"\nb_port = 1\n",
+    "[[link]]\na = \"0000000000000002\"\na_port = 2\nb = \"0000000000000003\"\nb_port = 1\n",
+    "[[link]]\na = \"0000000000000002\"\na_port = 3\nb = \"0000000000000004\"\nb_port = 1\n",
+    "[[link]]\na = \"0000000000000003\"\na_port = 2\nb = \"0000000000000004\"\nb_port = 2\n",
+];
+
+/// Clock 1 fails at 40 s.
+const EVENT: &str = "[[event]]\nat = 40000000000\nkind = \"fail\"\nclock = \"0000000000000001\"\n";
+
+/// When it fails.
+pub(crate) const FAILS: u64 = 40_000_000_000;
+
+/// From when on ports are capable, where they can be: L + 5 announce intervals after that, L being 9.
+pub(crate) const CAPABLE: u64 = 54_000_000_000;
+
+/// By when everything has settled: n systems live, so it takes another (k + 3) n announce intervals, n and k being 3.
+pub(crate) const SETTLED: u64 = 72_000_000_000;
+
+/// The text of that network, with links of these bounds.
+fn ring(alloc: Global, bounds: &str) -> Result<String, AllocError> {
+    let mut text = String::new(alloc);
+    text.push_str(SYSTEMS)?;
+    for link in LINKS {
+        text.push_str(link)?;
+        text.push_str(bounds)?;
+    }
+    text.push_str(EVENT)?;
+    Ok(text)
+}
+
+/// The document of that text.
+pub(crate) fn document(alloc: Global, bounds: &str) -> Result<Document, Fail> {
+    let text = ring(alloc, bounds)?;
+    Ok(Document::read(alloc, text.as_bytes())?)
+}
+
+/// The world of that document, at time 0, with the fate of a seed.
+pub(crate) fn begun(alloc: Global, bounds: &str, seed: u64) -> Result<World<PcgFate>, Fail> {
+    let document = document(alloc, bounds)?;
+    Ok(World::new(alloc, document.network(), PcgFate::new(seed))?)
+}
+
+/// The clock with this number.
+pub(crate) fn clock(number: u8) -> ClockId {
+    ClockId::of_octets([0, 0, 0, 0, 0, 0, 0, number])
+}
+
+/// The identity with this clock, and all defaults.
+fn identity(number: u8) -> Identity {
+    Identity::of_octets([246, 248, 254, 0x43, 0x6a, 248, 0, 0, 0, 0, 0, 0, 0, number])
+}
+
+/// Clock 1 fails. Nothing is due before that any more.
+pub(crate) fn fail(world: &mut World<PcgFate>) -> Result<(), Refused> {
+    match world.act(Timed {
+        at: FAILS,
+        act: Act::Change(Change::Fail { clock: clock(1) }),
+    }) {
+        Ok(_) => Ok(()),
+        Err(refused) => Err(refused),
+    }
+}
+
+/// A clock, the clock of the root that it follows, how many steps away that is, and its Slave port.
+type Followed = (u8, u8, u16, Option<u8>);
+
+/// What all follow before clock 1 fails.
+pub(crate) const FOLLOWED_BEFORE: [Followed; 4] = [
+    (1, 1, 0, None),
+    (2, 1, 1, Some(1)),
+    (3, 1, 2, Some(1)),
+    (4, 1, 2, Some(1)),
+];
+
+/// What they follow once they have settled without it.
+pub(crate) const FOLLOWED: [Followed; 3] = [
+    (2, 2, 0, None),
+    (3, 2, 1, Some(1)),
+    (4, 2, 1, Some(1)),
+];
+
+/// A clock, a port and the port's role once they have settled.
+pub(crate) const ROLES: [(u8, u16, Role); 7] = [
+    (2, 1, Role::Disabled),
+    (2, 2, Role::Master),
+    (2, 3, Role::Master),
+    (3, 1, Role::Slave),
+    (3, 2, Role::Master),
+    (4, 1, Role::Slave),
+    (4, 2, Role::Passive),
+];
+
+/// Whether each of these clocks follows what stands beside it.
+pub(crate) fn follow(world: &World<PcgFate>, rows: &[Followed]) -> bool {
+    for (number, root, steps, slave) in rows {
+        if world.follows(clock(*number)) != Some((identity(*root), *steps, *slave)) {
+            return false;
+        }
+    }
+    true
+}
+
+/// Whether clock 1 is gone, and the others follow what they should, in their roles.
+pub(crate) fn is_settled(world: &World<PcgFate>) -> bool {
+    if world.follows(clock(1)).is_some() || !follow(world, &FOLLOWED) {
+        return false;
+    }
+    for (number, port, role) in ROLES {
+        if world.role(clock(number), port) != Some(role) {
+            return false;
+        }
+    }
+    true
+}
