@@ -9,3 +9,4 @@ pub mod LawLemmas
 pub mod CommandLemmas
 pub mod OptionLemmas
 pub mod CheckLemmas
+pub mod RunLemmas

@@ -9,13 +9,18 @@ use Rattle.gptp_network.specs.declared.fault.DocumentFault.{DocumentFault}
 use Rattle.gptp_network.specs.declared.fault.DocumentFault.TheVariants.{TooMany}
 use Rattle.gptp_network.specs.Document.{DocumentState, Fails, Means}
 use Rattle.gptp_network.specs.Faults.{fault_text}
+use Rattle.gptp_network.specs.Snapshot.{IsSnapshot}
 use Rattle.gptp_acts.specs.SettlingTime.{settles}
 use Rattle.gptp_acts.specs.World.{WorldState}
 use Rattle.gptp_graph.specs.Labelling.{SystemLine}
+use Rattle.gptp_graph.specs.Snapshot.{Snapshot}
+use Rattle.gptp_kept.specs.Settled.{Settled}
 use Rattle.gptp_report.specs.Report.{Reports}
 use Rattle.gptp_report.specs.Run.{LeadsTo}
 use Rattle.gptp_certificate.specs.CertificateText.{certificate_lines}
+use Rattle.gptp_certificate.specs.Settled.{AreNear, IsRight}
 use Rattle.gptp_certificate.specs.Stated.{States}
+use Rattle.gptp_reached.specs.PlayedLaws.{IsAtRest}
 use Rattle.gptp_commands.specs.declared.failure.Status.{Status}
 use Rattle.gptp_commands.specs.declared.failure.Status.TheVariants.{Done, Refused}
 use Rattle.gptp_commands.specs.declared.run.RunOptions.{RunOptions}
@@ -60,15 +65,37 @@ pub record PlaysDocument (d : DocumentState) (options : RunOptions) (output : Li
   pub lines : output ≡ report ++ certificate
   pub status_is : status ≡ Done
 
+-- where a certificate is asked for, it is the text of the settled choice, with all steps below 255
+abbrev pub CertifiesRight : Bool → Snapshot → List (List ℕ) → Type 0
+CertifiesRight true g lines = (stated : List SystemLine) × IsRight g stated × (lines ≡ certificate_lines stated)
+CertifiesRight false g lines = lines ≡ []
+
+-- The report is that of a world that has settled, and behind it stands the right certificate, where it is asked for and
+-- all systems are near.
+pub record IsSettledRun (d : DocumentState) (options : RunOptions) (g : Snapshot) (output : List (List ℕ)) : Type 0 where
+  pub world : WorldState
+  pub settled : Settled world
+  pub report : List (List ℕ)
+  pub reports : ReportsRun d options world report
+  pub certificate : List (List ℕ)
+  pub certifies : AreNear g → CertifiesRight options.certificate g certificate
+  pub lines : output ≡ report ++ certificate
+
+-- so is the run of a document that is at rest when it ends, of the snapshot that the document then has
+abbrev pub SettlesInTime : DocumentState → RunOptions → List (List ℕ) → Type 0
+SettlesInTime d options output =
+    IsAtRest d (until_of options d) → (g : Snapshot) → IsSnapshot d (until_of options d) g
+    → IsSettledRun d options g output
+
 -- a document that is refused
 pub record RefusesFault (fault : DocumentFault) (output : List (List ℕ)) (status : Status) : Type 0 where
   pub shown : output ≡ (codes "refused " ++ fault_text fault) ∷ []
   pub status_is : status ≡ Refused
 
--- an input is a document, which is run, or fails a test
+-- an input is a document, which is run and settles in time, or fails a test
 abbrev pub AnswersDocument : RunOptions → List ℕ → List (List ℕ) → Status → Type 0
 AnswersDocument options input output status =
-    ((d : DocumentState) × Means input d × PlaysDocument d options output status)
+    ((d : DocumentState) × Means input d × PlaysDocument d options output status × SettlesInTime d options output)
     ⊎ ((fault : DocumentFault) × Fails input fault × RefusesFault fault output status)
 
 abbrev pub RunText : RunOptions → List ℕ → List (List ℕ) → Status → Type 0

@@ -112,7 +112,11 @@ fn answer_document(alloc: Global, input: &[u8], options: &RunOptions) -> Result<
     ensures memory { IfErr result (λ e. e ≡ SimError.Memory) }
 {
     match Document::read(alloc, input) {
-        Ok(document) => play_document(alloc, &document, options),
+        Ok(document) => {
+            document.well_formed();
+            document.network().well_formed();
+            play_document(alloc, &document, options)
+        }
         Err(DocumentFault::OutOfMemory) => Err(SimError::Memory),
         Err(fault) => refuse(alloc, fault),
     }
@@ -133,6 +137,10 @@ fn output_of(alloc: Global, input: &[u8], options: &RunOptions) -> Result<Output
 /// Reads a document, a network and its events as TOML, lets them run up to a time, and writes what became of them: with
 /// `frames` a line for each frame that reached a port, in order of delivery; then the time, the last change, and for each
 /// system by rising clock what it follows, and its ports; then, with `certificate`, what each live system says.
+///
+/// Where the network of the document is calm after its events, and the run ends no sooner than [`Document::settles`] says, the
+/// report is that of a world that has settled, and the certificate is the settled choice of the network as it then stands,
+/// whatever the seed, where all its systems are within 254 steps of the best of their component.
 ///
 /// A document that is refused is the one line `refused` with the number and name of [`gptp_network::DocumentFault`]. Of an
 /// input of more than 33,554,432 octets no more than one further octet is read, and it is `refused 11 TooMany`. The whole

@@ -10,4 +10,4 @@ pub mod AlikeLemmas
 pub mod SettleLemmas
 pub mod ClaimedLemmas
 pub mod OctetLemmas
-pub mod RunLemmas
+pub mod RestLemmas

@@ -4,4 +4,3 @@ pub mod PlayedLaws
 pub mod StandingLaws
 pub mod AlikeLaws
 pub mod SettleLaws
-pub mod RunLaws

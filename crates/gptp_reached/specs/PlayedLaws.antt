@@ -68,7 +68,14 @@ pub record IsAtRest (d : DocumentState) (until : ℕ) : Type 0 where
   pub calm : IsCalm d.network (events_by until d.events)
   pub settled : settles d.network (events_by until d.events) ≤ until
 
--- then the world that it leads to by that time has been calm for the settling span of its live systems
+-- a document that is calm after all its events is so from the time on at which it has settled
+abbrev pub CalmRests : Type 0
+CalmRests = (d : DocumentState) (until : ℕ)
+    → AreEvents d.network d.events → IsCalm d.network d.events → settles d.network d.events ≤ until
+    → IsAtRest d until
+
+-- The world that a document leads to by a time at which it is at rest has been calm for the settling span of its live
+-- systems.
 abbrev pub DocumentIsCalm : Type 0
 DocumentIsCalm = (d : DocumentState) (until : ℕ) (w : WorldState)
     → IsReached d until w → Claimed w → IsAtRest d until

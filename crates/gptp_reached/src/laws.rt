@@ -1,9 +1,8 @@
 //! Laws on worlds that stand as a network does after its events.
 
 ghost use Rattle.gptp_reached.specs.AlikeLaws.{SameChoice, SameNear};
-ghost use Rattle.gptp_reached.specs.PlayedLaws.{DocumentIsCalm, DocumentsArePlayable, EventsAreMade, PlayedClaimed, PlayedStands};
+ghost use Rattle.gptp_reached.specs.PlayedLaws.{CalmRests, DocumentIsCalm, DocumentsArePlayable, EventsAreMade, PlayedClaimed, PlayedStands};
 ghost use Rattle.gptp_reached.specs.ReachedLaws.{ActsStand, BegunStands, ChangesStand, TimeStands};
-ghost use Rattle.gptp_reached.specs.RunLaws.{RunsSettle};
 ghost use Rattle.gptp_reached.specs.SettleLaws.{DocumentsSettle, PlayedSettle};
 ghost use Rattle.gptp_reached.specs.StandingLaws.{StandsCount, StandsQuiet, StandsSet, StandsSnapshot};
 
@@ -67,6 +66,11 @@ pub fn documents_keep<F: Fate>()
     ensures { PlayedClaimed F.answers }
 {}
 
+/// A document that is calm after all its events is at rest from the time on at which it has settled.
+pub fn calm_documents_rest()
+    ensures { CalmRests }
+{}
+
 /// Where the network of a document is calm after the events up to a time, and has settled by then, the world that it
 /// leads to by that time has been calm for the settling span of its live systems.
 pub fn documents_are_calm()
@@ -82,10 +86,4 @@ pub fn documents_settle()
 /// So it is of every document that can be played, whatever is drawn for the frames meanwhile.
 pub fn played_documents_settle<F: Fate>()
     ensures { PlayedSettle F.answers }
-{}
-
-/// The run of a document that can be played, and is at rest at the end of the run, reports a world that has settled; and
-/// its certificate, where it is asked for and all systems of the document's snapshot are near, is the settled choice.
-pub fn runs_settle()
-    ensures { RunsSettle }
 {}

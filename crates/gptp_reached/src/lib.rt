@@ -7,8 +7,8 @@
 //!
 //! So the snapshot of the world is that of the network, but for the order of its systems (`specs/StandingLaws.antt`), of
 //! which nothing depends that a network settles at (`specs/AlikeLaws.antt`); and it is as calm as the network is. What the
-//! systems of a document's world say is then the settled choice of the document's snapshot (`specs/SettleLaws.antt`), and so
-//! is what the certificate of a run says (`specs/RunLaws.antt`).
+//! systems of a document's world say is then the settled choice of the document's snapshot (`specs/SettleLaws.antt`), on
+//! which the command `run` stands.
 //!
 //! Each function of this crate is a law: it does nothing, and its contract is a theorem about the definitions.
 #![tactic(auto)]
@@ -16,7 +16,7 @@
 mod laws;
 
 pub use laws::{
-    calm_stands, changes_stand, documents_are_calm, documents_are_playable, documents_keep,
-    documents_settle, documents_stand, events_are_made, order_does_not_matter,
-    played_documents_settle, runs_settle, snapshots_stand, worlds_begin_so, worlds_stay_so,
+    calm_documents_rest, calm_stands, changes_stand, documents_are_calm, documents_are_playable,
+    documents_keep, documents_settle, documents_stand, events_are_made, order_does_not_matter,
+    played_documents_settle, snapshots_stand, worlds_begin_so, worlds_stay_so,
 };

@@ -1,24 +1,24 @@
 -- The run of a document that is at rest at its end shows a settled world, and certifies it.
-use Rattle.std.proofs.Common.{ℕ, Bool, true, false, List}
-use Rattle.gptp_graph.specs.Snapshot.{Snapshot}
-use Rattle.gptp_network.specs.Document.{DocumentState}
-use Rattle.gptp_network.specs.Snapshot.{IsSnapshot}
+use Rattle.std.proofs.Common.{ℕ, Bool, true, false, List, Result, Ok, Err, inl}
+use Rattle.std.specs.Prelude.{IfOk}
+use Rattle.gptp_acts.specs.Network.{IsNetwork}
+use Rattle.gptp_network.specs.Document.{DocumentState, Means}
+use Rattle.gptp_network.specs.Events.{AreEvents}
 use Rattle.gptp_kept.proofs.ClaimedLemmas.{claimed_settled}
 use Rattle.gptp_certificate.specs.Settled.{AreNear}
 use Rattle.gptp_commands.specs.declared.failure.Status.{Status}
 use Rattle.gptp_commands.specs.declared.run.RunOptions.{RunOptions}
-use Rattle.gptp_commands.specs.RunText.{CertifiesIf, PlaysDocument, draws, generator, until_of}
-use Rattle.gptp_reached.specs.PlayedLaws.{IsAtRest, IsPlayable}
-use Rattle.gptp_reached.specs.RunLaws.{CertifiesRight, IsSettledRun}
+use Rattle.gptp_commands.specs.RunText.{AnswersDocument, CertifiesIf, CertifiesRight, PlaysDocument, SettlesInTime, draws, generator, until_of}
+use Rattle.gptp_reached.specs.PlayedLaws.{IsPlayable}
 use Rattle.gptp_reached.proofs.CalmLemmas.{document_calm}
 use Rattle.gptp_reached.proofs.ClaimedLemmas.{events_made, played_claimed}
+use Rattle.gptp_reached.proofs.OctetLemmas.{documents_playable}
 use Rattle.gptp_reached.proofs.PlayedLemmas.{played_stands}
 use Rattle.gptp_reached.proofs.SettleLemmas.{played_settle}
 
-pub runs_settle : (d : DocumentState) (options : RunOptions) (output : List (List ℕ)) (status : Status) (g : Snapshot)
-    → IsPlayable d → PlaysDocument d options output status → IsAtRest d (until_of options d)
-    → IsSnapshot d (until_of options d) g → IsSettledRun d options g output
-runs_settle d options output status g is k rest stands =
+pub runs_settle : (d : DocumentState) (options : RunOptions) (output : List (List ℕ)) (status : Status)
+    → IsPlayable d → PlaysDocument d options output status → SettlesInTime d options output
+runs_settle d options output status is k rest g stands =
     let until = until_of options d in
     let fate = generator options.seed in
     let told = k.reports.leads.told in
@@ -45,3 +45,22 @@ runs_settle d options output status g is k rest stands =
       lines,
     )
     right near false none = none
+
+-- the run of a document answers the text that means it
+pub run_answers : (octets : List ℕ) (d : DocumentState) (options : RunOptions) → Means octets d
+    → IsNetwork d.network → AreEvents d.network d.events
+    → (output : List (List ℕ)) (status : Status) → PlaysDocument d options output status
+    → AnswersDocument options octets output status
+run_answers octets d options means network events output status plays =
+    inl (
+      d,
+      means,
+      plays,
+      runs_settle d options output status (documents_playable octets d means network events) plays,
+    )
+
+-- what is so of a result, if there is one, may mean more
+pub if_ok_more : {X E : Type 0} (P Q : X → Type 0) → ((x : X) → P x → Q x) → (result : Result X E) → IfOk result P
+    → IfOk result Q
+if_ok_more P Q more (Ok x) holds = more x holds
+if_ok_more P Q more (Err e) none = none
