@@ -6,4 +6,6 @@
 #[cfg(test)]
 mod backwards;
 #[cfg(test)]
+mod constants;
+#[cfg(test)]
 mod ring;
