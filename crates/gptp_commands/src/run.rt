@@ -138,9 +138,9 @@ fn output_of(alloc: Global, input: &[u8], options: &RunOptions) -> Result<Output
 /// `frames` a line for each frame that reached a port, in order of delivery; then the time, the last change, and for each
 /// system by rising clock what it follows, and its ports; then, with `certificate`, what each live system says.
 ///
-/// Where the network of the document is calm after its events, and the run ends no sooner than [`Document::settles`] says, the
-/// report is that of a world that has settled, and the certificate is the settled choice of the network as it then stands,
-/// whatever the seed, where all its systems are within 254 steps of the best of their component.
+/// Where the network of the document is calm after its events, and the run ends no sooner than [`Document::settles`]
+/// says, the report is that of a world that has settled, whatever the seed; and the certificate is the settled choice of
+/// the network as it then stands, where all its systems are within 254 steps of the best of their component.
 ///
 /// A document that is refused is the one line `refused` with the number and name of [`gptp_network::DocumentFault`]. Of an
 /// input of more than 33,554,432 octets no more than one further octet is read, and it is `refused 11 TooMany`. The whole

@@ -2,7 +2,7 @@
 use Rattle.std.proofs.Common.{◌≡◌, ◌≤◌, ℕ, List, [], ◌∷◌, refl, ap, sym, subst, arith}
 use Rattle.std.proofs.lemmas.Bool.{le-leb}
 use Rattle.gptp_acts.specs.Calm.{IsCalm, last_change}
-use Rattle.gptp_acts.specs.SettlingTime.{live_systems, settles, settling_span}
+use Rattle.gptp_acts.specs.SettlingTime.{settles}
 use Rattle.gptp_acts.specs.declared.change.Timed.{Timed}
 use Rattle.gptp_network.specs.Document.{DocumentState}
 use Rattle.gptp_network.specs.Events.{AreEvents, AreInOrder}
@@ -28,7 +28,6 @@ all_by until (t ∷ (u ∷ us)) ordered early =
 pub calm_rests : (d : DocumentState) (until : ℕ) → AreEvents d.network d.events → IsCalm d.network d.events
     → settles d.network d.events ≤ until → IsAtRest d until
 calm_rests d until are calm settled =
-    let span = settling_span d.network.params (live_systems d.network.systems d.events) in
     let early : last_change d.events ≤ until = omega (arith, settled) in
     let all = sym (all_by until d.events are.in_order early) in
     record {
