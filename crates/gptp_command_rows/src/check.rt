@@ -3,6 +3,7 @@
 ghost use Rattle.std.specs.Prelude.{◌≢◌};
 
 use crate::run::{TWO, link, system};
+use crate::same::{same, same_at};
 use gptp_commands::check::check;
 use gptp_commands::failure::{SimError, Status};
 use gptp_commands::sink::CountedWriter;
@@ -145,8 +146,8 @@ fn certificates_are_judged_by_number_and_name(rt: HostRuntime) -> Result<(), Fai
     ] {
         let text = certificate(alloc, one, other)?;
         let (verdict, ends) = checked(alloc, TWO.as_bytes(), text.as_bytes(), None)?;
-        assert_eq!(rt; verdict.as_slice(), want.as_bytes(), "at {text}");
-        assert_eq!(rt; ends, status, "at {text}");
+        same_at(&rt, &text, verdict.as_slice(), want.as_bytes());
+        same_at(&rt, &text, ends, status);
     }
     Ok(())
 }
@@ -180,8 +181,8 @@ fn heads_and_ends_are_read(rt: HostRuntime) -> Result<(), Fail> {
     ] {
         let text = format!(in alloc; "{head}{FIRST}{SECOND}{end}")?;
         let (verdict, status) = checked(alloc, TWO.as_bytes(), text.as_bytes(), None)?;
-        assert_eq!(rt; verdict.as_slice(), want.as_bytes(), "at {text}");
-        assert_eq!(rt; status, Status::Refused, "at {text}");
+        same_at(&rt, &text, verdict.as_slice(), want.as_bytes());
+        same_at(&rt, &text, status, Status::Refused);
     }
     Ok(())
 }
@@ -218,7 +219,7 @@ fn of_two_parents_the_better_is_asked_for(rt: HostRuntime) -> Result<(), Fail> {
     ] {
         let text = certificate(alloc, CROSSED, second)?;
         let (verdict, _) = checked(alloc, document.as_bytes(), text.as_bytes(), None)?;
-        assert_eq!(rt; verdict.as_slice(), want.as_bytes(), "at {text}");
+        same_at(&rt, &text, verdict.as_slice(), want.as_bytes());
     }
     Ok(())
 }
@@ -241,7 +242,7 @@ fn the_network_is_that_of_a_time(rt: HostRuntime) -> Result<(), Fail> {
         (None, "not accepted 1 Systems\n"),
     ] {
         let (verdict, _) = checked(alloc, document.as_bytes(), text.as_bytes(), until)?;
-        assert_eq!(rt; verdict.as_slice(), want.as_bytes(), "at {until:?}");
+        same_at(&rt, &until, verdict.as_slice(), want.as_bytes());
     }
     Ok(())
 }
@@ -250,8 +251,8 @@ fn the_network_is_that_of_a_time(rt: HostRuntime) -> Result<(), Fail> {
 fn a_document_is_tested_before_a_certificate(rt: HostRuntime) -> Result<(), Fail> {
     let alloc = rt.alloc();
     let (verdict, status) = checked(alloc, "version = 1".as_bytes(), "".as_bytes(), None)?;
-    assert_eq!(rt; verdict.as_slice(), "refused 2 MissingKey\n".as_bytes());
-    assert_eq!(rt; status, Status::Refused);
+    same(&rt, verdict.as_slice(), "refused 2 MissingKey\n".as_bytes());
+    same(&rt, status, Status::Refused);
     Ok(())
 }
 
@@ -269,9 +270,9 @@ fn a_certificate_is_read_to_its_size(rt: HostRuntime) -> Result<(), Fail> {
         let mut document = TWO.as_bytes();
         let mut sink = CountedWriter::new(&mut written);
         let status = check(alloc, &mut document, &mut certificate, &mut sink, None)?;
-        assert_eq!(rt; written.as_slice(), want.as_bytes(), "at {length}");
-        assert_eq!(rt; status, Status::Refused, "at {length}");
-        assert_eq!(rt; certificate.len(), left, "at {length}");
+        same_at(&rt, &length, written.as_slice(), want.as_bytes());
+        same_at(&rt, &length, status, Status::Refused);
+        same_at(&rt, &length, certificate.len(), left);
     }
     Ok(())
 }

@@ -2,6 +2,7 @@
 
 ghost use Rattle.std.specs.Prelude.{◌≢◌};
 
+use crate::same::same_at;
 use gptp_commands::compare::compare_lines;
 use gptp_commands::failure::{SimError, Status};
 use gptp_commands::sink::CountedWriter;
@@ -23,6 +24,19 @@ pub struct Frame {
     pub last_octet: &'static str,
 }
 
+/// Which part of it a row changes.
+#[derive(Clone, Copy)]
+pub enum Part {
+    MessageType,
+    Version,
+    MessageLength,
+    Domain,
+    Priority1,
+    Steps,
+    TlvLength,
+    LastOctet,
+}
+
 /// The first Announce of the system with clock 1, its own root, at port 1.
 pub const ANNOUNCE: Frame = Frame {
     message_type: "1b",
@@ -42,6 +56,21 @@ const BEFORE_ROOT: &str =
 const ROOT: &str = "f8fe436af80000000000000001";
 
 impl Frame {
+    /// The frame with other digits in one part.
+    pub fn with(mut self, part: Part, digits: &'static str) -> Self {
+        match part {
+            Part::MessageType => self.message_type = digits,
+            Part::Version => self.version = digits,
+            Part::MessageLength => self.message_length = digits,
+            Part::Domain => self.domain = digits,
+            Part::Priority1 => self.priority1 = digits,
+            Part::Steps => self.steps = digits,
+            Part::TlvLength => self.tlv_length = digits,
+            Part::LastOctet => self.last_octet = digits,
+        }
+        self
+    }
+
     /// The digits of the whole frame.
     pub fn digits(&self, alloc: Global) -> Result<String, AllocError> {
         let Frame {
@@ -74,18 +103,9 @@ pub fn compared(alloc: Global, input: &[u8]) -> Result<(Vec<u8>, Status), SimErr
 #[test]
 fn announces_the_better_root(rt: HostRuntime) -> Result<(), Fail> {
     let alloc = rt.alloc();
-    let one_step = Frame {
-        steps: "0001",
-        ..ANNOUNCE
-    };
-    let two_steps = Frame {
-        steps: "0002",
-        ..ANNOUNCE
-    };
-    let worse_root = Frame {
-        priority1: "f7",
-        ..ANNOUNCE
-    };
+    let one_step = ANNOUNCE.with(Part::Steps, "0001");
+    let two_steps = ANNOUNCE.with(Part::Steps, "0002");
+    let worse_root = ANNOUNCE.with(Part::Priority1, "f7");
     for (first, second, want) in [
         (one_step, two_steps, "first f6f8fe436af80000000000000001\n"),
         (ANNOUNCE, ANNOUNCE, "equal f6f8fe436af80000000000000001\n"),
@@ -104,11 +124,37 @@ fn announces_the_better_root(rt: HostRuntime) -> Result<(), Fail> {
         let second = second.digits(alloc)?;
         let line = format!(in alloc; "{first} {second}\n")?;
         let (text, status) = compared(alloc, line.as_bytes())?;
-        assert_eq!(rt; text.as_slice(), want.as_bytes(), "at {want}");
-        assert_eq!(rt; status, Status::Done, "at {want}");
+        same_at(&rt, &want, text.as_slice(), want.as_bytes());
+        same_at(&rt, &want, status, Status::Done);
     }
     Ok(())
 }
+
+/// Inputs, in which `w` stands for the digits of an Announce and `W` for the same as capitals, and what is answered.
+const LINES: [(&str, &str); 16] = [
+    ("", ""),
+    ("\n", "refused words\n"),
+    (" \t \n", "refused words\n"),
+    ("w\n", "refused words\n"),
+    ("w w w\n", "refused words\n"),
+    ("\t w \t  w\t\n", EQUAL),
+    ("W w\n", EQUAL),
+    ("w w\r\n", EQUAL),
+    ("w w", EQUAL),
+    ("w w\r", "refused second hex\n"),
+    ("w\r w\n", "refused first hex\n"),
+    ("w0 w\n", "refused first hex\n"),
+    ("w0g w\n", "refused first hex\n"),
+    ("w 0\n", "refused second hex\n"),
+    ("\n\nw", "refused words\nrefused words\nrefused words\n"),
+    (
+        "w\nw w\n",
+        "refused words\nequal f6f8fe436af80000000000000001\n",
+    ),
+];
+
+/// What two such Announces are to each other.
+const EQUAL: &str = "equal f6f8fe436af80000000000000001\n";
 
 #[test]
 fn splits_lines_and_words(rt: HostRuntime) -> Result<(), Fail> {
@@ -116,50 +162,13 @@ fn splits_lines_and_words(rt: HostRuntime) -> Result<(), Fail> {
     let word = ANNOUNCE.digits(alloc)?;
     let mut upper = ANNOUNCE.digits(alloc)?;
     upper.make_ascii_uppercase();
-    let equal = "equal f6f8fe436af80000000000000001\n";
-    for (input, want) in [
-        (format!(in alloc; "")?, ""),
-        (format!(in alloc; "\n")?, "refused words\n"),
-        (format!(in alloc; " \t \n")?, "refused words\n"),
-        (format!(in alloc; "{word}\n")?, "refused words\n"),
-        (
-            format!(in alloc; "{word} {word} {word}\n")?,
-            "refused words\n",
-        ),
-        (format!(in alloc; "\t {word} \t  {word}\t\n")?, equal),
-        (format!(in alloc; "{upper} {word}\n")?, equal),
-        (format!(in alloc; "{word} {word}\r\n")?, equal),
-        (format!(in alloc; "{word} {word}")?, equal),
-        (
-            format!(in alloc; "{word} {word}\r")?,
-            "refused second hex\n",
-        ),
-        (
-            format!(in alloc; "{word}\r {word}\n")?,
-            "refused first hex\n",
-        ),
-        (
-            format!(in alloc; "{word}0 {word}\n")?,
-            "refused first hex\n",
-        ),
-        (
-            format!(in alloc; "{word}0g {word}\n")?,
-            "refused first hex\n",
-        ),
-        (format!(in alloc; "{word} 0\n")?, "refused second hex\n"),
-        (
-            format!(in alloc; "\n\n{word}")?,
-            "refused words\nrefused words\nrefused words\n",
-        ),
-        (
-            format!(in alloc; "{word}\n{word} {word}\n")?,
-            "refused words\nequal f6f8fe436af80000000000000001\n",
-        ),
-    ] {
+    for (line, want) in LINES {
+        let input = line.replace(alloc, "w", word.as_str())?;
+        let input = input.replace(alloc, "W", upper.as_str())?;
         let (text, status) = compared(alloc, input.as_bytes())?;
-        assert_eq!(rt; text.as_slice(), want.as_bytes(), "at {input}");
-        let is_done = want == "" || want == equal;
-        assert_eq!(rt; status == Status::Done, is_done, "at {input}");
+        same_at(&rt, &line, text.as_slice(), want.as_bytes());
+        let is_done = want == "" || want == EQUAL;
+        same_at(&rt, &line, status == Status::Done, is_done);
     }
     Ok(())
 }
@@ -177,9 +186,9 @@ fn refuses_one_octet_past_the_size(rt: HostRuntime) -> Result<(), Fail> {
         let mut written = Vec::new(alloc);
         let mut sink = CountedWriter::new(&mut written);
         let status = compare_lines(alloc, &mut source, &mut sink)?;
-        assert_eq!(rt; written.as_slice(), want.as_bytes(), "at {length}");
-        assert_eq!(rt; status, Status::Refused, "at {length}");
-        assert_eq!(rt; source.len(), left, "at {length}");
+        same_at(&rt, &length, written.as_slice(), want.as_bytes());
+        same_at(&rt, &length, status, Status::Refused);
+        same_at(&rt, &length, source.len(), left);
     }
     Ok(())
 }
@@ -241,8 +250,8 @@ fn read_fails_with_nothing_written(rt: HostRuntime) -> Result<(), Fail> {
         } else {
             (Ok(Status::Done), 35)
         };
-        assert_eq!(rt; outcome, want, "at {calls_before}");
-        assert_eq!(rt; written.len(), length, "at {calls_before}");
+        same_at(&rt, &calls_before, outcome, want);
+        same_at(&rt, &calls_before, written.len(), length);
     }
     Ok(())
 }
@@ -271,11 +280,12 @@ fn write_fails_with_a_front_written(rt: HostRuntime) -> Result<(), Fail> {
         } else {
             (Ok(Status::Refused), 49)
         };
-        assert_eq!(rt; outcome, want, "at {calls_before}");
-        assert_eq!(rt;
+        same_at(&rt, &calls_before, outcome, want);
+        same_at(
+            &rt,
+            &calls_before,
             Some(written.as_slice()),
             text.get(..length),
-            "at {calls_before}"
         );
     }
     Ok(())

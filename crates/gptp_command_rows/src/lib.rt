@@ -13,3 +13,5 @@ mod far;
 mod refusals;
 #[cfg(test)]
 mod run;
+#[cfg(test)]
+mod same;

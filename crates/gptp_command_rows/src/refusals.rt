@@ -1,62 +1,21 @@
 //! How `compare` refuses words that are no Announce.
 
-use crate::compare::{ANNOUNCE, Frame, compared};
+use crate::compare::{ANNOUNCE, Part, compared};
+use crate::same::same_at;
 use gptp_commands::failure::Status;
 use std::alloc::Global;
 use std::process::Abort;
 use std::test::Fail;
 
-/// Announces that are refused, and how.
-const SPOILED: [(Frame, &str); 7] = [
-    (
-        Frame {
-            last_octet: "",
-            ..ANNOUNCE
-        },
-        "1 Short",
-    ),
-    (
-        Frame {
-            message_type: "0b",
-            ..ANNOUNCE
-        },
-        "2 NotGptp",
-    ),
-    (
-        Frame {
-            version: "11",
-            ..ANNOUNCE
-        },
-        "3 Version",
-    ),
-    (
-        Frame {
-            message_type: "1c",
-            ..ANNOUNCE
-        },
-        "4 UnknownType",
-    ),
-    (
-        Frame {
-            message_length: "003f",
-            ..ANNOUNCE
-        },
-        "5 LengthField",
-    ),
-    (
-        Frame {
-            domain: "01",
-            ..ANNOUNCE
-        },
-        "6 Domain",
-    ),
-    (
-        Frame {
-            tlv_length: "0009",
-            ..ANNOUNCE
-        },
-        "7 Tlv",
-    ),
+/// Announces that are refused, by what one part of them is, and how.
+const SPOILED: [(Part, &str, &str); 7] = [
+    (Part::LastOctet, "", "1 Short"),
+    (Part::MessageType, "0b", "2 NotGptp"),
+    (Part::Version, "11", "3 Version"),
+    (Part::MessageType, "1c", "4 UnknownType"),
+    (Part::MessageLength, "003f", "5 LengthField"),
+    (Part::Domain, "01", "6 Domain"),
+    (Part::TlvLength, "0009", "7 Tlv"),
 ];
 
 /// A word is refused so, as the first and as the second.
@@ -73,16 +32,17 @@ fn assert_refused(
         "refused first {name}\nrefused second {name}\nrefused first {name}\nrefused first hex\n"
     )?;
     let (text, status) = compared(alloc, input.as_bytes())?;
-    assert_eq!(rt; text.as_slice(), want.as_bytes(), "at {what}");
-    assert_eq!(rt; status, Status::Refused, "at {what}");
+    same_at(rt, &what, text.as_slice(), want.as_bytes());
+    same_at(rt, &what, status, Status::Refused);
     Ok(())
 }
 
 #[test]
 fn names_the_refusal(rt: HostRuntime) -> Result<(), Fail> {
     let alloc = rt.alloc();
-    for (frame, name) in SPOILED {
-        assert_refused(&rt, alloc, frame.digits(alloc)?.as_str(), name, name)?;
+    for (part, digits, name) in SPOILED {
+        let word = ANNOUNCE.with(part, digits).digits(alloc)?;
+        assert_refused(&rt, alloc, word.as_str(), name, name)?;
     }
     Ok(())
 }

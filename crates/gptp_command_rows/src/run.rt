@@ -3,10 +3,12 @@
 ghost use Rattle.std.specs.Prelude.{◌≤◌, ◌≢◌, IfSome};
 
 use crate::check::checked;
+use crate::same::{same, same_at};
 use gptp_commands::failure::{SimError, Status};
 use gptp_commands::run::{RunOptions, run};
 use gptp_commands::sink::CountedWriter;
 use std::alloc::{AllocError, Global};
+use std::process::Abort;
 use std::test::Fail;
 
 /// What is asked of most runs.
@@ -33,6 +35,22 @@ pub fn ran(
     Ok((written, status))
 }
 
+/// The run of a document is done, and writes this.
+fn assert_writes(
+    rt: &impl Abort,
+    alloc: Global,
+    document: &[u8],
+    options: &RunOptions,
+    want: &str,
+) -> Result<(), Fail>
+    requires { IfSome options.now.until (λ until. until ≤ 1000000000000000) }
+{
+    let (text, status) = ran(alloc, document, options)?;
+    same(rt, text.as_slice(), want.as_bytes());
+    same(rt, status, Status::Done);
+    Ok(())
+}
+
 /// Two systems, clocks 1 and 2, the second 1 ms ahead; their first ports are linked.
 pub const TWO: &str = "version = 1
 [[system]]
@@ -52,7 +70,6 @@ max = 500
 #[test]
 fn two_systems_settle(rt: HostRuntime) -> Result<(), Fail> {
     let alloc = rt.alloc();
-    let (text, status) = ran(alloc, TWO.as_bytes(), &TO_THE_END)?;
     let want = "time 26000000000
 change 0 calm yes settle 26000000000
 system 0000000000000001 root f6f8fe436af80000000000000001 steps 0 gm yes slave none offset none
@@ -60,9 +77,7 @@ port 0000000000000001 1 master capable yes delay 32768000
 system 0000000000000002 root f6f8fe436af80000000000000001 steps 1 gm yes slave 1 offset 65536000000
 port 0000000000000002 1 slave capable yes delay 32768000
 ";
-    assert_eq!(rt; text.as_slice(), want.as_bytes());
-    assert_eq!(rt; status, Status::Done);
-    Ok(())
+    assert_writes(&rt, alloc, TWO.as_bytes(), &TO_THE_END, want)
 }
 
 /// The same two systems, but the second clock gains 1 in 2^16: its drift is 2^41 / 2^16. In units of 2^-16 ns it shows
@@ -91,7 +106,6 @@ max = 500
 #[test]
 fn a_drifting_clock_runs_ahead(rt: HostRuntime) -> Result<(), Fail> {
     let alloc = rt.alloc();
-    let (text, _) = ran(alloc, DRIFTING.as_bytes(), &TO_THE_END)?;
     let want = "time 26000000000
 change 0 calm yes settle 26000000000
 system 0000000000000001 root f6f8fe436af80000000000000001 steps 0 gm yes slave none offset none
@@ -99,8 +113,7 @@ port 0000000000000001 1 master capable yes delay 32768500
 system 0000000000000002 root f6f8fe436af80000000000000001 steps 1 gm yes slave 1 offset 91411000502
 port 0000000000000002 1 slave capable yes delay 32767999
 ";
-    assert_eq!(rt; text.as_slice(), want.as_bytes());
-    Ok(())
+    assert_writes(&rt, alloc, DRIFTING.as_bytes(), &TO_THE_END, want)
 }
 
 #[test]
@@ -112,7 +125,6 @@ fn frames_stand_before_the_report(rt: HostRuntime) -> Result<(), Fail> {
         frames: true,
         certificate: false,
     };
-    let (text, status) = ran(alloc, TWO.as_bytes(), &options)?;
     let want =
         "frame 500 0000000000000002 1 pdelay_req used 121200360000000800000000000000000000000000000000000000010001000000000000000000000000000000000000000000000000
 frame 500 0000000000000001 1 pdelay_req used 121200360000000800000000000000000000000000000000000000020001000000000000000000000000000000000000000000000000
@@ -123,9 +135,7 @@ port 0000000000000001 1 disabled capable no delay none
 system 0000000000000002 root f6f8fe436af80000000000000002 steps 0 gm yes slave none offset none
 port 0000000000000002 1 disabled capable no delay none
 ";
-    assert_eq!(rt; text.as_slice(), want.as_bytes());
-    assert_eq!(rt; status, Status::Done);
-    Ok(())
+    assert_writes(&rt, alloc, TWO.as_bytes(), &options, want)
 }
 
 /// A change of priority1 at 30 s.
@@ -165,7 +175,6 @@ fn a_change_of_priority1_shows_at_once(rt: HostRuntime) -> Result<(), Fail> {
         frames: false,
         certificate: false,
     };
-    let (text, status) = ran(alloc, document.as_bytes(), &options)?;
     let want = "time 30000001000
 change 30000000000 calm yes settle 56000000000
 system 0000000000000001 root f6f8fe436af80000000000000002 steps 1 gm yes slave 1 offset none
@@ -173,9 +182,7 @@ port 0000000000000001 1 slave capable yes delay 32768000
 system 0000000000000002 root f6f8fe436af80000000000000002 steps 0 gm yes slave none offset none
 port 0000000000000002 1 master capable yes delay 32768000
 ";
-    assert_eq!(rt; text.as_slice(), want.as_bytes());
-    assert_eq!(rt; status, Status::Done);
-    Ok(())
+    assert_writes(&rt, alloc, document.as_bytes(), &options, want)
 }
 
 #[test]
@@ -188,7 +195,6 @@ fn a_link_that_loses_everything_parts_two_systems(rt: HostRuntime) -> Result<(),
         frames: false,
         certificate: false,
     };
-    let (text, status) = ran(alloc, document.as_bytes(), &options)?;
     let want = "time 40000000000
 change 40000000000 calm yes settle 66000000000
 system 0000000000000001 root f6f8fe436af80000000000000001 steps 0 gm yes slave none offset none
@@ -196,9 +202,7 @@ port 0000000000000001 1 disabled capable no delay none
 system 0000000000000002 root f6f8fe436af80000000000000002 steps 0 gm yes slave none offset none
 port 0000000000000002 1 disabled capable no delay none
 ";
-    assert_eq!(rt; text.as_slice(), want.as_bytes());
-    assert_eq!(rt; status, Status::Done);
-    Ok(())
+    assert_writes(&rt, alloc, document.as_bytes(), &options, want)
 }
 
 /// A system with so many ports.
@@ -221,7 +225,6 @@ fn no_grandmaster_is_told(rt: HostRuntime) -> Result<(), Fail> {
     let second = system(alloc, "2", 1, "priority1 = 255\nphase = 1000000\n")?;
     let joined = link(alloc, "1", 1, "2", 1)?;
     let document = format!(in alloc; "version = 1\n{first}{second}{joined}")?;
-    let (text, status) = ran(alloc, document.as_bytes(), &TO_THE_END)?;
     let want = "time 26000000000
 change 0 calm yes settle 26000000000
 system 0000000000000001 root fff8fe436af80000000000000001 steps 0 gm no slave none offset none
@@ -229,9 +232,7 @@ port 0000000000000001 1 master capable yes delay 32768000
 system 0000000000000002 root fff8fe436af80000000000000001 steps 1 gm no slave 1 offset none
 port 0000000000000002 1 slave capable yes delay 32768000
 ";
-    assert_eq!(rt; text.as_slice(), want.as_bytes());
-    assert_eq!(rt; status, Status::Done);
-    Ok(())
+    assert_writes(&rt, alloc, document.as_bytes(), &TO_THE_END, want)
 }
 
 #[test]
@@ -242,7 +243,6 @@ fn of_two_links_the_better_sender_counts(rt: HostRuntime) -> Result<(), Fail> {
     let crossed = link(alloc, "1", 1, "2", 2)?;
     let back = link(alloc, "1", 2, "2", 1)?;
     let document = format!(in alloc; "version = 1\n{first}{second}{crossed}{back}")?;
-    let (text, _) = ran(alloc, document.as_bytes(), &TO_THE_END)?;
     let want = "time 26000000000
 change 0 calm yes settle 26000000000
 system 0000000000000001 root f6f8fe436af80000000000000001 steps 0 gm yes slave none offset none
@@ -252,8 +252,7 @@ system 0000000000000002 root f6f8fe436af80000000000000001 steps 1 gm yes slave 2
 port 0000000000000002 1 passive capable yes delay 32768000
 port 0000000000000002 2 slave capable yes delay 32768000
 ";
-    assert_eq!(rt; text.as_slice(), want.as_bytes());
-    Ok(())
+    assert_writes(&rt, alloc, document.as_bytes(), &TO_THE_END, want)
 }
 
 #[test]
@@ -266,7 +265,6 @@ fn a_triangle_has_one_passive_port(rt: HostRuntime) -> Result<(), Fail> {
     let far = link(alloc, "1", 2, "3", 1)?;
     let across = link(alloc, "2", 2, "3", 2)?;
     let document = format!(in alloc; "version = 1\n{third}{first}{second}{near}{far}{across}")?;
-    let (text, _) = ran(alloc, document.as_bytes(), &TO_THE_END)?;
     let want = "time 32000000000
 change 0 calm yes settle 32000000000
 system 0000000000000001 root f6f8fe436af80000000000000001 steps 0 gm yes slave none offset none
@@ -279,8 +277,7 @@ system 0000000000000003 root f6f8fe436af80000000000000001 steps 1 gm yes slave 1
 port 0000000000000003 1 slave capable yes delay 32768000
 port 0000000000000003 2 passive capable yes delay 32768000
 ";
-    assert_eq!(rt; text.as_slice(), want.as_bytes());
-    Ok(())
+    assert_writes(&rt, alloc, document.as_bytes(), &TO_THE_END, want)
 }
 
 /// A system with clock 1, a ring of clocks 2, 3 and 4 behind it, and the failure of the first at 40 s.
@@ -337,15 +334,15 @@ port 0000000000000004 1 slave capable yes delay 32768000
 port 0000000000000004 2 passive capable yes delay 32768000
 ";
     let want = format!(in alloc; "{report}{RING_CERTIFICATE}")?;
-    assert_eq!(rt; text.as_slice(), want.as_bytes());
+    same(&rt, text.as_slice(), want.as_bytes());
     let (verdict, status) = checked(
         alloc,
         document.as_bytes(),
         RING_CERTIFICATE.as_bytes(),
         None,
     )?;
-    assert_eq!(rt; verdict.as_slice(), "accepted\n".as_bytes());
-    assert_eq!(rt; status, Status::Done);
+    same(&rt, verdict.as_slice(), "accepted\n".as_bytes());
+    same(&rt, status, Status::Done);
     Ok(())
 }
 
@@ -399,8 +396,8 @@ fn documents_are_refused_by_number_and_name(rt: HostRuntime) -> Result<(), Fail>
         ),
     ] {
         let (text, status) = ran(alloc, document.as_bytes(), &TO_THE_END)?;
-        assert_eq!(rt; text.as_slice(), want.as_bytes(), "at {document}");
-        assert_eq!(rt; status, Status::Refused, "at {document}");
+        same_at(&rt, &document, text.as_slice(), want.as_bytes());
+        same_at(&rt, &document, status, Status::Refused);
     }
     Ok(())
 }
@@ -418,9 +415,9 @@ fn a_document_is_read_to_its_size(rt: HostRuntime) -> Result<(), Fail> {
         let mut written = Vec::new(alloc);
         let mut sink = CountedWriter::new(&mut written);
         let status = run(alloc, &mut source, &mut sink, &TO_THE_END)?;
-        assert_eq!(rt; written.as_slice(), want.as_bytes(), "at {length}");
-        assert_eq!(rt; status, Status::Refused, "at {length}");
-        assert_eq!(rt; source.len(), left, "at {length}");
+        same_at(&rt, &length, written.as_slice(), want.as_bytes());
+        same_at(&rt, &length, status, Status::Refused);
+        same_at(&rt, &length, source.len(), left);
     }
     Ok(())
 }

@@ -1,8 +1,9 @@
 //! What documents mean, and why they are refused.
 
+use crate::same::{same, same_at};
 use gptp_network::{Document, DocumentFault};
 use gptp_vector::{ClockId, PortId};
-use gptp_world::{Act, Change, Params};
+use gptp_world::{Act, Change, Params, Timed};
 use std::alloc::{AllocError, Global};
 use std::test::Fail;
 
@@ -127,7 +128,7 @@ fn faulty_documents_are_refused(rt: HostRuntime) -> Result<(), Fail> {
         ),
     ];
     for (name, parts, want) in rows {
-        assert_eq!(rt; refusal(alloc, parts)?, Some(want), "{name}");
+        same_at(&rt, &name, refusal(alloc, parts)?, Some(want));
     }
     Ok(())
 }
@@ -177,9 +178,9 @@ fn short_links_are_calm(rt: HostRuntime) -> Result<(), Fail> {
         let more = document(alloc, parts)?;
         let text = document(alloc, &[text.as_str(), more.as_str()])?;
         let document = Document::read(alloc, text.as_bytes())?;
-        assert_eq!(rt; document.calm(), calm, "{name}");
-        assert_eq!(rt; document.last_change(), last, "{name}");
-        assert_eq!(rt; document.settles(), settles, "{name}");
+        same_at(&rt, &name, document.calm(), calm);
+        same_at(&rt, &name, document.last_change(), last);
+        same_at(&rt, &name, document.settles(), settles);
     }
     Ok(())
 }
@@ -205,24 +206,26 @@ fn keys_have_defaults(rt: HostRuntime) -> Result<(), Fail> {
         turnaround: 1000,
         residence: 1000,
     };
-    assert_eq!(rt; network.params(), params);
-    assert_eq!(rt; network.systems(), 2);
-    assert_eq!(rt; network.links(), 1);
+    same(&rt, network.params(), params);
+    same(&rt, network.systems(), 2);
+    same(&rt, network.links(), 1);
     let (identity, ports, phase, drift) = network.system_at(0).ok_or("no system")?;
-    assert_eq!(rt;
+    same(
+        &rt,
         identity.octets(),
-        [0xf6, 0xf8, 0xfe, 0x43, 0x6a, 0xf8, 0, 0, 0, 0, 0, 0, 0, 1]
+        [0xf6, 0xf8, 0xfe, 0x43, 0x6a, 0xf8, 0, 0, 0, 0, 0, 0, 0, 1],
     );
-    assert_eq!(rt; (ports, phase, drift), (1, 0, 0));
+    same(&rt, (ports, phase, drift), (1, 0, 0));
     let (a, b, bounds, up) = network.link_at(0).ok_or("no link")?;
     let port = |clock: u64| PortId {
         clock: ClockId::from(clock),
         port: 1,
     };
-    assert_eq!(rt; (a, b, up), (port(1), port(2), true));
-    assert_eq!(rt;
+    same(&rt, (a, b, up), (port(1), port(2), true));
+    same(
+        &rt,
         (bounds.link, bounds.min, bounds.max, bounds.loss),
-        (0, 500, 600, 0)
+        (0, 500, 600, 0),
     );
     assert!(rt; network.system_at(2).is_none());
     assert!(rt; network.link_at(1).is_none());
@@ -230,8 +233,10 @@ fn keys_have_defaults(rt: HostRuntime) -> Result<(), Fail> {
         clock: ClockId::from(1),
         value: 250,
     };
-    assert_eq!(rt; document.events().len(), 1);
-    assert_eq!(rt; document.events()[0].at, 7);
-    assert_eq!(rt; document.events()[0].act, Act::Change(change));
+    let event = Timed {
+        at: 7,
+        act: Act::Change(change),
+    };
+    same(&rt, document.events(), [event].as_slice());
     Ok(())
 }

@@ -1,11 +1,20 @@
-//! Worked rows of networks, worlds and documents, as an outside caller sees them.
+//! Worked rows of networks, worlds and documents, as an outside caller sees them: also that whatever the order of acts
+//! and the fate of frames, a calm network settles in time.
 //!
 //! What they expect was written down before the code.
 #![tactic(auto)]
 
 #[cfg(test)]
+mod backwards;
+#[cfg(test)]
+mod constants;
+#[cfg(test)]
 mod document;
 #[cfg(test)]
 mod far;
+#[cfg(test)]
+mod ring;
+#[cfg(test)]
+mod same;
 #[cfg(test)]
 mod world;

@@ -2,11 +2,13 @@
 
 ghost use Rattle.std.specs.Prelude.{◌≡◌};
 
+use crate::same::same;
 use gptp_links::{Direction, ListFate, PcgFate};
 use gptp_network::Document;
 use gptp_system::Timer;
 use gptp_vector::ClockId;
 use gptp_world::{Act, Refused, Timed, World};
+use std::alloc::Global;
 use std::test::Fail;
 
 /// Two systems, clocks 1 and 2, whose first ports a link joins; each frame takes 500 ns.
@@ -47,70 +49,72 @@ const STRAY: Act = Act::Deliver {
     direction: Direction::FromA,
 };
 
+/// The world of a document, as it begins.
+fn begun(alloc: Global, document: &str) -> Result<World<PcgFate>, Fail> {
+    let document = Document::read(alloc, document.as_bytes())?;
+    Ok(World::new(alloc, document.network(), PcgFate::new(0))?)
+}
+
+/// When the next act is due.
+fn next_at(world: &World<PcgFate>) -> Option<u64> {
+    match world.next() {
+        Some(next) => Some(next.at),
+        None => None,
+    }
+}
+
+/// The clocks of the systems, by rank.
+fn ranked(world: &World<PcgFate>) -> [Option<ClockId>; 4] {
+    [
+        world.clock_at(0),
+        world.clock_at(1),
+        world.clock_at(2),
+        world.clock_at(3),
+    ]
+}
+
+/// The clock that the system with this number follows, how many steps away, and by which port.
+fn followed(world: &World<PcgFate>, number: u64) -> Option<(ClockId, u16, Option<u8>)> {
+    let (root, steps, slave) = world.system(clock(number))?.follows();
+    Some((root.clock(), steps, slave))
+}
+
+/// How far ahead of that clock its own is, in units of 2^-16 ns.
+fn offset(world: &World<PcgFate>, number: u64) -> Option<i128> {
+    Some(world.system(clock(number))?.offset()?.value())
+}
+
 #[test]
 fn a_world_goes_on_by_itself(rt: HostRuntime) -> Result<(), Fail> {
-    let alloc = rt.alloc();
-    let document = Document::read(alloc, TWO.as_bytes())?;
-    let mut world = World::new(alloc, document.network(), PcgFate::new(0))?;
-    assert_eq!(rt; world.advance(1_000), Ok(()));
-    assert_eq!(rt; world.now(), 1_000);
-    assert_eq!(rt;
-        world
-            .act(Timed {
-                at: 500,
-                act: ARRIVAL
-            })
-            .err(),
-        Some(Refused::InThePast)
+    let mut world = begun(rt.alloc(), TWO)?;
+    same(&rt, world.advance(1_000), Ok(()));
+    same(&rt, world.now(), 1_000);
+    same(
+        &rt,
+        world.act(timed(500, ARRIVAL)).err(),
+        Some(Refused::InThePast),
     );
-    assert_eq!(rt; world.advance(500), Err(Refused::InThePast));
-    assert_eq!(rt; world.now(), 1_000);
-    assert_eq!(rt; world.advance(26_000_000_000), Ok(()));
-    assert_eq!(rt; world.now(), 26_000_000_000);
-    assert_eq!(rt; world.last_change(), 0);
-    match world.next() {
-        Some(timed) => assert!(rt; 26_000_000_000 < timed.at),
-        None => assert!(rt; false),
-    }
-    match world.system(clock(1)) {
-        Some(system) => {
-            let (root, steps, slave) = system.follows();
-            assert_eq!(rt; root.clock(), clock(1));
-            assert_eq!(rt; steps, 0);
-            assert_eq!(rt; slave, None);
-        }
-        None => assert!(rt; false),
-    }
-    match world.system(clock(2)) {
-        Some(system) => {
-            let (root, steps, slave) = system.follows();
-            assert_eq!(rt; root.clock(), clock(1));
-            assert_eq!(rt; steps, 1);
-            assert_eq!(rt; slave, Some(1));
-            match system.offset() {
-                Some(offset) => assert_eq!(rt; offset.value(), 65_536_000_000),
-                None => assert!(rt; false),
-            }
-        }
-        None => assert!(rt; false),
-    }
+    same(&rt, world.advance(500), Err(Refused::InThePast));
+    same(&rt, world.now(), 1_000);
+    same(&rt, world.advance(26_000_000_000), Ok(()));
+    same(&rt, world.now(), 26_000_000_000);
+    same(&rt, world.last_change(), 0);
+    same(&rt, next_at(&world) > Some(26_000_000_000), true);
+    same(&rt, followed(&world, 1), Some((clock(1), 0, None)));
+    same(&rt, followed(&world, 2), Some((clock(1), 1, Some(1))));
+    same(&rt, offset(&world, 2), Some(65_536_000_000));
     Ok(())
 }
 
 #[test]
 fn clocks_stand_by_rank(rt: HostRuntime) -> Result<(), Fail> {
     let alloc = rt.alloc();
-    let one = Document::read(alloc, ONE.as_bytes())?;
-    let world = World::new(alloc, one.network(), PcgFate::new(0))?;
-    assert_eq!(rt; world.clock_at(0), Some(clock(5)));
-    assert_eq!(rt; world.clock_at(1), None);
-    let three = Document::read(alloc, THREE.as_bytes())?;
-    let world = World::new(alloc, three.network(), PcgFate::new(0))?;
-    assert_eq!(rt; world.clock_at(0), Some(clock(2)));
-    assert_eq!(rt; world.clock_at(1), Some(clock(5)));
-    assert_eq!(rt; world.clock_at(2), Some(clock(9)));
-    assert_eq!(rt; world.clock_at(3), None);
-    assert_eq!(rt; world.clock_at(usize::MAX), None);
+    let one = begun(alloc, ONE)?;
+    same(&rt, ranked(&one), [Some(clock(5)), None, None, None]);
+    let three = begun(alloc, THREE)?;
+    let ranks = [Some(clock(2)), Some(clock(5)), Some(clock(9)), None];
+    same(&rt, ranked(&three), ranks);
+    same(&rt, three.clock_at(usize::MAX), None);
     Ok(())
 }
 
@@ -134,22 +138,26 @@ fn timed(at: u64, act: Act) -> Timed
 
 #[test]
 fn an_act_is_refused_by_the_first_test(rt: HostRuntime) -> Result<(), Fail> {
-    let alloc = rt.alloc();
-    let document = Document::read(alloc, TWO.as_bytes())?;
-    let mut world = World::new(alloc, document.network(), PcgFate::new(0))?;
-    assert_eq!(rt; world.act(timed(400, ARRIVAL)).err(), Some(Refused::NotDue));
-    assert_eq!(rt;
-        world.act(timed(600, ARRIVAL)).err(),
-        Some(Refused::Untimely)
+    let mut world = begun(rt.alloc(), TWO)?;
+    same(
+        &rt,
+        world.act(timed(400, ARRIVAL)).err(),
+        Some(Refused::NotDue),
     );
-    assert_eq!(rt; world.act(timed(0, STRAY)).err(), Some(Refused::NoSuch));
-    assert_eq!(rt; world.now(), 0);
-    assert_eq!(rt; world.act(timed(500, ARRIVAL)).err(), None);
-    assert_eq!(rt; world.now(), 500);
-    assert_eq!(rt; world.advance(1_000), Ok(()));
-    assert_eq!(rt;
+    same(
+        &rt,
+        world.act(timed(600, ARRIVAL)).err(),
+        Some(Refused::Untimely),
+    );
+    same(&rt, world.act(timed(0, STRAY)).err(), Some(Refused::NoSuch));
+    same(&rt, world.now(), 0);
+    same(&rt, world.act(timed(500, ARRIVAL)).err(), None);
+    same(&rt, world.now(), 500);
+    same(&rt, world.advance(1_000), Ok(()));
+    same(
+        &rt,
         world.act(timed(500, STRAY)).err(),
-        Some(Refused::InThePast)
+        Some(Refused::InThePast),
     );
     Ok(())
 }
@@ -168,11 +176,9 @@ const ONE_TOO_LATE: [Timed; 2] = [
 
 #[test]
 fn a_list_of_acts_stops_at_the_first_refusal(rt: HostRuntime) -> Result<(), Fail> {
-    let alloc = rt.alloc();
-    let document = Document::read(alloc, TWO.as_bytes())?;
-    let mut world = World::new(alloc, document.network(), PcgFate::new(0))?;
-    assert_eq!(rt; world.play(&ONE_TOO_LATE), Err((1, Refused::InThePast)));
-    assert_eq!(rt; world.now(), 500);
+    let mut world = begun(rt.alloc(), TWO)?;
+    same(&rt, world.play(&ONE_TOO_LATE), Err((1, Refused::InThePast)));
+    same(&rt, world.now(), 500);
     Ok(())
 }
 
@@ -183,16 +189,16 @@ fn acts_of_one_moment_go_in_any_order(rt: HostRuntime) -> Result<(), Fail> {
     // two requests, and the first answer; then every frame takes 900 ns
     let fate = ListFate::new(vec![in alloc; Some(500), Some(500), Some(600)]?);
     let mut world = World::new(alloc, document.network(), fate)?;
-    assert_eq!(rt; world.next(), Some(timed(500, ARRIVAL)));
-    assert_eq!(rt; world.act(timed(500, ARRIVAL_FROM_B)).err(), None);
-    assert_eq!(rt; world.next(), Some(timed(500, ARRIVAL)));
-    assert_eq!(rt; world.act(timed(500, ARRIVAL)).err(), None);
+    same(&rt, world.next(), Some(timed(500, ARRIVAL)));
+    same(&rt, world.act(timed(500, ARRIVAL_FROM_B)).err(), None);
+    same(&rt, world.next(), Some(timed(500, ARRIVAL)));
+    same(&rt, world.act(timed(500, ARRIVAL)).err(), None);
     // each answers 1,000 ns later: the one that heard first is next
-    assert_eq!(rt; world.next(), Some(timed(1_500, answer(clock(1)))));
-    assert_eq!(rt; world.act(timed(1_500, answer(clock(2)))).err(), None);
-    assert_eq!(rt; world.next(), Some(timed(1_500, answer(clock(1)))));
-    assert_eq!(rt; world.act(timed(1_500, answer(clock(1)))).err(), None);
-    assert_eq!(rt; world.next(), Some(timed(2_100, ARRIVAL_FROM_B)));
-    assert_eq!(rt; world.now(), 1_500);
+    same(&rt, world.next(), Some(timed(1_500, answer(clock(1)))));
+    same(&rt, world.act(timed(1_500, answer(clock(2)))).err(), None);
+    same(&rt, world.next(), Some(timed(1_500, answer(clock(1)))));
+    same(&rt, world.act(timed(1_500, answer(clock(1)))).err(), None);
+    same(&rt, world.next(), Some(timed(2_100, ARRIVAL_FROM_B)));
+    same(&rt, world.now(), 1_500);
     Ok(())
 }

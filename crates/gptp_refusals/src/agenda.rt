@@ -1,5 +1,6 @@
 //! What an agenda is where memory is refused.
 
+use crate::same::same;
 use gptp_scheduler::Agenda;
 use std::test::Fail;
 
@@ -13,21 +14,21 @@ fn a_refused_allocation_leaves_the_agenda(rt: HostRuntime) -> Result<(), Fail> {
             Ok(given) => given,
             Err(_) => {
                 println!(rt; "refused: put")?;
-                assert_eq!(rt; agenda.next(), first);
+                same(&rt, agenda.next(), first);
                 agenda.put(time, number)?
             }
         };
-        assert_eq!(rt; given, number);
+        same(&rt, given, number);
         first = Some(least);
     }
     if agenda.reserve(100).is_err() {
         println!(rt; "refused: reserve")?;
-        assert_eq!(rt; agenda.next(), first);
+        same(&rt, agenda.next(), first);
         agenda.reserve(100)?;
     }
     for (number, time) in [(1, 3), (0, 5), (2, 5)] {
-        assert_eq!(rt; agenda.take_due(time), Some((time, number, number)));
+        same(&rt, agenda.take_due(time), Some((time, number, number)));
     }
-    assert_eq!(rt; agenda.take_due(u64::MAX), None);
+    same(&rt, agenda.take_due(u64::MAX), None);
     Ok(())
 }

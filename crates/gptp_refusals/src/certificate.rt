@@ -1,5 +1,6 @@
 //! What becomes of a snapshot, a certificate and its text where memory is refused.
 
+use crate::same::same;
 use gptp_certificate::{Certificate, CertificateFault, parse, print, write_certificate};
 use gptp_links::PcgFate;
 use gptp_network::{Document, DocumentFault, Snapshot};
@@ -31,11 +32,11 @@ port 0000000000000002 1 disabled
 end
 ";
 
-/// The document, asked for again where memory is refused, and whether it was.
-fn read(alloc: Global) -> Result<(Document, bool), DocumentFault> {
-    match Document::read(alloc, TWO.as_bytes()) {
+/// The document of a text, asked for again where memory is refused, and whether it was.
+fn read(alloc: Global, text: &[u8]) -> Result<(Document, bool), DocumentFault> {
+    match Document::read(alloc, text) {
         Ok(document) => Ok((document, false)),
-        Err(_) => Ok((Document::read(alloc, TWO.as_bytes())?, true)),
+        Err(_) => Ok((Document::read(alloc, text)?, true)),
     }
 }
 
@@ -98,24 +99,24 @@ fn tell(rt: &HostRuntime, call: &str, refused: bool) -> Result<(), Fail> {
 #[test]
 fn a_refused_allocation_leaves_the_network(rt: HostRuntime) -> Result<(), Fail> {
     let alloc = rt.alloc();
-    let (document, refused) = read(alloc)?;
+    let (document, refused) = read(alloc, TWO.as_bytes())?;
     tell(&rt, "read", refused)?;
     let (snapshot, refused) = look(alloc, &document)?;
     tell(&rt, "snapshot", refused)?;
-    assert_eq!(rt; (snapshot.systems(), snapshot.links()), (2, 1));
+    same(&rt, (snapshot.systems(), snapshot.links()), (2, 1));
     Ok(())
 }
 
 #[test]
 fn a_refused_allocation_leaves_the_certificate(rt: HostRuntime) -> Result<(), Fail> {
     let alloc = rt.alloc();
-    let (document, refused) = read(alloc)?;
+    let (document, refused) = read(alloc, TWO.as_bytes())?;
     tell(&rt, "read", refused)?;
     let (world, refused) = begin(alloc, &document)?;
     tell(&rt, "new", refused)?;
     let (certificate, refused) = certify(alloc, &world)?;
     tell(&rt, "write_certificate", refused)?;
-    assert_eq!(rt; certificate.len(), 2);
+    same(&rt, certificate.len(), 2);
     Ok(())
 }
 
@@ -126,7 +127,7 @@ fn a_refused_allocation_leaves_the_text_of_a_certificate(rt: HostRuntime) -> Res
     tell(&rt, "parse", refused)?;
     let (text, stood, refused) = spell(alloc, &certificate)?;
     tell(&rt, "print", refused)?;
-    assert_eq!(rt; stood, 0);
-    assert_eq!(rt; text.as_slice(), AT_FIRST.as_bytes());
+    same(&rt, stood, 0);
+    same(&rt, text.as_slice(), AT_FIRST.as_bytes());
     Ok(())
 }

@@ -9,6 +9,8 @@ mod certificate;
 #[cfg(test)]
 mod link;
 #[cfg(test)]
+mod same;
+#[cfg(test)]
 mod text;
 #[cfg(test)]
 mod world;

@@ -1,5 +1,6 @@
 //! What a link is where memory is refused.
 
+use crate::same::same;
 use gptp_links::{Bounds, Direction, Link, NotDue, PcgFate};
 use std::process::Abort;
 use std::test::Fail;
@@ -23,10 +24,10 @@ const FRAMES: [(u64, u64); 3] = [
 /// The link is up, and the oldest frame in flight from its end a, and in no other direction, is due then.
 fn assert_in_flight(rt: &impl Abort, link: &Link, due: Option<u64>) {
     assert!(rt; link.is_up());
-    assert_eq!(rt; link.bounds(), BOUNDS);
-    assert_eq!(rt; link.next_due(Direction::FromA), due);
-    assert_eq!(rt; link.front(Direction::FromA).is_some(), due.is_some());
-    assert_eq!(rt; link.next_due(Direction::FromB), None);
+    same(rt, link.bounds(), BOUNDS);
+    same(rt, link.next_due(Direction::FromA), due);
+    same(rt, link.front(Direction::FromA).is_some(), due.is_some());
+    same(rt, link.next_due(Direction::FromB), None);
 }
 
 #[test]
@@ -46,7 +47,7 @@ fn a_refused_allocation_leaves_the_link(rt: HostRuntime) -> Result<(), Fail> {
                 link.send(Direction::FromA, Vec::new(alloc), now, &mut fate)?
             }
         };
-        assert_eq!(rt; due, Some(want));
+        same(&rt, due, Some(want));
         oldest = oldest.or(due);
         assert_in_flight(&rt, &link, oldest);
     }
@@ -57,9 +58,10 @@ fn a_refused_allocation_leaves_the_link(rt: HostRuntime) -> Result<(), Fail> {
     }
     assert_in_flight(&rt, &link, oldest);
     for (_, due) in FRAMES {
-        assert_eq!(rt;
+        same(
+            &rt,
             link.deliver(Direction::FromA, 0).err(),
-            Some(NotDue::NotDue)
+            Some(NotDue::NotDue),
         );
         assert!(rt; link.deliver(Direction::FromA, due)?.is_empty());
     }

@@ -1,5 +1,6 @@
 //! What a text is where memory for one more message is refused.
 
+use crate::same::same;
 use gptp_messages::{AnnounceBody, Head, Message, decode, encode, encode_announce};
 use gptp_vector::{Identity, PortId, Trace};
 use std::process::Abort;
@@ -15,11 +16,11 @@ fn frame() -> [u8; 68] {
 
 /// The text is 1, 2, 3 and so many times that Announce.
 fn assert_announces(rt: &impl Abort, text: &[u8], count: usize) {
-    assert_eq!(rt; text.get(..3), Some([1, 2, 3].as_slice()));
+    same(rt, text.get(..3), Some([1, 2, 3].as_slice()));
     let announces = text.get(3..).unwrap_or_default();
-    assert_eq!(rt; announces.chunks(68).count(), count);
+    same(rt, announces.chunks(68).count(), count);
     for announce in announces.chunks(68) {
-        assert_eq!(rt; announce, frame().as_slice());
+        same(rt, announce, frame().as_slice());
     }
 }
 

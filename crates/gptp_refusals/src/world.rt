@@ -1,7 +1,9 @@
 //! What a world is where memory is refused. Times are in ns.
 
+use crate::same::same;
 use gptp_links::{Direction, PcgFate};
-use gptp_vector::{ClockId, Identity, PortId};
+use gptp_samples::{identity, port};
+use gptp_vector::{ClockId, Identity};
 use gptp_world::{Act, Network, NetworkFault, Params, Timed, World};
 use std::alloc::Global;
 use std::test::Fail;
@@ -21,30 +23,12 @@ const PARAMS: Params = Params {
 /// When the second system follows the first.
 const SETTLED: u64 = 10_000_000_000;
 
-/// The clock with this number.
-fn clock(number: u8) -> ClockId {
-    ClockId::of_octets([0, 0, 0, 0, 0, 0, 0, number])
-}
-
-/// The identity with this clock; of two such the lesser clock is the better.
-fn identity(number: u8) -> Identity {
-    Identity::of_octets([246, 248, 254, 0x43, 0x6a, 248, 0, 0, 0, 0, 0, 0, 0, number])
-}
-
-/// The first port of the system with this clock.
-fn port(number: u8) -> PortId {
-    PortId {
-        clock: clock(number),
-        port: 1,
-    }
-}
-
 /// Two systems, whose first ports a link joins; each frame takes 500 ns.
 fn two(alloc: Global) -> Result<Network, NetworkFault> {
     let mut network = Network::new(alloc, PARAMS)?;
-    network.add_system(identity(1), 1, 0, 0)?;
-    network.add_system(identity(2), 1, 0, 0)?;
-    network.add_link(port(1), port(2), 500, 500, 0, true)?;
+    network.add_system(identity(246, 1), 1, 0, 0)?;
+    network.add_system(identity(246, 2), 1, 0, 0)?;
+    network.add_link(port(1, 1), port(2, 1), 500, 500, 0, true)?;
     Ok(network)
 }
 
@@ -61,8 +45,8 @@ fn look_at(world: &World<PcgFate>) -> Shown {
     Shown {
         now: world.now(),
         next: world.next(),
-        first: world.follows(clock(1)),
-        second: world.follows(clock(2)),
+        first: world.follows(ClockId::from(1)),
+        second: world.follows(ClockId::from(2)),
     }
 }
 
@@ -98,18 +82,19 @@ fn a_refused_allocation_leaves_the_world(rt: HostRuntime) -> Result<(), Fail> {
         let before = look_at(&world);
         if !do_next(&mut world) {
             println!(rt; "refused: act")?;
-            assert_eq!(rt; look_at(&world), before);
+            same(&rt, look_at(&world), before);
             assert!(rt; do_next(&mut world));
         }
     }
     if world.advance(SETTLED).is_err() {
         println!(rt; "refused: advance")?;
         assert!(rt; world.now() <= SETTLED);
-        assert_eq!(rt; world.advance(SETTLED), Ok(()));
+        same(&rt, world.advance(SETTLED), Ok(()));
     }
     let after = look_at(&world);
-    assert_eq!(rt; after.now, SETTLED);
-    assert_eq!(rt;
+    same(&rt, after.now, SETTLED);
+    same(
+        &rt,
         after.next,
         Some(Timed {
             at: 10_000_000_500,
@@ -117,9 +102,9 @@ fn a_refused_allocation_leaves_the_world(rt: HostRuntime) -> Result<(), Fail> {
                 link: 0,
                 direction: Direction::FromA,
             },
-        })
+        }),
     );
-    assert_eq!(rt; after.first, Some((identity(1), 0, None)));
-    assert_eq!(rt; after.second, Some((identity(1), 1, Some(1))));
+    same(&rt, after.first, Some((identity(246, 1), 0, None)));
+    same(&rt, after.second, Some((identity(246, 1), 1, Some(1))));
     Ok(())
 }

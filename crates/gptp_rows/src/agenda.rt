@@ -1,5 +1,6 @@
 //! What an agenda holds, and in which order it gives it back.
 
+use crate::same::{same, same_at};
 use gptp_scheduler::Agenda;
 use std::test::Fail;
 
@@ -7,10 +8,10 @@ use std::test::Fail;
 fn entries_are_taken_by_time_then_by_number(rt: HostRuntime) -> Result<(), Fail> {
     let mut agenda = Agenda::new(rt.alloc());
     agenda.reserve(3)?;
-    assert_eq!(rt; agenda.next(), None);
-    assert_eq!(rt; agenda.put(5, 'a')?, 0);
-    assert_eq!(rt; agenda.put(3, 'b')?, 1);
-    assert_eq!(rt; agenda.put(5, 'c')?, 2);
+    same(&rt, agenda.next(), None);
+    same(&rt, agenda.put(5, 'a')?, 0);
+    same(&rt, agenda.put(3, 'b')?, 1);
+    same(&rt, agenda.put(5, 'c')?, 2);
     let rows = [
         (2, None),
         (4, Some((3, 1, 'b'))),
@@ -20,23 +21,23 @@ fn entries_are_taken_by_time_then_by_number(rt: HostRuntime) -> Result<(), Fail>
         (u64::MAX, None),
     ];
     for (now, want) in rows {
-        assert_eq!(rt; agenda.take_due(now), want, "at {now}");
+        same_at(&rt, &now, agenda.take_due(now), want);
     }
-    assert_eq!(rt; agenda.next(), None);
+    same(&rt, agenda.next(), None);
     Ok(())
 }
 
 #[test]
 fn what_is_put_in_the_past_comes_first(rt: HostRuntime) -> Result<(), Fail> {
     let mut agenda = Agenda::new(rt.alloc());
-    assert_eq!(rt; agenda.put(300, 'a')?, 0);
-    assert_eq!(rt; agenda.put(70_000, 'b')?, 1);
-    assert_eq!(rt; agenda.take_due(300), Some((300, 0, 'a')));
-    assert_eq!(rt; agenda.put(5, 'c')?, 2);
-    assert_eq!(rt; agenda.next(), Some((5, 2)));
-    assert_eq!(rt; agenda.take_due(70_000), Some((5, 2, 'c')));
-    assert_eq!(rt; agenda.take_due(70_000), Some((70_000, 1, 'b')));
-    assert_eq!(rt; agenda.cancel(1), None);
+    same(&rt, agenda.put(300, 'a')?, 0);
+    same(&rt, agenda.put(70_000, 'b')?, 1);
+    same(&rt, agenda.take_due(300), Some((300, 0, 'a')));
+    same(&rt, agenda.put(5, 'c')?, 2);
+    same(&rt, agenda.next(), Some((5, 2)));
+    same(&rt, agenda.take_due(70_000), Some((5, 2, 'c')));
+    same(&rt, agenda.take_due(70_000), Some((70_000, 1, 'b')));
+    same(&rt, agenda.cancel(1), None);
     Ok(())
 }
 
@@ -46,17 +47,17 @@ fn a_cancelled_entry_is_gone(rt: HostRuntime) -> Result<(), Fail> {
     for (time, item) in [(7, 'a'), (7, 'b'), (1, 'c'), (9, 'd')] {
         agenda.put(time, item)?;
     }
-    assert_eq!(rt; agenda.cancel(1), Some('b'));
-    assert_eq!(rt; agenda.cancel(1), None);
-    assert_eq!(rt; agenda.cancel(4), None);
-    assert_eq!(rt; agenda.cancel(u64::MAX), None);
-    assert_eq!(rt; agenda.cancel(2), Some('c'));
-    assert_eq!(rt; agenda.next(), Some((7, 0)));
-    assert_eq!(rt; agenda.put(7, 'e')?, 4);
-    assert_eq!(rt; agenda.take_due(9), Some((7, 0, 'a')));
-    assert_eq!(rt; agenda.take_due(9), Some((7, 4, 'e')));
-    assert_eq!(rt; agenda.take_due(9), Some((9, 3, 'd')));
-    assert_eq!(rt; agenda.take_due(9), None);
+    same(&rt, agenda.cancel(1), Some('b'));
+    same(&rt, agenda.cancel(1), None);
+    same(&rt, agenda.cancel(4), None);
+    same(&rt, agenda.cancel(u64::MAX), None);
+    same(&rt, agenda.cancel(2), Some('c'));
+    same(&rt, agenda.next(), Some((7, 0)));
+    same(&rt, agenda.put(7, 'e')?, 4);
+    same(&rt, agenda.take_due(9), Some((7, 0, 'a')));
+    same(&rt, agenda.take_due(9), Some((7, 4, 'e')));
+    same(&rt, agenda.take_due(9), Some((9, 3, 'd')));
+    same(&rt, agenda.take_due(9), None);
     agenda.numbers_rise();
     Ok(())
 }
@@ -64,13 +65,13 @@ fn a_cancelled_entry_is_gone(rt: HostRuntime) -> Result<(), Fail> {
 #[test]
 fn the_last_moment_is_a_time_too(rt: HostRuntime) -> Result<(), Fail> {
     let mut agenda = Agenda::new(rt.alloc());
-    assert_eq!(rt; agenda.put(u64::MAX, 'a')?, 0);
-    assert_eq!(rt; agenda.put(0, 'b')?, 1);
-    assert_eq!(rt; agenda.next(), Some((0, 1)));
-    assert_eq!(rt; agenda.cancel(1), Some('b'));
-    assert_eq!(rt; agenda.next(), Some((u64::MAX, 0)));
-    assert_eq!(rt; agenda.take_due(u64::MAX - 1), None);
-    assert_eq!(rt; agenda.take_due(u64::MAX), Some((u64::MAX, 0, 'a')));
+    same(&rt, agenda.put(u64::MAX, 'a')?, 0);
+    same(&rt, agenda.put(0, 'b')?, 1);
+    same(&rt, agenda.next(), Some((0, 1)));
+    same(&rt, agenda.cancel(1), Some('b'));
+    same(&rt, agenda.next(), Some((u64::MAX, 0)));
+    same(&rt, agenda.take_due(u64::MAX - 1), None);
+    same(&rt, agenda.take_due(u64::MAX), Some((u64::MAX, 0, 'a')));
     Ok(())
 }
 
@@ -85,17 +86,18 @@ fn room_is_made_or_refused(rt: HostRuntime) -> Result<(), Fail> {
         (1 << 60, false),
         (usize::MAX, false),
     ] {
-        assert_eq!(rt; agenda.reserve(more).is_ok(), want, "{more} more");
+        same_at(&rt, &more, agenda.reserve(more).is_ok(), want);
     }
     for place in 0_u64..500 {
-        assert_eq!(rt; agenda.put(1_000 - place, place)?, place);
+        same(&rt, agenda.put(1_000 - place, place)?, place);
     }
     for place in 0_u64..500 {
-        assert_eq!(rt;
+        same(
+            &rt,
             agenda.take_due(1_000),
-            Some((501 + place, 499 - place, 499 - place))
+            Some((501 + place, 499 - place, 499 - place)),
         );
     }
-    assert_eq!(rt; agenda.take_due(u64::MAX), None);
+    same(&rt, agenda.take_due(u64::MAX), None);
     Ok(())
 }

@@ -1,6 +1,7 @@
 //! What a Sync and its Follow_Up say together, what a bridge sends on and what a slave reads, in units of
 //! 2^-16 ns. Expected numbers were worked out apart from the code.
 
+use crate::same::{same, same_at};
 use gptp_correction::{Hop, SyncIn, SyncInfo, carry, laws, receipt_time, relay};
 use gptp_messages::{FollowUp, Head, Message, encode};
 use gptp_samples::{head, port};
@@ -67,22 +68,23 @@ fn a_follow_up_of_the_sync_is_read_with_it(rt: HostRuntime) -> Result<(), Fail> 
         let Some(known) = kept.on_follow_up(&follow_up(port(1, 2), 3)?) else {
             return Err(Fail::from("the Follow_Up is of the Sync"));
         };
-        assert_eq!(rt; known, sync(-5, 7, 40)?);
+        same(&rt, known, sync(-5, 7, 40)?);
     }
     kept.on_sync(port(1, 2), 4, time(50)?);
-    assert_eq!(rt; kept.on_follow_up(&follow_up(port(1, 2), 3)?), None);
-    assert_eq!(rt;
+    same(&rt, kept.on_follow_up(&follow_up(port(1, 2), 3)?), None);
+    same(
+        &rt,
         kept.on_follow_up(&follow_up(port(1, 2), 4)?),
-        Some(sync(-5, 7, 50)?)
+        Some(sync(-5, 7, 50)?),
     );
     Ok(())
 }
 
 #[test]
 fn another_follow_up_is_not(rt: HostRuntime) -> Result<(), Fail> {
-    assert_eq!(rt; SyncIn::new(), SyncIn::default());
+    same(&rt, SyncIn::new(), SyncIn::default());
     let mut kept = SyncIn::new();
-    assert_eq!(rt; kept.on_follow_up(&follow_up(port(1, 2), 3)?), None);
+    same(&rt, kept.on_follow_up(&follow_up(port(1, 2), 3)?), None);
     kept.on_sync(port(1, 2), 3, time(40)?);
     let before = kept;
     let others = [
@@ -91,16 +93,17 @@ fn another_follow_up_is_not(rt: HostRuntime) -> Result<(), Fail> {
         ("another clock", port(2, 2), 3),
     ];
     for (what, source, sequence) in others {
-        assert_eq!(rt;
+        same_at(
+            &rt,
+            &what,
             kept.on_follow_up(&follow_up(source, sequence)?),
             None,
-            "{what}"
         );
-        assert_eq!(rt; kept, before, "{what}");
+        same_at(&rt, &what, kept, before);
     }
     kept.clear();
-    assert_eq!(rt; kept, SyncIn::new());
-    assert_eq!(rt; kept.on_follow_up(&follow_up(port(1, 2), 3)?), None);
+    same(&rt, kept, SyncIn::new());
+    same(&rt, kept.on_follow_up(&follow_up(port(1, 2), 3)?), None);
     Ok(())
 }
 
@@ -143,9 +146,9 @@ fn a_bridge_adds_its_link_and_its_residence(rt: HostRuntime) -> Result<(), Fail>
         let Ok(sent) = relay(&sync, hop.delay, hop.neighbour, hop.egress) else {
             return Err(Fail::from("every number fits"));
         };
-        assert_eq!(rt; sent.origin, sync.origin, "{what}");
-        assert_eq!(rt; sent.correction.value(), want, "{what}");
-        assert_eq!(rt; sent.rate.q(), want_rate, "{what}");
+        same_at(&rt, &what, sent.origin, sync.origin);
+        same_at(&rt, &what, sent.correction.value(), want);
+        same_at(&rt, &what, sent.rate.q(), want_rate);
     }
     Ok(())
 }
@@ -167,7 +170,7 @@ fn the_correction_stands_in_the_follow_up(rt: HostRuntime) -> Result<(), Fail> {
     let mut frame = Vec::new(rt.alloc());
     encode(&Message::FollowUp(follow_up), &mut frame)?;
     let octets = [0x00, 0x00, 0x00, 0x00, 0x15, 0x7c, 0x00, 0x00];
-    assert_eq!(rt; &frame[8..16], octets.as_slice());
+    same(&rt, &frame[8..16], octets.as_slice());
     Ok(())
 }
 
@@ -185,7 +188,7 @@ fn a_bridge_refuses_what_does_not_fit(rt: HostRuntime) -> Result<(), Fail> {
     for (what, correction, rate, way) in cases {
         let (sync, hop) = (sync(correction, rate, way.2)?, hop(way)?);
         let sent = relay(&sync, hop.delay, hop.neighbour, hop.egress);
-        assert_eq!(rt; sent, Err(OutOfRange::OutOfRange), "{what}");
+        same_at(&rt, &what, sent, Err(OutOfRange::OutOfRange));
     }
     Ok(())
 }
@@ -212,7 +215,7 @@ fn a_slave_adds_its_link(rt: HostRuntime) -> Result<(), Fail> {
     for (what, correction, rate, delay, neighbour, want) in cases {
         let sync = sync(correction, rate, -END)?;
         let receipt = receipt_time(&sync, time(delay)?, Rate::new(neighbour));
-        assert_eq!(rt; number(receipt), want, "{what}");
+        same_at(&rt, &what, number(receipt), want);
     }
     Ok(())
 }
@@ -290,16 +293,17 @@ fn time_is_carried_over_hops(rt: HostRuntime) -> Result<(), Fail> {
     ];
     for (what, origin, first, second, slave, want) in cases {
         let hops = [hop(first)?, hop(second)?, hop(slave)?];
-        assert_eq!(rt; number(carry(time(origin)?, &hops)), want, "{what}");
+        same_at(&rt, &what, number(carry(time(origin)?, &hops)), want);
     }
     let bridge = hop((500 * NS, 0, 1_500 * NS, 6_500 * NS))?;
     let slave = hop((300 * NS, 0, 0, 0))?;
-    assert_eq!(rt;
+    same(
+        &rt,
         number(carry(time(0)?, &[bridge, slave])),
-        Some(380_108_800)
+        Some(380_108_800),
     );
-    assert_eq!(rt; number(carry(time(0)?, &[slave])), Some(300 * NS));
-    assert_eq!(rt; number(carry(time(-7)?, &[])), Some(-7));
+    same(&rt, number(carry(time(0)?, &[slave])), Some(300 * NS));
+    same(&rt, number(carry(time(-7)?, &[])), Some(-7));
     Ok(())
 }
 

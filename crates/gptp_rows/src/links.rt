@@ -1,7 +1,11 @@
 //! What links do to frames, and what fates draw.
 
+ghost use Rattle.std.specs.Prelude.{◌≡◌, ◌≤◌, ◌^◌, true};
+
+use crate::same::{same, same_at};
 use gptp_links::{Bounds, Direction, Fate, Link, ListFate, NotDue, PcgFate, draws_join};
 use std::alloc::{AllocError, Global};
+use std::process::Abort;
 use std::test::Fail;
 
 /// A list of fates.
@@ -9,9 +13,37 @@ fn fates(alloc: Global, answers: &[Option<u64>]) -> Result<ListFate, AllocError>
     Ok(ListFate::new(answers.to_vec(alloc)?))
 }
 
-/// A frame of these octets.
-fn frame(alloc: Global, octets: &[u8]) -> Result<Vec<u8>, AllocError> {
-    octets.to_vec(alloc)
+/// When a frame of these octets is due that is sent then; not if it is lost.
+fn sent(
+    alloc: Global,
+    link: &mut Link,
+    fate: &mut ListFate,
+    direction: Direction,
+    octets: &[u8],
+    now: u64,
+) -> Result<Option<u64>, AllocError>
+    requires up { link.old.up ≡ true }
+    requires early { now ≤ 10 ^ 15 }
+    ensures { link.new.up ≡ true }
+{
+    let frame = octets.to_vec(alloc)?;
+    link.send(direction, frame, now, fate)
+}
+
+/// The frame that is taken off then has these octets, or there is none.
+fn assert_delivers(
+    rt: &impl Abort,
+    link: &mut Link,
+    direction: Direction,
+    now: u64,
+    want: Option<&[u8]>,
+)
+    ensures { link.new.up ≡ link.old.up }
+{
+    match link.deliver(direction, now) {
+        Ok(frame) => same(rt, Some(frame.as_slice()), want),
+        Err(NotDue::NotDue) => same(rt, None, want),
+    }
 }
 
 #[test]
@@ -27,40 +59,33 @@ fn no_frame_overtakes(rt: HostRuntime) -> Result<(), Fail> {
     let mut link = Link::new(alloc, bounds);
     assert!(rt; link.is_up());
     link.reserve(2)?;
-    assert_eq!(rt;
-        link.send(Direction::FromA, frame(alloc, &[1, 2])?, 0, &mut fate)?,
-        Some(500)
+    same(
+        &rt,
+        sent(alloc, &mut link, &mut fate, Direction::FromA, &[1, 2], 0)?,
+        Some(500),
     );
-    assert_eq!(rt;
-        link.send(Direction::FromA, frame(alloc, &[3])?, 10, &mut fate)?,
-        Some(500)
+    same(
+        &rt,
+        sent(alloc, &mut link, &mut fate, Direction::FromA, &[3], 10)?,
+        Some(500),
     );
-    assert_eq!(rt; link.next_due(Direction::FromA), Some(500));
-    assert_eq!(rt; link.next_due(Direction::FromB), None);
-    assert_eq!(rt; link.front(Direction::FromA), Some([1, 2].as_slice()));
-    assert_eq!(rt; link.front(Direction::FromB), None);
+    same(&rt, link.next_due(Direction::FromA), Some(500));
+    same(&rt, link.next_due(Direction::FromB), None);
+    same(&rt, link.front(Direction::FromA), Some([1, 2].as_slice()));
+    same(&rt, link.front(Direction::FromB), None);
     link.due_in_order();
-    assert_eq!(rt;
-        link.deliver(Direction::FromA, 499).err(),
-        Some(NotDue::NotDue)
+    assert_delivers(&rt, &mut link, Direction::FromA, 499, None);
+    assert_delivers(&rt, &mut link, Direction::FromB, 500, None);
+    assert_delivers(
+        &rt,
+        &mut link,
+        Direction::FromA,
+        500,
+        Some([1, 2].as_slice()),
     );
-    assert_eq!(rt;
-        link.deliver(Direction::FromB, 500).err(),
-        Some(NotDue::NotDue)
-    );
-    assert_eq!(rt;
-        link.deliver(Direction::FromA, 500)?.as_slice(),
-        [1, 2].as_slice()
-    );
-    assert_eq!(rt;
-        link.deliver(Direction::FromA, 500)?.as_slice(),
-        [3].as_slice()
-    );
-    assert_eq!(rt;
-        link.deliver(Direction::FromA, 500).err(),
-        Some(NotDue::NotDue)
-    );
-    assert_eq!(rt; NotDue::NotDue as u8, 1);
+    assert_delivers(&rt, &mut link, Direction::FromA, 500, Some([3].as_slice()));
+    assert_delivers(&rt, &mut link, Direction::FromA, 500, None);
+    same(&rt, NotDue::NotDue as u8, 1);
     Ok(())
 }
 
@@ -75,23 +100,19 @@ fn directions_are_apart(rt: HostRuntime) -> Result<(), Fail> {
         loss: 0,
     };
     let mut link = Link::new(alloc, bounds);
-    assert_eq!(rt;
-        link.send(Direction::FromA, frame(alloc, &[1])?, 0, &mut fate)?,
-        Some(400)
+    same(
+        &rt,
+        sent(alloc, &mut link, &mut fate, Direction::FromA, &[1], 0)?,
+        Some(400),
     );
-    assert_eq!(rt;
-        link.send(Direction::FromB, frame(alloc, &[2])?, 0, &mut fate)?,
-        Some(200)
+    same(
+        &rt,
+        sent(alloc, &mut link, &mut fate, Direction::FromB, &[2], 0)?,
+        Some(200),
     );
-    assert_eq!(rt; link.next_due(Direction::FromB), Some(200));
-    assert_eq!(rt;
-        link.deliver(Direction::FromB, 400)?.as_slice(),
-        [2].as_slice()
-    );
-    assert_eq!(rt;
-        link.deliver(Direction::FromA, 400)?.as_slice(),
-        [1].as_slice()
-    );
+    same(&rt, link.next_due(Direction::FromB), Some(200));
+    assert_delivers(&rt, &mut link, Direction::FromB, 400, Some([2].as_slice()));
+    assert_delivers(&rt, &mut link, Direction::FromA, 400, Some([1].as_slice()));
     Ok(())
 }
 
@@ -106,29 +127,29 @@ fn a_link_taken_down_loses_what_is_in_flight(rt: HostRuntime) -> Result<(), Fail
         loss: 0,
     };
     let mut link = Link::new(alloc, bounds);
-    assert_eq!(rt;
-        link.send(Direction::FromA, frame(alloc, &[1])?, 0, &mut fate)?,
-        Some(7)
+    same(
+        &rt,
+        sent(alloc, &mut link, &mut fate, Direction::FromA, &[1], 0)?,
+        Some(7),
     );
-    assert_eq!(rt;
-        link.send(Direction::FromB, frame(alloc, &[2])?, 1, &mut fate)?,
-        Some(8)
+    same(
+        &rt,
+        sent(alloc, &mut link, &mut fate, Direction::FromB, &[2], 1)?,
+        Some(8),
     );
     link.down();
     assert!(rt; !link.is_up());
-    assert_eq!(rt; link.next_due(Direction::FromA), None);
-    assert_eq!(rt; link.next_due(Direction::FromB), None);
-    assert_eq!(rt;
-        link.deliver(Direction::FromA, 1_000).err(),
-        Some(NotDue::NotDue)
-    );
+    same(&rt, link.next_due(Direction::FromA), None);
+    same(&rt, link.next_due(Direction::FromB), None);
+    assert_delivers(&rt, &mut link, Direction::FromA, 1_000, None);
     link.up();
     assert!(rt; link.is_up());
-    assert_eq!(rt;
-        link.send(Direction::FromA, frame(alloc, &[3])?, 2, &mut fate)?,
-        Some(9)
+    same(
+        &rt,
+        sent(alloc, &mut link, &mut fate, Direction::FromA, &[3], 2)?,
+        Some(9),
     );
-    assert_eq!(rt; link.bounds(), bounds);
+    same(&rt, link.bounds(), bounds);
     Ok(())
 }
 
@@ -145,9 +166,10 @@ fn new_bounds_hold_for_what_is_sent_later(rt: HostRuntime) -> Result<(), Fail> {
             loss: 0,
         },
     );
-    assert_eq!(rt;
-        link.send(Direction::FromA, frame(alloc, &[1])?, 0, &mut fate)?,
-        Some(500)
+    same(
+        &rt,
+        sent(alloc, &mut link, &mut fate, Direction::FromA, &[1], 0)?,
+        Some(500),
     );
     link.set(Bounds {
         link: 0,
@@ -155,14 +177,16 @@ fn new_bounds_hold_for_what_is_sent_later(rt: HostRuntime) -> Result<(), Fail> {
         max: 20,
         loss: 0,
     });
-    assert_eq!(rt; link.next_due(Direction::FromA), Some(500));
-    assert_eq!(rt;
-        link.send(Direction::FromA, frame(alloc, &[2])?, 0, &mut fate)?,
-        Some(500)
+    same(&rt, link.next_due(Direction::FromA), Some(500));
+    same(
+        &rt,
+        sent(alloc, &mut link, &mut fate, Direction::FromA, &[2], 0)?,
+        Some(500),
     );
-    assert_eq!(rt;
-        link.send(Direction::FromA, frame(alloc, &[3])?, 490, &mut fate)?,
-        Some(510)
+    same(
+        &rt,
+        sent(alloc, &mut link, &mut fate, Direction::FromA, &[3], 490)?,
+        Some(510),
     );
     Ok(())
 }
@@ -189,8 +213,8 @@ fn a_list_gives_lawful_answers(rt: HostRuntime) -> Result<(), Fail> {
             loss,
         };
         let mut fate = fates(rt.alloc(), &[listed])?;
-        assert_eq!(rt; fate.fate(&bounds, 0), want, "{listed:?} with loss {loss}");
-        assert_eq!(rt; fate.fate(&bounds, 0), Some(500), "after {listed:?}");
+        same_at(&rt, &(listed, loss), fate.fate(&bounds, 0), want);
+        same_at(&rt, &("after", listed), fate.fate(&bounds, 0), Some(500));
     }
     Ok(())
 }
@@ -208,16 +232,18 @@ fn a_lost_frame_is_not_queued(rt: HostRuntime) -> Result<(), Fail> {
             loss: 500,
         },
     );
-    assert_eq!(rt;
-        link.send(Direction::FromA, frame(alloc, &[1])?, 0, &mut fate)?,
-        None
+    same(
+        &rt,
+        sent(alloc, &mut link, &mut fate, Direction::FromA, &[1], 0)?,
+        None,
     );
-    assert_eq!(rt; link.next_due(Direction::FromA), None);
-    assert_eq!(rt;
-        link.send(Direction::FromA, frame(alloc, &[2])?, 0, &mut fate)?,
-        Some(5)
+    same(&rt, link.next_due(Direction::FromA), None);
+    same(
+        &rt,
+        sent(alloc, &mut link, &mut fate, Direction::FromA, &[2], 0)?,
+        Some(5),
     );
-    assert_eq!(rt; link.front(Direction::FromA), Some([2].as_slice()));
+    same(&rt, link.front(Direction::FromA), Some([2].as_slice()));
     draws_join::<ListFate>();
     Ok(())
 }
@@ -241,15 +267,23 @@ fn room_is_made_or_refused(rt: HostRuntime) -> Result<(), Fail> {
         (1 << 60, false),
         (usize::MAX, false),
     ] {
-        assert_eq!(rt; link.reserve(more).is_ok(), want, "{more} more");
+        same_at(&rt, &more, link.reserve(more).is_ok(), want);
     }
     link.up();
     let mut fate = fates(alloc, &[])?;
-    assert_eq!(rt;
-        link.send(Direction::FromA, frame(alloc, &[0; 2_116])?, 0, &mut fate)?,
-        Some(1)
+    same(
+        &rt,
+        sent(
+            alloc,
+            &mut link,
+            &mut fate,
+            Direction::FromA,
+            &[0; 2_116],
+            0,
+        )?,
+        Some(1),
     );
-    assert_eq!(rt; link.deliver(Direction::FromA, 1)?.len(), 2_116);
+    same(&rt, link.deliver(Direction::FromA, 1)?.len(), 2_116);
     Ok(())
 }
 
@@ -281,7 +315,7 @@ fn delays_are_the_words_of_the_generator(rt: HostRuntime) {
     for (seed, wants) in rows {
         let mut fate = PcgFate::new(seed);
         for want in wants {
-            assert_eq!(rt; fate.fate(&bounds, 0), Some(want), "seed {seed}");
+            same_at(&rt, &("seed", seed), fate.fate(&bounds, 0), Some(want));
         }
     }
 }
@@ -315,7 +349,7 @@ fn losses_take_a_word_each(rt: HostRuntime) {
     for (seed, wants) in rows {
         let mut fate = PcgFate::new(seed);
         for want in wants {
-            assert_eq!(rt; fate.fate(&bounds, 0), want, "seed {seed}");
+            same_at(&rt, &("seed", seed), fate.fate(&bounds, 0), want);
         }
     }
 }
@@ -336,7 +370,7 @@ fn one_delay_takes_no_word(rt: HostRuntime) {
     for (seed, wants) in rows {
         let mut fate = PcgFate::new(seed);
         for want in wants {
-            assert_eq!(rt; fate.fate(&bounds, 0), want, "seed {seed}");
+            same_at(&rt, &("seed", seed), fate.fate(&bounds, 0), want);
         }
     }
 }

@@ -1,5 +1,6 @@
 //! What port 1 of clock 1 measures with port 1 of clock 2. Times are in units of 2^-16 ns.
 
+use crate::same::{same, same_at};
 use gptp_messages::{Head, PdelayResp, PdelayRespFollowUp};
 use gptp_pdelay::{Answer, Peer, Step, laws};
 use gptp_samples::{head, port};
@@ -92,7 +93,7 @@ fn exchanges(rt: &impl Abort, peer: &mut Peer, times: [i128; 4]) -> Result<Step,
     let [t1, t2, t3, t4] = times;
     let sequence = requests(rt, peer, t1)?;
     let response = response(neighbor(), sequence, t2, own())?;
-    assert_eq!(rt; hears(rt, peer, &response, t4)?, Step::Recorded);
+    same(rt, hears(rt, peer, &response, t4)?, Step::Recorded);
     Ok(peer.on_follow_up(&follow_up(neighbor(), sequence, t3, own())?))
 }
 
@@ -106,8 +107,8 @@ fn measuring(delay: u32, begins: u32) -> [i128; 4] {
 /// A port that is capable, and may lose this many requests in a row.
 fn capable(rt: &impl Abort, lost: u8) -> Result<Peer, Fail> {
     let mut peer = Peer::new(own(), THRESHOLD, lost);
-    assert_eq!(rt; exchanges(rt, &mut peer, measuring(65_536, 0))?, FIRST);
-    assert_eq!(rt; exchanges(rt, &mut peer, measuring(65_536, 9))?, CHANGED);
+    same(rt, exchanges(rt, &mut peer, measuring(65_536, 0))?, FIRST);
+    same(rt, exchanges(rt, &mut peer, measuring(65_536, 9))?, CHANGED);
     assert!(rt; peer.capable());
     Ok(peer)
 }
@@ -140,10 +141,10 @@ fn the_delay_is_half_of_what_is_left(rt: HostRuntime) -> Result<(), Fail> {
     ];
     for (what, times, want) in cases {
         let mut peer = Peer::new(own(), THRESHOLD, 9);
-        assert_eq!(rt; delay(&peer), None, "{what}");
-        assert_eq!(rt; exchanges(&rt, &mut peer, times)?, FIRST, "{what}");
-        assert_eq!(rt; delay(&peer), Some(want), "{what}");
-        assert_eq!(rt; peer.rate().q(), 0, "{what}");
+        same_at(&rt, &what, delay(&peer), None);
+        same_at(&rt, &what, exchanges(&rt, &mut peer, times)?, FIRST);
+        same_at(&rt, &what, delay(&peer), Some(want));
+        same_at(&rt, &what, peer.rate().q(), 0);
         assert!(rt; !peer.capable(), "{what}");
     }
     Ok(())
@@ -163,7 +164,7 @@ fn the_rate_is_that_of_the_last_two_exchanges(rt: HostRuntime) -> Result<(), Fai
         let (t3, t4) = (100_000 + i128::from(e3), 100_000 + i128::from(e4));
         exchanges(&rt, &mut peer, [100_000, 100_000, 100_000, 100_000])?;
         exchanges(&rt, &mut peer, [100_000, 100_000, t3, t4])?;
-        assert_eq!(rt; peer.rate().q(), want, "{what}");
+        same_at(&rt, &what, peer.rate().q(), want);
     }
     Ok(())
 }
@@ -173,8 +174,8 @@ fn the_delay_counts_the_rate_with_its_own_exchange(rt: HostRuntime) -> Result<()
     let mut peer = Peer::new(own(), THRESHOLD, 9);
     exchanges(&rt, &mut peer, [100_000, 100_000, 100_000, 100_000])?;
     exchanges(&rt, &mut peer, [90_000, 110_000, 110_001, 110_000])?;
-    assert_eq!(rt; peer.rate().q(), 219_902_325);
-    assert_eq!(rt; delay(&peer), Some(10_000));
+    same(&rt, peer.rate().q(), 219_902_325);
+    same(&rt, delay(&peer), Some(10_000));
     Ok(())
 }
 
@@ -197,10 +198,10 @@ fn the_threshold_decides_from_the_second_exchange_on(rt: HostRuntime) -> Result<
     ];
     for (what, measured, begins, step, capable) in cases {
         let times = measuring(measured, begins);
-        assert_eq!(rt; exchanges(&rt, &mut peer, times)?, step, "{what}");
-        assert_eq!(rt; delay(&peer), Some(i128::from(measured)), "{what}");
-        assert_eq!(rt; peer.rate().q(), 0, "{what}");
-        assert_eq!(rt; peer.capable(), capable, "{what}");
+        same_at(&rt, &what, exchanges(&rt, &mut peer, times)?, step);
+        same_at(&rt, &what, delay(&peer), Some(i128::from(measured)));
+        same_at(&rt, &what, peer.rate().q(), 0);
+        same_at(&rt, &what, peer.capable(), capable);
     }
     Ok(())
 }
@@ -211,15 +212,23 @@ fn too_many_lost_requests_in_a_row_reset(rt: HostRuntime) -> Result<(), Fail> {
     requests(&rt, &mut peer, 50 * NS)?;
     assert!(rt; !peer.on_interval());
     assert!(rt; peer.capable());
-    assert_eq!(rt; delay(&peer), Some(NS));
+    same(&rt, delay(&peer), Some(NS));
     requests(&rt, &mut peer, 60 * NS)?;
     assert!(rt; peer.on_interval());
     assert!(rt; !peer.capable());
-    assert_eq!(rt; delay(&peer), None);
-    assert_eq!(rt; peer.rate().q(), 0);
+    same(&rt, delay(&peer), None);
+    same(&rt, peer.rate().q(), 0);
 
-    assert_eq!(rt; exchanges(&rt, &mut peer, measuring(65_536, 70))?, FIRST);
-    assert_eq!(rt; exchanges(&rt, &mut peer, measuring(65_536, 80))?, CHANGED);
+    same(
+        &rt,
+        exchanges(&rt, &mut peer, measuring(65_536, 70))?,
+        FIRST,
+    );
+    same(
+        &rt,
+        exchanges(&rt, &mut peer, measuring(65_536, 80))?,
+        CHANGED,
+    );
     Ok(())
 }
 
@@ -229,9 +238,10 @@ fn an_exchange_ends_the_row_of_lost_requests(rt: HostRuntime) -> Result<(), Fail
     for begins in [50, 70, 90] {
         requests(&rt, &mut peer, 40 * NS)?;
         assert!(rt; !peer.on_interval());
-        assert_eq!(rt;
+        same(
+            &rt,
             exchanges(&rt, &mut peer, measuring(65_536, begins))?,
-            FIRST
+            FIRST,
         );
         assert!(rt; !peer.on_interval());
         assert!(rt; peer.capable());
@@ -250,28 +260,36 @@ fn a_response_that_is_not_awaited_is_ignored(rt: HostRuntime) -> Result<(), Fail
     let awaited = response(neighbor(), 0, 7, own())?;
     for (what, source, sequence, to) in cases {
         let mut peer = Peer::new(own(), THRESHOLD, 9);
-        assert_eq!(rt;
+        same_at(
+            &rt,
+            &what,
             hears(&rt, &mut peer, &awaited, 9)?,
             Step::Ignored,
-            "{what}"
         );
         requests(&rt, &mut peer, 0)?;
         let other = response(source, sequence, 7, to)?;
-        assert_eq!(rt; hears(&rt, &mut peer, &other, 8)?, Step::Ignored, "{what}");
-        assert_eq!(rt;
+        same_at(&rt, &what, hears(&rt, &mut peer, &other, 8)?, Step::Ignored);
+        same_at(
+            &rt,
+            &what,
             hears(&rt, &mut peer, &awaited, 9)?,
             Step::Recorded,
-            "{what}"
         );
         let again = response(neighbor(), 0, 1, own())?;
-        assert_eq!(rt; hears(&rt, &mut peer, &again, 99)?, Step::Ignored, "{what}");
+        same_at(
+            &rt,
+            &what,
+            hears(&rt, &mut peer, &again, 99)?,
+            Step::Ignored,
+        );
         let end = follow_up(neighbor(), 0, 7, own())?;
-        assert_eq!(rt; peer.on_follow_up(&end), FIRST, "{what}");
-        assert_eq!(rt; delay(&peer), Some(4), "{what}");
-        assert_eq!(rt;
+        same_at(&rt, &what, peer.on_follow_up(&end), FIRST);
+        same_at(&rt, &what, delay(&peer), Some(4));
+        same_at(
+            &rt,
+            &what,
             hears(&rt, &mut peer, &awaited, 9)?,
             Step::Ignored,
-            "{what}"
         );
     }
     Ok(())
@@ -289,18 +307,19 @@ fn a_follow_up_that_is_not_awaited_is_ignored(rt: HostRuntime) -> Result<(), Fai
     for (what, source, sequence, to) in cases {
         let mut peer = Peer::new(own(), THRESHOLD, 9);
         requests(&rt, &mut peer, 0)?;
-        assert_eq!(rt; peer.on_follow_up(&awaited), Step::Ignored, "{what}");
+        same_at(&rt, &what, peer.on_follow_up(&awaited), Step::Ignored);
         let response = response(neighbor(), 0, 7, own())?;
-        assert_eq!(rt;
+        same_at(
+            &rt,
+            &what,
             hears(&rt, &mut peer, &response, 9)?,
             Step::Recorded,
-            "{what}"
         );
         let other = follow_up(source, sequence, 1, to)?;
-        assert_eq!(rt; peer.on_follow_up(&other), Step::Ignored, "{what}");
-        assert_eq!(rt; delay(&peer), None, "{what}");
-        assert_eq!(rt; peer.on_follow_up(&awaited), FIRST, "{what}");
-        assert_eq!(rt; peer.on_follow_up(&awaited), Step::Ignored, "{what}");
+        same_at(&rt, &what, peer.on_follow_up(&other), Step::Ignored);
+        same_at(&rt, &what, delay(&peer), None);
+        same_at(&rt, &what, peer.on_follow_up(&awaited), FIRST);
+        same_at(&rt, &what, peer.on_follow_up(&awaited), Step::Ignored);
     }
     Ok(())
 }
@@ -309,9 +328,9 @@ fn a_follow_up_that_is_not_awaited_is_ignored(rt: HostRuntime) -> Result<(), Fai
 fn sequence_numbers_wrap(rt: HostRuntime) -> Result<(), Fail> {
     let mut peer = Peer::new(own(), THRESHOLD, 9);
     for want in 0..=u16::MAX {
-        assert_eq!(rt; requests(&rt, &mut peer, 0)?, want);
+        same(&rt, requests(&rt, &mut peer, 0)?, want);
     }
-    assert_eq!(rt; requests(&rt, &mut peer, 0)?, 0);
+    same(&rt, requests(&rt, &mut peer, 0)?, 0);
     Ok(())
 }
 
@@ -321,12 +340,16 @@ fn a_newer_request_replaces_one_that_is_open(rt: HostRuntime) -> Result<(), Fail
     let older = requests(&rt, &mut peer, 50 * NS)?;
     let newer = requests(&rt, &mut peer, 60 * NS)?;
     let late = response(neighbor(), older, 61 * NS, own())?;
-    assert_eq!(rt; hears(&rt, &mut peer, &late, 62 * NS)?, Step::Ignored);
+    same(&rt, hears(&rt, &mut peer, &late, 62 * NS)?, Step::Ignored);
     let response = response(neighbor(), newer, 61 * NS, own())?;
-    assert_eq!(rt; hears(&rt, &mut peer, &response, 62 * NS)?, Step::Recorded);
+    same(
+        &rt,
+        hears(&rt, &mut peer, &response, 62 * NS)?,
+        Step::Recorded,
+    );
     requests(&rt, &mut peer, 70 * NS)?;
     let end = follow_up(neighbor(), newer, 61 * NS, own())?;
-    assert_eq!(rt; peer.on_follow_up(&end), Step::Ignored);
+    same(&rt, peer.on_follow_up(&end), Step::Ignored);
     assert!(rt; !peer.on_interval());
     assert!(rt; peer.capable());
     Ok(())
@@ -339,24 +362,24 @@ fn a_reset_leaves_the_sequence_and_the_answer(rt: HostRuntime) -> Result<(), Fai
     requests(&rt, &mut peer, 50 * NS)?;
     peer.reset();
     assert!(rt; !peer.capable());
-    assert_eq!(rt; delay(&peer), None);
-    assert_eq!(rt; peer.rate().q(), 0);
+    same(&rt, delay(&peer), None);
+    same(&rt, peer.rate().q(), 0);
     assert!(rt; !peer.on_interval());
-    assert_eq!(rt; requests(&rt, &mut peer, 60 * NS)?, 3);
+    same(&rt, requests(&rt, &mut peer, 60 * NS)?, 3);
     let answer = Answer {
         requester: neighbor(),
         sequence: 77,
         t2: time(5)?,
     };
-    assert_eq!(rt; peer.take_response(), Some(answer));
-    assert_eq!(rt; peer.take_response(), None);
+    same(&rt, peer.take_response(), Some(answer));
+    same(&rt, peer.take_response(), None);
     Ok(())
 }
 
 #[test]
 fn the_newest_request_is_answered_once(rt: HostRuntime) -> Result<(), Fail> {
     let mut peer = Peer::new(own(), THRESHOLD, 9);
-    assert_eq!(rt; peer.take_response(), None);
+    same(&rt, peer.take_response(), None);
     peer.respond(port(3, 4), 1, time(5)?);
     peer.respond(neighbor(), 2, time(-6)?);
     let answer = Answer {
@@ -364,8 +387,8 @@ fn the_newest_request_is_answered_once(rt: HostRuntime) -> Result<(), Fail> {
         sequence: 2,
         t2: time(-6)?,
     };
-    assert_eq!(rt; peer.take_response(), Some(answer));
-    assert_eq!(rt; peer.take_response(), None);
+    same(&rt, peer.take_response(), Some(answer));
+    same(&rt, peer.take_response(), None);
     Ok(())
 }
 

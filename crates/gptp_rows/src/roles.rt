@@ -5,6 +5,7 @@ ghost use Rattle.std.specs.Option.{ForSome};
 ghost use Rattle.gptp_receipt.specs.Held.{received};
 ghost use Rattle.gptp_roles.specs.Choice.{IsPlaced};
 
+use crate::same::same;
 use gptp_receipt::Held;
 use gptp_roles::{
     Role, chosen_vector_is_one, one_slave_port, select, selection_is_at_rest, trace_of,
@@ -46,8 +47,8 @@ fn assert_mine(rt: &impl Abort, held: &Held, want_root: Identity, want_steps: u1
     let Held::Mine { root, steps } = held else {
         panic!(rt; "not Mine: {held:?}");
     };
-    assert_eq!(rt; *root, want_root);
-    assert_eq!(rt; *steps, want_steps);
+    same(rt, *root, want_root);
+    same(rt, *steps, want_steps);
 }
 
 #[test]
@@ -59,27 +60,37 @@ fn the_nearer_neighbour_is_followed(rt: HostRuntime) -> Result<(), Fail> {
         Held::Aged,
     ];
     let selected = select(&own, &mut held);
-    assert_eq!(rt; selected.root, root);
-    assert_eq!(rt; selected.steps, 1);
-    assert_eq!(rt; selected.slave, Some(1));
-    assert_eq!(rt;
+    same(&rt, selected.root, root);
+    same(&rt, selected.steps, 1);
+    same(&rt, selected.slave, Some(1));
+    same(
+        &rt,
         selected.roles.as_slice(),
-        [Role::Slave, Role::Passive, Role::Master].as_slice()
+        [Role::Slave, Role::Passive, Role::Master].as_slice(),
     );
-    assert_eq!(rt; selected.fresh.as_slice(), [false, false, true].as_slice());
+    same(
+        &rt,
+        selected.fresh.as_slice(),
+        [false, false, true].as_slice(),
+    );
     assert_mine(&rt, &held[2], root, 1);
     assert!(rt; matches!(held[0], Held::Received { .. }));
     assert!(rt; matches!(held[1], Held::Received { .. }));
     let trace = trace_of(ClockId::from(3), &held, &selected);
-    assert_eq!(rt;
+    same(
+        &rt,
         trace.as_slice(),
-        [ClockId::from(1), ClockId::from(3)].as_slice()
+        [ClockId::from(1), ClockId::from(3)].as_slice(),
     );
 
     let again = select(&own, &mut held);
-    assert_eq!(rt; again.slave, Some(1));
-    assert_eq!(rt; again.roles.as_slice(), selected.roles.as_slice());
-    assert_eq!(rt; again.fresh.as_slice(), [false, false, false].as_slice());
+    same(&rt, again.slave, Some(1));
+    same(&rt, again.roles.as_slice(), selected.roles.as_slice());
+    same(
+        &rt,
+        again.fresh.as_slice(),
+        [false, false, false].as_slice(),
+    );
     Ok(())
 }
 
@@ -87,13 +98,13 @@ fn the_nearer_neighbour_is_followed(rt: HostRuntime) -> Result<(), Fail> {
 fn a_system_without_ports_follows_itself(rt: HostRuntime) -> Result<(), Fail> {
     let own = identity(246, 3);
     let selected = select(&own, &mut []);
-    assert_eq!(rt; selected.root, own);
-    assert_eq!(rt; selected.steps, 0);
-    assert_eq!(rt; selected.slave, None);
+    same(&rt, selected.root, own);
+    same(&rt, selected.steps, 0);
+    same(&rt, selected.slave, None);
     assert!(rt; selected.roles.is_empty());
     assert!(rt; selected.fresh.is_empty());
     let trace = trace_of(ClockId::from(3), &[], &selected);
-    assert_eq!(rt; trace.as_slice(), [ClockId::from(3)].as_slice());
+    same(&rt, trace.as_slice(), [ClockId::from(3)].as_slice());
     Ok(())
 }
 
@@ -102,18 +113,20 @@ fn of_parallel_links_the_one_from_the_lower_port_is_followed(rt: HostRuntime) ->
     let (own, root) = (identity(246, 2), identity(246, 1));
     let mut straight = [heard(1, root, 0, (1, 1)), heard(2, root, 0, (1, 2))];
     let selected = select(&own, &mut straight);
-    assert_eq!(rt; selected.slave, Some(1));
-    assert_eq!(rt;
+    same(&rt, selected.slave, Some(1));
+    same(
+        &rt,
         selected.roles.as_slice(),
-        [Role::Slave, Role::Passive].as_slice()
+        [Role::Slave, Role::Passive].as_slice(),
     );
 
     let mut crossed = [heard(1, root, 0, (1, 2)), heard(2, root, 0, (1, 1))];
     let selected = select(&own, &mut crossed);
-    assert_eq!(rt; selected.slave, Some(2));
-    assert_eq!(rt;
+    same(&rt, selected.slave, Some(2));
+    same(
+        &rt,
         selected.roles.as_slice(),
-        [Role::Passive, Role::Slave].as_slice()
+        [Role::Passive, Role::Slave].as_slice(),
     );
     Ok(())
 }
@@ -123,10 +136,11 @@ fn a_lower_clock_goes_before_a_lower_port(rt: HostRuntime) -> Result<(), Fail> {
     let (own, root) = (identity(246, 4), identity(246, 1));
     let mut held = [heard(1, root, 1, (3, 1)), heard(2, root, 1, (2, 2))];
     let selected = select(&own, &mut held);
-    assert_eq!(rt; selected.slave, Some(2));
-    assert_eq!(rt;
+    same(&rt, selected.slave, Some(2));
+    same(
+        &rt,
         selected.roles.as_slice(),
-        [Role::Passive, Role::Slave].as_slice()
+        [Role::Passive, Role::Slave].as_slice(),
     );
     Ok(())
 }
@@ -136,13 +150,14 @@ fn what_is_worse_is_dropped_by_a_master_port(rt: HostRuntime) -> Result<(), Fail
     let own = identity(246, 1);
     let mut held = [heard(1, identity(246, 2), 0, (2, 1)), Held::Disabled];
     let selected = select(&own, &mut held);
-    assert_eq!(rt; selected.root, own);
-    assert_eq!(rt; selected.slave, None);
-    assert_eq!(rt;
+    same(&rt, selected.root, own);
+    same(&rt, selected.slave, None);
+    same(
+        &rt,
         selected.roles.as_slice(),
-        [Role::Master, Role::Disabled].as_slice()
+        [Role::Master, Role::Disabled].as_slice(),
     );
-    assert_eq!(rt; selected.fresh.as_slice(), [true, false].as_slice());
+    same(&rt, selected.fresh.as_slice(), [true, false].as_slice());
     assert_mine(&rt, &held[0], own, 0);
     assert!(rt; matches!(held[1], Held::Disabled));
     Ok(())
@@ -153,8 +168,8 @@ fn changed_steps_are_announced(rt: HostRuntime) -> Result<(), Fail> {
     let (own, root) = (identity(246, 3), identity(246, 1));
     let mut held = [heard(1, root, 4, (2, 1)), Held::Mine { root, steps: 1 }];
     let selected = select(&own, &mut held);
-    assert_eq!(rt; selected.steps, 5);
-    assert_eq!(rt; selected.fresh.as_slice(), [false, true].as_slice());
+    same(&rt, selected.steps, 5);
+    same(&rt, selected.fresh.as_slice(), [false, true].as_slice());
     assert_mine(&rt, &held[1], root, 5);
     Ok(())
 }
@@ -164,9 +179,9 @@ fn a_root_that_is_not_capable_is_followed_too(rt: HostRuntime) -> Result<(), Fai
     let (own, root) = (identity(255, 2), identity(255, 1));
     let mut held = [heard(1, root, 0, (1, 1))];
     let selected = select(&own, &mut held);
-    assert_eq!(rt; selected.root, root);
+    same(&rt, selected.root, root);
     assert!(rt; !selected.root.capable());
-    assert_eq!(rt; selected.roles.as_slice(), [Role::Slave].as_slice());
+    same(&rt, selected.roles.as_slice(), [Role::Slave].as_slice());
     Ok(())
 }
 
@@ -192,10 +207,10 @@ fn the_last_of_sixteen_ports_is_followed(rt: HostRuntime) -> Result<(), Fail> {
         heard(16, root, 0, (1, 1)),
     ];
     let selected = select(&own, &mut held);
-    assert_eq!(rt; selected.slave, Some(16));
-    assert_eq!(rt; selected.roles.len(), 16);
-    assert_eq!(rt; selected.roles[0], Role::Master);
-    assert_eq!(rt; selected.roles[15], Role::Slave);
+    same(&rt, selected.slave, Some(16));
+    same(&rt, selected.roles.len(), 16);
+    same(&rt, selected.roles[0], Role::Master);
+    same(&rt, selected.roles[15], Role::Slave);
     assert_mine(&rt, &held[14], root, 1);
     Ok(())
 }

@@ -1,5 +1,6 @@
 //! Exact times, intervals, stamps and rates at the ends of their ranges, and where roundings differ.
 
+use crate::same::{same, same_at};
 use gptp_scaled::{Interval, OutOfRange, Rate, ScaledNs, Stamp, StampError, laws};
 use std::test::*;
 
@@ -27,9 +28,9 @@ fn times_have_96_bits(rt: HostRuntime) {
         (-END - 1, None),
     ];
     for (value, want) in cases {
-        assert_eq!(rt; number(ScaledNs::new(value)), want, "at {value}");
+        same_at(&rt, &value, number(ScaledNs::new(value)), want);
     }
-    assert_eq!(rt; ScaledNs::default().value(), 0);
+    same(&rt, ScaledNs::default().value(), 0);
 }
 
 #[test]
@@ -45,8 +46,8 @@ fn sums_and_differences_are_exact(rt: HostRuntime) -> Result<(), Fail> {
     ];
     for (left, right, sum, difference) in cases {
         let (x, y) = (time(left)?, time(right)?);
-        assert_eq!(rt; number(x.checked_add(y)), sum, "{left} and {right}");
-        assert_eq!(rt; number(x.checked_sub(y)), difference, "{left} and {right}");
+        same_at(&rt, &(left, right), number(x.checked_add(y)), sum);
+        same_at(&rt, &(left, right), number(x.checked_sub(y)), difference);
     }
     Ok(())
 }
@@ -64,7 +65,7 @@ fn halves_are_rounded_down(rt: HostRuntime) -> Result<(), Fail> {
         (-END, -19_807_040_628_566_084_398_385_987_584),
     ];
     for (value, want) in cases {
-        assert_eq!(rt; time(value)?.halve().value(), want, "at {value}");
+        same_at(&rt, &value, time(value)?.halve().value(), want);
     }
     Ok(())
 }
@@ -72,8 +73,12 @@ fn halves_are_rounded_down(rt: HostRuntime) -> Result<(), Fail> {
 #[test]
 fn intervals_are_times(rt: HostRuntime) {
     for value in [0, 1, -1, i64::MAX, i64::MIN] {
-        assert_eq!(rt; Interval::new(value).value(), value);
-        assert_eq!(rt; Interval::new(value).scaled().value(), i128::from(value));
+        same(&rt, Interval::new(value).value(), value);
+        same(
+            &rt,
+            Interval::new(value).scaled().value(),
+            i128::from(value),
+        );
     }
 }
 
@@ -93,19 +98,20 @@ fn stamps_are_refused_by_the_first_test(rt: HostRuntime) {
         (u64::MAX, 999_999_999, Some(StampError::SecondsTooLarge)),
     ];
     for (seconds, nanos, want) in cases {
-        assert_eq!(rt;
+        same_at(
+            &rt,
+            &(seconds, nanos),
             Stamp::new(seconds, nanos).err(),
             want,
-            "{seconds} s and {nanos} ns"
         );
     }
 }
 
 #[test]
 fn refusals_have_their_numbers(rt: HostRuntime) {
-    assert_eq!(rt; StampError::NanosTooLarge as u8, 1);
-    assert_eq!(rt; StampError::SecondsTooLarge as u8, 2);
-    assert_eq!(rt; OutOfRange::OutOfRange as u8, 3);
+    same(&rt, StampError::NanosTooLarge as u8, 1);
+    same(&rt, StampError::SecondsTooLarge as u8, 2);
+    same(&rt, OutOfRange::OutOfRange as u8, 3);
 }
 
 #[test]
@@ -120,23 +126,26 @@ fn stamps_and_rests_are_times(rt: HostRuntime) -> Result<(), Fail> {
     ];
     for (value, seconds, nanos, rest) in cases {
         let (stamp, parts) = time(value)?.split().ok().ok_or("the time has a stamp")?;
-        assert_eq!(rt;
+        same_at(
+            &rt,
+            &value,
             (stamp.seconds(), stamp.nanos(), parts),
             (seconds, nanos, rest),
-            "at {value}"
         );
-        assert_eq!(rt; Stamp::new(seconds, nanos), Ok(stamp), "at {value}");
-        assert_eq!(rt;
+        same_at(&rt, &value, Stamp::new(seconds, nanos), Ok(stamp));
+        same_at(
+            &rt,
+            &value,
             stamp.scaled().value(),
             value - i128::from(rest),
-            "at {value}"
         );
     }
     for value in [-1, -END, STAMP_END, END - 1] {
-        assert_eq!(rt;
+        same_at(
+            &rt,
+            &value,
             time(value)?.split().err(),
             Some(OutOfRange::OutOfRange),
-            "at {value}"
         );
     }
     assert!(rt; Stamp::new(1, 0).ok() > Stamp::new(0, 999_999_999).ok());
@@ -162,7 +171,7 @@ fn neighbor_rates_are_rounded_down_and_clamped(rt: HostRuntime) -> Result<(), Fa
     ];
     for (responder, requester, want) in cases {
         let rate = Rate::of_elapsed(time(responder)?, time(requester)?);
-        assert_eq!(rt; rate.q(), want, "{responder} in {requester}");
+        same_at(&rt, &(responder, requester), rate.q(), want);
     }
     Ok(())
 }
@@ -182,10 +191,11 @@ fn rates_scale_rounded_down(rt: HostRuntime) -> Result<(), Fail> {
         (-1, -END, Some(18_014_398_509_481_984 - END)),
     ];
     for (q, value, want) in cases {
-        assert_eq!(rt;
+        same_at(
+            &rt,
+            &(value, q),
             number(Rate::new(q).scale(time(value)?)),
             want,
-            "{value} at {q}"
         );
     }
     Ok(())
@@ -205,10 +215,11 @@ fn rates_unscale_rounded_down(rt: HostRuntime) -> Result<(), Fail> {
         (-1, -END, None),
     ];
     for (q, value, want) in cases {
-        assert_eq!(rt;
+        same_at(
+            &rt,
+            &(value, q),
             number(Rate::new(q).unscale(time(value)?)),
             want,
-            "{value} at {q}"
         );
     }
     Ok(())
@@ -224,7 +235,7 @@ fn rates_add(rt: HostRuntime) {
     ];
     for (left, right, want) in cases {
         let sum = Rate::new(left).plus(Rate::new(right));
-        assert_eq!(rt; sum.ok().map(|rate| rate.q()), want, "{left} and {right}");
+        same_at(&rt, &(left, right), sum.ok().map(|rate| rate.q()), want);
     }
 }
 

@@ -5,6 +5,7 @@ ghost use Rattle.std.specs.Prelude.{◌≤◌};
 use crate::ring::{
     FAILS, FOLLOWED_BEFORE, SETTLED, begun, clock, document, fail, follow, is_settled,
 };
+use crate::same::same;
 use gptp_links::{Direction, PcgFate};
 use gptp_system::Timer;
 use gptp_world::{Act, Done, Refused, Timed, World};
@@ -162,6 +163,6 @@ fn ties_backwards(rt: HostRuntime) -> Result<(), Fail> {
 #[test]
 fn its_document_says_when_it_settles(rt: HostRuntime) -> Result<(), Fail> {
     let document = document(rt.alloc(), "min = 500\nmax = 500\n")?;
-    assert_eq!(rt; document.settles(), SETTLED);
+    same(&rt, document.settles(), SETTLED);
     Ok(())
 }

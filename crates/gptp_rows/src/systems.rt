@@ -6,6 +6,7 @@ use crate::bench::{
     play, started,
 };
 use crate::said::{SILENT, Said, all_of, measured, says, value};
+use crate::same::{same, same_at};
 use gptp_messages::{Head, Refused};
 use gptp_roles::Role;
 use gptp_samples::{
@@ -37,10 +38,11 @@ fn a_link_that_comes_up_is_measured_at_once(rt: HostRuntime) -> Result<(), Fail>
         return Err(Fail::from("not one send"));
     };
     let system = bench.at(ONE)?;
-    assert_eq!(rt; request.port, 1);
-    assert_eq!(rt;
+    same(&rt, request.port, 1);
+    same(
+        &rt,
         octets_of(rt.alloc(), system, request)?.as_slice(),
-        REQUEST.as_slice()
+        REQUEST.as_slice(),
     );
     let want = Said {
         follows: (identity(246, 1), 0, None),
@@ -56,7 +58,7 @@ fn a_link_that_comes_up_is_measured_at_once(rt: HostRuntime) -> Result<(), Fail>
         ],
         trace: 1,
     };
-    assert_eq!(rt; all_of(system)?, want);
+    same(&rt, all_of(system)?, want);
     Ok(())
 }
 
@@ -80,9 +82,9 @@ fn what_is_not_for_the_port_changes_nothing(rt: HostRuntime) -> Result<(), Fail>
     for (frame, want) in rows {
         let mut outbox = Outbox::new();
         let answer = hear(&mut system, 1, frame, 500, &mut outbox)?;
-        assert_eq!(rt; answer, want);
+        same(&rt, answer, want);
         assert!(rt; outbox.is_empty(), "{want:?}");
-        assert_eq!(rt; all_of(&system)?, before, "{want:?}");
+        same_at(&rt, &want, all_of(&system)?, before);
     }
     Ok(())
 }
@@ -156,7 +158,7 @@ fn two_systems_settle(rt: HostRuntime) -> Result<(), Fail> {
         ],
         trace: 1,
     };
-    assert_eq!(rt; all_of(bench.at(ONE)?)?, one);
+    same(&rt, all_of(bench.at(ONE)?)?, one);
     // its clock is 1 ms ahead
     let two = Said {
         follows: (identity(246, 1), 1, Some(1)),
@@ -172,7 +174,7 @@ fn two_systems_settle(rt: HostRuntime) -> Result<(), Fail> {
         ],
         trace: 2,
     };
-    assert_eq!(rt; all_of(bench.at(TWO)?)?, two);
+    same(&rt, all_of(bench.at(TWO)?)?, two);
     Ok(())
 }
 
@@ -205,7 +207,11 @@ fn a_bridge_sends_time_on(rt: HostRuntime) -> Result<(), Fail> {
         log_interval: -3,
         two_step: true,
     };
-    assert_eq!(rt; (sync.port, sync.head, sync.body), (2, head, Body::Sync));
+    same(
+        &rt,
+        (sync.port, sync.head, sync.body),
+        (2, head, Body::Sync),
+    );
     // The Sync came 500 ns after it was sent, and goes on 1,000 ns later: 1,500 ns on the bridge's clock, which runs as
     // fast as the grandmaster's, in units of 2^-16 ns.
     let head = Head {
@@ -217,18 +223,23 @@ fn a_bridge_sends_time_on(rt: HostRuntime) -> Result<(), Fail> {
         origin: Stamp::new(1, 125_000_000)?,
         rate: Rate::new(0),
     };
-    assert_eq!(rt;
+    same(
+        &rt,
         (follow_up.port, follow_up.head, follow_up.body),
-        (2, head, body)
+        (2, head, body),
     );
     let rows: [Row<'_>; 2] = [
         (1_125_002_000, THREE, Hear(1), Some(Used), NOTHING),
         (1_125_002_000, THREE, Hear(1), Some(Used), NOTHING),
     ];
     play(&rt, rt.alloc(), &mut bench, &rows)?;
-    assert_eq!(rt; value(bench.at(TWO)?.offset()), Some(65_536_000_000));
-    assert_eq!(rt; value(bench.at(THREE)?.offset()), Some(196_608_000_000));
-    assert_eq!(rt; bench.at(THREE)?.follows(), (identity(246, 1), 2, Some(1)));
+    same(&rt, value(bench.at(TWO)?.offset()), Some(65_536_000_000));
+    same(&rt, value(bench.at(THREE)?.offset()), Some(196_608_000_000));
+    same(
+        &rt,
+        bench.at(THREE)?.follows(),
+        (identity(246, 1), 2, Some(1)),
+    );
     Ok(())
 }
 
@@ -250,21 +261,31 @@ fn a_port_that_loses_too_many_requests_takes_no_part(rt: HostRuntime) -> Result<
             let now = 2_000_000_000 + seconds * 1_000_000_000;
             let asks: Row<'_> = (now, place, Expire(Pdelay(1)), None, ASKS);
             play(&rt, rt.alloc(), &mut bench, &[asks])?;
-            assert_eq!(rt;
+            same_at(
+                &rt,
+                &("lost", seconds),
                 says(bench.at(place)?, 1)?,
                 measured(role),
-                "{seconds} lost"
             );
         }
         let now = 3_000_000_000 + u64::from(lost) * 1_000_000_000;
         let asks: Row<'_> = (now, place, Expire(Pdelay(1)), None, ASKS);
         play(&rt, rt.alloc(), &mut bench, &[asks])?;
         let system = bench.at(place)?;
-        assert_eq!(rt; says(system, 1)?, SILENT, "{lost} may be lost");
-        assert_eq!(rt; system.follows(), (own, 0, None), "{lost} may be lost");
-        assert_eq!(rt; due(system, Timer::Announce(1)), None);
-        assert_eq!(rt; due(system, Timer::Age(1)), None);
-        assert_eq!(rt; due(system, Timer::Pdelay(1)), Some(now + 1_000_000_000));
+        same_at(&rt, &("may be lost", lost), says(system, 1)?, SILENT);
+        same_at(
+            &rt,
+            &("may be lost", lost),
+            system.follows(),
+            (own, 0, None),
+        );
+        same(&rt, due(system, Timer::Announce(1)), None);
+        same(&rt, due(system, Timer::Age(1)), None);
+        same(
+            &rt,
+            due(system, Timer::Pdelay(1)),
+            Some(now + 1_000_000_000),
+        );
     }
     Ok(())
 }
@@ -313,12 +334,12 @@ fn the_better_identity_becomes_root(rt: HostRuntime) -> Result<(), Fail> {
     for (row, follows) in rows {
         play(&rt, rt.alloc(), &mut bench, &[row])?;
         let system = bench.at(row.1)?;
-        assert_eq!(rt; system.follows(), follows, "at {}", row.0);
+        same_at(&rt, &row.0, system.follows(), follows);
         let role = match follows.2 {
             Some(_) => Role::Slave,
             None => Role::Master,
         };
-        assert_eq!(rt; says(system, 1)?, measured(role), "at {}", row.0);
+        same_at(&rt, &row.0, says(system, 1)?, measured(role));
     }
     Ok(())
 }
@@ -328,14 +349,14 @@ fn what_is_too_old_is_followed_no_more(rt: HostRuntime) -> Result<(), Fail> {
     let mut bench = Bench::new(rt.alloc(), &[(1, 1, 0), (2, 1, 0)], 9)?;
     bench.settle(rt.alloc(), &LINK)?;
     let age = Timer::Age(1);
-    assert_eq!(rt; due(bench.at(TWO)?, age), Some(4_000_002_500));
+    same(&rt, due(bench.at(TWO)?, age), Some(4_000_002_500));
     let row: Row<'_> = (4_000_002_500, TWO, Expire(age), None, ANNOUNCES);
     play(&rt, rt.alloc(), &mut bench, &[row])?;
     let system = bench.at(TWO)?;
-    assert_eq!(rt; system.follows(), (identity(246, 2), 0, None));
-    assert_eq!(rt; says(system, 1)?, measured(Role::Master));
-    assert_eq!(rt; due(system, age), None);
-    assert_eq!(rt; due(system, Timer::Announce(1)), Some(5_000_002_500));
+    same(&rt, system.follows(), (identity(246, 2), 0, None));
+    same(&rt, says(system, 1)?, measured(Role::Master));
+    same(&rt, due(system, age), None);
+    same(&rt, due(system, Timer::Announce(1)), Some(5_000_002_500));
     Ok(())
 }
 
@@ -343,10 +364,10 @@ fn what_is_too_old_is_followed_no_more(rt: HostRuntime) -> Result<(), Fail> {
 fn a_system_without_its_slave_port_is_root_itself(rt: HostRuntime) -> Result<(), Fail> {
     let mut bench = line(&rt, rt.alloc())?;
     let bridge = bench.at(TWO)?;
-    assert_eq!(rt; bridge.follows(), (identity(246, 1), 1, Some(1)));
-    assert_eq!(rt; says(bridge, 1)?, measured(Role::Slave));
-    assert_eq!(rt; says(bridge, 2)?, measured(Role::Master));
-    assert_eq!(rt; value(bridge.offset()), Some(65_536_000_000));
+    same(&rt, bridge.follows(), (identity(246, 1), 1, Some(1)));
+    same(&rt, says(bridge, 1)?, measured(Role::Slave));
+    same(&rt, says(bridge, 2)?, measured(Role::Master));
+    same(&rt, value(bridge.offset()), Some(65_536_000_000));
 
     let rows: [Row<'_>; 1] = [(1_125_001_000, TWO, Down(1), None, ANNOUNCES)];
     play(&rt, rt.alloc(), &mut bench, &rows)?;
@@ -358,12 +379,16 @@ fn a_system_without_its_slave_port_is_root_itself(rt: HostRuntime) -> Result<(),
         timers: [None, None, None, None, Some(125_000_000), None],
         trace: 1,
     };
-    assert_eq!(rt; all_of(bridge)?, want);
-    assert_eq!(rt; says(bridge, 2)?, measured(Role::Master));
-    assert_eq!(rt; due(bridge, Timer::Announce(2)), Some(2_125_001_000));
+    same(&rt, all_of(bridge)?, want);
+    same(&rt, says(bridge, 2)?, measured(Role::Master));
+    same(&rt, due(bridge, Timer::Announce(2)), Some(2_125_001_000));
 
     let rows: [Row<'_>; 1] = [(1_125_001_500, THREE, Hear(1), Some(Repeated), NOTHING)];
     play(&rt, rt.alloc(), &mut bench, &rows)?;
-    assert_eq!(rt; bench.at(THREE)?.follows(), (identity(246, 2), 1, Some(1)));
+    same(
+        &rt,
+        bench.at(THREE)?.follows(),
+        (identity(246, 2), 1, Some(1)),
+    );
     Ok(())
 }

@@ -1,6 +1,7 @@
 //! Sync and Follow_Up read, refused and written.
 
 use crate::frames::{lengthened, spoiled, written};
+use crate::same::same_at;
 use gptp_messages::{FollowUp, Head, Message, Refused, decode};
 use gptp_samples::{FOLLOW_UP, SYNC, port};
 use gptp_scaled::{Rate, Stamp};
@@ -47,11 +48,11 @@ fn a_sync_is_read_and_written(rt: HostRuntime) -> Result<(), Fail> {
         let Ok(Message::Sync { head }) = decode(&frame) else {
             panic!(rt; "no Sync: {flags}");
         };
-        assert_eq!(rt; head, want, "{flags}");
+        same_at(&rt, &flags, &head, &want);
 
         let text = written(&rt, rt.alloc(), &Message::Sync { head: want })?;
         let octets = spoiled(&rt, rt.alloc(), &SYNC, 6, &[written_flags])?;
-        assert_eq!(rt; text.as_slice(), octets.as_slice(), "{flags}");
+        same_at(&rt, &flags, text.as_slice(), octets.as_slice());
     }
     Ok(())
 }
@@ -68,10 +69,10 @@ fn a_follow_up_is_read_and_written(rt: HostRuntime) -> Result<(), Fail> {
     ];
     for (what, q, octets) in cases {
         let frame = spoiled(&rt, rt.alloc(), &FOLLOW_UP, 54, &octets)?;
-        assert_eq!(rt; follow_up(&rt, &frame, what), with_rate(q)?, "{what}");
+        same_at(&rt, &what, follow_up(&rt, &frame, what), with_rate(q)?);
 
         let text = written(&rt, rt.alloc(), &Message::FollowUp(with_rate(q)?))?;
-        assert_eq!(rt; text.as_slice(), frame.as_slice(), "{what}");
+        same_at(&rt, &what, text.as_slice(), frame.as_slice());
     }
     Ok(())
 }
@@ -143,10 +144,11 @@ fn the_first_information_tlv_counts(rt: HostRuntime) -> Result<(), Fail> {
         let before = format!(in rt.alloc(); "{before}0003001c")?;
         let behind = format!(in rt.alloc(); "00{behind}")?;
         let frame = with_information(&rt, rt.alloc(), before.as_str(), behind.as_str())?;
-        assert_eq!(rt;
+        same_at(
+            &rt,
+            &what,
             follow_up(&rt, &frame, what),
             with_rate(0x0102_0304)?,
-            "{what}"
         );
     }
     Ok(())
@@ -181,7 +183,7 @@ fn a_follow_up_without_its_rate_is_refused(rt: HostRuntime) -> Result<(), Fail> 
     ];
     for (what, before, behind) in cases {
         let frame = with_information(&rt, rt.alloc(), before, behind)?;
-        assert_eq!(rt; decode(&frame).err(), Some(Refused::Tlv), "{what}");
+        same_at(&rt, &what, decode(&frame).err(), Some(Refused::Tlv));
     }
     Ok(())
 }
@@ -213,8 +215,8 @@ fn tlvs_are_tested_behind_the_lengths_and_before_the_timestamp(
     ];
     for (what, frame, want, late_want) in cases {
         let late = spoiled(&rt, alloc, frame, 40, &[0x3b, 0x9a, 0xca, 0x00])?;
-        assert_eq!(rt; decode(frame).err(), want, "{what}");
-        assert_eq!(rt; decode(&late).err(), Some(late_want), "{what}");
+        same_at(&rt, &what, decode(frame).err(), want);
+        same_at(&rt, &what, decode(&late).err(), Some(late_want));
     }
     Ok(())
 }

@@ -3,6 +3,7 @@
 ghost use Rattle.std.specs.Prelude.{◌≡◌, [], true};
 ghost use Rattle.gptp_system.specs.Steps.{IsPortOf, IsTimerOf};
 
+use crate::same::same_at;
 use gptp_messages::{FollowUp, Message, PdelayResp, PdelayRespFollowUp, encode, encode_announce};
 use gptp_samples::identity;
 use gptp_system::{Answer, Body, Outbox, Params, Sending, Setup, System, Timer};
@@ -351,14 +352,10 @@ pub fn play(
 ) -> Result<(), Fail> {
     for (now, place, what, answer, kinds) in rows {
         let (given, outbox) = bench.act(alloc, *now, *place, *what)?;
-        assert_eq!(rt; given, *answer, "{what:?} at {place}, {now}");
-        assert_eq!(rt; outbox.len(), kinds.len(), "{what:?} at {place}, {now}");
+        same_at(rt, &(what, place, now), given, *answer);
+        same_at(rt, &(what, place, now), outbox.len(), kinds.len());
         for (sending, want) in outbox.as_slice().iter().zip(*kinds) {
-            assert_eq!(rt;
-                Kind::of(&sending.body),
-                *want,
-                "{what:?} at {place}, {now}"
-            );
+            same_at(rt, &(what, place, now), Kind::of(&sending.body), *want);
         }
     }
     Ok(())

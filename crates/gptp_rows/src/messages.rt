@@ -1,6 +1,7 @@
 //! Announce messages read, refused and written.
 
 use crate::frames::{lengthened, read, spoiled, written_again};
+use crate::same::{same, same_at};
 use gptp_messages::{PathView, Refused, decode, encode_announce, what_is_written_reads_back};
 use gptp_samples::{FIRST_ANNOUNCE, body, frame, head, identity, port, trace};
 use gptp_vector::{ClockId, Full, Identity, Trace};
@@ -30,43 +31,51 @@ fn with_tlvs(rt: &impl Abort, alloc: Global, tlvs: &[u8]) -> Result<Vec<u8>, Fai
 
 /// The path has these clocks and no other.
 fn assert_path(rt: &impl Abort, path: &PathView<'_>, want: &[u64], what: &str) {
-    assert_eq!(rt; path.len(), want.len(), "{what}");
-    assert_eq!(rt; path.is_empty(), want.is_empty(), "{what}");
+    same_at(rt, &what, path.len(), want.len());
+    same_at(rt, &what, path.is_empty(), want.is_empty());
     for (place, clock) in want.iter().enumerate() {
         let clock = ClockId::from(*clock);
-        assert_eq!(rt; path.get(place), Some(clock), "{what}, at {place}");
+        same_at(rt, &(what, place), path.get(place), Some(clock));
         assert!(rt; path.holds(clock), "{what}, at {place}");
     }
-    assert_eq!(rt; path.get(want.len()), None, "{what}");
-    assert_eq!(rt; path.get(usize::MAX), None, "{what}");
+    same_at(rt, &what, path.get(want.len()), None);
+    same_at(rt, &what, path.get(usize::MAX), None);
     assert!(rt; !path.holds(ClockId::from(999)), "{what}");
 }
 
 #[test]
 fn the_first_announce_reads_as_its_fields(rt: HostRuntime) {
     let announce = read(&rt, &FIRST_ANNOUNCE);
-    assert_eq!(rt; announce.head, head(port(1, 1)));
-    assert_eq!(rt; announce.head.log_interval, 0);
-    assert_eq!(rt; announce.body, body(identity(246, 1), 0));
-    assert_eq!(rt; announce.body.root.octets()[..], FIRST_ANNOUNCE[47..61]);
+    same(&rt, announce.head, head(port(1, 1)));
+    same(&rt, announce.head.log_interval, 0);
+    same(&rt, announce.body, body(identity(246, 1), 0));
+    same(
+        &rt,
+        &announce.body.root.octets()[..],
+        &FIRST_ANNOUNCE[47..61],
+    );
     assert_path(&rt, &announce.path, &[1], "the path");
 }
 
 #[test]
 fn each_field_stands_at_its_place(rt: HostRuntime) -> Result<(), Fail> {
     let announce = read(&rt, &DISTINCT);
-    assert_eq!(rt; announce.head.source, port(0x1112_1314_1516_1718, 0x2122));
-    assert_eq!(rt; announce.head.sequence, 0x3132);
-    assert_eq!(rt; announce.head.correction, -98_304);
-    assert_eq!(rt; announce.head.log_interval, -128);
+    same(
+        &rt,
+        announce.head.source,
+        port(0x1112_1314_1516_1718, 0x2122),
+    );
+    same(&rt, announce.head.sequence, 0x3132);
+    same(&rt, announce.head.correction, -98_304);
+    same(&rt, announce.head.log_interval, -128);
     assert!(rt; !announce.head.two_step);
-    assert_eq!(rt; announce.body.utc_offset, -37);
+    same(&rt, announce.body.utc_offset, -37);
     let root = [
         0x41, 0x42, 0x43, 0x44, 0x45, 0x46, 0x51, 0x52, 0x53, 0x54, 0x55, 0x56, 0x57, 0x58,
     ];
-    assert_eq!(rt; announce.body.root, Identity::of_octets(root));
-    assert_eq!(rt; announce.body.steps, 0x6162);
-    assert_eq!(rt; announce.body.time_source, 0x63);
+    same(&rt, announce.body.root, Identity::of_octets(root));
+    same(&rt, announce.body.steps, 0x6162);
+    same(&rt, announce.body.time_source, 0x63);
     assert_path(&rt, &announce.path, &[0x7172_7374_7576_7778], "the path");
 
     let two_step = spoiled(&rt, rt.alloc(), &DISTINCT, 6, &[0x02])?;
@@ -79,8 +88,8 @@ fn octets_behind_the_message_are_ignored(rt: HostRuntime) -> Result<(), Fail> {
     let mut padded = FIRST_ANNOUNCE.to_vec(rt.alloc())?;
     padded.extend_from_slice(&[0xaa; 4])?;
     let announce = read(&rt, &padded);
-    assert_eq!(rt; announce.head, head(port(1, 1)));
-    assert_eq!(rt; announce.body, body(identity(246, 1), 0));
+    same(&rt, announce.head, head(port(1, 1)));
+    same(&rt, announce.body, body(identity(246, 1), 0));
     assert_path(&rt, &announce.path, &[1], "padded");
 
     let cut = spoiled(&rt, rt.alloc(), &FIRST_ANNOUNCE, 2, &[0x00, 0x40])?;
@@ -126,10 +135,11 @@ fn a_frame_is_refused_by_the_first_test_that_fails(rt: HostRuntime) -> Result<()
     for (place, octets, length, want) in cases {
         let frame = spoiled(&rt, rt.alloc(), &FIRST_ANNOUNCE, place, octets)?;
         let given = frame.get(..length).ok_or("at most 76 octets")?;
-        assert_eq!(rt;
+        same_at(
+            &rt,
+            &(octets, place, length),
             decode(given).err(),
             Some(want),
-            "{octets:?} at {place}, {length} octets"
         );
     }
     Ok(())
@@ -215,7 +225,7 @@ fn octets_that_are_no_tlvs_are_refused(rt: HostRuntime) -> Result<(), Fail> {
     for (what, tlvs) in cases {
         let tlvs = hex::decode(rt.alloc(), tlvs)?;
         let frame = with_tlvs(&rt, rt.alloc(), &tlvs)?;
-        assert_eq!(rt; decode(&frame).err(), Some(Refused::Tlv), "{what}");
+        same_at(&rt, &what, decode(&frame).err(), Some(Refused::Tlv));
     }
     Ok(())
 }
@@ -237,38 +247,44 @@ fn a_path_of_256_clocks_is_copied_and_one_of_257_is_full(rt: HostRuntime) -> Res
     let mut copy = trace(&[7, 3])?;
     let frame = with_clocks_below(&rt, rt.alloc(), 257)?;
     let announce = read(&rt, &frame);
-    assert_eq!(rt; announce.path.len(), 257);
-    assert_eq!(rt;
+    same(&rt, announce.path.len(), 257);
+    same(
+        &rt,
         announce.path.copy_to(&mut copy),
-        Err(Full::Full(ClockId::from(256)))
+        Err(Full::Full(ClockId::from(256))),
     );
-    assert_eq!(rt; copy.as_slice(), trace(&[7, 3])?.as_slice());
+    same(&rt, copy.as_slice(), trace(&[7, 3])?.as_slice());
 
     let frame = with_clocks_below(&rt, rt.alloc(), 256)?;
-    assert_eq!(rt; read(&rt, &frame).path.copy_to(&mut copy), Ok(()));
-    assert_eq!(rt; copy.len(), 256);
+    same(&rt, read(&rt, &frame).path.copy_to(&mut copy), Ok(()));
+    same(&rt, copy.len(), 256);
     for place in 0..256 {
-        assert_eq!(rt;
+        same_at(
+            &rt,
+            &place,
             copy.get(place),
             Some(ClockId::from(place as u64)),
-            "at {place}"
         );
     }
 
-    assert_eq!(rt; read(&rt, &FIRST_ANNOUNCE).path.copy_to(&mut copy), Ok(()));
-    assert_eq!(rt; copy.as_slice(), trace(&[1])?.as_slice());
+    same(
+        &rt,
+        read(&rt, &FIRST_ANNOUNCE).path.copy_to(&mut copy),
+        Ok(()),
+    );
+    same(&rt, copy.as_slice(), trace(&[1])?.as_slice());
     Ok(())
 }
 
 #[test]
 fn the_fields_of_the_first_announce_are_written_as_its_octets(rt: HostRuntime) -> Result<(), Fail> {
     let first = frame(rt.alloc(), port(1, 1), identity(246, 1), 0, &trace(&[1])?)?;
-    assert_eq!(rt; first.as_slice(), FIRST_ANNOUNCE.as_slice());
+    same(&rt, first.as_slice(), FIRST_ANNOUNCE.as_slice());
 
     let pathless = frame(rt.alloc(), port(1, 1), identity(246, 1), 0, &Trace::empty())?;
     let octets = with_tlvs(&rt, rt.alloc(), &[0x00, 0x08, 0x00, 0x00])?;
-    assert_eq!(rt; pathless.len(), 68);
-    assert_eq!(rt; pathless.as_slice(), octets.as_slice());
+    same(&rt, pathless.len(), 68);
+    same(&rt, pathless.as_slice(), octets.as_slice());
 
     let mut text = FIRST_ANNOUNCE[..3].to_vec(rt.alloc())?;
     encode_announce(
@@ -277,9 +293,9 @@ fn the_fields_of_the_first_announce_are_written_as_its_octets(rt: HostRuntime) -
         &trace(&[1])?,
         &mut text,
     )?;
-    assert_eq!(rt; text.len(), 79);
-    assert_eq!(rt; text[..3], FIRST_ANNOUNCE[..3]);
-    assert_eq!(rt; text[3..], FIRST_ANNOUNCE[..]);
+    same(&rt, text.len(), 79);
+    same(&rt, &text[..3], &FIRST_ANNOUNCE[..3]);
+    same(&rt, &text[3..], &FIRST_ANNOUNCE[..]);
     Ok(())
 }
 
@@ -287,7 +303,7 @@ fn the_fields_of_the_first_announce_are_written_as_its_octets(rt: HostRuntime) -
 fn what_is_read_is_written_again(rt: HostRuntime) -> Result<(), Fail> {
     let mut text = Vec::new(rt.alloc());
     written_again(&rt, &FIRST_ANNOUNCE, &mut text)?;
-    assert_eq!(rt; text.as_slice(), FIRST_ANNOUNCE.as_slice());
+    same(&rt, text.as_slice(), FIRST_ANNOUNCE.as_slice());
 
     let mut plain = DISTINCT;
     plain[1] = 0x12;
@@ -299,10 +315,11 @@ fn what_is_read_is_written_again(rt: HostRuntime) -> Result<(), Fail> {
     let mut both = FIRST_ANNOUNCE.to_vec(rt.alloc())?;
     both.extend_from_slice(&plain)?;
     written_again(&rt, &DISTINCT, &mut text)?;
-    assert_eq!(rt;
+    same_at(
+        &rt,
+        &"what is ignored is written as 0",
         text.as_slice(),
         both.as_slice(),
-        "what is ignored is written as 0"
     );
     what_is_written_reads_back();
     Ok(())
@@ -321,8 +338,8 @@ fn refusals_are_shown_by_number_and_name(rt: HostRuntime) -> Result<(), Fail> {
         (Refused::StampRange, 8, "8 StampRange"),
     ];
     for (refused, number, text) in cases {
-        assert_eq!(rt; refused as u8, number);
-        assert_eq!(rt; refused.to_string(rt.alloc())?.as_str(), text);
+        same(&rt, refused as u8, number);
+        same(&rt, refused.to_string(rt.alloc())?.as_str(), text);
     }
     Ok(())
 }

@@ -2,6 +2,7 @@
 
 use crate::frames::{lengthened, spoiled, written_again};
 use crate::messages::with_clocks_below;
+use crate::same::{same, same_at};
 use gptp_messages::{Refused, decode};
 use gptp_samples::{FIRST_ANNOUNCE, FOLLOW_UP, REQUEST, RESPONSE, RESPONSE_FOLLOW_UP, SYNC};
 use std::alloc::{AllocError, Global};
@@ -12,10 +13,11 @@ use std::test::Fail;
 fn other_types_are_unknown(rt: HostRuntime) -> Result<(), Fail> {
     for first in [0x11, 0x14, 0x15, 0x16, 0x17, 0x19, 0x1c, 0x1d, 0x1e, 0x1f] {
         let frame = spoiled(&rt, rt.alloc(), &FIRST_ANNOUNCE, 0, &[first])?;
-        assert_eq!(rt;
+        same_at(
+            &rt,
+            &first,
             decode(&frame).err(),
             Some(Refused::UnknownType),
-            "{first:x}"
         );
     }
     Ok(())
@@ -30,11 +32,12 @@ fn assert_refused(
     octets: &[u8],
     want: Refused,
 ) -> Result<(), AllocError> {
-    let frame = spoiled(rt, alloc, frame, place, octets)?;
-    assert_eq!(rt;
-        decode(&frame).err(),
+    let other = spoiled(rt, alloc, frame, place, octets)?;
+    same_at(
+        rt,
+        &(octets, place, frame),
+        decode(&other).err(),
         Some(want),
-        "{octets:?} at {place} of {frame:?}"
     );
     Ok(())
 }
@@ -53,10 +56,11 @@ fn each_test_of_the_header_refuses_each_message(rt: HostRuntime) -> Result<(), F
     for (frame, number, below, above, cut) in messages {
         for length in [0, 33, 34, cut] {
             let short = frame.get(..length).ok_or("a front of the frame")?;
-            assert_eq!(rt;
+            same_at(
+                &rt,
+                &(length, frame),
                 decode(short).err(),
                 Some(Refused::Short),
-                "{length} of {frame:?}"
             );
         }
         let cases: [(usize, &[u8], Refused); 13] = [
@@ -89,7 +93,7 @@ fn a_timestamp_has_less_than_a_second_of_nanoseconds(rt: HostRuntime) -> Result<
         let most = spoiled(&rt, rt.alloc(), &late, 40, &[0x3b, 0x9a, 0xc9, 0xff])?;
         let mut text = Vec::new(rt.alloc());
         written_again(&rt, &most, &mut text)?;
-        assert_eq!(rt; text.as_slice(), most.as_slice());
+        same(&rt, text.as_slice(), most.as_slice());
 
         for nanos in [[0x3b, 0x9a, 0xca, 0x00], [0xff; 4]] {
             assert_refused(&rt, rt.alloc(), frame, 40, &nanos, Refused::StampRange)?;
@@ -125,7 +129,7 @@ fn what_has_no_meaning_may_be_anything_and_is_written_0(rt: HostRuntime) -> Resu
         }
         let mut text = Vec::new(alloc);
         written_again(&rt, &given, &mut text)?;
-        assert_eq!(rt; text.as_slice(), frame, "{given:?}");
+        same_at(&rt, &given, text.as_slice(), frame);
     }
     Ok(())
 }
@@ -137,7 +141,7 @@ fn what_stands_behind_is_ignored(rt: HostRuntime) -> Result<(), Fail> {
         let longer = lengthened(&rt, alloc, frame, &[0xff; 6])?;
         let mut text = Vec::new(alloc);
         written_again(&rt, &longer, &mut text)?;
-        assert_eq!(rt; text.as_slice(), frame, "counted in messageLength");
+        same_at(&rt, &"counted in messageLength", text.as_slice(), frame);
     }
     for frame in [
         SYNC.as_slice(),
@@ -151,7 +155,7 @@ fn what_stands_behind_is_ignored(rt: HostRuntime) -> Result<(), Fail> {
         padded.extend_from_slice(&[0xff; 6])?;
         let mut text = Vec::new(alloc);
         written_again(&rt, &padded, &mut text)?;
-        assert_eq!(rt; text.as_slice(), frame, "padding");
+        same_at(&rt, &"padding", text.as_slice(), frame);
     }
     Ok(())
 }
@@ -173,21 +177,18 @@ fn a_message_is_written_where_there_is_room(rt: HostRuntime) -> Result<(), Fail>
     ];
     for (frame, length) in messages {
         let mut text = Vec::new(alloc);
-        assert_eq!(rt;
-            written_again(&rt, frame, &mut text),
-            Ok(()),
-            "{length} octets"
-        );
-        assert_eq!(rt; text.as_slice(), frame, "{length} octets");
+        same_at(&rt, &length, written_again(&rt, frame, &mut text), Ok(()));
+        same_at(&rt, &length, text.as_slice(), frame);
 
         let mut text = Vec::with_capacity(alloc, length)?;
-        assert_eq!(rt;
+        same_at(
+            &rt,
+            &("room for", length),
             written_again(&rt, frame, &mut text),
             Ok(()),
-            "room for {length}"
         );
-        assert_eq!(rt; text.as_slice(), frame, "room for {length}");
-        assert_eq!(rt; text.capacity(), length, "room for {length}");
+        same_at(&rt, &("room for", length), text.as_slice(), frame);
+        same_at(&rt, &("room for", length), text.capacity(), length);
     }
     Ok(())
 }

@@ -1,6 +1,7 @@
 //! What the port 1 of clock 9 makes of the Announces that it hears.
 
 use crate::frames::read;
+use crate::same::{same, same_at};
 use gptp_receipt::{Heard, Held, Why, age, due, hear, qualify};
 use gptp_samples::{FIRST_ANNOUNCE, frame, identity, port, trace};
 use gptp_vector::{ClockId, Full, Identity, PortId, Trace, Vector};
@@ -25,9 +26,9 @@ fn assert_received(rt: &impl Abort, held: &Held, want: Vector, path: &Trace, rec
     else {
         panic!(rt; "nothing received: {held:?}");
     };
-    assert_eq!(rt; *vector, want);
-    assert_eq!(rt; known.as_slice(), path.as_slice());
-    assert_eq!(rt; *at, received);
+    same(rt, *vector, want);
+    same(rt, known.as_slice(), path.as_slice());
+    same(rt, *at, received);
 }
 
 /// What an Announce in a frame is to the port.
@@ -119,10 +120,11 @@ fn an_announce_is_refused_by_the_first_test_that_fails(rt: HostRuntime) -> Resul
     ];
     for (what, source, steps, path, want) in cases {
         let frame = frame(rt.alloc(), port(source, 1), identity(246, 1), steps, &path)?;
-        assert_eq!(rt;
+        same_at(
+            &rt,
+            &what,
             qualify(&read(&rt, &frame), ClockId::from(9)),
             want,
-            "{what}"
         );
     }
     Ok(())
@@ -132,16 +134,21 @@ fn an_announce_is_refused_by_the_first_test_that_fails(rt: HostRuntime) -> Resul
 fn an_announce_is_held_until_it_is_too_old(rt: HostRuntime) -> Result<(), Fail> {
     let (first, path) = (vector(identity(246, 1), 0, 1), trace(&[1])?);
     let mut held = Held::Aged;
-    assert_eq!(rt; end_of(&rt, &held), None);
-    assert_eq!(rt; heard(&rt, &mut held, &FIRST_ANNOUNCE, 0), Heard::Superior);
+    same(&rt, end_of(&rt, &held), None);
+    same(
+        &rt,
+        heard(&rt, &mut held, &FIRST_ANNOUNCE, 0),
+        Heard::Superior,
+    );
     assert_received(&rt, &held, first, &path, 0);
-    assert_eq!(rt;
+    same(
+        &rt,
         heard(&rt, &mut held, &FIRST_ANNOUNCE, 1_000_000_000),
-        Heard::Repeated
+        Heard::Repeated,
     );
     assert_received(&rt, &held, first, &path, 1_000_000_000);
 
-    assert_eq!(rt; end_of(&rt, &held), Some(4_000_000_000));
+    same(&rt, end_of(&rt, &held), Some(4_000_000_000));
     assert!(rt; !drops(&rt, &mut held, 3_999_999_999));
     assert_received(&rt, &held, first, &path, 1_000_000_000);
     assert!(rt; drops(&rt, &mut held, 4_000_000_000));
@@ -158,7 +165,7 @@ fn what_is_not_received_has_no_age(rt: HostRuntime) {
         steps: 0,
     };
     for mut held in [Held::Disabled, Held::Aged, mine] {
-        assert_eq!(rt; end_of(&rt, &held), None);
+        same(&rt, end_of(&rt, &held), None);
         assert!(rt; !drops(&rt, &mut held, u64::MAX));
         assert!(rt; !matches!(held, Held::Received { .. }));
     }
@@ -172,9 +179,13 @@ fn the_held_sender_is_heard_also_where_it_is_worse(rt: HostRuntime) -> Result<()
 
     let mut worse = FIRST_ANNOUNCE;
     worse[47] = 0xf7;
-    assert_eq!(rt; heard(&rt, &mut held, &worse, 1), Heard::Repeated);
+    same(&rt, heard(&rt, &mut held, &worse, 1), Heard::Repeated);
     assert_received(&rt, &held, vector(identity(247, 1), 0, 1), &path, 1);
-    assert_eq!(rt; heard(&rt, &mut held, &FIRST_ANNOUNCE, 2), Heard::Repeated);
+    same(
+        &rt,
+        heard(&rt, &mut held, &FIRST_ANNOUNCE, 2),
+        Heard::Repeated,
+    );
     assert_received(&rt, &held, vector(identity(246, 1), 0, 1), &path, 2);
     Ok(())
 }
@@ -206,10 +217,15 @@ fn another_sender_is_heard_where_it_is_better(rt: HostRuntime) -> Result<(), Fai
     for (what, steps_held, root_heard, steps_heard, want) in cases {
         let known = frame(rt.alloc(), port(1, 1), root, steps_held, &trace(&[1])?)?;
         let mut held = Held::Aged;
-        assert_eq!(rt; heard(&rt, &mut held, &known, 0), Heard::Superior, "{what}");
+        same_at(
+            &rt,
+            &what,
+            heard(&rt, &mut held, &known, 0),
+            Heard::Superior,
+        );
 
         let other = frame(rt.alloc(), port(2, 1), root_heard, steps_heard, &path)?;
-        assert_eq!(rt; heard(&rt, &mut held, &other, 5), want, "{what}");
+        same_at(&rt, &what, heard(&rt, &mut held, &other, 5), want);
         if want == Heard::Superior {
             assert_received(&rt, &held, vector(root_heard, steps_heard, 2), &path, 5);
         } else {
@@ -249,7 +265,7 @@ fn a_master_hears_what_is_better_than_it_announces(rt: HostRuntime) -> Result<()
     ];
     for (what, root, steps, want) in cases {
         let mut held = Held::Mine { root, steps };
-        assert_eq!(rt; heard(&rt, &mut held, &FIRST_ANNOUNCE, 7), want, "{what}");
+        same_at(&rt, &what, heard(&rt, &mut held, &FIRST_ANNOUNCE, 7), want);
         if want == Heard::Superior {
             assert_received(&rt, &held, vector(identity(246, 1), 0, 1), &trace(&[1])?, 7);
         } else {
@@ -290,8 +306,8 @@ fn copies_hold_the_same(rt: HostRuntime) -> Result<(), Fail> {
 
 #[test]
 fn reasons_have_their_numbers(rt: HostRuntime) {
-    assert_eq!(rt; Why::OwnMessage as u8, 1);
-    assert_eq!(rt; Why::TooManySteps as u8, 2);
-    assert_eq!(rt; Why::Loop as u8, 3);
-    assert_eq!(rt; Why::TraceTooLong as u8, 4);
+    same(&rt, Why::OwnMessage as u8, 1);
+    same(&rt, Why::TooManySteps as u8, 2);
+    same(&rt, Why::Loop as u8, 3);
+    same(&rt, Why::TraceTooLong as u8, 4);
 }

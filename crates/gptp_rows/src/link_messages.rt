@@ -1,6 +1,7 @@
 //! The three messages that measure a link read and written.
 
 use crate::frames::written;
+use crate::same::same;
 use gptp_messages::{Head, Message, PdelayResp, PdelayRespFollowUp, decode};
 use gptp_samples::{REQUEST, RESPONSE, RESPONSE_FOLLOW_UP, port};
 use gptp_scaled::Stamp;
@@ -18,10 +19,10 @@ fn the_first_request_is_read_and_written(rt: HostRuntime) -> Result<(), Fail> {
     let Ok(Message::PdelayReq { head }) = decode(&REQUEST) else {
         panic!(rt; "no Pdelay_Req");
     };
-    assert_eq!(rt; head, want);
+    same(&rt, &head, &want);
 
     let text = written(&rt, rt.alloc(), &Message::PdelayReq { head: want })?;
-    assert_eq!(rt; text.as_slice(), REQUEST.as_slice());
+    same(&rt, text.as_slice(), REQUEST.as_slice());
     Ok(())
 }
 
@@ -41,10 +42,10 @@ fn a_response_is_read_and_written(rt: HostRuntime) -> Result<(), Fail> {
     let Ok(Message::PdelayResp(response)) = decode(&RESPONSE) else {
         panic!(rt; "no Pdelay_Resp");
     };
-    assert_eq!(rt; response, want);
+    same(&rt, response, want);
 
     let text = written(&rt, rt.alloc(), &Message::PdelayResp(want))?;
-    assert_eq!(rt; text.as_slice(), RESPONSE.as_slice());
+    same(&rt, text.as_slice(), RESPONSE.as_slice());
     Ok(())
 }
 
@@ -64,9 +65,9 @@ fn a_response_follow_up_is_read_and_written(rt: HostRuntime) -> Result<(), Fail>
     let Ok(Message::PdelayRespFollowUp(response)) = decode(&RESPONSE_FOLLOW_UP) else {
         panic!(rt; "no Pdelay_Resp_Follow_Up");
     };
-    assert_eq!(rt; response, want);
+    same(&rt, response, want);
 
     let text = written(&rt, rt.alloc(), &Message::PdelayRespFollowUp(want))?;
-    assert_eq!(rt; text.as_slice(), RESPONSE_FOLLOW_UP.as_slice());
+    same(&rt, text.as_slice(), RESPONSE_FOLLOW_UP.as_slice());
     Ok(())
 }
