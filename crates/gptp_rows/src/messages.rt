@@ -2,7 +2,9 @@
 
 use crate::frames::{lengthened, read, spoiled, written_again};
 use crate::same::{same, same_at};
-use gptp_messages::{PathView, Refused, decode, encode_announce, what_is_written_reads_back};
+use gptp_messages::{
+    AnnounceBody, Head, PathView, Refused, decode, encode_announce, what_is_written_reads_back,
+};
 use gptp_samples::{FIRST_ANNOUNCE, body, frame, head, identity, port, trace};
 use gptp_vector::{ClockId, Full, Identity, Trace};
 use std::alloc::Global;
@@ -60,22 +62,24 @@ fn the_first_announce_reads_as_its_fields(rt: HostRuntime) {
 #[test]
 fn each_field_stands_at_its_place(rt: HostRuntime) -> Result<(), Fail> {
     let announce = read(&rt, &DISTINCT);
-    same(
-        &rt,
-        announce.head.source,
-        port(0x1112_1314_1516_1718, 0x2122),
-    );
-    same(&rt, announce.head.sequence, 0x3132);
-    same(&rt, announce.head.correction, -98_304);
-    same(&rt, announce.head.log_interval, -128);
-    assert!(rt; !announce.head.two_step);
-    same(&rt, announce.body.utc_offset, -37);
+    let want_head = Head {
+        source: port(0x1112_1314_1516_1718, 0x2122),
+        sequence: 0x3132,
+        correction: -98_304,
+        log_interval: -128,
+        two_step: false,
+    };
+    same(&rt, announce.head, want_head);
     let root = [
         0x41, 0x42, 0x43, 0x44, 0x45, 0x46, 0x51, 0x52, 0x53, 0x54, 0x55, 0x56, 0x57, 0x58,
     ];
-    same(&rt, announce.body.root, Identity::of_octets(root));
-    same(&rt, announce.body.steps, 0x6162);
-    same(&rt, announce.body.time_source, 0x63);
+    let want_body = AnnounceBody {
+        utc_offset: -37,
+        root: Identity::of_octets(root),
+        steps: 0x6162,
+        time_source: 0x63,
+    };
+    same(&rt, announce.body, want_body);
     assert_path(&rt, &announce.path, &[0x7172_7374_7576_7778], "the path");
 
     let two_step = spoiled(&rt, rt.alloc(), &DISTINCT, 6, &[0x02])?;
