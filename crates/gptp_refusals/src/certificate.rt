@@ -1,11 +1,10 @@
 //! What becomes of a snapshot, a certificate and its text where memory is refused.
 
 use crate::same::same;
-use gptp_certificate::{Certificate, CertificateFault, parse, print, write_certificate};
+use gptp_certificate::{Certificate, parse, print, write_certificate};
 use gptp_links::PcgFate;
-use gptp_network::{Document, DocumentFault, Snapshot};
+use gptp_network::{Document, Snapshot};
 use gptp_world::World;
-use std::alloc::{AllocError, Global};
 use std::test::Fail;
 
 /// Two systems whose first ports are linked.
@@ -32,101 +31,91 @@ port 0000000000000002 1 disabled
 end
 ";
 
-/// The document of a text, asked for again where memory is refused, and whether it was.
-fn read(alloc: Global, text: &[u8]) -> Result<(Document, bool), DocumentFault> {
-    match Document::read(alloc, text) {
-        Ok(document) => Ok((document, false)),
-        Err(_) => Ok((Document::read(alloc, text)?, true)),
+/// Tells which call was refused.
+fn tell(rt: &HostRuntime, call: &str) -> Result<(), Fail> {
+    println!(rt; "refused: {call}")?;
+    Ok(())
+}
+
+/// The document, asked for again where memory is refused.
+fn read(rt: &HostRuntime) -> Result<Document, Fail> {
+    if let Ok(document) = Document::read(rt.alloc(), TWO.as_bytes()) {
+        return Ok(document);
     }
+    tell(rt, "read")?;
+    Ok(Document::read(rt.alloc(), TWO.as_bytes())?)
 }
 
 /// So its snapshot at first.
-fn look(alloc: Global, document: &Document) -> Result<(Snapshot, bool), AllocError> {
-    match document.snapshot(alloc, 0) {
-        Ok(snapshot) => Ok((snapshot, false)),
-        Err(_) => Ok((document.snapshot(alloc, 0)?, true)),
+fn look(rt: &HostRuntime, document: &Document) -> Result<Snapshot, Fail> {
+    if let Ok(snapshot) = document.snapshot(rt.alloc(), 0) {
+        return Ok(snapshot);
     }
+    tell(rt, "snapshot")?;
+    Ok(document.snapshot(rt.alloc(), 0)?)
 }
 
 /// So its world as it begins.
-fn begin(alloc: Global, document: &Document) -> Result<(World<PcgFate>, bool), AllocError> {
-    match World::new(alloc, document.network(), PcgFate::new(0)) {
-        Ok(world) => Ok((world, false)),
-        Err(_) => Ok((
-            World::new(alloc, document.network(), PcgFate::new(0))?,
-            true,
-        )),
+fn begin(rt: &HostRuntime, document: &Document) -> Result<World<PcgFate>, Fail> {
+    let network = document.network();
+    if let Ok(world) = World::new(rt.alloc(), network, PcgFate::new(0)) {
+        return Ok(world);
     }
+    tell(rt, "new")?;
+    Ok(World::new(rt.alloc(), network, PcgFate::new(0))?)
 }
 
 /// So the certificate of a world.
-fn certify(alloc: Global, world: &World<PcgFate>) -> Result<(Certificate, bool), AllocError> {
-    match write_certificate(alloc, world) {
-        Ok(certificate) => Ok((certificate, false)),
-        Err(_) => Ok((write_certificate(alloc, world)?, true)),
+fn certify(rt: &HostRuntime, world: &World<PcgFate>) -> Result<Certificate, Fail> {
+    if let Ok(certificate) = write_certificate(rt.alloc(), world) {
+        return Ok(certificate);
     }
+    tell(rt, "write_certificate")?;
+    Ok(write_certificate(rt.alloc(), world)?)
 }
 
 /// So its text, and how much of it stood after a refusal.
-fn spell(alloc: Global, certificate: &Certificate) -> Result<(Vec<u8>, usize, bool), AllocError> {
-    let mut text = Vec::new(alloc);
-    match print(certificate, &mut text) {
-        Ok(()) => Ok((text, 0, false)),
-        Err(_) => {
-            let stood = text.len();
-            print(certificate, &mut text)?;
-            Ok((text, stood, true))
-        }
+fn spell(rt: &HostRuntime, certificate: &Certificate) -> Result<(Vec<u8>, usize), Fail> {
+    let mut text = Vec::new(rt.alloc());
+    if print(certificate, &mut text).is_ok() {
+        return Ok((text, 0));
     }
+    tell(rt, "print")?;
+    let stood = text.len();
+    print(certificate, &mut text)?;
+    Ok((text, stood))
 }
 
 /// So the certificate of a text.
-fn read_back(alloc: Global, text: &[u8]) -> Result<(Certificate, bool), CertificateFault> {
-    match parse(alloc, text) {
-        Ok(certificate) => Ok((certificate, false)),
-        Err(_) => Ok((parse(alloc, text)?, true)),
+fn read_back(rt: &HostRuntime, text: &[u8]) -> Result<Certificate, Fail> {
+    if let Ok(certificate) = parse(rt.alloc(), text) {
+        return Ok(certificate);
     }
-}
-
-/// Tells which call was refused, where it was.
-fn tell(rt: &HostRuntime, call: &str, refused: bool) -> Result<(), Fail> {
-    if refused {
-        println!(rt; "refused: {call}")?;
-    }
-    Ok(())
+    tell(rt, "parse")?;
+    Ok(parse(rt.alloc(), text)?)
 }
 
 #[test]
 fn a_refused_allocation_leaves_the_network(rt: HostRuntime) -> Result<(), Fail> {
-    let alloc = rt.alloc();
-    let (document, refused) = read(alloc, TWO.as_bytes())?;
-    tell(&rt, "read", refused)?;
-    let (snapshot, refused) = look(alloc, &document)?;
-    tell(&rt, "snapshot", refused)?;
+    let document = read(&rt)?;
+    let snapshot = look(&rt, &document)?;
     same(&rt, (snapshot.systems(), snapshot.links()), (2, 1));
     Ok(())
 }
 
 #[test]
 fn a_refused_allocation_leaves_the_certificate(rt: HostRuntime) -> Result<(), Fail> {
-    let alloc = rt.alloc();
-    let (document, refused) = read(alloc, TWO.as_bytes())?;
-    tell(&rt, "read", refused)?;
-    let (world, refused) = begin(alloc, &document)?;
-    tell(&rt, "new", refused)?;
-    let (certificate, refused) = certify(alloc, &world)?;
-    tell(&rt, "write_certificate", refused)?;
+    let document = read(&rt)?;
+    let world = begin(&rt, &document)?;
+    let certificate = certify(&rt, &world)?;
     same(&rt, certificate.len(), 2);
     Ok(())
 }
 
 #[test]
 fn a_refused_allocation_leaves_the_text_of_a_certificate(rt: HostRuntime) -> Result<(), Fail> {
-    let alloc = rt.alloc();
-    let (certificate, refused) = read_back(alloc, AT_FIRST.as_bytes())?;
-    tell(&rt, "parse", refused)?;
-    let (text, stood, refused) = spell(alloc, &certificate)?;
-    tell(&rt, "print", refused)?;
+    let certificate = read_back(&rt, AT_FIRST.as_bytes())?;
+    let (text, stood) = spell(&rt, &certificate)?;
     same(&rt, stood, 0);
     same(&rt, text.as_slice(), AT_FIRST.as_bytes());
     Ok(())
