@@ -1,212 +1,301 @@
--- What an order of the entries says of the least of them, and how it goes on being one.
-use Rattle.std.proofs.Common.{◌≡◌, ℕ, ◌+◌, ◌<◌, Bool, true, false, List, [], ◌∷◌, ◌++◌, length, get_or, refl, sym, ap, ◌∙◌, arith, take, drop, inl, inr}
-use Prim.Native.Nat.{suc}
-use Rattle.std.proofs.lemmas.List.{take-append-drop}
-use Rattle.std.proofs.Common.{Option, Some, None, IsSome, ◌==◌, subst}
+-- What a heap of the entries says of the least of them, and how it goes on holding them.
+use Rattle.std.proofs.Common.{◌≡◌, ℕ, ◌+◌, ◌<◌, ◌≤◌, Bool, true, false, List, [], ◌∷◌, ◌++◌, length, get_or, refl, sym, ap, ◌∙◌, arith, inl, inr, ◌⊎◌, not}
+use Prim.Native.Nat.{zero, suc}
+use Rattle.std.proofs.Common.{Option, Some, None, IsSome, IfSome, ◌==◌, filter}
+use Rattle.std.proofs.HeapSift.{greatest}
 use Rattle.std.proofs.lemmas.Bool.Decides.{nat_tests}
-use Rattle.std.specs.List.{AllByRecursion}
-use Rattle.std.specs.Option.{option_map, OnSome}
-use Rattle.gptp_scheduler.specs.Pending.{Entry, entry, entry_at, without, RiseFrom, IsFirst, IsNoEarlier, NothingDue}
-use Rattle.gptp_scheduler.specs.Order.{is_earlier, IsEarlier, IsAmong, Orders, due_at, time_at}
+use Rattle.std.proofs.lemmas.Cmp.{back_total, nat_cmp_total, on_total, then_total}
+use Rattle.std.proofs.lemmas.List.Elements.{All-cons, All-contains, All-filter, All-from_recursion, All-tail, Contains-append_cases, Contains-append_right, Contains-get_or, filter_passes}
+use Rattle.std.proofs.lemmas.List.Sorted.{All-permutation, Contains-permutation, IsPermutation-filter_both, IsPermutation-sym}
+use Rattle.std.specs.BinaryHeap.{IsHeap, PopsGreatest, lt_by_cmp}
+use Rattle.std.specs.Cmp.{IsTotalOrder}
+use Rattle.std.specs.List.{All, Contains}
+use Rattle.std.specs.List.Sorted.{IsPermutation}
+use Rattle.std.specs.Option.{OnSome, is_some, option_map}
+use Rattle.std.specs.declared.cmp.Reverse.{Reverse}
+use Rattle.gptp_scheduler.specs.Pending.{Entry, entry, entry_at, without, IsFirst, IsNoEarlier, NothingDue}
+use Rattle.gptp_scheduler.specs.Order.{due_at, due_first, time_at, IsThere, WasPut, Holds, Orders}
 use Rattle.gptp_scheduler.specs.declared.agenda.Due.{Due}
-use Rattle.gptp_scheduler.proofs.EntryLemmas.{absent, at-own, at-push_other, at-push_same, at-unused, at-without_other, at-without_same, number-at, rise-push, rise-without, none_is_no_time, used}
-use Rattle.gptp_scheduler.proofs.OrderLemmas.{all-append, all-insert, all-remove, all-weaken, all-both, all_at, drop-tail, due_later, among-insert, among-inserted, among-remove, order-insert, order-remove, others_differ, stands}
+use Rattle.gptp_scheduler.proofs.EntryLemmas.{absent, at-own, at-push_other, at-push_same, at-unused, at-without_other, at-without_same, number-at, rise-push, rise-without, none_is_no_time}
 
 pub on_some : {X : Type 0} (o : Option X) (P : Type 0) → IsSome o → OnSome o P → P
 on_some None P some is = absurd (grind (arith, some))
 on_some (Some x) P some is = is
 
-module _ {T : Type 0} where
-  no_earlier : (d : Due) (ds : List Due) (e : Entry T) → AllByRecursion (IsEarlier d) ds
-      → IsAmong (due_at e.time e.number) (d ∷ ds)
-      → IsNoEarlier d.time d.number e
-  no_earlier d ds e later (inl same) =
-      let time : e.time ≡ d.time = ap (λ (x : Due). x.time) same in
-      let number : e.number ≡ d.number = ap (λ (x : Due). x.number) same in
-      record { not_before = omega arith; by_number = λ _. omega arith }
-  no_earlier d [] e later (inr among) = elim among [ ]
-  no_earlier d (x ∷ ds) e later (inr (inl same)) =
-      let time : e.time ≡ x.time = ap (λ (x : Due). x.time) same in
-      let number : e.number ≡ x.number = ap (λ (x : Due). x.number) same in
-      let earlier : IsEarlier d x = later.0 in
-      record { not_before = grind (arith, nat_tests); by_number = λ tie. grind (arith, nat_tests) }
-  no_earlier d (x ∷ ds) e later (inr (inr among)) = no_earlier d ds e later.1 (inr among)
+-- what has no member has length 0, as a clause of `peek` says it
+pub no_length : (n : ℕ) → (0 < n → false ≡ true) → n ≡ 0
+no_length zero none = refl
+no_length (suc n) none = let absent : false ≡ true = none (omega arith) in absurd (grind (arith, absent))
 
-  module _ (next : ℕ) (es : List (Entry T)) where
-    -- each entry is in the order
-    entry_among : (order : List Due) → Orders order next es → (i : ℕ) (x : Entry T) → i < length es
-        → IsAmong (due_at (get_or es i x).time (get_or es i x).number) order
-    entry_among order orders i x within =
-        orders.complete (get_or es i x).time (get_or es i x).number
-        (ap (option_map (λ (e : Entry T). e.time)) (at-own 0 es next i x orders.rising within))
+-- what isn't due before this is no earlier
+no_earlier : (d e : Reverse Due) → lt_by_cmp due_first d e ≡ false
+    → (d.0.time ≤ e.0.time) × (e.0.time ≡ d.0.time → d.0.number ≤ e.0.number)
+no_earlier d e h = (grind (arith, nat_tests), λ same. grind (arith, nat_tests))
 
-    pub first_is : (d : Due) (ds : List Due) → Orders (d ∷ ds) next es → IsFirst es d.time d.number
-    first_is d ds orders =
-        record {
-          member = orders.sound.0;
-          least = λ i x within. no_earlier d ds (get_or es i x) orders.in_order.0
-              (entry_among (d ∷ ds) orders i x within);
-        }
+same_due : (d e : Reverse Due) → lt_by_cmp due_first d e ≡ false → lt_by_cmp due_first e d ≡ false → d ≡ e
+same_due d e h k = grind (arith, nat_tests)
 
-    pub nothing_due : (d : Due) (ds : List Due) (now : ℕ) → Orders (d ∷ ds) next es → now < d.time → NothingDue es now
-    nothing_due d ds now orders late = λ i x within. let least = (first_is d ds orders).least i x within in
-        let h = least.not_before in omega arith
+total : IsTotalOrder due_first
+total = back_total (then_total
+    (on_total (λ (d : Reverse Due). d.0.time) nat_cmp_total) (on_total (λ (d : Reverse Due). d.0.number) nat_cmp_total))
 
-  pub no_entry : (next : ℕ) (es : List (Entry T)) → Orders [] next es → es ≡ []
-  no_entry next [] orders = refl
-  no_entry next (e ∷ es) orders = elim (entry_among next (e ∷ es) [] orders 0 e (omega arith)) [ ]
+-- nothing in a heap is due before what is on top
+top_first : (heap : List (Reverse Due)) (d e : Reverse Due) → IsHeap due_first heap → d ≡ get_or heap 0 d
+    → Contains heap e → lt_by_cmp due_first d e ≡ false
+top_first heap d e ordered top among =
+    let later = λ (x : Reverse Due). lt_by_cmp due_first d x ≡ false in
+    All-contains later heap e (All-from_recursion later heap (greatest total heap d top ordered)) among
 
-  -- the order of the entries with one more
-  module _ (next : ℕ) (es : List (Entry T)) (time : ℕ) (item : T) (rises : RiseFrom 0 es next) where
+same_top : (heap : List (Reverse Due)) (d e : Reverse Due) → 0 < length heap → get_or heap 0 d ≡ get_or heap 0 e
+same_top [] d e some = absurd (omega (arith, some))
+same_top (x ∷ heap) d e some = refl
+
+among_one : (d e : Reverse Due) → Contains (d ∷ []) e → e ≡ d
+among_one d e (zero, within, is) = sym is
+among_one d e (suc k, within, is) = absurd (omega (arith, within))
+
+module _ {T : Type 0} (es : List (Entry T)) where
+  abbrev pub held : Reverse Due → Bool
+  held d = is_some (entry_at es d.0.number)
+
+  there : (n t : ℕ) → time_at es n ≡ Some t → is_some (entry_at es n) ≡ true
+  there n t found = by (entry_at es n) found where
+    by : (o : Option (Entry T)) → option_map (λ (e : Entry T). e.time) o ≡ Some t → is_some o ≡ true
+    by None found = absurd (none_is_no_time t found)
+    by (Some e) found = refl
+
+  -- what was put and is there still is due when it was put for
+  pub is_there : (next : ℕ) (d : Reverse Due) → WasPut es next d → held d ≡ true → IsThere es d
+  is_there next d put held = by (entry_at es d.0.number) refl held where
+    by : (o : Option (Entry T)) → entry_at es d.0.number ≡ o → is_some o ≡ true → IsThere es d
+    by None is held = absurd (grind (arith, held))
+    by (Some e) is held =
+        let found : time_at es d.0.number ≡ Some e.time = ap (option_map (λ (x : Entry T). x.time)) is in
+        found ∙ ap Some (put.time e.time found)
+
+  module _ (heap : List (Reverse Due)) (next : ℕ) (orders : Orders es heap next) (d : Reverse Due)
+      (some : 0 < length heap) (top : d ≡ get_or heap 0 d) where
+    top_is_there : IsThere es d
+    top_is_there = rw (sym top) at (orders.top d some)
+
+    earliest : (i : ℕ) (e : Entry T) → i < length es → IsNoEarlier d.0.time d.0.number (get_or es i e)
+    earliest i e within =
+        let x = get_or es i e in
+        let found : time_at es x.number ≡ Some x.time =
+        ap (option_map (λ (y : Entry T). y.time)) (at-own 0 es next i e orders.holds.rising within) in
+        let among = orders.holds.complete x.time x.number found in
+        let least = no_earlier d (due_at x.time x.number) (top_first heap d _ orders.holds.ordered top among) in
+        record { not_before = least.0; by_number = least.1 }
+
+    pub first_is : IsFirst es d.0.time d.0.number
+    first_is = record { member = top_is_there; least = earliest }
+
+    pub nothing_due : (now : ℕ) → now < d.0.time → NothingDue es now
+    nothing_due now late = λ i e within. let least = (earliest i e within).not_before in omega (arith, least, late)
+
+    -- what is taken is the entry on top
+    pub taken_is : (t : ℕ) (item : T)
+        → option_map {U = ℕ × T} (λ (e : Entry T). (e.time, e.item)) (entry_at es d.0.number) ≡ Some (t, item)
+        → entry_at es d.0.number ≡ Some (entry d.0.time d.0.number item)
+    taken_is t item taken = by (entry_at es d.0.number) (number-at es d.0.number) top_is_there taken where
+      by : (o : Option (Entry T))
+          → option_map (λ (e : Entry T). e.number) o ≡ option_map (λ (e : Entry T). d.0.number) o
+          → option_map (λ (e : Entry T). e.time) o ≡ Some d.0.time
+          → option_map {U = ℕ × T} (λ (e : Entry T). (e.time, e.item)) o ≡ Some (t, item)
+          → o ≡ Some (entry d.0.time d.0.number item)
+      by None numbers times parts = absurd (none_is_no_time d.0.time times)
+      by (Some e) numbers times parts =
+          let number : e.number ≡ d.0.number = cc in let time : e.time ≡ d.0.time = cc in
+          let both : ◌≡◌ {A = ℕ × T} (e.time, e.item) (t, item) = cc in
+          let item_is : e.item ≡ item = ap (λ (p : ℕ × T). p.1) both in
+          ap (λ (x : ℕ). Some (entry x e.number e.item)) time
+          ∙ ap (λ (x : ℕ). Some (entry d.0.time x e.item)) number
+          ∙ ap (λ (x : T). Some (entry d.0.time d.0.number x)) item_is
+
+  pub no_entry : (heap : List (Reverse Due)) (next : ℕ) → Orders es heap next → length heap ≡ 0 → es ≡ []
+  no_entry heap next orders none = by es (λ i e within.
+      orders.holds.complete (get_or es i e).time (get_or es i e).number
+      (ap (option_map (λ (y : Entry T). y.time)) (at-own 0 es next i e orders.holds.rising within))) where
+        by : (xs : List (Entry T))
+            → ((i : ℕ) (e : Entry T) → i < length xs
+                → Contains heap (due_at (get_or xs i e).time (get_or xs i e).number))
+            → xs ≡ []
+        by [] among = refl
+        by (e ∷ xs) among = let at = among 0 e (omega arith) in absurd (omega (arith, none, at.1))
+
+  pub nothing_at_all : (heap : List (Reverse Due)) (next now : ℕ) → Orders es heap next → length heap ≡ 0
+      → NothingDue es now
+  nothing_at_all heap next now orders none =
+      let empty = no_entry heap next orders none in rw empty (λ i e within. absurd (omega (arith, within)))
+
+  -- nothing was taken out
+  pub orders-absent : (heap : List (Reverse Due)) (next number : ℕ) → Orders es heap next
+      → None ≡ option_map {U = ℕ × T} (λ (e : Entry T). (e.time, e.item)) (entry_at es number)
+      → Orders (without number es) heap next
+  orders-absent heap next number orders none = rw (absent es number (by (entry_at es number) none)) orders where
+    by : (o : Option (Entry T)) → None ≡ option_map {U = ℕ × T} (λ (e : Entry T). (e.time, e.item)) o → o ≡ None
+    by None none = refl
+    by (Some e) none = absurd (grind (arith, none))
+
+  -- with one entry more
+  module _ (heap larger : List (Reverse Due)) (next time : ℕ) (item : T) (orders : Orders es heap next)
+      (same : IsPermutation (due_at time next ∷ heap) larger) (ordered : IsHeap due_first larger) where
     abbrev now : List (Entry T)
     now = es ++ entry time next item ∷ []
 
-    time-kept : (n t : ℕ) → time_at es n ≡ Some t → time_at now n ≡ Some t
-    time-kept n t found =
-        let lower : n < next = used es next n t rises found in
-        ap (option_map (λ (e : Entry T). e.time)) (at-push_other es (entry time next item) n (λ same. omega arith))
-        ∙ found
+    time-other : (n : ℕ) → (n ≡ next → ⊥) → time_at now n ≡ time_at es n
+    time-other n other = ap (option_map (λ (e : Entry T). e.time)) (at-push_other es (entry time next item) n other)
 
     time-new : time_at now next ≡ Some time
     time-new = ap (option_map (λ (e : Entry T). e.time))
-        (at-push_same es (entry time next item) (at-unused 0 es next next rises (omega arith)))
+        (at-push_same es (entry time next item) (at-unused 0 es next next orders.holds.rising (omega arith)))
 
-    complete-push : (a b : List Due) → ((t n : ℕ) → time_at es n ≡ Some t → IsAmong (due_at t n) (a ++ b))
-        → (t n : ℕ) → time_at now n ≡ Some t
-        → (last : Bool) → (n == next) ≡ last → IsAmong (due_at t n) (a ++ due_at time next ∷ b)
-    complete-push a b complete t n found true h =
-        let same : n ≡ next = grind (arith, nat_tests) in
-        let due : Some time ≡ Some t = sym time-new ∙ sym (ap (λ (m : ℕ). time_at now m) same) ∙ found in
-        let times : time ≡ t = cc in
-        let is : due_at time next ≡ due_at t n = ap (λ (x : ℕ). due_at x next) times
-        ∙ ap (λ (m : ℕ). due_at t m) (sym same) in
-        subst (λ (x : Due). IsAmong x (a ++ due_at time next ∷ b)) is (among-inserted a b (due_at time next))
-    complete-push a b complete t n found false h =
-        let other : n ≡ next → ⊥ = λ same. grind (arith, nat_tests) in
-        among-insert a b (due_at time next) (due_at t n)
-        (complete t n (sym (ap (option_map (λ (e : Entry T). e.time)) (at-push_other es
-        (entry time next item) n other)) ∙ found))
+    put-new : WasPut now (next + 1) (due_at time next)
+    put-new = record {
+      given = omega arith;
+      time = λ t found. let times : Some time ≡ Some t = sym time-new ∙ found in cc;
+    }
 
-  pub orders-push : (a b : List Due) (next : ℕ) (es : List (Entry T)) (time : ℕ) (item : T) → Orders (a ++ b) next es
-      → AllByRecursion (λ e. IsEarlier e (due_at time next)) a
-      → AllByRecursion (λ e. is_earlier e (due_at time next) ≡ false) b
-      → Orders (a ++ due_at time next ∷ b) (next + 1) (es ++ entry time next item ∷ [])
-  orders-push a b next es time item orders before behind =
-      let lower =
-      all-weaken (λ d. time_at es d.number ≡ Some d.time) (λ d. d.number < next)
-      (λ d. used es next d.number d.time orders.rising) b
-      (all-append (λ d. time_at es d.number ≡ Some d.time) a b orders.sound) in
-      record {
-        in_order = order-insert a b (due_at time next) orders.in_order before
-            (all-both _ _ _ (λ e late low. due_later (due_at time next) e late low) b behind lower);
-        sound = all-insert _ a b (due_at time next)
-            (all-weaken _ (λ d. time_at (now next es time item orders.rising) d.number ≡ Some d.time)
-            (λ d. time-kept next es time item orders.rising d.number d.time) (a ++ b) orders.sound)
-            (time-new next es time item orders.rising);
-        complete = λ t n found. complete-push next es time item orders.rising a b orders.complete t n found
-            (n == next) refl;
-        rising = rise-push 0 es (entry time next item) orders.rising;
+    put-kept : (d : Reverse Due) → WasPut es next d → WasPut now (next + 1) d
+    put-kept d put = record {
+      given = let less = put.given in omega (arith, less);
+      time = λ t found.
+          let other = time-other d.0.number (λ is. let less = put.given in omega (arith, less, is)) in
+          put.time t (sym other ∙ found);
+    }
+
+    complete-now : (t n : ℕ) → time_at now n ≡ Some t → Contains (due_at time next ∷ heap) (due_at t n)
+    complete-now t n found = by (n == next) refl where
+      by : (last : Bool) → (n == next) ≡ last → Contains (due_at time next ∷ heap) (due_at t n)
+      by true h =
+          let is : n ≡ next = grind (arith, nat_tests, h) in
+          let times : Some time ≡ Some t = sym time-new ∙ sym (ap (λ (m : ℕ). time_at now m) is) ∙ found in
+          let at : time ≡ t = cc in
+          (0, omega arith, ap (λ (x : ℕ). due_at x next) at ∙ ap (λ (m : ℕ). due_at t m) (sym is))
+      by false h =
+          let other : n ≡ next → ⊥ = λ is. grind (arith, nat_tests, h, is) in
+          Contains-append_right (due_at time next ∷ []) heap (due_at t n)
+          (orders.holds.complete t n (sym (time-other n other) ∙ found))
+
+    holds-put : Holds now larger (next + 1)
+    holds-put = record {
+      ordered = ordered;
+      put = All-permutation (WasPut now (next + 1)) (due_at time next ∷ heap) larger same
+          (All-cons (WasPut now (next + 1)) (due_at time next) heap put-new
+          (λ i d within. put-kept (get_or heap i d) (orders.holds.put i d within)));
+      complete = λ t n found. Contains-permutation _ larger (due_at t n) same (complete-now t n found);
+      rising = rise-push 0 es (entry time next item) orders.holds.rising;
+    }
+
+    -- on top is the new one, or what was there
+    top-put : (d : Reverse Due) → 0 < length larger → IsThere now (get_or larger 0 d)
+    top-put d some = by (Contains-append_cases (x ∷ []) heap top
+        (Contains-permutation larger _ top (IsPermutation-sym _ _ same) (Contains-get_or larger 0 d some))) where
+          x : Reverse Due
+          x = due_at time next
+
+          top : Reverse Due
+          top = get_or larger 0 d
+
+          by : Contains (x ∷ []) top ⊎ Contains heap top → IsThere now top
+          by (inl new) = rw (among_one x top new) time-new
+          by (inr old) =
+              let before = get_or heap 0 d in
+            let within : 0 < length heap = omega (arith, old.1) in
+            let put = orders.holds.put 0 d within in
+            let stays = Contains-append_right (x ∷ []) heap before (Contains-get_or heap 0 d within) in
+            let least = top_first heap before top orders.holds.ordered (same_top heap d before within) old in
+            let back = top_first larger top before ordered (same_top larger d top some)
+                (Contains-permutation _ larger before same stays) in
+            let is : before ≡ top = same_due before top least back in
+            let kept = time-other before.0.number (λ e. omega (arith, put.given, e)) in
+            rw (← is) (kept ∙ orders.top d within)
+
+    pub orders-put : Orders now larger (next + 1)
+    orders-put = record { holds = holds-put; top = top-put }
+
+  -- with one entry less
+  module _ (heap : List (Reverse Due)) (next number : ℕ) (holds : Holds es heap next) where
+    abbrev left : List (Entry T)
+    left = without number es
+
+    found-before : (n t : ℕ) → time_at left n ≡ Some t → time_at es n ≡ Some t
+    found-before n t found = by (n == number) refl where
+      by : (gone : Bool) → (n == number) ≡ gone → time_at es n ≡ Some t
+      by true h =
+          let is : n ≡ number = grind (arith, nat_tests, h) in
+          let none : time_at left n ≡ None = ap (time_at left) is
+          ∙ ap (option_map (λ (e : Entry T). e.time)) (at-without_same es number) in
+          absurd (none_is_no_time t (sym none ∙ found))
+      by false h =
+          sym (ap (option_map (λ (e : Entry T). e.time))
+          (at-without_other es number n (λ is. grind (arith, nat_tests, h, is)))) ∙ found
+
+    pub holds-without : Holds left heap next
+    holds-without = record {
+      ordered = holds.ordered;
+      put = λ i d within. let put = holds.put i d within in record {
+        given = put.given;
+        time = λ t found. put.time t (found-before (get_or heap i d).0.number t found);
+      };
+      complete = λ t n found. holds.complete t n (found-before n t found);
+      rising = rise-without 0 es next number holds.rising;
+    }
+
+  -- without what was taken out
+  module _ (heap smaller : List (Reverse Due)) (next : ℕ) (holds : Holds es heap next)
+      (ordered : IsHeap due_first smaller) where
+    pub holds-popped : (d : Reverse Due) → IsPermutation heap (d ∷ smaller) → held d ≡ false → Holds es smaller next
+    holds-popped d same gone = record {
+      ordered = ordered;
+      put = All-tail (WasPut es next) d smaller (All-permutation (WasPut es next) heap (d ∷ smaller) same holds.put);
+      complete = λ t n found. by t n found (Contains-append_cases (d ∷ []) smaller (due_at t n)
+          (Contains-permutation heap (d ∷ smaller) (due_at t n) same (holds.complete t n found)));
+      rising = holds.rising;
+    } where
+      by : (t n : ℕ) → time_at es n ≡ Some t → Contains (d ∷ []) (due_at t n) ⊎ Contains smaller (due_at t n)
+          → Contains smaller (due_at t n)
+      by t n found (inl top) =
+          let is = ap (λ (x : Reverse Due). x.0.number) (among_one d (due_at t n) top) in
+          let is_held = there n t found in absurd (grind (arith, is, is_held, gone))
+      by t n found (inr other) = other
+
+    module _ (same : IsPermutation (filter held heap) smaller) where
+      still-complete : (t n : ℕ) → time_at es n ≡ Some t → Contains smaller (due_at t n)
+      still-complete t n found =
+          let gone = λ (x : Reverse Due). not (held x) in
+          Contains-permutation (filter held heap) smaller (due_at t n) same
+          (by (Contains-append_cases (filter held heap) (filter gone heap) (due_at t n)
+          (Contains-permutation heap _ (due_at t n) (IsPermutation-filter_both held gone (λ _. refl) heap)
+          (holds.complete t n found)))) where
+            by : Contains (filter held heap) (due_at t n) ⊎ Contains (filter (λ x. not (held x)) heap) (due_at t n)
+                → Contains (filter held heap) (due_at t n)
+            by (inl kept) = kept
+            by (inr dropped) =
+                let gone : not (held (due_at t n)) ≡ true =
+                All-contains (λ x. not (held x) ≡ true) _ (due_at t n)
+                (filter_passes (λ x. not (held x)) heap) dropped in
+                let is = there n t found in absurd (grind (arith, is, gone))
+
+      still-put : All (WasPut es next) smaller
+      still-put = All-permutation (WasPut es next) (filter held heap) smaller same
+          (All-filter held (WasPut es next) heap holds.put)
+
+      pub orders-swept : Orders es smaller next
+      orders-swept = record {
+        holds = record { ordered = ordered; put = still-put; complete = still-complete; rising = holds.rising };
+        top = λ d some.
+            let all = All-permutation (λ x. held x ≡ true) (filter held heap) smaller same (filter_passes held heap) in
+            is_there next (get_or smaller 0 d) (still-put 0 d some) (all 0 d some);
       }
 
-  without-kept : (es : List (Entry T)) (k n : ℕ) → (n ≡ k → ⊥) → time_at (without k es) n ≡ time_at es n
-  without-kept es k n other = ap (option_map (λ (e : Entry T). e.time)) (at-without_other es k n other)
-
-  -- in an order of the entries another due time has another number
-  other_number : (es : List (Entry T)) (d e : Due) → time_at es d.number ≡ Some d.time
-      → time_at es e.number ≡ Some e.time → (e ≡ d → ⊥) → e.number ≡ d.number → ⊥
-  other_number es d e here there differ same =
-      let times : Some e.time ≡ Some d.time = sym there ∙ ap (time_at es) same ∙ here in
-      let time : e.time ≡ d.time = cc in
-      differ (ap (λ (t : ℕ). due_at t e.number) time ∙ ap (λ (n : ℕ). due_at d.time n) same)
-
-  complete-without : (a b : List Due) (d : Due) (es : List (Entry T))
-      → ((t n : ℕ) → time_at es n ≡ Some t → IsAmong (due_at t n) (a ++ d ∷ b)) → (t n : ℕ)
-      → time_at (without d.number es) n ≡ Some t → (gone : Bool) → (n == d.number) ≡ gone
-      → IsAmong (due_at t n) (a ++ b)
-  complete-without a b d es complete t n found true h =
-      let same : n ≡ d.number = grind (arith, nat_tests) in
-      let gone : time_at (without d.number es) n ≡ None = ap (time_at (without d.number es)) same
-      ∙ ap (option_map (λ (e : Entry T). e.time)) (at-without_same es d.number) in
-      absurd (none_is_no_time t (sym gone ∙ found))
-  complete-without a b d es complete t n found false h =
-      let other : n ≡ d.number → ⊥ = λ same. grind (arith, nat_tests) in
-      among-remove a b d (due_at t n) (complete t n (sym (without-kept es d.number n other) ∙ found))
-      (λ same. other (ap (λ (x : Due). x.number) same))
-
-  pub orders-without : (a b : List Due) (d : Due) (next : ℕ) (es : List (Entry T)) → Orders (a ++ d ∷ b) next es
-      → Orders (a ++ b) next (without d.number es)
-  orders-without a b d next es orders =
-      let here : time_at es d.number ≡ Some d.time =
-      all_at (λ e. time_at es e.number ≡ Some e.time) a b d orders.sound in
-      record {
-        in_order = order-remove a b d orders.in_order;
-        sound = all-both _ _ (λ e. time_at (without d.number es) e.number ≡ Some e.time)
-            (λ e differ found. without-kept es d.number e.number (other_number es d e here found differ) ∙ found)
-            (a ++ b)
-            (others_differ a b d orders.in_order) (all-remove _ a b d orders.sound);
-        complete = λ t n found. complete-without a b d es orders.complete t n found (n == d.number) refl;
-        rising = rise-without 0 es next d.number orders.rising;
-      }
-
-  parts_is : (o : Option (Entry T)) (n time t : ℕ) (item : T)
-      → option_map (λ (e : Entry T). e.number) o ≡ option_map (λ (e : Entry T). n) o
-      → option_map (λ (e : Entry T). e.time) o ≡ Some time
-      → option_map {U = ℕ × T} (λ (e : Entry T). (e.time, e.item)) o ≡ Some (t, item) → o ≡ Some (entry time n item)
-  parts_is None n time t item numbers times parts = absurd (none_is_no_time time times)
-  parts_is (Some e) n time t item numbers times parts =
-      let number : e.number ≡ n = cc in let time_is : e.time ≡ time = cc in
-      let both : ◌≡◌ {A = ℕ × T} (e.time, e.item) (t, item) = cc in
-      let item_is : e.item ≡ item = ap (λ (p : ℕ × T). p.1) both in
-      ap (λ (x : ℕ). Some (entry x e.number e.item)) time_is ∙ ap (λ (x : ℕ). Some (entry time x e.item)) number
-      ∙ ap (λ (x : T). Some (entry time n x)) item_is
-
-  -- the front is a member
-  pub found_is : (es : List (Entry T)) (n time t : ℕ) (item : T) → time_at es n ≡ Some time
-      → option_map {U = ℕ × T} (λ (e : Entry T). (e.time, e.item)) (entry_at es n) ≡ Some (t, item)
-      → entry_at es n ≡ Some (entry time n item)
-  found_is es n time t item times parts = parts_is (entry_at es n) n time t item (number-at es n) times parts
-
-  -- nothing was cancelled
-  pub orders-absent : (order : List Due) (next : ℕ) (es : List (Entry T)) (n : ℕ) → Orders order next es
-      → entry_at es n ≡ None → Orders order next (without n es)
-  orders-absent order next es n orders none = rw (absent es n none) orders
-
-  -- what was cancelled goes from its place
-  pub orders-cancel : (order : List Due) (next : ℕ) (es : List (Entry T)) (n time place : ℕ) → Orders order next es
-      → time_at es n ≡ Some time
-      → AllByRecursion (λ e. IsEarlier e (due_at time n)) (take place order)
-      → AllByRecursion (λ e. is_earlier e (due_at time n) ≡ false) (drop place order)
-      → (place < length order) × Orders (take place order ++ drop (suc place) order) next (without n es)
-  orders-cancel order next es n time place orders found before behind =
-      let halves : take place order ++ drop place order ≡ order = take-append-drop place order in
-      let all : Orders (take place order ++ drop place order) next es = rw halves orders in
-      let here = stands (take place order) (drop place order) (due_at time n) all.in_order
-      (all.complete time n found) before behind in
-      let tail = drop-tail order place (due_at time n) here.0 here.1 in
-      let split : Orders (take place order ++ due_at time n ∷ here.0) next es =
-      subst (λ (b : List Due). Orders (take place order ++ b) next es) here.1 all in
-      let left = orders-without (take place order) here.0 (due_at time n) next es split in
-      (tail.0, subst (λ (b : List Due). Orders (take place order ++ b) next (without n es)) (sym tail.1) left)
-
-  pub nothing_at_all : (next : ℕ) (es : List (Entry T)) (now : ℕ) → Orders [] next es → NothingDue es now
-  nothing_at_all next es now orders = let none = no_entry next es orders in rw none (λ i x within. absurd (omega arith))
-
-  none_is : (o : Option (Entry T)) → None ≡ option_map {U = ℕ × T} (λ (e : Entry T). (e.time, e.item)) o → o ≡ None
-  none_is None none = refl
-  none_is (Some e) none = absurd (grind (arith, none))
-
-  pub none_absent : (es : List (Entry T)) (n : ℕ)
-      → None ≡ option_map {U = ℕ × T} (λ (e : Entry T). (e.time, e.item)) (entry_at es n) → entry_at es n ≡ None
-  none_absent es n none = none_is (entry_at es n) none
-
-  time_is : (o : Option (Entry T)) (time : ℕ) (item : T)
-      → Some (time, item) ≡ option_map {U = ℕ × T} (λ (e : Entry T). (e.time, e.item)) o
-      → option_map (λ (e : Entry T). e.time) o ≡ Some time
-  time_is None time item taken = absurd (grind (arith, taken))
-  time_is (Some e) time item taken = let both : ◌≡◌ {A = ℕ × T} (time, item) (e.time, e.item) = cc in
-      ap (λ (p : ℕ × T). Some p.0) (sym both)
-
-  pub time_taken : (es : List (Entry T)) (n time : ℕ) (item : T)
-      → Some (time, item) ≡ option_map {U = ℕ × T} (λ (e : Entry T). (e.time, e.item)) (entry_at es n)
-      → time_at es n ≡ Some time
-  time_taken es n time item taken = time_is (entry_at es n) time item taken
+  -- what a pop leaves, where what was on top was taken out
+  pub holds-pop : (heap smaller : List (Reverse Due)) (next : ℕ) (r : Option (Reverse Due)) (d : Reverse Due)
+      → Holds es heap next → 0 < length heap → d ≡ get_or heap 0 d → IsSome r → IfSome r (λ x. x ≡ get_or heap 0 x)
+      → IfSome r (λ x. IsPermutation heap (x ∷ smaller)) → IfSome r (λ x. PopsGreatest due_first heap x smaller)
+      → held d ≡ false → Holds es smaller next
+  holds-pop heap smaller next None d holds within top some first same greatest gone = absurd (grind (arith, some))
+  holds-pop heap smaller next (Some x) d holds within top some first same greatest gone =
+      let is : x ≡ d = first ∙ same_top heap x d within ∙ sym top in
+      holds-popped heap smaller next holds (greatest holds.ordered).0 x same
+      (ap held is ∙ gone)

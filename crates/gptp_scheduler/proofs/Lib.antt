@@ -1,4 +1,3 @@
 pub mod AgendaLemmas
 pub mod EntryLemmas
-pub mod OrderLemmas
 pub mod SlotLemmas

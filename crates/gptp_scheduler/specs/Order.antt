@@ -1,7 +1,11 @@
--- The order in which the entries of an agenda are due.
-use Rattle.std.specs.Prelude.{◌≡◌, ℕ, ◌==◌, ◌&&◌, ◌||◌, Bool, true, nat_lt, ⊤, ◌⊎◌, List, [], ◌∷◌, Option, Some}
-use Rattle.std.specs.List.{AllByRecursion}
+-- The heap in which the entries of an agenda stand, the one that is due first on top.
+use Rattle.std.specs.Prelude.{◌≡◌, ℕ, ◌<◌, ◌==◌, ◌&&◌, ◌||◌, Bool, nat_lt, List, length, slice_index_or, Option, Some}
+use Rattle.std.specs.List.{All, Contains}
 use Rattle.std.specs.Option.{option_map}
+use Rattle.std.specs.Ordering.{nat_cmp, ordering_then}
+use Rattle.std.specs.declared.cmp.Ordering.{Ordering}
+use Rattle.std.specs.BinaryHeap.{IsHeap}
+use Rattle.std.specs.declared.cmp.Reverse.{Reverse}
 use Rattle.gptp_scheduler.specs.Pending.{Entry, entry_at, RiseFrom}
 use Rattle.gptp_scheduler.specs.declared.agenda.Due.{Due}
 
@@ -9,28 +13,35 @@ use Rattle.gptp_scheduler.specs.declared.agenda.Due.{Due}
 abbrev pub is_earlier : Due → Due → Bool
 is_earlier d e = nat_lt d.time e.time || (d.time == e.time && nat_lt d.number e.number)
 
-abbrev pub IsEarlier : Due → Due → Type 0
-IsEarlier d e = is_earlier d e ≡ true
+abbrev pub due_at : ℕ → ℕ → Reverse Due
+due_at time number = record { 0 = record { time = time; number = number } }
 
--- each is due before all that follow
-abbrev pub AreInOrder : List Due → Type 0
-AreInOrder [] = ⊤
-AreInOrder (d ∷ ds) = AllByRecursion (IsEarlier d) ds × AreInOrder ds
+-- how the heap compares two: what is due first is the greatest
+abbrev pub due_first : Reverse Due → Reverse Due → Ordering
+due_first d e = ordering_then (nat_cmp e.0.time d.0.time) (nat_cmp e.0.number d.0.number)
 
-abbrev pub IsAmong : Due → List Due → Type 0
-IsAmong d [] = ⊥
-IsAmong d (e ∷ es) = (d ≡ e) ⊎ IsAmong d es
+module _ {T : Type 0} (entries : List (Entry T)) where
+  -- the time of the entry of a number
+  abbrev pub time_at : ℕ → Option ℕ
+  time_at number = option_map (λ (e : Entry T). e.time) (entry_at entries number)
 
-abbrev pub due_at : ℕ → ℕ → Due
-due_at time number = record { time = time; number = number }
+  -- its entry is there
+  abbrev pub IsThere : Reverse Due → Type 0
+  IsThere d = time_at d.0.number ≡ Some d.0.time
 
--- the time of the entry of a number
-abbrev pub time_at : {T : Type 0} → List (Entry T) → ℕ → Option ℕ
-time_at {T} entries number = option_map (λ (e : Entry T). e.time) (entry_at entries number)
+  -- its number was given, and where its entry is there still, that is due then
+  pub record WasPut (next : ℕ) (d : Reverse Due) : Type 0 where
+    pub given : d.0.number < next
+    pub time : (t : ℕ) → time_at d.0.number ≡ Some t → t ≡ d.0.time
 
--- this order has each entry once, least first; the entries' numbers rise
-pub record Orders {T : Type 0} (order : List Due) (next : ℕ) (entries : List (Entry T)) : Type 0 where
-  pub in_order : AreInOrder order
-  pub sound : AllByRecursion (λ d. time_at entries d.number ≡ Some d.time) order
-  pub complete : (time number : ℕ) → time_at entries number ≡ Some time → IsAmong (due_at time number) order
-  pub rising : RiseFrom 0 entries next
+  -- this heap has each entry, and beside them only such as were taken out
+  pub record Holds (heap : List (Reverse Due)) (next : ℕ) : Type 0 where
+    pub ordered : IsHeap due_first heap
+    pub put : All (WasPut next) heap
+    pub complete : (time number : ℕ) → time_at number ≡ Some time → Contains heap (due_at time number)
+    pub rising : RiseFrom 0 entries next
+
+  -- and what is on top wasn't taken out
+  pub record Orders (heap : List (Reverse Due)) (next : ℕ) : Type 0 where
+    pub holds : Holds heap next
+    pub top : (d : Reverse Due) → 0 < length heap → IsThere (slice_index_or heap 0 d)

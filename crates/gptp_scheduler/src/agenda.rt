@@ -1,18 +1,19 @@
 //! An agenda of what is to be done.
 
-ghost use Rattle.std.specs.Prelude.{◌≡◌, ℕ, ◌+◌, ◌-◌, ◌^◌, ◌<◌, ◌≤◌, [], ◌∷◌, ◌++◌, length, take, drop, true, false, IsOk, OnOk, OnErr, IfOk, IfSome, IfNone, Some, None, option_copied};
-ghost use Rattle.std.specs.List.{AllByRecursion};
+ghost use Rattle.std.specs.Prelude.{◌≡◌, ℕ, ◌+◌, ◌-◌, ◌^◌, ◌<◌, ◌≤◌, [], ◌∷◌, ◌++◌, IsOk, OnOk, OnErr, IfOk, IfSome, IfNone, Some, None, option_copied};
+ghost use Rattle.std.specs.BinaryHeap.{heap_items, heap_len, heap_capacity};
 ghost use Rattle.std.specs.Option.{option_map};
 ghost use Rattle.gptp_scheduler.specs.Pending.{entry, entry_at, without, IsFirst, NothingDue, RiseFrom};
-ghost use Rattle.gptp_scheduler.specs.Order.{is_earlier, AreInOrder};
+ghost use Rattle.gptp_scheduler.specs.Order.{Holds, Orders};
 
 use crate::slots::Slots;
 use std::alloc::{AllocError, Global};
-use std::collections::VecDeque;
+use std::cmp::Reverse;
+use std::collections::BinaryHeap;
 use std::marker::Model;
 
 /// When an entry is due, and its number.
-#[derive(Clone, Copy, Debug)]
+#[derive(Clone, Copy, Debug, PartialEq, Eq, PartialOrd, Ord)]
 pub(crate) struct Due {
     time: u64,
     number: u64,
@@ -25,15 +26,16 @@ pub(crate) struct Due {
 /// more can be put without being refused.
 #[derive(Drop)]
 pub struct Agenda<T> {
-    // The times and numbers of all entries, least first.
-    order: VecDeque<Due>,
+    // The times and numbers of all entries, least first, and of some that were cancelled, of which none
+    // is on top.
+    order: BinaryHeap<Reverse<Due>>,
     entries: Slots<T>,
 }
 
 impl<T> Model for Agenda<T> {
     ghost use Rattle.std.specs.Prelude.{◌-◌};
     ghost use Rattle.std.specs.Prelude.{min};
-    ghost use Rattle.std.specs.VecDeque.{deque_len, deque_capacity};
+    ghost use Rattle.std.specs.BinaryHeap.{heap_items, heap_len, heap_capacity};
     ghost use Rattle.gptp_scheduler.specs.Pending.{Pending, pending_code};
 
     ghost Value = { Pending T };
@@ -45,10 +47,10 @@ impl<T> Model for Agenda<T> {
     ghost view = { λ a. record {
       next = a.entries.next;
       entries = a.entries.entries;
-      room = min a.entries.room (deque_capacity a.order - deque_len a.order);
+      room = min a.entries.room (heap_capacity a.order - heap_len a.order);
     } };
 
-    ghost invariant = { λ a. Orders a.order.items a.entries.next a.entries.entries };
+    ghost invariant = { λ a. Orders a.entries.entries (heap_items a.order) a.entries.next };
 }
 
 impl<T: Drop> Agenda<T> {
@@ -58,7 +60,7 @@ impl<T: Drop> Agenda<T> {
         ensures entries { result.entries ≡ [] }
     {
         Agenda {
-            order: VecDeque::new(alloc),
+            order: BinaryHeap::new(alloc),
             entries: Slots::new(alloc),
         }
     }
@@ -74,7 +76,13 @@ impl<T: Drop> Agenda<T> {
         ensures succeeds { additional ≤ self.old.room → IsOk result }
     {
         self.entries.reserve(additional)?;
-        self.order.reserve(additional)
+        if self.order.capacity() - self.order.len() < additional {
+            drop_cancelled(&mut self.order, &self.entries);
+            // As much again as there is, so that what was cancelled is looked for seldom.
+            self.order
+                .reserve(self.order.len().saturating_add(additional))?;
+        }
+        Ok(())
     }
 
     /// Puts an entry, and answers its number. Refused where there is no memory for it, or no number
@@ -90,8 +98,7 @@ impl<T: Drop> Agenda<T> {
     {
         self.reserve(1)?;
         let number = self.entries.next_number();
-        let place = place_of(&self.order, Due { time, number });
-        self.order.insert(place, Due { time, number })?;
+        self.order.push(Reverse(Due { time, number }))?;
         self.entries.push(time, item);
         Ok(number)
     }
@@ -101,7 +108,7 @@ impl<T: Drop> Agenda<T> {
         ensures first { IfSome result (λ due. IsFirst self.now.entries due.0 due.1) }
         ensures empty { IfNone result (self.now.entries ≡ []) }
     {
-        let due = *self.order.front()?;
+        let Reverse(due) = *self.order.peek()?;
         Some((due.time, due.number))
     }
 
@@ -123,12 +130,12 @@ impl<T: Drop> Agenda<T> {
         ensures next { self.new.next ≡ self.old.next }
         ensures room { self.old.room ≤ self.new.room }
     {
-        let due = *self.order.front()?;
+        let Reverse(due) = *self.order.peek()?;
         if now < due.time {
             return None;
         }
-        self.order.pop_front();
         let (_, item) = self.entries.remove(due.number).unwrap();
+        uncover(&mut self.order, &self.entries);
         Some((due.time, due.number, item))
     }
 
@@ -139,9 +146,8 @@ impl<T: Drop> Agenda<T> {
         ensures next { self.new.next ≡ self.old.next }
         ensures room { self.old.room ≤ self.new.room }
     {
-        let (time, item) = self.entries.remove(number)?;
-        let place = place_of(&self.order, Due { time, number });
-        self.order.remove(place);
+        let (_, item) = self.entries.remove(number)?;
+        uncover(&mut self.order, &self.entries);
         Some(item)
     }
 
@@ -153,14 +159,27 @@ impl<T: Drop> Agenda<T> {
     }
 }
 
-/// Where something due then stands or would stand: behind all that is earlier.
-fn place_of(order: &VecDeque<Due>, due: Due) -> usize
-    requires { AreInOrder order.now.items }
-    ensures bound { result ≤ length order.now.items }
-    ensures before { AllByRecursion (λ other. is_earlier other due ≡ true) (take result order.now.items) }
-    ensures behind { AllByRecursion (λ other. is_earlier other due ≡ false) (drop result order.now.items) }
+/// Drops what was cancelled from the top, so that the least entry is there.
+fn uncover<T>(order: &mut BinaryHeap<Reverse<Due>>, entries: &Slots<T>)
+    requires { Holds entries.now.entries (heap_items order.old) entries.now.next }
+    ensures orders { Orders entries.now.entries (heap_items order.new) entries.now.next }
+    ensures len { heap_len order.new ≤ heap_len order.old }
+    ensures capacity { heap_capacity order.new ≡ heap_capacity order.old }
 {
-    order.partition_point(|other| {
-        other.time < due.time || (other.time == due.time && other.number < due.number)
-    })
+    while let Some(Reverse(due)) = order.peek() {
+        if entries.holds(due.number) {
+            break;
+        }
+        order.pop();
+    }
+}
+
+/// Drops all that was cancelled.
+fn drop_cancelled<T>(order: &mut BinaryHeap<Reverse<Due>>, entries: &Slots<T>)
+    requires { Holds entries.now.entries (heap_items order.old) entries.now.next }
+    ensures orders { Orders entries.now.entries (heap_items order.new) entries.now.next }
+    ensures len { heap_len order.new ≤ heap_len order.old }
+    ensures capacity { heap_capacity order.new ≡ heap_capacity order.old }
+{
+    order.retain(|Reverse(due)| entries.holds(due.number));
 }

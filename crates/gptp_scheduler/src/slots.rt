@@ -2,7 +2,7 @@
 
 ghost use Rattle.std.specs.Prelude.{◌≡◌, ℕ, ◌+◌, ◌-◌, ◌^◌, ◌<◌, ◌≤◌, [], ◌∷◌, ◌++◌, length, slice_index_or, slice_set, IsOk, OnOk, OnErr, Some, None, option_copied};
 ghost use Rattle.std.specs.VecDeque.{deque_len, deque_capacity};
-ghost use Rattle.std.specs.Option.{option_map};
+ghost use Rattle.std.specs.Option.{is_some, option_map};
 ghost use Rattle.gptp_scheduler.specs.Pending.{entry, entry_at, without};
 ghost use Rattle.gptp_scheduler.specs.Slots.{entries_from};
 
@@ -97,6 +97,13 @@ impl<T> Slots<T> {
             return None;
         }
         item_of(self.slots.get((number - self.first) as usize)?)
+    }
+
+    /// Whether the entry of a number is there.
+    pub fn holds(&self, number: u64) -> bool
+        ensures { result ≡ is_some (entry_at self.now.entries number) }
+    {
+        self.item(number).is_some()
     }
 
     /// Takes the entry of a number out, its time and its item, where it is there.
