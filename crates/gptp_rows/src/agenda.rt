@@ -63,6 +63,21 @@ fn a_cancelled_entry_is_gone(rt: HostRuntime) -> Result<(), Fail> {
 }
 
 #[test]
+fn many_are_cancelled(rt: HostRuntime) -> Result<(), Fail> {
+    let mut agenda = Agenda::new(rt.alloc());
+    same(&rt, agenda.put(5, 0)?, 0);
+    for number in 1_u64..3_000 {
+        same(&rt, agenda.put(7, number)?, number);
+        same(&rt, agenda.cancel(number), Some(number));
+    }
+    same(&rt, agenda.put(6, 3_000)?, 3_000);
+    same(&rt, agenda.take_due(9), Some((5, 0, 0)));
+    same(&rt, agenda.take_due(9), Some((6, 3_000, 3_000)));
+    same(&rt, agenda.take_due(9), None);
+    Ok(())
+}
+
+#[test]
 fn the_last_moment_is_a_time_too(rt: HostRuntime) -> Result<(), Fail> {
     let mut agenda = Agenda::new(rt.alloc());
     same(&rt, agenda.put(u64::MAX, 'a')?, 0);
