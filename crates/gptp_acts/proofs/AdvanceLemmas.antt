@@ -133,7 +133,8 @@ pub record LeavesLess (time : ℕ) (w w' : WorldState) : Type 0 where
   pub is_time : w'.time ≡ time
 
 pub leaves_less : (item : Item) (time : ℕ) (act : Act) (w : WorldState) (draws : List Draw) (done : Done)
-    (w' : WorldState) → IsSound (at time w) → IsActOf item w act → Acts act (at time w) draws done w' → LeavesLess time w w'
+    (w' : WorldState) → IsSound (at time w) → IsActOf item w act → Acts act (at time w) draws done w'
+    → LeavesLess time w w'
 leaves_less (Arrival link direction) time act w draws done w' sound is acts =
     let k : Delivery link direction done (at time w) draws w' = subst (λ a. Acts a (at time w) draws done w') is acts in
     let heard = k.delivers in
@@ -154,7 +155,8 @@ leaves_less (Expiry place timer) time act w draws done w' sound (station, here, 
 -- ---- one act, and one after another
 
 module _ {F : Type 0} (answers : Bounds → ℕ → F → Option ℕ → F → Type 0) where
-  -- The next has happened by a time, and it alone: this is told of it. Less is left to do at its own time, and nothing before.
+  -- The next has happened by a time, and it alone: this is told of it. Less is left to do at its own time, and
+  -- nothing before.
   pub record Happened (until : ℕ) (told : Told) (fate fate_after : F) (w w' : WorldState) : Type 0 where
     pub advances : Advances answers until (told ∷ []) fate fate_after w w'
     pub less : due_by told.timed.at w'.net.pending < due_by told.timed.at w.net.pending

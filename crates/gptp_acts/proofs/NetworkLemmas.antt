@@ -101,7 +101,8 @@ link_added n w h c = record {
   clocks = h.clocks;
   links = λ i x e. elim (behind n.links w x i e) [
     | inl f ↦ kept_wire n w x i (h.links i x f)
-    | inr f ↦ subst (λ j. IsWire (with_link w n) j x) (sym f.0) (subst (IsWire (with_link w n) (length n.links)) f.1 (kept_wire n w w (length n.links) c.limits))
+    | inr f ↦ subst (λ j. IsWire (with_link w n) j x) (sym f.0)
+        (subst (IsWire (with_link w n) (length n.links)) f.1 (kept_wire n w w (length n.links) c.limits))
   ];
   one_link = λ i j v x p e f at_v at_x. elim (behind n.links w v i e) [
     | inl e' ↦ elim (behind n.links w x j f) [

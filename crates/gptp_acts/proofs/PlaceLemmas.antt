@@ -2,19 +2,22 @@
 use Rattle.std.proofs.Common.{◌<◌, ◌≡◌, ◌≢◌, ◌⊎◌, ℕ, zero, suc, List, [], ◌∷◌, ◌++◌, length, map, Some, slice_get, slice_set, slice_index_or, refl, ap, subst, sym, ◌∙◌, inl, inr, arith}
 use Rattle.std.proofs.lemmas.Option.{none-some, same_Some}
 
-pub get-set_same : {X : Type 0} (xs : List X) (i : ℕ) (x y : X) → slice_get xs i ≡ Some x → slice_get (slice_set xs i y) i ≡ Some y
+pub get-set_same : {X : Type 0} (xs : List X) (i : ℕ) (x y : X) → slice_get xs i ≡ Some x
+    → slice_get (slice_set xs i y) i ≡ Some y
 get-set_same [] i x y is = absurd (none-some x is)
 get-set_same (z ∷ zs) zero x y is = refl
 get-set_same (z ∷ zs) (suc i) x y is = get-set_same zs i x y is
 
-pub get-set_other : {X : Type 0} (xs : List X) (i j : ℕ) (y : X) → j ≢ i → slice_get (slice_set xs i y) j ≡ slice_get xs j
+pub get-set_other : {X : Type 0} (xs : List X) (i j : ℕ) (y : X) → j ≢ i
+    → slice_get (slice_set xs i y) j ≡ slice_get xs j
 get-set_other [] i j y other = refl
 get-set_other (z ∷ zs) zero zero y other = absurd (other refl)
 get-set_other (z ∷ zs) zero (suc j) y other = refl
 get-set_other (z ∷ zs) (suc i) zero y other = refl
 get-set_other (z ∷ zs) (suc i) (suc j) y other = get-set_other zs i j y (λ e. other (ap suc e))
 
-pub get-map : {X Y : Type 0} (f : X → Y) (xs : List X) (i : ℕ) (x : X) → slice_get xs i ≡ Some x → slice_get (map f xs) i ≡ Some (f x)
+pub get-map : {X Y : Type 0} (f : X → Y) (xs : List X) (i : ℕ) (x : X) → slice_get xs i ≡ Some x
+    → slice_get (map f xs) i ≡ Some (f x)
 get-map f [] i x is = absurd (none-some x is)
 get-map f (z ∷ zs) zero x is = ap (λ v. Some (f v)) (same_Some z x is)
 get-map f (z ∷ zs) (suc i) x is = get-map f zs i x is
@@ -30,7 +33,8 @@ within [] i less = absurd (omega arith)
 within (z ∷ zs) zero less = (z, refl)
 within (z ∷ zs) (suc i) less = within zs i (omega arith)
 
-pub map-set : {X Y : Type 0} (f : X → Y) (xs : List X) (i : ℕ) (y : X) → map f (slice_set xs i y) ≡ slice_set (map f xs) i (f y)
+pub map-set : {X Y : Type 0} (f : X → Y) (xs : List X) (i : ℕ) (y : X)
+    → map f (slice_set xs i y) ≡ slice_set (map f xs) i (f y)
 map-set f [] i y = refl
 map-set f (z ∷ zs) zero y = refl
 map-set f (z ∷ zs) (suc i) y = ap (λ rest. f z ∷ rest) (map-set f zs i y)
@@ -66,7 +70,8 @@ get-set_all P xs place old new here is all i x there = by (same_place i place)
     by (inr apart) = all i x (sym (get-set_other xs place i new apart) ∙ there)
 
 -- what is read where something stands
-pub stands : {X : Type 0} (xs : List X) (i : ℕ) (x d : X) → slice_get xs i ≡ Some x → slice_get xs i ≡ Some (slice_index_or xs i d)
+pub stands : {X : Type 0} (xs : List X) (i : ℕ) (x d : X) → slice_get xs i ≡ Some x
+    → slice_get xs i ≡ Some (slice_index_or xs i d)
 stands xs i x d is = is ∙ ap Some (sym (read xs i x d is))
 
 -- ---- one more behind
@@ -83,7 +88,8 @@ behind (z ∷ xs) y x (suc i) h = elim (behind xs y x i h) [
 ]
 
 -- the members stay at their places
-pub before : {X : Type 0} (xs : List X) (y x : X) (i : ℕ) → slice_get xs i ≡ Some x → slice_get (xs ++ y ∷ []) i ≡ Some x
+pub before : {X : Type 0} (xs : List X) (y x : X) (i : ℕ) → slice_get xs i ≡ Some x
+    → slice_get (xs ++ y ∷ []) i ≡ Some x
 before [] y x i h = absurd cc
 before (z ∷ xs) y x zero h = h
 before (z ∷ xs) y x (suc i) h = before xs y x i h

@@ -1,5 +1,5 @@
--- Numbers in rising order: each is there, they don't fall, and no other list of them is so. So it is with the clocks of a
--- world, and each of them is that of a system.
+-- Numbers in rising order: each is there, they don't fall, and no other list of them is so. So it is with the clocks
+-- of a world, and each of them is that of a system.
 use Rattle.std.proofs.Common.{◌≡◌, ℕ, zero, suc, nat_le, ◌+◌, ◌≤◌, Bool, true, false, if◌then◌else◌, List, [], ◌∷◌, length, map, Some, slice_get, refl, sym, ap, subst, ◌∙◌, arith}
 use Rattle.std.specs.Bool.{⊤}
 use Rattle.std.specs.List.{AllByRecursion, sum_by}

@@ -60,7 +60,8 @@ later_sound w time last_change is first = record {
 -- ---- a delivery
 
 -- a frame is in flight on a link that is up, so that the port at its end measures that link
-opposite_up : (w : WorldState) (link place : ℕ) (direction : Direction) (channel : Channel) (station : Station) → IsWired w
+opposite_up : (w : WorldState) (link place : ℕ) (direction : Direction) (channel : Channel) (station : Station)
+    → IsWired w
     → slice_get w.net.channels link ≡ Some channel → channel.up ≡ true → slice_get w.stations place ≡ Some station
     → station.live ≡ true → clock station.system ≡ (receiver direction channel).clock
     → IsUp station.system (receiver direction channel).port
@@ -83,7 +84,8 @@ delivered_up link direction octets w draws answer w' k is live =
     opposite_up w link k.place direction k.channel k.station is k.takes.here up k.there live k.is_end
 
 pub delivers_sound : (link : ℕ) (direction : Direction) (octets : List ℕ) (w : WorldState) (draws : List Draw)
-    (answer : Option Answer) (w' : WorldState) → IsSound w → Delivers link direction octets w draws answer w' → IsSound w'
+    (answer : Option Answer) (w' : WorldState) → IsSound w → Delivers link direction octets w draws answer w'
+    → IsSound w'
 delivers_sound link direction octets w draws answer w' is k = record {
   wired = delivers_wired link direction octets w draws answer w' is.wired k;
   on_time = delivers_on_time link direction octets w draws answer w' k is.on_time
@@ -163,7 +165,8 @@ pub recovers_sound : (live : Bool) (place : ℕ) (w : WorldState) (draws : List 
 recovers_sound live place w draws w' is k = record {
   wired = recovers_wired live place w draws w' is.wired k;
   on_time = recovers_on_time live place w draws w' is.on_time k;
-  agrees = recovers_if_agree live place w draws w' (λ station here. (is.wired.setups place station here).ports) is.agrees k;
+  agrees = recovers_if_agree live place w draws w' (λ station here. (is.wired.setups place station here).ports)
+      is.agrees k;
 }
 
 -- a call that isn't of a link that goes down
@@ -181,9 +184,11 @@ prioritized_sound value place station w draws w' here is k =
     record {
       wired = called_wired place value set draws w'
           (setup_wired value place station w here is.wired) k;
-      on_time = calls_if_live_on_time place (Priority value) set draws w' (reset_on_time value place station w here is.on_time)
+      on_time = calls_if_live_on_time place (Priority value) set draws w'
+          (reset_on_time value place station w here is.on_time)
           (λ x there. tt) k;
-      agrees = calls_if_live_agree place (Priority value) set draws w' (with_setup_agrees value place station w here is.agrees) k;
+      agrees = calls_if_live_agree place (Priority value) set draws w'
+          (with_setup_agrees value place station w here is.agrees) k;
     }
 
 changes_sound : (c : Change) (w : WorldState) (draws : List Draw) (w' : WorldState) → IsSound w → IsFitAct (Changing c)
@@ -204,7 +209,8 @@ changes_sound (Priority1 number value) w draws w' is fit k =
 
 -- ---- all acts
 
-pub acts_sound : (act : Act) (w : WorldState) (draws : List Draw) (done : Done) (w' : WorldState) → IsSound w → IsFitAct act
+pub acts_sound : (act : Act) (w : WorldState) (draws : List Draw) (done : Done) (w' : WorldState) → IsSound w
+    → IsFitAct act
     → Acts act w draws done w' → IsSound w'
 acts_sound (Deliver link direction) w draws done w' is fit k =
     delivers_sound link direction k.octets w draws k.answer w' is k.delivers
@@ -219,5 +225,6 @@ pub starts_sound : (places : List ℕ) (w : WorldState) (draws : List Draw) (w' 
 starts_sound places w draws w' is k = record {
   wired = starts_all_wired places w draws w' is.wired k;
   on_time = starts_all_on_time places w draws w' is.on_time k;
-  agrees = starts_all_agree places w draws w' (λ place station here. (is.wired.setups place station here).ports) is.agrees k;
+  agrees = starts_all_agree places w draws w' (λ place station here. (is.wired.setups place station here).ports)
+      is.agrees k;
 }

@@ -29,9 +29,10 @@ all_timers place station net =
 abbrev pub in_state : SystemState → Station → Station
 in_state s station = record station { system = s }
 
--- A live system is given an input: its own step, over its own state and that input alone. Its timers follow, then its sends.
--- Every other system is unchanged.
-pub record Calls (place : ℕ) (input : Input) (w : WorldState) (draws : List Draw) (answer : Answer) (w' : WorldState) : Type 0 where
+-- A live system is given an input: its own step, over its own state and that input alone. Its timers follow, then its
+-- sends. Every other system is unchanged.
+pub record Calls (place : ℕ) (input : Input) (w : WorldState) (draws : List Draw) (answer : Answer) (w' : WorldState) :
+    Type 0 where
   pub station : Station
   pub after : SystemState
   pub sends : List Sending
@@ -51,7 +52,8 @@ pub record HasFailed (place : ℕ) (w : WorldState) : Type 0 where
 -- ---- a delivery
 
 -- the oldest frame of a link in a direction is due now, and leaves it
-pub record Takes (place : ℕ) (direction : Direction) (now : ℕ) (octets : List ℕ) (channel : Channel) (net net' : Net) : Type 0 where
+pub record Takes (place : ℕ) (direction : Direction) (now : ℕ) (octets : List ℕ) (channel : Channel) (net net' : Net) :
+    Type 0 where
   pub rest : List Frame
   pub here : slice_get net.channels place ≡ Some channel
   pub front : queue direction channel ≡ frame now octets ∷ rest

@@ -107,8 +107,8 @@ pub record IsReadyAct (act : Act) (time : ℕ) (w : WorldState) : Type 0 where
   pub there : IsThere act w
   pub due : IsDueThen act time w
 
--- The first test that an act at a time fails: it lies in the past; something is due earlier; there is no such link, port or
--- system; it isn't due. After all of them only memory can be wanting.
+-- The first test that an act at a time fails: it lies in the past; something is due earlier; there is no such link,
+-- port or system; it isn't due. After all of them only memory can be wanting.
 abbrev pub Refuses : Act → ℕ → WorldState → Refused → Type 0
 Refuses act time w InThePast = time < w.time
 Refuses act time w Untimely = (w.time ≤ time) × IsEarlier time w.net.pending
@@ -146,7 +146,8 @@ Tells reached answer octets (Heard number port told frame) =
     (number ≡ reached.clock) × (port ≡ reached.port) × (told ≡ answer) × (frame.items ≡ octets)
 
 -- a frame is delivered, and it is told where it went
-pub record Delivery (link : ℕ) (direction : Direction) (done : Done) (w : WorldState) (draws : List Draw) (w' : WorldState) : Type 0 where
+pub record Delivery (link : ℕ) (direction : Direction) (done : Done) (w : WorldState) (draws : List Draw)
+    (w' : WorldState) : Type 0 where
   pub channel : Channel
   pub octets : List ℕ
   pub answer : Option Answer

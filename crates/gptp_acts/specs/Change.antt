@@ -45,7 +45,8 @@ with_bounds least greatest loss w = record {
 
 -- the link is at this port
 abbrev pub is_at : ℕ → ℕ → Wire → Bool
-is_at clock port w = same_port w.a (record { clock = clock; port = port }) || same_port w.b (record { clock = clock; port = port })
+is_at clock port w =
+    same_port w.a (record { clock = clock; port = port }) || same_port w.b (record { clock = clock; port = port })
 
 -- what a change makes of a link
 abbrev pub link_changed : Change → Wire → Wire

@@ -39,7 +39,8 @@ CallsIfLive place input w draws w' =
     ((answer : Answer) × Calls place input w draws answer w') ⊎ (HasFailed place w × (draws ≡ []) × (w' ≡ w))
 
 -- both ends of a link are told, its end a first
-pub record TellsEnds (input : ℕ → Input) (channel : Channel) (w : WorldState) (draws : List Draw) (w' : WorldState) : Type 0 where
+pub record TellsEnds (input : ℕ → Input) (channel : Channel) (w : WorldState) (draws : List Draw) (w' : WorldState) :
+    Type 0 where
   pub place_a : ℕ
   pub place_b : ℕ
   pub station_a : Station
@@ -85,7 +86,8 @@ pub record Starts (place : ℕ) (w : WorldState) (draws : List Draw) (w' : World
   pub station : Station
   pub here : slice_get w.stations place ≡ Some station
   pub calls : CallsAll place (map PortUp (up_ports (fresh w.time station) w.net))
-      (record (with_station place (fresh w.time station) w) { net = all_timers place (fresh w.time station) w.net }) draws w'
+      (record (with_station place (fresh w.time station) w) { net = all_timers place (fresh w.time station) w.net })
+      draws w'
 
 -- so do all systems, one after another
 abbrev pub StartsAll : List ℕ → WorldState → List Draw → WorldState → Type 0
@@ -125,16 +127,21 @@ Nothing w draws w' = (draws ≡ []) × (w' ≡ w)
 
 abbrev pub GoesDownIf : Bool → ℕ → Channel → WorldState → List Draw → WorldState → Type 0
 GoesDownIf false place channel w draws w' = Nothing w draws w'
-GoesDownIf true place channel w draws w' = TellsEnds PortDown channel (record w { net = taken_down place channel w.net }) draws w'
+GoesDownIf true place channel w draws w' =
+    TellsEnds PortDown channel (record w { net = taken_down place channel w.net }) draws w'
 
 abbrev pub ComesUpIf : Bool → ℕ → Channel → WorldState → List Draw → WorldState → Type 0
 ComesUpIf true place channel w draws w' = Nothing w draws w'
-ComesUpIf false place channel w draws w' = TellsEnds PortUp channel (record w { net = brought_up place channel w.net }) draws w'
+ComesUpIf false place channel w draws w' =
+    TellsEnds PortUp channel (record w { net = brought_up place channel w.net }) draws w'
 
 -- a system that has failed: all its timers stop
 abbrev pub failed : ℕ → Station → WorldState → WorldState
 failed place station w =
-    record (with_station place (record station { live = false }) w) { net = all_timers place (record station { live = false }) w.net }
+    record (with_station place (record station { live = false }) w) {
+      net = all_timers place
+          (record station { live = false }) w.net;
+    }
 
 abbrev pub FailsIf : Bool → ℕ → Station → WorldState → List Draw → WorldState → Type 0
 FailsIf true place station w draws w' = (draws ≡ []) × (w' ≡ failed place station w)

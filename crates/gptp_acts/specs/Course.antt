@@ -12,7 +12,8 @@ use Rattle.gptp_acts.specs.Network.{NetworkState}
 use Rattle.gptp_acts.specs.World.{WorldState}
 
 -- The world of a network begins: all its systems start at time 0, in their order.
-pub record Begun {F : Type 0} (answers : Bounds → ℕ → F → Option ℕ → F → Type 0) (n : NetworkState) (fate fate_after : F)
+pub record Begun {F : Type 0} (answers : Bounds → ℕ → F → Option ℕ → F → Type 0) (n : NetworkState)
+    (fate fate_after : F)
     (w : WorldState) : Type 0 where
   pub draws : List Draw
   pub drawn : Draws answers fate draws fate_after

@@ -33,7 +33,8 @@ message_of path head (bodies.PdelayRespFollowUp stamp requester) =
 abbrev pub written : SystemState → Sending → List ℕ
 written s x = Written (message_of (trace s) x.head x.body)
 
--- A frame is sent on a link in a direction with this fate: unless it is lost it goes behind those in flight, and is pending.
+-- A frame is sent on a link in a direction with this fate: unless it is lost it goes behind those in flight, and is
+-- pending.
 abbrev pub entered : ℕ → Direction → Channel → ℕ → List ℕ → Option ℕ → Net → Net
 entered place direction channel now octets None net = net
 entered place direction channel now octets (Some delay) net = record {
@@ -58,7 +59,8 @@ pub record SendsOne (now : ℕ) (from : PortId) (octets : List ℕ) (draw : Draw
 
 -- no link that is up begins at this port
 abbrev pub IsUnlinked : Net → PortId → Type 0
-IsUnlinked net from = (place : ℕ) (direction : Direction) (channel : Channel) → slice_get net.channels place ≡ Some channel
+IsUnlinked net from = (place : ℕ) (direction : Direction) (channel : Channel)
+    → slice_get net.channels place ≡ Some channel
     → sender direction channel ≡ from → channel.up ≡ false
 
 -- The sends of a system in their order, each with its own draw. Where no link is up nothing is sent, and nothing drawn.

@@ -26,7 +26,8 @@ pub record Net : Type 0 where
   pub channels : List Channel
   pub pending : List Entry
 
--- The world: its time and that of the last change, in ns; the systems and links in the order in which the network took them.
+-- The world: its time and that of the last change, in ns; the systems and links in the order in which the network
+-- took them.
 pub record WorldState : Type 0 where
   pub time : ℕ
   pub last_change : ℕ

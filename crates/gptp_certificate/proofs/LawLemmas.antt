@@ -26,9 +26,11 @@ use Rattle.gptp_certificate.proofs.TextLemmas.{entries_text}
 use Rattle.gptp_certificate.proofs.WordLemmas.{one_cut}
 
 -- digits are one number's
-same_digits : (n x y : ℕ) → x < 256 ^ n → y < 256 ^ n → encode_lower (big_bytes n x) ≡ encode_lower (big_bytes n y) → x ≡ y
+same_digits : (n x y : ℕ) → x < 256 ^ n → y < 256 ^ n → encode_lower (big_bytes n x) ≡ encode_lower (big_bytes n y)
+    → x ≡ y
 same_digits n x y f g e =
-    let bytes = same_ok _ (big_bytes n x) (big_bytes n y) (digits_read n x) (ap (λ w. decode_sized w n) e ∙ digits_read n y) in
+    let bytes = same_ok _ (big_bytes n x) (big_bytes n y) (digits_read n x)
+    (ap (λ w. decode_sized w n) e ∙ digits_read n y) in
     sym (number_read n x f) ∙ ap (big_number n) bytes ∙ number_read n y g
 
 same_number : (x y : ℕ) → x ≤ 65535 → y ≤ 65535 → decimal x ≡ decimal y → x ≡ y
@@ -39,7 +41,8 @@ link_of own clock port = record { own_port = own; clock = clock; port = port }
 
 same_link : (a b : ParentLink) → IsReadableLink a → IsReadableLink b → parent_words a ≡ parent_words b → a ≡ b
 same_link a b f g e =
-    let own = same_number a.own_port b.own_port f.own_port.most g.own_port.most (ap (λ (w : ParentWords). w.own_port) e) in
+    let own = same_number a.own_port b.own_port f.own_port.most g.own_port.most
+    (ap (λ (w : ParentWords). w.own_port) e) in
     let clock = same_digits 8 a.clock b.clock f.clock g.clock (ap (λ (w : ParentWords). w.clock) e) in
     let port = same_number a.port b.port f.port.most g.port.most (ap (λ (w : ParentWords). w.port) e) in
     ap (λ (x : ℕ). link_of x a.clock a.port) own ∙ ap (λ (x : ℕ). link_of b.own_port x a.port) clock
@@ -48,11 +51,13 @@ same_link a b f g e =
 some_words : (p q : ParentWords) → Some p ≡ Some q → p ≡ q
 some_words p q e = cc
 
-same_parent : (a b : Option ParentLink) → IsReadableParent a → IsReadableParent b → option_map parent_words a ≡ option_map parent_words b → a ≡ b
+same_parent : (a b : Option ParentLink) → IsReadableParent a → IsReadableParent b
+    → option_map parent_words a ≡ option_map parent_words b → a ≡ b
 same_parent None None f g e = refl
 same_parent None (Some b) f g e = absurd cc
 same_parent (Some a) None f g e = absurd cc
-same_parent (Some a) (Some b) f g e = ap (λ (l : ParentLink). Some l) (same_link a b f g (some_words (parent_words a) (parent_words b) e))
+same_parent (Some a) (Some b) f g e =
+    ap (λ (l : ParentLink). Some l) (same_link a b f g (some_words (parent_words a) (parent_words b) e))
 
 same_system_words : (a b : SystemWords) → SystemForm a ≡ SystemForm b → a ≡ b
 same_system_words a b e = cc
@@ -86,7 +91,8 @@ one_entry : (a b : Entry) → IsReadableEntry a → IsReadableEntry b → entry_
 one_entry a b f g e = same_spelled a b f g (one_form (spelled a) (spelled b) (entry_words a f) (entry_words b g) e)
 
 -- one line stands first
-first_entry : (a b : Entry) (x y : List ℕ) → IsReadableEntry a → IsReadableEntry b → entry_text a ++ 10 ∷ x ≡ entry_text b ++ 10 ∷ y
+first_entry : (a b : Entry) (x y : List ℕ) → IsReadableEntry a → IsReadableEntry b
+    → entry_text a ++ 10 ∷ x ≡ entry_text b ++ 10 ∷ y
     → (a ≡ b) × (x ≡ y)
 first_entry a b x y f g e =
     let cut = one_cut 10 (entry_text a) (entry_text b) x y (entry_lacks_feed a f) (entry_lacks_feed b g) e in
@@ -104,7 +110,8 @@ same_line line more entry rest has readable e =
 no_fault : (before : List Entry) (entry : Entry) (more : List ℕ) (fault : CertificateFault) → IsReadableEntry entry
     → StandInOrder (before ++ entry ∷ []) → RestFails before (entry_text entry ++ 10 ∷ more) fault → ⊥
 no_fault before entry more Head readable stand fails = fails
-no_fault before entry more Line readable stand fails = fails.formless (entry_text entry) more (has_form entry readable) refl
+no_fault before entry more Line readable stand fails =
+    fails.formless (entry_text entry) more (has_form entry readable) refl
 no_fault before entry more Order readable stand fails =
     let same = first_entry entry fails.entry more fails.more readable fails.readable fails.first in
     fails.order (subst (λ e. StandInOrder (before ++ e ∷ [])) same.0 stand)
@@ -125,27 +132,33 @@ no_end : (before : List Entry) (fault : CertificateFault) → RestFails before e
 no_end before Head fails = fails
 no_end before Line fails = fails.goes_on refl
 no_end before Order fails = form_not_end (spelled fails.entry) fails.more fails.first
-no_end before Spelling fails = form_not_end fails.form.form fails.more (fails.first ∙ ap (λ l. l ++ 10 ∷ fails.more) fails.form.is)
+no_end before Spelling fails =
+    form_not_end fails.form.form fails.more (fails.first ∙ ap (λ l. l ++ 10 ∷ fails.more) fails.form.is)
 no_end before OutOfMemory fails = fails
 
-same_fault : (before : List Entry) (rest : List ℕ) (f g : CertificateFault) → RestFails before rest f → RestFails before rest g → f ≡ g
+same_fault : (before : List Entry) (rest : List ℕ) (f g : CertificateFault) → RestFails before rest f
+    → RestFails before rest g → f ≡ g
 same_fault before rest Head g a b = absurd a
 same_fault before rest OutOfMemory g a b = absurd a
 same_fault before rest Line Head a b = absurd b
 same_fault before rest Line Line a b = refl
-same_fault before rest Line Order a b = absurd (a.formless (entry_text b.entry) b.more (has_form b.entry b.readable) b.first)
+same_fault before rest Line Order a b =
+    absurd (a.formless (entry_text b.entry) b.more (has_form b.entry b.readable) b.first)
 same_fault before rest Line Spelling a b = absurd (a.formless b.line b.more b.form b.first)
 same_fault before rest Line OutOfMemory a b = absurd b
 same_fault before rest Order Head a b = absurd b
-same_fault before rest Order Line a b = absurd (b.formless (entry_text a.entry) a.more (has_form a.entry a.readable) a.first)
+same_fault before rest Order Line a b =
+    absurd (b.formless (entry_text a.entry) a.more (has_form a.entry a.readable) a.first)
 same_fault before rest Order Order a b = refl
 same_fault before rest Order Spelling a b =
-    absurd (b.unread a.entry a.readable (same_line b.line b.more a.entry a.more b.form a.readable (sym b.first ∙ a.first)))
+    absurd (b.unread a.entry a.readable
+    (same_line b.line b.more a.entry a.more b.form a.readable (sym b.first ∙ a.first)))
 same_fault before rest Order OutOfMemory a b = absurd b
 same_fault before rest Spelling Head a b = absurd b
 same_fault before rest Spelling Line a b = absurd (b.formless a.line a.more a.form a.first)
 same_fault before rest Spelling Order a b =
-    absurd (a.unread b.entry b.readable (same_line a.line a.more b.entry b.more a.form b.readable (sym a.first ∙ b.first)))
+    absurd (a.unread b.entry b.readable
+    (same_line a.line a.more b.entry b.more a.form b.readable (sym a.first ∙ b.first)))
 same_fault before rest Spelling Spelling a b = refl
 same_fault before rest Spelling OutOfMemory a b = absurd b
 
@@ -153,7 +166,8 @@ same_fault before rest Spelling OutOfMemory a b = absurd b
 abbrev GoesOn : List Entry → List Entry → List ℕ → List ℕ → Type 0
 GoesOn xs ys x y = (zs : List Entry) × (ys ≡ xs ++ zs) × (x ≡ entries_text zs ++ y)
 
-first_of : (a : Entry) (xs : List Entry) (x : List ℕ) → entries_text (a ∷ xs) ++ x ≡ entry_text a ++ 10 ∷ (entries_text xs ++ x)
+first_of : (a : Entry) (xs : List Entry) (x : List ℕ)
+    → entries_text (a ∷ xs) ++ x ≡ entry_text a ++ 10 ∷ (entries_text xs ++ x)
 first_of a xs x = simp append_assoc refl
 
 more_of : (a b : Entry) (xs ys : List Entry) (x y : List ℕ) → a ≡ b → GoesOn xs ys x y → GoesOn (a ∷ xs) (b ∷ ys) x y
@@ -169,10 +183,12 @@ fronts : (xs ys : List Entry) (x y : List ℕ) → AllByRecursion IsReadableEntr
 fronts [] ys x y f g e = inl (ys, refl, e)
 fronts (a ∷ xs) [] x y f g e = inr (a ∷ xs, refl, sym e)
 fronts (a ∷ xs) (b ∷ ys) x y f g e =
-    let cut = first_entry a b (entries_text xs ++ x) (entries_text ys ++ y) f.0 g.0 (sym (first_of a xs x) ∙ e ∙ first_of b ys y) in
+    let cut = first_entry a b (entries_text xs ++ x) (entries_text ys ++ y) f.0 g.0
+    (sym (first_of a xs x) ∙ e ∙ first_of b ys y) in
     either_more a b xs ys x y cut.0 (fronts xs ys x y f.1 g.1 cut.1)
 
-all_at : (xs : List Entry) (entry : Entry) (zs : List Entry) → AllByRecursion IsReadableEntry (xs ++ entry ∷ zs) → IsReadableEntry entry
+all_at : (xs : List Entry) (entry : Entry) (zs : List Entry) → AllByRecursion IsReadableEntry (xs ++ entry ∷ zs)
+    → IsReadableEntry entry
 all_at [] entry zs all = all.0
 all_at (x ∷ xs) entry zs all = all_at xs entry zs all.1
 
@@ -185,14 +201,16 @@ each_front : (first : Entry) (xs : List Entry) (entry : Entry) (zs : List Entry)
 each_front first [] entry zs each = (each.0, tt)
 each_front first (x ∷ xs) entry zs each = (each.0, each_front x xs entry zs each.1)
 
-stand_front : (xs : List Entry) (entry : Entry) (zs : List Entry) → StandInOrder (xs ++ entry ∷ zs) → StandInOrder (xs ++ entry ∷ [])
+stand_front : (xs : List Entry) (entry : Entry) (zs : List Entry) → StandInOrder (xs ++ entry ∷ zs)
+    → StandInOrder (xs ++ entry ∷ [])
 stand_front [] (SystemEntry c r s p) zs stand = tt
 stand_front [] (PortEntry c p) zs stand = absurd stand
 stand_front (SystemEntry c r s p ∷ xs) entry zs stand = each_front (SystemEntry c r s p) xs entry zs stand
 stand_front (PortEntry c p ∷ xs) entry zs stand = absurd stand
 
 -- where lines in order go on, there is no fault
-at_fault : (xs ys zs : List Entry) (x y : List ℕ) (fault : CertificateFault) → AllByRecursion IsReadableEntry ys → StandInOrder ys
+at_fault : (xs ys zs : List Entry) (x y : List ℕ) (fault : CertificateFault) → AllByRecursion IsReadableEntry ys
+    → StandInOrder ys
     → ys ≡ xs ++ zs → x ≡ entries_text zs ++ y → RestFails xs x fault → (xs ≡ ys) × (x ≡ y)
 at_fault xs ys [] x y fault readable stand goes rest fails = (sym (goes ∙ append-nil xs), rest)
 at_fault xs ys (entry ∷ zs) x y fault readable stand goes rest fails =
@@ -206,18 +224,24 @@ not_end [] y P e f = f e
 not_end (entry ∷ zs) y P e f = absurd (form_not_end (spelled entry) (entries_text zs ++ y) (e ∙ first_of entry zs y))
 
 -- what stands behind the head line
-behind_head : (xs ys : List Entry) (x y : List ℕ) → front_text xs ++ x ≡ front_text ys ++ y → entries_text xs ++ x ≡ entries_text ys ++ y
+behind_head : (xs ys : List Entry) (x y : List ℕ) → front_text xs ++ x ≡ front_text ys ++ y
+    → entries_text xs ++ x ≡ entries_text ys ++ y
 behind_head xs ys x y e = append_cancel_left (head_text ++ 10 ∷ []) (entries_text xs ++ x) (entries_text ys ++ y) e
 
 ports_follow : (first : Entry) (clock : ℕ) (ports : List PortLine) (more : List Entry) → clock_of first ≡ clock
     → ((number : ℕ) → In number (map (λ (p : PortLine). p.number) ports) → number_of first < number)
-    → IsRising (map (λ (p : PortLine). p.number) ports) → ((last : Entry) → clock_of last ≡ clock → FollowEach last more)
+    → IsRising (map (λ (p : PortLine). p.number) ports)
+    → ((last : Entry) → clock_of last ≡ clock → FollowEach last more)
     → FollowEach first (map (PortEntry clock) ports ++ more)
 ports_follow first clock [] more is above rising behind = behind first is
-ports_follow first clock (port ∷ ports) more is above rising behind =
-    ((is, above port.number (inl refl)), ports_follow (PortEntry clock port) clock ports more refl rising.0 rising.1 behind)
+ports_follow first clock (port ∷ ports) more is above rising behind = (
+  (is, above port.number (inl refl)),
+  ports_follow (PortEntry clock port) clock ports more refl rising.0 rising.1
+      behind,
+)
 
-ports_positive : (clock : ℕ) (ports : List PortLine) (more : List Entry) → AllByRecursion IsReadableEntry (map (PortEntry clock) ports ++ more)
+ports_positive : (clock : ℕ) (ports : List PortLine) (more : List Entry)
+    → AllByRecursion IsReadableEntry (map (PortEntry clock) ports ++ more)
     → (number : ℕ) → In number (map (λ (p : PortLine). p.number) ports) → 0 < number
 ports_positive clock [] more all number i = absurd i
 ports_positive clock (port ∷ ports) more all number (inl e) = let least = all.0.1.least in omega arith
@@ -226,7 +250,8 @@ ports_positive clock (port ∷ ports) more all number (inr i) = ports_positive c
 rest_in_order : (line : SystemLine) (lines : List SystemLine) → AreInOrder (line ∷ lines) → AreInOrder lines
 rest_in_order line lines order = record { clocks = order.clocks.1; ports = λ l i. order.ports l (inr i) }
 
-lines_follow : (lines : List SystemLine) (first : Entry) → ((clock : ℕ) → In clock (line_clocks lines) → clock_of first < clock)
+lines_follow : (lines : List SystemLine) (first : Entry)
+    → ((clock : ℕ) → In clock (line_clocks lines) → clock_of first < clock)
     → AreInOrder lines → IsReadable lines → FollowEach first (entries_of lines)
 lines_follow [] first above order readable = tt
 lines_follow (line ∷ lines) first above order readable = (
@@ -234,7 +259,8 @@ lines_follow (line ∷ lines) first above order readable = (
   ports_follow (system_entry line) line.clock line.ports (entries_of lines) refl
       (ports_positive line.clock line.ports (entries_of lines) readable.1) (order.ports line (inl refl))
       (λ last is. lines_follow lines last (λ clock i. subst (λ c. c < clock) (sym is) (order.clocks.0 clock i))
-      (rest_in_order line lines order) (all_behind (map (PortEntry line.clock) line.ports) (entries_of lines) readable.1)),
+      (rest_in_order line lines order)
+      (all_behind (map (PortEntry line.clock) line.ports) (entries_of lines) readable.1)),
 )
 
 -- the lines of a certificate that can be read stand in order
@@ -253,11 +279,14 @@ no_certificate_of text fault b ys stand readable (inl goes) =
     let same = at_fault b.before ys goes.0 b.rest end_text fault readable stand goes.1 goes.2 b.fails in
     no_end b.before fault (subst (λ r. RestFails b.before r fault) same.1 b.fails)
 no_certificate_of text fault b ys stand readable (inr goes) =
-    not_end goes.0 b.rest ⊥ goes.2 (λ e. no_end b.before fault (subst (λ r. RestFails b.before r fault) (sym e) b.fails))
+    not_end goes.0 b.rest ⊥ goes.2
+    (λ e. no_end b.before fault (subst (λ r. RestFails b.before r fault) (sym e) b.fails))
 
-pub no_certificate : (text : List ℕ) (fault : CertificateFault) (lines : List SystemLine) → Fails text fault → AreInOrder lines
+pub no_certificate : (text : List ℕ) (fault : CertificateFault) (lines : List SystemLine) → Fails text fault
+    → AreInOrder lines
     → IsReadable lines → text ≢ certificate_text lines
-no_certificate text fault lines (inl (e, lacks)) order readable is = lacks (entries_text (entries_of lines) ++ end_text) is
+no_certificate text fault lines (inl (e, lacks)) order readable is =
+    lacks (entries_text (entries_of lines) ++ end_text) is
 no_certificate text fault lines (inr b) order readable is =
     no_certificate_of text fault b (entries_of lines) (lines_stand lines order readable) readable
     (fronts b.before (entries_of lines) b.rest end_text b.stand.readable readable
@@ -283,7 +312,8 @@ one_fault text f g (inr a) (inr b) =
     (behind_head a.before b.before a.rest b.rest (sym a.stand.split ∙ b.stand.split)))
 
 same_ports : (c d : ℕ) (ps qs : List PortLine) (xs ys : List SystemLine)
-    → map (PortEntry c) ps ++ entries_of xs ≡ map (PortEntry d) qs ++ entries_of ys → (ps ≡ qs) × (entries_of xs ≡ entries_of ys)
+    → map (PortEntry c) ps ++ entries_of xs ≡ map (PortEntry d) qs ++ entries_of ys → (ps ≡ qs)
+    × (entries_of xs ≡ entries_of ys)
 same_ports c d [] [] xs ys e = (refl, e)
 same_ports c d [] (q ∷ qs) [] ys e = absurd cc
 same_ports c d [] (q ∷ qs) (x ∷ xs) ys e = absurd cc
@@ -296,7 +326,8 @@ same_ports c d (p ∷ ps) (q ∷ qs) xs ys e =
     (ap (λ l. l ∷ ps) first ∙ ap (λ ls. q ∷ ls) rest.0, rest.1)
 
 abbrev system_line : ℕ → ℕ → ℕ → Option ParentLink → List PortLine → SystemLine
-system_line clock root steps parent ports = record { clock = clock; root = root; steps = steps; parent = parent; ports = ports }
+system_line clock root steps parent ports =
+    record { clock = clock; root = root; steps = steps; parent = parent; ports = ports }
 
 same_system : (a b : SystemLine) → system_entry a ≡ system_entry b → a.ports ≡ b.ports → a ≡ b
 same_system a b e ports =
@@ -316,20 +347,24 @@ same_lines [] (y ∷ ys) e = absurd cc
 same_lines (x ∷ xs) [] e = absurd cc
 same_lines (x ∷ xs) (y ∷ ys) e =
     let first : system_entry x ≡ system_entry y = cc in
-    let others : map (PortEntry x.clock) x.ports ++ entries_of xs ≡ map (PortEntry y.clock) y.ports ++ entries_of ys = cc in
+    let others : map (PortEntry x.clock) x.ports ++ entries_of xs
+    ≡ map (PortEntry y.clock) y.ports ++ entries_of ys = cc in
     let rest = same_ports x.clock y.clock x.ports y.ports xs ys others in
     ap (λ l. l ∷ xs) (same_system x y first rest.0) ∙ ap (λ ls. y ∷ ls) (same_lines xs ys rest.1)
 
 whole : (xs ys zs : List Entry) → ys ≡ xs ++ zs → end_text ≡ entries_text zs ++ end_text → xs ≡ ys
 whole xs ys [] goes rest = sym (goes ∙ append-nil xs)
-whole xs ys (entry ∷ zs) goes rest = absurd (form_not_end (spelled entry) (entries_text zs ++ end_text) (rest ∙ first_of entry zs end_text))
+whole xs ys (entry ∷ zs) goes rest =
+    absurd (form_not_end (spelled entry) (entries_text zs ++ end_text) (rest ∙ first_of entry zs end_text))
 
 whole_either : (xs ys : List Entry) → GoesOn xs ys end_text end_text ⊎ GoesOn ys xs end_text end_text → xs ≡ ys
 whole_either xs ys (inl goes) = whole xs ys goes.0 goes.1 goes.2
 whole_either xs ys (inr goes) = sym (whole ys xs goes.0 goes.1 goes.2)
 
-pub one_certificate : (one other : List SystemLine) → IsReadable one → IsReadable other → certificate_text one ≡ certificate_text other
+pub one_certificate : (one other : List SystemLine) → IsReadable one → IsReadable other
+    → certificate_text one ≡ certificate_text other
     → one ≡ other
 one_certificate one other f g e =
     same_lines one other (whole_either (entries_of one) (entries_of other)
-    (fronts (entries_of one) (entries_of other) end_text end_text f g (behind_head (entries_of one) (entries_of other) end_text end_text e)))
+    (fronts (entries_of one) (entries_of other) end_text end_text f g
+    (behind_head (entries_of one) (entries_of other) end_text end_text e)))

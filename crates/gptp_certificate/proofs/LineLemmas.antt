@@ -45,18 +45,22 @@ parent_of_words own clock port = record { own_port = own; clock = clock; port = 
 one_parent : (p q : Option ParentWords) → HasParentWords p → HasParentWords q → parent_text p ≡ parent_text q → p ≡ q
 one_parent None None a b e = refl
 one_parent None (Some q) a b e =
-    absurd (word_is_one (codes "none") q.own_port (q.clock ++ 32 ∷ q.port) (record { some = omega arith; plain = refl }) (e ∙ link_parts q))
+    absurd (word_is_one (codes "none") q.own_port (q.clock ++ 32 ∷ q.port)
+    (record { some = omega arith; plain = refl }) (e ∙ link_parts q))
 one_parent (Some p) None a b e =
-    absurd (word_is_one (codes "none") p.own_port (p.clock ++ 32 ∷ p.port) (record { some = omega arith; plain = refl }) (sym e ∙ link_parts p))
+    absurd (word_is_one (codes "none") p.own_port (p.clock ++ 32 ∷ p.port)
+    (record { some = omega arith; plain = refl }) (sym e ∙ link_parts p))
 one_parent (Some p) (Some q) a b e =
-    let own = link_behind_own q (parent_text (Some p)) p.own_port (p.clock ++ 32 ∷ p.port) b a.own_port (link_parts p) e in
+    let own = link_behind_own q (parent_text (Some p)) p.own_port (p.clock ++ 32 ∷ p.port) b a.own_port (link_parts p)
+    e in
     let clock = link_behind_clock q (p.clock ++ 32 ∷ p.port) p.clock p.port b a.clock refl own.1 in
     ap (λ (own : List ℕ). Some (parent_of_words own p.clock p.port)) own.0
     ∙ ap (λ (c : List ℕ). Some (parent_of_words q.own_port c p.port)) clock.0
     ∙ ap (λ (port : List ℕ). Some (parent_of_words q.own_port q.clock port)) clock.1
 
 abbrev system_of_words : List ℕ → List ℕ → List ℕ → Option ParentWords → Form
-system_of_words clock root steps parent = SystemForm (record { clock = clock; root = root; steps = steps; parent = parent })
+system_of_words clock root steps parent =
+    SystemForm (record { clock = clock; root = root; steps = steps; parent = parent })
 
 abbrev port_of_words : List ℕ → List ℕ → Role → Form
 port_of_words clock number role = PortForm (record { clock = clock; number = number; role = role })
@@ -72,7 +76,8 @@ one_form (SystemForm a) (SystemForm b) f g e =
     let clock = rest_behind_clock b (form_text (SystemForm a)) a.clock (behind_clock a) g f.clock (system_parts a) e in
     let root = rest_behind_root b (behind_clock a) a.root (behind_root a) g f.root refl clock.1 in
     let steps = rest_behind_steps b (behind_root a) a.steps (behind_steps a) g f.steps refl root.1 in
-    let parent = one_parent a.parent b.parent f.parent g.parent (rest_is_parent b (behind_steps a) (parent_text a.parent) refl steps.1) in
+    let parent = one_parent a.parent b.parent f.parent g.parent
+    (rest_is_parent b (behind_steps a) (parent_text a.parent) refl steps.1) in
     ap (λ (c : List ℕ). system_of_words c a.root a.steps a.parent) clock.0
     ∙ ap (λ (r : List ℕ). system_of_words b.clock r a.steps a.parent) root.0
     ∙ ap (λ (s : List ℕ). system_of_words b.clock b.root s a.parent) steps.0
@@ -80,8 +85,10 @@ one_form (SystemForm a) (SystemForm b) f g e =
 one_form (SystemForm a) (PortForm b) f g e = absurd (other_head _ _ e)
 one_form (PortForm a) (SystemForm b) f g e = absurd (other_head _ _ (sym e))
 one_form (PortForm a) (PortForm b) f g e =
-    let clock = port_behind_clock b (form_text (PortForm a)) a.clock (a.number ++ 32 ∷ role_text a.role) g f.clock (port_parts a) e in
-    let number = port_behind_number b (a.number ++ 32 ∷ role_text a.role) a.number (role_text a.role) g f.number refl clock.1 in
+    let clock = port_behind_clock b (form_text (PortForm a)) a.clock (a.number ++ 32 ∷ role_text a.role) g f.clock
+    (port_parts a) e in
+    let number = port_behind_number b (a.number ++ 32 ∷ role_text a.role) a.number (role_text a.role) g f.number refl
+    clock.1 in
     ap (λ (c : List ℕ). port_of_words c a.number a.role) clock.0
     ∙ ap (λ (n : List ℕ). port_of_words b.clock n a.role) number.0
     ∙ ap (λ (r : Role). port_of_words b.clock b.number r) (one_role a.role b.role number.1)
@@ -114,12 +121,14 @@ digit_plain n small = grind (arith, nat_tests)
 decimal_plain : (n : ℕ) → n < 2 ^ 64 → list_all plain (decimal n) ≡ true
 decimal_plain = decimal_by_steps (λ n ds. list_all plain ds ≡ true)
     (λ n small. rw (digit_plain n small) refl)
-    (λ n ds big so_far. list_all-append plain ds ((48 + n % 10) ∷ []) ∙ rw (so_far, digit_plain (n % 10) (omega arith)) refl)
+    (λ n ds big so_far. list_all-append plain ds ((48 + n % 10) ∷ [])
+    ∙ rw (so_far, digit_plain (n % 10) (omega arith)) refl)
 
 decimal_word : (n : ℕ) → n ≤ 65535 → IsWord (decimal n)
 decimal_word n h = record { some = decimal_nonempty n (omega arith); plain = decimal_plain n (omega arith) }
 
-parent_spelled : (parent : Option ParentLink) → IsReadableParent parent → HasParentWords (option_map parent_words parent)
+parent_spelled : (parent : Option ParentLink) → IsReadableParent parent
+    → HasParentWords (option_map parent_words parent)
 parent_spelled None r = r
 parent_spelled (Some link) r = record {
   own_port = decimal_word link.own_port r.own_port.most;
@@ -141,12 +150,14 @@ entry_words (PortEntry clock port) r = record {
 }
 
 -- a line whose form spells no entry is the line of no entry
-pub misspelled : {X : Type 0} (line : List ℕ) (form : Form) (r : Result X CertificateFault) → HasWords form → line ≡ form_text form
+pub misspelled : {X : Type 0} (line : List ℕ) (form : Form) (r : Result X CertificateFault) → HasWords form
+    → line ≡ form_text form
     → IfErr r (λ fault. fault ≡ Spelling) → OnErr r ((entry : Entry) → IsReadableEntry entry → spelled entry ≢ form)
     → IfErr r (λ fault. LineFails line fault)
 misspelled line form (Ok x) words is fault none = search Rattle.std.proofs.Common.rules
 misspelled line form (Err e) words is fault none = inr (
   fault,
   record { form = form; words = words; is = is },
-  λ entry readable same. none entry readable (one_form (spelled entry) form (entry_words entry readable) words (sym same ∙ is)),
+  λ entry readable same.
+      none entry readable (one_form (spelled entry) form (entry_words entry readable) words (sym same ∙ is)),
 )

@@ -48,11 +48,13 @@ entry_lacks_feed entry readable = form_lacks_feed (spelled entry) (entry_words e
 
 -- a rest with no line feed has no line
 pub unfed : (rest : List ℕ) → rest ≢ end_text → Lacks 10 rest → HasNoForm rest
-unfed rest goes_on lacks = record { goes_on = goes_on; formless = λ line more has e. no_cut 10 line more (subst (Lacks 10) e lacks) }
+unfed rest goes_on lacks =
+    record { goes_on = goes_on; formless = λ line more has e. no_cut 10 line more (subst (Lacks 10) e lacks) }
 
 -- the first line's fault is that of the rest
 pub rest_fails : (before : List Entry) (rest line more : List ℕ) (fault : CertificateFault) → rest ≢ end_text
-    → rest ≡ line ++ 10 ∷ more → Lacks 10 line → RefusesLine before line fault → (fault ≡ OutOfMemory) ⊎ RestFails before rest fault
+    → rest ≡ line ++ 10 ∷ more → Lacks 10 line → RefusesLine before line fault → (fault ≡ OutOfMemory)
+    ⊎ RestFails before rest fault
 rest_fails before rest line more fault goes_on first lacks (inl e) = inl e
 rest_fails before rest line more fault goes_on first lacks (inr (inl (inl (e, formless)))) =
     inr (subst (RestFails before rest) (sym e) (record {
@@ -62,7 +64,8 @@ rest_fails before rest line more fault goes_on first lacks (inr (inl (inl (e, fo
           formless (subst HasForm (sym same.0) has);
     }))
 rest_fails before rest line more fault goes_on first lacks (inr (inl (inr (e, has, unread)))) =
-    inr (subst (RestFails before rest) (sym e) (record { line = line; more = more; form = has; first = first; unread = unread }))
+    inr (subst (RestFails before rest) (sym e)
+    (record { line = line; more = more; form = has; first = first; unread = unread }))
 rest_fails before rest line more fault goes_on first lacks (inr (inr (e, out))) =
     inr (subst (RestFails before rest) (sym e) (record {
       entry = out.entry;
@@ -77,11 +80,13 @@ all_then : (before : List Entry) (entry : Entry) → AllByRecursion IsReadableEn
 all_then [] entry all is = (is, tt)
 all_then (x ∷ before) entry all is = (all.0, all_then before entry all.1 is)
 
-regroup : (head lines line more : List ℕ) → (head ++ (lines ++ (line ++ 10 ∷ []))) ++ more ≡ (head ++ lines) ++ (line ++ 10 ∷ more)
+regroup : (head lines line more : List ℕ) → (head ++ (lines ++ (line ++ 10 ∷ []))) ++ more
+    ≡ (head ++ lines) ++ (line ++ 10 ∷ more)
 regroup head lines line more = simp append_assoc refl
 
 -- a line that is read goes from the rest to the lines before
-pub next_stands : (before after : List Entry) (text rest line more : List ℕ) → StandBefore before rest text → ReadsLine before line after
+pub next_stands : (before after : List Entry) (text rest line more : List ℕ) → StandBefore before rest text
+    → ReadsLine before line after
     → rest ≡ line ++ 10 ∷ more → StandBefore after more text
 next_stands before after text rest line more stand reads first =
     let entry = reads.entry in
@@ -90,7 +95,8 @@ next_stands before after text rest line more stand reads first =
     ∙ ap (λ t. entries_text before ++ t) (append-nil (entry_text entry ++ 10 ∷ [])) in
     let head = head_text ++ 10 ∷ [] in
     record {
-      readable = subst (AllByRecursion IsReadableEntry) (sym reads.appends.is) (all_then before entry stand.readable reads.readable);
+      readable = subst (AllByRecursion IsReadableEntry) (sym reads.appends.is)
+          (all_then before entry stand.readable reads.readable);
       order = reads.appends.order;
       split = stand.split ∙ ap (λ r. front_text before ++ r) (first ∙ ap (λ l. l ++ 10 ∷ more) reads.is)
           ∙ sym (ap (λ t. (head ++ t) ++ more) grown ∙ regroup head (entries_text before) (entry_text entry) more);

@@ -67,12 +67,14 @@ settled_line g s is = record {
   roles = roles;
 }
   where
-    roles : (port : PortLine) → In port (stated_line s).ports → IsSettledRole g (port_of (clock s) port.number) port.role
+    roles : (port : PortLine) → In port (stated_line s).ports
+        → IsSettledRole g (port_of (clock s) port.number) port.role
     roles port member =
         let (n, among, same) = from_map (stated_port s) port (range_with_len 1 (length s.ports)) member in
         let (least, most) = in_range 1 (length s.ports) n among in
         let is_port : IsPortOf s n = record { least = least; most = omega (arith, most) } in
-        let role = subst (λ r. IsSettledRole g (port_of (clock s) n) r) (same_role (role_at s n)) (is.roles n is_port) in
+        let role = subst (λ r. IsSettledRole g (port_of (clock s) n) r) (same_role (role_at s n))
+        (is.roles n is_port) in
         subst (λ (p : PortLine). IsSettledRole g (port_of (clock s) p.number) p.role) same role
 
 -- ---- the lines of all

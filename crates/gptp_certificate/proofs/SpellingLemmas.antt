@@ -40,15 +40,18 @@ digits_read n x = decode_sized-encode_lower (big_bytes n x) n (length-bytes_high
 
 -- and these as the number
 pub number_read : (n x : ℕ) → x < 256 ^ n → big_number n (big_bytes n x) ≡ x
-number_read n x small = ap (λ bytes. big_from 0 n bytes) (sym (append-nil (bytes_high_first n x))) ∙ big_number-reads_back n x [] small
+number_read n x small =
+    ap (λ bytes. big_from 0 n bytes) (sym (append-nil (bytes_high_first n x))) ∙ big_number-reads_back n x [] small
 
 -- a word that can't be read is no number's
-pub unread_digits : (n : ℕ) (word : List ℕ) (r : Result (List ℕ) FromHexError) → r ≡ decode_sized word n → false ≡ is_ok r
+pub unread_digits : (n : ℕ) (word : List ℕ) (r : Result (List ℕ) FromHexError) → r ≡ decode_sized word n
+    → false ≡ is_ok r
     → (x : ℕ) → word ≢ encode_lower (big_bytes n x)
 unread_digits n word r is bad x e = not_ok r (big_bytes n x) bad (is ∙ ap (λ w. decode_sized w n) e ∙ digits_read n x)
 
 -- a word that isn't spelled as the number that is read of it is no number's
-pub other_digits : (n : ℕ) (word octets : List ℕ) (number : ℕ) (r : Result (List ℕ) FromHexError) → r ≡ decode_sized word n
+pub other_digits : (n : ℕ) (word octets : List ℕ) (number : ℕ) (r : Result (List ℕ) FromHexError)
+    → r ≡ decode_sized word n
     → Some octets ≡ result_ok r → number ≡ big_number n octets
     → (word ≡ encode_lower (big_bytes n number) → ⊥) → (x : ℕ) → x < 256 ^ n → word ≢ encode_lower (big_bytes n x)
 other_digits n word octets number r read found is unlike x small e =
@@ -58,11 +61,13 @@ other_digits n word octets number r read found is unlike x small e =
     unlike (rw same e)
 
 -- what a clause says of each answer
-pub read_of : {X E : Type 0} (P : X → Type 0) (Q : E → Type 0) (r : Result X E) (x : X) → MatchResult r P Q → Some x ≡ result_ok r → P x
+pub read_of : {X E : Type 0} (P : X → Type 0) (Q : E → Type 0) (r : Result X E) (x : X) → MatchResult r P Q
+    → Some x ≡ result_ok r → P x
 read_of P Q (Ok y) x m e = let same : x ≡ y = same_Some x y e in rw same m
 read_of P Q (Err y) x m e = absurd cc
 
-pub unread_of : {X E : Type 0} (P : X → Type 0) (Q : E → Type 0) (W : Type 0) (r : Result X E) → MatchResult r P (λ e. (W → ⊥) × Q e)
+pub unread_of : {X E : Type 0} (P : X → Type 0) (Q : E → Type 0) (W : Type 0) (r : Result X E)
+    → MatchResult r P (λ e. (W → ⊥) × Q e)
     → false ≡ is_ok r → W → ⊥
 unread_of P Q W (Ok y) m bad w = absurd cc
 unread_of P Q W (Err y) m bad w = m.0 w
@@ -77,11 +82,13 @@ decimal_read : {E : Type 0} (n : ℕ) (word text : List ℕ) (r : Result ℕ E) 
     → ParsesUnsigned 16 10 text r → r ≡ Ok n
 decimal_read n word text r h same is parses = parse-decimal 16 n text r (omega arith) (small n h) (same ∙ is) parses
 
-pub unread_decimal : {E : Type 0} (word text : List ℕ) (r : Result ℕ E) → text ≡ word → ParsesUnsigned 16 10 text r → false ≡ is_ok r
+pub unread_decimal : {E : Type 0} (word text : List ℕ) (r : Result ℕ E) → text ≡ word → ParsesUnsigned 16 10 text r
+    → false ≡ is_ok r
     → (n : ℕ) → n ≤ 65535 → word ≢ decimal n
 unread_decimal word text r same parses bad n h e = not_ok r n bad (decimal_read n word text r h same e parses)
 
-pub other_decimal : {E : Type 0} (word text : List ℕ) (number : ℕ) (r : Result ℕ E) → text ≡ word → ParsesUnsigned 16 10 text r
+pub other_decimal : {E : Type 0} (word text : List ℕ) (number : ℕ) (r : Result ℕ E) → text ≡ word
+    → ParsesUnsigned 16 10 text r
     → Some number ≡ result_ok r → (word ≡ decimal number → ⊥) → (n : ℕ) → n ≤ 65535 → word ≢ decimal n
 other_decimal word text number r same parses found unlike n h e =
     let is : number ≡ n = same_ok r number n (ok_of r number found) (decimal_read n word text r h same e parses) in

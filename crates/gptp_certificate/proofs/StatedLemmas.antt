@@ -59,7 +59,15 @@ put_rises-step : (n x : ℕ) (xs : List ℕ) (t : Bool) → nat_le n x ≡ t →
 put_rises-step n x xs true e other up rest =
     let le : n ≤ x = grind (arith, nat_tests) in
     let below : n < x = less le other in
-    rw e ((λ y k. elim k [ inl same ↦ subst (λ m. n < m) (sym same) below | inr i ↦ (let b : x < y = up.0 y i in omega arith) ]), up)
+    rw e (
+      (λ y k.
+          elim k [
+            | inl same ↦ subst (λ m. n < m) (sym same) below
+            | inr i ↦ (let b : x < y = up.0 y i in
+                omega arith)
+          ]),
+      up,
+    )
   where
     less : n ≤ x → (n ≡ x → ⊥) → n < x
     less le differ = omega arith
@@ -112,7 +120,9 @@ stated_none names w = record { more = λ rest are. are }
 stated_more : (names : List ℕ) (name : ℕ) (left : List ℕ) (w : WorldState) (before after : List SystemLine)
     → StatedSoFar names (name ∷ left) w before → Adds name w before after → StatedSoFar names left w after
 stated_more names name left w before after so_far one = record {
-  more = λ rest are. subst (AreLines names w) (sym (ap (λ (ls : List SystemLine). ls ++ rest) one.so ∙ append_assoc before (stated_if one.station) rest))
+  more = λ rest are.
+      subst (AreLines names w)
+      (sym (ap (λ (ls : List SystemLine). ls ++ rest) one.so ∙ append_assoc before (stated_if one.station) rest))
       (so_far.more (stated_if one.station ++ rest)
       (rest, record { place = one.place; station = one.station; is = one.is; so = refl }, are));
 }
@@ -120,7 +130,8 @@ stated_more names name left w before after so_far one = record {
 drop_here : (xs : List ℕ) (place x : ℕ) → slice_get xs place ≡ Some x → drop place xs ≡ x ∷ drop (place + 1) xs
 drop_here xs place x here =
     let within = slice_get_within xs place x here in
-    let is : get_or xs place x ≡ x = same_Some (get_or xs place x) x (sym (slice_get-get_or xs place x within) ∙ here) in
+    let is : get_or xs place x
+    ≡ x = same_Some (get_or xs place x) x (sym (slice_get-get_or xs place x within) ∙ here) in
     drop_more xs place x within ∙ ap (λ y. y ∷ drop (place + 1) xs) is
 
 -- the system at a place by rising clock is the next
@@ -146,7 +157,8 @@ record IsStatedOf (names : List ℕ) (w : WorldState) (line : SystemLine) : Type
   is : line ≡ stated_line station.system
 
 if_live : (station : Station) (line : SystemLine) (live : Bool) → station.live ≡ live
-    → In line (if live then stated_line station.system ∷ [] else []) → (station.live ≡ true) × (line ≡ stated_line station.system)
+    → In line (if live then stated_line station.system ∷ [] else []) → (station.live ≡ true)
+    × (line ≡ stated_line station.system)
 if_live station line true is (inl e) = (is, e)
 if_live station line true is (inr k) = absurd k
 if_live station line false is k = absurd k
@@ -168,22 +180,23 @@ In-append x (y ∷ xs) ys (inr h) = elim (In-append x xs ys h) [ inl k ↦ inl (
 stated_of : (names : List ℕ) (w : WorldState) (lines : List SystemLine) (line : SystemLine) → AreLines names w lines
     → In line lines → IsStatedOf names w line
 stated_of [] w lines line are h = absurd (rw are at h)
-stated_of (name ∷ names) w lines line (rest, one, are) h = elim (In-append line (stated_if one.station) rest (rw one.so at h)) [
-  | inl here ↦ (let both = if_live one.station line one.station.live refl here in record {
-    station = one.station;
-    there = In-slice_get one.station w.stations one.place one.is.here;
-    named = inl one.is.named;
-    live = both.0;
-    is = both.1;
-  })
-  | inr k ↦ (let later = stated_of names w rest line are k in record {
-    station = later.station;
-    there = later.there;
-    named = inr later.named;
-    live = later.live;
-    is = later.is;
-  })
-]
+stated_of (name ∷ names) w lines line (rest, one, are) h =
+    elim (In-append line (stated_if one.station) rest (rw one.so at h)) [
+      | inl here ↦ (let both = if_live one.station line one.station.live refl here in record {
+        station = one.station;
+        there = In-slice_get one.station w.stations one.place one.is.here;
+        named = inl one.is.named;
+        live = both.0;
+        is = both.1;
+      })
+      | inr k ↦ (let later = stated_of names w rest line are k in record {
+        station = later.station;
+        there = later.there;
+        named = inr later.named;
+        live = later.live;
+        is = later.is;
+      })
+    ]
 
 of_stated : (names : List ℕ) (w : WorldState) (lines : List SystemLine) (station : Station) → HaveOwnClocks w
     → AreLines names w lines → In station w.stations → In (clock station.system) names → station.live ≡ true
@@ -197,14 +210,16 @@ of_stated (name ∷ names) w lines station own (rest, one, are) there (inl e) li
     let first : In (stated_line station.system) (stated_if station) = rw live (inl refl) in
     rw (one.so, same) (In-front (stated_line station.system) (stated_if station) rest first)
 of_stated (name ∷ names) w lines station own (rest, one, are) there (inr k) live =
-    rw one.so (In-back (stated_line station.system) (stated_if one.station) rest (of_stated names w rest station own are there k live))
+    rw one.so (In-back (stated_line station.system) (stated_if one.station) rest
+    (of_stated names w rest station own are there k live))
 
 -- one more line rises below those of later clocks
 rises_below : (name : ℕ) (w : WorldState) (names : List ℕ) (rest : List SystemLine) (station : Station)
     → clock station.system ≡ name → ((y : ℕ) → In y names → name < y) → AreLines names w rest
     → IsRising (line_clocks rest) → (live : Bool) → station.live ≡ live
     → IsRising (line_clocks (stated_if station ++ rest))
-rises_below name w names rest station named below are up true is = rw is ((λ c k. subst (λ n. n < c) (sym named) (later c k)), up)
+rises_below name w names rest station named below are up true is =
+    rw is ((λ c k. subst (λ n. n < c) (sym named) (later c k)), up)
   where
     later : (c : ℕ) → In c (line_clocks rest) → name < c
     later c k =

@@ -13,14 +13,18 @@ use Rattle.gptp_certificate.specs.Entries.{Entry, PortEntry, entries_of, entries
 abbrev pub entries_text : List Entry → List ℕ
 entries_text entries = text_of (map entry_text entries)
 
-pub entries_text-append : (before after : List Entry) → entries_text (before ++ after) ≡ entries_text before ++ entries_text after
-entries_text-append before after = ap text_of (map-append entry_text before after) ∙ flat_map-append _ (map entry_text before) (map entry_text after)
+pub entries_text-append : (before after : List Entry)
+    → entries_text (before ++ after) ≡ entries_text before ++ entries_text after
+entries_text-append before after =
+    ap text_of (map-append entry_text before after) ∙ flat_map-append _ (map entry_text before) (map entry_text after)
 
 -- the lines of the ports, as they are written and as they are defined
-ports_text : (clock : ℕ) (ports : List (ℕ × Role)) → map (λ port. entry_text (PortEntry clock (port_line_of port))) ports
+ports_text : (clock : ℕ) (ports : List (ℕ × Role))
+    → map (λ port. entry_text (PortEntry clock (port_line_of port))) ports
     ≡ map entry_text (map (PortEntry clock) (map port_line_of ports))
 ports_text clock [] = refl
-ports_text clock (port ∷ ports) = ap (λ texts. entry_text (PortEntry clock (port_line_of port)) ∷ texts) (ports_text clock ports)
+ports_text clock (port ∷ ports) =
+    ap (λ texts. entry_text (PortEntry clock (port_line_of port)) ∷ texts) (ports_text clock ports)
 
 -- a system's line and then its ports' are its lines
 pub system_written : (line : SystemLine) (text head after : List ℕ)

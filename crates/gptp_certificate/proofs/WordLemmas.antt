@@ -100,9 +100,11 @@ pub one_word : (v w x y : List ℕ) → IsWord v → IsWord w → v ++ 32 ∷ x 
 one_word v w x y f g = one_cut 32 v w x y (plain_lacks_space v f.plain) (plain_lacks_space w g.plain)
 
 -- one value stands behind a key
-pub one_value : (key text v w x y : List ℕ) → IsWord v → IsWord w → text ≡ key ++ (v ++ 32 ∷ x) → text ≡ key ++ (w ++ 32 ∷ y)
+pub one_value : (key text v w x y : List ℕ) → IsWord v → IsWord w → text ≡ key ++ (v ++ 32 ∷ x)
+    → text ≡ key ++ (w ++ 32 ∷ y)
     → (v ≡ w) × (x ≡ y)
-one_value key text v w x y f g d e = one_word v w x y f g (append_cancel_left key (v ++ 32 ∷ x) (w ++ 32 ∷ y) (sym d ∙ e))
+one_value key text v w x y f g d e =
+    one_word v w x y f g (append_cancel_left key (v ++ 32 ∷ x) (w ++ 32 ∷ y) (sym d ∙ e))
 
 -- a word has no space in it
 pub word_is_one : (v w x : List ℕ) → IsWord v → v ≡ w ++ 32 ∷ x → ⊥
@@ -120,7 +122,8 @@ none_of P Q None m = m
 none_of P Q (Some x) m = search Rattle.std.proofs.Common.rules
 
 -- no word stands before the first space where what stands there is none
-pub other_word : (text v w x y : List ℕ) → Lacks 32 v → (IsWord v → ⊥) → IsWord w → text ≡ v ++ 32 ∷ x → text ≡ w ++ 32 ∷ y → ⊥
+pub other_word : (text v w x y : List ℕ) → Lacks 32 v → (IsWord v → ⊥) → IsWord w → text ≡ v ++ 32 ∷ x
+    → text ≡ w ++ 32 ∷ y → ⊥
 other_word text v w x y lacks none is d e =
     let same = one_cut 32 v w x y lacks (plain_lacks_space w is.plain) (sym d ∙ e) in
     none (rw same.0 is)

@@ -1,5 +1,5 @@
--- The first fault of a text (profile). Lines are looked at one after another, and of each its form, its spelling and its
--- order.
+-- The first fault of a text (profile). Lines are looked at one after another, and of each its form, its spelling and
+-- its order.
 use Rattle.std.specs.Prelude.{◌≡◌, ◌≢◌, ◌⊎◌, ℕ, List, [], ◌∷◌, ◌++◌}
 use Rattle.std.specs.List.{AllByRecursion}
 use Rattle.gptp_certificate.specs.declared.fault.CertificateFault.{CertificateFault}

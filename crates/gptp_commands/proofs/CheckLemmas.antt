@@ -30,11 +30,15 @@ pub check_holds : (until : Option ℕ) (left rest behind after : Option (List �
     → (output : List (List ℕ)) × CheckText until certificate document output status × (text ≡ text_of output) → Q text
     → IfSome behind (λ octets. IfSome left (λ input.
     (output : List (List ℕ)) × CheckText until octets input output status × Q (text_of output)))
-check_holds until left rest None after document certificate text status Q reads_document reads_certificate shown holds = tt
-check_holds until left rest (Some all) after document certificate text status Q reads_document reads_certificate (output, shows, is) holds =
-    text_holds document_limit (AnswersBoth until all) (RefusesFault TooMany) left rest document text status Q reads_document (
+check_holds until left rest None after document certificate text status Q reads_document reads_certificate shown
+    holds = tt
+check_holds until left rest (Some all) after document certificate text status Q reads_document reads_certificate
+    (output, shows, is) holds =
+    text_holds document_limit (AnswersBoth until all) (RefusesFault TooMany) left rest document text status Q
+    reads_document (
       output,
-      limited_weaker document_limit (AnswersBoth until certificate) (AnswersBoth until all) (RefusesFault TooMany) document
+      limited_weaker document_limit (AnswersBoth until certificate) (AnswersBoth until all) (RefusesFault TooMany)
+          document
           output status (same_answer until all after certificate document output status reads_certificate) shows,
       is,
     ) holds

@@ -80,29 +80,35 @@ wrong s as_flag step = or_else as_flag (step_fault (with_help s) 1 step.0 step.1
 
 wrong_character : (s : Shape) (word flags : Text) (others : ℕ) (flag : Option ℕ)
     → wrong s (bundle_step_fault help_rules false flag flags 0 nothing_held (flags_fault help_rules false others))
-    (after_flag help_rules idle word (bundle_step help_rules flag flags 0 plain nothing_held (bundle_met help_rules others)).0
+    (after_flag help_rules idle word
+    (bundle_step help_rules flag flags 0 plain nothing_held (bundle_met help_rules others)).0
     (bundle_step help_rules flag flags 0 plain nothing_held (bundle_met help_rules others)).1) ≡ [] → ⊥
 wrong_character s word flags others None none = stray (with_help s) none
 wrong_character s word flags others (Some flag) none = short_wrong (104 == flag) flag _ _ refl (first_none _ _ none)
 
 wrong_bundle : (s : Shape) (word flags : Text)
-    → wrong s (bundle_fault help_rules false flags nothing_held) (short_or_plain help_rules idle word (Some flags) nothing_held) ≡ [] → ⊥
+    → wrong s (bundle_fault help_rules false flags nothing_held)
+    (short_or_plain help_rules idle word (Some flags) nothing_held) ≡ [] → ⊥
 unfolding flags_fault bundle_met
 wrong_bundle s word [] none = stray (with_help s) none
 wrong_bundle s word (x ∷ xs) none = wrong_character s word (x ∷ xs) (length xs) (slice_get (chars (x ∷ xs)) 0) none
 
 wrong_short : (s : Shape) (word : Text) (short : Option Text)
-    → wrong s (option_map_or (λ flags. bundle_fault help_rules false flags nothing_held) short []) (short_or_plain help_rules idle word short nothing_held) ≡ [] → ⊥
+    → wrong s (option_map_or (λ flags. bundle_fault help_rules false flags nothing_held) short [])
+    (short_or_plain help_rules idle word short nothing_held) ≡ [] → ⊥
 wrong_short s word None none = stray (with_help s) none
 wrong_short s word (Some flags) none = wrong_bundle s word flags none
 
 wrong_word : (s : Shape) (word : Text) (long : Option (Text × Option Text))
-    → wrong s (flag_word_fault help_rules false long word nothing_held) (long_or_other help_rules idle word long nothing_held) ≡ [] → ⊥
+    → wrong s (flag_word_fault help_rules false long word nothing_held)
+    (long_or_other help_rules idle word long nothing_held) ≡ [] → ⊥
 wrong_word s word None none = wrong_short s word _ none
-wrong_word s word (Some parts) none = long_wrong (bytes_eq (codes "help") parts.0) parts.0 parts.1 refl (first_none _ _ none)
+wrong_word s word (Some parts) none =
+    long_wrong (bytes_eq (codes "help") parts.0) parts.0 parts.1 refl (first_none _ _ none)
 
 -- where a level begins
-strange : (s : Shape) (names : Names) (word : Text) → subcommand_met names idle word ≡ None → bytes_eq word (codes "--") ≡ false
+strange : (s : Shape) (names : Names) (word : Text) → subcommand_met names idle word ≡ None
+    → bytes_eq word (codes "--") ≡ false
     → turn_fault (with_help s) names (walk_from nothing_held) word ≡ [] → ⊥
 strange s names word no-name no-mark none = wrong_word s word (long_of word) (rw (no-name, no-mark) at none)
 
@@ -154,7 +160,8 @@ stop words = (walk help_rules names nothing_held words).stopped
 stops_at_compare : (words : List Text) → stop (codes "compare" ∷ words) ≡ Some (codes "compare", words)
 unfolding walked
 stops_at_compare words =
-    ap (λ (w : Walk). w.stopped) (sym (walk_stopped help_rules names (walk_from nothing_held) (codes "compare") [] words))
+    ap (λ (w : Walk). w.stopped)
+    (sym (walk_stopped help_rules names (walk_from nothing_held) (codes "compare") [] words))
 
 stops_at_run : (words : List Text) → stop (codes "run" ∷ words) ≡ Some (codes "run", words)
 unfolding walked
@@ -171,14 +178,16 @@ words_behind : (words : List Text) → fault (codes "compare" ∷ words) ≡ [] 
 words_behind words none =
     let later = second_none (walk_fault top names (walk_from nothing_held) (codes "compare" ∷ words)) _ none in
     let entered : entered_fault (built program) (stop (codes "compare" ∷ words)) ≡ [] = first_none _ _ later in
-    words_below words (first_none (walk_fault below [] (walk_from nothing_held) words) _ (rw (stops_at_compare words) at entered))
+    words_below words
+    (first_none (walk_fault below [] (walk_from nothing_held) words) _ (rw (stops_at_compare words) at entered))
 
 -- the mark `--` in place of a command
 mark_alone : (words : List Text) → fault (codes "--" ∷ words) ≡ [] → ⊥
 unfolding clap_on_literals
 mark_alone [] none = some_fault _ _ none
 mark_alone (word ∷ words) none =
-    let nothing : word ∷ words ≡ [] = trailing_words top names (word ∷ words) (walk_finds_none (codes "--" ∷ word ∷ words) none) in
+    let nothing : word ∷ words
+    ≡ [] = trailing_words top names (word ∷ words) (walk_finds_none (codes "--" ∷ word ∷ words) none) in
     let count : suc (length words) ≡ 0 = ap length nothing in
     absurd (omega arith)
 
@@ -266,9 +275,11 @@ compare_named words (inr (inl run)) not_run not_check = absurd (not_run (enters_
 compare_named words (inr (inr check)) not_run not_check = absurd (not_check (enters_check words check))
 
 -- `run`, where it entered that
-run_named : (words : List Text) → NamesOne words → entered_name words ≡ Some (codes "run") → BeginsWith (codes "run") words
+run_named : (words : List Text) → NamesOne words → entered_name words ≡ Some (codes "run")
+    → BeginsWith (codes "run") words
 run_named words (inl compare) is_run =
-    let count : ◌≡◌ {A = ℕ} 7 3 = one_length words (codes "compare") (codes "run") (enters_compare words compare) is_run in
+    let count : ◌≡◌ {A = ℕ} 7 3 =
+    one_length words (codes "compare") (codes "run") (enters_compare words compare) is_run in
     absurd (omega arith)
 run_named words (inr (inl run)) is_run = run
 run_named words (inr (inr check)) is_run =
@@ -276,9 +287,11 @@ run_named words (inr (inr check)) is_run =
     absurd (omega arith)
 
 -- `check`, where it entered that
-check_named : (words : List Text) → NamesOne words → entered_name words ≡ Some (codes "check") → BeginsWith (codes "check") words
+check_named : (words : List Text) → NamesOne words → entered_name words ≡ Some (codes "check")
+    → BeginsWith (codes "check") words
 check_named words (inl compare) is_check =
-    let count : ◌≡◌ {A = ℕ} 7 5 = one_length words (codes "compare") (codes "check") (enters_compare words compare) is_check in
+    let count : ◌≡◌ {A = ℕ} 7 5 =
+    one_length words (codes "compare") (codes "check") (enters_compare words compare) is_check in
     absurd (omega arith)
 check_named words (inr (inl run)) is_check =
     let count : ◌≡◌ {A = ℕ} 3 5 = one_length words (codes "run") (codes "check") (enters_run words run) is_check in
@@ -302,7 +315,8 @@ rows_of_words parsed words m is matches =
 
 entered_of : (parsed : App) (words : List Text) (m : ArgMatches) → parsed ≡ program → HasMatchesOf parsed words m
     → subcommand_name_of m ≡ entered_name (drop 1 words)
-entered_of parsed words m is matches = name_of (out-ArgMatches m).subcommand ∙ ap name_in (rows_of_words parsed words m is matches)
+entered_of parsed words m is matches =
+    name_of (out-ArgMatches m).subcommand ∙ ap name_in (rows_of_words parsed words m is matches)
 
 -- a command that was entered by this name, with these rows
 pub entered_is : {Z : Type 0} (found : Option (Box SubCommand Z)) (name : Text) (rows : List Row)
@@ -320,18 +334,23 @@ accepted_words : (parsed : App) (words : List Text) → parsed ≡ program
 accepted_words parsed words is accepted = words_named (drop 1 words) (rw is at accepted refl)
 
 -- what the matches ask for is what the words ask for
-pub asked : (parsed : App) (words : List Text) (m : ArgMatches) (order : Order) → parsed ≡ program → HasMatchesOf parsed words m
+pub asked : (parsed : App) (words : List Text) (m : ArgMatches) (order : Order) → parsed ≡ program
+    → HasMatchesOf parsed words m
     → (is_simple_and_free parsed ≡ true → fault_of parsed words ≡ []) → Enters m order → AsksFor words order
 asked parsed words m Compare is matches accepted entered =
     let same = entered_of parsed words m is matches in
     compare_named (drop 1 words) (accepted_words parsed words is accepted)
     (λ run. entered.0 (same ∙ run)) (λ check. entered.1 (same ∙ check))
 asked parsed words m (Run options) is matches accepted entered =
-    let rows_are = sym (rows_of_words parsed words m is matches) ∙ entered.1 in
-    (run_named (drop 1 words) (accepted_words parsed words is accepted) (ap name_in rows_are), (entered.0, rows_are, entered.2))
+    let rows_are = sym (rows_of_words parsed words m is matches) ∙ entered.1 in (
+      run_named (drop 1 words) (accepted_words parsed words is accepted) (ap name_in rows_are),
+      (entered.0, rows_are, entered.2),
+    )
 asked parsed words m (Check options) is matches accepted entered =
-    let rows_are = sym (rows_of_words parsed words m is matches) ∙ entered.1 in
-    (check_named (drop 1 words) (accepted_words parsed words is accepted) (ap name_in rows_are), (entered.0, rows_are, entered.2))
+    let rows_are = sym (rows_of_words parsed words m is matches) ∙ entered.1 in (
+      check_named (drop 1 words) (accepted_words parsed words is accepted) (ap name_in rows_are),
+      (entered.0, rows_are, entered.2),
+    )
 
 pub asked_in_range : (words : List Text) (order : Order) → AsksFor words order → OrderIsInRange order
 asked_in_range words Compare asks = tt
@@ -357,15 +376,18 @@ no_short word no_option = ap (option_and_then short_of_rest) no_option
 value_met : (rules : List Rule) (word : Text) → IsNoOption word
     → word_met rules [] false idle 1 word nothing_held ≡ (nothing_held, value_step)
 value_met rules word no_option =
-    ap (λ is_mark. cond is_mark (nothing_held, trailing 1) (long_or_other rules idle word (long_of word) nothing_held)) (no_mark word no_option)
+    ap (λ is_mark. cond is_mark (nothing_held, trailing 1) (long_or_other rules idle word (long_of word) nothing_held))
+    (no_mark word no_option)
     ∙ ap (λ long. long_or_other rules idle word long nothing_held) (no_long word no_option)
     ∙ ap (λ short. short_or_plain rules idle word short nothing_held) (no_short word no_option)
 
 value_passes : (s : Shape) (word : Text) → IsNoOption word → word_fault s [] false idle word nothing_held ≡ []
 value_passes s word no_option =
-    ap (λ is_mark. cond is_mark [] (flag_word_fault s.rules s.args_override_self (long_of word) word nothing_held)) (no_mark word no_option)
+    ap (λ is_mark. cond is_mark [] (flag_word_fault s.rules s.args_override_self (long_of word) word nothing_held))
+    (no_mark word no_option)
     ∙ ap (λ long. flag_word_fault s.rules s.args_override_self long word nothing_held) (no_long word no_option)
-    ∙ ap (λ short. option_map_or (λ flags. bundle_fault s.rules s.args_override_self flags nothing_held) short []) (no_short word no_option)
+    ∙ ap (λ short. option_map_or (λ flags. bundle_fault s.rules s.args_override_self flags nothing_held) short [])
+    (no_short word no_option)
 
 abbrev checking : Shape
 checking = built_leaf check_command.top
@@ -375,11 +397,13 @@ file_walked : (file : Text) → IsNoOption file → walked checking.rules [] (wa
     ≡ after_step checking.rules file (walk_from nothing_held) nothing_held value_step
 unfolding walked
 file_walked file no_option =
-    ap (λ (met : Held × Step). after_step checking.rules file (walk_from nothing_held) met.0 met.1) (value_met checking.rules file no_option)
+    ap (λ (met : Held × Step). after_step checking.rules file (walk_from nothing_held) met.0 met.1)
+    (value_met checking.rules file no_option)
 
 file_passes : (file : Text) → IsNoOption file → walk_fault checking [] (walk_from nothing_held) (file ∷ []) ≡ []
 unfolding walk_fault
-file_passes file no_option = ap₂ (λ (as_flag : Kinds) (met : Held × Step). or_else (or_else as_flag (step_fault checking 1 met.0 met.1)) [])
+file_passes file no_option =
+    ap₂ (λ (as_flag : Kinds) (met : Held × Step). or_else (or_else as_flag (step_fault checking 1 met.0 met.1)) [])
     (value_passes checking file no_option) (value_met checking.rules file no_option)
 
 -- what is wrong behind `check`, by what is wrong in the walk and by its end
@@ -399,9 +423,11 @@ file_behind file no_option =
     ap₂ wrong_behind (file_passes file no_option) (file_walked file no_option) ∙ nothing_wrong file
 
 file_entered : (file : Text) → IsNoOption file → entered_fault (built program) (stop (codes "check" ∷ file ∷ [])) ≡ []
-file_entered file no_option = ap (entered_fault (built program)) (stops_at_check (file ∷ [])) ∙ file_behind file no_option
+file_entered file no_option =
+    ap (entered_fault (built program)) (stops_at_check (file ∷ [])) ∙ file_behind file no_option
 
-above_check : (file : Text) → level_fault (built program).top names nothing_held (codes "check" ∷ file ∷ []) true [] ≡ []
+above_check : (file : Text) → level_fault (built program).top names nothing_held (codes "check" ∷ file ∷ []) true []
+    ≡ []
 unfolding clap_on_literals
 above_check file = refl
 
@@ -410,7 +436,8 @@ has_check file = ap (λ stopped. is_some (entered (built program) stopped)) (sto
 
 plain_file : (file : Text) → IsNoOption file → fault (codes "check" ∷ file ∷ []) ≡ []
 plain_file file no_option =
-    ap₂ (level_fault (built program).top names nothing_held (codes "check" ∷ file ∷ [])) (has_check file) (file_entered file no_option)
+    ap₂ (level_fault (built program).top names nothing_held (codes "check" ∷ file ∷ [])) (has_check file)
+    (file_entered file no_option)
     ∙ above_check file
 
 none_wrong : (words : List Text) → IsPlain words → fault_of program words ≡ []
@@ -426,7 +453,8 @@ no_kind error (inr none) = absurd none
 
 -- one that fails
 pub refused_words : (parsed : App) (words : List Text) (error : Error) → parsed ≡ program
-    → (is_simple_and_free parsed ≡ true → HasKind (fault_of parsed words) error) → IsPlain words → kind_of error ≡ OutOfMemory
+    → (is_simple_and_free parsed ≡ true → HasKind (fault_of parsed words) error) → IsPlain words
+    → kind_of error ≡ OutOfMemory
 refused_words parsed words error is refused named =
     let kinds : HasKind (fault_of program words) error = rw is at refused refl in
     no_kind error (rw (none_wrong words named) at kinds)

@@ -19,20 +19,28 @@ pub record Answered (input rest text : List ℕ) (refused : Bool) : Type 0 where
   pub refused_is : refused ≡ list_any is_refusal answers
 
 -- one line more in the text
-text_push : (answers : List Answer) (answer : Answer) → text_of (map answer_text (answers ++ answer ∷ [])) ≡ text_of (map answer_text answers) ++ (answer_text answer ++ 10 ∷ [])
-text_push answers answer = rw map_push (flat_map-append (λ line. line ++ 10 ∷ []) (map answer_text answers) (answer_text answer ∷ []) ∙ rw append-nil refl)
+text_push : (answers : List Answer) (answer : Answer) → text_of (map answer_text (answers ++ answer ∷ []))
+    ≡ text_of (map answer_text answers) ++ (answer_text answer ++ 10 ∷ [])
+text_push answers answer =
+    rw map_push (flat_map-append (λ line. line ++ 10 ∷ []) (map answer_text answers) (answer_text answer ∷ [])
+    ∙ rw append-nil refl)
 
 or-false : (test : Bool) → test || false ≡ test
 or-false true = refl
 or-false false = refl
 
 -- one answer more refuses or doesn't
-refusal_push : (answers : List Answer) (answer : Answer) → list_any is_refusal (answers ++ answer ∷ []) ≡ list_any is_refusal answers || is_refusal answer
-refusal_push answers answer = list_any-append is_refusal answers (answer ∷ []) ∙ ap (λ refusal. list_any is_refusal answers || refusal) (or-false (is_refusal answer))
+refusal_push : (answers : List Answer) (answer : Answer)
+    → list_any is_refusal (answers ++ answer ∷ []) ≡ list_any is_refusal answers || is_refusal answer
+refusal_push answers answer =
+    list_any-append is_refusal answers (answer ∷ [])
+    ∙ ap (λ refusal. list_any is_refusal answers || refusal) (or-false (is_refusal answer))
 
 -- one line more is answered
-pub answered_more : (input rest line after text shown : List ℕ) (refused refusal : Bool) (answer : Answer) → Answered input rest text refused
-    → lines rest ≡ line ∷ lines after → Answers line answer → shown ≡ text ++ (answer_text answer ++ 10 ∷ []) → refusal ≡ is_refusal answer
+pub answered_more : (input rest line after text shown : List ℕ) (refused refusal : Bool) (answer : Answer)
+    → Answered input rest text refused
+    → lines rest ≡ line ∷ lines after → Answers line answer → shown ≡ text ++ (answer_text answer ++ 10 ∷ [])
+    → refusal ≡ is_refusal answer
     → Answered input after shown (refused || refusal)
 answered_more input rest line after text shown refused refusal answer so_far split one shown-is refusal-is = record {
   answers = so_far.answers ++ answer ∷ [];

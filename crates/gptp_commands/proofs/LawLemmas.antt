@@ -42,11 +42,13 @@ one_saying word (Ok v) (Err (faults.Message e)) (f, f-is, (a, reads, v-is)) (g, 
     absurd (not_nothing f a e reads (rw same at refuses))
 one_saying word (Err faults.Hex) (Ok w) none (g, g-is, (b, reads, w-is)) = absurd (let no = rw g-is at none in cc)
 one_saying word (Err faults.Hex) (Err faults.Hex) none also = refl
-one_saying word (Err faults.Hex) (Err (faults.Message e)) none (g, g-is, refuses) = absurd (let no = rw g-is at none in cc)
+one_saying word (Err faults.Hex) (Err (faults.Message e)) none (g, g-is, refuses) =
+    absurd (let no = rw g-is at none in cc)
 one_saying word (Err (faults.Message d)) (Ok w) (f, f-is, refuses) (g, g-is, (b, reads, w-is)) =
     let same : g ≡ f = let e = sym g-is ∙ f-is in cc in
     absurd (not_nothing f b d (rw same at reads) refuses)
-one_saying word (Err (faults.Message d)) (Err faults.Hex) (f, f-is, refuses) none = absurd (let no = rw f-is at none in cc)
+one_saying word (Err (faults.Message d)) (Err faults.Hex) (f, f-is, refuses) none =
+    absurd (let no = rw f-is at none in cc)
 one_saying word (Err (faults.Message d)) (Err (faults.Message e)) (f, f-is, d-refuses) (g, g-is, e-refuses) =
     let same : g ≡ f = let e = sym g-is ∙ f-is in cc in
     ap (λ refused. Err (faults.Message refused)) (one_nothing f d e d-refuses (rw same at e-refuses))
@@ -66,10 +68,12 @@ one_list [] a b a-are b-are = a-are ∙ sym b-are
 one_list (line ∷ others) [] b a-are b-are = absurd a-are
 one_list (line ∷ others) (x ∷ xs) [] a-are b-are = absurd b-are
 one_list (line ∷ others) (x ∷ xs) (y ∷ ys) (x-is, xs-are) (y-is, ys-are) =
-    ap (λ answer. answer ∷ xs) (one_answer _ x y x-is y-is) ∙ ap (λ answers. y ∷ answers) (one_list others xs ys xs-are ys-are)
+    ap (λ answer. answer ∷ xs) (one_answer _ x y x-is y-is)
+    ∙ ap (λ answers. y ∷ answers) (one_list others xs ys xs-are ys-are)
 
 -- within the size, and past it
-one_by_size : (input : List ℕ) (a b : List (List ℕ)) (s t : Status) (fits : Bool) → MatchBool fits (AnswersLines input a s) (RefusesSize a s)
+one_by_size : (input : List ℕ) (a b : List (List ℕ)) (s t : Status) (fits : Bool)
+    → MatchBool fits (AnswersLines input a s) (RefusesSize a s)
     → MatchBool fits (AnswersLines input b t) (RefusesSize b t) → (a ≡ b) × (s ≡ t)
 one_by_size input a b s t true x y =
     let same = one_list (lines input) x.answers y.answers x.are y.are in (
@@ -79,5 +83,6 @@ one_by_size input a b s t true x y =
 one_by_size input a b s t false x y = (x.shown ∙ sym y.shown, x.status_is ∙ sym y.status_is)
 
 -- an input has one text and one status
-pub one_text : (input : List ℕ) (a b : List (List ℕ)) (s t : Status) → CompareText input a s → CompareText input b t → (a ≡ b) × (s ≡ t)
+pub one_text : (input : List ℕ) (a b : List (List ℕ)) (s t : Status) → CompareText input a s → CompareText input b t
+    → (a ≡ b) × (s ≡ t)
 one_text input a b s t x y = one_by_size input a b s t (nat_le (length input) size_limit) x y

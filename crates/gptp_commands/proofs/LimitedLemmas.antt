@@ -9,7 +9,8 @@ use Rattle.gptp_report.specs.Lines.{text_of}
 use Rattle.gptp_commands.specs.Source.{ReadsWhole}
 
 -- what is said of known octets
-pub if_some : (P Q : List ℕ → Type 0) (known : Option (List ℕ)) → ((octets : List ℕ) → P octets → Q octets) → IfSome known P
+pub if_some : (P Q : List ℕ → Type 0) (known : Option (List ℕ)) → ((octets : List ℕ) → P octets → Q octets)
+    → IfSome known P
     → IfSome known Q
 if_some P Q None step holds = tt
 if_some P Q (Some octets) step holds = step octets holds
@@ -46,7 +47,8 @@ module _ (limit : ℕ) (Within : List ℕ → List (List ℕ) → Status → Typ
 
   -- the text for the octets that were read is the text for all there are
   pub same_text : (left rest : Option (List ℕ)) (octets : List ℕ) → ReadsWhole limit left rest octets
-      → IfSome left (λ input. (output : List (List ℕ)) (status : Status) → Text octets output status → Text input output status)
+      → IfSome left (λ input. (output : List (List ℕ)) (status : Status) → Text octets output status
+      → Text input output status)
   same_text None rest octets reads = tt
   same_text (Some xs) None octets reads = absurd reads.taken
   same_text (Some xs) (Some ys) octets reads =

@@ -7,7 +7,8 @@ use Rattle.clap.proofs.WalkLemmas.{one_text-rows}
 use Rattle.gptp_commands.specs.Command.{IsFlag, IsSeed, IsUntil, WritesNumber}
 
 -- of a number's text that number, where its type holds it
-pub number_read : {E : Type 0} (reads : List ℕ → Result ℕ E → Type 0) (bits : ℕ) (text : List ℕ) (number : ℕ) (read : Option ℕ)
+pub number_read : {E : Type 0} (reads : List ℕ → Result ℕ E → Type 0) (bits : ℕ) (text : List ℕ) (number : ℕ)
+    (read : Option ℕ)
     → ((t : List ℕ) (r : Result ℕ E) → reads t r → ParsesUnsigned bits 10 t r) → ReadsOne reads text read
     → WritesNumber text number → number < 2 ^ bits → read ≡ Some number
 number_read reads bits text number (Some value) parses found written small =

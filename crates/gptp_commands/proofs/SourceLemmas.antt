@@ -4,7 +4,8 @@ use Rattle.std.specs.Io.KnownBytes.{Consumes}
 use Rattle.gptp_commands.specs.Source.{TakesAtMost}
 
 -- what two reads took, the second behind the first, is no more than both together
-pub takes_both : (most : ℕ) (old between new : Option (List ℕ)) (first second : List ℕ) → Consumes old between first → Consumes between new second
+pub takes_both : (most : ℕ) (old between new : Option (List ℕ)) (first second : List ℕ) → Consumes old between first
+    → Consumes between new second
     → length first + length second ≤ most → TakesAtMost most old new
 takes_both most None between new first second one two few = (first, tt, omega arith)
 takes_both most (Some xs) None new first second one two few = absurd one

@@ -10,7 +10,8 @@ use Rattle.gptp_commands.proofs.SplitLemmas.{splits_at}
 words-blank : (x : ℕ) (xs : List ℕ) → is_blank x ≡ true → words (x ∷ xs) ≡ words xs
 words-blank x xs blank = ap (λ parts. filter is_word parts) (slice_split-cons_yes is_blank x xs blank)
 
-blanks_step : (x : ℕ) (xs : List ℕ) (test : Bool) → is_blank x ≡ test → words xs ≡ words (drop (prefix_len is_blank xs) xs)
+blanks_step : (x : ℕ) (xs : List ℕ) (test : Bool) → is_blank x ≡ test
+    → words xs ≡ words (drop (prefix_len is_blank xs) xs)
     → words (x ∷ xs) ≡ words (drop (prefix_len is_blank (x ∷ xs)) (x ∷ xs))
 blanks_step x xs true blank rest =
     let e : prefix_len is_blank (x ∷ xs) ≡ suc (prefix_len is_blank xs) = rw blank (omega arith) in
@@ -27,7 +28,8 @@ words_behind_blanks (x ∷ xs) = blanks_step x xs (is_blank x) refl (words_behin
 -- what stands behind them begins with a word, if there is anything
 word_step : (x : ℕ) (xs : List ℕ) (test : Bool) → is_blank x ≡ test
     → (0 < length (drop (prefix_len is_blank xs) xs) → 0 < position_or_len is_blank (drop (prefix_len is_blank xs) xs))
-    → 0 < length (drop (prefix_len is_blank (x ∷ xs)) (x ∷ xs)) → 0 < position_or_len is_blank (drop (prefix_len is_blank (x ∷ xs)) (x ∷ xs))
+    → 0 < length (drop (prefix_len is_blank (x ∷ xs)) (x ∷ xs))
+    → 0 < position_or_len is_blank (drop (prefix_len is_blank (x ∷ xs)) (x ∷ xs))
 word_step x xs true blank rest some =
     let e : prefix_len is_blank (x ∷ xs) ≡ suc (prefix_len is_blank xs) = rw blank (omega arith) in
     rw e (rest (rw e at some))
@@ -43,7 +45,8 @@ word_behind_blanks (x ∷ xs) some = word_step x xs (is_blank x) refl (word_behi
 
 -- parts that follow an empty part, and one that isn't empty
 words_of_parts : (first : List ℕ) (text rest : List ℕ) (parts : List (List ℕ)) → 0 < length first
-    → slice_split is_blank text ≡ first ∷ parts → slice_split is_blank rest ≡ [] ∷ parts → words text ≡ first ∷ words rest
+    → slice_split is_blank text ≡ first ∷ parts → slice_split is_blank rest ≡ [] ∷ parts
+    → words text ≡ first ∷ words rest
 words_of_parts [] text rest parts some front back = absurd (omega arith)
 words_of_parts (x ∷ xs) text rest parts some front back =
     let others : words rest ≡ filter is_word parts = ap (λ parts. filter is_word parts) back in
@@ -54,12 +57,14 @@ words_front : (text : List ℕ) → 0 < length text → 0 < position_or_len is_b
     → words text ≡ take (position_or_len is_blank text) text ∷ words (drop (position_or_len is_blank text) text)
 words_front text some long =
     let split = splits_at is_blank text in
-    words_of_parts (take (position_or_len is_blank text) text) text (drop (position_or_len is_blank text) text) split.parts
+    words_of_parts (take (position_or_len is_blank text) text) text (drop (position_or_len is_blank text) text)
+    split.parts
     (grind (arith, common_steps)) split.front split.back
 
 -- behind the blanks stands the first word, if there is anything
 pub words_found : (text behind word rest : List ℕ) → behind ≡ drop (prefix_len is_blank text) text → 0 < length behind
-    → word ≡ take (position_or_len is_blank behind) behind → rest ≡ drop (position_or_len is_blank behind) behind → words text ≡ word ∷ words rest
+    → word ≡ take (position_or_len is_blank behind) behind → rest ≡ drop (position_or_len is_blank behind) behind
+    → words text ≡ word ∷ words rest
 words_found text behind word rest behind-is some word-is rest-is =
     let long : 0 < position_or_len is_blank behind = rw behind-is (word_behind_blanks text (rw behind-is at some)) in
     words_behind_blanks text ∙ rw (← behind-is, word-is, rest-is) (words_front behind some long)

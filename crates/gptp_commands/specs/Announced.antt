@@ -12,7 +12,8 @@ use Rattle.gptp_messages.specs.Refused.{refusal_text}
 use Rattle.gptp_commands.specs.declared.announced.WordFault.{WordFault}
 use Rattle.gptp_commands.specs.declared.announced.WordFault.TheVariants as faults
 
--- The message priority vector of an Announce (IEEE 802.1AS-2020, 10.3.5). No port hears it, so the receiving port is 0 (profile).
+-- The message priority vector of an Announce (IEEE 802.1AS-2020, 10.3.5). No port hears it, so the receiving port is
+-- 0 (profile).
 abbrev pub vector_of : AnnounceView → Vector
 vector_of a = record { root = a.body.root; steps = a.body.steps; source = a.head.source; receiver = 0 }
 
@@ -32,7 +33,8 @@ AnnouncesNothing frame refused = Refuses frame refused ⊎ (ReadsAsOther frame �
 abbrev pub Says : List ℕ → Result Vector WordFault → Type 0
 Says word (Ok v) = (frame : List ℕ) × (decode_of word ≡ Ok frame) × AnnouncesVector frame v
 Says word (Err faults.Hex) = IsErr (decode_of word)
-Says word (Err (faults.Message refused)) = (frame : List ℕ) × (decode_of word ≡ Ok frame) × AnnouncesNothing frame refused
+Says word (Err (faults.Message refused)) =
+    (frame : List ℕ) × (decode_of word ≡ Ok frame) × AnnouncesNothing frame refused
 
 -- how a fault of a word is shown
 abbrev pub fault_text : WordFault → List ℕ

@@ -29,7 +29,8 @@ answer_of (Ok a) (Ok b) = better_of a b
 -- what two words are answered by what they announce, and any other number of words
 abbrev pub AnswersWords : List (List ℕ) → Answer → Type 0
 AnswersWords (first ∷ second ∷ []) answer =
-    (a : Result Vector WordFault) × (b : Result Vector WordFault) × Says first a × Says second b × (answer ≡ answer_of a b)
+    (a : Result Vector WordFault) × (b : Result Vector WordFault) × Says first a × Says second b
+    × (answer ≡ answer_of a b)
 AnswersWords other answer = answer ≡ NoTwoWords
 
 -- a line is answered by its words

@@ -39,7 +39,8 @@ pub record Says (line : List ℕ) (is : Status) (output : List (List ℕ)) (stat
 abbrev pub Judges : Snapshot → List SystemLine → List (List ℕ) → Status → Type 0
 Judges g lines output status =
     (IsSettledChoice g lines × PassesTooFar lines × Says (codes "accepted") Done output status)
-    ⊎ ((fault : Fault) × IsFirstFault g lines fault × Says (codes "not accepted " ++ fault_text fault) Refused output status)
+    ⊎ ((fault : Fault) × IsFirstFault g lines fault
+    × Says (codes "not accepted " ++ fault_text fault) Refused output status)
 
 -- it is judged for the network as it stands at that time
 abbrev pub JudgesAt : DocumentState → Option ℕ → List SystemLine → List (List ℕ) → Status → Type 0
@@ -53,7 +54,8 @@ RefusesCertificate fault = Says (codes "certificate refused " ++ certificates.fa
 -- a text is a certificate, which is judged, or fails a test
 abbrev pub AnswersCertificate : DocumentState → Option ℕ → List ℕ → List (List ℕ) → Status → Type 0
 AnswersCertificate d until input output status =
-    ((lines : List SystemLine) × (input ≡ certificate_text lines) × IsReadable lines × JudgesAt d until lines output status)
+    ((lines : List SystemLine) × (input ≡ certificate_text lines) × IsReadable lines
+    × JudgesAt d until lines output status)
     ⊎ ((fault : CertificateFault) × Fails input fault × RefusesCertificate fault output status)
 
 -- so it is with one within its size, for a text that is a document

@@ -72,7 +72,8 @@ CertifiesRight false g lines = lines ≡ []
 
 -- The report is that of a world that has settled, and behind it stands the right certificate, where it is asked for and
 -- all systems are near.
-pub record IsSettledRun (d : DocumentState) (options : RunOptions) (g : Snapshot) (output : List (List ℕ)) : Type 0 where
+pub record IsSettledRun (d : DocumentState) (options : RunOptions) (g : Snapshot) (output : List (List ℕ)) : Type
+    0 where
   pub world : WorldState
   pub settled : Settled world
   pub report : List (List ℕ)

@@ -70,8 +70,10 @@ module _ (g : Snapshot) (lines : List SystemLine) (wf : IsWellFormed g) (h : IsS
       let p = parent_of line l stated is in
       let e : line.steps ≡ suc p.nearer.distance =
       LeadsNearer-distance g line.clock line.steps l wf (stated_distances line stated) p.nearer in
-      let d = p.nearer.distance in
-      (p.nearer.joins, (d, stated_of_distance g lines l.clock d wf h.systems stated_distances p.nearer.there, omega arith))
+      let d = p.nearer.distance in (
+        p.nearer.joins,
+        (d, stated_of_distance g lines l.clock d wf h.systems stated_distances p.nearer.there, omega arith),
+      )
 
   -- neighbours have one best, and distances that differ by one at most
   passes_link : PassesLink g lines

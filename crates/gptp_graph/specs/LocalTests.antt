@@ -65,7 +65,8 @@ pub record StatesMaster (g : Snapshot) (lines : List SystemLine) (line : SystemL
 
 -- the role that links, parent and steps give the port of that number
 abbrev pub HasStatedRole : Snapshot → List SystemLine → SystemLine → ℕ → Role → Type 0
-HasStatedRole g lines line n = RoleBy (IsLinked g (port_of line.clock n)) (StatesSlave line n) (StatesMaster g lines line n)
+HasStatedRole g lines line n =
+    RoleBy (IsLinked g (port_of line.clock n)) (StatesSlave line n) (StatesMaster g lines line n)
 
 -- each role is the one that links, parent and steps give the port
 abbrev pub PassesRole : Snapshot → List SystemLine → Type 0

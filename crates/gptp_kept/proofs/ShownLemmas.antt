@@ -72,7 +72,8 @@ module _ (w : WorldState) (claimed : Claimed w) (calm : IsCalmFor capable_span w
         λ linked. known.capable_is ∙ known.settled.capable.1 linked,
       )
 
-  enabled_role : (n : ℕ) → IsPortOf s n → (role_at s n ≢ roles.Disabled) ↔ IsLinked (snapshot_of w) (port_of (clock s) n)
+  enabled_role : (n : ℕ) → IsPortOf s n → (role_at s n ≢ roles.Disabled)
+      ↔ IsLinked (snapshot_of w) (port_of (clock s) n)
   enabled_role n is =
       let known = known_port n is in (
         λ other. by (is_capable known.q.peer) known refl other,

@@ -113,7 +113,8 @@ module _ (p : Params) (w : WorldState) (is : IsClaimed p w) (quiet : IsQuietWorl
       let f : SeenFrame = frame_view (frame time octets) in
       let flies : In f (map frame_view (queue direction channel)) = rw front (inl refl) in
       let (from, good) =
-      traces.lanes (lane_place link direction) (lane_view direction channel) lane f (said m) c flies (m, reads, refl) late in
+      traces.lanes (lane_place link direction) (lane_view direction channel) lane f (said m) c flies (m, reads, refl)
+      late in
       record {
         from = identity_of (sender direction channel);
         live = from;
@@ -144,7 +145,8 @@ held_becomes_clean number w s claimed shows calm c n r holds late =
 delivered_clean : (link : ℕ) (direction : Direction) (time : ℕ) (done : Done) (w w' : WorldState) (draws : List Draw)
     → Claimed w → Delivery link direction done (at_time time w) draws w' → IsHeardClean w time done
 delivered_clean link direction time Quiet w w' draws claimed delivery = tt
-delivered_clean link direction time (Heard number port answer octets) w w' draws claimed delivery = λ calm c m reads late.
+delivered_clean link direction time (Heard number port answer octets) w w' draws claimed delivery = λ calm c m reads
+    late.
     let takes = delivery.delivers.takes in
     let channel = delivery.delivers.channel in
     let same : delivery.channel ≡ channel =

@@ -53,7 +53,8 @@ frames-push : (s : Slab Flight) (keys : List ℕ) (key : ℕ)
 frames-push s [] key = refl
 frames-push s (k ∷ keys) key = ap (λ (fs : List Frame). frame_at s k ∷ fs) (frames-push s keys key)
 
-pub in_order-push : (fs : List Frame) (f : Frame) → AreDueInOrder fs → newest_due fs ≤ f.due → AreDueInOrder (fs ++ f ∷ [])
+pub in_order-push : (fs : List Frame) (f : Frame) → AreDueInOrder fs → newest_due fs ≤ f.due
+    → AreDueInOrder (fs ++ f ∷ [])
 in_order-push [] f order late = tt
 in_order-push (e ∷ []) f order late = (late, tt)
 in_order-push (e ∷ (g ∷ fs)) f order late = (order.0, in_order-push (g ∷ fs) f order.1 late)
@@ -113,7 +114,12 @@ frames_of-pop s t keys key f holds found updates =
 pub holds-grow : (s : Slab Flight) (keys : List ℕ) (capacity : ℕ) → Holds s keys → s.capacity ≤ capacity
     → Holds (record s { capacity = capacity }) keys
 holds-grow s keys capacity holds more =
-    record { fits = let h = holds.fits in omega arith; there = holds.there; differ = holds.differ; due_in_order = holds.due_in_order }
+    record {
+      fits = let h = holds.fits in omega arith;
+      there = holds.there;
+      differ = holds.differ;
+      due_in_order = holds.due_in_order;
+    }
 
 -- the newest frame is that of the last key
 pub last-frame : (s : Slab Flight) (keys : List ℕ) (key n : ℕ) → length keys ≡ n → 0 < n → key ≡ get_or keys (n - 1) key

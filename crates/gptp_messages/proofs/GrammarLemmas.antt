@@ -15,7 +15,8 @@ use Rattle.gptp_messages.specs.Grammar.{PassesHeader, ReadsTlvs, message_of, Rea
 use Rattle.gptp_messages.proofs.TlvLemmas.{one_first}
 
 -- a path trace whose length is no multiple of eight has no reading
-pub odd_path : (octets value path : List ℕ) → FirstTlv PathTrace octets (Some value) → (length value % 8 ≡ 0 → ⊥) → ReadsPath octets path → ⊥
+pub odd_path : (octets value path : List ℕ) → FirstTlv PathTrace octets (Some value) → (length value % 8 ≡ 0 → ⊥)
+    → ReadsPath octets path → ⊥
 odd_path octets value path first odd reads =
     let e = one_first PathTrace octets reads.value (Some value) reads.first first in
     let is : IsPath (Some value) path = rw e at reads.is in
@@ -39,7 +40,8 @@ no_rate octets rate first reads =
     let e = one_first Information octets (Some reads.value) None reads.first first in
     absurd cc
 
-pub odd_rate : (octets value : List ℕ) (rate : ℤ) → FirstTlv Information octets (Some value) → (length value ≡ 28 → ⊥) → ReadsRate octets rate → ⊥
+pub odd_rate : (octets value : List ℕ) (rate : ℤ) → FirstTlv Information octets (Some value) → (length value ≡ 28 → ⊥)
+    → ReadsRate octets rate → ⊥
 odd_rate octets value rate first odd reads =
     let e = one_first Information octets (Some reads.value) (Some value) reads.first first in
     let values : reads.value ≡ value = cc in
@@ -62,7 +64,8 @@ one_message : (kind : MessageType) (f p q : List ℕ) (r s : ℤ) → ReadsTlvs 
 one_message Sync f p q r s m-tlvs n-tlvs = refl
 one_message PdelayReq f p q r s m-tlvs n-tlvs = refl
 one_message PdelayResp f p q r s m-tlvs n-tlvs = refl
-one_message FollowUp f p q r s m-tlvs n-tlvs = ap (message_of FollowUp f p) (one_rate (follow_up_tlvs f) r s m-tlvs n-tlvs)
+one_message FollowUp f p q r s m-tlvs n-tlvs =
+    ap (message_of FollowUp f p) (one_rate (follow_up_tlvs f) r s m-tlvs n-tlvs)
 one_message PdelayRespFollowUp f p q r s m-tlvs n-tlvs = refl
 one_message Announce f p q r s m-tlvs n-tlvs =
     ap (λ (path : List ℕ). message_of Announce f path r) (one_path (announce_tlvs f) p q m-tlvs n-tlvs)
@@ -73,7 +76,8 @@ one_reading f m n m-reads n-reads =
     let kinds = one_kind f n-reads.kind m-reads.kind n-reads.header m-reads.header in
     let tlvs : ReadsTlvs m-reads.kind f n-reads.path n-reads.rate = rw (← kinds) n-reads.tlvs in
     let is : n ≡ message_of m-reads.kind f n-reads.path n-reads.rate = rw (← kinds) n-reads.is in
-    m-reads.is ∙ one_message m-reads.kind f m-reads.path n-reads.path m-reads.rate n-reads.rate m-reads.tlvs tlvs ∙ sym is
+    m-reads.is ∙ one_message m-reads.kind f m-reads.path n-reads.path m-reads.rate n-reads.rate m-reads.tlvs tlvs
+    ∙ sym is
 
 -- what reads as a message isn't refused
 pub never_both : (f : List ℕ) (m : Message) (e : Refused) → Reads f m → Refuses f e → ⊥
@@ -104,10 +108,12 @@ one_refusal f d e (inr (inl tlvs)) (inr (inr stamp)) = absurd (not_first f d e t
 one_refusal f d e (inr (inr stamp)) (inr (inl tlvs)) = absurd (not_first f e d tlvs stamp)
 
 -- an answer that reads or refuses is the only one
-pub only_reading : (f : List ℕ) (r : Result Message Refused) → IfOk r (Reads f) → IfErr r (Refuses f) → (m : Message) → Reads f m → r ≡ Ok m
+pub only_reading : (f : List ℕ) (r : Result Message Refused) → IfOk r (Reads f) → IfErr r (Refuses f) → (m : Message)
+    → Reads f m → r ≡ Ok m
 only_reading f (Ok n) reads refuses m m-reads = ap Ok (one_reading f n m reads m-reads)
 only_reading f (Err e) reads refuses m m-reads = absurd (never_both f m e m-reads refuses)
 
-pub only_refusal : (f : List ℕ) (r : Result Message Refused) → IfOk r (Reads f) → IfErr r (Refuses f) → (e : Refused) → Refuses f e → r ≡ Err e
+pub only_refusal : (f : List ℕ) (r : Result Message Refused) → IfOk r (Reads f) → IfErr r (Refuses f) → (e : Refused)
+    → Refuses f e → r ≡ Err e
 only_refusal f (Ok n) reads refuses e e-refuses = absurd (never_both f n e reads e-refuses)
 only_refusal f (Err d) reads refuses e e-refuses = ap Err (one_refusal f d e refuses e-refuses)

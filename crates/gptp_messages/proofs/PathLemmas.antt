@@ -21,11 +21,14 @@ unfolding clocks
 length-clocks octets = length-map-range_with_len (λ k. field 8 (8 * k) octets) 0 (length octets / 8)
 
 -- the clock at a place stands behind eight octets for each place before it
-pub get_or-clocks : (octets : List ℕ) (i d : ℕ) → i < length octets / 8 → get_or (clocks octets) i d ≡ field 8 (8 * i) octets
+pub get_or-clocks : (octets : List ℕ) (i d : ℕ) → i < length octets / 8
+    → get_or (clocks octets) i d ≡ field 8 (8 * i) octets
 unfolding clocks
-get_or-clocks octets i d within = get_or-map-range_with_len (λ k. field 8 (8 * k) octets) 0 (length octets / 8) i i d within (omega arith)
+get_or-clocks octets i d within =
+    get_or-map-range_with_len (λ k. field 8 (8 * k) octets) 0 (length octets / 8) i i d within (omega arith)
 
-pub slice_get-clocks : (octets : List ℕ) (i : ℕ) → i < length octets / 8 → slice_get (clocks octets) i ≡ Some (field 8 (8 * i) octets)
+pub slice_get-clocks : (octets : List ℕ) (i : ℕ) → i < length octets / 8
+    → slice_get (clocks octets) i ≡ Some (field 8 (8 * i) octets)
 slice_get-clocks octets i within =
     let inside : i < length (clocks octets) = omega (arith, length-clocks octets) in
     slice_get-get_or (clocks octets) i 0 inside ∙ ap Some (get_or-clocks octets i 0 within)
@@ -45,7 +48,8 @@ length-path_octets [] = refl
 length-path_octets (c ∷ path) = let ih = length-path_octets path in omega (arith, ih)
 
 -- the clock at a place of a path is spelled behind eight octets for each clock before it
-field-path_octets : (path : List ℕ) (k : ℕ) → AllByRecursion (λ c. c < 2 ^ 64) path → k < length path → field 8 (8 * k) (path_octets path) ≡ get_or path k 0
+field-path_octets : (path : List ℕ) (k : ℕ) → AllByRecursion (λ c. c < 2 ^ 64) path → k < length path
+    → field 8 (8 * k) (path_octets path) ≡ get_or path k 0
 field-path_octets [] k fit within = absurd (omega arith)
 field-path_octets (c ∷ path) zero fit within = field-big_bytes 8 c (path_octets path) fit.0
 field-path_octets (c ∷ path) (suc k) fit within =
@@ -64,17 +68,20 @@ clocks-path_octets path fit =
 -- ---- octets that are spelled again
 
 -- the octets of the number that eight octets spell
-big_bytes-field : (front rest : List ℕ) → length front ≡ 8 → ((i : ℕ) → get_or front i 0 < 256) → big_bytes 8 (field 8 0 (front ++ rest)) ≡ front
+big_bytes-field : (front rest : List ℕ) → length front ≡ 8 → ((i : ℕ) → get_or front i 0 < 256)
+    → big_bytes 8 (field 8 0 (front ++ rest)) ≡ front
 unfolding field
 big_bytes-field front rest eight octets =
     let number : big_number 8 (front ++ rest) ≡ big_number 8 front = big_from-append 8 front rest (omega arith) in
     rw number (be_bytes_8 front (big_number 8 front) eight octets (omega arith))
 
 -- numbers from one place on are those from the place before it, taken one later
-map-range_later : (f g : ℕ → ℕ) (a n : ℕ) → ((k : ℕ) → f (k + 1) ≡ g k) → map f (range_with_len (a + 1) n) ≡ map g (range_with_len a n)
+map-range_later : (f g : ℕ → ℕ) (a n : ℕ) → ((k : ℕ) → f (k + 1) ≡ g k)
+    → map f (range_with_len (a + 1) n) ≡ map g (range_with_len a n)
 map-range_later f g a zero later = refl
 map-range_later f g a (suc n) later =
-    ap (λ (x : ℕ). x ∷ map f (range_with_len (a + 1 + 1) n)) (later a) ∙ ap (λ (x : List ℕ). g a ∷ x) (map-range_later f g (a + 1) n later)
+    ap (λ (x : ℕ). x ∷ map f (range_with_len (a + 1 + 1) n)) (later a)
+    ∙ ap (λ (x : List ℕ). g a ∷ x) (map-range_later f g (a + 1) n later)
 
 -- a whole number of clocks is spelled by its octets
 path_octets-map : (n : ℕ) (f : List ℕ) → length f ≡ 8 * n → ((i : ℕ) → get_or f i 0 < 256)
@@ -86,13 +93,16 @@ path_octets-map (suc n) f whole octets =
     let split : front ++ behind ≡ f = take-append-drop 8 f in
     let eight : length front ≡ 8 = omega (arith, length-take 8 f) in
     let first : big_bytes 8 (field 8 (8 * 0) f) ≡ front =
-    ap (λ (x : List ℕ). big_bytes 8 (field 8 0 x)) (sym split) ∙ big_bytes-field front behind eight (octets_of_front 8 f octets) in
-    let others : map (λ (k : ℕ). field 8 (8 * k) f) (range_with_len 1 n) ≡ map (λ k. field 8 (8 * k) behind) (range_with_len 0 n) =
+    ap (λ (x : List ℕ). big_bytes 8 (field 8 0 x)) (sym split)
+    ∙ big_bytes-field front behind eight (octets_of_front 8 f octets) in
+    let others : map (λ (k : ℕ). field 8 (8 * k) f) (range_with_len 1 n)
+    ≡ map (λ k. field 8 (8 * k) behind) (range_with_len 0 n) =
     map-range_later (λ k. field 8 (8 * k) f) (λ k. field 8 (8 * k) behind) 0 n
     (λ k. let one_on : 8 * (k + 1) ≡ 8 + 8 * k = omega arith in rw one_on (field-drop 8 8 (8 * k) f)) in
     let ih : path_octets (map (λ k. field 8 (8 * k) behind) (range_with_len 0 n)) ≡ behind =
     path_octets-map n behind (omega (arith, length-drop 8 f)) (λ i. rw get_or-drop (octets (8 + i))) in
-    ap (λ (x : List ℕ). big_bytes 8 (field 8 (8 * 0) f) ++ path_octets x) others ∙ ap (λ (x : List ℕ). big_bytes 8 (field 8 (8 * 0) f) ++ x) ih
+    ap (λ (x : List ℕ). big_bytes 8 (field 8 (8 * 0) f) ++ path_octets x) others
+    ∙ ap (λ (x : List ℕ). big_bytes 8 (field 8 (8 * 0) f) ++ x) ih
     ∙ ap (λ (x : List ℕ). x ++ behind) first ∙ split
   where
     octets_of_front : (m : ℕ) (xs : List ℕ) → ((i : ℕ) → get_or xs i 0 < 256) → (i : ℕ) → get_or (take m xs) i 0 < 256
@@ -102,15 +112,18 @@ path_octets-map (suc n) f whole octets =
           | inr le ↦ rw (get_or_past (take m xs) i 0 (omega (arith, length-take m xs))) (omega arith)
         ]
 
-pub path_octets-clocks : (octets : List ℕ) → length octets % 8 ≡ 0 → ((i : ℕ) → get_or octets i 0 < 256) → path_octets (clocks octets) ≡ octets
+pub path_octets-clocks : (octets : List ℕ) → length octets % 8 ≡ 0 → ((i : ℕ) → get_or octets i 0 < 256)
+    → path_octets (clocks octets) ≡ octets
 unfolding clocks
 path_octets-clocks octets whole fit = path_octets-map (length octets / 8) octets (omega arith) fit
 
 -- one clock more of a path
-pub take-clocks : (octets : List ℕ) (i : ℕ) → i < length octets / 8 → take (i + 1) (clocks octets) ≡ take i (clocks octets) ++ field 8 (8 * i) octets ∷ []
+pub take-clocks : (octets : List ℕ) (i : ℕ) → i < length octets / 8
+    → take (i + 1) (clocks octets) ≡ take i (clocks octets) ++ field 8 (8 * i) octets ∷ []
 take-clocks octets i within =
     let inside : i < length (clocks octets) = omega (arith, length-clocks octets) in
-    take_more (clocks octets) i 0 inside ∙ ap (λ (c : ℕ). take i (clocks octets) ++ c ∷ []) (get_or-clocks octets i 0 within)
+    take_more (clocks octets) i 0 inside
+    ∙ ap (λ (c : ℕ). take i (clocks octets) ++ c ∷ []) (get_or-clocks octets i 0 within)
 
 -- sixteen clocks more of a path
 pub take-sixteen : (path : List ℕ) (block : ℕ)

@@ -21,7 +21,8 @@ two_octets a b a-fits b-fits =
     rw (high, low) refl
 
 -- the first four octets are those of the two numbers that they spell
-type_and_length : (f : List ℕ) → IsOctets f → 4 ≤ length f → (big_bytes 2 (field 2 0 f) ++ big_bytes 2 (field 2 2 f)) ++ drop 4 f ≡ f
+type_and_length : (f : List ℕ) → IsOctets f → 4 ≤ length f
+    → (big_bytes 2 (field 2 0 f) ++ big_bytes 2 (field 2 2 f)) ++ drop 4 f ≡ f
 unfolding field
 type_and_length [] octets long = absurd (omega arith)
 type_and_length (a ∷ []) octets long = absurd (omega arith)
@@ -30,10 +31,12 @@ type_and_length (a ∷ b ∷ c ∷ []) octets long = absurd (omega arith)
 type_and_length (a ∷ b ∷ c ∷ d ∷ rest) octets long =
     let front = two_octets a b (octets 0) (octets 1) in
     let back = two_octets c d (octets 2) (octets 3) in
-    ap (λ (x : List ℕ). (x ++ big_bytes 2 (c * 256 + (d * 1 + 0))) ++ rest) front ∙ ap (λ (x : List ℕ). a ∷ b ∷ (x ++ rest)) back
+    ap (λ (x : List ℕ). (x ++ big_bytes 2 (c * 256 + (d * 1 + 0))) ++ rest) front
+    ∙ ap (λ (x : List ℕ). a ∷ b ∷ (x ++ rest)) back
 
 -- the numbers in front of a TLV's value are its type and its length
-field-spelled : (t : Tlv) (rest : List ℕ) → Fits t → (field 2 0 (spelled t ++ rest) ≡ t.tlv_type) × (field 2 2 (spelled t ++ rest) ≡ length t.value)
+field-spelled : (t : Tlv) (rest : List ℕ) → Fits t → (field 2 0 (spelled t ++ rest) ≡ t.tlv_type)
+    × (field 2 2 (spelled t ++ rest) ≡ length t.value)
 unfolding field
 field-spelled t rest fits =
     let type-fits = fits.tlv_type in
@@ -44,10 +47,12 @@ length-spelled : (t : Tlv) → length (spelled t) ≡ 4 + length t.value
 length-spelled t = omega arith
 
 -- octets that are long enough begin with a TLV
-pub is_front : (f : List ℕ) → IsOctets f → 4 ≤ length f → field 2 2 f ≤ length (drop 4 f) → field 2 0 f < 2 ^ 16 → field 2 2 f < 2 ^ 16
+pub is_front : (f : List ℕ) → IsOctets f → 4 ≤ length f → field 2 2 f ≤ length (drop 4 f) → field 2 0 f < 2 ^ 16
+    → field 2 2 f < 2 ^ 16
     → IsFront f (field 2 0 f) (take (field 2 2 f) (drop 4 f)) (drop (field 2 2 f) (drop 4 f))
 is_front f octets long whole type-fits length-fits =
-    let value-length : length (take (field 2 2 f) (drop 4 f)) ≡ field 2 2 f = omega (arith, length-take (field 2 2 f) (drop 4 f)) in
+    let value-length : length (take (field 2 2 f) (drop 4 f))
+    ≡ field 2 2 f = omega (arith, length-take (field 2 2 f) (drop 4 f)) in
     let head = big_bytes 2 (field 2 0 f) ++ big_bytes 2 (field 2 2 f) in
     let split : f ≡ (head ++ take (field 2 2 f) (drop 4 f)) ++ drop (field 2 2 f) (drop 4 f) =
     sym (append_assoc head (take (field 2 2 f) (drop 4 f)) (drop (field 2 2 f) (drop 4 f))
@@ -64,7 +69,8 @@ front_is_long f (tlv_type, value, rest, front) =
     let t : Tlv = record { tlv_type = tlv_type; value = value } in
     let numbers = field-spelled t rest front.fits in
     let long : length (spelled t ++ rest) ≡ 4 + length value + length rest = omega (arith, length-append value rest) in
-    let behind : length (drop 4 (spelled t ++ rest)) ≡ length value + length rest = omega (arith, length-append value rest) in
+    let behind : length (drop 4 (spelled t ++ rest))
+    ≡ length value + length rest = omega (arith, length-append value rest) in
     rw front.spelling (omega arith, rw numbers.1 (omega arith))
 
 -- ---- lists of TLVs
@@ -88,8 +94,11 @@ one_front t u x y t-fits u-fits e =
     let types : t.tlv_type ≡ u.tlv_type = sym t-numbers.0 ∙ ap (field 2 0) e ∙ u-numbers.0 in
     let lengths : length t.value ≡ length u.value = sym t-numbers.1 ∙ ap (field 2 2) e ∙ u-numbers.1 in
     let behind : t.value ++ x ≡ u.value ++ y = ap (drop 4) e in
-    let values = fronts t.value u.value x y lengths behind in
-    (ap (λ k. record { tlv_type = k; value = t.value }) types ∙ ap (λ v. record { tlv_type = u.tlv_type; value = v }) values.0, values.1)
+    let values = fronts t.value u.value x y lengths behind in (
+      ap (λ k. record { tlv_type = k; value = t.value }) types
+          ∙ ap (λ v. record { tlv_type = u.tlv_type; value = v }) values.0,
+      values.1,
+    )
 
 -- what stands behind the first of some TLVs is the rest of them
 record Cut (ts us : List Tlv) (rest : List ℕ) : Type 0 where
@@ -98,7 +107,8 @@ record Cut (ts us : List Tlv) (rest : List ℕ) : Type 0 where
   fit : AllByRecursion Fits others
   spelling : rest ≡ flat_map spelled others
 
-cut : (ts us : List Tlv) (rest : List ℕ) → AllByRecursion Fits ts → AllByRecursion Fits us → flat_map spelled ts ++ rest ≡ flat_map spelled us → Cut ts us rest
+cut : (ts us : List Tlv) (rest : List ℕ) → AllByRecursion Fits ts → AllByRecursion Fits us
+    → flat_map spelled ts ++ rest ≡ flat_map spelled us → Cut ts us rest
 cut [] us rest ts-fit us-fit e = record { others = us; are = refl; fit = us-fit; spelling = e }
 cut (t ∷ ts) [] rest ts-fit us-fit e = absurd cc
 cut (t ∷ ts) (u ∷ us) rest ts-fit us-fit e =
@@ -123,7 +133,8 @@ one_list octets ts us are also =
     none_left (v ∷ vs) e = absurd cc
 
 -- octets have one first TLV of a kind
-pub one_first : (kind : TlvKind) (octets : List ℕ) (v w : Option (List ℕ)) → FirstTlv kind octets v → FirstTlv kind octets w → v ≡ w
+pub one_first : (kind : TlvKind) (octets : List ℕ) (v w : Option (List ℕ)) → FirstTlv kind octets v
+    → FirstTlv kind octets w → v ≡ w
 one_first kind octets v w first also =
     first.first ∙ ap (first_value kind) (one_list octets first.tlvs also.tlvs first.are also.are) ∙ sym also.first
 
@@ -136,9 +147,11 @@ first_value-step kind t ts us true is behind = rw is refl
 first_value-step kind t ts us false is behind = rw is behind
 
 -- the first of a kind is looked for in the front, and then behind it
-first_value-append : (kind : TlvKind) (ts us : List Tlv) → first_value kind (ts ++ us) ≡ either (first_value kind ts) (first_value kind us)
+first_value-append : (kind : TlvKind) (ts us : List Tlv)
+    → first_value kind (ts ++ us) ≡ either (first_value kind ts) (first_value kind us)
 first_value-append kind [] us = refl
-first_value-append kind (t ∷ ts) us = first_value-step kind t ts us (is_of_kind kind t) refl (first_value-append kind ts us)
+first_value-append kind (t ∷ ts) us =
+    first_value-step kind t ts us (is_of_kind kind t) refl (first_value-append kind ts us)
 
 -- the octets are some TLVs that fit and then the rest, and `found` is the first value of a kind among them
 pub record Walked (kind : TlvKind) (octets rest : List ℕ) (found : Option (List ℕ)) : Type 0 where
@@ -150,7 +163,8 @@ pub record Walked (kind : TlvKind) (octets rest : List ℕ) (found : Option (Lis
 pub walk_starts : (kind : TlvKind) (octets : List ℕ) → Walked kind octets octets None
 walk_starts kind octets = record { passed = []; fit = tt; split = refl; found_is = refl }
 
-pub walk_ends : (kind : TlvKind) (octets : List ℕ) (found : Option (List ℕ)) → Walked kind octets [] found → FirstTlv kind octets found
+pub walk_ends : (kind : TlvKind) (octets : List ℕ) (found : Option (List ℕ)) → Walked kind octets [] found
+    → FirstTlv kind octets found
 walk_ends kind octets found walked =
     record {
       tlvs = walked.passed;
@@ -164,11 +178,15 @@ fits-append [] t fit t-fits = (t-fits, tt)
 fits-append (u ∷ us) t fit t-fits = (fit.0, fits-append us t fit.1 t-fits)
 
 spelled-push : (ts : List Tlv) (t : Tlv) → flat_map spelled ts ++ spelled t ≡ flat_map spelled (ts ++ t ∷ [])
-spelled-push ts t = ap (λ (x : List ℕ). flat_map spelled ts ++ x) (sym (append-nil (spelled t))) ∙ sym (flat_map-append spelled ts (t ∷ []))
+spelled-push ts t =
+    ap (λ (x : List ℕ). flat_map spelled ts ++ x) (sym (append-nil (spelled t)))
+    ∙ sym (flat_map-append spelled ts (t ∷ []))
 
-pub walk_goes_on : (kind : TlvKind) (octets rest : List ℕ) (found : Option (List ℕ)) (tlv_type : ℕ) (value behind : List ℕ)
+pub walk_goes_on : (kind : TlvKind) (octets rest : List ℕ) (found : Option (List ℕ)) (tlv_type : ℕ)
+    (value behind : List ℕ)
     → Walked kind octets rest found → IsFront rest tlv_type value behind
-    → Walked kind octets behind (either found (if is_of_kind kind (record { tlv_type = tlv_type; value = value }) then Some value else None))
+    → Walked kind octets behind
+    (either found (if is_of_kind kind (record { tlv_type = tlv_type; value = value }) then Some value else None))
 walk_goes_on kind octets rest found tlv_type value behind walked front =
     let t : Tlv = record { tlv_type = tlv_type; value = value } in
     record {
@@ -177,7 +195,8 @@ walk_goes_on kind octets rest found tlv_type value behind walked front =
       split = walked.split ∙ ap (λ (x : List ℕ). flat_map spelled walked.passed ++ x) front.spelling
           ∙ sym (append_assoc (flat_map spelled walked.passed) (spelled t) behind)
           ∙ ap (λ (x : List ℕ). x ++ behind) (spelled-push walked.passed t);
-      found_is = ap (λ (o : Option (List ℕ)). either o (first_value kind (t ∷ []))) walked.found_is ∙ sym (first_value-append kind walked.passed (t ∷ []));
+      found_is = ap (λ (o : Option (List ℕ)). either o (first_value kind (t ∷ []))) walked.found_is
+          ∙ sym (first_value-append kind walked.passed (t ∷ []));
     }
 
 -- where no TLV begins, and yet octets are left, the whole isn't a list of TLVs

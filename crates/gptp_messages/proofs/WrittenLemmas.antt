@@ -36,14 +36,16 @@ use Rattle.gptp_messages.proofs.GrammarLemmas.{one_reading, never_both}
 
 -- an Announce is its front and then the clocks of its path
 pub written_announce-front : (head : Head) (body : AnnounceBody) (path : List ℕ)
-    → written_message Announce head (written_announce body path) ≡ announce_front head body (length path) ++ path_octets path
+    → written_message Announce head (written_announce body path)
+    ≡ announce_front head body (length path) ++ path_octets path
 written_announce-front head body path =
     let octets = length-path_octets path in
     let size : 34 + length (written_announce body path) ≡ 68 + 8 * length path = omega arith in
     let fixed = written_head Announce (68 + 8 * length path) head ++ written_body body in
     let trace = (big_bytes 2 (tlv_type_of PathTrace) ++ big_bytes 2 (8 * length path)) in
     ap (λ (n : ℕ). written_head Announce n head ++ written_announce body path) size
-    ∙ sym (append_assoc (written_head Announce (68 + 8 * length path) head) (written_body body) (spelled (path_trace path)))
+    ∙ sym (append_assoc (written_head Announce (68 + 8 * length path) head) (written_body body)
+    (spelled (path_trace path)))
     ∙ ap (λ (n : ℕ). fixed ++ ((big_bytes 2 (tlv_type_of PathTrace) ++ big_bytes 2 n) ++ path_octets path)) octets
     ∙ sym (append_assoc fixed trace (path_octets path))
 
@@ -57,7 +59,8 @@ unfolding field
 field_at n i x f behind stands fits = ap (field n 0) stands ∙ field-big_bytes n x behind fits
 
 -- so is a portIdentity
-port_back : (i : ℕ) (p : PortId) (f behind : List ℕ) → drop i f ≡ written_port p ++ behind → drop (i + 8) f ≡ big_bytes 2 p.port ++ behind
+port_back : (i : ℕ) (p : PortId) (f behind : List ℕ) → drop i f ≡ written_port p ++ behind
+    → drop (i + 8) f ≡ big_bytes 2 p.port ++ behind
     → PortFits p → port_at i f ≡ p
 port_back i p f behind clock-stands port-stands fits =
     let clock : field 8 i f ≡ p.clock = field_at 8 i p.clock f (big_bytes 2 p.port ++ behind) clock-stands fits.clock in
@@ -70,7 +73,8 @@ two_step_back true = refl
 two_step_back false = refl
 
 -- a message is of the type whose number it has
-kind_back : (kind : MessageType) → ((0x10 + number_of kind) / 16 ≡ 1) × (type_of ((0x10 + number_of kind) % 16) ≡ Some kind)
+kind_back : (kind : MessageType) → ((0x10 + number_of kind) / 16 ≡ 1)
+    × (type_of ((0x10 + number_of kind) % 16) ≡ Some kind)
 kind_back Sync = (refl, refl)
 kind_back PdelayReq = (refl, refl)
 kind_back PdelayResp = (refl, refl)
@@ -98,9 +102,11 @@ module _ (kind : MessageType) (head : Head) (behind rest : List ℕ) (spells : S
       let source : port_at 20 f ≡ head.source = port_back 20 head.source f _ refl refl spells.head.source in
       let sequence : field 2 30 f ≡ head.sequence = field_at 2 30 head.sequence f _ refl spells.head.sequence in
       let correction : cast_signed w64 (field 8 8 f) ≡ head.correction =
-      ap (cast_signed w64) (field_at 8 8 (cast_unsigned w64 head.correction) f _ refl (Fits-of_z spells.head.correction).fits)
+      ap (cast_signed w64)
+      (field_at 8 8 (cast_unsigned w64 head.correction) f _ refl (Fits-of_z spells.head.correction).fits)
       ∙ to_z-of_z w64 head.correction spells.head.correction in
-      let log_interval : cast_signed w8 (octet 33 f) ≡ head.log_interval = to_z-of_z w8 head.log_interval spells.head.log_interval in
+      let log_interval : cast_signed w8 (octet 33 f)
+      ≡ head.log_interval = to_z-of_z w8 head.log_interval spells.head.log_interval in
       λ i. record {
         source = source i;
         sequence = sequence i;
@@ -128,13 +134,15 @@ module _ (kind : MessageType) (head : Head) (behind rest : List ℕ) (spells : S
   }
 
   -- TLVs that stand in the end of it are those up to messageLength
-  tlvs_are : (n : ℕ) (tlvs : List ℕ) → n + length tlvs ≡ 34 + length behind → drop n f ≡ tlvs ++ rest → slice_range f n (message_length f) ≡ tlvs
+  tlvs_are : (n : ℕ) (tlvs : List ℕ) → n + length tlvs ≡ 34 + length behind → drop n f ≡ tlvs ++ rest
+      → slice_range f n (message_length f) ≡ tlvs
   tlvs_are n tlvs size stands =
       let count : message_length f - n ≡ length tlvs = rw length_is (omega arith) in
       rw (count, stands) (take_at tlvs rest (length tlvs) refl)
 
 -- octets that spell one TLV have it as the first of its kind
-one_tlv : (kind : TlvKind) (t : Tlv) (octets : List ℕ) → Fits t → is_of_kind kind t ≡ true → octets ≡ spelled t → FirstTlv kind octets (Some t.value)
+one_tlv : (kind : TlvKind) (t : Tlv) (octets : List ℕ) → Fits t → is_of_kind kind t ≡ true → octets ≡ spelled t
+    → FirstTlv kind octets (Some t.value)
 one_tlv kind t octets fits is spelling =
     record {
       tlvs = t ∷ [];
@@ -157,7 +165,8 @@ module _ (a : AnnounceView) (rest : List ℕ) (fits : AnnounceFits a) where
   announce-body : announce_body_of announce ≡ a.body
   announce-body =
       let utc_offset : cast_signed w16 (field 2 44 announce) ≡ a.body.utc_offset =
-      ap (cast_signed w16) (field_at 2 44 (cast_unsigned w16 a.body.utc_offset) announce _ refl (Fits-of_z fits.body.utc_offset).fits)
+      ap (cast_signed w16)
+      (field_at 2 44 (cast_unsigned w16 a.body.utc_offset) announce _ refl (Fits-of_z fits.body.utc_offset).fits)
       ∙ to_z-of_z w16 a.body.utc_offset fits.body.utc_offset in
       let root : field 14 47 announce ≡ a.body.root = field_at 14 47 a.body.root announce _ refl fits.body.root in
       let steps : field 2 61 announce ≡ a.body.steps = field_at 2 61 a.body.steps announce _ refl fits.body.steps in
@@ -169,10 +178,12 @@ module _ (a : AnnounceView) (rest : List ℕ) (fits : AnnounceFits a) where
       let room = fits.path.room in
       let trace = path_trace a.path in
       let tlvs : announce_tlvs announce ≡ spelled trace =
-      tlvs_are Announce a.head (written_announce a.body a.path) rest announce-spells 64 (spelled trace) (omega arith) refl in
+      tlvs_are Announce a.head (written_announce a.body a.path) rest announce-spells 64 (spelled trace) (omega arith)
+      refl in
       record {
         value = Some (path_octets a.path);
-        first = one_tlv PathTrace trace (announce_tlvs announce) (record { tlv_type = omega arith; length = omega arith }) refl tlvs;
+        first = one_tlv PathTrace trace (announce_tlvs announce)
+            (record { tlv_type = omega arith; length = omega arith }) refl tlvs;
         is = (omega arith, sym (clocks-path_octets a.path fits.path.clocks));
       }
 
@@ -210,17 +221,20 @@ module _ (kind : MessageType) (head : Head) (t : Timestamp) (more rest : List �
 
 -- ---- a response
 
-module _ (kind : MessageType) (head : Head) (t : Timestamp) (p : PortId) (rest : List ℕ) (fits : ResponseFits head t p) where
+module _ (kind : MessageType) (head : Head) (t : Timestamp) (p : PortId) (rest : List ℕ)
+    (fits : ResponseFits head t p) where
   abbrev response : List ℕ
   response = written_message kind head (written_response t p) ++ rest
 
   requester-back : requester_of response ≡ p
   requester-back = port_back 44 p response _ refl refl fits.requester
 
-pdelay_resp-reads : (m : PdelayRespFields) (rest : List ℕ) → ResponseFits m.head m.stamp m.requester → Reads (Written (messages.PdelayResp m) ++ rest) (messages.PdelayResp m)
+pdelay_resp-reads : (m : PdelayRespFields) (rest : List ℕ) → ResponseFits m.head m.stamp m.requester
+    → Reads (Written (messages.PdelayResp m) ++ rest) (messages.PdelayResp m)
 pdelay_resp-reads m rest fits =
     let behind = written_response m.stamp m.requester in
-    let spells : Spells PdelayResp m.head behind = record { head = fits.head; least = omega arith; short = omega arith } in
+    let spells : Spells PdelayResp m.head behind =
+    record { head = fits.head; least = omega arith; short = omega arith } in
     let head = head_is PdelayResp m.head behind rest spells in
     let stamp = stamp-back PdelayResp m.head m.stamp (written_port m.requester) rest fits.stamp in
     let requester = requester-back PdelayResp m.head m.stamp m.requester rest fits in
@@ -238,7 +252,8 @@ pdelay_resp_follow_up-reads : (m : PdelayRespFollowUpFields) (rest : List ℕ) �
     → Reads (Written (messages.PdelayRespFollowUp m) ++ rest) (messages.PdelayRespFollowUp m)
 pdelay_resp_follow_up-reads m rest fits =
     let behind = written_response m.stamp m.requester in
-    let spells : Spells PdelayRespFollowUp m.head behind = record { head = fits.head; least = omega arith; short = omega arith } in
+    let spells : Spells PdelayRespFollowUp m.head behind =
+    record { head = fits.head; least = omega arith; short = omega arith } in
     let head = head_is PdelayRespFollowUp m.head behind rest spells in
     let stamp = stamp-back PdelayRespFollowUp m.head m.stamp (written_port m.requester) rest fits.stamp in
     let requester = requester-back PdelayRespFollowUp m.head m.stamp m.requester rest fits in
@@ -249,7 +264,8 @@ pdelay_resp_follow_up-reads m rest fits =
       rate = pos 0;
       tlvs = tt;
       stamp = stamp-in_range PdelayRespFollowUp m.head m.stamp (written_port m.requester) rest fits.stamp;
-      is = λ i. messages.PdelayRespFollowUp (record { head = sym head i; stamp = sym stamp i; requester = sym requester i });
+      is = λ i. messages.PdelayRespFollowUp
+          (record { head = sym head i; stamp = sym stamp i; requester = sym requester i });
     }
 
 -- ---- a Follow_Up
@@ -272,12 +288,16 @@ module _ (m : FollowUpFields) (rest : List ℕ) (fits : FollowUpFits m) where
   follow_up-rate =
       let tlv = information m.rate in
       let tlvs : follow_up_tlvs follow_up ≡ spelled tlv =
-      tlvs_are FollowUp m.head (written_follow_up m.origin m.rate) rest follow_up-spells 44 (spelled tlv) (omega arith) refl in
+      tlvs_are FollowUp m.head (written_follow_up m.origin m.rate) rest follow_up-spells 44 (spelled tlv) (omega arith)
+      refl in
       record {
         value = tlv.value;
-        first = one_tlv Information tlv (follow_up_tlvs follow_up) (record { tlv_type = omega arith; length = omega arith }) (information-is m.rate) tlvs;
+        first = one_tlv Information tlv (follow_up_tlvs follow_up)
+            (record { tlv_type = omega arith; length = omega arith }) (information-is m.rate) tlvs;
         long = refl;
-        is = sym (ap (cast_signed w32) (field_at 4 6 (cast_unsigned w32 m.rate) tlv.value _ refl (Fits-of_z fits.rate).fits) ∙ to_z-of_z w32 m.rate fits.rate);
+        is = sym (ap (cast_signed w32)
+            (field_at 4 6 (cast_unsigned w32 m.rate) tlv.value _ refl (Fits-of_z fits.rate).fits)
+            ∙ to_z-of_z w32 m.rate fits.rate);
       }
 
   follow_up-reads : Reads follow_up (messages.FollowUp m)
@@ -310,7 +330,8 @@ written_reads (messages.Sync head) rest fits =
       is = ap messages.Sync (sym (head_is Sync head written_sync rest spells));
     }
 written_reads (messages.PdelayReq head) rest fits =
-    let spells : Spells PdelayReq head written_request = record { head = fits; least = omega arith; short = omega arith } in
+    let spells : Spells PdelayReq head written_request =
+    record { head = fits; least = omega arith; short = omega arith } in
     record {
       kind = PdelayReq;
       header = passes PdelayReq head written_request rest spells;

@@ -52,7 +52,8 @@ path_trace path = record { tlv_type = tlv_type_of PathTrace; value = path_octets
 -- all of an Announce but the clocks of its path, of which there are n
 abbrev pub announce_front : Head → AnnounceBody → ℕ → List ℕ
 announce_front head body n =
-    (written_head Announce (68 + 8 * n) head ++ written_body body) ++ (big_bytes 2 (tlv_type_of PathTrace) ++ big_bytes 2 (8 * n))
+    (written_head Announce (68 + 8 * n) head ++ written_body body)
+    ++ (big_bytes 2 (tlv_type_of PathTrace) ++ big_bytes 2 (8 * n))
 
 -- what stands behind the header of an Announce: the fixed part, and the path trace
 abbrev pub written_announce : AnnounceBody → List ℕ → List ℕ

@@ -42,7 +42,8 @@ abbrev pub tlv_type_of : TlvKind → ℕ
 tlv_type_of PathTrace = 0x0008
 tlv_type_of Information = 0x0003
 
--- organizationId 00-80-C2 and organizationSubType 00-00-01 stand in front (IEEE 802.1AS-2020, 11.4.4.3.3 and 11.4.4.3.4)
+-- organizationId 00-80-C2 and organizationSubType 00-00-01 stand in front (IEEE 802.1AS-2020, 11.4.4.3.3 and
+-- 11.4.4.3.4)
 abbrev pub is_information : List ℕ → Bool
 is_information value = not (nat_lt (length value) 6) && field 6 0 value == 0x0080C2000001
 

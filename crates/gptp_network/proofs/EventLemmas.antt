@@ -23,7 +23,8 @@ pub last_from : (es : List Timed) (e : Timed) → slice_get es (length es - 1) �
 last_from [] e h = absurd cc
 last_from (x ∷ []) e h = let is : x ≡ e = cc in ap (λ (t : Timed). t.at) (sym is)
 last_from (x ∷ y ∷ es) e h =
-    last_from (y ∷ es) e (ap (slice_get (y ∷ es)) (before_last (length es)) ∙ ap (slice_get (x ∷ y ∷ es)) (sym (before_last (suc (length es)))) ∙ h)
+    last_from (y ∷ es) e (ap (slice_get (y ∷ es)) (before_last (length es))
+    ∙ ap (slice_get (x ∷ y ∷ es)) (sym (before_last (suc (length es)))) ∙ h)
 
 in_order_behind : (es : List Timed) (t : Timed) → AreInOrder es → last_change es ≤ t.at → AreInOrder (es ++ t ∷ [])
 in_order_behind [] t h k = tt

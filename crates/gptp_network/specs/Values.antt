@@ -20,7 +20,8 @@ kind_of None = Err WrongKind
 kind_of (Some x) = Ok x
 
 -- a key of this kind, whose values mean this
-abbrev pub key_in : {X Y : Type 0} → (Data → Option X) → (X → Result Y DocumentFault) → Option Y → Option Data → Result Y DocumentFault
+abbrev pub key_in : {X Y : Type 0} → (Data → Option X) → (X → Result Y DocumentFault) → Option Y → Option Data
+    → Result Y DocumentFault
 key_in kind meaning default None = absent default
 key_in kind meaning default (Some d) = do
   x ← kind_of (kind d)

@@ -178,11 +178,13 @@ capable_by_two_exchanges own threshold allowed events =
     capable_by_count p.last p.threshold n (counts_all events start 0 refl)
 
 -- a lost request is counted only where it is allowed
-lost_exchange : (o : Option Measurement) (p : PeerState) → p.lost ≤ p.allowed → (exchanges o p).lost ≤ (exchanges o p).allowed
+lost_exchange : (o : Option Measurement) (p : PeerState) → p.lost ≤ p.allowed
+    → (exchanges o p).lost ≤ (exchanges o p).allowed
 lost_exchange None p h = h
 lost_exchange (Some m) p h = omega arith
 
-lost_response : (o : Option Progress) (p : PeerState) → p.lost ≤ p.allowed → (progresses o p).lost ≤ (progresses o p).allowed
+lost_response : (o : Option Progress) (p : PeerState) → p.lost ≤ p.allowed
+    → (progresses o p).lost ≤ (progresses o p).allowed
 lost_response None p h = h
 lost_response (Some progress) p h = h
 

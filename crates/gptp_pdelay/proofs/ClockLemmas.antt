@@ -38,4 +38,7 @@ pub clock_shows_time : ClockShowsTime
 clock_shows_time phase drift t p q d =
     let floor = floor_is (pos (65536 * t) *ℤ drift) unit (omega (arith, ints)) in
     let gained = gains (65536 * t) drift d in
-    record { low = omega (arith, ints, floor.passed, gained.low); high = omega (arith, ints, floor.reached, gained.high) }
+    record {
+      low = omega (arith, ints, floor.passed, gained.low);
+      high = omega (arith, ints, floor.reached, gained.high);
+    }

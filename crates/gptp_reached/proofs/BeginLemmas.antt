@@ -104,7 +104,8 @@ starts_all front (s ∷ rest) w draws w' stands (first, more, between, is, one, 
     ∙ ap (λ (x : Shape). slice_set (front ++ s ∷ rest) (length front) (awake x)) same
     ∙ set_behind front s new rest in
     let k = starts_all (front ++ new ∷ []) rest between more w' woken
-    (subst (λ place. StartsAll (range_with_len place (length rest)) between more w') (sym (one_longer front new)) others) in
+    (subst (λ place. StartsAll (range_with_len place (length rest)) between more w') (sym (one_longer front new))
+    others) in
     record {
       systems = k.systems ∙ joined_behind front new (map awake rest);
       links = k.links ∙ now.links;

@@ -61,10 +61,11 @@ is_at_port number port v (inr same) = or_right _ _ (is_same_port v.b (port_id nu
 
 at_port : (number port : ℕ) (v : Wire) → is_at number port v ≡ true
     → (v.a ≡ port_id number port) ⊎ (v.b ≡ port_id number port)
-at_port number port v is = elim (or_cases (same_port v.a (port_id number port)) (same_port v.b (port_id number port)) is) [
-  | inl same ↦ inl (same_port_is v.a (port_id number port) same)
-  | inr same ↦ inr (same_port_is v.b (port_id number port) same)
-]
+at_port number port v is =
+    elim (or_cases (same_port v.a (port_id number port)) (same_port v.b (port_id number port)) is) [
+      | inl same ↦ inl (same_port_is v.a (port_id number port) same)
+      | inr same ↦ inr (same_port_is v.b (port_id number port) same)
+    ]
 
 -- ---- links
 
@@ -271,7 +272,8 @@ changed_stands (Fail number) n events timed w draws w' act sound so k =
     let change = Fail number in
     let is : IsStation number k.place w k.station = record { here = k.is.here; named = k.is.named } in
     let shapes = shape_more n events timed change w w' act sound so in
-    system_stands_so n events timed change w w' act sound so number k.place k.station (of_setup false k.station.setup) is
+    system_stands_so n events timed change w w' act sound so number k.place k.station (of_setup false k.station.setup)
+    is
     (λ m off. shapes m ∙ rw off refl)
     (λ m on same. ap (λ (s : Shape). of_setup false s.setup) same ∙ sym (shapes m ∙ rw on refl)) (λ v. refl)
     (fails_becomes k.station.live k.place k.station (marked timed w) draws w' k.is.here refl k.so)

@@ -57,7 +57,8 @@ against_own _ own v = Inferior
 
 -- what a message vector is to a port
 abbrev pub comparison_of : Held → PortId → Vector → Heard
-comparison_of held own v = option_map_or (λ (r : Reception). against_received r.vector v) (received held) (against_own held own v)
+comparison_of held own v =
+    option_map_or (λ (r : Reception). against_received r.vector v) (received held) (against_own held own v)
 
 abbrev pub comparison : Held → PortId → AnnounceView → Heard
 comparison held own a = comparison_of held own (message_vector a own.port)

@@ -118,7 +118,8 @@ module _ {F : Type 0} (answers : Bounds → ℕ → F → Option ℕ → F → T
       → NothingBefore (until + 1) between.net.pending → Advanced answers until told drawn fate_after between w'
       → (all : List Told) × Advanced answers until all fate fate_after w w' × Showed true all before after
   goes_on_shown until fate drawn fate_after w between w' before after told follows none advanced =
-      let stayed = nothing_happens answers until told drawn fate_after between advanced.between none advanced.advances in
+      let stayed = nothing_happens answers until told drawn fate_after between advanced.between none
+      advanced.advances in
       let fate_is : fate_after ≡ drawn = stayed.fate_is in (
         follows.told,
         record {

@@ -57,7 +57,8 @@ pub drop_here : {X : Type 0} (xs : List X) (place : ℕ) (x : X) → slice_get x
     → drop place xs ≡ x ∷ drop (place + 1) xs
 drop_here xs place x here =
     let within = slice_get_within xs place x here in
-    let is : get_or xs place x ≡ x = same_Some (get_or xs place x) x (sym (slice_get-get_or xs place x within) ∙ here) in
+    let is : get_or xs place x
+    ≡ x = same_Some (get_or xs place x) x (sym (slice_get-get_or xs place x within) ∙ here) in
     drop_more xs place x within ∙ ap (λ y. y ∷ drop (place + 1) xs) is
 
 -- the system at a place by rising clock is the next

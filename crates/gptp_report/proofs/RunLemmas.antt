@@ -89,7 +89,8 @@ module _ {F : Type 0} (answers : Bounds → ℕ → F → Option ℕ → F → T
       → ChangedIf answers (nat_le event.at until) event first drawn next between after
       → Showed frames first middle text
       → WentSoFar until events left frames fate next w after before text
-  went_more until events event left frames fate drawn next w between after before middle text first so_far changed shown =
+  went_more until events event left frames fate drawn next w between after before middle text first so_far changed
+      shown =
       record {
         told = so_far.told ++ first;
         more = λ rest fate_after w' goes. rw append_assoc (so_far.more (first ++ rest) fate_after w'

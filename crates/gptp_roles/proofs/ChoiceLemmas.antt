@@ -34,26 +34,31 @@ least_of_two a b rest v false is l = record {
     first_or_behind (inr there) = inr (inr there)
 
 -- a port that is looked at is left to the vectors to choose from
-pub least_of_held : (best : Vector) (h : Held) (hs : List Held) (v : Vector) → IsLeast (with_held best h ∷ path_vectors hs) v → IsLeast (best ∷ path_vectors (h ∷ hs)) v
+pub least_of_held : (best : Vector) (h : Held) (hs : List Held) (v : Vector)
+    → IsLeast (with_held best h ∷ path_vectors hs) v → IsLeast (best ∷ path_vectors (h ∷ hs)) v
 least_of_held best h hs v l = go (received h) l
   where
     go : (o : Option Reception)
-        → IsLeast (option_map_or (λ (r : Reception). if lower (path_of r.vector) best then path_of r.vector else best) o best ∷ path_vectors hs) v
+        → IsLeast (option_map_or (λ (r : Reception). if lower (path_of r.vector) best then path_of r.vector else best)
+        o best ∷ path_vectors hs) v
         → IsLeast (best ∷ option_map_or (λ (r : Reception). path_of r.vector ∷ path_vectors hs) o (path_vectors hs)) v
     go None m = m
     go (Some r) m = least_of_two best (path_of r.vector) (path_vectors hs) v (lower (path_of r.vector) best) refl m
 
 -- no two vectors are the least of one list
-lower_than_least : (vs : List Vector) (v w : Vector) → IsIn v vs → AllByRecursion (λ u. lower u w ≡ false) vs → lower v w ≡ false
+lower_than_least : (vs : List Vector) (v w : Vector) → IsIn v vs → AllByRecursion (λ u. lower u w ≡ false) vs
+    → lower v w ≡ false
 lower_than_least [] v w h all = absurd h
 lower_than_least (u ∷ us) v w (inl here) all = ap (λ (x : Vector). lower x w) here ∙ all.0
 lower_than_least (u ∷ us) v w (inr there) all = lower_than_least us v w there all.1
 
 pub one_least : (vs : List Vector) (v w : Vector) → IsLeast vs v → IsLeast vs w → v ≡ w
-one_least vs v w l m = neither_lower v w (lower_than_least vs v w l.member m.least) (lower_than_least vs w v m.member l.least)
+one_least vs v w l m =
+    neither_lower v w (lower_than_least vs v w l.member m.least) (lower_than_least vs w v m.member l.least)
 
 -- what a port received was received there
-pub placed_at : (port : ℕ) (held : List Held) (i : ℕ) (d : Held) → ArePlaced port held → i < length held → ForSome (received (get_or held i d)) (IsPlaced (port + i))
+pub placed_at : (port : ℕ) (held : List Held) (i : ℕ) (d : Held) → ArePlaced port held → i < length held
+    → ForSome (received (get_or held i d)) (IsPlaced (port + i))
 placed_at port [] i d placed within = absurd (omega arith)
 placed_at port (g ∷ gs) zero d placed within =
     let here : port + 0 ≡ port = omega arith in
@@ -67,7 +72,8 @@ pub from_port : (v : Vector) (h : Held) (hs : List Held) → IsIn v (path_vector
     → ((r : Reception) × (received h ≡ Some r) × (v ≡ path_of r.vector)) ⊎ IsIn v (path_vectors hs)
 from_port v h hs member = go (received h) refl member
   where
-    go : (o : Option Reception) → received h ≡ o → IsIn v (option_map_or (λ (r : Reception). path_of r.vector ∷ path_vectors hs) o (path_vectors hs))
+    go : (o : Option Reception) → received h ≡ o
+        → IsIn v (option_map_or (λ (r : Reception). path_of r.vector ∷ path_vectors hs) o (path_vectors hs))
         → ((r : Reception) × (received h ≡ Some r) × (v ≡ path_of r.vector)) ⊎ IsIn v (path_vectors hs)
     go None is m = inr m
     go (Some r) is (inl here) = inl (r, is, here)
@@ -85,12 +91,15 @@ port_of_path-step port g gs v placed (inr there) others =
     (omega arith, omega arith)
 
 -- a path vector names the port that received it
-pub port_of_path : (port : ℕ) (held : List Held) (v : Vector) → ArePlaced port held → IsIn v (path_vectors held) → (port ≤ v.receiver) × (v.receiver < port + length held)
+pub port_of_path : (port : ℕ) (held : List Held) (v : Vector) → ArePlaced port held → IsIn v (path_vectors held)
+    → (port ≤ v.receiver) × (v.receiver < port + length held)
 port_of_path port [] v placed h = absurd h
-port_of_path port (g ∷ gs) v placed h = port_of_path-step port g gs v placed (from_port v g gs h) (λ there. port_of_path (port + 1) gs v placed.1 there)
+port_of_path port (g ∷ gs) v placed h =
+    port_of_path-step port g gs v placed (from_port v g gs h) (λ there. port_of_path (port + 1) gs v placed.1 there)
 
 -- the chosen vector came from one of the ports, or is the system vector
-pub receiver_of_chosen : (identity : ℕ) (held : List Held) (v : Vector) → ArePlaced 1 held → IsChosen identity held v → v.receiver ≤ length held
+pub receiver_of_chosen : (identity : ℕ) (held : List Held) (v : Vector) → ArePlaced 1 held → IsChosen identity held v
+    → v.receiver ≤ length held
 receiver_of_chosen identity held v placed chosen = go chosen.member
   where
     go : IsIn v (system_of identity ∷ path_vectors held) → v.receiver ≤ length held

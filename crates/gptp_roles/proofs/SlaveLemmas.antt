@@ -32,10 +32,12 @@ slaves-slave : (r : Role) (rs : List Role) → r ≡ Slave → slaves (r ∷ rs)
 slaves-slave r rs is = sum_by-cons (λ (x : Role). if is_slave x then 1 else 0) r rs ∙ rw is refl
 
 -- no port is the Slave where all are numbered above the one that the vector came from
-no_slave : (v : Vector) (clock port : ℕ) (hs : List Held) → v.receiver < port → slaves (each_from (role_of v clock) port hs) ≡ 0
+no_slave : (v : Vector) (clock port : ℕ) (hs : List Held) → v.receiver < port
+    → slaves (each_from (role_of v clock) port hs) ≡ 0
 no_slave v clock port [] above = refl
 no_slave v clock port (h ∷ hs) above =
-    slaves-other (role_of v clock port h) (each_from (role_of v clock) (port + 1) hs) (is_slave-other v clock port h (λ e. omega arith))
+    slaves-other (role_of v clock port h) (each_from (role_of v clock) (port + 1) hs)
+    (is_slave-other v clock port h (λ e. omega arith))
     ∙ no_slave v clock (port + 1) hs (omega arith)
 
 one_slave-step : (v : Vector) (clock port : ℕ) (h : Held) (hs : List Held) → ArePlaced port (h ∷ hs)
@@ -44,20 +46,24 @@ one_slave-step : (v : Vector) (clock port : ℕ) (h : Held) (hs : List Held) →
     → slaves (each_from (role_of v clock) port (h ∷ hs)) ≡ 1
 one_slave-step v clock port h hs placed (inl (r, is, path)) others =
     let here : v.receiver ≡ port = ap (λ (x : Vector). x.receiver) path ∙ (placed.0 r is).receiver in
-    slaves-slave (role_of v clock port h) (each_from (role_of v clock) (port + 1) hs) (role_of-slave v clock port h r is here)
+    slaves-slave (role_of v clock port h) (each_from (role_of v clock) (port + 1) hs)
+    (role_of-slave v clock port h r is here)
     ∙ ap (λ (n : ℕ). 1 + n) (no_slave v clock (port + 1) hs (omega arith))
 one_slave-step v clock port h hs placed (inr there) others =
     let above = port_of_path (port + 1) hs v placed.1 there in
-    slaves-other (role_of v clock port h) (each_from (role_of v clock) (port + 1) hs) (is_slave-other v clock port h (λ e. omega arith))
+    slaves-other (role_of v clock port h) (each_from (role_of v clock) (port + 1) hs)
+    (is_slave-other v clock port h (λ e. omega arith))
     ∙ others there
 
 -- one port is the Slave where the vector came from one of them
-one_slave : (v : Vector) (clock port : ℕ) (hs : List Held) → ArePlaced port hs → IsIn v (path_vectors hs) → slaves (each_from (role_of v clock) port hs) ≡ 1
+one_slave : (v : Vector) (clock port : ℕ) (hs : List Held) → ArePlaced port hs → IsIn v (path_vectors hs)
+    → slaves (each_from (role_of v clock) port hs) ≡ 1
 one_slave v clock port [] placed member = absurd member
 one_slave v clock port (h ∷ hs) placed member =
     one_slave-step v clock port h hs placed (from_port v h hs member) (one_slave v clock (port + 1) hs placed.1)
 
-steps_of_path-step : (v : Vector) (h : Held) (hs : List Held) → ((r : Reception) × (received h ≡ Some r) × (v ≡ path_of r.vector)) ⊎ IsIn v (path_vectors hs)
+steps_of_path-step : (v : Vector) (h : Held) (hs : List Held)
+    → ((r : Reception) × (received h ≡ Some r) × (v ≡ path_of r.vector)) ⊎ IsIn v (path_vectors hs)
     → (IsIn v (path_vectors hs) → 0 < v.steps) → 0 < v.steps
 steps_of_path-step v h hs (inl (r, is, path)) others = let steps = ap (λ (x : Vector). x.steps) path in omega arith
 steps_of_path-step v h hs (inr there) others = others there
@@ -75,7 +81,8 @@ own_is_lower identity v root steps =
     rw (roots, nearer) refl
 
 -- one port is the Slave where the root is another system
-pub has_one_slave : (identity : ℕ) (held : List Held) (v : Vector) → ArePlaced 1 held → IsChosen identity held v → HasOneSlave identity held v
+pub has_one_slave : (identity : ℕ) (held : List Held) (v : Vector) → ArePlaced 1 held → IsChosen identity held v
+    → HasOneSlave identity held v
 has_one_slave identity held v placed chosen = record {
   own_root = λ own. own_root own chosen.member;
   other_root = λ other. other_root other chosen.member;
@@ -86,7 +93,9 @@ has_one_slave identity held v placed chosen = record {
     own_root own (inl system) =
         let none : v.receiver ≡ 0 = ap (λ (x : Vector). x.receiver) system in
         (rw none refl, no_slave v (clock_of identity) 1 held (omega arith))
-    own_root own (inr path) = absurd (let nearer = own_is_lower identity v own (steps_of_path v held path) in let behind = chosen.least.0 in cc)
+    own_root own (inr path) =
+        absurd (let nearer = own_is_lower identity v own (steps_of_path v held path) in let behind = chosen.least.0 in
+        cc)
 
     other_root : (v.root ≢ identity) → IsIn v (system_of identity ∷ path_vectors held)
         → IsSome (slave_port v) × (slaves (each_port (role_of v (clock_of identity)) held) ≡ 1)
@@ -98,8 +107,10 @@ has_one_slave identity held v placed chosen = record {
 
 received_there-step : (v : Vector) (port : ℕ) (h : Held) (hs : List Held) → ArePlaced port (h ∷ hs)
     → ((r : Reception) × (received h ≡ Some r) × (v ≡ path_of r.vector)) ⊎ IsIn v (path_vectors hs)
-    → (IsIn v (path_vectors hs) → (r : Reception) × (option_and_then received (slice_get hs (v.receiver - (port + 1))) ≡ Some r) × (length r.path ≤ 255))
-    → (r : Reception) × (option_and_then received (slice_get (h ∷ hs) (v.receiver - port)) ≡ Some r) × (length r.path ≤ 255)
+    → (IsIn v (path_vectors hs) → (r : Reception)
+    × (option_and_then received (slice_get hs (v.receiver - (port + 1))) ≡ Some r) × (length r.path ≤ 255))
+    → (r : Reception) × (option_and_then received (slice_get (h ∷ hs) (v.receiver - port)) ≡ Some r)
+    × (length r.path ≤ 255)
 received_there-step v port h hs placed (inl (r, is, path)) others =
     let here : v.receiver ≡ port = ap (λ (x : Vector). x.receiver) path ∙ (placed.0 r is).receiver in
     let first : v.receiver - port ≡ 0 = omega arith in
@@ -118,7 +129,8 @@ received_there v port (h ∷ hs) placed member =
     received_there-step v port h hs placed (from_port v h hs member) (received_there v (port + 1) hs placed.1)
 
 -- the Slave of a choice is a port that received, over at most 255 clocks
-pub slave_received : (identity : ℕ) (held : List Held) (v : Vector) → ArePlaced 1 held → IsChosen identity held v → SlaveReceived held (slave_port v)
+pub slave_received : (identity : ℕ) (held : List Held) (v : Vector) → ArePlaced 1 held → IsChosen identity held v
+    → SlaveReceived held (slave_port v)
 slave_received identity held v placed chosen = go chosen.member
   where
     go : IsIn v (system_of identity ∷ path_vectors held) → SlaveReceived held (slave_port v)

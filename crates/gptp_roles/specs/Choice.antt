@@ -10,7 +10,8 @@ use Rattle.gptp_receipt.specs.Held.{Reception, received}
 -- the path vectors of all ports that received one
 abbrev pub path_vectors : List Held → List Vector
 path_vectors [] = []
-path_vectors (h ∷ hs) = option_map_or (λ (r : Reception). path_of r.vector ∷ path_vectors hs) (received h) (path_vectors hs)
+path_vectors (h ∷ hs) =
+    option_map_or (λ (r : Reception). path_of r.vector ∷ path_vectors hs) (received h) (path_vectors hs)
 
 -- a vector is among the vectors
 abbrev pub IsIn : Vector → List Vector → Type 0
@@ -43,4 +44,6 @@ slave_port chosen = if chosen.receiver == 0 then None else Some chosen.receiver
 
 -- the better of a vector and the path vector of a port, if it received one
 abbrev pub with_held : Vector → Held → Vector
-with_held best held = option_map_or (λ (r : Reception). if lower (path_of r.vector) best then path_of r.vector else best) (received held) best
+with_held best held =
+    option_map_or (λ (r : Reception). if lower (path_of r.vector) best then path_of r.vector else best) (received held)
+    best

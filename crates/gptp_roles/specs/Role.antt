@@ -12,11 +12,13 @@ use Rattle.gptp_roles.specs.declared.role.Role.TheVariants.{Disabled, Master, Sl
 -- A port that received and isn't the Slave is Master where its master vector is lower than what it
 -- received, and Passive otherwise.
 abbrev pub master_or_passive : Vector → ℕ → ℕ → Vector → Role
-master_or_passive chosen clock port known = if lower (master_of chosen.root chosen.steps clock port) known then Master else Passive
+master_or_passive chosen clock port known =
+    if lower (master_of chosen.root chosen.steps clock port) known then Master else Passive
 
 -- a port that received is the Slave where the chosen vector came from it
 abbrev pub role_of_received : Vector → ℕ → ℕ → Vector → Role
-role_of_received chosen clock port known = if chosen.receiver == port then Slave else master_or_passive chosen clock port known
+role_of_received chosen clock port known =
+    if chosen.receiver == port then Slave else master_or_passive chosen clock port known
 
 -- a port that received nothing is Master, or Disabled where it isn't asCapable
 abbrev pub role_of_rest : Held → Role
@@ -24,7 +26,8 @@ role_of_rest helds.Disabled = Disabled
 role_of_rest _ = Master
 
 abbrev pub role_of : Vector → ℕ → ℕ → Held → Role
-role_of chosen clock port held = option_map_or (λ (r : Reception). role_of_received chosen clock port r.vector) (received held) (role_of_rest held)
+role_of chosen clock port held =
+    option_map_or (λ (r : Reception). role_of_received chosen clock port r.vector) (received held) (role_of_rest held)
 
 abbrev pub is_master : Role → Bool
 is_master Master = true
@@ -36,7 +39,8 @@ is_slave _ = false
 
 -- a Master port then holds the chosen root and the own steps, and every other port what it held
 abbrev pub held_after : Vector → ℕ → ℕ → Held → Held
-held_after chosen clock port held = if is_master (role_of chosen clock port held) then helds.Mine chosen.root chosen.steps else held
+held_after chosen clock port held =
+    if is_master (role_of chosen clock port held) then helds.Mine chosen.root chosen.steps else held
 
 -- the port was Master before, with this root and these steps
 abbrev pub announces_already : Vector → Held → Bool

@@ -28,9 +28,13 @@ pub record IsSelection (identity : ℕ) (before : List Held) (s : Selected) (aft
 pub record IsAtRest (identity : ℕ) (before : List Held) (chosen : Vector) : Type 0 where
   pub placed : ArePlaced 1 (each_port (held_after chosen (clock_of identity)) before)
   pub is_chosen : IsChosen identity (each_port (held_after chosen (clock_of identity)) before) chosen
-  pub roles : each_port (role_of chosen (clock_of identity)) (each_port (held_after chosen (clock_of identity)) before) ≡ each_port (role_of chosen (clock_of identity)) before
-  pub held : each_port (held_after chosen (clock_of identity)) (each_port (held_after chosen (clock_of identity)) before) ≡ each_port (held_after chosen (clock_of identity)) before
-  pub fresh : AllByRecursion (λ b. b ≡ false) (each_port (is_fresh chosen (clock_of identity)) (each_port (held_after chosen (clock_of identity)) before))
+  pub roles : each_port (role_of chosen (clock_of identity)) (each_port (held_after chosen (clock_of identity)) before)
+      ≡ each_port (role_of chosen (clock_of identity)) before
+  pub held : each_port (held_after chosen (clock_of identity))
+      (each_port (held_after chosen (clock_of identity)) before)
+      ≡ each_port (held_after chosen (clock_of identity)) before
+  pub fresh : AllByRecursion (λ b. b ≡ false)
+      (each_port (is_fresh chosen (clock_of identity)) (each_port (held_after chosen (clock_of identity)) before))
 
 -- how many ports are Slave
 abbrev pub slaves : List Role → ℕ
@@ -39,5 +43,7 @@ slaves roles = count_by is_slave roles
 -- One port is Slave where the chosen root is another system's, and none where it is the own; the chosen
 -- vector names that port.
 pub record HasOneSlave (identity : ℕ) (before : List Held) (chosen : Vector) : Type 0 where
-  pub own_root : chosen.root ≡ identity → (slave_port chosen ≡ None) × (slaves (each_port (role_of chosen (clock_of identity)) before) ≡ 0)
-  pub other_root : (chosen.root ≢ identity) → IsSome (slave_port chosen) × (slaves (each_port (role_of chosen (clock_of identity)) before) ≡ 1)
+  pub own_root : chosen.root ≡ identity → (slave_port chosen ≡ None)
+      × (slaves (each_port (role_of chosen (clock_of identity)) before) ≡ 0)
+  pub other_root : (chosen.root ≢ identity) → IsSome (slave_port chosen)
+      × (slaves (each_port (role_of chosen (clock_of identity)) before) ≡ 1)

@@ -58,23 +58,30 @@ floor_shift x d n f i =
     let low = distribute d n f in
     let high = distribute d n (f +ℤ pos 1) in
     let next : n +ℤ f +ℤ pos 1 ≡ n +ℤ (f +ℤ pos 1) = omega (arith, ints) in
-    record { reached = rw low (omega (arith, ints, i.reached)); passed = rw (next, high) (omega (arith, ints, i.passed)) }
+    record {
+      reached = rw low (omega (arith, ints, i.reached));
+      passed = rw (next, high) (omega (arith, ints, i.passed));
+    }
 
 -- n f between these two bounds is less than m + n away from 0
-near_by_bounds : (f : ℤ) (n m : ℕ) → 0 < n → (pos n *ℤ f) <ℤ (pos m +ℤ pos 1) → neg_ℤ (pos m) <ℤ (pos n *ℤ (f +ℤ pos 1)) → n * unsigned_abs f < m + n
+near_by_bounds : (f : ℤ) (n m : ℕ) → 0 < n → (pos n *ℤ f) <ℤ (pos m +ℤ pos 1)
+    → neg_ℤ (pos m) <ℤ (pos n *ℤ (f +ℤ pos 1)) → n * unsigned_abs f < m + n
 near_by_bounds (pos k) n m h high low = omega (arith, ints)
 near_by_bounds (negsuc k) n m h high low = let next = distribute (pos n) (negsuc k) (pos 1) in omega (arith, ints)
 
 -- where n |x| is at most d m, the floor is less than m / n + 1 away from 0
-pub floor_near : (x d f : ℤ) (n m : ℕ) → pos 0 <ℤ d → 0 < n → IsFloor x d f → (pos n *ℤ x) ≤ℤ (d *ℤ pos m) → neg_ℤ (d *ℤ pos m) ≤ℤ (pos n *ℤ x) → n * unsigned_abs f < m + n
+pub floor_near : (x d f : ℤ) (n m : ℕ) → pos 0 <ℤ d → 0 < n → IsFloor x d f → (pos n *ℤ x) ≤ℤ (d *ℤ pos m)
+    → neg_ℤ (d *ℤ pos m) ≤ℤ (pos n *ℤ x) → n * unsigned_abs f < m + n
 floor_near x d f n m p h i high low =
     let under = times_grows (pos n) (d *ℤ f) x (omega (arith, ints)) i.reached in
-    let over = times_grows (pos n) (x +ℤ pos 1) (d *ℤ (f +ℤ pos 1)) (omega (arith, ints)) (omega (arith, ints, i.passed)) in
+    let over = times_grows (pos n) (x +ℤ pos 1) (d *ℤ (f +ℤ pos 1)) (omega (arith, ints))
+    (omega (arith, ints, i.passed)) in
     let at = swap (pos n) d f in
     let above = swap (pos n) d (f +ℤ pos 1) in
     let next = distribute d (pos m) (pos 1) in
     let more = distribute (pos n) x (pos 1) in
     let opposite = negated d (pos m) in
     let top : (pos n *ℤ f) <ℤ (pos m +ℤ pos 1) = cancel d (pos n *ℤ f) (pos m +ℤ pos 1) p (omega (arith, ints)) in
-    let bottom : neg_ℤ (pos m) <ℤ (pos n *ℤ (f +ℤ pos 1)) = cancel d (neg_ℤ (pos m)) (pos n *ℤ (f +ℤ pos 1)) p (omega (arith, ints)) in
+    let bottom : neg_ℤ (pos m) <ℤ (pos n *ℤ (f +ℤ pos 1)) =
+    cancel d (neg_ℤ (pos m)) (pos n *ℤ (f +ℤ pos 1)) p (omega (arith, ints)) in
     near_by_bounds f n m h top bottom

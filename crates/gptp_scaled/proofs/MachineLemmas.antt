@@ -15,8 +15,10 @@ back w z = to_z w (of_z w z)
 
 -- a floor is no further away from 0 than its dividend
 floor_within : (m : ℕ) (z d : ℤ) → pos 0 <ℤ d → IsWithin m z → IsWithin m (floor_div z d)
-floor_within m (pos a) (pos k) h i = let l = div-le_self a k in record { low = omega (arith, ints); high = omega (arith, ints) }
-floor_within m (negsuc a) (pos k) h i = let l = div-le_self a k in record { low = omega (arith, ints); high = omega (arith, ints) }
+floor_within m (pos a) (pos k) h i = let l = div-le_self a k in
+    record { low = omega (arith, ints); high = omega (arith, ints) }
+floor_within m (negsuc a) (pos k) h i = let l = div-le_self a k in
+    record { low = omega (arith, ints); high = omega (arith, ints) }
 floor_within m z (negsuc k) h i = absurd (omega (arith, ints))
 
 -- a shift of a signed number rounds down
@@ -43,17 +45,20 @@ factors q x r f g e =
     }
 
 -- what the machine numbers of `scaled` in src/rate.rt come to
-pub scaled_back : (q x r : ℤ) → FitsRate q → FitsScaled x → r ≡ back w32 q → back w128 (back w128 x +ℤ back w128 (shr_z (back w128 (back w128 x *ℤ back w128 r)) (2 ^ 41))) ≡ scaled_by q x
+pub scaled_back : (q x r : ℤ) → FitsRate q → FitsScaled x → r ≡ back w32 q
+    → back w128 (back w128 x +ℤ back w128 (shr_z (back w128 (back w128 x *ℤ back w128 r)) (2 ^ 41))) ≡ scaled_by q x
 scaled_back q x r f g e =
     let by = factors q x r f g e in
     let floor = floor_within (2 ^ 126) (x *ℤ q) unit (omega (arith, ints)) by.small in
-    let shifted : back w128 (floor_div (x *ℤ q) unit) ≡ floor_div (x *ℤ q) unit = to_z-of_z w128 (floor_div (x *ℤ q) unit) (omega (arith, ints)) in
+    let shifted : back w128 (floor_div (x *ℤ q) unit)
+    ≡ floor_div (x *ℤ q) unit = to_z-of_z w128 (floor_div (x *ℤ q) unit) (omega (arith, ints)) in
     let sum : back w128 (scaled_by q x) ≡ scaled_by q x = to_z-of_z w128 (scaled_by q x) (omega (arith, ints)) in
     rw (by.time, by.rate, by.product, shift_floors, shifted) sum
 
 -- s is the machine number that `unscaled` there divides out
 abbrev pub IsDivided : ℤ → ℤ → ℤ → Type 0
-IsDivided x r s = s ≡ int_div_euclid (back w128 (pos 0 -ℤ back w128 (back w128 x *ℤ back w128 r))) (back w128 (unit +ℤ back w128 r))
+IsDivided x r s =
+    s ≡ int_div_euclid (back w128 (pos 0 -ℤ back w128 (back w128 x *ℤ back w128 r))) (back w128 (unit +ℤ back w128 r))
 
 -- what the quotient s of `unscaled` there is, where r is q of 32 bits
 record Quotient (q x s : ℤ) : Type 0 where
@@ -66,28 +71,35 @@ quotient : (q x r s : ℤ) → FitsRate q → FitsScaled x → r ≡ back w32 q 
 quotient q x r s f g e h =
     let by = factors q x r f g e in
     let small = by.small in
-    let negated : IsWithin (2 ^ 126) (pos 0 -ℤ x *ℤ q) = record { low = omega (arith, ints); high = omega (arith, ints) } in
-    let dividend : back w128 (pos 0 -ℤ x *ℤ q) ≡ pos 0 -ℤ x *ℤ q = to_z-of_z w128 (pos 0 -ℤ x *ℤ q) (omega (arith, ints)) in
+    let negated : IsWithin (2 ^ 126) (pos 0 -ℤ x *ℤ q) =
+    record { low = omega (arith, ints); high = omega (arith, ints) } in
+    let dividend : back w128 (pos 0 -ℤ x *ℤ q)
+    ≡ pos 0 -ℤ x *ℤ q = to_z-of_z w128 (pos 0 -ℤ x *ℤ q) (omega (arith, ints)) in
     let divisor : back w128 (unit +ℤ q) ≡ unit +ℤ q = to_z-of_z w128 (unit +ℤ q) (omega (arith, ints)) in
     let is : s ≡ floor_div (pos 0 -ℤ x *ℤ q) (unit +ℤ q) = rw (by.time, by.rate, by.product, dividend, divisor) at h in
     let floor = floor_within (2 ^ 126) (pos 0 -ℤ x *ℤ q) (unit +ℤ q) (omega (arith, ints)) negated in
     record { is = is; held = to_z-of_z w128 s (omega (arith, ints)); fits = omega (arith, ints) }
 
 -- its sum with x fits
-pub unscaled_fits : (q x r s : ℤ) → FitsRate q → FitsScaled x → r ≡ back w32 q → IsDivided x r s → FitsSigned w128 (back w128 x +ℤ back w128 s)
+pub unscaled_fits : (q x r s : ℤ) → FitsRate q → FitsScaled x → r ≡ back w32 q → IsDivided x r s
+    → FitsSigned w128 (back w128 x +ℤ back w128 s)
 unscaled_fits q x r s f g e h =
     let by = quotient q x r s f g e h in
     rw ((factors q x r f g e).time, by.held) by.fits
 
 -- and is what the contract says
-pub unscaled_back : (q x r s : ℤ) → FitsRate q → FitsScaled x → r ≡ back w32 q → IsDivided x r s → back w128 (back w128 x +ℤ back w128 s) ≡ unscaled_by q x
+pub unscaled_back : (q x r s : ℤ) → FitsRate q → FitsScaled x → r ≡ back w32 q → IsDivided x r s
+    → back w128 (back w128 x +ℤ back w128 s) ≡ unscaled_by q x
 unscaled_back q x r s f g e h =
     let by = quotient q x r s f g e h in
-    rw ((factors q x r f g e).time, by.held) (to_z-of_z w128 (x +ℤ s) by.fits ∙ ap (λ v. x +ℤ v) by.is ∙ unscaled_parts q x f)
+    rw ((factors q x r f g e).time, by.held) (to_z-of_z w128 (x +ℤ s) by.fits ∙ ap (λ v. x +ℤ v) by.is
+    ∙ unscaled_parts q x f)
 
 -- what the quotient s and the clamped r of `neighbor_rate` in src/rate.rt come to
-pub neighbor_back : (gain elapsed s r : ℤ) → pos 0 <ℤ elapsed → FitsScaled elapsed → (gain *ℤ pos 4096) <ℤ elapsed → neg_ℤ elapsed <ℤ (gain *ℤ pos 4096)
-    → s ≡ int_div_euclid (back w128 (back w128 gain *ℤ unit)) (back w128 elapsed) → r ≡ clamped (back w128 s) → back w32 (back w128 r) ≡ neighbor_rate_of gain elapsed
+pub neighbor_back : (gain elapsed s r : ℤ) → pos 0 <ℤ elapsed → FitsScaled elapsed → (gain *ℤ pos 4096) <ℤ elapsed
+    → neg_ℤ elapsed <ℤ (gain *ℤ pos 4096)
+    → s ≡ int_div_euclid (back w128 (back w128 gain *ℤ unit)) (back w128 elapsed) → r ≡ clamped (back w128 s)
+    → back w32 (back w128 r) ≡ neighbor_rate_of gain elapsed
 neighbor_back gain elapsed s r p f high low h e =
     let g : back w128 gain ≡ gain = to_z-of_z w128 gain (omega (arith, ints)) in
     let d : back w128 elapsed ≡ elapsed = to_z-of_z w128 elapsed (omega (arith, ints)) in

@@ -17,14 +17,17 @@ within_by_abs m (negsuc n) h = record { low = omega (arith, ints); high = omega 
 
 -- a product is as far away from 0 as its factors allow
 pub times_within : (m n : ℕ) (a b : ℤ) → unsigned_abs a ≤ m → unsigned_abs b ≤ n → IsWithin (m * n) (a *ℤ b)
-times_within m n a b h k = within_by_abs (m * n) (a *ℤ b) (omega (arith, unsigned_abs-mul a b, mul-le (unsigned_abs a) (unsigned_abs b) m n h k))
+times_within m n a b h k =
+    within_by_abs (m * n) (a *ℤ b)
+    (omega (arith, unsigned_abs-mul a b, mul-le (unsigned_abs a) (unsigned_abs b) m n h k))
 
 -- a product with a sum
 pub distribute : (a b c : ℤ) → a *ℤ (b +ℤ c) ≡ a *ℤ b +ℤ a *ℤ c
 distribute a b c =
     let s = sum_is_lem b c in
     let by_up : up a * (up (b +ℤ c) + down b + down c) ≡ up a * (down (b +ℤ c) + up b + up c) = ap (λ v. up a * v) s in
-    let by_down : down a * (up (b +ℤ c) + down b + down c) ≡ down a * (down (b +ℤ c) + up b + up c) = ap (λ v. down a * v) s in
+    let by_down : down a * (up (b +ℤ c) + down b + down c)
+    ≡ down a * (down (b +ℤ c) + up b + up c) = ap (λ v. down a * v) s in
     omega (arith, ints)
 
 -- a product with a negated number

@@ -19,7 +19,8 @@ scaled_by q x = x +ℤ floor_div (x *ℤ q) unit
 abbrev pub unscaled_by : ℤ → ℤ → ℤ
 unscaled_by q x = floor_div (x *ℤ unit) (unit +ℤ q)
 
--- the largest q of a neighbour: 200 parts in a million, rounded down (profile; each clock keeps within 100: IEEE 802.1AS-2020, B.1.1)
+-- the largest q of a neighbour: 200 parts in a million, rounded down (profile; each clock keeps within 100: IEEE
+-- 802.1AS-2020, B.1.1)
 abbrev pub limit : ℤ
 limit = pos 439804651
 
@@ -36,6 +37,7 @@ clamped q = int_max (neg_ℤ limit) (int_min q limit)
 abbrev pub neighbor_rate_of : ℤ → ℤ → ℤ
 neighbor_rate_of gain elapsed = clamped (floor_div (gain *ℤ unit) elapsed)
 
--- the rate of a neighbour on whose clock e3 passed while e4 passed on the own one; 0 where no time passed on the own one (profile)
+-- the rate of a neighbour on whose clock e3 passed while e4 passed on the own one; 0 where no time passed on the own
+-- one (profile)
 abbrev pub rate_of : ℤ → ℤ → ℤ
 rate_of e3 e4 = if int_lt (pos 0) e4 then neighbor_rate_of (e3 -ℤ e4) e4 else pos 0

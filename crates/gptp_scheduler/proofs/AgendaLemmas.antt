@@ -118,7 +118,7 @@ module _ {T : Type 0} (es : List (Entry T)) where
       (ap (option_map (λ (y : Entry T). y.time)) (at-own 0 es next i e orders.holds.rising within))) where
         by : (xs : List (Entry T))
             → ((i : ℕ) (e : Entry T) → i < length xs
-                → Contains heap (due_at (get_or xs i e).time (get_or xs i e).number))
+            → Contains heap (due_at (get_or xs i e).time (get_or xs i e).number))
             → xs ≡ []
         by [] among = refl
         by (e ∷ xs) among = let at = among 0 e (omega arith) in absurd (omega (arith, none, at.1))
@@ -201,15 +201,15 @@ module _ {T : Type 0} (es : List (Entry T)) where
           by (inl new) = rw (among_one x top new) time-new
           by (inr old) =
               let before = get_or heap 0 d in
-            let within : 0 < length heap = omega (arith, old.1) in
-            let put = orders.holds.put 0 d within in
-            let stays = Contains-append_right (x ∷ []) heap before (Contains-get_or heap 0 d within) in
-            let least = top_first heap before top orders.holds.ordered (same_top heap d before within) old in
-            let back = top_first larger top before ordered (same_top larger d top some)
-                (Contains-permutation _ larger before same stays) in
-            let is : before ≡ top = same_due before top least back in
-            let kept = time-other before.0.number (λ e. omega (arith, put.given, e)) in
-            rw (← is) (kept ∙ orders.top d within)
+              let within : 0 < length heap = omega (arith, old.1) in
+              let put = orders.holds.put 0 d within in
+              let stays = Contains-append_right (x ∷ []) heap before (Contains-get_or heap 0 d within) in
+              let least = top_first heap before top orders.holds.ordered (same_top heap d before within) old in
+              let back = top_first larger top before ordered (same_top larger d top some)
+              (Contains-permutation _ larger before same stays) in
+              let is : before ≡ top = same_due before top least back in
+              let kept = time-other before.0.number (λ e. omega (arith, put.given, e)) in
+              rw (← is) (kept ∙ orders.top d within)
 
     pub orders-put : Orders now larger (next + 1)
     orders-put = record { holds = holds-put; top = top-put }

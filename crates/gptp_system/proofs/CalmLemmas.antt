@@ -25,7 +25,8 @@ calm_on touched s t u a b = record {
 
 -- only what is known of time changes
 pub calm_apart : (touched : Timer → Bool) (s t : SystemState) → t.ports ≡ s.ports → t.held ≡ s.held
-    → t.params ≡ s.params → (touched timers.Sync ≡ false → t.sync ≡ s.sync) → (touched timers.Relay ≡ false → t.relay ≡ s.relay)
+    → t.params ≡ s.params → (touched timers.Sync ≡ false → t.sync ≡ s.sync)
+    → (touched timers.Relay ≡ false → t.relay ≡ s.relay)
     → Calm touched s t
 calm_apart touched s t ports held params sync relay =
     record { leaves = apart_leaves touched s t ports held params sync relay; counts = counted_same s t ports }

@@ -34,11 +34,13 @@ use Rattle.gptp_system.proofs.PlaceLemmas.{all_change}
 use Rattle.gptp_system.proofs.AnnouncementLemmas.{length-all_announced}
 
 -- what a port holds after selection was received before, or is its own
-recent_after : (v : Vector) (clock p : ℕ) (h : Held) (b : Bool) → is_master (role_of v clock p h) ≡ b → IsRecent h → IsRecent (held_after v clock p h)
+recent_after : (v : Vector) (clock p : ℕ) (h : Held) (b : Bool) → is_master (role_of v clock p h) ≡ b → IsRecent h
+    → IsRecent (held_after v clock p h)
 recent_after v clock p h true is recent = rw is (λ r none. absurd cc)
 recent_after v clock p h false is recent = rw is recent
 
-all_recent_after : (v : Vector) (clock p : ℕ) (hs : List Held) → AllByRecursion IsRecent hs → AllByRecursion IsRecent (each_from (held_after v clock) p hs)
+all_recent_after : (v : Vector) (clock p : ℕ) (hs : List Held) → AllByRecursion IsRecent hs
+    → AllByRecursion IsRecent (each_from (held_after v clock) p hs)
 all_recent_after v clock p [] all = tt
 all_recent_after v clock p (h ∷ hs) all =
     (recent_after v clock p h (is_master (role_of v clock p h)) refl all.0, all_recent_after v clock (p + 1) hs all.1)
@@ -48,13 +50,15 @@ pub port_announced : (now : ℕ) (f : Bool) (q : Port) → IsPort q → IsPort (
 port_announced now true q is = record { log_interval = is.log_interval; waiting = is.waiting }
 port_announced now false q is = is
 
-all_ports_announced : (now : ℕ) (fs : List Bool) (qs : List Port) → AllByRecursion IsPort qs → AllByRecursion IsPort (all_announced now fs qs)
+all_ports_announced : (now : ℕ) (fs : List Bool) (qs : List Port) → AllByRecursion IsPort qs
+    → AllByRecursion IsPort (all_announced now fs qs)
 all_ports_announced now [] qs all = all
 all_ports_announced now (f ∷ fs) [] all = tt
 all_ports_announced now (f ∷ fs) (q ∷ qs) all = (port_announced now f q all.0, all_ports_announced now fs qs all.1)
 
 -- selection leaves a ready state
-pub selects_ready : (now : ℕ) (s s' : SystemState) (sends : List Sending) → IsReady s → ArePlaced 1 s'.held → Selects now s s' sends → IsReady s'
+pub selects_ready : (now : ℕ) (s s' : SystemState) (sends : List Sending) → IsReady s → ArePlaced 1 s'.held
+    → Selects now s s' sends → IsReady s'
 selects_ready now s s' sends ready placed selects =
     let v = selects.vector in
     let helds-length = length-each_from (held_after v (clock s)) 1 s.held in
@@ -83,7 +87,8 @@ placed_at f i n p [] here kept placed = tt
 placed_at f zero n p (h ∷ hs) here kept placed =
     let is : n ≡ p = omega (arith, here) in
     (rw is (kept h (rw is at placed.0)), placed.1)
-placed_at f (suc i) n p (h ∷ hs) here kept placed = (placed.0, placed_at f i (n + 1) p hs (omega (arith, here)) kept placed.1)
+placed_at f (suc i) n p (h ∷ hs) here kept placed =
+    (placed.0, placed_at f i (n + 1) p hs (omega (arith, here)) kept placed.1)
 
 placed_change : (f : Held → Held) (p : ℕ) (hs : List Held)
     → ((h : Held) → ForSome (received h) (IsPlaced p) → ForSome (received (f h)) (IsPlaced p))
@@ -96,7 +101,8 @@ pub record KeepsHeld (p : ℕ) (f : Held → Held) : Type 0 where
   pub recent : (h : Held) → IsRecent h → IsRecent (f h)
   pub placed : (h : Held) → ForSome (received h) (IsPlaced p) → ForSome (received (f h)) (IsPlaced p)
 
-pub held_ready : (s : SystemState) (p : ℕ) (f : Held → Held) (held : List Held) → IsReady s → KeepsHeld p f → held ≡ change f p s.held
+pub held_ready : (s : SystemState) (p : ℕ) (f : Held → Held) (held : List Held) → IsReady s → KeepsHeld p f
+    → held ≡ change f p s.held
     → IsReady (record s { held = held })
 held_ready s p f held ready keeps is =
     rw is (record {
@@ -111,7 +117,8 @@ held_ready s p f held ready keeps is =
     })
 
 -- hearing a qualified Announce is such a change
-heard_recent : (heard : Heard) (h : Held) (r : Reception) → IsMoment r.at → IsRecent h → IsRecent (heard_after heard h r)
+heard_recent : (heard : Heard) (h : Held) (r : Reception) → IsMoment r.at → IsRecent h
+    → IsRecent (heard_after heard h r)
 heard_recent heards.Superior h r moment recent = λ x is. let same : x ≡ r = cc in rw same moment
 heard_recent heards.Repeated h r moment recent = λ x is. let same : x ≡ r = cc in rw same moment
 heard_recent heards.Inferior h r moment recent = recent
@@ -135,7 +142,8 @@ aged_recent : (h : Held) (b : Bool) → IsRecent h → IsRecent (if b then helds
 aged_recent h true recent = λ x none. absurd cc
 aged_recent h false recent = recent
 
-aged_placed : (p : ℕ) (h : Held) (b : Bool) → ForSome (received h) (IsPlaced p) → ForSome (received (if b then helds.Aged else h)) (IsPlaced p)
+aged_placed : (p : ℕ) (h : Held) (b : Bool) → ForSome (received h) (IsPlaced p)
+    → ForSome (received (if b then helds.Aged else h)) (IsPlaced p)
 aged_placed p h true placed = λ x none. absurd cc
 aged_placed p h false placed = placed
 
@@ -147,7 +155,8 @@ ageing_keeps p span now = record {
 
 -- ---- one port changes beside what it holds
 
-pub ports_ready : (s : SystemState) (p : ℕ) (f : Port → Port) (ports : List Port) → IsReady s → ((q : Port) → IsPort q → IsPort (f q))
+pub ports_ready : (s : SystemState) (p : ℕ) (f : Port → Port) (ports : List Port) → IsReady s
+    → ((q : Port) → IsPort q → IsPort (f q))
     → ports ≡ change f p s.ports → IsReady (record s { ports = ports })
 ports_ready s p f ports ready keeps is =
     let size = change-length f p s.ports in
@@ -165,7 +174,8 @@ ports_ready s p f ports ready keeps is =
 -- ---- a new system
 
 pub length-new_ports : (clock : ℕ) (params : Params) (n : ℕ) → length (new_ports clock params n) ≡ n
-length-new_ports clock params n = length-map-range_with_len (λ p. new_port (record { clock = clock; port = p }) params) 1 n
+length-new_ports clock params n =
+    length-map-range_with_len (λ p. new_port (record { clock = clock; port = p }) params) 1 n
 
 pub length-all_disabled : (n : ℕ) → length (all_disabled n) ≡ n
 length-all_disabled n = length-map-range_with_len (λ p. helds.Disabled) 1 n
@@ -173,7 +183,8 @@ length-all_disabled n = length-map-range_with_len (λ p. helds.Disabled) 1 n
 new_ports_are : (clock : ℕ) (params : Params) (a n : ℕ) → IsLog params.announce
     → AllByRecursion IsPort (map (λ p. new_port (record { clock = clock; port = p }) params) (range_with_len a n))
 new_ports_are clock params a zero log = tt
-new_ports_are clock params a (suc n) log = (record { log_interval = log; waiting = λ owed none. absurd cc }, new_ports_are clock params (a + 1) n log)
+new_ports_are clock params a (suc n) log =
+    (record { log_interval = log; waiting = λ owed none. absurd cc }, new_ports_are clock params (a + 1) n log)
 
 disabled_recent : (a n : ℕ) → AllByRecursion IsRecent (map (λ p. helds.Disabled) (range_with_len a n))
 disabled_recent a zero = tt
@@ -183,7 +194,8 @@ disabled_placed : (q a n : ℕ) → ArePlaced q (map (λ p. helds.Disabled) (ran
 disabled_placed q a zero = tt
 disabled_placed q a (suc n) = ((λ r none. absurd cc), disabled_placed (q + 1) (a + 1) n)
 
-pub started_ready : (setup : Setup) (now : ℕ) → setup.ports ≤ 16 → AreParams setup.params → setup.phase ≤ 1000000000000000000 → IsDrift setup.drift
+pub started_ready : (setup : Setup) (now : ℕ) → setup.ports ≤ 16 → AreParams setup.params
+    → setup.phase ≤ 1000000000000000000 → IsDrift setup.drift
     → IsReady (started setup now)
 started_ready setup now few params phase drift =
     let ports = length-new_ports (clock_of setup.identity) setup.params setup.ports in

@@ -12,13 +12,15 @@ use Rattle.gptp_system.specs.State.{SystemState, clock}
 use Rattle.gptp_system.specs.Selection.{all_announced, announcements, follows_on, same_port, kept_if, Selects}
 
 -- what a system has kept of the time that came, where it followed on or not
-pub record Keeps (same : Bool) (s : SystemState) (sync_in : Option KeptSync) (known : Option SyncInfo) (offset : Option ℤ) (relay : Option ℕ) : Type 0 where
+pub record Keeps (same : Bool) (s : SystemState) (sync_in : Option KeptSync) (known : Option SyncInfo)
+    (offset : Option ℤ) (relay : Option ℕ) : Type 0 where
   pub sync_in_is : sync_in ≡ kept_if same s.sync_in
   pub known_is : known ≡ kept_if same s.known
   pub offset_is : offset ≡ kept_if same s.offset
   pub relay_is : relay ≡ kept_if same s.relay
 
-pub took_over : (now : ℕ) (s : SystemState) (t : Selected) (held : List Held) (ports : List Port) (sync_in : Option KeptSync) (known : Option SyncInfo)
+pub took_over : (now : ℕ) (s : SystemState) (t : Selected) (held : List Held) (ports : List Port)
+    (sync_in : Option KeptSync) (known : Option SyncInfo)
     (offset : Option ℤ) (relay : Option ℕ) (sends : List Sending) (same : Bool)
     → IsSelection s.identity s.held t held
     → ports ≡ all_announced now t.fresh.items s.ports
@@ -42,7 +44,8 @@ took_over now s t held ports sync_in known offset relay sends same selection por
     let v = selection.chosen in
     let ports-after = ports-are ∙ ap (λ fresh. all_announced now fresh s.ports) selection.fresh in
     let follows : same ≡ follows_on v s =
-    same-is ∙ ap (λ root. root == s.root && same_port t.slave s.slave) selection.root ∙ ap (λ slave. v.root == s.root && same_port slave s.slave) selection.slave in
+    same-is ∙ ap (λ root. root == s.root && same_port t.slave s.slave) selection.root
+    ∙ ap (λ slave. v.root == s.root && same_port slave s.slave) selection.slave in
     let sync_in-after = keeps.sync_in_is ∙ ap (λ b. kept_if b s.sync_in) follows in
     let known-after = keeps.known_is ∙ ap (λ b. kept_if b s.known) follows in
     let offset-after = keeps.offset_is ∙ ap (λ b. kept_if b s.offset) follows in

@@ -76,7 +76,8 @@ syncs-more clock log told p zero (g ∷ hs) (q ∷ qs) h d within here few =
     let place : p ≡ p + 0 = omega arith in
     rw same
     (ap (λ (n : ℕ). if is_mine g
-    then sync_of (record { clock = clock; port = n }) log q ∷ follow_up_of (record { clock = clock; port = n }) log told q ∷ []
+    then sync_of (record { clock = clock; port = n }) log q ∷ follow_up_of (record { clock = clock; port = n }) log
+    told q ∷ []
     else [])
     place)
 syncs-more clock log told p (suc i) (g ∷ hs) (q ∷ qs) h d within here few =

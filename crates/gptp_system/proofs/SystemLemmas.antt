@@ -28,20 +28,23 @@ use Rattle.gptp_system.proofs.RestLemmas.{new_held, new_rest, new_shown}
 use Rattle.gptp_system.proofs.StepLemmas.{steps_sound}
 
 -- after every step
-pub stays_system : (input : Input) (now : ℕ) (s s' : SystemState) (sends : List Sending) (answer : Answer) → IsSystem s → IsReady s'
+pub stays_system : (input : Input) (now : ℕ) (s s' : SystemState) (sends : List Sending) (answer : Answer) → IsSystem s
+    → IsReady s'
     → Steps input now s s' sends answer → IsSystem s'
 stays_system input now s s' sends answer is ready k =
     let sound = steps_sound input now s s' sends answer k in
     record { ready = ready; rest = sound.rest is.held is.rest; shown = sound.shown is.shown; held = sound.held is.held }
 
 -- all ports of a new system are disabled, and have measured nothing
-all_off : (a n i : ℕ) (h : Held) → slice_get (map (λ p. helds.Disabled) (range_with_len a n)) i ≡ Some h → h ≡ helds.Disabled
+all_off : (a n i : ℕ) (h : Held) → slice_get (map (λ p. helds.Disabled) (range_with_len a n)) i ≡ Some h
+    → h ≡ helds.Disabled
 all_off a zero i h is = absurd (none-some h is)
 all_off a (suc n) zero h is = sym (same_Some helds.Disabled h is)
 all_off a (suc n) (suc i) h is = all_off (a + 1) n i h is
 
 all_new : (clock : ℕ) (params : Params) (a n i : ℕ) (q : Port)
-    → slice_get (map (λ p. new_port (record { clock = clock; port = p }) params) (range_with_len a n)) i ≡ Some q → q.peer.last ≡ None
+    → slice_get (map (λ p. new_port (record { clock = clock; port = p }) params) (range_with_len a n)) i ≡ Some q
+    → q.peer.last ≡ None
 all_new clock params a zero i q is = absurd (none-some q is)
 all_new clock params a (suc n) zero q is =
     ap (λ (x : Port). x.peer.last) (sym (same_Some (new_port (record { clock = clock; port = a }) params) q is))
@@ -75,13 +78,15 @@ system_slave s is = rw is.rest.slave (slave_received s.identity s.held is.rest.v
 -- ---- ports that exist
 
 -- what is found at a number is found at that of a port
-within : {X Y : Type 0} (xs : List X) (f : X → Option Y) (p : ℕ) → IsSome (option_and_then f (number xs p)) → (1 ≤ p) × (p ≤ length xs)
+within : {X Y : Type 0} (xs : List X) (f : X → Option Y) (p : ℕ) → IsSome (option_and_then f (number xs p)) → (1 ≤ p)
+    × (p ≤ length xs)
 within xs f zero some = absurd cc
 within [] f (suc i) some = absurd cc
 within (x ∷ xs) f (suc zero) some = (omega arith, omega arith)
 within (x ∷ xs) f (suc (suc i)) some = let ih = within xs f (suc i) some in (omega arith, omega arith)
 
-port_of : {Y : Type 0} (s : SystemState) (f : Port → Option Y) (p : ℕ) → IsSome (option_and_then f (number s.ports p)) → IsPortOf s p
+port_of : {Y : Type 0} (s : SystemState) (f : Port → Option Y) (p : ℕ) → IsSome (option_and_then f (number s.ports p))
+    → IsPortOf s p
 port_of s f p some = let is = within s.ports f p some in record { least = is.0; most = is.1 }
 
 pub up_is_port : (s : SystemState) (p : ℕ) → IsUp s p → IsPortOf s p

@@ -30,7 +30,8 @@ one_kind f m n k a rest kind reads here others = go (n == k) refl
 -- a frame that reads as a message has its messageType
 pub type_is : (octets : List ℕ) (m : Message) → Reads octets m → message_type octets ≡ type_number m
 type_is octets m k =
-    all_kinds (λ kind. message_of kind octets k.path k.rate) (message_type octets) _ _ _ _ _ _ k.kind k.is refl refl refl
+    all_kinds (λ kind. message_of kind octets k.path k.rate) (message_type octets) _ _ _ _ _ _ k.kind k.is refl refl
+    refl
     refl refl refl k.header.kind_is
   where
     all_kinds : {K : Type 0} (f : K → Message) (n : ℕ) (a b c d e g kind : K) → m ≡ f kind

@@ -6,7 +6,8 @@ use Rattle.gptp_vector.specs.declared.identity.Identity.TheInside.{Inside}
 -- The fourteen octets of an identity in base 256, most significant first (IEEE 802.1AS-2020, 10.3.2).
 abbrev pub number_of : Inside → ℕ
 number_of i =
-    ((((i.priority1 * 2 ^ 8 + i.clock_class) * 2 ^ 8 + i.clock_accuracy) * 2 ^ 16 + i.offset_scaled_log_variance) * 2 ^ 8 + i.priority2) * 2 ^ 64
+    ((((i.priority1 * 2 ^ 8 + i.clock_class) * 2 ^ 8 + i.clock_accuracy) * 2 ^ 16
+    + i.offset_scaled_log_variance) * 2 ^ 8 + i.priority2) * 2 ^ 64
     + i.clock
 
 -- each field fits its octets

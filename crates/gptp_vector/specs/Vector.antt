@@ -23,8 +23,10 @@ path_of v = record v { steps = v.steps + 1 }
 
 -- the system vector: its own root, no steps, and port 0 of its own clock
 abbrev pub system_of : ℕ → Vector
-system_of identity = record { root = identity; steps = 0; source = record { clock = identity % 2 ^ 64; port = 0 }; receiver = 0 }
+system_of identity =
+    record { root = identity; steps = 0; source = record { clock = identity % 2 ^ 64; port = 0 }; receiver = 0 }
 
 -- the master vector of a port
 abbrev pub master_of : ℕ → ℕ → ℕ → ℕ → Vector
-master_of root steps clock port = record { root = root; steps = steps; source = record { clock = clock; port = port }; receiver = port }
+master_of root steps clock port =
+    record { root = root; steps = steps; source = record { clock = clock; port = port }; receiver = port }

@@ -40,7 +40,8 @@ at_end : (port : PortId) (direction : Direction) (channel : Channel) → sender 
 at_end port FromA channel begins = inl begins
 at_end port FromB channel begins = inr begins
 
-pub link_found : (stage : Stage) (port : PortId) (lane : Lane) → IsStage stage → BeginsAt stage.net.directory.joins port lane
+pub link_found : (stage : Stage) (port : PortId) (lane : Lane) → IsStage stage
+    → BeginsAt stage.net.directory.joins port lane
     → IsLinkAt port (world_of stage) lane.link
 link_found stage port lane is begins =
     let known = known_cable stage.net port lane is.net begins in
@@ -53,7 +54,8 @@ link_found stage port lane is begins =
     }
 
 -- a link at a port has a lane that begins there
-link_lane : (net : Between) (port : PortId) (place : ℕ) (channel : Channel) → IsNet net → IsChannel port place (between net) channel
+link_lane : (net : Between) (port : PortId) (place : ℕ) (channel : Channel) → IsNet net
+    → IsChannel port place (between net) channel
     → (lane : Lane) × BeginsAt net.directory.joins port lane
 link_lane net port place channel is at = by at.joined
   where
@@ -78,7 +80,8 @@ begins_placed d port lane is begins =
 
 -- ---- systems
 
-pub system_found : (stage : Stage) (number place : ℕ) → IsStage stage → slice_get stage.net.directory.clocks place ≡ Some number
+pub system_found : (stage : Stage) (number place : ℕ) → IsStage stage
+    → slice_get stage.net.directory.clocks place ≡ Some number
     → IsSystemAt number (world_of stage) place
 system_found stage number place is there =
     let stands = station_at stage place number is there in
@@ -129,7 +132,8 @@ oldest_is [] time is = absurd (none-some time is)
 oldest_is (f ∷ fs) time is = (f, fs, refl, same_Some f.due time is)
 
 pub oldest_due : (direction : Direction) (channel : Channel) (time : ℕ)
-    → option_map (λ (f : Frame). f.due) (first (queue direction channel)) ≡ Some time → IsOldestDue direction time channel
+    → option_map (λ (f : Frame). f.due) (first (queue direction channel)) ≡ Some time
+    → IsOldestDue direction time channel
 oldest_due direction channel time is =
     let found = oldest_is (queue direction channel) time is in
     record { oldest = found.0; rest = found.1; front = found.2; due = found.3 }
@@ -146,7 +150,8 @@ timer_aimed : (place : ℕ) (timer : Timer) (time : ℕ) (w : WorldState) (stati
     → IsTimerOf station.system timer
 timer_aimed place timer time w station agrees next here =
     let runs = next_runs_out place timer time w agrees next in
-    subst (λ (s : Station). IsTimerOf s.system timer) (same_Some runs.station station (sym runs.here ∙ here)) runs.timer_of
+    subst (λ (s : Station). IsTimerOf s.system timer) (same_Some runs.station station (sym runs.here ∙ here))
+    runs.timer_of
 
 -- the act that an item is, is about what the item is about
 pub next_aimed : (item : Item) (time : ℕ) (act : Act) (w : WorldState) → IsSound w → IsNext w.net.pending time item

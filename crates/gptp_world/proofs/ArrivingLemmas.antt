@@ -18,7 +18,8 @@ abbrev made : PortId → PortId → Join
 made a b = record { a = a; b = b }
 
 -- the links join the same ports
-pub joins_kept : (cables : List Cable) (place : ℕ) (old new : Cable) → slice_get cables place ≡ Some old → new.a ≡ old.a → new.b ≡ old.b
+pub joins_kept : (cables : List Cable) (place : ℕ) (old new : Cable) → slice_get cables place ≡ Some old
+    → new.a ≡ old.a → new.b ≡ old.b
     → map join_of (slice_set cables place new) ≡ map join_of cables
 joins_kept cables place old new here a b = map-set_same join_of cables place old new here (ap₂ made a b)
 
@@ -26,13 +27,15 @@ head_is : (f g : Frame) (fs gs : List Frame) → f ∷ fs ≡ g ∷ gs → f ≡
 head_is f g fs gs same = cc
 
 -- the frame that was the oldest has left, and is no longer pending
-pub taken : (lane : Lane) (now : ℕ) (octets : List ℕ) (cables : List Cable) (old new : Cable) (pending after : PendingState)
+pub taken : (lane : Lane) (now : ℕ) (octets : List ℕ) (cables : List Cable) (old new : Cable)
+    (pending after : PendingState)
     (oldest : Frame) (rest : List Frame) → slice_get cables lane.link ≡ Some old → new.a ≡ old.a → new.b ≡ old.b
     → links.ChangesOnly lane.direction old.link new.link
     → (links.queue lane.direction old.link).frames ≡ oldest ∷ rest → oldest.due ≡ now
     → IsTaken (links.queue lane.direction old.link).frames octets (links.queue lane.direction new.link).frames
     → after.entries ≡ without_first (Arrival lane.link lane.direction) pending.entries
-    → Takes lane.link lane.direction now octets (channel_of old) (net_of cables pending) (net_of (slice_set cables lane.link new) after)
+    → Takes lane.link lane.direction now octets (channel_of old) (net_of cables pending)
+    (net_of (slice_set cables lane.link new) after)
 taken lane now octets cables old new pending after oldest rest here a b only front due is entries =
     let left : List Frame = (links.queue lane.direction new.link).frames in
     let same : frame is.due octets ≡ oldest = head_is (frame is.due octets) oldest left rest (sym is.oldest ∙ front) in

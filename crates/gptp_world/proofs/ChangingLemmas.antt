@@ -13,7 +13,8 @@ use Rattle.gptp_world.proofs.ArrivingLemmas.{joins_kept}
 abbrev made : List Channel → List Entry → Net
 made channels pending = record { channels = channels; pending = pending }
 
-pub net_changed : (cables : List Cable) (place : ℕ) (new : Cable) (channel : Channel) (after : PendingState) (entries : List Entry)
+pub net_changed : (cables : List Cable) (place : ℕ) (new : Cable) (channel : Channel) (after : PendingState)
+    (entries : List Entry)
     → channel_of new ≡ channel → after.entries ≡ entries
     → net_of (slice_set cables place new) after ≡ made (slice_set (map channel_of cables) place channel) entries
 net_changed cables place new channel after entries is pending =
@@ -21,8 +22,10 @@ net_changed cables place new channel after entries is pending =
     map-set channel_of cables place new ∙ ap (slice_set (map channel_of cables) place) is in
     rw (channels, pending) refl
 
-pub still_net : (net net' : Between) (place : ℕ) (old new : Cable) → IsNet net → slice_get net.cables.items place ≡ Some old
-    → new.a ≡ old.a → new.b ≡ old.b → net'.directory ≡ net.directory → net'.cables.items ≡ slice_set net.cables.items place new
+pub still_net : (net net' : Between) (place : ℕ) (old new : Cable) → IsNet net
+    → slice_get net.cables.items place ≡ Some old
+    → new.a ≡ old.a → new.b ≡ old.b → net'.directory ≡ net.directory
+    → net'.cables.items ≡ slice_set net.cables.items place new
     → net'.pending.links ≡ net.pending.links → IsNet net'
 still_net net net' place old new is here a b directory cables links =
     let joins : map join_of (slice_set net.cables.items place new) ≡ map join_of net.cables.items =

@@ -27,8 +27,11 @@ in_middle [] after e = inl refl
 in_middle (x ∷ xs) after e = inr (in_middle xs after e)
 
 pub next_earlier : (es : List Entry) (due time : ℕ) (item : Item) → IsNext es due item → due < time → IsEarlier time es
-next_earlier es due time item next less =
-    (entry due item, subst (In (entry due item)) (sym next.is) (in_middle next.before next.after (entry due item)), less)
+next_earlier es due time item next less = (
+  entry due item,
+  subst (In (entry due item)) (sym next.is) (in_middle next.before next.after (entry due item)),
+  less,
+)
 
 -- ---- what is found is there
 
@@ -126,27 +129,32 @@ no_timer_of (changes.Fail number) w place timer is = is
 no_timer_of (changes.Recover number) w place timer is = is
 no_timer_of (changes.Priority1 number value) w place timer is = is
 
-pub arrival_due : (act : Act) (time : ℕ) (w : WorldState) (lane : Lane) (test : Bool) → IsAimOf act w (aims.Arrival lane)
-    → ((channel : Channel) → slice_get w.net.channels lane.link ≡ Some channel → IsTrue test ↔ IsOldestDue lane.direction time channel)
+pub arrival_due : (act : Act) (time : ℕ) (w : WorldState) (lane : Lane) (test : Bool)
+    → IsAimOf act w (aims.Arrival lane)
+    → ((channel : Channel) → slice_get w.net.channels lane.link ≡ Some channel → IsTrue test
+    ↔ IsOldestDue lane.direction time channel)
     → IsTrue test ↔ IsDueThen act time w
 arrival_due (Deliver link direction) time w lane test is told = (
   λ yes. record {
     channel = is.1.1.channel;
     here = is.1.1.here;
-    so = subst (λ d. IsOldestDue d time is.1.1.channel) is.1.0 ((told is.1.1.channel (at is.1.1.channel is.1.1.here)).0 yes);
+    so = subst (λ d. IsOldestDue d time is.1.1.channel) is.1.0
+        ((told is.1.1.channel (at is.1.1.channel is.1.1.here)).0 yes);
   },
   λ due. (told due.channel (at due.channel due.here)).1
       (subst (λ d. IsOldestDue d time due.channel) (sym is.1.0) due.so),
 )
   where
-    at : (channel : Channel) → slice_get w.net.channels link ≡ Some channel → slice_get w.net.channels lane.link ≡ Some channel
+    at : (channel : Channel) → slice_get w.net.channels link ≡ Some channel
+        → slice_get w.net.channels lane.link ≡ Some channel
     at channel here = ap (slice_get w.net.channels) is.0 ∙ here
 arrival_due (Expire number timer) time w lane test is told = absurd is
 arrival_due (Changing c) time w lane test is told = absurd (no_arrival_of c w lane is)
 
 pub timer_due : (act : Act) (time : ℕ) (stage : Stage) (place : ℕ) (timer : Timer) (test : Bool) → IsStage stage
     → IsDirectory stage.net.directory → IsAimOf act (world_of stage) (aims.Timer place timer)
-    → ((station : Station) → slice_get stage.stations.items place ≡ Some station → IsTrue test ↔ (station_due timer station ≡ Some time))
+    → ((station : Station) → slice_get stage.stations.items place ≡ Some station → IsTrue test
+    ↔ (station_due timer station ≡ Some time))
     → IsTrue test ↔ IsDueThen act time (world_of stage)
 timer_due (Deliver link direction) time stage place timer test on directory is told = absurd is
 timer_due (Expire number own) time stage place timer test on directory is told = (
@@ -157,10 +165,14 @@ timer_due (Expire number own) time stage place timer test on directory is told =
     so = subst (λ t. station_due t is.0.station ≡ Some time) is.1 ((told is.0.station is.0.is.here).0 yes);
   },
   λ due.
-      let one = system_clock stage number on (record { place = place; station = is.0.station; is = is.0.is; so = tt }) in
-      let other = system_clock stage number on (record { place = due.place; station = due.station; is = due.is; so = tt }) in
+      let one = system_clock stage number on
+      (record { place = place; station = is.0.station; is = is.0.is; so = tt }) in
+      let other = system_clock stage number on
+      (record { place = due.place; station = due.station; is = due.is; so = tt }) in
       let same : due.place ≡ place = directory.plan.differ due.place place number other one in
-      let here : slice_get stage.stations.items place ≡ Some due.station = ap (slice_get stage.stations.items) (sym same) ∙ due.is.here in
+      let here : slice_get stage.stations.items place
+      ≡ Some due.station = ap (slice_get stage.stations.items) (sym same) ∙ due.is.here in
       (told due.station here).1 (subst (λ t. station_due t due.station ≡ Some time) (sym is.1) due.so),
 )
-timer_due (Changing c) time stage place timer test on directory is told = absurd (no_timer_of c (world_of stage) place timer is)
+timer_due (Changing c) time stage place timer test on directory is told =
+    absurd (no_timer_of c (world_of stage) place timer is)

@@ -18,7 +18,8 @@ use Rattle.gptp_acts.proofs.PlaceLemmas.{get-map}
 -- the directory knows the ports that a link joins
 pub known_join : (net : Between) (link : ℕ) (cable : Cable) → IsNet net → slice_get net.cables.items link ≡ Some cable
     → slice_get net.directory.joins link ≡ Some (join_of cable)
-known_join net link cable is here = ap (λ js. slice_get js link) (sym is.joins) ∙ get-map join_of net.cables.items link cable here
+known_join net link cable is here =
+    ap (λ js. slice_get js link) (sym is.joins) ∙ get-map join_of net.cables.items link cable here
 
 pub end_same : (d : Direction) (cable : Cable) → end_of d (join_of cable) ≡ receiver d (channel_of cable)
 end_same FromA cable = refl
@@ -35,13 +36,15 @@ pub record StandsAt (stage : Stage) (place number : ℕ) : Type 0 where
   pub here : slice_get stage.stations.items place ≡ Some station
   pub named : clock_at station ≡ number
 
-pub station_at : (stage : Stage) (place number : ℕ) → IsStage stage → slice_get stage.net.directory.clocks place ≡ Some number
+pub station_at : (stage : Stage) (place number : ℕ) → IsStage stage
+    → slice_get stage.net.directory.clocks place ≡ Some number
     → StandsAt stage place number
 station_at stage place number is there =
     let made = from_map clock_at stage.stations.items place number (ap (λ cs. slice_get cs place) is.clocks ∙ there) in
     record { station = made.one; here = made.there; named = sym made.is }
 
-pub place_within : (stage : Stage) (place number : ℕ) → IsStage stage → slice_get stage.net.directory.clocks place ≡ Some number
+pub place_within : (stage : Stage) (place number : ℕ) → IsStage stage
+    → slice_get stage.net.directory.clocks place ≡ Some number
     → place < length stage.stations.items
 place_within stage place number is there =
     let at = station_at stage place number is there in slice_get_within stage.stations.items place at.station at.here

@@ -172,14 +172,16 @@ pub initial_ports : (n : NetworkState) → IsNetwork n → JoinPorts (initial n)
 initial_ports n is link place direction channel station here there named =
     let x = mapped channel_from n.links link channel here in
     let y = mapped (station_of n.params) n.systems place station there in
-    let port = subst (λ c. IsPort n.systems (sender direction c)) x.2 (end_port n direction x.0 link (is.links link x.0 x.1)) in
+    let port = subst (λ c. IsPort n.systems (sender direction c)) x.2
+    (end_port n direction x.0 link (is.links link x.0 x.1)) in
     let one : clock_of y.0.identity ≡ clock_of port.system.identity =
     ap (λ (s : Station). clock s.system) y.2 ∙ named ∙ sym port.clock in
     let same : place ≡ port.place = is.clocks place port.place y.0 port.system y.1 port.there one in
     let members : y.0 ≡ port.system =
     same_Some y.0 port.system (sym y.1 ∙ (ap (slice_get n.systems) same ∙ port.there)) in
     let count : length station.system.ports ≡ port.system.ports =
-    ap (λ (s : Station). length s.system.ports) (sym y.2) ∙ (ports_counted n y.0 ∙ ap (λ (m : Member). m.ports) members) in
+    ap (λ (s : Station). length s.system.ports) (sym y.2)
+    ∙ (ports_counted n y.0 ∙ ap (λ (m : Member). m.ports) members) in
     let last = port.last in
     record { least = port.first; most = rw count last }
 
@@ -210,7 +212,8 @@ joined (cable ∷ cables) (w ∷ wires) e =
     let head : channel_of cable ≡ channel_from w = cc in
     let tail : map channel_of cables ≡ map channel_from wires = cc in
     let join : Channel → Join = λ channel. record { a = channel.a; b = channel.b } in
-    ap (λ (one : Join). one ∷ map join_of cables) (ap join head) ∙ ap (λ rest. join (channel_from w) ∷ rest) (joined cables wires tail)
+    ap (λ (one : Join). one ∷ map join_of cables) (ap join head)
+    ∙ ap (λ rest. join (channel_from w) ∷ rest) (joined cables wires tail)
 
 cables_counted : (cables : List Cable) (wires : List Wire) → map channel_of cables ≡ map channel_from wires
     → length cables ≡ length wires

@@ -15,10 +15,12 @@ use Rattle.gptp_world.specs.Starting.{HasRoomToStart}
 use Rattle.gptp_world.specs.Telling.{HasRoomAtEnds}
 use Rattle.gptp_acts.specs.World.{WorldState}
 
-change_later : (c : Change) (w : WorldState) (time : ℕ) (aim : Aim) → IsAimOfChange c w aim → IsAimOfChange c (at time w) aim
+change_later : (c : Change) (w : WorldState) (time : ℕ) (aim : Aim) → IsAimOfChange c w aim
+    → IsAimOfChange c (at time w) aim
 change_later (changes.LinkDown number port) w time (aims.Arrival lane) is = is
 change_later (changes.LinkDown number port) w time (aims.Timer place set) is = is
-change_later (changes.LinkDown number port) w time (aims.LinkDown link) is = record { channel = is.channel; is = record { here = is.is.here; joined = is.is.joined } }
+change_later (changes.LinkDown number port) w time (aims.LinkDown link) is =
+    record { channel = is.channel; is = record { here = is.is.here; joined = is.is.joined } }
 change_later (changes.LinkDown number port) w time (aims.LinkUp link) is = is
 change_later (changes.LinkDown number port) w time (aims.LinkSet link bounds) is = is
 change_later (changes.LinkDown number port) w time (aims.Fail place) is = is
@@ -27,7 +29,8 @@ change_later (changes.LinkDown number port) w time (aims.Priority1 place set) is
 change_later (changes.LinkUp number port) w time (aims.Arrival lane) is = is
 change_later (changes.LinkUp number port) w time (aims.Timer place set) is = is
 change_later (changes.LinkUp number port) w time (aims.LinkDown link) is = is
-change_later (changes.LinkUp number port) w time (aims.LinkUp link) is = record { channel = is.channel; is = record { here = is.is.here; joined = is.is.joined } }
+change_later (changes.LinkUp number port) w time (aims.LinkUp link) is =
+    record { channel = is.channel; is = record { here = is.is.here; joined = is.is.joined } }
 change_later (changes.LinkUp number port) w time (aims.LinkSet link bounds) is = is
 change_later (changes.LinkUp number port) w time (aims.Fail place) is = is
 change_later (changes.LinkUp number port) w time (aims.Recover place) is = is
@@ -46,7 +49,8 @@ change_later (changes.Fail number) w time (aims.Timer place set) is = is
 change_later (changes.Fail number) w time (aims.LinkDown link) is = is
 change_later (changes.Fail number) w time (aims.LinkUp link) is = is
 change_later (changes.Fail number) w time (aims.LinkSet link bounds) is = is
-change_later (changes.Fail number) w time (aims.Fail place) is = record { station = is.station; is = record { here = is.is.here; named = is.is.named } }
+change_later (changes.Fail number) w time (aims.Fail place) is =
+    record { station = is.station; is = record { here = is.is.here; named = is.is.named } }
 change_later (changes.Fail number) w time (aims.Recover place) is = is
 change_later (changes.Fail number) w time (aims.Priority1 place set) is = is
 change_later (changes.Recover number) w time (aims.Arrival lane) is = is
@@ -55,7 +59,8 @@ change_later (changes.Recover number) w time (aims.LinkDown link) is = is
 change_later (changes.Recover number) w time (aims.LinkUp link) is = is
 change_later (changes.Recover number) w time (aims.LinkSet link bounds) is = is
 change_later (changes.Recover number) w time (aims.Fail place) is = is
-change_later (changes.Recover number) w time (aims.Recover place) is = record { station = is.station; is = record { here = is.is.here; named = is.is.named } }
+change_later (changes.Recover number) w time (aims.Recover place) is =
+    record { station = is.station; is = record { here = is.is.here; named = is.is.named } }
 change_later (changes.Recover number) w time (aims.Priority1 place set) is = is
 change_later (changes.Priority1 number value) w time (aims.Arrival lane) is = is
 change_later (changes.Priority1 number value) w time (aims.Timer place set) is = is
@@ -77,8 +82,14 @@ aim_later (Deliver on direction) w time (aims.Fail place) is = is
 aim_later (Deliver on direction) w time (aims.Recover place) is = is
 aim_later (Deliver on direction) w time (aims.Priority1 place set) is = is
 aim_later (Expire number timer) w time (aims.Arrival lane) is = is
-aim_later (Expire number timer) w time (aims.Timer place set) is =
-    (record { station = is.0.station; is = record { here = is.0.is.here; named = is.0.is.named }; timer_of = is.0.timer_of }, is.1)
+aim_later (Expire number timer) w time (aims.Timer place set) is = (
+  record {
+    station = is.0.station;
+    is = record { here = is.0.is.here; named = is.0.is.named };
+    timer_of = is.0.timer_of;
+  },
+  is.1,
+)
 aim_later (Expire number timer) w time (aims.LinkDown link) is = is
 aim_later (Expire number timer) w time (aims.LinkUp link) is = is
 aim_later (Expire number timer) w time (aims.LinkSet link bounds) is = is
@@ -102,7 +113,8 @@ due_later (Changing c) w time is = is
 abbrev pub at_time : ℕ → Stage → Stage
 at_time time stage = record stage { now = time }
 
-room_at : (place : ℕ) (stage : Stage) (time : ℕ) → HasRoomToCall 1 place stage → HasRoomToCall 1 place (at_time time stage)
+room_at : (place : ℕ) (stage : Stage) (time : ℕ) → HasRoomToCall 1 place stage
+    → HasRoomToCall 1 place (at_time time stage)
 room_at place stage time has = record { station = has.station; here = has.here; room = has.room }
 
 ends_at : (link : ℕ) (stage : Stage) (time : ℕ) → HasRoomAtEnds link stage → HasRoomAtEnds link (at_time time stage)
@@ -119,11 +131,14 @@ ends_at link stage time has = record {
   };
 }
 
-start_at : (place : ℕ) (stage : Stage) (time : ℕ) → HasRoomToStart place stage → HasRoomToStart place (at_time time stage)
+start_at : (place : ℕ) (stage : Stage) (time : ℕ) → HasRoomToStart place stage
+    → HasRoomToStart place (at_time time stage)
 start_at place stage time has = record { station = has.station; here = has.here; room = has.room }
 
-pub room_later : (aim : Aim) (stage : Stage) (time : ℕ) → HasRoomForAim aim stage → HasRoomForAim aim (at_time time stage)
-room_later (aims.Arrival lane) stage time has = λ join place there named. room_at place stage time (has join place there named)
+pub room_later : (aim : Aim) (stage : Stage) (time : ℕ) → HasRoomForAim aim stage
+    → HasRoomForAim aim (at_time time stage)
+room_later (aims.Arrival lane) stage time has =
+    λ join place there named. room_at place stage time (has join place there named)
 room_later (aims.Timer place set) stage time has = room_at place stage time has
 room_later (aims.LinkDown link) stage time has = ends_at link stage time has
 room_later (aims.LinkUp link) stage time has = ends_at link stage time has

@@ -21,7 +21,8 @@ use Rattle.gptp_world.proofs.SendingLemmas.{same_lane}
 
 -- ---- more and less
 
-pub fewer : (less more : ℕ) (lane : Lane) (cables : List Cable) (pending : PendingState) → less ≤ more → HasRoomOn more lane cables pending
+pub fewer : (less more : ℕ) (lane : Lane) (cables : List Cable) (pending : PendingState) → less ≤ more
+    → HasRoomOn more lane cables pending
     → HasRoomOn less lane cables pending
 fewer less more lane cables pending at_most has =
     let room = has.room in let arrivals = has.arrivals in
@@ -37,12 +38,14 @@ pub covered : (large small : Need) (net : Between) → Covers large small → Ha
 covered large small net covers has = record {
   entries = let had = has.entries in let less = covers.entries in omega arith;
   buffers = let had = has.buffers in let less = covers.buffers in omega arith;
-  lanes = λ port lane begins. fewer (small.frames port) (large.frames port) lane net.cables.items net.pending (covers.frames port)
+  lanes = λ port lane begins. fewer (small.frames port) (large.frames port) lane net.cables.items net.pending
+      (covers.frames port)
       (has.lanes port lane begins);
 }
 
 -- what uses no more than that uses no more than a larger need
-pub uses_less : (large small : Need) (net net' : Between) → Covers large small → Uses small net net' → Uses large net net'
+pub uses_less : (large small : Need) (net net' : Between) → Covers large small → Uses small net net'
+    → Uses large net net'
 uses_less large small net net' covers uses = record {
   directory = uses.directory;
   systems = uses.systems;
@@ -59,7 +62,9 @@ pub uses_both : (first second : Need) (net between net' : Between) → Uses firs
 uses_both first second net between net' a b = record {
   directory = b.directory ∙ a.directory;
   systems = b.systems ∙ a.systems;
-  left = λ more has. b.left more (a.left (both second more) (covered (both (both first second) more) (both first (both second more)) net
+  left = λ more has.
+      b.left more (a.left (both second more)
+      (covered (both (both first second) more) (both first (both second more)) net
       (record {
         entries = omega arith;
         buffers = omega arith;
@@ -85,7 +90,8 @@ uses_nothing net net' directory systems entries buffers lanes = record {
 }
 
 -- what is left once the first of two was used
-pub left_of : (first second : Need) (net net' : Between) → Uses first net net' → HasRoom (both first second) net → HasRoom second net'
+pub left_of : (first second : Need) (net net' : Between) → Uses first net net' → HasRoom (both first second) net
+    → HasRoom second net'
 left_of first second net net' uses has = uses.left second has
 
 pub nothing_with : (need : Need) → Covers need (both nothing need)
@@ -95,7 +101,8 @@ nothing_with need = record { entries = omega arith; buffers = omega arith; frame
 
 pub uses_timers : (used : ℕ) (net net' : Between) → OnlyEntries used net net' → Uses (for_timers used) net net'
 uses_timers used net net' only =
-    let cables = only.cables in let directory = only.directory in let rooms = only.rooms in let buffers = only.buffers in
+    let cables = only.cables in let directory = only.directory in let rooms = only.rooms in
+    let buffers = only.buffers in
     record {
       directory = directory;
       systems = only.systems;
@@ -135,7 +142,8 @@ sends_from-append clock xs ys port = by (port.clock == clock) refl
     by false test = rw test (omega arith)
 
 -- sends one after another need what they need together
-pub sends_covered : (clock : ℕ) (xs ys : List Sending) → Covers (for_sends clock (xs ++ ys)) (both (for_sends clock xs) (for_sends clock ys))
+pub sends_covered : (clock : ℕ) (xs ys : List Sending)
+    → Covers (for_sends clock (xs ++ ys)) (both (for_sends clock xs) (for_sends clock ys))
 sends_covered clock xs ys = record {
   entries = let same = length-append xs ys in omega (arith, same);
   buffers = let same = length-append xs ys in omega (arith, same);
@@ -161,14 +169,17 @@ one_from clock x = let same = eq-eqb clock clock refl in let at = eq-eqb x.port 
 pub room_first : (clock : ℕ) (x : Sending) (net : Between) (lane : Lane) → HasRoom (for_sends clock (x ∷ [])) net
     → IsUpLane net (port_id clock x.port) lane → HasRoomOn 1 lane net.cables.items net.pending
 room_first clock x net lane has up =
-    subst (λ n. HasRoomOn n lane net.cables.items net.pending) (one_from clock x) (has.lanes (port_id clock x.port) lane up.begins)
+    subst (λ n. HasRoomOn n lane net.cables.items net.pending) (one_from clock x)
+    (has.lanes (port_id clock x.port) lane up.begins)
 
 -- a send that goes onto a lane uses room for one frame there
 pub sent_uses : (clock : ℕ) (x : Sending) (net net' : Between) (lane : Lane) → net'.directory ≡ net.directory
     → net'.pending.systems ≡ net.pending.systems → BeginsAt net.directory.joins (port_id clock x.port) lane
     → net.pending.room ≤ net'.pending.room + 1 → net.buffers.ready ≤ net'.buffers.ready + 1
-    → ((more : ℕ) (other : Lane) → HasRoomOn (more + 1) other net.cables.items net.pending → HasRoomOn more other net'.cables.items net'.pending)
-    → ((more : ℕ) (other : Lane) → other ≢ lane → HasRoomOn more other net.cables.items net.pending → HasRoomOn more other net'.cables.items net'.pending)
+    → ((more : ℕ) (other : Lane) → HasRoomOn (more + 1) other net.cables.items net.pending
+    → HasRoomOn more other net'.cables.items net'.pending)
+    → ((more : ℕ) (other : Lane) → other ≢ lane → HasRoomOn more other net.cables.items net.pending
+    → HasRoomOn more other net'.cables.items net'.pending)
     → Uses (for_sends clock (x ∷ [])) net net'
 sent_uses clock x net net' lane same systems begins entries buffers room elsewhere = record {
   directory = same;
@@ -182,14 +193,18 @@ sent_uses clock x net net' lane same systems begins entries buffers room elsewhe
   };
 }
   where
-    ports : (port : PortId) (other : Lane) → BeginsAt net.directory.joins port other → other ≡ lane → port_id clock x.port ≡ port
+    ports : (port : PortId) (other : Lane) → BeginsAt net.directory.joins port other → other ≡ lane
+        → port_id clock x.port ≡ port
     ports port other starts one =
         let here : slice_get net.directory.joins lane.link ≡ Some starts.join =
         ap (λ (l : Lane). slice_get net.directory.joins l.link) (sym one) ∙ starts.there in
         let joins : begins.join ≡ starts.join = same_Some begins.join starts.join (sym begins.there ∙ here) in
-        sym begins.begins ∙ (ap (start_of lane.direction) joins ∙ (ap (λ (l : Lane). start_of l.direction starts.join) (sym one) ∙ starts.begins))
+        sym begins.begins
+        ∙ (ap (start_of lane.direction) joins
+        ∙ (ap (λ (l : Lane). start_of l.direction starts.join) (sym one) ∙ starts.begins))
 
-    by : (more : Need) (port : PortId) (other : Lane) → BeginsAt net.directory.joins port other → (other ≡ lane) ⊎ (other ≢ lane)
+    by : (more : Need) (port : PortId) (other : Lane) → BeginsAt net.directory.joins port other → (other ≡ lane)
+        ⊎ (other ≢ lane)
         → HasRoomOn ((both (for_sends clock (x ∷ [])) more).frames port) other net.cables.items net.pending
         → HasRoomOn (more.frames port) other net'.cables.items net'.pending
     by more port other starts (inl is) had =
@@ -199,7 +214,8 @@ sent_uses clock x net net' lane same systems begins entries buffers room elsewhe
         room (more.frames port) other (subst (λ n. HasRoomOn n other net.cables.items net.pending) next had)
     by more port other starts (inr apart) had =
         elsewhere (more.frames port) other apart
-        (fewer (more.frames port) ((both (for_sends clock (x ∷ [])) more).frames port) other net.cables.items net.pending (omega arith) had)
+        (fewer (more.frames port) ((both (for_sends clock (x ∷ [])) more).frames port) other net.cables.items
+        net.pending (omega arith) had)
 
 -- ---- one call, and several
 
@@ -208,7 +224,8 @@ pub once : (need : Need) → Covers (repeated 1 need) need
 once need = record { entries = omega arith; buffers = omega arith; frames = λ port. omega arith }
 
 -- so many times as much
-pub repeated-covered : (count : ℕ) (need large : Need) → count * need.entries ≤ large.entries → count * need.buffers ≤ large.buffers
+pub repeated-covered : (count : ℕ) (need large : Need) → count * need.entries ≤ large.entries
+    → count * need.buffers ≤ large.buffers
     → ((port : PortId) → count * need.frames port ≤ large.frames port) → Covers large (repeated count need)
 repeated-covered count need large entries buffers frames = record {
   entries = rw (entries_of count) entries;

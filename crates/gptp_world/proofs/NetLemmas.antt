@@ -23,7 +23,8 @@ pub record MadeOf {X Y : Type 0} (f : X → Y) (xs : List X) (i : ℕ) (y : Y) :
   pub there : slice_get xs i ≡ Some one
   pub is : y ≡ f one
 
-pub from_map : {X Y : Type 0} (f : X → Y) (xs : List X) (i : ℕ) (y : Y) → slice_get (map f xs) i ≡ Some y → MadeOf f xs i y
+pub from_map : {X Y : Type 0} (f : X → Y) (xs : List X) (i : ℕ) (y : Y) → slice_get (map f xs) i ≡ Some y
+    → MadeOf f xs i y
 from_map f [] i y is = absurd (none-some y is)
 from_map f (x ∷ xs) zero y is = record { one = x; there = refl; is = sym (same_Some (f x) y is) }
 from_map f (x ∷ xs) (suc i) y is =
@@ -38,7 +39,8 @@ lane_of link direction = record { link = link; direction = direction }
 
 -- the link of a lane that the directory knows stands among the links
 pub known_cable : (net : Between) (port : PortId) (lane : Lane) → IsNet net → BeginsAt net.directory.joins port lane
-    → (cable : Cable) × (slice_get net.cables.items lane.link ≡ Some cable) × (sender lane.direction (channel_of cable) ≡ port)
+    → (cable : Cable) × (slice_get net.cables.items lane.link ≡ Some cable)
+    × (sender lane.direction (channel_of cable) ≡ port)
 known_cable net port lane is begins =
     let there : slice_get (map join_of net.cables.items) lane.link ≡ Some begins.join =
     ap (λ js. slice_get js lane.link) is.joins ∙ begins.there in
@@ -70,14 +72,18 @@ pub unlinked_down : (net : Between) (port : PortId) (lane : Lane) (cable : Cable
     → ((other : Lane) → BeginsAt net.directory.joins port other → lane ≡ other)
     → slice_get net.cables.items lane.link ≡ Some cable → cable.link.up ≡ false → IsUnlinked (between net) port
 unlinked_down net port lane cable is only here down = λ place direction channel there begins.
-    let one : lane ≡ lane_of place direction = only (lane_of place direction) (known_lane net port place direction channel is there begins) in
+    let one : lane
+    ≡ lane_of place direction =
+    only (lane_of place direction) (known_lane net port place direction channel is there begins) in
     let made = from_map channel_of net.cables.items place channel there in
     let places : lane.link ≡ place = ap (λ (l : Lane). l.link) one in
-    let same : made.one ≡ cable = same_Some made.one cable (sym made.there ∙ (ap (slice_get net.cables.items) (sym places) ∙ here)) in
+    let same : made.one
+    ≡ cable = same_Some made.one cable (sym made.there ∙ (ap (slice_get net.cables.items) (sym places) ∙ here)) in
     ap (λ (w : Channel). w.up) made.is ∙ (ap (λ (c : Cable). c.link.up) same ∙ down)
 
 -- links that were written through a slice
-pub written_back : {Z : Type 0} (cables : Vec Cable Z) (slice written : List Cable) → slice ≡ cables.items → map join_of written ≡ map join_of slice
+pub written_back : {Z : Type 0} (cables : Vec Cable Z) (slice written : List Cable) → slice ≡ cables.items
+    → map join_of written ≡ map join_of slice
     → (with_items cables written).items ≡ written
 written_back cables slice written is joins =
     let same : length written ≡ length cables.items =

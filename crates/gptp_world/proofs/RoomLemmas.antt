@@ -30,19 +30,23 @@ use Rattle.gptp_acts.proofs.PlaceLemmas.{get-map, get-set_same, get-set_other, s
 -- ---- one link
 
 -- a link that only got room
-pub channel_kept : (cable : Cable) (link : links.State) → links.SameFrames cable.link link → channel_of (record cable { link = link }) ≡ channel_of cable
+pub channel_kept : (cable : Cable) (link : links.State) → links.SameFrames cable.link link
+    → channel_of (record cable { link = link }) ≡ channel_of cable
 channel_kept cable link same =
     let from_a = same.from_a in let from_b = same.from_b in let bounds = same.bounds in let up = same.up in
     rw (from_a, from_b, bounds, up) refl
 
-queue_roomier : (d : Direction) (old new : links.State) → links.KeepsRoom old new → (links.queue d old).room ≤ (links.queue d new).room
+queue_roomier : (d : Direction) (old new : links.State) → links.KeepsRoom old new
+    → (links.queue d old).room ≤ (links.queue d new).room
 queue_roomier FromA old new kept = kept.from_a
 queue_roomier FromB old new kept = kept.from_b
 
-pub kept_on : (cables : List Cable) (link : ℕ) (old new : Cable) (pending pending' : PendingState) → slice_get cables link ≡ Some old
+pub kept_on : (cables : List Cable) (link : ℕ) (old new : Cable) (pending pending' : PendingState)
+    → slice_get cables link ≡ Some old
     → links.KeepsRoom old.link new.link → KeepsArrivalRoom pending pending'
     → KeepsRoomOn cables pending (slice_set cables link new) pending'
-kept_on cables link old new pending pending' here roomier arrivals = λ more lane has. by more lane has (same_place lane.link link)
+kept_on cables link old new pending pending' here roomier arrivals =
+    λ more lane has. by more lane has (same_place lane.link link)
   where
     by : (more : ℕ) (lane : Lane) → HasRoomOn more lane cables pending → (lane.link ≡ link) ⊎ (lane.link ≢ link)
         → HasRoomOn more lane (slice_set cables link new) pending'
@@ -66,8 +70,10 @@ kept_on cables link old new pending pending' here roomier arrivals = λ more lan
           arrivals = omega arith;
         }
 
-pub both_ways : (more link : ℕ) (cables : List Cable) (old new : Cable) (pending : PendingState) → slice_get cables link ≡ Some old
-    → links.HasRoom more new.link → HasArrivalRoom link more pending → HasRoomBothWays more link (slice_set cables link new) pending
+pub both_ways : (more link : ℕ) (cables : List Cable) (old new : Cable) (pending : PendingState)
+    → slice_get cables link ≡ Some old
+    → links.HasRoom more new.link → HasArrivalRoom link more pending
+    → HasRoomBothWays more link (slice_set cables link new) pending
 both_ways more link cables old new pending here room arrivals = λ direction. record {
   cable = new;
   here = get-set_same cables link old new here;
@@ -96,7 +102,8 @@ nothing_changes net = record {
   lanes = λ more lane has. has;
 }
 
-pub one_after_another : (first second third : Between) → OnlyRoom first second → OnlyRoom second third → OnlyRoom first third
+pub one_after_another : (first second third : Between) → OnlyRoom first second → OnlyRoom second third
+    → OnlyRoom first third
 one_after_another first second third a b =
     let entries-a = a.entries in let entries-b = b.entries in let buffers-a = a.buffers in let buffers-b = b.buffers in
     record {
@@ -117,7 +124,8 @@ joins_by [] = refl
 joins_by (c ∷ cs) = ap (λ js. join_of c ∷ js) (joins_by cs)
 
 -- links that only got room join the same ports
-pub joins_kept : (cables cables' : List Cable) → map channel_of cables' ≡ map channel_of cables → map join_of cables' ≡ map join_of cables
+pub joins_kept : (cables cables' : List Cable) → map channel_of cables' ≡ map channel_of cables
+    → map join_of cables' ≡ map join_of cables
 joins_kept cables cables' same = sym (joins_by cables') ∙ (ap (map ends_of) same ∙ joins_by cables)
 
 pub net_stays : (net net' : Between) → OnlyRoom net net' → IsNet net → IsNet net'
@@ -131,7 +139,8 @@ net_stays net net' only is =
       links = rw (count, links) is.links;
     }
 
-pub from_kept : (more : ℕ) (port : PortId) (net net' : Between) → OnlyRoom net net' → HasRoomFrom more port net → HasRoomFrom more port net'
+pub from_kept : (more : ℕ) (port : PortId) (net net' : Between) → OnlyRoom net net' → HasRoomFrom more port net
+    → HasRoomFrom more port net'
 from_kept more port net net' only has = λ lane begins.
     let directory = only.directory in only.lanes more lane (has lane (rw (← directory) begins))
 
@@ -140,21 +149,27 @@ from_kept more port net net' only has = λ lane begins.
 pub no_ports : (more place : ℕ) (net : Between) → HasRoomAtPorts more place 0 net
 no_ports more place net = λ clock p here least most. absurd (omega arith)
 
-pub one_more_port : (more place ports : ℕ) (net net' : Between) → OnlyRoom net net' → HasRoomAtPorts more place ports net
-    → ((clock : ℕ) → slice_get net'.directory.clocks place ≡ Some clock → HasRoomFrom more (port_id clock (ports + 1)) net')
+pub one_more_port : (more place ports : ℕ) (net net' : Between) → OnlyRoom net net'
+    → HasRoomAtPorts more place ports net
+    → ((clock : ℕ) → slice_get net'.directory.clocks place ≡ Some clock
+    → HasRoomFrom more (port_id clock (ports + 1)) net')
     → HasRoomAtPorts more place (ports + 1) net'
-one_more_port more place ports net net' only has last = λ clock p here least most. by clock p here least most (same_place p (ports + 1))
+one_more_port more place ports net net' only has last =
+    λ clock p here least most. by clock p here least most (same_place p (ports + 1))
   where
-    by : (clock p : ℕ) → slice_get net'.directory.clocks place ≡ Some clock → 1 ≤ p → p ≤ ports + 1 → (p ≡ ports + 1) ⊎ (p ≢ ports + 1)
+    by : (clock p : ℕ) → slice_get net'.directory.clocks place ≡ Some clock → 1 ≤ p → p ≤ ports + 1 → (p ≡ ports + 1)
+        ⊎ (p ≢ ports + 1)
         → HasRoomFrom more (port_id clock p) net'
     by clock p here least most (inl is) = rw is (last clock here)
     by clock p here least most (inr apart) =
         let directory = only.directory in
-        from_kept more (port_id clock p) net net' only (has clock p (rw (← directory) here) least (omega (arith, apart)))
+        from_kept more (port_id clock p) net net' only
+        (has clock p (rw (← directory) here) least (omega (arith, apart)))
 
 -- ---- the stage
 
-pub stage_stays : (stage stage' : Stage) → stage'.stations ≡ stage.stations → stage'.now ≡ stage.now → stage'.outbox.items ≡ stage.outbox.items
+pub stage_stays : (stage stage' : Stage) → stage'.stations ≡ stage.stations → stage'.now ≡ stage.now
+    → stage'.outbox.items ≡ stage.outbox.items
     → OnlyRoom stage.net stage'.net → IsStage stage → IsStage stage'
 stage_stays stage stage' stations now outbox only is =
     let directory = only.directory in let systems = only.systems in
@@ -171,7 +186,8 @@ stage_stays stage stage' stations now outbox only is =
 pub ports_kept : (more place ports : ℕ) (net net' : Between) → OnlyRoom net net' → HasRoomAtPorts more place ports net
     → HasRoomAtPorts more place ports net'
 ports_kept more place ports net net' only has = λ number p here least most.
-    let directory = only.directory in from_kept more (port_id number p) net net' only (has number p (rw (← directory) here) least most)
+    let directory = only.directory in
+    from_kept more (port_id number p) net net' only (has number p (rw (← directory) here) least most)
 
 -- a lane that is known has room for none
 no_frames : (net : Between) (port : PortId) (lane : Lane) → IsNet net → BeginsAt net.directory.joins port lane
@@ -185,7 +201,8 @@ abbrev most_from : ℕ → ℕ → PortId → ℕ
 most_from more number port = if port.clock == number then more else 0
 
 -- so many frames from each port of the system at a place, and none from others
-pub frames_from : (stage : Stage) (more place : ℕ) (station : Station) → IsStage stage → slice_get stage.stations.items place ≡ Some station
+pub frames_from : (stage : Stage) (more place : ℕ) (station : Station) → IsStage stage
+    → slice_get stage.stations.items place ≡ Some station
     → HasRoomAtPorts more place (length station.system.ports) stage.net → (port : PortId) (lane : Lane)
     → BeginsAt stage.net.directory.joins port lane
     → HasRoomOn (most_from more (clock station.system) port) lane stage.net.cables.items stage.net.pending
@@ -203,7 +220,8 @@ frames_from stage more place station is here has port lane begins = by (eqb_tell
         rw test (has (clock station.system) port.port known range.0 range.1 lane starts)
     by (inr (test, apart)) = rw test (no_frames stage.net port lane is.net begins)
 
-times : (calls number : ℕ) (port : PortId) → calls * (if port.clock == number then 2 else 0) ≤ most_from (2 * calls) number port
+times : (calls number : ℕ) (port : PortId)
+    → calls * (if port.clock == number then 2 else 0) ≤ most_from (2 * calls) number port
 times calls number port = by (port.clock == number) refl
   where
     by : (test : Bool) → (port.clock == number) ≡ test
@@ -219,7 +237,8 @@ for_calls calls station = record {
   frames = most_from (2 * calls) (clock station.system);
 }
 
-calls_covered : (calls : ℕ) (station : Station) → Covers (for_calls calls station) (repeated calls (for_call station.system))
+calls_covered : (calls : ℕ) (station : Station)
+    → Covers (for_calls calls station) (repeated calls (for_call station.system))
 calls_covered calls station =
     repeated-covered calls (for_call station.system) (for_calls calls station) (omega arith) (omega arith)
     (times calls (clock station.system))
@@ -234,21 +253,31 @@ with_timers timers large small covers = record {
 }
 
 -- there is room for calls of a system whose ports all have it
-pub room_to_call : (stage : Stage) (calls place : ℕ) (station : Station) → IsStage stage → slice_get stage.stations.items place ≡ Some station
-    → calls * (6 * length station.system.ports + 2) ≤ stage.net.pending.room → calls * (2 * length station.system.ports) ≤ stage.net.buffers.ready
+pub room_to_call : (stage : Stage) (calls place : ℕ) (station : Station) → IsStage stage
+    → slice_get stage.stations.items place ≡ Some station
+    → calls * (6 * length station.system.ports + 2) ≤ stage.net.pending.room
+    → calls * (2 * length station.system.ports) ≤ stage.net.buffers.ready
     → HasRoomAtPorts (2 * calls) place (length station.system.ports) stage.net → HasRoomToCall calls place stage
 room_to_call stage calls place station is here entries buffers has = record {
   station = station;
   here = here;
-  room = covered (for_calls calls station) (repeated calls (for_call station.system)) stage.net (calls_covered calls station)
-      (record { entries = entries; buffers = buffers; lanes = frames_from stage (2 * calls) place station is here has });
+  room = covered (for_calls calls station) (repeated calls (for_call station.system)) stage.net
+      (calls_covered calls station)
+      (record {
+        entries = entries;
+        buffers = buffers;
+        lanes = frames_from stage (2 * calls) place station is here has;
+      });
 }
 
 -- and for a start
-pub room_to_start : (stage : Stage) (place : ℕ) (station : Station) → IsStage stage → slice_get stage.stations.items place ≡ Some station
-    → 4 * length station.system.ports + 2 + length station.system.ports * (6 * length station.system.ports + 2) ≤ stage.net.pending.room
+pub room_to_start : (stage : Stage) (place : ℕ) (station : Station) → IsStage stage
+    → slice_get stage.stations.items place ≡ Some station
+    → 4 * length station.system.ports + 2 + length station.system.ports * (6 * length station.system.ports + 2)
+    ≤ stage.net.pending.room
     → length station.system.ports * (2 * length station.system.ports) ≤ stage.net.buffers.ready
-    → HasRoomAtPorts (2 * length station.system.ports) place (length station.system.ports) stage.net → HasRoomToStart place stage
+    → HasRoomAtPorts (2 * length station.system.ports) place (length station.system.ports) stage.net
+    → HasRoomToStart place stage
 room_to_start stage place station is here entries buffers has =
     let count = length station.system.ports in let timers = 4 * count + 2 in let calls = for_calls count station in
     record {
@@ -256,17 +285,24 @@ room_to_start stage place station is here entries buffers has =
       here = here;
       room = covered (record calls { entries = timers + calls.entries }) (for_start station.system) stage.net
           (with_timers timers calls (repeated count (for_call station.system)) (calls_covered count station))
-          (record { entries = entries; buffers = buffers; lanes = frames_from stage (2 * count) place station is here has });
+          (record {
+            entries = entries;
+            buffers = buffers;
+            lanes = frames_from stage (2 * count) place station is here has;
+          });
     }
 
 -- systems at two places have two clocks
-pub clocks_apart : (stage : Stage) (first second : ℕ) (near far : Station) → IsStage stage → IsDirectory stage.net.directory
-    → slice_get stage.stations.items first ≡ Some near → slice_get stage.stations.items second ≡ Some far → first ≢ second
+pub clocks_apart : (stage : Stage) (first second : ℕ) (near far : Station) → IsStage stage
+    → IsDirectory stage.net.directory
+    → slice_get stage.stations.items first ≡ Some near → slice_get stage.stations.items second ≡ Some far
+    → first ≢ second
     → clock near.system ≢ clock far.system
 clocks_apart stage first second near far is directory here there apart = λ same.
     let known : (place : ℕ) (station : Station) → slice_get stage.stations.items place ≡ Some station
     → slice_get stage.net.directory.clocks place ≡ Some (clock station.system) =
-    λ place station at. ap (λ cs. slice_get cs place) (sym is.clocks) ∙ get-map clock_at stage.stations.items place station at in
+    λ place station at. ap (λ cs. slice_get cs place) (sym is.clocks)
+    ∙ get-map clock_at stage.stations.items place station at in
     apart (directory.plan.differ first second (clock near.system) (known first near here)
     (known second far there ∙ ap Some (sym same)))
 
@@ -283,7 +319,8 @@ pub room_to_call_both : (stage : Stage) (first second : ℕ) (near far : Station
     → clock near.system ≢ clock far.system
     → 6 * (length near.system.ports + length far.system.ports) + 4 ≤ stage.net.pending.room
     → 2 * (length near.system.ports + length far.system.ports) ≤ stage.net.buffers.ready
-    → HasRoomAtPorts 2 first (length near.system.ports) stage.net → HasRoomAtPorts 2 second (length far.system.ports) stage.net
+    → HasRoomAtPorts 2 first (length near.system.ports) stage.net
+    → HasRoomAtPorts 2 second (length far.system.ports) stage.net
     → HasRoomToCallBoth first second stage
 room_to_call_both stage first second near far is here there apart entries buffers has-near has-far = record {
   station_a = near;
@@ -305,19 +342,23 @@ room_to_call_both stage first second near far is here there apart entries buffer
         ⊎ ((eqb port.clock (clock near.system) ≡ false) × (port.clock ≢ clock near.system))
         → HasRoomOn (most_from 2 (clock near.system) port) lane stage.net.cables.items stage.net.pending
         → HasRoomOn (most_from 2 (clock far.system) port) lane stage.net.cables.items stage.net.pending
-        → HasRoomOn (most_from 2 (clock near.system) port + most_from 2 (clock far.system) port) lane stage.net.cables.items
+        → HasRoomOn (most_from 2 (clock near.system) port + most_from 2 (clock far.system) port) lane
+        stage.net.cables.items
         stage.net.pending
     by port lane (inl (test, same)) from-near from-far =
         let other = not_same port.clock (clock far.system) (λ e. apart (sym same ∙ e)) in
-        let only : most_from 2 (clock near.system) port + most_from 2 (clock far.system) port ≡ most_from 2 (clock near.system) port =
+        let only : most_from 2 (clock near.system) port + most_from 2 (clock far.system) port
+        ≡ most_from 2 (clock near.system) port =
         rw (test, other) (omega arith) in
         subst (λ n. HasRoomOn n lane stage.net.cables.items stage.net.pending) (sym only) from-near
     by port lane (inr (test, differ)) from-near from-far =
-        let only : most_from 2 (clock near.system) port + most_from 2 (clock far.system) port ≡ most_from 2 (clock far.system) port =
+        let only : most_from 2 (clock near.system) port + most_from 2 (clock far.system) port
+        ≡ most_from 2 (clock far.system) port =
         rw test (omega arith) in
         subst (λ n. HasRoomOn n lane stage.net.cables.items stage.net.pending) (sym only) from-far
 
 -- three things that hold where a call is not refused
-pub all_on_ok : {X E : Type 0} (r : Result X E) (P Q R S : Type 0) → (P → Q → R → S) → OnOk r P → OnOk r Q → OnOk r R → OnOk r S
+pub all_on_ok : {X E : Type 0} (r : Result X E) (P Q R S : Type 0) → (P → Q → R → S) → OnOk r P → OnOk r Q → OnOk r R
+    → OnOk r S
 all_on_ok (Ok x) P Q R S f p q r = f p q r
 all_on_ok (Err e) P Q R S f p q r = p

@@ -22,7 +22,8 @@ use Rattle.gptp_acts.proofs.SoundLemmas.{later_sound, starts_sound}
 -- ---- one system
 
 -- a system of a sound world can start
-pub can_start : (stage : Stage) (place : ℕ) → IsSound (world_of stage) → place < length stage.stations.items → CanStart place stage
+pub can_start : (stage : Stage) (place : ℕ) → IsSound (world_of stage) → place < length stage.stations.items
+    → CanStart place stage
 can_start stage place is less =
     let found = within stage.stations.items place less in
     record {
@@ -42,14 +43,16 @@ ready_sound act time w made is same ready =
     subst (λ (x : WorldState). IsSound (at time x)) (sym same) (later_sound w time w.last_change is ready.timely.first)
 
 -- one start is a list of one
-alone : (place : ℕ) (w : WorldState) (ds : List Draw) (w' : WorldState) → Starts place w ds w' → StartsAll (place ∷ []) w ds w'
+alone : (place : ℕ) (w : WorldState) (ds : List Draw) (w' : WorldState) → Starts place w ds w'
+    → StartsAll (place ∷ []) w ds w'
 alone place w ds w' starts = (ds, [], w', sym (append_none ds), starts, (refl, refl))
   where
     append_none : (xs : List Draw) → xs ++ [] ≡ xs
     append_none [] = refl
     append_none (x ∷ xs) = ap (λ ys. x ∷ ys) (append_none xs)
 
-pub start_sound : (place : ℕ) (w : WorldState) (ds : List Draw) (w' : WorldState) → IsSound w → Starts place w ds w' → IsSound w'
+pub start_sound : (place : ℕ) (w : WorldState) (ds : List Draw) (w' : WorldState) → IsSound w → Starts place w ds w'
+    → IsSound w'
 start_sound place w ds w' is starts = starts_sound (place ∷ []) w ds w' is (alone place w ds w' starts)
 
 calls_count : (place : ℕ) (inputs : List Input) (w : WorldState) (ds : List Draw) (w' : WorldState)
@@ -67,13 +70,22 @@ start_count place w ds w' starts =
 
 -- ---- one after another
 
-starts_more : (places : List ℕ) (place : ℕ) (w between after : WorldState) (ds es : List Draw) → StartsAll places w ds between
+starts_more : (places : List ℕ) (place : ℕ) (w between after : WorldState) (ds es : List Draw)
+    → StartsAll places w ds between
     → Starts place between es after → StartsAll (places ++ place ∷ []) w (ds ++ es) after
 starts_more [] place w between after ds es (none, is) starts =
-    let one : StartsAll (place ∷ []) w es after = alone place w es after (subst (λ (x : WorldState). Starts place x es after) is starts) in
+    let one : StartsAll (place ∷ []) w es after =
+    alone place w es after (subst (λ (x : WorldState). Starts place x es after) is starts) in
     rw none one
-starts_more (p ∷ ps) place w between after ds es (first, rest, next, are, start, starts) more =
-    (first, rest ++ es, next, ap (λ xs. xs ++ es) are ∙ associates first rest es, start, starts_more ps place next between after rest es starts more)
+starts_more (p ∷ ps) place w between after ds es (first, rest, next, are, start, starts) more = (
+  first,
+  rest ++ es,
+  next,
+  ap (λ xs. xs ++ es) are
+      ∙ associates first rest es,
+  start,
+  starts_more ps place next between after rest es starts more,
+)
   where
     associates : (xs ys zs : List Draw) → (xs ++ ys) ++ zs ≡ xs ++ (ys ++ zs)
     associates [] ys zs = refl
@@ -92,6 +104,7 @@ one_started answers count first second third stage between after so_far one =
     record {
       draws = so_far.draws ++ one.draws;
       drawn = draws.draws-append answers first second third so_far.draws one.draws so_far.drawn one.drawn;
-      starts = rw places (starts_more (range_with_len 0 count) count (world_of stage) (world_of between) (world_of after)
+      starts = rw places
+          (starts_more (range_with_len 0 count) count (world_of stage) (world_of between) (world_of after)
           so_far.draws one.draws so_far.starts one.starts);
     }

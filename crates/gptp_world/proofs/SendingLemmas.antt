@@ -21,7 +21,8 @@ use Rattle.gptp_world.specs.Cable.{net_of, channel_of, HasRoomOn, SentOne}
 use Rattle.gptp_acts.proofs.PlaceLemmas.{get-set_same, get-set_other, get-map, map-set, map-set_same, same_place}
 
 -- a link whose queue in one direction became another, and nothing else of it
-pub channel_sent : (d : Direction) (old new : Cable) (frames : List Frame) → new.a ≡ old.a → new.b ≡ old.b → links.ChangesOnly d old.link new.link
+pub channel_sent : (d : Direction) (old new : Cable) (frames : List Frame) → new.a ≡ old.a → new.b ≡ old.b
+    → links.ChangesOnly d old.link new.link
     → (links.queue d new.link).frames ≡ frames → channel_of new ≡ with_queue d frames (channel_of old)
 channel_sent FromA old new frames a b only is =
     let other = ap (λ (q : Queue). q.frames) only.other_way in
@@ -41,38 +42,47 @@ queue_kept FromA channel = refl
 queue_kept FromB channel = refl
 
 -- the net after a frame went out with this fate
-net_sent : (d : Direction) (place now : ℕ) (cables : List Cable) (old new : Cable) (octets : List ℕ) (answer : Option ℕ) (due : Option ℕ)
+net_sent : (d : Direction) (place now : ℕ) (cables : List Cable) (old new : Cable) (octets : List ℕ)
+    (answer : Option ℕ) (due : Option ℕ)
     (pending after : PendingState) → slice_get cables place ≡ Some old → new.a ≡ old.a → new.b ≡ old.b
     → links.ChangesOnly d old.link new.link → due ≡ option_map (due_after (links.queue d old.link).frames now) answer
     → (links.queue d new.link).frames ≡ with_sent (links.queue d old.link).frames due octets
     → after.entries ≡ put_if (Arrival place d) due pending.entries
-    → net_of (slice_set cables place new) after ≡ entered place d (channel_of old) now octets answer (net_of cables pending)
+    → net_of (slice_set cables place new) after
+    ≡ entered place d (channel_of old) now octets answer (net_of cables pending)
 net_sent d place now cables old new octets None due pending after here a b only due_is frames entries =
     let queue_is : (links.queue d new.link).frames ≡ (links.queue d old.link).frames =
     frames ∙ ap (λ u. with_sent (links.queue d old.link).frames u octets) due_is in
     let kept : channel_of new ≡ channel_of old =
     channel_sent d old new (links.queue d old.link).frames a b only queue_is
     ∙ (ap (λ q. with_queue d q (channel_of old)) (sym (queue_same d old)) ∙ queue_kept d (channel_of old)) in
-    let channels : map channel_of (slice_set cables place new) ≡ map channel_of cables = map-set_same channel_of cables place old new here kept in
-    let pending_is : after.entries ≡ pending.entries = entries ∙ ap (λ u. put_if (Arrival place d) u pending.entries) due_is in
+    let channels : map channel_of (slice_set cables place new)
+    ≡ map channel_of cables = map-set_same channel_of cables place old new here kept in
+    let pending_is : after.entries ≡ pending.entries = entries
+    ∙ ap (λ u. put_if (Arrival place d) u pending.entries) due_is in
     rw (channels, pending_is) refl
 net_sent d place now cables old new octets (Some delay) due pending after here a b only due_is frames entries =
     let time : ℕ = due_after (links.queue d old.link).frames now delay in
     let longer : List Frame = (links.queue d old.link).frames ++ frame time octets ∷ [] in
     let queue_is : (links.queue d new.link).frames ≡ longer =
     frames ∙ ap (λ u. with_sent (links.queue d old.link).frames u octets) due_is in
-    let channel : channel_of new ≡ with_queue d longer (channel_of old) = channel_sent d old new longer a b only queue_is in
-    let channels : map channel_of (slice_set cables place new) ≡ slice_set (map channel_of cables) place (with_queue d longer (channel_of old)) =
+    let channel : channel_of new
+    ≡ with_queue d longer (channel_of old) = channel_sent d old new longer a b only queue_is in
+    let channels : map channel_of (slice_set cables place new)
+    ≡ slice_set (map channel_of cables) place (with_queue d longer (channel_of old)) =
     map-set channel_of cables place new ∙ ap (slice_set (map channel_of cables) place) channel in
     let pending_is : after.entries ≡ put_if (Arrival place d) (Some time) pending.entries =
     entries ∙ ap (λ u. put_if (Arrival place d) u pending.entries) due_is in
     let same = queue_same d old in
     rw (channels, pending_is, same) refl
 
-pub sent : {F : Type 0} (answers : Bounds → ℕ → F → Option ℕ → F → Type 0) (now : ℕ) (lane : Lane) (octets : List ℕ) (fate fate_after : F)
-    (cables : List Cable) (old new : Cable) (due : Option ℕ) (pending after : PendingState) → slice_get cables lane.link ≡ Some old
+pub sent : {F : Type 0} (answers : Bounds → ℕ → F → Option ℕ → F → Type 0) (now : ℕ) (lane : Lane) (octets : List ℕ)
+    (fate fate_after : F)
+    (cables : List Cable) (old new : Cable) (due : Option ℕ) (pending after : PendingState)
+    → slice_get cables lane.link ≡ Some old
     → old.link.up ≡ true → new.a ≡ old.a → new.b ≡ old.b → links.ChangesOnly lane.direction old.link new.link
-    → IsSent answers old.link.bounds now fate fate_after (links.queue lane.direction old.link).frames octets (links.queue lane.direction new.link).frames due
+    → IsSent answers old.link.bounds now fate fate_after (links.queue lane.direction old.link).frames octets
+    (links.queue lane.direction new.link).frames due
     → after.entries ≡ put_if (Arrival lane.link lane.direction) due pending.entries
     → SentOne answers now (sender lane.direction (channel_of old)) octets fate fate_after (net_of cables pending)
     (net_of (slice_set cables lane.link new) after)
@@ -89,7 +99,8 @@ sent answers now lane octets fate fate_after cables old new due pending after he
     bounds = refl;
     sent = refl;
     lawful = h.lawful;
-    after = net_sent lane.direction lane.link now cables old new octets h.answer due pending after here a b only h.due_is h.frames entries;
+    after = net_sent lane.direction lane.link now cables old new octets h.answer due pending after here a b only
+        h.due_is h.frames entries;
   };
 }
 
@@ -107,7 +118,8 @@ items_apart d e l k apart = by d e (same_place l k) apart
     other d e (inl (test, is)) places = absurd (places is)
     other d e (inr (test, apart)) places = rw test refl
 
-    by : (d e : Direction) → (l ≡ k) ⊎ (l ≢ k) → lane_of k e ≢ lane_of l d → same_item (Arrival l d) (Arrival k e) ≡ false
+    by : (d e : Direction) → (l ≡ k) ⊎ (l ≢ k) → lane_of k e ≢ lane_of l d
+        → same_item (Arrival l d) (Arrival k e) ≡ false
     by FromA FromA (inl places) apart = absurd (apart (ap (λ n. lane_of n FromA) (sym places)))
     by FromA FromB (inl places) apart = let test = eq-eqb l k places in rw test refl
     by FromB FromA (inl places) apart = let test = eq-eqb l k places in rw test refl
@@ -115,29 +127,35 @@ items_apart d e l k apart = by d e (same_place l k) apart
     by d e (inr places) apart = other d e (eqb_tells l k) places
 
 -- the two directions of a link: this one, or the other
-queue_other : (d e : Direction) (old new : links.State) → links.ChangesOnly d old new → (d ≡ e) ⊎ (links.queue e new ≡ links.queue e old)
+queue_other : (d e : Direction) (old new : links.State) → links.ChangesOnly d old new → (d ≡ e)
+    ⊎ (links.queue e new ≡ links.queue e old)
 queue_other FromA FromA old new only = inl refl
 queue_other FromA FromB old new only = inr only.other_way
 queue_other FromB FromA old new only = inr only.other_way
 queue_other FromB FromB old new only = inl refl
 
 -- a send takes room for one frame on its lane, and none on any other
-pub room_elsewhere : (more : ℕ) (lane other : Lane) (cables : List Cable) (old new : Cable) (pending after : PendingState)
+pub room_elsewhere : (more : ℕ) (lane other : Lane) (cables : List Cable) (old new : Cable)
+    (pending after : PendingState)
     → slice_get cables lane.link ≡ Some old → links.ChangesOnly lane.direction old.link new.link
     → KeepsOtherRoom lane.link lane.direction pending after → other ≢ lane
     → HasRoomOn more other cables pending → HasRoomOn more other (slice_set cables lane.link new) after
-room_elsewhere more lane other cables old new pending after here only takes apart has = by (same_place other.link lane.link)
+room_elsewhere more lane other cables old new pending after here only takes apart has =
+    by (same_place other.link lane.link)
   where
     arrivals : more ≤ arrival_room other.link other.direction after
     arrivals =
-        let kept = takes other.link other.direction (items_apart lane.direction other.direction lane.link other.link apart) in
+        let kept = takes other.link other.direction
+        (items_apart lane.direction other.direction lane.link other.link apart) in
         rw kept has.arrivals
 
-    on_same : (other.link ≡ lane.link) → (lane.direction ≡ other.direction) ⊎ (links.queue other.direction new.link ≡ links.queue other.direction old.link)
+    on_same : (other.link ≡ lane.link) → (lane.direction ≡ other.direction)
+        ⊎ (links.queue other.direction new.link ≡ links.queue other.direction old.link)
         → HasRoomOn more other (slice_set cables lane.link new) after
     on_same places (inl directions) = absurd (apart (ap₂ lane_of places (sym directions)))
     on_same places (inr queues) =
-        let cable_is : has.cable ≡ old = same_Some has.cable old (sym has.here ∙ (ap (slice_get cables) places ∙ here)) in
+        let cable_is : has.cable
+        ≡ old = same_Some has.cable old (sym has.here ∙ (ap (slice_get cables) places ∙ here)) in
         record {
           cable = new;
           here = ap (slice_get (slice_set cables lane.link new)) places ∙ get-set_same cables lane.link old new here;
@@ -145,7 +163,8 @@ room_elsewhere more lane other cables old new pending after here only takes apar
           arrivals = arrivals;
         }
 
-    by : (other.link ≡ lane.link) ⊎ (other.link ≢ lane.link) → HasRoomOn more other (slice_set cables lane.link new) after
+    by : (other.link ≡ lane.link) ⊎ (other.link ≢ lane.link)
+        → HasRoomOn more other (slice_set cables lane.link new) after
     by (inl places) = on_same places (queue_other lane.direction other.direction old.link new.link only)
     by (inr places) = record {
       cable = has.cable;
@@ -170,7 +189,8 @@ room_here more lane cables old new pending after here only room arrived has =
       arrivals = omega arith;
     }
 
-pub less_room : (more : ℕ) (lane : Lane) (cables : List Cable) (pending : PendingState) → HasRoomOn (more + 1) lane cables pending
+pub less_room : (more : ℕ) (lane : Lane) (cables : List Cable) (pending : PendingState)
+    → HasRoomOn (more + 1) lane cables pending
     → HasRoomOn more lane cables pending
 less_room more lane cables pending has =
     let room = has.room in let arrivals = has.arrivals in
@@ -182,13 +202,16 @@ same_lane lane other = by other.direction lane.direction (same_place other.link 
     turned : FromA ≢ FromB
     turned same = absurd cc
 
-    by : (e d : Direction) → (other.link ≡ lane.link) ⊎ (other.link ≢ lane.link) → other.direction ≡ e → lane.direction ≡ d
+    by : (e d : Direction) → (other.link ≡ lane.link) ⊎ (other.link ≢ lane.link) → other.direction ≡ e
+        → lane.direction ≡ d
         → (other ≡ lane) ⊎ (other ≢ lane)
     by e d (inr places) is-e is-d = inr (λ same. places (ap (λ (l : Lane). l.link) same))
     by FromA FromA (inl places) is-e is-d = inl (ap₂ lane_of places (is-e ∙ sym is-d))
     by FromB FromB (inl places) is-e is-d = inl (ap₂ lane_of places (is-e ∙ sym is-d))
-    by FromA FromB (inl places) is-e is-d = inr (λ same. turned (sym is-e ∙ (ap (λ (l : Lane). l.direction) same ∙ is-d)))
-    by FromB FromA (inl places) is-e is-d = inr (λ same. turned (sym is-d ∙ (sym (ap (λ (l : Lane). l.direction) same) ∙ is-e)))
+    by FromA FromB (inl places) is-e is-d =
+        inr (λ same. turned (sym is-e ∙ (ap (λ (l : Lane). l.direction) same ∙ is-d)))
+    by FromB FromA (inl places) is-e is-d =
+        inr (λ same. turned (sym is-d ∙ (sym (ap (λ (l : Lane). l.direction) same) ∙ is-e)))
 
 pub room_left : (more : ℕ) (lane other : Lane) (cables : List Cable) (old new : Cable) (pending after : PendingState)
     → slice_get cables lane.link ≡ Some old → links.ChangesOnly lane.direction old.link new.link
@@ -200,8 +223,10 @@ room_left more lane other cables old new pending after here only room arrived ta
   where
     by : (other ≡ lane) ⊎ (other ≢ lane) → HasRoomOn more other (slice_set cables lane.link new) after
     by (inl same) =
-        let had : HasRoomOn (more + 1) lane cables pending = subst (λ l. HasRoomOn (more + 1) l cables pending) same has in
+        let had : HasRoomOn (more + 1) lane cables pending =
+        subst (λ l. HasRoomOn (more + 1) l cables pending) same has in
         subst (λ l. HasRoomOn more l (slice_set cables lane.link new) after) (sym same)
         (room_here more lane cables old new pending after here only room arrived had)
     by (inr apart) =
-        room_elsewhere more lane other cables old new pending after here only takes apart (less_room more other cables pending has)
+        room_elsewhere more lane other cables old new pending after here only takes apart
+        (less_room more other cables pending has)

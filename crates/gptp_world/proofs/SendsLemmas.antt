@@ -11,12 +11,20 @@ use Rattle.gptp_acts.specs.Sends.{IsUnlinked, SendsOne, SendsAll, written}
 use Rattle.gptp_acts.specs.World.{Net}
 
 -- one more send behind others, which goes onto a link
-sends_more : (now : ℕ) (s : SystemState) (xs : List Sending) (x : Sending) (ds : List Draw) (d : Draw) (net between after : Net)
+sends_more : (now : ℕ) (s : SystemState) (xs : List Sending) (x : Sending) (ds : List Draw) (d : Draw)
+    (net between after : Net)
     → SendsAll now s xs ds net between → SendsOne now (own s x.port) (written s x) d between after
     → SendsAll now s (xs ++ x ∷ []) (ds ++ d ∷ []) net after
 sends_more now s [] x ds d net between after sends one =
     let e = sends.0 in let n = sends.1 in
-    rw e (inl (d, [], after, refl, subst (λ m. SendsOne now (own s x.port) (written s x) d m after) n one, (refl, refl)))
+    rw e (inl (
+      d,
+      [],
+      after,
+      refl,
+      subst (λ m. SendsOne now (own s x.port) (written s x) d m after) n one,
+      (refl, refl),
+    ))
 sends_more now s (y ∷ ys) x ds d net between after (inl (first, rest, middle, is, sent, sends)) one =
     let ih = sends_more now s ys x rest d middle between after sends one in
     rw is (inl (first, rest ++ d ∷ [], middle, refl, sent, ih))
@@ -30,13 +38,16 @@ sends_none now s [] x ds net after sends none =
     let n = sends.1 in inr (subst (λ m. IsUnlinked m (own s x.port)) n none, sends)
 sends_none now s (y ∷ ys) x ds net after (inl (first, rest, middle, is, sent, sends)) none =
     inl (first, rest, middle, is, sent, sends_none now s ys x rest middle after sends none)
-sends_none now s (y ∷ ys) x ds net after (inr (off, sends)) none = inr (off, sends_none now s ys x ds net after sends none)
+sends_none now s (y ∷ ys) x ds net after (inr (off, sends)) none =
+    inr (off, sends_none now s ys x ds net after sends none)
 
-pub sent_none : {F : Type 0} (answers : Bounds → ℕ → F → Option ℕ → F → Type 0) (now : ℕ) (s : SystemState) (fate : F) (net : Net)
+pub sent_none : {F : Type 0} (answers : Bounds → ℕ → F → Option ℕ → F → Type 0) (now : ℕ) (s : SystemState) (fate : F)
+    (net : Net)
     → SentAll answers now s [] fate fate net net
 sent_none answers now s fate net = record { draws = []; drawn = refl; sends_all = (refl, refl) }
 
-pub sent_next : {F : Type 0} (answers : Bounds → ℕ → F → Option ℕ → F → Type 0) (now : ℕ) (s : SystemState) (xs : List Sending) (x : Sending)
+pub sent_next : {F : Type 0} (answers : Bounds → ℕ → F → Option ℕ → F → Type 0) (now : ℕ) (s : SystemState)
+    (xs : List Sending) (x : Sending)
     (first second third : F) (net between after : Net) → SentAll answers now s xs first second net between
     → SentNext answers now (own s x.port) (written s x) second third between after
     → SentAll answers now s (xs ++ x ∷ []) first third net after

@@ -61,7 +61,8 @@ pub record AreFew (ports : ℕ) (xs : List Sending) : Type 0 where
   pub each : (p : ℕ) → sends_at p xs ≤ 2
 
 -- a step that sends at a port is of a system that has one
-pub within_few : (r : Reach) (ports : ℕ) (xs : List Sending) → IsWithin r ports xs → ((p : ℕ) → r ≡ reaches.Port p → 1 ≤ ports)
+pub within_few : (r : Reach) (ports : ℕ) (xs : List Sending) → IsWithin r ports xs
+    → ((p : ℕ) → r ≡ reaches.Port p → 1 ≤ ports)
     → AreFew ports xs
 within_few reaches.Nothing ports xs within has =
     rw within (record { all = omega arith; each = λ p. omega arith })
@@ -72,13 +73,15 @@ within_few reaches.All ports xs within has = record { all = within.few; each = w
 
 -- ---- one call
 
-clocks_kept : (stage : Stage) (place : ℕ) (old new : Station) → IsStage stage → slice_get stage.stations.items place ≡ Some old
+clocks_kept : (stage : Stage) (place : ℕ) (old new : Station) → IsStage stage
+    → slice_get stage.stations.items place ≡ Some old
     → clock new.system ≡ clock old.system
     → map clock_at (slice_set stage.stations.items place new) ≡ stage.net.directory.clocks
 clocks_kept stage place old new is here same =
     map-set_same clock_at stage.stations.items place old new here same ∙ is.clocks
 
-few_kept : (stage : Stage) (place : ℕ) (old new : Station) → IsStage stage → slice_get stage.stations.items place ≡ Some old
+few_kept : (stage : Stage) (place : ℕ) (old new : Station) → IsStage stage
+    → slice_get stage.stations.items place ≡ Some old
     → length new.system.ports ≡ length old.system.ports
     → (other : ℕ) (station : Station) → slice_get (slice_set stage.stations.items place new) other ≡ Some station
     → length station.system.ports ≤ 16
@@ -88,25 +91,32 @@ few_kept stage place old new is here same other station there = by (same_place o
     by (inl places) =
         let now_here = get-set_same stage.stations.items place old new here in
         let one : station ≡ new =
-        same_Some station new (sym there ∙ (ap (slice_get (slice_set stage.stations.items place new)) places ∙ now_here)) in
+        same_Some station new
+        (sym there ∙ (ap (slice_get (slice_set stage.stations.items place new)) places ∙ now_here)) in
         let few = is.few place old here in
         rw one (rw same few)
     by (inr apart) = is.few other station (sym (get-set_other stage.stations.items place other new apart) ∙ there)
 
-ports_kept : (stage : Stage) (place : ℕ) (old new : Station) → IsStage stage → slice_get stage.stations.items place ≡ Some old
+ports_kept : (stage : Stage) (place : ℕ) (old new : Station) → IsStage stage
+    → slice_get stage.stations.items place ≡ Some old
     → length new.system.ports ≡ length old.system.ports → clock new.system ≡ clock old.system
-    → (other : ℕ) (station : Station) (p : ℕ) (lane : Lane) → slice_get (slice_set stage.stations.items place new) other ≡ Some station
-    → BeginsAt stage.net.directory.joins (port_id (clock station.system) p) lane → (1 ≤ p) × (p ≤ length station.system.ports)
+    → (other : ℕ) (station : Station) (p : ℕ) (lane : Lane)
+    → slice_get (slice_set stage.stations.items place new) other ≡ Some station
+    → BeginsAt stage.net.directory.joins (port_id (clock station.system) p) lane → (1 ≤ p)
+    × (p ≤ length station.system.ports)
 ports_kept stage place old new is here count clocks other station p lane there begins = by (same_place other place)
   where
     by : (other ≡ place) ⊎ (other ≢ place) → (1 ≤ p) × (p ≤ length station.system.ports)
     by (inl places) =
         let now_here = get-set_same stage.stations.items place old new here in
         let one : station ≡ new =
-        same_Some station new (sym there ∙ (ap (slice_get (slice_set stage.stations.items place new)) places ∙ now_here)) in
-        let starts : BeginsAt stage.net.directory.joins (port_id (clock old.system) p) lane = rw (← clocks, ← one) begins in
+        same_Some station new
+        (sym there ∙ (ap (slice_get (slice_set stage.stations.items place new)) places ∙ now_here)) in
+        let starts : BeginsAt stage.net.directory.joins (port_id (clock old.system) p) lane = rw (← clocks, ← one)
+        begins in
         rw one (rw count (is.ports place old p lane here starts))
-    by (inr apart) = is.ports other station p lane (sym (get-set_other stage.stations.items place other new apart) ∙ there) begins
+    by (inr apart) =
+        is.ports other station p lane (sym (get-set_other stage.stations.items place other new apart) ∙ there) begins
 
 -- a timer that reaches one port alone is of a system that has a port
 timer_has_port : (timer : Timer) (s : SystemState) → IsTimerOf s timer → (p : ℕ) → timer_reach timer s ≡ reaches.Port p
@@ -124,7 +134,8 @@ frame_reaches true p at = absurd cc
 frame_reaches false p at = absurd cc
 
 -- an input that reaches one port alone is given to a system that has a port
-has_port : (input : Input) (s : SystemState) → IsOf s input → (p : ℕ) → reach input s ≡ reaches.Port p → 1 ≤ length s.ports
+has_port : (input : Input) (s : SystemState) → IsOf s input → (p : ℕ) → reach input s ≡ reaches.Port p
+    → 1 ≤ length s.ports
 has_port (PortUp q) s is p at = let least = is.least in let most = is.most in omega arith
 has_port (PortDown q) s is p at = absurd cc
 has_port (Frame q octets) s is p at = absurd (frame_reaches (may_select (message_type octets)) p at)
@@ -168,8 +179,10 @@ stepped stage stage' place input answer one after live value steps stations net 
     }
 
 -- what it left can be carried out
-pub carries : (stage stage' : Stage) (place : ℕ) (input : Input) (answer : Answer) → IsStage stage → HasRoomToCall 1 place stage
-    → HasStepped place input answer stage stage' → (station : Station) → slice_get stage.stations.items place ≡ Some station
+pub carries : (stage stage' : Stage) (place : ℕ) (input : Input) (answer : Answer) → IsStage stage
+    → HasRoomToCall 1 place stage
+    → HasStepped place input answer stage stage' → (station : Station)
+    → slice_get stage.stations.items place ≡ Some station
     → IsOf station.system input → CarriesOut place stage'
 carries stage stage' place input answer is room step station here of =
     let old = step.station in let after = step.after in let sends = stage'.outbox.items in
@@ -193,15 +206,21 @@ carries stage stage' place input answer is room step station here of =
       systems = rw (stations, net) (rw (length-set stage.stations.items place new) places);
       moment = rw now is.moment;
       few = rw ports small;
-      room = rw net (covered (for_call old.system) (for_left after sends) stage.net (call_covers old.system after sends ports clocks few)
-          (covered (repeated 1 (for_call old.system)) (for_call old.system) stage.net (once (for_call old.system)) has));
+      room = rw net
+          (covered (for_call old.system) (for_left after sends) stage.net
+          (call_covers old.system after sends ports clocks few)
+          (covered (repeated 1 (for_call old.system)) (for_call old.system) stage.net (once (for_call old.system))
+          has));
     }
 
 -- a stage in which a system became another with the same clock and as many ports
-pub becomes : (stage stage' : Stage) (place : ℕ) (old new : Station) → IsStage stage → slice_get stage.stations.items place ≡ Some old
+pub becomes : (stage stage' : Stage) (place : ℕ) (old new : Station) → IsStage stage
+    → slice_get stage.stations.items place ≡ Some old
     → length new.system.ports ≡ length old.system.ports → clock new.system ≡ clock old.system
-    → stage'.stations.items ≡ slice_set stage.stations.items place new → IsNet stage'.net → stage'.net.directory ≡ stage.net.directory
-    → stage'.net.pending.systems ≡ stage.net.pending.systems → stage'.now ≡ stage.now → stage'.outbox.items ≡ [] → IsStage stage'
+    → stage'.stations.items ≡ slice_set stage.stations.items place new → IsNet stage'.net
+    → stage'.net.directory ≡ stage.net.directory
+    → stage'.net.pending.systems ≡ stage.net.pending.systems → stage'.now ≡ stage.now → stage'.outbox.items ≡ []
+    → IsStage stage'
 becomes stage stage' place old new is here ports clocks list net directory systems now outbox =
     let places = is.systems in
     record {
@@ -217,7 +236,8 @@ becomes stage stage' place old new is here ports clocks list net directory syste
 -- the stage after it was carried out, from the one that it left
 pub stays : (stage left stage' : Stage) (place : ℕ) (input : Input) (answer : Answer) → IsStage stage
     → HasStepped place input answer stage left → stage'.stations ≡ left.stations → IsNet stage'.net
-    → stage'.net.directory ≡ left.net.directory → stage'.net.pending.systems ≡ left.net.pending.systems → stage'.now ≡ left.now
+    → stage'.net.directory ≡ left.net.directory → stage'.net.pending.systems ≡ left.net.pending.systems
+    → stage'.now ≡ left.now
     → stage'.outbox.items ≡ [] → IsStage stage'
 stays stage left stage' place input answer is step stations net directory systems now outbox =
     let old = step.station in
@@ -225,11 +245,13 @@ stays stage left stage' place input answer is step stations net directory system
     (same_ports input stage.now old.system step.after left.outbox.items answer step.steps)
     (same_clock input stage.now old.system step.after left.outbox.items answer step.steps)
     (ap (λ xs. xs.items) stations ∙ step.stations) net
-    (directory ∙ ap (λ (n : Between). n.directory) step.net) (systems ∙ ap (λ (n : Between). n.pending.systems) step.net)
+    (directory ∙ ap (λ (n : Between). n.directory) step.net)
+    (systems ∙ ap (λ (n : Between). n.pending.systems) step.net)
     (now ∙ step.now) outbox
 
 -- it was one call of the system
-pub called : {F : Type 0} (answers : Bounds → ℕ → F → Option ℕ → F → Type 0) (fate fate_after : F) (stage left stage' : Stage)
+pub called : {F : Type 0} (answers : Bounds → ℕ → F → Option ℕ → F → Type 0) (fate fate_after : F)
+    (stage left stage' : Stage)
     (place : ℕ) (input : Input) (answer : Answer) → (step : HasStepped place input answer stage left)
     → SentAll answers left.now step.after left.outbox.items fate fate_after
     (all_timers place (in_state step.after step.station) (between left.net)) (between stage'.net)
@@ -254,7 +276,8 @@ called answers fate fate_after stage left stage' place input answer step sent st
     }
 
 -- it used no more room than a call can
-pub call_uses : (stage left : Stage) (net : Between) (place : ℕ) (input : Input) (answer : Answer) → HasStepped place input answer stage left
+pub call_uses : (stage left : Stage) (net : Between) (place : ℕ) (input : Input) (answer : Answer)
+    → HasStepped place input answer stage left
     → IsGivenAt place input stage
     → ((station : Station) → slice_get left.stations.items place ≡ Some station
     → Uses (for_left station.system left.outbox.items) left.net net)
@@ -291,12 +314,14 @@ net_replaced stage net is still directory systems = record {
 }
 
 -- there is still room for as many calls
-pub room_kept : (calls place : ℕ) (stage : Stage) (net : Between) → Uses nothing stage.net net → HasRoomToCall calls place stage
+pub room_kept : (calls place : ℕ) (stage : Stage) (net : Between) → Uses nothing stage.net net
+    → HasRoomToCall calls place stage
     → HasRoomToCall calls place (record stage { net = net })
 room_kept calls place stage net uses has = record {
   station = has.station;
   here = has.here;
   room = uses.left (repeated calls (for_call has.station.system))
-      (covered (repeated calls (for_call has.station.system)) (both nothing (repeated calls (for_call has.station.system))) stage.net
+      (covered (repeated calls (for_call has.station.system))
+      (both nothing (repeated calls (for_call has.station.system))) stage.net
       (nothing_with (repeated calls (for_call has.station.system))) has.room);
 }

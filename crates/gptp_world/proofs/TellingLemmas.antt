@@ -93,7 +93,8 @@ pub same_joins : (stage stage' : Stage) → IsStage stage → IsStage stage' →
     → stage'.net.directory.joins ≡ stage.net.directory.joins
 same_joins stage stage' is is' world =
     sym is'.net.joins
-    ∙ (joins_kept stage.net.cables.items stage'.net.cables.items (ap (λ (w : WorldState). w.net.channels) world) ∙ is.net.joins)
+    ∙ (joins_kept stage.net.cables.items stage'.net.cables.items (ap (λ (w : WorldState). w.net.channels) world)
+    ∙ is.net.joins)
 
 -- room was made for the ends of a link
 pub room_at_ends : (stage stage' : Stage) (link : ℕ) (a b : End) → IsStage stage → IsStage stage'

@@ -31,4 +31,5 @@ pub drop_here : {X : Type 0} (i : ℕ) (xs : List X) → i < length xs → (x : 
 drop_here i [] within = absurd (omega arith)
 drop_here zero (x ∷ xs) within = (x, refl)
 drop_here (suc i) (x ∷ xs) within =
-    let rest = drop_here i xs (omega arith) in let next : suc i + 1 ≡ suc (i + 1) = omega arith in (rest.0, rw next rest.1)
+    let rest = drop_here i xs (omega arith) in let next : suc i + 1 ≡ suc (i + 1) = omega arith in
+    (rest.0, rw next rest.1)

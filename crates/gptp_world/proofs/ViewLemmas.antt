@@ -28,11 +28,13 @@ next_placed stage time (Expiry place timer) agrees next =
     slice_get_within stage.stations.items place out.station out.here
 
 -- a clock is that of one system alone, so a port that this one hasn't got is nowhere
-pub no_port : (number port : ℕ) (w : WorldState) (s : SystemState) → IsSound w → ShowsLive number w s → (IsPortOf s port → ⊥)
+pub no_port : (number port : ℕ) (w : WorldState) (s : SystemState) → IsSound w → ShowsLive number w s
+    → (IsPortOf s port → ⊥)
     → AtSystem number w (HasPort port) → ⊥
 no_port number port w s is shows none at =
     let same : at.place ≡ shows.place =
-    is.wired.clocks at.place shows.place at.station shows.station at.is.here shows.is.here (at.is.named ∙ sym shows.is.named) in
+    is.wired.clocks at.place shows.place at.station shows.station at.is.here shows.is.here
+    (at.is.named ∙ sym shows.is.named) in
     let one : at.station ≡ shows.station =
     same_Some at.station shows.station (sym at.is.here ∙ (ap (slice_get w.stations) same ∙ shows.is.here)) in
     let of : IsPortOf s port =

@@ -14,7 +14,8 @@ use Rattle.gptp_world.specs.Stage.{world_of, HasRoomToCall}
 
 -- where the system at a place is live, the link of this port is up
 abbrev pub IsHeardAt : ℕ → ℕ → Stage → Type 0
-IsHeardAt place port stage = (station : Station) → slice_get stage.stations.items place ≡ Some station → station.live ≡ true
+IsHeardAt place port stage = (station : Station) → slice_get stage.stations.items place ≡ Some station
+    → station.live ≡ true
     → IsUp station.system port
 
 -- a port hears a frame, or the system has failed

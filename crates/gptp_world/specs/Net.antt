@@ -53,6 +53,7 @@ pub record Unlinked {F : Type 0} (from : PortId) (fate fate_after : F) (net net_
   pub fate_is : fate_after ≡ fate
   pub net_is : net_after ≡ net
 
-abbrev pub SentNext : {F : Type 0} → (Bounds → ℕ → F → Option ℕ → F → Type 0) → ℕ → PortId → List ℕ → F → F → Net → Net → Type 0
+abbrev pub SentNext : {F : Type 0} → (Bounds → ℕ → F → Option ℕ → F → Type 0) → ℕ → PortId → List ℕ → F → F → Net → Net
+    → Type 0
 SentNext answers now from octets fate fate_after net net_after =
     SentOne answers now from octets fate fate_after net net_after ⊎ Unlinked from fate fate_after net net_after

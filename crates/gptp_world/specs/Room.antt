@@ -109,5 +109,6 @@ HasRoomFrom more port net =
 
 -- so has each port of the system at a place, up to this one
 abbrev pub HasRoomAtPorts : ℕ → ℕ → ℕ → Between → Type 0
-HasRoomAtPorts more place ports net = (clock p : ℕ) → slice_get net.directory.clocks place ≡ Some clock → 1 ≤ p → p ≤ ports
+HasRoomAtPorts more place ports net = (clock p : ℕ) → slice_get net.directory.clocks place ≡ Some clock → 1 ≤ p
+    → p ≤ ports
     → HasRoomFrom more (port_id clock p) net

@@ -21,7 +21,8 @@ pub record IsScene (stage : Stage) : Type 0 where
   pub claimed : Claimed (world_of stage)
 
 -- so many systems started, one after another
-pub record SystemsStarted {F : Type 0} (answers : Bounds → ℕ → F → Option ℕ → F → Type 0) (count : ℕ) (fate fate_after : F)
+pub record SystemsStarted {F : Type 0} (answers : Bounds → ℕ → F → Option ℕ → F → Type 0) (count : ℕ)
+    (fate fate_after : F)
     (stage stage_after : Stage) : Type 0 where
   pub draws : List Draw
   pub drawn : Draws answers fate draws fate_after

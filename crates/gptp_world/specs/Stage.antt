@@ -33,15 +33,18 @@ world_of stage = record {
 abbrev pub clock_at : Station → ℕ
 clock_at station = clock station.system
 
--- The directory knows the systems and the links, and what is pending has a place for each. A link joins ports that systems
--- have. The outbox is empty.
+-- The directory knows the systems and the links, and what is pending has a place for each. A link joins ports that
+-- systems have. The outbox is empty.
 pub record IsStage (stage : Stage) : Type 0 where
   pub net : IsNet stage.net
   pub clocks : map clock_at stage.stations.items ≡ stage.net.directory.clocks
   pub systems : length stage.stations.items ≤ stage.net.pending.systems
-  pub few : (place : ℕ) (station : Station) → slice_get stage.stations.items place ≡ Some station → length station.system.ports ≤ 16
-  pub ports : (place : ℕ) (station : Station) (p : ℕ) (lane : Lane) → slice_get stage.stations.items place ≡ Some station
-      → BeginsAt stage.net.directory.joins (port_id (clock station.system) p) lane → (1 ≤ p) × (p ≤ length station.system.ports)
+  pub few : (place : ℕ) (station : Station) → slice_get stage.stations.items place ≡ Some station
+      → length station.system.ports ≤ 16
+  pub ports : (place : ℕ) (station : Station) (p : ℕ) (lane : Lane)
+      → slice_get stage.stations.items place ≡ Some station
+      → BeginsAt stage.net.directory.joins (port_id (clock station.system) p) lane → (1 ≤ p)
+      × (p ≤ length station.system.ports)
   pub empty : stage.outbox.items ≡ []
   pub moment : stage.now ≤ 10 ^ 15
 
@@ -128,16 +131,18 @@ abbrev pub IsGivenAt : ℕ → Input → Stage → Type 0
 IsGivenAt place input stage =
     (station : Station) → slice_get stage.stations.items place ≡ Some station → IsOf station.system input
 
--- A live system was called and answered so, and what it left was carried out: the fate drew once for each send that a link
--- carries.
-pub record CalledWith {F : Type 0} (answers : Bounds → ℕ → F → Option ℕ → F → Type 0) (place : ℕ) (input : Input) (answer : Answer)
+-- A live system was called and answered so, and what it left was carried out: the fate drew once for each send that a
+-- link carries.
+pub record CalledWith {F : Type 0} (answers : Bounds → ℕ → F → Option ℕ → F → Type 0) (place : ℕ) (input : Input)
+    (answer : Answer)
     (fate fate_after : F) (stage stage_after : Stage) : Type 0 where
   pub draws : List Draw
   pub drawn : Draws answers fate draws fate_after
   pub calls : Calls place input (world_of stage) draws answer (world_of stage_after)
 
 -- the same with an input that has no answer
-pub record Called {F : Type 0} (answers : Bounds → ℕ → F → Option ℕ → F → Type 0) (place : ℕ) (input : Input) (fate fate_after : F)
+pub record Called {F : Type 0} (answers : Bounds → ℕ → F → Option ℕ → F → Type 0) (place : ℕ) (input : Input)
+    (fate fate_after : F)
     (stage stage_after : Stage) : Type 0 where
   pub answer : Answer
   pub called : CalledWith answers place input answer fate fate_after stage stage_after

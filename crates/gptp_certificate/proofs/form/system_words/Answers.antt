@@ -34,4 +34,5 @@ returns-in_err-parent-clause-absent c = if_none c.from_residual-in_err-parent.re
     let rest = rest_behind_clock words _ _ _ are clock.word clock.found whole in
     let more = rest_behind_root words _ _ _ are root.word root.found rest.1 in
     let last = rest_behind_steps words _ _ _ are steps.word steps.found more.1 in
-    c.in_err-parent.ensures.absent words.parent are.parent (rest_is_parent words _ _ c.in_ok-after.ensures.found last.1))
+    c.in_err-parent.ensures.absent words.parent are.parent
+    (rest_is_parent words _ _ c.in_ok-after.ensures.found last.1))

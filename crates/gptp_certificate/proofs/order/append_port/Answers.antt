@@ -15,5 +15,6 @@ pub returns-in-Some-clause-refused : goal.returns-in-Some-clause-refused
 returns-in-Some-clause-refused c =
     let item = c.in-Some.ensures.item in
     weaker_err _ _ c.add_port.result (λ fault refused. not_after _ _ _ _ refused
-    (port_follows c.args.lines.now c.in-Some.last.now (PortEntry c.args.clock (port_line_of (c.args.number, c.args.role))) item.0 item.1))
+    (port_follows c.args.lines.now c.in-Some.last.now
+    (PortEntry c.args.clock (port_line_of (c.args.number, c.args.role))) item.0 item.1))
     c.add_port.ensures.refused

@@ -19,6 +19,7 @@ returns-in-Some-clause-only c = λ root steps parent stand.
     let is = c.lt.ensures in
     let clock = last_clock (line_of c.in-Some.last.now) in
     let below : clock_of (last_entry (line_of c.in-Some.last.now)) < c.args.clock =
-    line_follows c.args.lines.now c.in-Some.field-0-1.now c.in-Some.last.now (SystemEntry c.args.clock root steps parent)
+    line_follows c.args.lines.now c.in-Some.field-0-1.now c.in-Some.last.now
+    (SystemEntry c.args.clock root steps parent)
     c.in-Some.ensures.cases.0 stand in
     grind (arith, nat_tests)

@@ -16,5 +16,6 @@ pub returns-else-spells-clause-absent : goal.returns-else-spells-clause-absent
 returns-else-spells-clause-absent c = λ identity small is.
     let unlike : c.args.word.now ≡ encode_lower (big_bytes 14 c.of_octets-identity.result) → ⊥ =
     λ e. let t = c.if-spells.ensures.1 (e ∙ ap encode_lower (sym c.octets.ensures)) in absurd (grind arith) in
-    other_digits 14 c.args.word.now c.in_ok-octets.octets c.of_octets-identity.result c.from_hex.result c.from_hex.ensures
+    other_digits 14 c.args.word.now c.in_ok-octets.octets c.of_octets-identity.result c.from_hex.result
+    c.from_hex.ensures
     c.in_ok-octets.ensures.value c.of_octets-identity.ensures unlike identity small is

@@ -13,7 +13,8 @@ returns-in_err-text-clause-absent c = if_none c.from_residual.result (λ number 
 pub returns-in_err-number-clause-absent : goal.returns-in_err-number-clause-absent
 returns-in_err-number-clause-absent c = if_none c.from_residual-in_err-number.result (λ number small is.
     let text = read_of _ _ c.from_utf8.result _ c.from_utf8.ensures.cases c.in_ok-text.ensures.value in
-    unread_decimal c.args.word.now _ c.parse.result text.0 c.parse.ensures.value.0 c.in_err-number.ensures.variant number small is)
+    unread_decimal c.args.word.now _ c.parse.result text.0 c.parse.ensures.value.0 c.in_err-number.ensures.variant
+    number small is)
 
 pub returns-else-is_decimal-clause-absent : goal.returns-else-is_decimal-clause-absent
 returns-else-is_decimal-clause-absent c = λ number small is.

@@ -8,5 +8,6 @@ returns-else-number-ge1-clause-absent c = λ number range is.
     let least = range.least in
     let most = range.most in
     let zero : c.in_ok-number.number ≡ 0 = omega arith in
-    let same = decimal_injective c.in_ok-number.number number (omega arith) (omega arith) (sym c.in_ok-number.ensures.found ∙ is) in
+    let same = decimal_injective c.in_ok-number.number number (omega arith) (omega arith)
+    (sym c.in_ok-number.ensures.found ∙ is) in
     absurd (omega arith)

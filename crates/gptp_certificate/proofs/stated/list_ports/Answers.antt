@@ -11,4 +11,5 @@ loop-place-preserved c =
     let more = map-range_with_len_more (stated_port s) 1 place (place + 1) (omega arith) in
     ap (map port_line_of) c.in_ok-push.ensures.items
     ∙ (map-append port_line_of c.loop-place.ports.items ((c.from.result, c.role.result) ∷ [])
-    ∙ (rw (c.from.ensures, c.role.ensures) (ap (λ ps. ps ++ stated_port s (place + 1) ∷ []) c.loop-place.invariant ∙ sym more)))
+    ∙ (rw (c.from.ensures, c.role.ensures) (ap (λ ps. ps ++ stated_port s (place + 1) ∷ []) c.loop-place.invariant
+    ∙ sym more)))

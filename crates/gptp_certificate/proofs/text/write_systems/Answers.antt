@@ -12,6 +12,7 @@ loop-line-preserved c =
     let left = drop_more lines c.loop-line.line-index c.line-item.result c.loop-line-test.true in
     let first : drop c.loop-line.line-index lines ≡ c.line-item.result ∷ drop (c.loop-line.line-index + 1) lines =
     left ∙ ap (λ line. line ∷ drop (c.loop-line.line-index + 1) lines) (sym c.line-item.is) in
-    next_system c.line-item.result (drop (c.loop-line.line-index + 1) lines) text (string_bytes c.write_system.new.text) _
+    next_system c.line-item.result (drop (c.loop-line.line-index + 1) lines) text
+    (string_bytes c.write_system.new.text) _
     c.in_ok-write_system.ensures
     (sym (ap (λ rest. text ++ entries_text (entries_of (lines_of rest))) first) ∙ c.loop-line.invariant)

@@ -7,7 +7,8 @@ use Rattle.gptp_commands.proofs.compare.compare_lines.Goals as goal
 pub returns-clause-done : goal.returns-clause-done
 returns-clause-done g c =
     text_holds size_limit AnswersLines RefusesSize _ _ c.in_ok-input.input.items c.in_ok-output.output.text.items
-    c.in_ok-output.output.status (λ text. Appends (g.K.Sink.written c.args.sink.now) (g.K.Sink.written c.write_whole.new.sink) text)
+    c.in_ok-output.output.status
+    (λ text. Appends (g.K.Sink.written c.args.sink.now) (g.K.Sink.written c.write_whole.new.sink) text)
     c.in_ok-input.ensures.whole (rw c.deref.ensures.value at c.in_ok-output.ensures.text)
     (rw c.deref-2.ensures.value at c.in_ok-write_whole.ensures.whole)
 

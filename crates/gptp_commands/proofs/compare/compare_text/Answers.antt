@@ -5,5 +5,6 @@ use Rattle.gptp_commands.proofs.compare.compare_text.Goals as goal
 
 pub returns-clause-text : goal.returns-clause-text
 returns-clause-text c =
-    let long : nat_le (length c.args.input.now) size_limit ≡ false = lt-leb (length c.args.input.now) size_limit c.if-input-le-LIMIT.false in
+    let long : nat_le (length c.args.input.now) size_limit
+    ≡ false = lt-leb (length c.args.input.now) size_limit c.if-input-le-LIMIT.false in
     (codes "refused size" ∷ [], rw long (record { shown = refl; status_is = refl }), search rules)

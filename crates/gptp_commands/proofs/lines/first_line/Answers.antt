@@ -11,5 +11,6 @@ returns-then-is_empty-clause-first c =
 
 pub returns-clause-first : goal.returns-clause-first
 returns-clause-first c =
-    lines_fed c.args.text.now c.without_carriage_return.result.now c.split_at.result.1.now c.split_at-2.result.1.now (cc) (cc)
+    lines_fed c.args.text.now c.without_carriage_return.result.now c.split_at.result.1.now c.split_at-2.result.1.now
+    (cc) (cc)
     (grind (arith, nat_tests)) (cc)

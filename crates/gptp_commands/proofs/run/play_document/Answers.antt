@@ -7,7 +7,8 @@ pub returns-clause-plays : goal.returns-clause-plays
 returns-clause-plays c =
     let told = c.in_ok-world.ensures.reports in let said = c.in_ok-certify.ensures.certifies in
     let first : c.into_bytes-text.result.items ≡ text_of told.0 =
-    ap (λ v. v.items) c.into_bytes-text.ensures.value ∙ (told.2 ∙ ap (λ t. t ++ text_of told.0) c.new-text.ensures.bytes) in (
+    ap (λ v. v.items) c.into_bytes-text.ensures.value
+    ∙ (told.2 ∙ ap (λ t. t ++ text_of told.0) c.new-text.ensures.bytes) in (
       told.0 ++ said.0,
       record {
         world = c.in_ok-world.world.scene;

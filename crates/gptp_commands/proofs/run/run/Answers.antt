@@ -7,15 +7,18 @@ use Rattle.gptp_commands.proofs.run.run.Goals as goal
 
 pub returns-clause-done : goal.returns-clause-done
 returns-clause-done g c =
-    text_holds document_limit (AnswersDocument c.args.options.now) (RefusesFault TooMany) _ _ c.in_ok-input.input.items c.in_ok-output.output.text.items
-    c.in_ok-output.output.status (λ text. Appends (g.K.Sink.written c.args.sink.now) (g.K.Sink.written c.write_whole.new.sink) text)
+    text_holds document_limit (AnswersDocument c.args.options.now) (RefusesFault TooMany) _ _ c.in_ok-input.input.items
+    c.in_ok-output.output.text.items
+    c.in_ok-output.output.status
+    (λ text. Appends (g.K.Sink.written c.args.sink.now) (g.K.Sink.written c.write_whole.new.sink) text)
     c.in_ok-input.ensures.whole (rw c.deref.ensures.value at c.in_ok-output.ensures.text)
     (rw c.deref-2.ensures.value at c.in_ok-write_whole.ensures.whole)
 
 pub returns-in_err-write_whole-clause-front : goal.returns-in_err-write_whole-clause-front
 returns-in_err-write_whole-clause-front g c failed = (
   c.in_ok-output.output.status,
-  text_holds document_limit (AnswersDocument c.args.options.now) (RefusesFault TooMany) _ _ c.in_ok-input.input.items c.in_ok-output.output.text.items
+  text_holds document_limit (AnswersDocument c.args.options.now) (RefusesFault TooMany) _ _ c.in_ok-input.input.items
+      c.in_ok-output.output.text.items
       c.in_ok-output.output.status
       (λ text. AppendsFront (g.K.Sink.written c.args.sink.now) (g.K.Sink.written c.write_whole.new.sink) text)
       c.in_ok-input.ensures.whole (rw c.deref.ensures.value at c.in_ok-output.ensures.text)

@@ -11,4 +11,5 @@ returns-then-is_empty-clause-absent c =
 
 pub returns-clause-found : goal.returns-clause-found
 returns-clause-found c =
-    words_found c.args.text.now c.split_at.result.1.now c.split_at-2.result.0.now c.split_at-2.result.1.now (cc) (grind (arith, nat_tests)) (cc) (cc)
+    words_found c.args.text.now c.split_at.result.1.now c.split_at-2.result.0.now c.split_at-2.result.1.now (cc)
+    (grind (arith, nat_tests)) (cc) (cc)

@@ -16,7 +16,14 @@ unwrap-requires c =
     ap length c.loop-number.invariant ∙ length-append c.args.trace.now passed in
     let more = ap length c.read_sixteen.ensures in
     let room : length c.loop-number.trace + length c.read_sixteen.new.block ≤ 256 =
-    omega (arith, length-take before path, length-take 16 rest, length-drop before path, length-clocks octets, c.requires) in
+    omega (
+      arith,
+      length-take before path,
+      length-take 16 rest,
+      length-drop before path,
+      length-clocks octets,
+      c.requires,
+    ) in
     c.extend.ensures.room.1 room
 
 pub loop-number-preserved : goal.loop-number-preserved

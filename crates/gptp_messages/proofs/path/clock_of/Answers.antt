@@ -5,8 +5,10 @@ use Rattle.gptp_messages.proofs.PathLemmas.{length-clocks, slice_get-clocks}
 use Rattle.gptp_messages.proofs.path.clock_of.Goals as goal
 
 pub returns-then-place-octets : goal.returns-then-place-octets
-returns-then-place-octets c = ap Some c.clock_at.ensures ∙ sym (slice_get-clocks c.args.octets.now c.args.place c.if-place-octets.true)
+returns-then-place-octets c =
+    ap Some c.clock_at.ensures ∙ sym (slice_get-clocks c.args.octets.now c.args.place c.if-place-octets.true)
 
 pub returns-else-place-octets : goal.returns-else-place-octets
 returns-else-place-octets c =
-    sym (slice_get_past (clocks c.args.octets.now) c.args.place (omega (arith, length-clocks c.args.octets.now, c.if-place-octets.false)))
+    sym (slice_get_past (clocks c.args.octets.now) c.args.place
+    (omega (arith, length-clocks c.args.octets.now, c.if-place-octets.false)))

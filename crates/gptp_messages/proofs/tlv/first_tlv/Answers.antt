@@ -10,10 +10,15 @@ returns-in_err-tlv_type-clause-refused c =
     let p = err_from_is_err_and c.from_residual.result c.from_residual.ensures.1 in
     let refused = c.in_err-tlv_type.ensures.refused in
     let some : 0 < length c.loop-rest.rest.now = grind (arith, nat_tests, c.is_empty.ensures, c.loop-rest-test.true) in
-    rw (p.1, p.2) (refused.0, walk_is_stuck c.args.kind c.args.octets.now c.loop-rest.rest.now (option_copied c.loop-rest.found) c.loop-rest.invariant some refused.1)
+    rw (p.1, p.2) (
+      refused.0,
+      walk_is_stuck c.args.kind c.args.octets.now c.loop-rest.rest.now (option_copied c.loop-rest.found)
+          c.loop-rest.invariant some refused.1,
+    )
 
 pub loop-rest-preserved : goal.loop-rest-preserved
 loop-rest-preserved c =
     rw (c.first_of-found.ensures, c.is_of.ensures)
-    (walk_goes_on c.args.kind c.args.octets.now c.loop-rest.rest.now (option_copied c.loop-rest.found) c.in_ok-tlv_type.tlv_type c.in_ok-tlv_type.value.now
+    (walk_goes_on c.args.kind c.args.octets.now c.loop-rest.rest.now (option_copied c.loop-rest.found)
+    c.in_ok-tlv_type.tlv_type c.in_ok-tlv_type.value.now
     c.in_ok-tlv_type.behind.now c.loop-rest.invariant c.in_ok-tlv_type.ensures.front)

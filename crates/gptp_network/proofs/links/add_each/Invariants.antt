@@ -6,4 +6,6 @@ use Rattle.gptp_network.specs.Links.{with_link_of}
 use Rattle.gptp_network.proofs.links.add_each.Given as goal
 
 abbrev pub invariant-loop-link : goal.invariant-loop-link
-invariant-loop-link l = each_of with_link_of (items_view (drop l.link-index l.links)) l.network ≡ each_of with_link_of (items_view l.links) l.initial.network
+invariant-loop-link l =
+    each_of with_link_of (items_view (drop l.link-index l.links)) l.network
+    ≡ each_of with_link_of (items_view l.links) l.initial.network

@@ -6,4 +6,6 @@ use Rattle.gptp_network.specs.Systems.{with_system_of}
 use Rattle.gptp_network.proofs.systems.add_each.Given as goal
 
 abbrev pub invariant-loop-system : goal.invariant-loop-system
-invariant-loop-system l = each_of with_system_of (items_view (drop l.system-index l.systems)) l.network ≡ each_of with_system_of (items_view l.systems) l.initial.network
+invariant-loop-system l =
+    each_of with_system_of (items_view (drop l.system-index l.systems)) l.network
+    ≡ each_of with_system_of (items_view l.systems) l.initial.network

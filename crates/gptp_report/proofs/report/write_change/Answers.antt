@@ -11,6 +11,7 @@ returns-in-true c = on_ok_weaker c.write_calm.result (λ written.
 pub returns-in-false : goal.returns-in-false
 returns-in-false c =
     let d = c.args.document.now in
-    let restless : IsCalm d.network d.events → ⊥ = λ calm. let no : false ≡ true = c.in-false.ensures.1 calm in absurd cc in
+    let restless : IsCalm d.network d.events → ⊥ = λ calm. let no : false ≡ true = c.in-false.ensures.1 calm in
+    absurd cc in
     on_ok_weaker c.write_restless.result (λ written. (restless_line d, inr (restless, refl), written))
     c.write_restless.ensures

@@ -3,4 +3,5 @@ use Rattle.gptp_acts.proofs.RisingLemmas.{rising_clocks-at}
 use Rattle.gptp_report.proofs.report.write_system_at.Goals as goal
 
 pub write_system_of-requires : goal.write_system_of-requires
-write_system_of-requires g c = rising_clocks-at c.args.world.now.scene c.args.place c.in-Some.clock (sym c.in-Some.ensures)
+write_system_of-requires g c =
+    rising_clocks-at c.args.world.now.scene c.args.place c.in-Some.clock (sym c.in-Some.ensures)

@@ -5,5 +5,6 @@ use Rattle.gptp_report.proofs.report.write_systems.Given as goal
 
 -- the lines of the systems before the place are written
 abbrev pub invariant-loop-place : goal.invariant-loop-place
-invariant-loop-place g l = ShownSoFar (rising_clocks l.world.scene) (drop l.place (rising_clocks l.world.scene)) l.world.scene
+invariant-loop-place g l =
+    ShownSoFar (rising_clocks l.world.scene) (drop l.place (rising_clocks l.world.scene)) l.world.scene
     (string_bytes l.initial.text) (string_bytes l.text)

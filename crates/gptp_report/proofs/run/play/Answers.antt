@@ -13,7 +13,8 @@ loop-place-preserved g c =
     drop_more events i event c.loop-place-test.true ∙ ap (λ y. y ∷ drop (i + 1) events) (sym c.index-events-place.is) in
     let made = c.in_ok-make_if_due.ensures in
     let so_far = subst
-    (λ left. WentSoFar g.F.Fate.answers c.args.until events left c.args.frames c.args.world.now.fate c.loop-place.world.fate
+    (λ left. WentSoFar g.F.Fate.answers c.args.until events left c.args.frames c.args.world.now.fate
+    c.loop-place.world.fate
     c.args.world.now.scene c.loop-place.world.scene (string_bytes c.args.text.now) (string_bytes c.loop-place.text))
     here c.loop-place.invariant.so_far in
     record {
@@ -31,10 +32,12 @@ pub returns : goal.returns
 returns g c = on_ok_weaker c.go_on.result (λ went.
     let events = c.args.events.now in
     let all = subst
-    (λ left. WentSoFar g.F.Fate.answers c.args.until events left c.args.frames c.args.world.now.fate c.loop-place.world.fate
+    (λ left. WentSoFar g.F.Fate.answers c.args.until events left c.args.frames c.args.world.now.fate
+    c.loop-place.world.fate
     c.args.world.now.scene c.loop-place.world.scene (string_bytes c.args.text.now) (string_bytes c.loop-place.text))
     (drop_all c.loop-place.place events c.loop-place-test.false) c.loop-place.invariant.so_far in
     went_all g.F.Fate.answers c.args.until events c.args.frames c.args.world.now.fate c.loop-place.world.fate
     c.go_on.new.world.fate c.args.world.now.scene c.loop-place.world.scene c.go_on.new.world.scene
-    (string_bytes c.args.text.now) (string_bytes c.loop-place.text) (string_bytes c.go_on.new.text) went.0 all went.1 went.2)
+    (string_bytes c.args.text.now) (string_bytes c.loop-place.text) (string_bytes c.go_on.new.text) went.0 all went.1
+    went.2)
     c.go_on.ensures

@@ -13,8 +13,10 @@ pub loop-one-preserved : goal.loop-one-preserved
 loop-one-preserved c = λ v least.
     let rest = drop (c.loop-one.one-index + 1) c.args.held.now in
     let split : drop c.loop-one.one-index c.args.held.now ≡ c.one-item.result ∷ rest =
-    drop_more c.args.held.now c.loop-one.one-index c.one-item.result c.loop-one-test.true ∙ ap (λ x. x ∷ rest) (sym c.one-item.is) in
-    c.loop-one.invariant v (rw split (least_of_held c.loop-one.best c.one-item.result rest v (rw c.with_port-best.ensures at least)))
+    drop_more c.args.held.now c.loop-one.one-index c.one-item.result c.loop-one-test.true
+    ∙ ap (λ x. x ∷ rest) (sym c.one-item.is) in
+    c.loop-one.invariant v
+    (rw split (least_of_held c.loop-one.best c.one-item.result rest v (rw c.with_port-best.ensures at least)))
 
 pub returns : goal.returns
 returns c =

@@ -7,5 +7,6 @@ invariant-loop-one l = record {
   port : l.port ≡ l.one-index;
   roles : l.roles.items ≡ each_port (role_of l.chosen l.clock) (take l.one-index l.initial.held);
   fresh : l.fresh.items ≡ each_port (is_fresh l.chosen l.clock) (take l.one-index l.initial.held);
-  held : l.held ≡ each_port (held_after l.chosen l.clock) (take l.one-index l.initial.held) ++ drop l.one-index l.initial.held;
+  held : l.held
+      ≡ each_port (held_after l.chosen l.clock) (take l.one-index l.initial.held) ++ drop l.one-index l.initial.held;
 }

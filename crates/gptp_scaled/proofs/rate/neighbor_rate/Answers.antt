@@ -5,5 +5,6 @@ use Rattle.gptp_scaled.proofs.rate.neighbor_rate.Goals as goal
 
 pub returns-else-gain-elapsed-2 : goal.returns-else-gain-elapsed-2
 returns-else-gain-elapsed-2 c =
-    neighbor_back c.args.gain c.args.elapsed c.div_euclid.result c.clamp.result c.requires.positive c.requires.fits (omega (arith, ints)) (omega (arith, ints))
+    neighbor_back c.args.gain c.args.elapsed c.div_euclid.result c.clamp.result c.requires.positive c.requires.fits
+    (omega (arith, ints)) (omega (arith, ints))
     c.div_euclid.ensures c.clamp.ensures.value

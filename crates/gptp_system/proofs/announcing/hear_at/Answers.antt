@@ -10,5 +10,6 @@ returns-clause-heard c =
 pub returns-clause-held : goal.returns-clause-held
 returns-clause-held c =
     rw (c.hear.ensures.held, c.hear.ensures.heard, c.from.ensures)
-    (change_is (λ h. held_after (comparison h c.args.own c.args.announce.now) h (reception c.args.announce.now c.args.own c.args.now)) c.args.held.now
+    (change_is (λ h. held_after (comparison h c.args.own c.args.announce.now) h
+    (reception c.args.announce.now c.args.own c.args.now)) c.args.held.now
     c.args.own.port c.index-held-from.result c.requires.least c.requires.most)

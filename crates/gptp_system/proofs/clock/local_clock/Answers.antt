@@ -10,4 +10,5 @@ returns-clause-time c = grind (arith, common_steps)
 pub returns-clause-shown : goal.returns-clause-shown
 returns-clause-shown c =
     let early : c.args.t ≤ 1000000000000000000 = omega (arith, c.requires.moment) in
-    rw (returns-clause-time c) (clock_shows_time c.args.phase c.args.drift c.args.t c.requires.phase early c.requires.drift)
+    rw (returns-clause-time c)
+    (clock_shows_time c.args.phase c.args.drift c.args.t c.requires.phase early c.requires.drift)

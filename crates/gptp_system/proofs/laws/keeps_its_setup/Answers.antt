@@ -5,4 +5,5 @@ pub returns-clause-keeps : goal.returns-clause-keeps
 returns-clause-keeps c = λ input now s s' sends answer k. (steps_sound input now s s' sends answer k).kept
 
 pub returns-clause-identity : goal.returns-clause-identity
-returns-clause-identity c = λ input now s s' sends answer other k. (steps_steady input now s s' sends answer other k).identity
+returns-clause-identity c =
+    λ input now s s' sends answer other k. (steps_steady input now s s' sends answer other k).identity

@@ -11,7 +11,12 @@ announce_if-requires-clause-log c =
     let here = c.from.ensures ∙ c.loop-flag.invariant.number in
     let reached : length (take i fresh) ≤ i = omega (arith, length-take i fresh) in
     let within : i < length ports = omega (arith, c.loop-flag-test.true, c.requires.flags) in
-    rw (here, c.loop-flag.invariant.ports, not_reached c.args.now i (take i fresh) ports c.index-ports-from.result reached)
+    rw (
+      here,
+      c.loop-flag.invariant.ports,
+      not_reached c.args.now i (take i fresh) ports c.index-ports-from.result
+          reached,
+    )
     (port_at ports i c.index-ports-from.result c.requires.ports within).log_interval
 
 pub announce_if-requires-clause-room : goal.announce_if-requires-clause-room

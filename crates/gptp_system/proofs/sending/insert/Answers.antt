@@ -15,5 +15,7 @@ insert-requires c =
 pub returns : goal.returns
 returns c =
     let sends = c.args.outbox.now.items in
-    let place = c.sends_up_to-place.ensures ∙ ap (prefix_len (λ (one : Sending). nat_le one.port c.args.sending.port)) c.as_slice.ensures.value ∙ up_to_is c.args.sending.port sends in
+    let place = c.sends_up_to-place.ensures
+    ∙ ap (prefix_len (λ (one : Sending). nat_le one.port c.args.sending.port)) c.as_slice.ensures.value
+    ∙ up_to_is c.args.sending.port sends in
     c.insert.ensures.items ∙ ap (λ (n : ℕ). insert sends n c.args.sending) place

@@ -7,6 +7,7 @@ use Rattle.gptp_world.proofs.founding.list_cables.Goals as goal
 
 pub loop-place-preserved : goal.loop-place-preserved
 loop-place-preserved c =
-    ap (map channel_of) c.in_ok-push.ensures.items ∙ map-append channel_of c.loop-place.cables.items (c.cable_in.result ∷ [])
+    ap (map channel_of) c.in_ok-push.ensures.items
+    ∙ map-append channel_of c.loop-place.cables.items (c.cable_in.result ∷ [])
     ∙ ap (λ xs. xs ++ channel_of c.cable_in.result ∷ []) c.loop-place.invariant
     ∙ sym (taken (channels_of c.args.network.now) c.loop-place.place (channel_of c.cable_in.result) c.cable_in.ensures)

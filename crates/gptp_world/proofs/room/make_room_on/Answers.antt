@@ -51,5 +51,6 @@ returns-clause-ok c =
     let cables = c.args.cables.now in let link = c.args.link in let d = c.index-cables-link.result in
     let here = slice_get-get_or cables link d c.requires.link in
     on_ok c.reserve_arrivals.result _ _
-    (both_ways c.args.frames link cables (slice_index_or cables link d) _ c.reserve_arrivals.new.self here c.in_ok-reserve.ensures.ok)
+    (both_ways c.args.frames link cables (slice_index_or cables link d) _ c.reserve_arrivals.new.self here
+    c.in_ok-reserve.ensures.ok)
     c.reserve_arrivals.ensures.ok

@@ -6,8 +6,10 @@ use Rattle.gptp_world.proofs.scene.start_next.Goals as goal
 
 pub start-requires-clause-can : goal.start-requires-clause-can
 start-requires-clause-can g c =
-    let stage = c.args.stage.now in let made = c.make_room_to_start.new.self in let same = c.make_room_to_start.ensures.world in
-    let count : length made.stations.items ≡ length stage.stations.items = ap (λ (w : WorldState). length w.stations) same in
+    let stage = c.args.stage.now in let made = c.make_room_to_start.new.self in
+    let same = c.make_room_to_start.ensures.world in
+    let count : length made.stations.items
+    ≡ length stage.stations.items = ap (λ (w : WorldState). length w.stations) same in
     let less : c.args.place < length made.stations.items = rw count c.requires.place in
     can_start made c.args.place (same_sound (world_of stage) (world_of made) same c.requires.scene.sound) less
 
@@ -17,7 +19,8 @@ returns-clause-scene g c =
     record {
       stage_kept = c.start.ensures.stage;
       sound = start_sound c.args.place (world_of made) started.draws (world_of c.start.new.self)
-          (same_sound (world_of stage) (world_of made) c.make_room_to_start.ensures.world c.requires.scene.sound) started.starts;
+          (same_sound (world_of stage) (world_of made) c.make_room_to_start.ensures.world c.requires.scene.sound)
+          started.starts;
     }
 
 pub returns-clause-count : goal.returns-clause-count

@@ -19,8 +19,10 @@ returns-clause-sent g c = λ there is.
     let cable_is : slice_index_or cables link d ≡ room.cable = read cables link room.cable d room.here in
     let up = ap (λ (x : Cable). x.link.up) cable_is ∙ c.requires.up room.cable room.here in
     let e = c.send_on-due.ensures in
-    rw (← same) (sent g.F.Fate.answers c.args.now c.args.lane c.args.octets.items c.args.fate.now c.send_on-due.new.fate cables
-    (slice_index_or cables link d) c.send_on-due.new.cable c.send_on-due.result c.args.pending.now c.await_arrival.new.pending
+    rw (← same) (sent g.F.Fate.answers c.args.now c.args.lane c.args.octets.items c.args.fate.now
+    c.send_on-due.new.fate cables
+    (slice_index_or cables link d) c.send_on-due.new.cable c.send_on-due.result c.args.pending.now
+    c.await_arrival.new.pending
     here up e.a e.b e.others e.sent c.await_arrival.ensures.entries)
 
 pub returns-clause-joins : goal.returns-clause-joins
@@ -45,5 +47,6 @@ returns-clause-elsewhere g c = λ more other apart has.
     let d = c.index-cables-lane.result in let cables = c.args.cables.now in let link = c.args.lane.link in
     let room = c.requires.room in
     let here = stands cables link room.cable d room.here in
-    room_elsewhere more c.args.lane other cables (slice_index_or cables link d) c.send_on-due.new.cable c.args.pending.now
+    room_elsewhere more c.args.lane other cables (slice_index_or cables link d) c.send_on-due.new.cable
+    c.args.pending.now
     c.await_arrival.new.pending here c.send_on-due.ensures.others c.await_arrival.ensures.others apart has

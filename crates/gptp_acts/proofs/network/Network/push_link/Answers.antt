@@ -5,4 +5,7 @@ use Rattle.gptp_acts.proofs.NetworkLemmas.{link_added}
 use Rattle.gptp_acts.proofs.network.Network.push_link.Goals as goal
 
 pub invariant_of-self-2 : goal.invariant_of-self-2
-invariant_of-self-2 c = rw c.in_ok-push.ensures.items (link_added _ c.args.wire c.self.invariant (subst (λ n. CanAddLink n c.args.wire) (sym c.self.view_is) c.requires))
+invariant_of-self-2 c =
+    rw c.in_ok-push.ensures.items
+    (link_added _ c.args.wire c.self.invariant
+    (subst (λ n. CanAddLink n c.args.wire) (sym c.self.view_is) c.requires))

@@ -5,4 +5,7 @@ use Rattle.gptp_acts.proofs.NetworkLemmas.{system_added}
 use Rattle.gptp_acts.proofs.network.Network.push_system.Goals as goal
 
 pub invariant_of-self-2 : goal.invariant_of-self-2
-invariant_of-self-2 c = rw c.in_ok-push.ensures.items (system_added _ c.args.member c.self.invariant (subst (λ n. CanAddSystem n c.args.member) (sym c.self.view_is) c.requires) (search rules))
+invariant_of-self-2 c =
+    rw c.in_ok-push.ensures.items
+    (system_added _ c.args.member c.self.invariant
+    (subst (λ n. CanAddSystem n c.args.member) (sym c.self.view_is) c.requires) (search rules))

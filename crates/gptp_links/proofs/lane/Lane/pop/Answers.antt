@@ -21,4 +21,5 @@ pub returns-clause-taken : goal.returns-clause-taken
 returns-clause-taken c =
     let gone = c.remove-flight.ensures in
     rw (← c.self.view_is, c.in_ok-key.ensures.items)
-    (frames_of-pop c.self.inside.flights c.remove-flight.new.self c.pop_front.new.self.items c.in_ok-key.key c.remove-flight.result (held c) gone.value gone.updates)
+    (frames_of-pop c.self.inside.flights c.remove-flight.new.self c.pop_front.new.self.items c.in_ok-key.key
+    c.remove-flight.result (held c) gone.value gone.updates)

@@ -11,10 +11,12 @@ invariant_of-self c =
     let fits : slab_len c.insert_reserved-key.new.self ≤ c.insert_reserved-key.new.self.capacity =
     omega (arith, new.len, new.capacity, roomy) in
     rw c.push_back_reserved.ensures.items
-    (holds-push c.self.inside.flights c.insert_reserved-key.new.self c.self.inside.keys.items c.insert_reserved-key.result _ c.self.invariant new.was_vacant new.updates fits late)
+    (holds-push c.self.inside.flights c.insert_reserved-key.new.self c.self.inside.keys.items
+    c.insert_reserved-key.result _ c.self.invariant new.was_vacant new.updates fits late)
 
 pub returns-clause-frames : goal.returns-clause-frames
 returns-clause-frames c =
     let new = c.insert_reserved-key.ensures in
     rw (c.push_back_reserved.ensures.items, ← c.self.view_is)
-    (frames_of-push c.self.inside.flights c.insert_reserved-key.new.self c.self.inside.keys.items c.insert_reserved-key.result _ c.self.invariant new.was_vacant new.updates)
+    (frames_of-push c.self.inside.flights c.insert_reserved-key.new.self c.self.inside.keys.items
+    c.insert_reserved-key.result _ c.self.invariant new.was_vacant new.updates)

@@ -6,11 +6,13 @@ use Rattle.gptp_messages.proofs.path.PathView.copy_to.Goals as goal
 pub append_clocks-requires : goal.append_clocks-requires
 append_clocks-requires c =
     let octets = c.self.inside.octets.now in
-    let room : length (clocks octets) ≤ 256 = ends_before (clocks octets) 256 (sym c.clock_of.ensures ∙ c.in_default.is) in
+    let room : length (clocks octets)
+    ≤ 256 = ends_before (clocks octets) 256 (sym c.clock_of.ensures ∙ c.in_default.is) in
     rw c.clear.ensures (omega (arith, length-clocks octets))
 
 pub returns-clause-room : goal.returns-clause-room
 returns-clause-room c =
     let octets = c.self.inside.octets.now in
-    let room : length (clocks octets) ≤ 256 = ends_before (clocks octets) 256 (sym c.clock_of.ensures ∙ c.in_default.is) in
+    let room : length (clocks octets)
+    ≤ 256 = ends_before (clocks octets) 256 (sym c.clock_of.ensures ∙ c.in_default.is) in
     (λ _. rw (← c.self.view_is) room, λ _. refl)

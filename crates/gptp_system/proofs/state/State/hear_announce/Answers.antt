@@ -19,11 +19,13 @@ select_if-requires-clause-ready c =
     let hear = λ (h : Held). held_after (comparison h me a) h (reception a me c.args.now) in
     let is : c.hear_at-heard.new.held ≡ change hear c.args.port s.held.items =
     rw (c.own-own.ensures, c.as_mut_slice.ensures.value) at c.hear_at-heard.ensures.held in
-    let kept : length c.hear_at-heard.new.held ≡ array_vec_len s.held = omega (arith, ap length is, change-length hear c.args.port s.held.items) in
+    let kept : length c.hear_at-heard.new.held
+    ≡ array_vec_len s.held = omega (arith, ap length is, change-length hear c.args.port s.held.items) in
     let qualified : Qualified a c.own-own.result.clock = search rules in
     let qualified-here : Qualified a (clock (state_of s)) = rw c.own-own.ensures at qualified in
     rw (items-with_items s.held c.hear_at-heard.new.held kept)
-    (held_ready (state_of s) c.args.port hear c.hear_at-heard.new.held c.requires.ready (hearing_keeps me a c.args.now qualified-here c.requires.moment) is)
+    (held_ready (state_of s) c.args.port hear c.hear_at-heard.new.held c.requires.ready
+    (hearing_keeps me a c.args.now qualified-here c.requires.moment) is)
 
 pub returns-clause-step : goal.returns-clause-step
 returns-clause-step c =
@@ -33,7 +35,8 @@ returns-clause-step c =
     let hear = λ (h : Held). held_after (comparison h me a) h (reception a me c.args.now) in
     let is : c.hear_at-heard.new.held ≡ change hear c.args.port s.held.items =
     rw (c.own-own.ensures, c.as_mut_slice.ensures.value) at c.hear_at-heard.ensures.held in
-    let kept : length c.hear_at-heard.new.held ≡ array_vec_len s.held = omega (arith, ap length is, change-length hear c.args.port s.held.items) in
+    let kept : length c.hear_at-heard.new.held
+    ≡ array_vec_len s.held = omega (arith, ap length is, change-length hear c.args.port s.held.items) in
     let heard : c.hear_at-heard.result ≡ comparison (held_at (state_of s) c.args.port) me a =
     rw (c.own-own.ensures, c.as_mut_slice.ensures.value) at c.hear_at-heard.ensures.heard in
     let taken = c.is_taken.ensures ∙ ap is_taken heard in

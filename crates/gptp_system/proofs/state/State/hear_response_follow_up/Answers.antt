@@ -11,7 +11,8 @@ pub settle-requires-clause-ready : goal.settle-requires-clause-ready
 settle-requires-clause-ready c =
     let m = c.args.message.now in
     let place = ap (λ (n : ℕ). n - 1) c.from.ensures in
-    stepped_ready c.args.self.now (after_follow_up m) c.args.port _ _ c.index-deref_mut-from.result _ (follow_up_keeps m) c.requires.least c.requires.most
+    stepped_ready c.args.self.now (after_follow_up m) c.args.port _ _ c.index-deref_mut-from.result _
+    (follow_up_keeps m) c.requires.least c.requires.most
     c.deref_mut.ensures.value place c.follow_up-changed.ensures.port c.requires.ready
 
 pub returns-clause-step : goal.returns-clause-step
@@ -19,9 +20,13 @@ returns-clause-step c =
     let s = c.args.self.now in
     let m = c.args.message.now in
     let place = ap (λ (n : ℕ). n - 1) c.from.ensures in
-    let at = number_at s.ports.items c.args.port _ _ c.index-deref_mut-from.result c.requires.least c.requires.most c.deref_mut.ensures.value place in
+    let at = number_at s.ports.items c.args.port _ _ c.index-deref_mut-from.result c.requires.least c.requires.most
+    c.deref_mut.ensures.value place in
     record {
-      turns = has_turned s (state_of c.settle.new.self) c.settle.new.outbox.items (after_follow_up m) c.args.port c.args.now _ _ c.index-deref_mut-from.result _ _
-          c.requires.least c.requires.most c.deref_mut.ensures.value place c.follow_up-changed.ensures.port c.follow_up-changed.ensures.changed c.settle.ensures.settled;
-      answer_is = c.follow_up-changed.ensures.answer ∙ sym (ap (λ (o : Option Port). answer_of (step_at (follow_up_step m) o)) at);
+      turns = has_turned s (state_of c.settle.new.self) c.settle.new.outbox.items (after_follow_up m) c.args.port
+          c.args.now _ _ c.index-deref_mut-from.result _ _
+          c.requires.least c.requires.most c.deref_mut.ensures.value place c.follow_up-changed.ensures.port
+          c.follow_up-changed.ensures.changed c.settle.ensures.settled;
+      answer_is = c.follow_up-changed.ensures.answer
+          ∙ sym (ap (λ (o : Option Port). answer_of (step_at (follow_up_step m) o)) at);
     }

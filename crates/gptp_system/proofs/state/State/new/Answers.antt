@@ -7,7 +7,8 @@ use Rattle.gptp_system.proofs.state.State.new.Goals as goal
 
 pub push-requires : goal.push-requires
 push-requires c =
-    let size = ap length c.loop-place.invariant.ports ∙ length-new_ports c.clock-clock.result c.args.setup.params c.loop-place.place in
+    let size = ap length c.loop-place.invariant.ports
+    ∙ length-new_ports c.clock-clock.result c.args.setup.params c.loop-place.place in
     (omega arith, omega (arith, size, c.loop-place-test.true, c.from-place-end.ensures, c.requires.ports))
 
 pub push-requires-in-loop-place : goal.push-requires-in-loop-place
@@ -19,7 +20,9 @@ pub loop-place-preserved : goal.loop-place-preserved
 loop-place-preserved c =
     let place = c.loop-place.place in
     let next : 1 + place ≡ place + 1 = omega arith in
-    let ports-more = map-range_with_len_more (λ p. new_port (record { clock = c.clock-clock.result; port = p }) c.args.setup.params) 1 place (place + 1) next in
+    let ports-more =
+    map-range_with_len_more (λ p. new_port (record { clock = c.clock-clock.result; port = p }) c.args.setup.params)
+    1 place (place + 1) next in
     let held-more = map-range_with_len_more (λ p. helds.Disabled) 1 place (place + 1) next in
     record {
       ports = rw (c.push.ensures.items, c.loop-place.invariant.ports, c.new_port.ensures) (sym ports-more);

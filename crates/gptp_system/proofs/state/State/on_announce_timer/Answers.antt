@@ -13,6 +13,9 @@ returns-clause-ready c =
     let s = c.args.self.now in
     let is : c.announce_at.new.ports ≡ change (announced c.args.now) c.args.port s.ports.items =
     rw (c.own-own.ensures, c.as_mut_slice.ensures.value) at c.announce_at.ensures.ports in
-    let kept : length c.announce_at.new.ports ≡ array_vec_len s.ports = omega (arith, ap length is, change-length (announced c.args.now) c.args.port s.ports.items) in
+    let kept : length c.announce_at.new.ports
+    ≡ array_vec_len s.ports =
+    omega (arith, ap length is, change-length (announced c.args.now) c.args.port s.ports.items) in
     rw (items-with_items s.ports c.announce_at.new.ports kept)
-    (ports_ready (state_of s) c.args.port (announced c.args.now) c.announce_at.new.ports c.requires.ready (port_announced c.args.now true) is)
+    (ports_ready (state_of s) c.args.port (announced c.args.now) c.announce_at.new.ports c.requires.ready
+    (port_announced c.args.now true) is)

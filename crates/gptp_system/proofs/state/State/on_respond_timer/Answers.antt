@@ -11,8 +11,10 @@ pub returns-in-Some-clause-step : goal.returns-in-Some-clause-step
 returns-in-Some-clause-step c =
     let s = c.args.self.now in
     let place = ap (λ (n : ℕ). n - 1) c.from.ensures in
-    let at = number_at s.ports.items c.args.port _ _ c.index-deref_mut-from.result c.requires.least c.requires.most c.deref_mut.ensures.value place in
-    let owes = ap (λ (o : Option Port). option_map_or (λ (q : Port). q.peer.waiting) o None) at ∙ sym c.take_owed.ensures.owed ∙ c.in-Some.is in
+    let at = number_at s.ports.items c.args.port _ _ c.index-deref_mut-from.result c.requires.least c.requires.most
+    c.deref_mut.ensures.value place in
+    let owes = ap (λ (o : Option Port). option_map_or (λ (q : Port). q.peer.waiting) o None) at ∙ sym
+    c.take_owed.ensures.owed ∙ c.in-Some.is in
     let responds : Responds c.args.port c.args.now (state_of s) c.in-Some.owed c.respond.new.outbox.items =
     record {
       came = c.respond.ensures.came;
@@ -24,17 +26,25 @@ returns-in-Some-clause-step c =
       sends_are = c.respond.ensures.sends_are;
     } in
     record {
-      state = port_written s answering_done c.args.port _ _ _ _ c.requires.least c.requires.most c.deref_mut.ensures.value place c.take_owed.ensures.port;
-      responds = subst (λ (o : Option Answer). RespondsIf o c.args.port c.args.now (state_of s) c.respond.new.outbox.items) (sym owes) responds;
+      state = port_written s answering_done c.args.port _ _ _ _ c.requires.least c.requires.most
+          c.deref_mut.ensures.value place c.take_owed.ensures.port;
+      responds = subst
+          (λ (o : Option Answer). RespondsIf o c.args.port c.args.now (state_of s) c.respond.new.outbox.items)
+          (sym owes) responds;
     }
 
 pub returns-in-None-clause-step : goal.returns-in-None-clause-step
 returns-in-None-clause-step c =
     let s = c.args.self.now in
     let place = ap (λ (n : ℕ). n - 1) c.from.ensures in
-    let at = number_at s.ports.items c.args.port _ _ c.index-deref_mut-from.result c.requires.least c.requires.most c.deref_mut.ensures.value place in
-    let owes = ap (λ (o : Option Port). option_map_or (λ (q : Port). q.peer.waiting) o None) at ∙ sym c.take_owed.ensures.owed ∙ c.in-None.is in
+    let at = number_at s.ports.items c.args.port _ _ c.index-deref_mut-from.result c.requires.least c.requires.most
+    c.deref_mut.ensures.value place in
+    let owes = ap (λ (o : Option Port). option_map_or (λ (q : Port). q.peer.waiting) o None) at ∙ sym
+    c.take_owed.ensures.owed ∙ c.in-None.is in
     record {
-      state = port_written s answering_done c.args.port _ _ _ _ c.requires.least c.requires.most c.deref_mut.ensures.value place c.take_owed.ensures.port;
-      responds = subst (λ (o : Option Answer). RespondsIf o c.args.port c.args.now (state_of s) c.args.outbox.now.items) (sym owes) c.requires.empty;
+      state = port_written s answering_done c.args.port _ _ _ _ c.requires.least c.requires.most
+          c.deref_mut.ensures.value place c.take_owed.ensures.port;
+      responds = subst
+          (λ (o : Option Answer). RespondsIf o c.args.port c.args.now (state_of s) c.args.outbox.now.items) (sym owes)
+          c.requires.empty;
     }

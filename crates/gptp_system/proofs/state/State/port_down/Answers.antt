@@ -10,7 +10,8 @@ select-requires-clause-ready c =
     let s = c.args.self.now in
     let place = ap (λ (n : ℕ). n - 1) c.from-place.ensures in
     let there : c.args.port ≤ length s.held.items = omega (arith, c.requires.most, c.requires.ready.places) in
-    let written = down_written s c.args.port _ _ _ c.index-deref_mut-place.result _ _ c.index-deref_mut-place-2.result _ c.requires.least c.requires.most there
+    let written = down_written s c.args.port _ _ _ c.index-deref_mut-place.result _ _ c.index-deref_mut-place-2.result
+    _ c.requires.least c.requires.most there
     c.deref_mut.ensures.value place c.silence.ensures c.deref_mut-2.ensures.value place c.hold.ensures in
     subst IsReady (sym written) (down_ready c.args.port (state_of s) c.requires.ready)
 
@@ -19,6 +20,8 @@ returns-clause-step c =
     let s = c.args.self.now in
     let place = ap (λ (n : ℕ). n - 1) c.from-place.ensures in
     let there : c.args.port ≤ length s.held.items = omega (arith, c.requires.most, c.requires.ready.places) in
-    let written = down_written s c.args.port _ _ _ c.index-deref_mut-place.result _ _ c.index-deref_mut-place-2.result _ c.requires.least c.requires.most there
+    let written = down_written s c.args.port _ _ _ c.index-deref_mut-place.result _ _ c.index-deref_mut-place-2.result
+    _ c.requires.least c.requires.most there
     c.deref_mut.ensures.value place c.silence.ensures c.deref_mut-2.ensures.value place c.hold.ensures in
-    subst (λ (t : SystemState). Selects c.args.now t (state_of c.select.new.self) c.select.new.outbox.items) written c.select.ensures.selects
+    subst (λ (t : SystemState). Selects c.args.now t (state_of c.select.new.self) c.select.new.outbox.items) written
+    c.select.ensures.selects

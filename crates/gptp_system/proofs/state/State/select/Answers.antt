@@ -15,7 +15,8 @@ use Rattle.gptp_system.proofs.state.State.select.Goals as goal
 pub announce_fresh-requires-clause-flags : goal.announce_fresh-requires-clause-flags
 announce_fresh-requires-clause-flags c =
     let chosen = c.select-selected.ensures.selection in
-    let flags = ap length chosen.fresh ∙ length-each_from (is_fresh chosen.chosen (clock_of c.args.self.now.identity)) 1 c.as_mut_slice.result.now in
+    let flags = ap length chosen.fresh
+    ∙ length-each_from (is_fresh chosen.chosen (clock_of c.args.self.now.identity)) 1 c.as_mut_slice.result.now in
     ap length c.as_slice.ensures.value ∙ flags ∙ ap length c.as_mut_slice.ensures.value ∙ c.requires.ready.places
     ∙ sym (ap length c.as_mut_slice-2.ensures.value)
 
@@ -26,18 +27,32 @@ returns-clause-selects c =
     let selection : IsSelection s.identity s.held.items t c.select-selected.new.held =
     rw c.as_mut_slice.ensures.value at c.select-selected.ensures.selection in
     let held-kept : length c.select-selected.new.held ≡ array_vec_len s.held =
-    omega (arith, ap length selection.held, length-each_from (held_after selection.chosen (clock_of s.identity)) 1 s.held.items) in
+    omega (
+      arith,
+      ap length selection.held,
+      length-each_from (held_after selection.chosen (clock_of s.identity)) 1
+          s.held.items,
+    ) in
     let held-is = items-with_items s.held c.select-selected.new.held held-kept in
     let ports-are : c.announce_fresh.new.ports ≡ all_announced c.args.now t.fresh.items s.ports.items =
     rw (← c.as_slice.ensures.value, ← c.as_mut_slice-2.ensures.value) c.announce_fresh.ensures.ports in
-    let flags = ap length selection.fresh ∙ length-each_from (is_fresh selection.chosen (clock_of s.identity)) 1 s.held.items in
+    let flags = ap length selection.fresh
+    ∙ length-each_from (is_fresh selection.chosen (clock_of s.identity)) 1 s.held.items in
     let ports-kept : length c.announce_fresh.new.ports ≡ array_vec_len s.ports =
-    omega (arith, ap length ports-are, length-all_announced c.args.now t.fresh.items s.ports.items (omega (arith, flags, c.requires.ready.places))) in
+    omega (
+      arith,
+      ap length ports-are,
+      length-all_announced c.args.now t.fresh.items s.ports.items
+          (omega (arith, flags, c.requires.ready.places)),
+    ) in
     let ports-is = items-with_items s.ports c.announce_fresh.new.ports ports-kept in
-    let sends-are : c.announce_fresh.new.outbox.items ≡ announcements (clock (state_of s)) t.root t.steps 1 t.fresh.items s.ports.items =
-    rw (← c.as_slice.ensures.value, ← c.as_mut_slice-2.ensures.value, ← c.clock-clock.ensures) c.announce_fresh.ensures.sends in
+    let sends-are : c.announce_fresh.new.outbox.items
+    ≡ announcements (clock (state_of s)) t.root t.steps 1 t.fresh.items s.ports.items =
+    rw (← c.as_slice.ensures.value, ← c.as_mut_slice-2.ensures.value, ← c.clock-clock.ensures)
+    c.announce_fresh.ensures.sends in
     rw (held-is, ports-is)
-    (took_over c.args.now (state_of s) t c.select-selected.new.held c.announce_fresh.new.ports _ _ _ _ _ c.follows_on-same.result selection ports-are
+    (took_over c.args.now (state_of s) t c.select-selected.new.held c.announce_fresh.new.ports _ _ _ _ _
+    c.follows_on-same.result selection ports-are
     sends-are
     c.follows_on-same.ensures
     (record {
@@ -52,6 +67,13 @@ returns-clause-ready c =
     let s = c.args.self.now in
     let chosen = c.select-selected.ensures.selection in
     let held-kept : length c.select-selected.new.held ≡ array_vec_len s.held =
-    omega (arith, ap length chosen.held, length-each_from (held_after chosen.chosen (clock_of s.identity)) 1 c.as_mut_slice.result.now, ap length c.as_mut_slice.ensures.value) in
-    selects_ready c.args.now _ _ _ c.requires.ready (rw (items-with_items s.held c.select-selected.new.held held-kept) c.select-selected.ensures.placed)
+    omega (
+      arith,
+      ap length chosen.held,
+      length-each_from (held_after chosen.chosen (clock_of s.identity)) 1
+          c.as_mut_slice.result.now,
+      ap length c.as_mut_slice.ensures.value,
+    ) in
+    selects_ready c.args.now _ _ _ c.requires.ready
+    (rw (items-with_items s.held c.select-selected.new.held held-kept) c.select-selected.ensures.placed)
     (returns-clause-selects c)

@@ -16,18 +16,24 @@ pub returns-clause-state : goal.returns-clause-state
 returns-clause-state c =
     let s = c.args.self.now in
     let place = ap (λ (n : ℕ). n - 1) c.from.ensures in
-    let written = port_written s (asking c.local_time-t1.result (c.args.now + c.interval_of.result)) c.args.port _ _ _ _ c.requires.least c.requires.most c.deref_mut.ensures.value place c.ask-sequence.ensures.port in
-    let interval = c.interval_of.ensures.interval ∙ ap interval_of (log_back s.params.pdelay c.requires.ready.params.pdelay) in
+    let written = port_written s (asking c.local_time-t1.result (c.args.now + c.interval_of.result)) c.args.port _ _ _
+    _ c.requires.least c.requires.most c.deref_mut.ensures.value place c.ask-sequence.ensures.port in
+    let interval = c.interval_of.ensures.interval
+    ∙ ap interval_of (log_back s.params.pdelay c.requires.ready.params.pdelay) in
     written
-    ∙ ap (λ (t : ℤ). on_port c.args.port (asking t (c.args.now + c.interval_of.result)) (state_of s)) c.local_time-t1.ensures.time
-    ∙ ap (λ (n : ℕ). on_port c.args.port (asking (local_time (state_of s) c.args.now) (c.args.now + n)) (state_of s)) interval
+    ∙ ap (λ (t : ℤ). on_port c.args.port (asking t (c.args.now + c.interval_of.result)) (state_of s))
+    c.local_time-t1.ensures.time
+    ∙ ap (λ (n : ℕ). on_port c.args.port (asking (local_time (state_of s) c.args.now) (c.args.now + n)) (state_of s))
+    interval
 
 pub returns-clause-sends : goal.returns-clause-sends
 returns-clause-sends c =
     let s = c.args.self.now in
     let place = ap (λ (n : ℕ). n - 1) c.from.ensures in
-    let at = number_at s.ports.items c.args.port _ _ c.index-deref_mut-from.result c.requires.least c.requires.most c.deref_mut.ensures.value place in
-    let sequence = c.ask-sequence.ensures.sequence ∙ sym (ap (λ (o : Option Port). option_map_or (λ (q : Port). q.peer.next) o 0) at) in
+    let at = number_at s.ports.items c.args.port _ _ c.index-deref_mut-from.result c.requires.least c.requires.most
+    c.deref_mut.ensures.value place in
+    let sequence = c.ask-sequence.ensures.sequence
+    ∙ sym (ap (λ (o : Option Port). option_map_or (λ (q : Port). q.peer.next) o 0) at) in
     let log = log_back s.params.pdelay c.requires.ready.params.pdelay in
     let message =
     c.request.ensures
@@ -40,6 +46,8 @@ pub returns-clause-ready : goal.returns-clause-ready
 returns-clause-ready c =
     let s = c.args.self.now in
     let place = ap (λ (n : ℕ). n - 1) c.from.ensures in
-    let written = port_written s (asking c.local_time-t1.result (c.args.now + c.interval_of.result)) c.args.port _ _ _ _ c.requires.least c.requires.most c.deref_mut.ensures.value place c.ask-sequence.ensures.port in
+    let written = port_written s (asking c.local_time-t1.result (c.args.now + c.interval_of.result)) c.args.port _ _ _
+    _ c.requires.least c.requires.most c.deref_mut.ensures.value place c.ask-sequence.ensures.port in
     subst IsReady (sym written)
-    (port_ready c.args.port (asking c.local_time-t1.result (c.args.now + c.interval_of.result)) (state_of s) (λ q is. record { log_interval = is.log_interval; waiting = is.waiting }) c.requires.ready)
+    (port_ready c.args.port (asking c.local_time-t1.result (c.args.now + c.interval_of.result)) (state_of s)
+    (λ q is. record { log_interval = is.log_interval; waiting = is.waiting }) c.requires.ready)

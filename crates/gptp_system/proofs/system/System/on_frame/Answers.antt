@@ -8,4 +8,5 @@ on_frame-requires-clause-shown c = capable_holds (state_of c.self.inside.state) 
 
 pub invariant_of-self : goal.invariant_of-self
 invariant_of-self c =
-    stays_system (Frame c.args.port c.args.frame.now) c.args.now _ _ _ c.on_frame.result c.self.invariant c.on_frame.ensures.ready c.on_frame.ensures.step
+    stays_system (Frame c.args.port c.args.frame.now) c.args.now _ _ _ c.on_frame.result c.self.invariant
+    c.on_frame.ensures.ready c.on_frame.ensures.step

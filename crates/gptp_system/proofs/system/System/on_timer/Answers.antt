@@ -5,4 +5,5 @@ use Rattle.gptp_system.proofs.system.System.on_timer.Goals as goal
 
 pub invariant_of-self : goal.invariant_of-self
 invariant_of-self c =
-    stays_system (Expires c.args.timer) c.args.now _ _ _ answers.Used c.self.invariant c.on_timer.ensures.ready c.on_timer.ensures.step
+    stays_system (Expires c.args.timer) c.args.now _ _ _ answers.Used c.self.invariant c.on_timer.ensures.ready
+    c.on_timer.ensures.step

@@ -5,4 +5,5 @@ use Rattle.gptp_system.proofs.system.System.port_up.Goals as goal
 
 pub invariant_of-self : goal.invariant_of-self
 invariant_of-self c =
-    stays_system (PortUp c.args.port) c.args.now _ _ _ answers.Used c.self.invariant c.port_up.ensures.ready c.port_up.ensures.step
+    stays_system (PortUp c.args.port) c.args.now _ _ _ answers.Used c.self.invariant c.port_up.ensures.ready
+    c.port_up.ensures.step

@@ -5,4 +5,5 @@ use Rattle.gptp_system.proofs.system.System.set_priority.Goals as goal
 
 pub invariant_of-self : goal.invariant_of-self
 invariant_of-self c =
-    stays_system (Priority c.args.priority1) c.args.now _ _ _ answers.Used c.self.invariant c.set_priority.ensures.ready c.set_priority.ensures.step
+    stays_system (Priority c.args.priority1) c.args.now _ _ _ answers.Used c.self.invariant
+    c.set_priority.ensures.ready c.set_priority.ensures.step

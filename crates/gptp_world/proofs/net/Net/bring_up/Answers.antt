@@ -16,7 +16,8 @@ pub returns-clause-up : goal.returns-clause-up
 returns-clause-up c = λ cable there.
     let one = c.index_mut.result.now in let cables = c.args.self.now.cables.items in
     let is : one ≡ cable = c.index_mut.ensures.value ∙ read cables c.args.link cable one there in
-    rw (← is) (net_changed cables c.args.link _ _ c.args.self.now.pending _ (let link = c.up.ensures in rw link refl) refl)
+    rw (← is) (net_changed cables c.args.link _ _ c.args.self.now.pending _ (let link = c.up.ensures in
+    rw link refl) refl)
 
 pub returns-clause-uses : goal.returns-clause-uses
 returns-clause-uses c =

@@ -14,7 +14,8 @@ make_room_on-requires-clause-link c =
 pub returns-in-Some-clause-ok : goal.returns-in-Some-clause-ok
 returns-in-Some-clause-ok c =
     let e = c.make_room_on.ensures in let written = c.make_room_on.new.cables in
-    let items = written_back c.args.self.now.cables c.as_mut_slice.result.now written c.as_mut_slice.ensures.value e.joins in
+    let items = written_back c.args.self.now.cables c.as_mut_slice.result.now written c.as_mut_slice.ensures.value
+    e.joins in
     on_ok c.make_room_on.result _ _
     (λ room. λ clock here lane begins.
     let same : c.in-Some.lane ≡ lane = same_Some c.in-Some.lane lane (c.in-Some.ensures.only clock lane here begins) in

@@ -9,7 +9,8 @@ loop-port-preserved c =
       within = omega (arith, test);
       net = e.net;
       only = one_after_another c.args.self.now c.loop-port.self c.make_room_at.new.self so_far.only e.only;
-      room = one_more_port c.args.frames c.args.place c.loop-port.port c.loop-port.self c.make_room_at.new.self e.only so_far.room
+      room = one_more_port c.args.frames c.args.place c.loop-port.port c.loop-port.self c.make_room_at.new.self e.only
+          so_far.room
           c.in_ok-make_room_at.ensures.ok;
     }
 

@@ -23,7 +23,8 @@ send_next-requires-clause-room g c =
     let all : xs ≡ take i xs ++ (x ∷ drop (i + 1) xs) = sym (take-append-drop i xs) ∙ ap (λ ys. take i xs ++ ys) here in
     let has : HasRoom (for_sends number (take i xs ++ (x ∷ drop (i + 1) xs))) net = rw (← all) c.requires.room in
     let left : HasRoom (for_sends number (x ∷ drop (i + 1) xs)) c.loop-send.self =
-    left_of (for_sends number (take i xs)) (for_sends number (x ∷ drop (i + 1) xs)) net c.loop-send.self c.loop-send.invariant.uses
+    left_of (for_sends number (take i xs)) (for_sends number (x ∷ drop (i + 1) xs)) net c.loop-send.self
+    c.loop-send.invariant.uses
     (covered _ _ net (sends_covered number (take i xs) (x ∷ drop (i + 1) xs)) has) in
     let first : HasRoom (both (for_sends number (x ∷ [])) (for_sends number (drop (i + 1) xs))) c.loop-send.self =
     covered _ _ c.loop-send.self (sends_covered number (x ∷ []) (drop (i + 1) xs)) left in
@@ -37,12 +38,15 @@ loop-send-preserved g c =
     let t = take_more xs i x c.loop-send-test.true in
     let front : take (i + 1) xs ≡ take i xs ++ x ∷ [] = t ∙ ap (λ y. take i xs ++ y ∷ []) (sym c.send-item.is) in
     let e = c.send_next.ensures in let so_far = c.loop-send.invariant in
-    let used = uses_both (for_sends number (take i xs)) (for_sends number (x ∷ [])) c.args.self.now c.loop-send.self c.send_next.new.self
+    let used = uses_both (for_sends number (take i xs)) (for_sends number (x ∷ [])) c.args.self.now c.loop-send.self
+    c.send_next.new.self
     so_far.uses e.uses in
     record {
       net = e.net;
-      uses = rw front (uses_less _ _ c.args.self.now c.send_next.new.self (sends_covered number (take i xs) (x ∷ [])) used);
-      sent = rw front (sent_next g.F.Fate.answers c.args.now c.args.system.now (take i xs) x c.args.fate.now c.loop-send.fate
+      uses = rw front
+          (uses_less _ _ c.args.self.now c.send_next.new.self (sends_covered number (take i xs) (x ∷ [])) used);
+      sent = rw front
+          (sent_next g.F.Fate.answers c.args.now c.args.system.now (take i xs) x c.args.fate.now c.loop-send.fate
           c.send_next.new.fate (between c.args.self.now) (between c.loop-send.self) (between c.send_next.new.self)
           so_far.sent e.sent);
     }

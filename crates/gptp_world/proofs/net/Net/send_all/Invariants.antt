@@ -10,5 +10,6 @@ abbrev pub invariant-loop-send : goal.invariant-loop-send
 invariant-loop-send g l = record {
   net : IsNet l.self;
   uses : Uses (for_sends (clock l.system) (take l.send-index l.sends)) l.initial.self l.self;
-  sent : SentAll g.F.Fate.answers l.now l.system (take l.send-index l.sends) l.initial.fate l.fate (between l.initial.self) (between l.self);
+  sent : SentAll g.F.Fate.answers l.now l.system (take l.send-index l.sends) l.initial.fate l.fate
+      (between l.initial.self) (between l.self);
 }

@@ -11,7 +11,8 @@ use Rattle.gptp_world.proofs.net.Net.send_next.Goals as goal
 pub send_one-requires-clause-room : goal.send_one-requires-clause-room
 send_one-requires-clause-room g c =
     let up = c.in-Some.ensures.some (clock c.args.system.now) c.requires.place in
-    rw c.as_mut_slice.ensures.value (room_first (clock c.args.system.now) c.args.send.now c.args.self.now c.in-Some.lane c.requires.room up)
+    rw c.as_mut_slice.ensures.value
+    (room_first (clock c.args.system.now) c.args.send.now c.args.self.now c.in-Some.lane c.requires.room up)
 
 pub send_one-requires-clause-up : goal.send_one-requires-clause-up
 send_one-requires-clause-up g c = λ one here.
@@ -23,7 +24,8 @@ send_one-requires-clause-up g c = λ one here.
 pub returns-in-Some-clause-sent : goal.returns-in-Some-clause-sent
 returns-in-Some-clause-sent g c =
     let up = c.in-Some.ensures.some (clock c.args.system.now) c.requires.place in
-    let known = known_cable c.args.self.now (port_id (clock c.args.system.now) c.args.send.now.port) c.in-Some.lane c.requires.net up.begins in
+    let known = known_cable c.args.self.now (port_id (clock c.args.system.now) c.args.send.now.port) c.in-Some.lane
+    c.requires.net up.begins in
     let e = c.send_one.ensures in
     let slice = c.as_mut_slice.ensures.value in
     let there = ap (λ cs. slice_get cs c.in-Some.lane.link) slice ∙ known.1 in
@@ -40,7 +42,8 @@ returns-in-Some-clause-uses g c =
     let slice = c.as_mut_slice.ensures.value in
     let items = written_back c.args.self.now.cables c.as_mut_slice.result.now c.send_one.new.cables slice e.joins in
     let ready = c.take-octets.ensures.ready in
-    sent_uses (clock c.args.system.now) c.args.send.now c.args.self.now _ c.in-Some.lane refl e.systems up.begins e.entries
+    sent_uses (clock c.args.system.now) c.args.send.now c.args.self.now _ c.in-Some.lane refl e.systems up.begins
+    e.entries
     (omega arith) (rw (items, ← slice) e.room) (rw (items, ← slice) e.elsewhere)
 
 pub returns-in_default-clause-uses : goal.returns-in_default-clause-uses

@@ -20,7 +20,8 @@ loop-port-preserved c =
       only = subst (λ n. OnlyEntries n c.args.self.now c.set_selected_at.new.self) next
           (only_more (2 * i) 2 c.args.self.now c.loop-port.self c.set_selected_at.new.self before.only e.only);
       entries = rw entries
-          (ap (λ qs. set_timers c.args.place c.args.station.now (selected_from (i + 1) qs) c.loop-port.self.pending.entries)
+          (ap (λ qs. set_timers c.args.place c.args.station.now (selected_from (i + 1) qs)
+          c.loop-port.self.pending.entries)
           (sym rest.1)
           ∙ before.entries);
     }

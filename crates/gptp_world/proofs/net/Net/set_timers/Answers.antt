@@ -18,6 +18,9 @@ loop-port-preserved c =
     record {
       within = omega (arith, within);
       only = subst (λ n. OnlyEntries n c.args.self.now c.set_port_timers.new.self) next
-          (only_more (4 * i) 4 c.args.self.now c.loop-port.self c.set_port_timers.new.self c.loop-port.invariant.only e.only);
-      entries = rw entries (ap (λ qs. set_timers c.args.place c.args.station.now (timers_from (i + 1) qs) c.loop-port.self.pending.entries) (sym rest.1) ∙ before);
+          (only_more (4 * i) 4 c.args.self.now c.loop-port.self c.set_port_timers.new.self c.loop-port.invariant.only
+          e.only);
+      entries = rw entries
+          (ap (λ qs. set_timers c.args.place c.args.station.now (timers_from (i + 1) qs)
+          c.loop-port.self.pending.entries) (sym rest.1) ∙ before);
     }

@@ -9,7 +9,8 @@ abbrev pub invariant-loop-port : goal.invariant-loop-port
 invariant-loop-port l = record {
   within : l.port ≤ length l.station.system.ports;
   only : OnlyEntries (4 * l.port) l.initial.self l.self;
-  entries : set_timers l.place l.station (timers_from (l.port + 1) (drop l.port l.station.system.ports)) l.self.pending.entries
+  entries : set_timers l.place l.station (timers_from (l.port + 1) (drop l.port l.station.system.ports))
+      l.self.pending.entries
       ≡ set_timers l.place l.station (timers_from 1 l.station.system.ports) l.initial.self.pending.entries;
 }
 

@@ -11,13 +11,17 @@ pub returns-clause-net : goal.returns-clause-net
 returns-clause-net c =
     let one = c.index_mut.result.now in let cables = c.args.self.now.cables.items in
     let here = slice_get-get_or cables c.args.link one c.requires.link ∙ ap Some (sym c.index_mut.ensures.value) in
-    still_net c.args.self.now _ c.args.link one _ c.requires.net here refl refl refl refl (ap (λ (p : PendingState). p.links) c.cancel_arrivals.ensures.kept)
+    still_net c.args.self.now _ c.args.link one _ c.requires.net here refl refl refl refl
+    (ap (λ (p : PendingState). p.links) c.cancel_arrivals.ensures.kept)
 
 pub returns-clause-down : goal.returns-clause-down
 returns-clause-down c = λ cable there.
     let one = c.index_mut.result.now in let cables = c.args.self.now.cables.items in
     let is : one ≡ cable = c.index_mut.ensures.value ∙ read cables c.args.link cable one there in
-    rw (← is) (net_changed cables c.args.link _ _ c.cancel_arrivals.new.self _ (let e = c.down.ensures in let bounds = e.bounds in let down = e.down in let from_a = e.from_a in let from_b = e.from_b in rw (bounds, down, from_a, from_b) refl) (ap (λ (p : PendingState). p.entries) c.cancel_arrivals.ensures.kept))
+    rw (← is) (net_changed cables c.args.link _ _ c.cancel_arrivals.new.self _ (let e = c.down.ensures in
+    let bounds = e.bounds in let down = e.down in let from_a = e.from_a in let from_b = e.from_b in
+    rw (bounds, down, from_a, from_b) refl)
+    (ap (λ (p : PendingState). p.entries) c.cancel_arrivals.ensures.kept))
 
 pub returns-clause-uses : goal.returns-clause-uses
 returns-clause-uses c =
@@ -25,4 +29,5 @@ returns-clause-uses c =
     let here = slice_get-get_or cables c.args.link one c.requires.link ∙ ap Some (sym c.index_mut.ensures.value) in
     let e = c.cancel_arrivals.ensures in
     uses_nothing c.args.self.now _ refl (ap (λ (p : PendingState). p.systems) e.kept) e.room (omega arith)
-    (kept_on cables c.args.link one _ c.args.self.now.pending c.cancel_arrivals.new.self here c.down.ensures.room e.arrivals)
+    (kept_on cables c.args.link one _ c.args.self.now.pending c.cancel_arrivals.new.self here c.down.ensures.room
+    e.arrivals)

@@ -30,7 +30,8 @@ returns-clause-takes c = λ cable there.
     let here = there ∙ ap Some (sym is) in
     let e = c.deliver_on-octets.ensures in
     let entries = ap (λ (p : PendingState). p.entries) c.take.ensures.kept in
-    rw (← is) (taken c.args.lane c.args.now c.deliver_on-octets.result.items cables one c.deliver_on-octets.new.cable c.args.self.now.pending
+    rw (← is) (taken c.args.lane c.args.now c.deliver_on-octets.result.items cables one c.deliver_on-octets.new.cable
+    c.args.self.now.pending
     c.take.new.self due.oldest due.rest here e.a e.b e.others (rw (← same) due.front) due.due_now e.taken entries)
 
 pub returns-clause-uses : goal.returns-clause-uses
@@ -40,5 +41,6 @@ returns-clause-uses c =
     let here = due.here ∙ ap Some (sym is) in
     let e = c.deliver_on-octets.ensures in let systems = ap (λ (p : PendingState). p.systems) c.take.ensures.kept in
     uses_nothing c.args.self.now _ refl systems c.take.ensures.room (omega arith)
-    (kept_on cables c.args.lane.link one c.deliver_on-octets.new.cable c.args.self.now.pending c.take.new.self here e.room
+    (kept_on cables c.args.lane.link one c.deliver_on-octets.new.cable c.args.self.now.pending c.take.new.self here
+    e.room
     c.take.ensures.arrivals)

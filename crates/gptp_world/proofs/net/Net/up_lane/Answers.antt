@@ -21,7 +21,12 @@ pub returns-in-true-clause-some : goal.returns-in-true-clause-some
 returns-in-true-clause-some c = λ clock here.
     let begins = c.in_ok-lane.ensures.some clock here in
     let known = known_cable c.args.self.now _ c.in_ok-lane.lane c.requires.net begins in
-    record { begins = begins; cable = known.0; here = known.1; up = sym (c.is_up.ensures known.0 known.1) ∙ c.in-true.is }
+    record {
+      begins = begins;
+      cable = known.0;
+      here = known.1;
+      up = sym (c.is_up.ensures known.0 known.1) ∙ c.in-true.is;
+    }
 
 pub returns-in-false-clause-none : goal.returns-in-false-clause-none
 returns-in-false-clause-none c = λ clock here.

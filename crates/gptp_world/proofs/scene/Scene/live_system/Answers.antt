@@ -11,5 +11,6 @@ returns-in-None-clause-none c = λ shown.
     let stage = c.self.inside.stage in
     let at : AtSystem c.args.clock (world_of stage) IsLiveSystem =
     subst (λ w. AtSystem c.args.clock w IsLiveSystem) (sym c.self.view_is) shown in
-    no_system stage c.args.clock c.self.invariant.stage_kept (λ place there. none-some place (c.in-None.ensures.only place there))
+    no_system stage c.args.clock c.self.invariant.stage_kept
+    (λ place there. none-some place (c.in-None.ensures.only place there))
     (record { place = at.place; station = at.station; is = at.is; so = tt })

@@ -9,5 +9,12 @@ returns-clause-some c =
     let less : c.args.link < length cables = omega (arith, test, count) in
     let found = within cables c.args.link less in (
       refl,
-      (refl, record { channel = channel_of found.0; here = get-map channel_of cables c.args.link found.0 found.1; so = tt }),
+      (
+        refl,
+        record {
+          channel = channel_of found.0;
+          here = get-map channel_of cables c.args.link found.0 found.1;
+          so = tt;
+        },
+      ),
     )

@@ -15,10 +15,12 @@ pub send_all-requires-clause-room : goal.send_all-requires-clause-room
 send_all-requires-clause-room g c =
     let one = c.index-station.result.now in let net = c.args.self.now.net in
     let is : one ≡ c.requires.carries.station =
-    c.index-station.ensures ∙ read c.args.self.now.stations.items c.args.place c.requires.carries.station one c.requires.carries.here in
+    c.index-station.ensures
+    ∙ read c.args.self.now.stations.items c.args.place c.requires.carries.station one c.requires.carries.here in
     let used = 4 * length one.system.ports + 2 in
     let room : HasRoom (for_left one.system c.args.self.now.outbox.items) net = rw is c.requires.carries.room in
-    rw c.as_slice.ensures.value (left_of (for_timers used) (for_sends (clock one.system) c.args.self.now.outbox.items) net
+    rw c.as_slice.ensures.value
+    (left_of (for_timers used) (for_sends (clock one.system) c.args.self.now.outbox.items) net
     c.set_touched.new.self (uses_timers used net c.set_touched.new.self c.set_touched.ensures.only) room)
 
 pub returns-clause-uses : goal.returns-clause-uses
@@ -32,7 +34,8 @@ returns-clause-uses g c = λ before input answer step given.
     (uses_timers used net c.set_touched.new.self c.set_touched.ensures.only) sent in
     call_uses before c.args.self.now c.send_all.new.self c.args.place input answer step given
     (λ station here.
-    let is : one ≡ station = c.index-station.ensures ∙ read c.args.self.now.stations.items c.args.place station one here in
+    let is : one ≡ station = c.index-station.ensures
+    ∙ read c.args.self.now.stations.items c.args.place station one here in
     rw (← is) all)
 
 pub returns-clause-stage : goal.returns-clause-stage
@@ -50,9 +53,12 @@ returns-clause-called g c = λ before input answer step.
     ∙ get-set_same before.stations.items c.args.place step.station new step.here in
     let is : one ≡ new = c.index-station.ensures ∙ read c.args.self.now.stations.items c.args.place new one here in
     let t = c.set_touched.ensures in
-    let net = timers_set (4 * length one.system.ports + 2) c.args.place one c.args.self.now.net c.set_touched.new.self t.only t.entries in
+    let net = timers_set (4 * length one.system.ports + 2) c.args.place one c.args.self.now.net c.set_touched.new.self
+    t.only t.entries in
     let sent : (station : Station) → one ≡ station
-    → SentAll g.F.Fate.answers c.args.self.now.now station.system c.args.self.now.outbox.items c.args.fate.now c.send_all.new.fate
+    → SentAll g.F.Fate.answers c.args.self.now.now station.system c.args.self.now.outbox.items c.args.fate.now
+    c.send_all.new.fate
     (all_timers c.args.place station (between c.args.self.now.net)) (between c.send_all.new.self) =
     λ station same. rw (← same, ← net, ← c.as_slice.ensures.value) c.send_all.ensures.sent in
-    called g.F.Fate.answers c.args.fate.now c.send_all.new.fate before c.args.self.now _ c.args.place input answer step (sent new is) refl refl refl
+    called g.F.Fate.answers c.args.fate.now c.send_all.new.fate before c.args.self.now _ c.args.place input answer step
+    (sent new is) refl refl refl

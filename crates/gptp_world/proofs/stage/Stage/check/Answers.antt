@@ -10,5 +10,9 @@ returns-in-false-clause-refused c = (
     now = let test = c.if-timed-self.false in grind (arith, nat_tests, test);
     first = c.if-not-is_first.ensures.first refl;
   },
-  (aim_there c.args.timed.now.act (world_of c.args.self.now) c.in-Some.aim c.in-Some.ensures.some, λ due. let told = c.in-false.ensures.1 due in absurd cc),
+  (
+    aim_there c.args.timed.now.act (world_of c.args.self.now) c.in-Some.aim c.in-Some.ensures.some,
+    λ due.
+        let told = c.in-false.ensures.1 due in absurd cc,
+  ),
 )

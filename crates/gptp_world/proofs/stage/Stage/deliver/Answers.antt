@@ -11,7 +11,8 @@ use Rattle.gptp_world.proofs.stage.Stage.deliver.Goals as goal
 
 pub narrowed-requires : goal.narrowed-requires
 narrowed-requires g c =
-    let net = c.args.self.now.net in let due = c.requires.due in let lane = c.args.lane in let join = join_of due.cable in
+    let net = c.args.self.now.net in let due = c.requires.due in let lane = c.args.lane in
+    let join = join_of due.cable in
     let there = known_join net lane.link due.cable c.requires.stage.net due.here in
     let same = c.take_frame-frame.ensures.uses.directory in
     let at = c.port_at-at.ensures join (ap (λ (d : DirectoryState). slice_get d.joins lane.link) same ∙ there) in
@@ -24,7 +25,8 @@ hear_if_live-answer-requires-clause-stage g c =
 
 pub hear_if_live-answer-requires-clause-place : goal.hear_if_live-answer-requires-clause-place
 hear_if_live-answer-requires-clause-place g c =
-    let net = c.args.self.now.net in let due = c.requires.due in let lane = c.args.lane in let join = join_of due.cable in
+    let net = c.args.self.now.net in let due = c.requires.due in let lane = c.args.lane in
+    let join = join_of due.cable in
     let there = known_join net lane.link due.cable c.requires.stage.net due.here in
     let same = c.take_frame-frame.ensures.uses.directory in
     let place = c.receiver-place.ensures join (ap (λ (d : DirectoryState). slice_get d.joins lane.link) same ∙ there) in
@@ -33,13 +35,15 @@ hear_if_live-answer-requires-clause-place g c =
 
 pub hear_if_live-answer-requires-clause-heard : goal.hear_if_live-answer-requires-clause-heard
 hear_if_live-answer-requires-clause-heard g c = λ station here live.
-    let net = c.args.self.now.net in let due = c.requires.due in let lane = c.args.lane in let join = join_of due.cable in
+    let net = c.args.self.now.net in let due = c.requires.due in let lane = c.args.lane in
+    let join = join_of due.cable in
     let there = known_join net lane.link due.cable c.requires.stage.net due.here in
     let same = c.take_frame-frame.ensures.uses.directory in
     let after = ap (λ (d : DirectoryState). slice_get d.joins lane.link) same ∙ there in
     let place = c.receiver-place.ensures join after in
     let at = c.port_at-at.ensures join after in
-    let port : c.narrowed.result ≡ (end_of lane.direction join).port = c.narrowed.ensures ∙ ap (λ (p : PortId). p.port) at in
+    let port : c.narrowed.result ≡ (end_of lane.direction join).port = c.narrowed.ensures
+    ∙ ap (λ (p : PortId). p.port) at in
     let up : IsUp station.system (end_of lane.direction join).port =
     c.requires.hears join c.receiver-place.result there
     (ap (λ (d : DirectoryState). slice_get d.clocks c.receiver-place.result) (sym same) ∙ place) station here live in
@@ -54,7 +58,8 @@ hear_if_live-answer-requires-clause-set g c =
 
 pub hear_if_live-answer-requires-clause-room : goal.hear_if_live-answer-requires-clause-room
 hear_if_live-answer-requires-clause-room g c =
-    let net = c.args.self.now.net in let due = c.requires.due in let lane = c.args.lane in let join = join_of due.cable in
+    let net = c.args.self.now.net in let due = c.requires.due in let lane = c.args.lane in
+    let join = join_of due.cable in
     let there = known_join net lane.link due.cable c.requires.stage.net due.here in
     let same = c.take_frame-frame.ensures.uses.directory in
     let place = c.receiver-place.ensures join (ap (λ (d : DirectoryState). slice_get d.joins lane.link) same ∙ there) in
@@ -64,7 +69,8 @@ hear_if_live-answer-requires-clause-room g c =
 
 pub returns-clause-delivered : goal.returns-clause-delivered
 returns-clause-delivered g c =
-    let net = c.args.self.now.net in let due = c.requires.due in let lane = c.args.lane in let join = join_of due.cable in
+    let net = c.args.self.now.net in let due = c.requires.due in let lane = c.args.lane in
+    let join = join_of due.cable in
     let there = known_join net lane.link due.cable c.requires.stage.net due.here in
     let same = c.take_frame-frame.ensures.uses.directory in
     let after = ap (λ (d : DirectoryState). slice_get d.joins lane.link) same ∙ there in

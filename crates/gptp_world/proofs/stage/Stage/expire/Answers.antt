@@ -15,7 +15,8 @@ pub carry_out-requires-clause-carries : goal.carry_out-requires-clause-carries
 carry_out-requires-clause-carries g c =
     let due = c.requires.due in
     carries c.args.self.now _ c.args.place (Expires c.args.timer) answers.Used c.requires.stage c.requires.room
-    (stepped c.args.self.now _ c.args.place (Expires c.args.timer) answers.Used c.index_mut.result.now c.on_timer.new.self
+    (stepped c.args.self.now _ c.args.place (Expires c.args.timer) answers.Used c.index_mut.result.now
+    c.on_timer.new.self
     c.requires.live c.index_mut.ensures.value c.on_timer.ensures refl refl refl refl)
     due.station due.here due.timer_of
 
@@ -39,20 +40,23 @@ carry_out-requires-clause-touched g c =
 pub returns-clause-stage : goal.returns-clause-stage
 returns-clause-stage g c =
     c.carry_out.ensures.stage c.args.self.now (Expires c.args.timer) answers.Used c.requires.stage
-    (stepped c.args.self.now _ c.args.place (Expires c.args.timer) answers.Used c.index_mut.result.now c.on_timer.new.self
+    (stepped c.args.self.now _ c.args.place (Expires c.args.timer) answers.Used c.index_mut.result.now
+    c.on_timer.new.self
     c.requires.live c.index_mut.ensures.value c.on_timer.ensures refl refl refl refl)
 
 pub returns-clause-called : goal.returns-clause-called
 returns-clause-called g c = record {
   answer = answers.Used;
   called = c.carry_out.ensures.called c.args.self.now (Expires c.args.timer) answers.Used
-      (stepped c.args.self.now _ c.args.place (Expires c.args.timer) answers.Used c.index_mut.result.now c.on_timer.new.self
+      (stepped c.args.self.now _ c.args.place (Expires c.args.timer) answers.Used c.index_mut.result.now
+      c.on_timer.new.self
       c.requires.live c.index_mut.ensures.value c.on_timer.ensures refl refl refl refl);
 }
 
 pub returns-clause-uses : goal.returns-clause-uses
 returns-clause-uses g c =
     c.carry_out.ensures.uses c.args.self.now (Expires c.args.timer) answers.Used
-    (stepped c.args.self.now _ c.args.place (Expires c.args.timer) answers.Used c.index_mut.result.now c.on_timer.new.self c.requires.live c.index_mut.ensures.value c.on_timer.ensures refl refl refl refl)
+    (stepped c.args.self.now _ c.args.place (Expires c.args.timer) answers.Used c.index_mut.result.now
+    c.on_timer.new.self c.requires.live c.index_mut.ensures.value c.on_timer.ensures refl refl refl refl)
     (λ station there. let due = c.requires.due in
     let one : due.station ≡ station = same_Some due.station station (sym due.here ∙ there) in rw (← one) due.timer_of)

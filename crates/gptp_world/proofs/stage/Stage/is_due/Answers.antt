@@ -11,6 +11,7 @@ returns-in-Arrival c =
 
 pub returns-in-Timer : goal.returns-in-Timer
 returns-in-Timer c =
-    timer_due c.args.act.now c.args.time c.args.self.now c.in-Timer.place c.in-Timer.timer c.is_timer_due.result c.requires.stage
+    timer_due c.args.act.now c.args.time c.args.self.now c.in-Timer.place c.in-Timer.timer c.is_timer_due.result
+    c.requires.stage
     c.well_formed-2.ensures (subst (IsAimOf c.args.act.now (world_of c.args.self.now)) c.in-Timer.is c.requires.aim)
     c.is_timer_due.ensures

@@ -8,7 +8,8 @@ use Rattle.gptp_world.proofs.stage.Stage.link_at.Goals as goal
 pub returns-then-port-gt16-clause-none : goal.returns-then-port-gt16-clause-none
 returns-then-port-gt16-clause-none c =
     no_lane c.args.self.now (port_id c.args.clock c.args.port) c.requires (λ lane begins.
-    let last = (begins_placed c.args.self.now.net.directory (port_id c.args.clock c.args.port) lane c.well_formed-2.ensures begins).last in
+    let last = (begins_placed c.args.self.now.net.directory (port_id c.args.clock c.args.port) lane
+    c.well_formed-2.ensures begins).last in
     let test = c.if-port-gt16.true in absurd (omega (arith, last, test)))
 
 pub returns-in-Some-lane_from-clause-some : goal.returns-in-Some-lane_from-clause-some
@@ -27,5 +28,6 @@ returns-in-None-lane_from-clause-none c =
 pub returns-in-None-clause-none : goal.returns-in-None-clause-none
 returns-in-None-clause-none c =
     no_lane c.args.self.now (port_id c.args.clock c.args.port) c.requires (λ lane begins.
-    let placed = begins_placed c.args.self.now.net.directory (port_id c.args.clock c.args.port) lane c.well_formed-2.ensures begins in
+    let placed = begins_placed c.args.self.now.net.directory (port_id c.args.clock c.args.port) lane
+    c.well_formed-2.ensures begins in
     none-some placed.place (c.in-None.ensures.only placed.place placed.there))

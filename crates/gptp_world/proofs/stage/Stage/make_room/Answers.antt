@@ -5,7 +5,8 @@ use Rattle.gptp_world.proofs.RoomLemmas.{one_after_another, room_to_call, stage_
 use Rattle.gptp_world.proofs.stage.Stage.make_room.Goals as goal
 
 pub returns-in_err-reserve-clause-stage : goal.returns-in_err-reserve-clause-stage
-returns-in_err-reserve-clause-stage c = stage_stays c.args.self.now _ refl refl refl c.reserve.ensures.only c.requires.stage
+returns-in_err-reserve-clause-stage c =
+    stage_stays c.args.self.now _ refl refl refl c.reserve.ensures.only c.requires.stage
 
 pub returns-clause-stage : goal.returns-clause-stage
 returns-clause-stage c =
@@ -25,9 +26,12 @@ returns-clause-room c =
     let count = c.ports-ports.ensures in
     let more = c.make_room_at_ports.ensures.only in let entries = more.entries in let buffers = more.buffers in
     let calls = c.from-calls.ensures in let ports = c.from-count.ensures in let made = c.in_ok-reserve.ensures in
-    let made_entries : c.args.calls * (6 * c.ports-ports.result + 2) ≤ c.reserve.new.self.pending.room = rw (← calls, ← ports) made.entries in
-    let made_buffers : c.args.calls * (2 * c.ports-ports.result) ≤ c.reserve.new.self.buffers.ready = rw (← calls, ← ports) made.buffers in
+    let made_entries : c.args.calls * (6 * c.ports-ports.result + 2)
+    ≤ c.reserve.new.self.pending.room = rw (← calls, ← ports) made.entries in
+    let made_buffers : c.args.calls * (2 * c.ports-ports.result)
+    ≤ c.reserve.new.self.buffers.ready = rw (← calls, ← ports) made.buffers in
     on_ok c.make_room_at_ports.result _ _
-    (λ has. room_to_call after c.args.calls c.args.place one is here (rw (← count) (omega arith)) (rw (← count) (omega arith))
+    (λ has. room_to_call after c.args.calls c.args.place one is here (rw (← count) (omega arith))
+    (rw (← count) (omega arith))
     (rw (← count, ← calls) has))
     c.make_room_at_ports.ensures.ok

@@ -5,7 +5,8 @@ use Rattle.gptp_world.proofs.RoomLemmas.{clocks_apart, one_after_another, ports_
 use Rattle.gptp_world.proofs.stage.Stage.make_room_for_both.Goals as goal
 
 pub returns-in_err-reserve-clause-stage : goal.returns-in_err-reserve-clause-stage
-returns-in_err-reserve-clause-stage c = stage_stays c.args.self.now _ refl refl refl c.reserve.ensures.only c.requires.stage
+returns-in_err-reserve-clause-stage c =
+    stage_stays c.args.self.now _ refl refl refl c.reserve.ensures.only c.requires.stage
 
 pub returns-in_err-make_room_at_ports-clause-stage : goal.returns-in_err-make_room_at_ports-clause-stage
 returns-in_err-make_room_at_ports-clause-stage c =
@@ -29,17 +30,22 @@ returns-clause-room c =
     slice_get-get_or stage.stations.items c.args.second far c.requires.second ∙ ap Some (sym c.index-2.ensures) in
     let first = c.make_room_at_ports.ensures.only in let second = c.make_room_at_ports-2.ensures.only in
     let only = one_after_another stage.net c.make_room_at_ports.new.self c.make_room_at_ports-2.new.self
-    (one_after_another stage.net c.reserve.new.self c.make_room_at_ports.new.self c.reserve.ensures.only first) second in
+    (one_after_another stage.net c.reserve.new.self c.make_room_at_ports.new.self c.reserve.ensures.only first)
+    second in
     let after = record stage { net = c.make_room_at_ports-2.new.self } in
     let is = stage_stays stage after refl refl refl only c.requires.stage in
     let near_count = c.ports-near.ensures in let far_count = c.ports-far.ensures in
-    let entries-a = first.entries in let buffers-a = first.buffers in let entries-b = second.entries in let buffers-b = second.buffers in
+    let entries-a = first.entries in let buffers-a = first.buffers in let entries-b = second.entries in
+    let buffers-b = second.buffers in
     let made = c.in_ok-reserve.ensures in let made_entries = made.entries in let made_buffers = made.buffers in
-    let near_has = ports_kept 2 c.args.first c.ports-near.result c.make_room_at_ports.new.self c.make_room_at_ports-2.new.self second
+    let near_has =
+    ports_kept 2 c.args.first c.ports-near.result c.make_room_at_ports.new.self c.make_room_at_ports-2.new.self
+    second
     c.in_ok-make_room_at_ports.ensures.ok in
     on_ok c.make_room_at_ports-2.result _ _
     (λ has. room_to_call_both after c.args.first c.args.second near far is here there
-    (clocks_apart stage c.args.first c.args.second near far c.requires.stage c.well_formed-2.ensures here there c.requires.apart)
+    (clocks_apart stage c.args.first c.args.second near far c.requires.stage c.well_formed-2.ensures here there
+    c.requires.apart)
     (rw (← near_count, ← far_count) (omega arith)) (rw (← near_count, ← far_count) (omega arith))
     (rw (← near_count) near_has) (rw (← far_count) has))
     c.make_room_at_ports-2.ensures.ok

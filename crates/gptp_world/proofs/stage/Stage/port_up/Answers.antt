@@ -30,13 +30,15 @@ pub returns-clause-called : goal.returns-clause-called
 returns-clause-called g c = record {
   answer = answers.Used;
   called = c.carry_out.ensures.called c.args.self.now (PortUp c.args.port) answers.Used
-      (stepped c.args.self.now _ c.args.place (PortUp c.args.port) answers.Used c.index_mut.result.now c.port_up.new.self
+      (stepped c.args.self.now _ c.args.place (PortUp c.args.port) answers.Used c.index_mut.result.now
+      c.port_up.new.self
       c.requires.live c.index_mut.ensures.value c.port_up.ensures refl refl refl refl);
 }
 
 pub returns-clause-uses : goal.returns-clause-uses
 returns-clause-uses g c =
     c.carry_out.ensures.uses c.args.self.now (PortUp c.args.port) answers.Used
-    (stepped c.args.self.now _ c.args.place (PortUp c.args.port) answers.Used c.index_mut.result.now c.port_up.new.self c.requires.live c.index_mut.ensures.value c.port_up.ensures refl refl refl refl)
+    (stepped c.args.self.now _ c.args.place (PortUp c.args.port) answers.Used c.index_mut.result.now c.port_up.new.self
+    c.requires.live c.index_mut.ensures.value c.port_up.ensures refl refl refl refl)
     (λ station there. let own = c.requires.port in
     let one : own.station ≡ station = same_Some own.station station (sym own.here ∙ there) in rw (← one) own.port_of)

@@ -9,32 +9,37 @@ pub carry_out-requires-clause-carries : goal.carry_out-requires-clause-carries
 carry_out-requires-clause-carries g c =
     let one = c.requires.live in
     carries c.args.self.now _ c.args.place (Priority c.args.value) answers.Used c.requires.stage c.requires.room
-    (stepped c.args.self.now _ c.args.place (Priority c.args.value) answers.Used c.index_mut.result.now c.set_priority.new.self
+    (stepped c.args.self.now _ c.args.place (Priority c.args.value) answers.Used c.index_mut.result.now
+    c.set_priority.new.self
     c.requires.live c.index_mut.ensures.value c.set_priority.ensures refl refl refl refl)
     one.station one.here tt
 
 pub carry_out-requires-clause-touched : goal.carry_out-requires-clause-touched
 carry_out-requires-clause-touched g c =
     all_touched c.args.self.now _ c.args.place (Priority c.args.value) answers.Used
-    (stepped c.args.self.now _ c.args.place (Priority c.args.value) answers.Used c.index_mut.result.now c.set_priority.new.self
+    (stepped c.args.self.now _ c.args.place (Priority c.args.value) answers.Used c.index_mut.result.now
+    c.set_priority.new.self
     c.requires.live c.index_mut.ensures.value c.set_priority.ensures refl refl refl refl)
 
 pub returns-clause-stage : goal.returns-clause-stage
 returns-clause-stage g c =
     c.carry_out.ensures.stage c.args.self.now (Priority c.args.value) answers.Used c.requires.stage
-    (stepped c.args.self.now _ c.args.place (Priority c.args.value) answers.Used c.index_mut.result.now c.set_priority.new.self
+    (stepped c.args.self.now _ c.args.place (Priority c.args.value) answers.Used c.index_mut.result.now
+    c.set_priority.new.self
     c.requires.live c.index_mut.ensures.value c.set_priority.ensures refl refl refl refl)
 
 pub returns-clause-called : goal.returns-clause-called
 returns-clause-called g c = record {
   answer = answers.Used;
   called = c.carry_out.ensures.called c.args.self.now (Priority c.args.value) answers.Used
-      (stepped c.args.self.now _ c.args.place (Priority c.args.value) answers.Used c.index_mut.result.now c.set_priority.new.self
+      (stepped c.args.self.now _ c.args.place (Priority c.args.value) answers.Used c.index_mut.result.now
+      c.set_priority.new.self
       c.requires.live c.index_mut.ensures.value c.set_priority.ensures refl refl refl refl);
 }
 
 pub returns-clause-uses : goal.returns-clause-uses
 returns-clause-uses g c =
     c.carry_out.ensures.uses c.args.self.now (Priority c.args.value) answers.Used
-    (stepped c.args.self.now _ c.args.place (Priority c.args.value) answers.Used c.index_mut.result.now c.set_priority.new.self c.requires.live c.index_mut.ensures.value c.set_priority.ensures refl refl refl refl)
+    (stepped c.args.self.now _ c.args.place (Priority c.args.value) answers.Used c.index_mut.result.now
+    c.set_priority.new.self c.requires.live c.index_mut.ensures.value c.set_priority.ensures refl refl refl refl)
     (λ station there. tt)

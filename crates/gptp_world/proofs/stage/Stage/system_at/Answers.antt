@@ -8,4 +8,5 @@ returns-in-Some-clause-some c =
 
 pub returns-in-None-clause-none : goal.returns-in-None-clause-none
 returns-in-None-clause-none c =
-    no_system c.args.self.now c.args.clock c.requires (λ place there. none-some place (c.in-None.ensures.only place there))
+    no_system c.args.self.now c.args.clock c.requires
+    (λ place there. none-some place (c.in-None.ensures.only place there))

@@ -12,10 +12,12 @@ returns-in-true-clause-some c = (
 
 pub returns-in-false-clause-none : goal.returns-in-false-clause-none
 returns-in-false-clause-none c =
-    no_timer_at c.args.self.now c.args.clock c.in-Some.place c.args.timer c.requires c.well_formed-2.ensures c.in-Some.ensures.some
+    no_timer_at c.args.self.now c.args.clock c.in-Some.place c.args.timer c.requires c.well_formed-2.ensures
+    c.in-Some.ensures.some
     (λ station here of. let told = (c.in-false.ensures station here).1 of in absurd cc)
 
 pub returns-in-None-clause-none : goal.returns-in-None-clause-none
 returns-in-None-clause-none c = λ at.
-    no_system c.args.self.now c.args.clock c.requires (λ place there. none-some place (c.in-None.ensures.only place there))
+    no_system c.args.self.now c.args.clock c.requires
+    (λ place there. none-some place (c.in-None.ensures.only place there))
     (record { place = at.place; station = at.station; is = at.is; so = tt })

@@ -17,5 +17,6 @@ loop-place-preserved g c =
           so_far.played was.was);
       prompt = stay_prompt acts c.loop-place.self.scene c.play_next.new.self.scene
           (done_stays g.F.Fate.answers x c.loop-place.self.fate c.play_next.new.self.fate c.loop-place.self.scene
-          c.play_next.new.self.scene was.done c.well_formed-in-loop-place.ensures.sound.wired.setups was.was) so_far.prompt;
+          c.play_next.new.self.scene was.done c.well_formed-in-loop-place.ensures.sound.wired.setups was.was)
+          so_far.prompt;
     }
