@@ -1,5 +1,5 @@
 -- The heap in which the entries of an agenda stand, the one that is due first on top.
-use Rattle.std.specs.Prelude.{◌≡◌, ℕ, ◌<◌, ◌==◌, ◌&&◌, ◌||◌, Bool, nat_lt, List, length, slice_index_or, Option, Some}
+use Rattle.std.specs.Prelude.{◌≡◌, ℕ, ◌<◌, List, length, slice_index_or, Option, Some}
 use Rattle.std.specs.List.{All, Contains}
 use Rattle.std.specs.Option.{option_map}
 use Rattle.std.specs.Ordering.{nat_cmp, ordering_then}
@@ -9,10 +9,7 @@ use Rattle.std.specs.declared.cmp.Reverse.{Reverse}
 use Rattle.gptp_scheduler.specs.Pending.{Entry, entry_at, RiseFrom}
 use Rattle.gptp_scheduler.specs.declared.agenda.Due.{Due}
 
--- whether this is due before that: at an earlier time, or at the same time under a lower number
-abbrev pub is_earlier : Due → Due → Bool
-is_earlier d e = nat_lt d.time e.time || (d.time == e.time && nat_lt d.number e.number)
-
+-- what the heap has of an entry
 abbrev pub due_at : ℕ → ℕ → Reverse Due
 due_at time number = record { 0 = record { time = time; number = number } }
 
