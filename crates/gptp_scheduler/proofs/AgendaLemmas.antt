@@ -281,12 +281,15 @@ module _ {T : Type 0} (es : List (Entry T)) where
       still-put = All-permutation (WasPut es next) (filter held heap) smaller same
           (All-filter held (WasPut es next) heap holds.put)
 
+      pub all-there : All (IsThere es) smaller
+      all-there =
+          let all = All-permutation (λ x. held x ≡ true) (filter held heap) smaller same (filter_passes held heap) in
+          λ i d within. is_there next (get_or smaller i d) (still-put i d within) (all i d within)
+
       pub orders-swept : Orders es smaller next
       orders-swept = record {
         holds = record { ordered = ordered; put = still-put; complete = still-complete; rising = holds.rising };
-        top = λ d some.
-            let all = All-permutation (λ x. held x ≡ true) (filter held heap) smaller same (filter_passes held heap) in
-            is_there next (get_or smaller 0 d) (still-put 0 d some) (all 0 d some);
+        top = λ d some. all-there 0 d some;
       }
 
   -- what a pop leaves, where what was on top was taken out

@@ -4,7 +4,8 @@ ghost use Rattle.std.specs.Prelude.{◌≡◌, ℕ, ◌+◌, ◌-◌, ◌^◌, �
 ghost use Rattle.std.specs.BinaryHeap.{heap_items, heap_len, heap_capacity};
 ghost use Rattle.std.specs.Option.{option_map};
 ghost use Rattle.gptp_scheduler.specs.Pending.{entry, entry_at, without, IsFirst, NothingDue, RiseFrom};
-ghost use Rattle.gptp_scheduler.specs.Order.{Holds, Orders};
+ghost use Rattle.gptp_scheduler.specs.Order.{Holds, IsThere, Orders};
+ghost use Rattle.std.specs.List.{All};
 
 use crate::slots::Slots;
 use std::alloc::{AllocError, Global};
@@ -178,6 +179,7 @@ fn uncover<T>(order: &mut BinaryHeap<Reverse<Due>>, entries: &Slots<T>)
 fn drop_cancelled<T>(order: &mut BinaryHeap<Reverse<Due>>, entries: &Slots<T>)
     requires { Holds entries.now.entries (heap_items order.old) entries.now.next }
     ensures orders { Orders entries.now.entries (heap_items order.new) entries.now.next }
+    ensures there { All (IsThere entries.now.entries) (heap_items order.new) }
     ensures len { heap_len order.new ≤ heap_len order.old }
     ensures capacity { heap_capacity order.new ≡ heap_capacity order.old }
 {
