@@ -234,7 +234,7 @@ more_use calls place stage middle net remain so_far one = λ station here.
 pub room_for_next : (calls place : ℕ) (stage middle : Stage) (has : HasRoomForPorts place stage)
     → Remains place has.station (world_of middle) → CallsUse calls place stage middle.net
     → calls < length has.station.system.ports
-    → HasRoomToCall 1 place middle
+    → HasRoomToCall place middle
 room_for_next calls place stage middle has still so_far less =
     let need = for_call has.station.system in
     let left : HasRoom need middle.net =
@@ -245,7 +245,5 @@ room_for_next calls place stage middle has still so_far less =
     record {
       station = still.station;
       here = still.here;
-      room = subst (λ (n : Need). HasRoom (repeated 1 n) middle.net) (sym same)
-          (covered need (repeated 1 need) middle.net
-          (record { entries = omega arith; buffers = omega arith; frames = λ port. omega arith }) left);
+      room = subst (λ (n : Need). HasRoom n middle.net) (sym same) left;
     }

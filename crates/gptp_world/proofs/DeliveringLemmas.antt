@@ -1,10 +1,22 @@
 -- Room is made where a frame is heard.
-use Rattle.std.proofs.Common.{◌≡◌, ℕ, Some, slice_get, ap, sym, subst, ◌∙◌}
+use Rattle.std.proofs.Common.{◌≡◌, ◌<◌, ℕ, List, length, map, Some, slice_get, refl, ap, sym, subst, ◌∙◌}
+use Rattle.gptp_system.specs.declared.reach.Reach.{Reach}
+use Rattle.gptp_system.specs.Reach.{frame_reach}
+use Rattle.gptp_links.specs.Queue.{frame}
 use Rattle.gptp_world.specs.declared.cable.Lane.{Lane}
+use Rattle.gptp_world.specs.declared.net.Net.{Net as Between}
 use Rattle.gptp_world.specs.declared.stage.Stage.{Stage}
+use Rattle.gptp_acts.specs.Act.{Takes}
+use Rattle.gptp_acts.specs.World.{WorldState, queue}
+use Rattle.gptp_world.specs.Cable.{channel_of, join_of}
 use Rattle.gptp_world.specs.Delivering.{HasRoomToHear}
 use Rattle.gptp_world.specs.Directory.{end_of, DirectoryState, IsDirectory, Join}
-use Rattle.gptp_world.specs.Stage.{world_of, HasRoomToCall, IsStage}
+use Rattle.gptp_world.specs.Net.{between, IsFrameDue, IsOldest}
+use Rattle.gptp_world.specs.Stage.{world_of, HasRoomWithin, IsStage}
+use Rattle.gptp_acts.proofs.PlaceLemmas.{get-map, within}
+use Rattle.gptp_world.proofs.EndLemmas.{known_join, place_within}
+use Rattle.gptp_world.proofs.NetLemmas.{from_map}
+use Rattle.gptp_world.proofs.SendingLemmas.{queue_same}
 use Rattle.gptp_world.proofs.TellingLemmas.{same_clocks, same_joins}
 
 -- the system at this place is the one at the end of a lane
@@ -12,14 +24,59 @@ abbrev pub IsReceiver : Lane → ℕ → DirectoryState → Type 0
 IsReceiver lane place d = (join : Join) → slice_get d.joins lane.link ≡ Some join
     → slice_get d.clocks place ≡ Some (end_of lane.direction join).clock
 
-pub room_to_hear : (stage stage' : Stage) (lane : Lane) (receiver : ℕ) → IsStage stage → IsStage stage'
+pub receiver_within : (stage : Stage) (lane : Lane) (place : ℕ) → IsStage stage
+    → lane.link < length stage.net.cables.items
+    → IsReceiver lane place stage.net.directory → place < length stage.stations.items
+receiver_within stage lane place is known hears =
+    let cable = within stage.net.cables.items lane.link known in let join = join_of cable.0 in
+    place_within stage place (end_of lane.direction join).clock is
+    (hears join (known_join stage.net lane.link cable.0 is.net cable.1))
+
+-- the oldest frame of a lane is the one that is taken
+pub oldest_taken : (net net' : Between) (lane : Lane) (now : ℕ) (octets : List ℕ) (due : IsFrameDue lane now net)
+    → Takes lane.link lane.direction now octets (channel_of due.cable) (between net) (between net')
+    → IsOldest lane octets net
+oldest_taken net net' lane now octets due takes = record {
+  cable = due.cable;
+  here = due.here;
+  oldest = frame now octets;
+  rest = takes.rest;
+  front = sym (queue_same lane.direction due.cable) ∙ takes.front;
+  these = refl;
+}
+
+-- the oldest frame of a lane is the one that it was where the world is the same
+oldest_before : (stage stage' : Stage) (lane : Lane) (octets : List ℕ) → world_of stage' ≡ world_of stage
+    → IsOldest lane octets stage'.net → IsOldest lane octets stage.net
+oldest_before stage stage' lane octets world oldest =
+    let channels : map channel_of stage'.net.cables.items ≡ map channel_of stage.net.cables.items =
+    ap (λ (w : WorldState). w.net.channels) world in
+    let there : slice_get (map channel_of stage.net.cables.items) lane.link ≡ Some (channel_of oldest.cable) =
+    ap (λ cs. slice_get cs lane.link) (sym channels)
+    ∙ get-map channel_of stage'.net.cables.items lane.link oldest.cable oldest.here in
+    let made = from_map channel_of stage.net.cables.items lane.link (channel_of oldest.cable) there in
+    record {
+      cable = made.one;
+      here = made.there;
+      oldest = oldest.oldest;
+      rest = oldest.rest;
+      front = sym (queue_same lane.direction made.one)
+          ∙ (ap (queue lane.direction) (sym made.is) ∙ (queue_same lane.direction oldest.cable ∙ oldest.front));
+      these = oldest.these;
+    }
+
+pub room_to_hear : (stage stage' : Stage) (lane : Lane) (receiver : ℕ) (r : Reach) → IsStage stage → IsStage stage'
     → world_of stage' ≡ world_of stage → IsDirectory stage.net.directory → IsReceiver lane receiver stage.net.directory
-    → HasRoomToCall 1 receiver stage' → HasRoomToHear lane stage'
-room_to_hear stage stage' lane receiver is is' world directory hears has = λ join place there placed.
+    → ((octets : List ℕ) → IsOldest lane octets stage.net → r ≡ frame_reach octets)
+    → HasRoomWithin r receiver stage' → HasRoomToHear lane stage'
+room_to_hear stage stage' lane receiver r is is' world directory hears tells has =
+    λ join place octets there placed oldest.
     let d = stage.net.directory in
     let known : slice_get d.joins lane.link ≡ Some join =
     ap (λ js. slice_get js lane.link) (sym (same_joins stage stage' is is' world)) ∙ there in
     let stands : slice_get d.clocks place ≡ Some (end_of lane.direction join).clock =
     ap (λ cs. slice_get cs place) (sym (same_clocks stage stage' is is' world)) ∙ placed in
-    subst (λ p. HasRoomToCall 1 p stage')
-    (directory.plan.differ receiver place (end_of lane.direction join).clock (hears join known) stands) has
+    let here : HasRoomWithin r place stage' = subst (λ p. HasRoomWithin r p stage')
+    (directory.plan.differ receiver place (end_of lane.direction join).clock (hears join known) stands) has in
+    subst (λ (reach : Reach). HasRoomWithin reach place stage')
+    (tells octets (oldest_before stage stage' lane octets world oldest)) here

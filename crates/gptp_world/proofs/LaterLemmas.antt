@@ -9,8 +9,11 @@ use Rattle.gptp_acts.specs.declared.change.Change.TheVariants as changes
 use Rattle.gptp_world.specs.declared.stage.Stage.{Stage}
 use Rattle.gptp_acts.specs.Acts.{at, IsDueThen}
 use Rattle.gptp_world.specs.Aim.{IsAimOf, IsAimOfChange}
+use Rattle.gptp_system.specs.declared.reach.Reach.{Reach}
+use Rattle.gptp_system.specs.declared.reach.Reach.TheVariants as reaches
+use Rattle.gptp_system.specs.Reach.{frame_reach, timer_reach}
 use Rattle.gptp_world.specs.Performing.{HasRoomForAim}
-use Rattle.gptp_world.specs.Stage.{HasRoomToCall, IsStage}
+use Rattle.gptp_world.specs.Stage.{HasRoomWithin, IsStage}
 use Rattle.gptp_world.specs.Starting.{HasRoomToStart}
 use Rattle.gptp_world.specs.Telling.{HasRoomAtEnds}
 use Rattle.gptp_acts.specs.World.{WorldState}
@@ -113,9 +116,9 @@ due_later (Changing c) w time is = is
 abbrev pub at_time : ℕ → Stage → Stage
 at_time time stage = record stage { now = time }
 
-room_at : (place : ℕ) (stage : Stage) (time : ℕ) → HasRoomToCall 1 place stage
-    → HasRoomToCall 1 place (at_time time stage)
-room_at place stage time has = record { station = has.station; here = has.here; room = has.room }
+room_at : (r : Reach) (place : ℕ) (stage : Stage) (time : ℕ) → HasRoomWithin r place stage
+    → HasRoomWithin r place (at_time time stage)
+room_at r place stage time has = record { station = has.station; here = has.here; room = has.room }
 
 ends_at : (link : ℕ) (stage : Stage) (time : ℕ) → HasRoomAtEnds link stage → HasRoomAtEnds link (at_time time stage)
 ends_at link stage time has = record {
@@ -138,14 +141,16 @@ start_at place stage time has = record { station = has.station; here = has.here;
 pub room_later : (aim : Aim) (stage : Stage) (time : ℕ) → HasRoomForAim aim stage
     → HasRoomForAim aim (at_time time stage)
 room_later (aims.Arrival lane) stage time has =
-    λ join place there named. room_at place stage time (has join place there named)
-room_later (aims.Timer place set) stage time has = room_at place stage time has
+    λ join place octets there named oldest. room_at (frame_reach octets) place stage time
+    (has join place octets there named oldest)
+room_later (aims.Timer place set) stage time has =
+    λ station here. room_at (timer_reach set station.system) place stage time (has station here)
 room_later (aims.LinkDown link) stage time has = ends_at link stage time has
 room_later (aims.LinkUp link) stage time has = ends_at link stage time has
 room_later (aims.LinkSet link bounds) stage time has = has
-room_later (aims.Fail place) stage time has = room_at place stage time has
+room_later (aims.Fail place) stage time has = room_at reaches.All place stage time has
 room_later (aims.Recover place) stage time has = start_at place stage time has
-room_later (aims.Priority1 place set) stage time has = room_at place stage time has
+room_later (aims.Priority1 place set) stage time has = room_at reaches.All place stage time has
 
 pub stage_later : (stage : Stage) (time : ℕ) → time ≤ 1000000000000000 → IsStage stage → IsStage (at_time time stage)
 stage_later stage time early is = record {

@@ -219,10 +219,6 @@ sent_uses clock x net net' lane same systems begins entries buffers room elsewhe
 
 -- ---- one call, and several
 
--- where there is room for several calls there is room for the first
-pub once : (need : Need) → Covers (repeated 1 need) need
-once need = record { entries = omega arith; buffers = omega arith; frames = λ port. omega arith }
-
 -- so many times as much
 pub repeated-covered : (count : ℕ) (need large : Need) → count * need.entries ≤ large.entries
     → count * need.buffers ≤ large.buffers

@@ -7,8 +7,11 @@ use Rattle.gptp_links.specs.declared.link.Direction.{Direction}
 use Rattle.gptp_links.specs.declared.link.Direction.TheVariants.{FromA, FromB}
 use Rattle.gptp_links.specs.Fate.{Draw}
 use Rattle.gptp_system.specs.declared.answer.Answer.{Answer}
+use Rattle.gptp_system.specs.declared.reach.Reach.{Reach}
+use Rattle.gptp_system.specs.declared.reach.Reach.TheVariants as reaches
 use Rattle.gptp_system.specs.declared.timer.Timer.{Timer}
 use Rattle.gptp_system.specs.Input.{Priority}
+use Rattle.gptp_system.specs.Reach.{frame_reach, timer_reach}
 use Rattle.gptp_system.specs.State.{clock}
 use Rattle.gptp_system.specs.Steps.{IsUp}
 use Rattle.gptp_vector.specs.declared.port.PortId.{PortId}
@@ -33,7 +36,7 @@ use Rattle.gptp_world.specs.Directory.{end_of, Join}
 use Rattle.gptp_world.specs.Net.{IsFrameDue}
 use Rattle.gptp_world.specs.Performing.{Acted, CanChange, HasRoomForAim, OfLink, OfSystem, Turned, Turns}
 use Rattle.gptp_acts.specs.Sound.{AreLinked, Flows, IsSound, IsWired}
-use Rattle.gptp_world.specs.Stage.{clock_at, world_of, IsStage}
+use Rattle.gptp_world.specs.Stage.{clock_at, world_of, HasRoomWithin, HasTimerAt, IsStage}
 use Rattle.gptp_world.specs.Telling.{HasRoomAtEnds}
 use Rattle.gptp_acts.specs.World.{Channel, WorldState, queue, receiver}
 use Rattle.gptp_world.proofs.EndLemmas.{end_same, known_join}
@@ -83,6 +86,14 @@ aim_within (Expire number timer) (aims.Timer place set) stage (at, same) =
     slice_get_within stage.stations.items place at.station at.is.here
 aim_within (Changing change) aim stage at = change_within change aim stage at
 aim_within act aim stage at = absurd at
+
+-- a timer that an act is about is one of the system
+pub timer_there : (act : Act) (place : ℕ) (timer : Timer) (stage : Stage)
+    → IsAimOf act (world_of stage) (aims.Timer place timer) → HasTimerAt place timer stage
+timer_there (Expire number own) place timer stage (at, same) =
+    record { station = at.station; here = at.is.here; timer_of = rw same at.timer_of }
+timer_there (Changing (changes.LinkDown number port)) place timer stage at = absurd at
+timer_there act place timer stage at = absurd at
 
 -- ---- a frame that arrives
 
@@ -294,16 +305,21 @@ same_room_at_ends link stage has =
       };
     }
 
+same_room_within : (r : Reach) (place : ℕ) (stage : Stage) → HasRoomWithin r place stage
+    → HasRoomWithin r place (changed_now stage)
+same_room_within r place stage has = record { station = has.station; here = has.here; room = has.room }
+
 pub same_room : (aim : Aim) (stage : Stage) → HasRoomForAim aim stage → HasRoomForAim aim (changed_now stage)
-same_room (aims.Arrival lane) stage has = λ join place there placed.
-    let call = has join place there placed in record { station = call.station; here = call.here; room = call.room }
-same_room (aims.Timer place timer) stage has = record { station = has.station; here = has.here; room = has.room }
+same_room (aims.Arrival lane) stage has = λ join place octets there placed oldest.
+    same_room_within (frame_reach octets) place stage (has join place octets there placed oldest)
+same_room (aims.Timer place timer) stage has = λ station here.
+    same_room_within (timer_reach timer station.system) place stage (has station here)
 same_room (aims.LinkDown link) stage has = same_room_at_ends link stage has
 same_room (aims.LinkUp link) stage has = same_room_at_ends link stage has
 same_room (aims.LinkSet link bounds) stage has = has
-same_room (aims.Fail place) stage has = record { station = has.station; here = has.here; room = has.room }
+same_room (aims.Fail place) stage has = same_room_within reaches.All place stage has
 same_room (aims.Recover place) stage has = record { station = has.station; here = has.here; room = has.room }
-same_room (aims.Priority1 place value) stage has = record { station = has.station; here = has.here; room = has.room }
+same_room (aims.Priority1 place value) stage has = same_room_within reaches.All place stage has
 
 -- an act that is neither a delivery nor an expiry is a change
 pub record IsSomeChange (act : Act) (aim : Aim) (w : WorldState) : Type 0 where

@@ -1,8 +1,10 @@
 -- How a call of a system is carried out.
-use Rattle.std.proofs.Common.{◌≡◌, ◌≢◌, ◌⊎◌, ℕ, ◌*◌, ◌≤◌, ◌==◌, if◌then◌else◌, Bool, true, false, List, [], ◌∷◌, length, map, Option, Some, slice_get, slice_set, slice_index_or, refl, ap, subst, sym, ◌∙◌, inl, inr, arith}
+use Rattle.std.proofs.Common.{◌≡◌, ◌≢◌, ◌⊎◌, ℕ, ◌*◌, ◌≤◌, ◌==◌, if◌then◌else◌, Bool, true, false, ◌&&◌, List, [], ◌∷◌, length, map, Option, Some, slice_get, slice_set, slice_index_or, refl, ap, subst, sym, ◌∙◌, inl, inr, arith}
+use Rattle.std.proofs.lemmas.Bool.{eq-eqb, eqb-true}
 use Rattle.std.proofs.lemmas.Option.{same_Some}
 use Rattle.std.proofs.lemmas.List.{length-set}
 use Rattle.gptp_links.specs.declared.bounds.Bounds.{Bounds}
+use Rattle.gptp_graph.specs.Members.{In}
 use Rattle.gptp_messages.specs.Head.{message_type}
 use Rattle.gptp_system.specs.declared.answer.Answer.{Answer}
 use Rattle.gptp_system.specs.declared.reach.Reach.{Reach}
@@ -20,16 +22,16 @@ use Rattle.gptp_world.specs.Cable.{SentAll}
 use Rattle.gptp_world.specs.Directory.{BeginsAt}
 use Rattle.gptp_world.specs.Net.{between, IsNet, OnlyEntries}
 use Rattle.gptp_acts.specs.World.{port_id}
-use Rattle.gptp_world.specs.Room.{both, for_call, nothing, repeated, sends_from, HasRoom, Uses}
+use Rattle.gptp_world.specs.Room.{both, for_call, for_reach, is_reached, nothing, sends_from, HasRoom, Uses}
 use Rattle.gptp_system.specs.Reach.{may_select, reach, timer_reach}
 use Rattle.gptp_system.specs.declared.timer.Timer.{Timer}
 use Rattle.gptp_system.specs.declared.timer.Timer.TheVariants as timers
 use Rattle.gptp_system.specs.Steps.{IsTimerOf}
 use Rattle.gptp_system.proofs.ReachLemmas.{steps_reach}
 use Rattle.gptp_world.specs.declared.stage.Stage.{Stage}
-use Rattle.gptp_world.specs.Stage.{clock_at, for_left, CalledWith, CallUses, CarriesOut, HasRoomToCall, HasStepped, IsGivenAt, IsLiveAt, IsOf, IsStage}
+use Rattle.gptp_world.specs.Stage.{clock_at, for_left, CalledWith, CallUses, CarriesOut, HasRoomToCall, HasRoomToGive, HasRoomWithin, HasStepped, IsGivenAt, IsLiveAt, IsOf, IsStage}
 use Rattle.gptp_acts.specs.World.{timers_from}
-use Rattle.gptp_world.proofs.NeedLemmas.{covered, nothing_with, once, uses_less, Covers}
+use Rattle.gptp_world.proofs.NeedLemmas.{covered, nothing_with, uses_less, Covers}
 use Rattle.gptp_acts.proofs.SteadyLemmas.{same_clock, same_ports}
 use Rattle.gptp_acts.proofs.PlaceLemmas.{read, get-set_same, get-set_other, map-set_same, same_place}
 
@@ -55,20 +57,36 @@ at_most_all p (x ∷ xs) = by (x.port == p) refl (at_most_all p xs)
     by true is ih = rw is (omega (arith, ih))
     by false is ih = rw is (omega (arith, ih))
 
--- at most two sends at each port
-pub record AreFew (ports : ℕ) (xs : List Sending) : Type 0 where
+none_elsewhere : (p one : ℕ) (xs : List Sending) → (p == one) ≡ false → ((x : Sending) → In x xs → x.port ≡ one)
+    → sends_at p xs ≡ 0
+none_elsewhere p one [] test at = refl
+none_elsewhere p one (x ∷ xs) test at =
+    by (x.port == p) refl (none_elsewhere p one xs test (λ y there. at y (inr there)))
+  where
+    by : (same : Bool) → (x.port == p) ≡ same → sends_at p xs ≡ 0 → sends_at p (x ∷ xs) ≡ 0
+    by true same ih =
+        let is : (p == one) ≡ true = eq-eqb p one (sym (eqb-true x.port p same) ∙ at x (inl refl)) in
+        absurd cc
+    by false same ih = rw same ih
+
+-- at most two sends at each port that is reached, and none at others
+pub record AreFew (r : Reach) (ports : ℕ) (xs : List Sending) : Type 0 where
   pub all : length xs ≤ 2 * ports
-  pub each : (p : ℕ) → sends_at p xs ≤ 2
+  pub each : (p : ℕ) → sends_at p xs ≤ (if is_reached r p then 2 else 0)
 
 -- a step that sends at a port is of a system that has one
 pub within_few : (r : Reach) (ports : ℕ) (xs : List Sending) → IsWithin r ports xs
     → ((p : ℕ) → r ≡ reaches.Port p → 1 ≤ ports)
-    → AreFew ports xs
+    → AreFew r ports xs
 within_few reaches.Nothing ports xs within has =
     rw within (record { all = omega arith; each = λ p. omega arith })
-within_few (reaches.Port p) ports xs within has =
-    let few = within.few in let one = has p refl in
-    record { all = omega arith; each = λ q. let at = at_most_all q xs in omega (arith, at, few) }
+within_few (reaches.Port one) ports xs within has =
+    let few = within.few in let some = has one refl in
+    record { all = omega arith; each = λ p. by p (p == one) refl }
+  where
+    by : (p : ℕ) (test : Bool) → (p == one) ≡ test → sends_at p xs ≤ (if p == one then 2 else 0)
+    by p true test = let at = at_most_all p xs in let few = within.few in rw test (omega (arith, at, few))
+    by p false test = let no = none_elsewhere p one xs test within.port in rw test (omega (arith, no))
 within_few reaches.All ports xs within has = record { all = within.few; each = within.each }
 
 -- ---- one call
@@ -142,19 +160,50 @@ has_port (Frame q octets) s is p at = absurd (frame_reaches (may_select (message
 has_port (Expires timer) s is p at = timer_has_port timer s is p at
 has_port (Priority value) s is p at = absurd cc
 
--- what a call leaves needs no more than a call can
-pub call_covers : (s s' : SystemState) (sends : List Sending) → length s'.ports ≡ length s.ports → clock s' ≡ clock s
-    → AreFew (length s.ports) sends → Covers (for_call s) (for_left s' sends)
-call_covers s s' sends ports clocks few = record {
+-- what a call leaves that reaches so far needs no more than such a call can
+pub call_covers : (r : Reach) (s s' : SystemState) (sends : List Sending) → length s'.ports ≡ length s.ports
+    → clock s' ≡ clock s
+    → AreFew r (length s.ports) sends → Covers (for_reach r s) (for_left s' sends)
+call_covers r s s' sends ports clocks few = record {
   entries = let all = few.all in omega (arith, ports, all);
   buffers = let all = few.all in omega (arith, all);
-  frames = λ port. let at = by port (port.clock == clock s) refl in omega (arith, at);
+  frames = λ port. let at = by port (is_reached r port.port) refl (port.clock == clock s) refl (few.each port.port) in
+      omega (arith, at);
 }
   where
-    by : (port : PortId) (test : Bool) → (port.clock == clock s) ≡ test
-        → sends_from (clock s') sends port ≤ (if port.clock == clock s then 2 else 0)
-    by port true test = let each = few.each port.port in rw (clocks, test) each
-    by port false test = rw (clocks, test) (omega arith)
+    by : (port : PortId) (reached : Bool) → is_reached r port.port ≡ reached → (test : Bool)
+        → (port.clock == clock s) ≡ test
+        → sends_at port.port sends ≤ (if is_reached r port.port then 2 else 0)
+        → sends_from (clock s') sends port ≤ (if is_reached r port.port && (port.clock == clock s) then 2 else 0)
+    by port true reached true test each = rw (clocks, test, reached) (subst
+        (λ (b : Bool). sends_at port.port sends ≤ (if b then 2 else 0)) reached each)
+    by port false reached true test each = rw (clocks, test, reached) (subst
+        (λ (b : Bool). sends_at port.port sends ≤ (if b then 2 else 0)) reached each)
+    by port here reached false test each = rw (clocks, test) (omega arith)
+
+-- a call that reaches so far needs no more than any call can
+pub reach_covers : (r : Reach) (s : SystemState) → Covers (for_call s) (for_reach r s)
+reach_covers r s = record {
+  entries = omega arith;
+  buffers = omega arith;
+  frames = λ port. by port (is_reached r port.port) (port.clock == clock s);
+}
+  where
+    by : (port : PortId) (reached test : Bool) → (if reached && test then 2 else 0) ≤ (if test then 2 else 0)
+    by port true true = omega arith
+    by port true false = omega arith
+    by port false true = omega arith
+    by port false false = omega arith
+
+-- where there is room for any call, there is room for this
+pub gives : (input : Input) (place : ℕ) (stage : Stage) → HasRoomToCall place stage → HasRoomToGive input place stage
+gives input place stage has = λ station here.
+    let s = has.station.system in let r = reach input station.system in
+    record {
+      station = has.station;
+      here = has.here;
+      room = covered (for_call s) (for_reach r s) stage.net (reach_covers r s) has.room;
+    }
 
 -- ---- one call
 
@@ -180,7 +229,7 @@ stepped stage stage' place input answer one after live value steps stations net 
 
 -- what it left can be carried out
 pub carries : (stage stage' : Stage) (place : ℕ) (input : Input) (answer : Answer) → IsStage stage
-    → HasRoomToCall 1 place stage
+    → HasRoomToGive input place stage
     → HasStepped place input answer stage stage' → (station : Station)
     → slice_get stage.stations.items place ≡ Some station
     → IsOf station.system input → CarriesOut place stage'
@@ -194,8 +243,10 @@ carries stage stage' place input answer is room step station here of =
     let few = within_few (reach input old.system) (length old.system.ports) sends
     (steps_reach input stage.now old.system after sends answer steps).within
     (has_port input old.system (subst (λ (s : Station). IsOf s.system input) one of)) in
-    let same : room.station ≡ old = same_Some room.station old (sym room.here ∙ step.here) in
-    let has : HasRoom (repeated 1 (for_call old.system)) stage.net = rw (← same) room.room in
+    let r = reach input old.system in let made = room old step.here in
+    let same : made.station ≡ old = same_Some made.station old (sym made.here ∙ step.here) in
+    let has : HasRoom (for_reach r old.system) stage.net =
+    subst (λ (x : Station). HasRoom (for_reach r x.system) stage.net) same made.room in
     let places = is.systems in
     let small = is.few place old step.here in
     record {
@@ -207,10 +258,8 @@ carries stage stage' place input answer is room step station here of =
       moment = rw now is.moment;
       few = rw ports small;
       room = rw net
-          (covered (for_call old.system) (for_left after sends) stage.net
-          (call_covers old.system after sends ports clocks few)
-          (covered (repeated 1 (for_call old.system)) (for_call old.system) stage.net (once (for_call old.system))
-          has));
+          (covered (for_reach r old.system) (for_left after sends) stage.net
+          (call_covers r old.system after sends ports clocks few) has);
     }
 
 -- a stage in which a system became another with the same clock and as many ports
@@ -295,8 +344,10 @@ call_uses stage left net place input answer step given uses = λ station here.
     ap (λ xs. slice_get xs place) step.stations ∙ get-set_same stage.stations.items place old new step.here in
     let between = step.net in
     let used : Uses (for_left after sends) stage.net net = rw (← between) (uses new now_here) in
-    rw one (uses_less (for_call old.system) (for_left after sends) stage.net net
-    (call_covers old.system after sends ports clocks few) used)
+    let r = reach input old.system in
+    rw one (uses_less (for_call old.system) (for_reach r old.system) stage.net net (reach_covers r old.system)
+    (uses_less (for_reach r old.system) (for_left after sends) stage.net net
+    (call_covers r old.system after sends ports clocks few) used))
 
 -- ---- another net
 
@@ -313,15 +364,14 @@ net_replaced stage net is still directory systems = record {
   moment = is.moment;
 }
 
--- there is still room for as many calls
-pub room_kept : (calls place : ℕ) (stage : Stage) (net : Between) → Uses nothing stage.net net
-    → HasRoomToCall calls place stage
-    → HasRoomToCall calls place (record stage { net = net })
-room_kept calls place stage net uses has = record {
-  station = has.station;
-  here = has.here;
-  room = uses.left (repeated calls (for_call has.station.system))
-      (covered (repeated calls (for_call has.station.system))
-      (both nothing (repeated calls (for_call has.station.system))) stage.net
-      (nothing_with (repeated calls (for_call has.station.system))) has.room);
-}
+-- there is still room for a call
+pub room_kept : (r : Reach) (place : ℕ) (stage : Stage) (net : Between) → Uses nothing stage.net net
+    → HasRoomWithin r place stage
+    → HasRoomWithin r place (record stage { net = net })
+room_kept r place stage net uses has =
+    let need = for_reach r has.station.system in
+    record {
+      station = has.station;
+      here = has.here;
+      room = uses.left need (covered need (both nothing need) stage.net (nothing_with need) has.room);
+    }

@@ -87,11 +87,11 @@ replaced_world stage left stage' place old new here by set =
     rw (timers, stations, now, last, list, net, moment, change, one) refl
 
 -- where a system can be called, its timers can be set
-pub room_for_timers : (place : ℕ) (stage : Stage) → HasRoomToCall 1 place stage → HasRoomForTimers place stage
+pub room_for_timers : (place : ℕ) (stage : Stage) → HasRoomToCall place stage → HasRoomForTimers place stage
 room_for_timers place stage has = record {
   station = has.station;
   here = has.here;
-  room = covered (repeated 1 (for_call has.station.system)) (for_all_timers has.station.system) stage.net
+  room = covered (for_call has.station.system) (for_all_timers has.station.system) stage.net
       (record { entries = omega arith; buffers = omega arith; frames = λ port. omega arith }) has.room;
 }
 
@@ -191,8 +191,8 @@ started answers fate fate_after stage left set stage' place station here by time
 -- ---- another priority1
 
 -- a live system with another priority1 can be called
-pub prepared_room : (stage left : Stage) (place value : ℕ) (has : HasRoomToCall 1 place stage)
-    → Replaces place (with_setup value has.station) stage left → HasRoomToCall 1 place left
+pub prepared_room : (stage left : Stage) (place value : ℕ) (has : HasRoomToCall place stage)
+    → Replaces place (with_setup value has.station) stage left → HasRoomToCall place left
 prepared_room stage left place value has by =
     let net = by.net in
     record {

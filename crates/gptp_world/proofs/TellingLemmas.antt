@@ -20,7 +20,7 @@ use Rattle.gptp_acts.specs.Changing.{CallsIfLive, TellsEnds}
 use Rattle.gptp_world.specs.Directory.{end_of, start_of, DirectoryState, IsDirectory, IsPlan, Join}
 use Rattle.gptp_world.specs.Net.{IsNet}
 use Rattle.gptp_acts.specs.World.{port_id}
-use Rattle.gptp_world.specs.Room.{both, for_call, nothing, repeated, HasRoom, Need, Uses}
+use Rattle.gptp_world.specs.Room.{both, for_call, nothing, HasRoom, Need, Uses}
 use Rattle.gptp_world.specs.Stage.{clock_at, world_of, CallUses, HasRoomToCall, HasRoomToCallBoth, IsPortAt, IsStage}
 use Rattle.gptp_world.specs.Telling.{AreEndsOf, HasRoomAtEnds, IsEndAt, Told}
 use Rattle.gptp_acts.specs.World.{Channel, Net, WorldState}
@@ -187,26 +187,24 @@ not_told answers place input fate stage one station here value failed =
 -- ---- the first end is told, and then the second
 
 -- there is room for the call at the first, and then for that at the second
-pub room_first : (first second : ℕ) (stage : Stage) → HasRoomToCallBoth first second stage → HasRoomToCall 1 first stage
+pub room_first : (first second : ℕ) (stage : Stage) → HasRoomToCallBoth first second stage → HasRoomToCall first stage
 room_first first second stage has = record {
   station = has.station_a;
   here = has.here_a;
   room = covered (both (for_call has.station_a.system) (for_call has.station_b.system))
-      (repeated 1 (for_call has.station_a.system)) stage.net
+      (for_call has.station_a.system) stage.net
       (record { entries = omega arith; buffers = omega arith; frames = λ port. omega arith }) has.room;
 }
 
 room_second : (first second : ℕ) (stage stage' : Stage)
     → slice_get stage'.stations.items second ≡ slice_get stage.stations.items second
-    → CallUses first stage stage'.net → HasRoomToCallBoth first second stage → HasRoomToCall 1 second stage'
+    → CallUses first stage stage'.net → HasRoomToCallBoth first second stage → HasRoomToCall second stage'
 room_second first second stage stage' same uses has =
     let near = for_call has.station_a.system in let far = for_call has.station_b.system in
     record {
       station = has.station_b;
       here = same ∙ has.here_b;
-      room = covered far (repeated 1 far) stage'.net
-          (record { entries = omega arith; buffers = omega arith; frames = λ port. omega arith })
-          (left_of near far stage.net stage'.net (uses has.station_a has.here_a) has.room);
+      room = left_of near far stage.net stage'.net (uses has.station_a has.here_a) has.room;
     }
 
 -- no other system changes
@@ -225,7 +223,7 @@ elsewhere answers place other input fate fate_after stage stage' told apart = by
 -- the second can still be told
 pub record CanTellSecond (b : End) (stage : Stage) : Type 0 where
   pub port : IsPortAt b.place b.port stage
-  pub room : HasRoomToCall 1 b.place stage
+  pub room : HasRoomToCall b.place stage
 
 pub can_tell_second : {F : Type 0} (answers : Bounds → ℕ → F → Option ℕ → F → Type 0) (a b : End) (input : Input)
     (fate fate_after : F) (stage stage' : Stage) → CanTell a b stage

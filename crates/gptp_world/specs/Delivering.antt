@@ -3,6 +3,7 @@ use Rattle.std.specs.Prelude.{◌≡◌, ℕ, true, List, Option, Some, slice_ge
 use Rattle.gptp_links.specs.declared.bounds.Bounds.{Bounds}
 use Rattle.gptp_links.specs.Fate.{Draw, Draws}
 use Rattle.gptp_system.specs.declared.answer.Answer.{Answer}
+use Rattle.gptp_system.specs.Reach.{frame_reach}
 use Rattle.gptp_system.specs.Steps.{IsUp}
 use Rattle.gptp_vector.specs.declared.port.PortId.{PortId}
 use Rattle.gptp_world.specs.declared.cable.Lane.{Lane}
@@ -10,7 +11,8 @@ use Rattle.gptp_world.specs.declared.stage.Stage.{Stage}
 use Rattle.gptp_acts.specs.declared.station.Station.{Station}
 use Rattle.gptp_acts.specs.Act.{Delivers, Hears}
 use Rattle.gptp_world.specs.Directory.{end_of, Join}
-use Rattle.gptp_world.specs.Stage.{world_of, HasRoomToCall}
+use Rattle.gptp_world.specs.Net.{IsOldest}
+use Rattle.gptp_world.specs.Stage.{world_of, HasRoomWithin}
 
 -- where the system at a place is live, the link of this port is up
 abbrev pub IsHeardAt : ℕ → ℕ → Stage → Type 0
@@ -31,10 +33,13 @@ MayHear lane stage = (join : Join) (place : ℕ) → slice_get stage.net.directo
     → slice_get stage.net.directory.clocks place ≡ Some (end_of lane.direction join).clock
     → IsHeardAt place (end_of lane.direction join).port stage
 
--- there is room for whatever the system there can leave
+-- there is room for whatever the system there can leave when it hears the oldest frame of the lane
 abbrev pub HasRoomToHear : Lane → Stage → Type 0
-HasRoomToHear lane stage = (join : Join) (place : ℕ) → slice_get stage.net.directory.joins lane.link ≡ Some join
-    → slice_get stage.net.directory.clocks place ≡ Some (end_of lane.direction join).clock → HasRoomToCall 1 place stage
+HasRoomToHear lane stage = (join : Join) (place : ℕ) (octets : List ℕ)
+    → slice_get stage.net.directory.joins lane.link ≡ Some join
+    → slice_get stage.net.directory.clocks place ≡ Some (end_of lane.direction join).clock
+    → IsOldest lane octets stage.net
+    → HasRoomWithin (frame_reach octets) place stage
 
 -- a frame reached a port, and was answered there so
 pub record Delivered {F : Type 0} (answers : Bounds → ℕ → F → Option ℕ → F → Type 0) (lane : Lane) (at : PortId)

@@ -47,6 +47,15 @@ pub record IsFrameDue (lane : Lane) (now : ℕ) (net : Between) : Type 0 where
   pub front : (links.queue lane.direction cable.link).frames ≡ oldest ∷ rest
   pub due_now : oldest.due ≡ now
 
+-- the oldest frame of a lane has these octets
+pub record IsOldest (lane : Lane) (octets : List ℕ) (net : Between) : Type 0 where
+  pub cable : Cable
+  pub here : slice_get net.cables.items lane.link ≡ Some cable
+  pub oldest : Frame
+  pub rest : List Frame
+  pub front : (links.queue lane.direction cable.link).frames ≡ oldest ∷ rest
+  pub these : oldest.octets ≡ octets
+
 -- One send: it went onto a link that is up, or there is none.
 pub record Unlinked {F : Type 0} (from : PortId) (fate fate_after : F) (net net_after : Net) : Type 0 where
   pub unlinked : IsUnlinked net from

@@ -4,7 +4,7 @@ use Rattle.gptp_links.specs.declared.bounds.Bounds.{Bounds}
 use Rattle.gptp_links.specs.Bounds.{Fit}
 use Rattle.gptp_links.specs.Fate.{Draw, Draws}
 use Rattle.gptp_system.specs.declared.timer.Timer.{Timer}
-use Rattle.gptp_system.specs.Input.{Priority}
+use Rattle.gptp_system.specs.Input.{Expires as TimerExpires, Priority}
 use Rattle.gptp_world.specs.declared.aim.Aim.{Aim}
 use Rattle.gptp_world.specs.declared.aim.Aim.TheVariants as aims
 use Rattle.gptp_acts.specs.declared.change.Act.{Act}
@@ -15,7 +15,7 @@ use Rattle.gptp_acts.specs.Act.{Expires}
 use Rattle.gptp_acts.specs.Acts.{Acts}
 use Rattle.gptp_acts.specs.Changing.{with_bounds, with_setup, with_station, CallsIfLive, ComesUpIf, FailsIf, GoesDownIf, RecoversIf}
 use Rattle.gptp_world.specs.Delivering.{HasRoomToHear}
-use Rattle.gptp_world.specs.Stage.{world_of, HasRoomToCall}
+use Rattle.gptp_world.specs.Stage.{world_of, HasRoomToCall, HasRoomToGive}
 use Rattle.gptp_world.specs.Starting.{CanStart, HasRoomToStart}
 use Rattle.gptp_world.specs.Telling.{HasRoomAtEnds}
 use Rattle.gptp_acts.specs.World.{Channel, WorldState}
@@ -24,13 +24,13 @@ use Rattle.gptp_acts.specs.World.{Channel, WorldState}
 
 abbrev pub HasRoomForAim : Aim → Stage → Type 0
 HasRoomForAim (aims.Arrival lane) stage = HasRoomToHear lane stage
-HasRoomForAim (aims.Timer place timer) stage = HasRoomToCall 1 place stage
+HasRoomForAim (aims.Timer place timer) stage = HasRoomToGive (TimerExpires timer) place stage
 HasRoomForAim (aims.LinkDown link) stage = HasRoomAtEnds link stage
 HasRoomForAim (aims.LinkUp link) stage = HasRoomAtEnds link stage
 HasRoomForAim (aims.LinkSet link bounds) stage = ⊤
-HasRoomForAim (aims.Fail place) stage = HasRoomToCall 1 place stage
+HasRoomForAim (aims.Fail place) stage = HasRoomToCall place stage
 HasRoomForAim (aims.Recover place) stage = HasRoomToStart place stage
-HasRoomForAim (aims.Priority1 place value) stage = HasRoomToCall 1 place stage
+HasRoomForAim (aims.Priority1 place value) stage = HasRoomToCall place stage
 
 -- ---- what is done, by place
 

@@ -1,6 +1,8 @@
 -- Room for what calls of systems leave. It is made before them.
-use Rattle.std.specs.Prelude.{◌≡◌, ◌≤◌, ◌+◌, ◌*◌, ◌==◌, ℕ, zero, suc, if◌then◌else◌, List, length, Some, slice_get}
+use Rattle.std.specs.Prelude.{◌≡◌, ◌≤◌, ◌+◌, ◌*◌, ◌==◌, ℕ, zero, suc, Bool, true, false, ◌&&◌, if◌then◌else◌, List, length, Some, slice_get}
 use Rattle.gptp_links.specs.declared.link.Direction.{Direction}
+use Rattle.gptp_system.specs.declared.reach.Reach.{Reach}
+use Rattle.gptp_system.specs.declared.reach.Reach.TheVariants as reaches
 use Rattle.gptp_system.specs.declared.sending.Sending.{Sending}
 use Rattle.gptp_system.specs.Reach.{sends_at}
 use Rattle.gptp_system.specs.State.{SystemState, clock}
@@ -60,13 +62,23 @@ for_sends clock xs = record {
   frames = sends_from clock xs;
 }
 
--- A call of a system: each of its timers, and two sends at each port.
-abbrev pub for_call : SystemState → Need
-for_call s = record {
+-- a call that reaches so far can send at a port
+abbrev pub is_reached : Reach → ℕ → Bool
+is_reached reaches.Nothing p = false
+is_reached (reaches.Port one) p = p == one
+is_reached reaches.All p = true
+
+-- A call of a system that reaches so far: each of its timers, and two sends at each port that it reaches.
+abbrev pub for_reach : Reach → SystemState → Need
+for_reach r s = record {
   entries = 6 * length s.ports + 2;
   buffers = 2 * length s.ports;
-  frames = λ port. if port.clock == clock s then 2 else 0;
+  frames = λ port. if is_reached r port.port && (port.clock == clock s) then 2 else 0;
 }
+
+-- any call of a system
+abbrev pub for_call : SystemState → Need
+for_call s = for_reach reaches.All s
 
 -- ---- room
 
@@ -111,4 +123,11 @@ HasRoomFrom more port net =
 abbrev pub HasRoomAtPorts : ℕ → ℕ → ℕ → Between → Type 0
 HasRoomAtPorts more place ports net = (clock p : ℕ) → slice_get net.directory.clocks place ≡ Some clock → 1 ≤ p
     → p ≤ ports
+    → HasRoomFrom more (port_id clock p) net
+
+-- so has each of them that is reached
+abbrev pub HasRoomAtReach : ℕ → ℕ → ℕ → Reach → Between → Type 0
+HasRoomAtReach more place ports r net = (clock p : ℕ) → slice_get net.directory.clocks place ≡ Some clock → 1 ≤ p
+    → p ≤ ports
+    → is_reached r p ≡ true
     → HasRoomFrom more (port_id clock p) net

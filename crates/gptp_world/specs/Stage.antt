@@ -3,9 +3,12 @@ use Rattle.std.specs.Prelude.{◌≡◌, ◌<◌, ◌≤◌, ◌+◌, ◌*◌, �
 use Rattle.gptp_links.specs.declared.bounds.Bounds.{Bounds}
 use Rattle.gptp_links.specs.Fate.{Draw, Draws}
 use Rattle.gptp_system.specs.declared.answer.Answer.{Answer}
+use Rattle.gptp_system.specs.declared.reach.Reach.{Reach}
+use Rattle.gptp_system.specs.declared.reach.Reach.TheVariants as reaches
 use Rattle.gptp_system.specs.declared.sending.Sending.{Sending}
 use Rattle.gptp_system.specs.declared.timer.Timer.{Timer}
 use Rattle.gptp_system.specs.Input.{Input, Steps, PortUp, PortDown, Frame, Expires, Priority}
+use Rattle.gptp_system.specs.Reach.{reach}
 use Rattle.gptp_system.specs.State.{SystemState, clock, due}
 use Rattle.gptp_system.specs.Steps.{IsPortOf, IsTimerOf, IsUp}
 use Rattle.gptp_world.specs.declared.cable.Lane.{Lane}
@@ -18,7 +21,7 @@ use Rattle.gptp_acts.specs.Act.{in_state, Calls}
 use Rattle.gptp_world.specs.Directory.{BeginsAt}
 use Rattle.gptp_world.specs.Net.{between, IsNet}
 use Rattle.gptp_acts.specs.World.{port_id}
-use Rattle.gptp_world.specs.Room.{both, for_call, for_sends, for_timers, repeated, HasRoom, Need, Uses}
+use Rattle.gptp_world.specs.Room.{both, for_call, for_reach, for_sends, for_timers, HasRoom, Need, Uses}
 use Rattle.gptp_acts.specs.World.{WorldState}
 
 -- the state of the world
@@ -54,6 +57,12 @@ pub record IsLiveAt (place : ℕ) (stage : Stage) : Type 0 where
   pub here : slice_get stage.stations.items place ≡ Some station
   pub live : station.live ≡ true
 
+-- a timer of the system at a place
+pub record HasTimerAt (place : ℕ) (timer : Timer) (stage : Stage) : Type 0 where
+  pub station : Station
+  pub here : slice_get stage.stations.items place ≡ Some station
+  pub timer_of : IsTimerOf station.system timer
+
 -- a timer of the system at a place is due now
 pub record IsDueAt (place : ℕ) (timer : Timer) (stage : Stage) : Type 0 where
   pub station : Station
@@ -61,11 +70,20 @@ pub record IsDueAt (place : ℕ) (timer : Timer) (stage : Stage) : Type 0 where
   pub timer_of : IsTimerOf station.system timer
   pub due_now : due timer station.system ≡ Some stage.now
 
--- there is room for whatever so many calls of the system at a place can leave
-pub record HasRoomToCall (calls place : ℕ) (stage : Stage) : Type 0 where
+-- there is room for whatever a call of the system at a place can leave, where it reaches so far
+pub record HasRoomWithin (r : Reach) (place : ℕ) (stage : Stage) : Type 0 where
   pub station : Station
   pub here : slice_get stage.stations.items place ≡ Some station
-  pub room : HasRoom (repeated calls (for_call station.system)) stage.net
+  pub room : HasRoom (for_reach r station.system) stage.net
+
+-- whatever it is given
+abbrev pub HasRoomToCall : ℕ → Stage → Type 0
+HasRoomToCall place stage = HasRoomWithin reaches.All place stage
+
+-- where it is given this input
+abbrev pub HasRoomToGive : Input → ℕ → Stage → Type 0
+HasRoomToGive input place stage = (station : Station) → slice_get stage.stations.items place ≡ Some station
+    → HasRoomWithin (reach input station.system) place stage
 
 -- there is room for one call of each of two systems
 pub record HasRoomToCallBoth (first second : ℕ) (stage : Stage) : Type 0 where

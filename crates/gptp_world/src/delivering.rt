@@ -5,7 +5,7 @@ ghost use Rattle.std.specs.Prelude.{◌≡◌, ◌≤◌};
 use crate::cable::Lane;
 use crate::stage::Stage;
 use gptp_links::Fate;
-use gptp_system::Answer;
+use gptp_system::{Answer, Reach};
 use gptp_vector::PortId;
 use std::alloc::AllocError;
 
@@ -26,10 +26,12 @@ pub(crate) fn narrowed(port: u16) -> u8
 }
 
 impl Stage {
-    ghost use Rattle.std.specs.Prelude.{◌≡◌, length, ◌<◌, OnOk};
+    ghost use Rattle.std.specs.Prelude.{◌≡◌, ℕ, List, length, ◌<◌, OnOk};
     ghost use Rattle.gptp_acts.specs.Agrees.{Agrees};
-    ghost use Rattle.gptp_world.specs.Net.{IsFrameDue};
-    ghost use Rattle.gptp_world.specs.Stage.{world_of, HasRoomToCall, IsStage};
+    ghost use Rattle.gptp_system.specs.Input.{Frame};
+    ghost use Rattle.gptp_system.specs.Reach.{frame_reach};
+    ghost use Rattle.gptp_world.specs.Net.{IsFrameDue, IsOldest};
+    ghost use Rattle.gptp_world.specs.Stage.{world_of, HasRoomToGive, IsStage};
     ghost use Rattle.gptp_world.specs.Delivering.{Delivered, HasRoomToHear, HeardAt, IsHeardAt, MayHear};
     ghost use Rattle.gptp_world.specs.Touched.{none, AreSetAt};
 
@@ -45,7 +47,7 @@ impl Stage {
         requires place { place < length self.old.stations.items }
         requires heard { IsHeardAt place port self.old }
         requires set { AreSetAt none place self.old }
-        requires room { HasRoomToCall 1 place self.old }
+        requires room { HasRoomToGive (Frame port frame.now) place self.old }
         ensures stage { IsStage self.new }
         ensures heard { HeardAt F.answers place port frame.now result fate.old fate.new self.old self.new }
     {
@@ -72,8 +74,21 @@ impl Stage {
         let answer = self.hear_if_live(place, narrowed(at.port), &frame, fate);
         Reached { at, answer, frame }
     }
-    /// Makes room for whatever the system at the end of a lane can leave when it hears a frame. Refused where there is no
-    /// memory for it. The state of the world doesn't change.
+
+    /// How far the call reaches in which the system at a place hears the oldest frame of a lane.
+    fn reach_of_oldest(&self, place: usize, lane: Lane) -> Reach
+        requires place { place < length self.now.stations.items }
+        requires link { lane.link < length self.now.net.cables.items }
+        ensures { (octets : List ℕ) → IsOldest lane octets self.entry.now.net → result ≡ frame_reach octets }
+    {
+        match self.net.cables[lane.link].link.front(lane.direction) {
+            Some(frame) => self.stations[place].system.frame_reach(frame),
+            None => Reach::Nothing,
+        }
+    }
+
+    /// Makes room for whatever the system at the end of a lane can leave when it hears the oldest frame of the lane. Refused
+    /// where there is no memory for it. The state of the world doesn't change.
     pub(crate) fn make_room_to_hear(&mut self, lane: Lane) -> Result<(), AllocError>
         requires stage { IsStage self.old }
         requires link { lane.link < length self.old.net.cables.items }
@@ -83,6 +98,7 @@ impl Stage {
     {
         self.net.directory.well_formed();
         let place = self.net.directory.receiver(lane);
-        self.make_room(place, 1)
+        let reach = self.reach_of_oldest(place, lane);
+        self.make_room(place, reach)
     }
 }

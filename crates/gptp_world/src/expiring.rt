@@ -5,6 +5,7 @@ use crate::stage::Stage;
 use gptp_acts::Item;
 use gptp_links::Fate;
 use gptp_system::Timer;
+use std::alloc::AllocError;
 
 impl Net {
     ghost use Rattle.std.specs.Prelude.{◌≡◌};
@@ -26,21 +27,40 @@ impl Net {
 }
 
 impl Stage {
+    ghost use Rattle.std.specs.Prelude.{◌≡◌, OnOk};
     ghost use Rattle.gptp_acts.specs.Agrees.{Agrees};
+    ghost use Rattle.gptp_system.specs.Input.{Expires};
     ghost use Rattle.gptp_world.specs.Aim.{IsTimerDue};
     ghost use Rattle.gptp_world.specs.Performing.{Expired};
-    ghost use Rattle.gptp_world.specs.Stage.{world_of, HasRoomToCall, IsStage};
+    ghost use Rattle.gptp_world.specs.Stage.{world_of, HasRoomToGive, HasTimerAt, IsStage};
 
     /// A timer of the system at a place, which is due now, expires.
     pub(crate) fn run_out<F: Fate>(&mut self, place: usize, timer: Timer, fate: &mut F)
         requires stage { IsStage self.old }
         requires due { IsTimerDue place timer self.old.now (world_of self.old) }
         requires agrees { Agrees (world_of self.old) }
-        requires room { HasRoomToCall 1 place self.old }
+        requires room { HasRoomToGive (Expires timer) place self.old }
         ensures stage { IsStage self.new }
         ensures expired { Expired F.answers place timer fate.old fate.new self.old self.new }
     {
         self.net.take_timer(place, timer);
         self.expire(place, timer, fate);
+    }
+
+    /// Makes room for whatever the system at a place can leave when a timer of it expires. Refused where there is no memory
+    /// for it. The state of the world doesn't change.
+    pub(crate) fn make_room_to_expire(
+        &mut self,
+        place: usize,
+        timer: Timer,
+    ) -> Result<(), AllocError>
+        requires stage { IsStage self.old }
+        requires timer { HasTimerAt place timer self.old }
+        ensures stage { IsStage self.new }
+        ensures world { world_of self.new ≡ world_of self.old }
+        ensures room { OnOk result (HasRoomToGive (Expires timer) place self.new) }
+    {
+        let reach = self.stations[place].system.timer_reach(timer);
+        self.make_room(place, reach)
     }
 }

@@ -6,6 +6,7 @@ use crate::delivering::Reached;
 use crate::stage::Stage;
 use gptp_acts::{Act, Done};
 use gptp_links::{Bounds, Fate};
+use gptp_system::Reach;
 use std::alloc::AllocError;
 
 impl Stage {
@@ -81,7 +82,7 @@ impl Stage {
     /// A system fails, where it is live.
     fn fail_if_live(&mut self, place: usize)
         requires stage { IsStage self.old }
-        requires room { HasRoomToCall 1 place self.old }
+        requires room { HasRoomToCall place self.old }
         ensures stage { IsStage self.new }
         ensures failed { Turns (Fail place) (world_of self.old) [] (world_of self.new) }
     {
@@ -143,13 +144,13 @@ impl Stage {
     {
         match aim {
             Aim::Arrival(lane) => self.make_room_to_hear(lane),
-            Aim::Timer { place, timer: _ } => self.make_room(place, 1),
+            Aim::Timer { place, timer } => self.make_room_to_expire(place, timer),
             Aim::LinkDown(link) => self.make_room_at_ends(link),
             Aim::LinkUp(link) => self.make_room_at_ends(link),
             Aim::LinkSet { link: _, bounds: _ } => Ok(()),
-            Aim::Fail(place) => self.make_room(place, 1),
+            Aim::Fail(place) => self.make_room(place, Reach::All),
             Aim::Recover(place) => self.make_room_to_start(place),
-            Aim::Priority1 { place, value: _ } => self.make_room(place, 1),
+            Aim::Priority1 { place, value: _ } => self.make_room(place, Reach::All),
         }
     }
 

@@ -22,7 +22,7 @@ impl Stage {
     ghost use Rattle.gptp_system.specs.Input.{Input, PortUp, PortDown, Frame, Expires, Priority};
     ghost use Rattle.gptp_system.specs.Reach.{same_timer};
     ghost use Rattle.gptp_world.specs.declared.stage.Stage.{Stage};
-    ghost use Rattle.gptp_world.specs.Stage.{Called, CalledWith, CallUses, CarriesOut, HasRoomToCall, HasStepped, IsGivenAt, IsStage, IsLiveAt, IsDueAt, IsPortAt, IsUpAt};
+    ghost use Rattle.gptp_world.specs.Stage.{Called, CalledWith, CallUses, CarriesOut, HasRoomToCall, HasRoomToGive, HasStepped, IsGivenAt, IsStage, IsLiveAt, IsDueAt, IsPortAt, IsUpAt};
     ghost use Rattle.gptp_world.specs.Touched.{none, AreSetAt, HasTouched};
 
     /// What a step of the system at a place left is carried out: its timers follow, of which it touched no others than
@@ -55,7 +55,7 @@ impl Stage {
         requires live { IsLiveAt place self.old }
         requires due { IsDueAt place timer self.old }
         requires set { AreSetAt (same_timer timer) place self.old }
-        requires room { HasRoomToCall 1 place self.old }
+        requires room { HasRoomToGive (Expires timer) place self.old }
         ensures stage { IsStage self.new }
         ensures called { Called F.answers place (Expires timer) fate.old fate.new self.old self.new }
         ensures uses { CallUses place self.old self.new.net }
@@ -71,7 +71,7 @@ impl Stage {
         requires stage { IsStage self.old }
         requires live { IsLiveAt place self.old }
         requires port { IsPortAt place port self.old }
-        requires room { HasRoomToCall 1 place self.old }
+        requires room { HasRoomToCall place self.old }
         ensures stage { IsStage self.new }
         ensures called { Called F.answers place (PortUp port) fate.old fate.new self.old self.new }
         ensures uses { CallUses place self.old self.new.net }
@@ -87,7 +87,7 @@ impl Stage {
         requires stage { IsStage self.old }
         requires live { IsLiveAt place self.old }
         requires port { IsPortAt place port self.old }
-        requires room { HasRoomToCall 1 place self.old }
+        requires room { HasRoomToCall place self.old }
         ensures stage { IsStage self.new }
         ensures called { Called F.answers place (PortDown port) fate.old fate.new self.old self.new }
         ensures uses { CallUses place self.old self.new.net }
@@ -102,7 +102,7 @@ impl Stage {
     pub(crate) fn set_priority<F: Fate>(&mut self, place: usize, value: u8, fate: &mut F)
         requires stage { IsStage self.old }
         requires live { IsLiveAt place self.old }
-        requires room { HasRoomToCall 1 place self.old }
+        requires room { HasRoomToCall place self.old }
         ensures stage { IsStage self.new }
         ensures called { Called F.answers place (Priority value) fate.old fate.new self.old self.new }
         ensures uses { CallUses place self.old self.new.net }
@@ -125,7 +125,7 @@ impl Stage {
         requires live { IsLiveAt place self.old }
         requires up { IsUpAt place port self.old }
         requires set { AreSetAt none place self.old }
-        requires room { HasRoomToCall 1 place self.old }
+        requires room { HasRoomToGive (Frame port frame.now) place self.old }
         ensures stage { IsStage self.new }
         ensures called { CalledWith F.answers place (Frame port frame.now) result fate.old fate.new self.old self.new }
         ensures uses { CallUses place self.old self.new.net }

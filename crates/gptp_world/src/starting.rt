@@ -26,7 +26,7 @@ impl Stage {
         requires stage { IsStage self.old }
         requires live { IsLiveAt place self.old }
         requires port { IsPortAt place port self.old }
-        requires room { HasRoomToCall 1 place self.old }
+        requires room { HasRoomToCall place self.old }
         ensures stage { IsStage self.new }
         ensures uses { CallUses place self.old self.new.net }
         ensures came { CameUp F.answers place (port ∷ []) fate.old fate.new self.old self.new }
@@ -113,7 +113,7 @@ impl Stage {
     /// The system at a place gets another priority1: it starts with it from now on, and where it is live it selects.
     pub(crate) fn set_priority1<F: Fate>(&mut self, place: usize, value: u8, fate: &mut F)
         requires stage { IsStage self.old }
-        requires room { HasRoomToCall 1 place self.old }
+        requires room { HasRoomToCall place self.old }
         ensures stage { IsStage self.new }
         ensures prioritized { Prioritized F.answers place value fate.old fate.new self.old self.new }
     {

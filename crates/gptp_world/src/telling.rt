@@ -62,7 +62,7 @@ impl Stage {
     fn tell_down<F: Fate>(&mut self, place: usize, port: u8, fate: &mut F)
         requires stage { IsStage self.old }
         requires port { IsPortAt place port self.old }
-        requires room { HasRoomToCall 1 place self.old }
+        requires room { HasRoomToCall place self.old }
         ensures stage { IsStage self.new }
         ensures told { Told F.answers place (PortDown port) fate.old fate.new self.old self.new }
         ensures uses { CallUses place self.old self.new.net }
@@ -76,7 +76,7 @@ impl Stage {
     fn tell_up<F: Fate>(&mut self, place: usize, port: u8, fate: &mut F)
         requires stage { IsStage self.old }
         requires port { IsPortAt place port self.old }
-        requires room { HasRoomToCall 1 place self.old }
+        requires room { HasRoomToCall place self.old }
         ensures stage { IsStage self.new }
         ensures told { Told F.answers place (PortUp port) fate.old fate.new self.old self.new }
         ensures uses { CallUses place self.old self.new.net }

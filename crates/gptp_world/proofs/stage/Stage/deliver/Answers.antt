@@ -1,9 +1,11 @@
 use Rattle.std.proofs.Common.{◌≡◌, slice_get, ap, sym, ◌∙◌}
+use Rattle.gptp_system.specs.Reach.{frame_reach}
 use Rattle.gptp_system.specs.Steps.{IsUp}
 use Rattle.gptp_vector.specs.declared.port.PortId.{PortId}
 use Rattle.gptp_world.specs.Cable.{channel_of, join_of}
 use Rattle.gptp_world.specs.Directory.{end_of, DirectoryState}
-use Rattle.gptp_world.specs.Net.{between}
+use Rattle.gptp_world.specs.Net.{between, IsOldest}
+use Rattle.gptp_world.proofs.DeliveringLemmas.{oldest_taken}
 use Rattle.gptp_world.proofs.EndLemmas.{end_placed, end_same, known_join, place_within, station_at}
 use Rattle.gptp_world.proofs.StageLemmas.{net_replaced, room_kept}
 use Rattle.gptp_world.proofs.TouchedLemmas.{set_for_frame}
@@ -57,15 +59,22 @@ hear_if_live-answer-requires-clause-set g c =
     (c.take_frame-frame.ensures.takes due.cable due.here)
 
 pub hear_if_live-answer-requires-clause-room : goal.hear_if_live-answer-requires-clause-room
-hear_if_live-answer-requires-clause-room g c =
+hear_if_live-answer-requires-clause-room g c = λ station here.
     let net = c.args.self.now.net in let due = c.requires.due in let lane = c.args.lane in
     let join = join_of due.cable in
     let there = known_join net lane.link due.cable c.requires.stage.net due.here in
     let same = c.take_frame-frame.ensures.uses.directory in
     let place = c.receiver-place.ensures join (ap (λ (d : DirectoryState). slice_get d.joins lane.link) same ∙ there) in
-    room_kept 1 c.receiver-place.result c.args.self.now c.take_frame-frame.new.self c.take_frame-frame.ensures.uses
-    (c.requires.room join c.receiver-place.result there
-    (ap (λ (d : DirectoryState). slice_get d.clocks c.receiver-place.result) (sym same) ∙ place))
+    let octets = c.deref.result.now in
+    let takes = c.take_frame-frame.ensures.takes due.cable due.here in
+    let oldest : IsOldest lane octets net =
+    rw c.deref.ensures.value
+    (oldest_taken net c.take_frame-frame.new.self lane c.args.self.now.now c.take_frame-frame.result.items due takes) in
+    room_kept (frame_reach octets) c.receiver-place.result c.args.self.now c.take_frame-frame.new.self
+    c.take_frame-frame.ensures.uses
+    (c.requires.room join c.receiver-place.result octets there
+    (ap (λ (d : DirectoryState). slice_get d.clocks c.receiver-place.result) (sym same) ∙ place)
+    oldest)
 
 pub returns-clause-delivered : goal.returns-clause-delivered
 returns-clause-delivered g c =

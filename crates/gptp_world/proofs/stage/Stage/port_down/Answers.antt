@@ -1,14 +1,15 @@
 use Rattle.std.proofs.Common.{refl}
 use Rattle.gptp_system.specs.declared.answer.Answer.TheVariants as answers
 use Rattle.gptp_system.specs.Input.{PortDown}
-use Rattle.gptp_world.proofs.StageLemmas.{carries, stepped}
+use Rattle.gptp_world.proofs.StageLemmas.{carries, gives, stepped}
 use Rattle.gptp_world.proofs.TouchedLemmas.{all_touched}
 use Rattle.gptp_world.proofs.stage.Stage.port_down.Goals as goal
 
 pub carry_out-requires-clause-carries : goal.carry_out-requires-clause-carries
 carry_out-requires-clause-carries g c =
     let one = c.requires.port in
-    carries c.args.self.now _ c.args.place (PortDown c.args.port) answers.Used c.requires.stage c.requires.room
+    carries c.args.self.now _ c.args.place (PortDown c.args.port) answers.Used c.requires.stage
+    (gives (PortDown c.args.port) c.args.place c.args.self.now c.requires.room)
     (stepped c.args.self.now _ c.args.place (PortDown c.args.port) answers.Used c.index_mut.result.now
     c.port_down.new.self
     c.requires.live c.index_mut.ensures.value c.port_down.ensures refl refl refl refl)

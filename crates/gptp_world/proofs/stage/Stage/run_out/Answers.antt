@@ -1,3 +1,4 @@
+use Rattle.gptp_system.specs.Reach.{timer_reach}
 use Rattle.gptp_world.specs.Stage.{world_of}
 use Rattle.gptp_world.proofs.ExpiringLemmas.{expired, known_timer}
 use Rattle.gptp_acts.proofs.NextDueLemmas.{runs_out}
@@ -34,8 +35,9 @@ expire-requires-clause-set g c =
     c.take_timer.ensures.taken
 
 pub expire-requires-clause-room : goal.expire-requires-clause-room
-expire-requires-clause-room g c =
-    room_kept 1 c.args.place c.args.self.now c.take_timer.new.self c.take_timer.ensures.uses c.requires.room
+expire-requires-clause-room g c = λ station here.
+    room_kept (timer_reach c.args.timer station.system) c.args.place c.args.self.now c.take_timer.new.self
+    c.take_timer.ensures.uses (c.requires.room station here)
 
 pub returns-clause-expired : goal.returns-clause-expired
 returns-clause-expired g c =
