@@ -208,7 +208,8 @@ gives input place stage has = λ station here.
 -- ---- one call
 
 -- the live system at a place took a step
-pub stepped : (stage stage' : Stage) (place : ℕ) (input : Input) (answer : Answer) (one : Station) (after : SystemState)
+unfoldable pub stepped : (stage stage' : Stage) (place : ℕ) (input : Input) (answer : Answer) (one : Station)
+    (after : SystemState)
     → IsLiveAt place stage → one ≡ slice_index_or stage.stations.items place one
     → Steps input stage.now one.system after stage'.outbox.items answer
     → stage'.stations.items ≡ slice_set stage.stations.items place (in_state after one) → stage'.net ≡ stage.net

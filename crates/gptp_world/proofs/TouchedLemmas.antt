@@ -1,7 +1,9 @@
 -- A call of a system touches few timers: each other is pending when it is due, before the call and after it. So to set
 -- those that are touched makes the same of what is pending as to set all.
-use Rattle.std.proofs.Common.{◌≡◌, ℕ, ◌+◌, ◌==◌, Bool, true, false, List, [], ◌∷◌, length, Option, refl, sym, ap, subst, ◌∙◌, inl, inr, arith}
+use Rattle.std.proofs.Common.{◌≡◌, ℕ, ◌+◌, ◌==◌, Bool, true, false, ◌&&◌, ◌||◌, List, [], ◌∷◌, length, Option, refl, sym, ap, subst, ◌∙◌, inl, inr, arith}
 use Rattle.std.specs.List.{AllByRecursion, filter}
+use Rattle.std.proofs.lemmas.Bool.{eqb-true}
+use Rattle.std.proofs.Math.Bool.{beq, not}
 use Rattle.std.proofs.lemmas.Bool.Decides.{nat_tests}
 use Rattle.gptp_graph.specs.Members.{In}
 use Rattle.gptp_messages.specs.Head.{message_type}
@@ -9,12 +11,14 @@ use Rattle.gptp_system.specs.declared.answer.Answer.{Answer}
 use Rattle.gptp_system.specs.declared.port.Port.{Port}
 use Rattle.gptp_system.specs.declared.timer.Timer.{Timer}
 use Rattle.gptp_system.specs.declared.timer.Timer.TheVariants as timers
-use Rattle.gptp_system.specs.Input.{Input, Frame, Expires}
-use Rattle.gptp_system.specs.Reach.{is_selected, is_touched, is_touched_by, may_select, same_timer, stops_at}
-use Rattle.gptp_system.specs.State.{SystemState, due}
+use Rattle.gptp_system.specs.declared.sending.Sending.{Sending}
+use Rattle.gptp_system.specs.Input.{Input, Steps, Frame, Expires}
+use Rattle.gptp_system.specs.Reach.{is_selected, is_touched, is_touched_by, same_timer, stops_at, Leaves}
+use Rattle.gptp_system.specs.State.{SystemState, due, is_capable_at}
 use Rattle.gptp_system.specs.Steps.{IsPortOf, IsTimerOf, IsUp}
 use Rattle.gptp_system.proofs.ReachLemmas.{steps_reach}
 use Rattle.gptp_system.proofs.SystemLemmas.{up_is_port}
+use Rattle.gptp_system.proofs.UnturnedLemmas.{frame_unturned}
 use Rattle.gptp_world.specs.declared.cable.Lane.{Lane}
 use Rattle.gptp_acts.specs.declared.item.Item.TheVariants.{Expiry, Arrival}
 use Rattle.gptp_world.specs.declared.net.Net.{Net as Between}
@@ -151,24 +155,51 @@ selection_touched place station ports es set =
 
 -- ---- which timers an input can change
 
--- a frame can change those that its messageType tells
-type_holds : (kind p : ℕ) (timer : Timer) → holds (type_touches kind p) timer ≡ is_touched_by kind p timer
-type_holds kind p timer = by (kind == 0x2) (kind == 0x8) (may_select kind) refl refl refl
+-- a frame can change those that its messageType tells, unless it is a Pdelay_Resp_Follow_Up by which no port turns
+type_holds : (kind p : ℕ) (turns : Bool) (timer : Timer) → (kind ≡ 0xA → turns ≡ true)
+    → holds (type_touches kind p turns) timer ≡ is_touched_by kind p timer
+type_holds kind p turns timer turned = by (kind == 0x2) (kind == 0x8) (kind == 0xB) (kind == 0xA) refl refl refl refl
   where
-    by : (asks follows selects : Bool) → (kind == 0x2) ≡ asks → (kind == 0x8) ≡ follows → may_select kind ≡ selects
-        → holds (type_touches kind p) timer ≡ is_touched_by kind p timer
-    by true follows selects a f s = rw a refl
-    by false true selects a f s = rw (a, f) refl
-    by false false true a f s = rw (a, f, s) refl
-    by false false false a f s = rw (a, f, s) refl
+    by : (asks follows announces completes : Bool) → (kind == 0x2) ≡ asks → (kind == 0x8) ≡ follows
+        → (kind == 0xB) ≡ announces → (kind == 0xA) ≡ completes
+        → holds (type_touches kind p turns) timer ≡ is_touched_by kind p timer
+    by true follows announces completes a f n e = rw a refl
+    by false true announces completes a f n e = rw (a, f) refl
+    by false false true completes a f n e = rw (a, f, n) refl
+    by false false false true a f n e =
+        let on : turns ≡ true = turned (eqb-true kind 0xA e) in rw (a, f, n, e, on) refl
+    by false false false false a f n e = rw (a, f, n, e) refl
 
 -- all others, that are pending when they are due, stay so
 abbrev pub Covers : Touched → Input → SystemState → (Timer → Bool) → Type 0
 Covers touched input s otherwise = (timer : Timer) → holds touched timer ≡ false
     → (is_touched input s timer ≡ false) × (otherwise timer ≡ false)
 
-pub frame_covers : (octets : List ℕ) (p : ℕ) (s : SystemState) → Covers (frame_touches octets p) (Frame p octets) s none
-frame_covers octets p s timer off = (sym (type_holds (message_type octets) p timer) ∙ off, refl)
+-- what doesn't differ is the same
+pub unchanged : (now was : Bool) → not (beq now was) ≡ false → now ≡ was
+unchanged true true same = refl
+unchanged true false same = absurd cc
+unchanged false true same = absurd cc
+unchanged false false same = refl
+
+-- Where it is told whether the port is as capable after a frame as before, all others are left.
+pub frame_leaves : (octets : List ℕ) (p now : ℕ) (s s' : SystemState) (sends : List Sending) (answer : Answer)
+    (turns : Bool)
+    → Steps (Frame p octets) now s s' sends answer → (turns ≡ false → is_capable_at s' p ≡ is_capable_at s p)
+    → Leaves (holds (frame_touches octets p turns)) s s'
+frame_leaves octets p now s s' sends answer turns steps same timer off =
+    by (message_type octets == 0xA) refl turns refl
+  where
+    told : (message_type octets ≡ 0xA → turns ≡ true) → due timer s' ≡ due timer s
+    told turned = (steps_reach (Frame p octets) now s s' sends answer steps).leaves timer
+        (sym (type_holds (message_type octets) p turns timer turned) ∙ off)
+
+    by : (completes : Bool) → (message_type octets == 0xA) ≡ completes → (b : Bool) → turns ≡ b
+        → due timer s' ≡ due timer s
+    by completes is true on = told (λ kind. on)
+    by true is false off = frame_unturned p octets now s s' sends answer steps (eqb-true (message_type octets) 0xA is)
+        (same_ports (Frame p octets) now s s' sends answer steps) (same off) timer refl
+    by false is false off = told (λ kind. absurd cc)
 
 -- what selection can't change is no Age timer
 not_age : (p : ℕ) (timer : Timer) → is_selected timer ≡ false → same_timer (timers.Age p) timer ≡ false
@@ -194,6 +225,10 @@ timer_covers (timers.Respond p) s timer off = (off, off)
 timer_covers timers.Sync s timer off = (off, off)
 timer_covers timers.Relay s timer off = (off, off)
 
+-- a port of the system is one before and after
+pub same_port_of : (s s' : SystemState) (p : ℕ) → length s'.ports ≡ length s.ports → IsPortOf s p → IsPortOf s' p
+same_port_of s s' p ports is = record { least = is.least; most = rw ports is.most }
+
 -- a timer that is touched alone is one of the system before and after
 same_timers_of : (s s' : SystemState) (timer : Timer) → length s'.ports ≡ length s.ports → IsTimerOf s timer
     → IsTimerOf s' timer
@@ -212,18 +247,22 @@ same_touched_of s s' touches.Selected ports is = tt
 same_touched_of s s' touches.All ports is = tt
 
 -- the timer that a frame touches alone at a port of the system is one of the system
-type_touches_own : (kind p : ℕ) (s : SystemState) → IsPortOf s p → IsTouchedOf s (type_touches kind p)
-type_touches_own kind p s of = by (kind == 0x2) (kind == 0x8) (may_select kind) refl refl refl
+type_touches_own : (kind p : ℕ) (turns : Bool) (s : SystemState) → IsPortOf s p
+    → IsTouchedOf s (type_touches kind p turns)
+type_touches_own kind p turns s of =
+    by (kind == 0x2) (kind == 0x8) (kind == 0xB || (kind == 0xA && turns)) refl refl refl
   where
-    by : (asks follows selects : Bool) → (kind == 0x2) ≡ asks → (kind == 0x8) ≡ follows → may_select kind ≡ selects
-        → IsTouchedOf s (type_touches kind p)
+    by : (asks follows selects : Bool) → (kind == 0x2) ≡ asks → (kind == 0x8) ≡ follows
+        → (kind == 0xB || (kind == 0xA && turns)) ≡ selects
+        → IsTouchedOf s (type_touches kind p turns)
     by true follows selects a f x = rw a of
     by false true selects a f x = rw (a, f) tt
     by false false true a f x = rw (a, f, x) tt
     by false false false a f x = rw (a, f, x) tt
 
-pub frame_touches_own : (octets : List ℕ) (p : ℕ) (s : SystemState) → IsUp s p → IsTouchedOf s (frame_touches octets p)
-frame_touches_own octets p s up = type_touches_own (message_type octets) p s (up_is_port s p up)
+pub frame_touches_own : (octets : List ℕ) (p : ℕ) (turns : Bool) (s : SystemState) → IsUp s p
+    → IsTouchedOf s (frame_touches octets p turns)
+frame_touches_own octets p turns s up = type_touches_own (message_type octets) p turns s (up_is_port s p up)
 
 -- so is that of a timer that runs out
 pub timer_touches_own : (timer : Timer) (s : SystemState) → IsTimerOf s timer → IsTouchedOf s (timer_touches timer s)
@@ -240,12 +279,13 @@ timer_touches_own timers.Relay s is = tt
 
 -- ---- after a step
 
--- A live system took a step. All its timers but these were pending when they were due, and still are.
-pub has_touched : (stage left : Stage) (place : ℕ) (input : Input) (answer : Answer) (otherwise : Timer → Bool)
+-- A live system took a step, which left all its timers but these. They were pending when they were due, and still are.
+pub has_left : (stage left : Stage) (place : ℕ) (input : Input) (answer : Answer) (otherwise : Timer → Bool)
     (touched : Touched) (step : HasStepped place input answer stage left) → AreSetAt otherwise place stage
-    → IsTouchedOf step.station.system touched → Covers touched input step.station.system otherwise
+    → IsTouchedOf step.station.system touched → Leaves (holds touched) step.station.system step.after
+    → ((timer : Timer) → holds touched timer ≡ false → otherwise timer ≡ false)
     → HasTouched touched place left
-has_touched stage left place input answer otherwise touched step set own covers =
+has_left stage left place input answer otherwise touched step set own leaves were =
     let s = step.station.system in let s' = step.after in let net = step.net in let live = step.live in
     let stations = step.stations in
     record {
@@ -253,13 +293,23 @@ has_touched stage left place input answer otherwise touched step set own covers 
       here = rw stations (get-set_same stage.stations.items place step.station (in_state s' step.station) step.here);
       own = same_touched_of s s' touched (same_ports input stage.now s s' left.outbox.items answer step.steps) own;
       set = λ timer off.
-          let c = covers timer off in
-          let leaves : due timer s' ≡ due timer s =
-          (steps_reach input stage.now s s' left.outbox.items answer step.steps).leaves timer c.0 in
+          let still : due timer s' ≡ due timer s = leaves timer off in
           let same : station_due timer (in_state s' step.station) ≡ station_due timer step.station =
-          rw (live, leaves) refl in
-          rw (net, same) (set step.station step.here timer c.1);
+          rw (live, still) refl in
+          rw (net, same) (set step.station step.here timer (were timer off));
     }
+
+-- so it is where these are all that the input can change
+pub has_touched : (stage left : Stage) (place : ℕ) (input : Input) (answer : Answer) (otherwise : Timer → Bool)
+    (touched : Touched) (step : HasStepped place input answer stage left) → AreSetAt otherwise place stage
+    → IsTouchedOf step.station.system touched → Covers touched input step.station.system otherwise
+    → HasTouched touched place left
+has_touched stage left place input answer otherwise touched step set own covers =
+    let s = step.station.system in
+    has_left stage left place input answer otherwise touched step set own
+    (λ timer off. (steps_reach input stage.now s step.after left.outbox.items answer step.steps).leaves timer
+    (covers timer off).0)
+    (λ timer off. (covers timer off).1)
 
 -- where any timer may be touched nothing is asked
 pub all_touched : (stage left : Stage) (place : ℕ) (input : Input) (answer : Answer)

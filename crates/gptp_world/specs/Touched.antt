@@ -1,10 +1,10 @@
--- The timers of a system that a call can change, as its input and the state before it tell.
-use Rattle.std.specs.Prelude.{◌≡◌, ℕ, ⊤, ◌+◌, ◌==◌, Bool, true, false, if◌then◌else◌, List, [], ◌∷◌, Some, slice_get}
+-- The timers of a system that a call can change, as its input and the state before it tell, and whether a port turned.
+use Rattle.std.specs.Prelude.{◌≡◌, ℕ, ⊤, ◌+◌, ◌==◌, Bool, true, false, ◌&&◌, ◌||◌, if◌then◌else◌, List, [], ◌∷◌, Some, slice_get}
 use Rattle.gptp_messages.specs.Head.{message_type}
 use Rattle.gptp_system.specs.declared.port.Port.{Port}
 use Rattle.gptp_system.specs.declared.timer.Timer.{Timer}
 use Rattle.gptp_system.specs.declared.timer.Timer.TheVariants as timers
-use Rattle.gptp_system.specs.Reach.{is_selected, may_select, same_timer, stops_at}
+use Rattle.gptp_system.specs.Reach.{is_selected, same_timer, stops_at}
 use Rattle.gptp_system.specs.State.{SystemState}
 use Rattle.gptp_system.specs.Steps.{IsTimerOf}
 use Rattle.gptp_acts.specs.declared.item.Item.TheVariants.{Expiry}
@@ -25,16 +25,17 @@ holds touches.Selected timer = is_selected timer
 holds touches.All timer = true
 
 -- A frame of this messageType touches these where a port hears it: a Pdelay_Req (2) the Respond timer of the port, a
--- Follow_Up (8) the Relay timer, and one after which the system may select those that selection can change.
-abbrev pub type_touches : ℕ → ℕ → Touched
-type_touches kind p =
+-- Follow_Up (8) the Relay timer, and an Announce (11) those that selection can change; so does a Pdelay_Resp_Follow_Up
+-- (10) by which the port turns, as it becomes asCapable or stops being so.
+abbrev pub type_touches : ℕ → ℕ → Bool → Touched
+type_touches kind p turns =
     if kind == 0x2 then touches.One (timers.Respond p)
     else if kind == 0x8 then touches.One timers.Relay
-    else if may_select kind then touches.Selected
+    else if kind == 0xB || (kind == 0xA && turns) then touches.Selected
     else touches.Nothing
 
-abbrev pub frame_touches : List ℕ → ℕ → Touched
-frame_touches octets p = type_touches (message_type octets) p
+abbrev pub frame_touches : List ℕ → ℕ → Bool → Touched
+frame_touches octets p turns = type_touches (message_type octets) p turns
 
 -- A timer that runs out touches itself, and an Age timer those that selection can change. Where the port stops being
 -- asCapable as it asks its neighbour, any timer may change.

@@ -130,10 +130,11 @@ impl Stage {
         ensures called { CalledWith F.answers place (Frame port frame.now) result fate.old fate.new self.old self.new }
         ensures uses { CallUses place self.old self.new.net }
     {
-        let answer = self.stations[place]
-            .system
-            .on_frame(port, frame, self.now, &mut self.outbox);
-        self.carry_out(place, frame_touches(frame, port), fate);
+        let system = &mut self.stations[place].system;
+        let was_capable = system.capable(port);
+        let answer = system.on_frame(port, frame, self.now, &mut self.outbox);
+        let turns = system.capable(port) != was_capable;
+        self.carry_out(place, frame_touches(frame, port, turns), fate);
         answer
     }
 }

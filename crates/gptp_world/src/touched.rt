@@ -1,4 +1,4 @@
-//! The timers that a call of a system can change, told before it.
+//! The timers that a call of a system can change.
 
 ghost use Rattle.std.specs.Prelude.{◌≡◌};
 ghost use Rattle.gptp_system.specs.Steps.{IsTimerOf};
@@ -19,24 +19,26 @@ pub(crate) enum Touched {
     All,
 }
 
-/// The timers that a frame of this messageType touches where a port hears it.
-fn type_touches(message_type: u8, port: u8) -> Touched
-    ensures { result ≡ type_touches message_type port }
+/// The timers that a frame of this messageType touches where a port hears it, which turns by it: becomes asCapable, or
+/// stops being so.
+fn type_touches(message_type: u8, port: u8, turns: bool) -> Touched
+    ensures { result ≡ type_touches message_type port turns }
 {
     match message_type {
         0x2 => Touched::One(Timer::Respond(port)),
         0x8 => Touched::One(Timer::Relay),
-        0xA | 0xB => Touched::Selected,
+        0xA if turns => Touched::Selected,
+        0xB => Touched::Selected,
         _ => Touched::Nothing,
     }
 }
 
-/// The timers that a frame touches where a port hears it, by its first octet.
-pub(crate) fn frame_touches(frame: &[u8], port: u8) -> Touched
-    ensures { result ≡ frame_touches frame.now port }
+/// The timers that a frame touches where a port hears it, which turns by it or doesn't: told by its first octet.
+pub(crate) fn frame_touches(frame: &[u8], port: u8, turns: bool) -> Touched
+    ensures { result ≡ frame_touches frame.now port turns }
 {
     match frame.first() {
-        Some(octet) => type_touches(octet % 16, port),
+        Some(octet) => type_touches(octet % 16, port, turns),
         None => Touched::Nothing,
     }
 }
