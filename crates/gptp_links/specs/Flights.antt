@@ -1,5 +1,5 @@
 -- Frames in a slab, with a queue of their keys.
-use Rattle.std.specs.Prelude.{◌≢◌, ℕ, ◌≤◌, ⊤, List, [], ◌∷◌, IsSome, map, unwrap_or}
+use Rattle.std.specs.Prelude.{◌≢◌, ℕ, ◌+◌, ◌≤◌, ⊤, List, [], ◌∷◌, IsSome, map, unwrap_or}
 use Rattle.std.specs.List.{AllByRecursion}
 use Rattle.std.specs.Option.{option_map}
 use Rattle.slab.specs.Slab.{Slab, get, slab_len}
@@ -26,3 +26,8 @@ pub record Holds (flights : Slab Flight) (keys : List ℕ) : Type 0 where
   pub there : AllByRecursion (λ key. IsSome (get flights key)) keys
   pub differ : Differ keys
   pub due_in_order : AreDueInOrder (frames_of flights keys)
+
+-- the slab and the queue of keys both have room for so many more
+pub record HasSpare (spare : ℕ) (flights : Slab Flight) (len capacity : ℕ) : Type 0 where
+  pub in_slab : slab_len flights + spare ≤ flights.capacity
+  pub in_queue : len + spare ≤ capacity

@@ -46,6 +46,8 @@ pub(crate) struct Flight {
 pub(crate) struct Lane {
     flights: Slab<Flight>,
     keys: VecDeque<usize>,
+    // Both have room for so many more, or for more than that: whether there is room for a frame is one comparison.
+    spare: usize,
 }
 
 impl Model for Lane {
@@ -53,17 +55,12 @@ impl Model for Lane {
 
     ghost Value = { Queue };
 
-    ghost use Rattle.std.specs.Prelude.{◌-◌, min};
     ghost use Rattle.std.specs.VecDeque.{deque_len, deque_capacity};
-    ghost use Rattle.slab.specs.Slab.{slab_len};
-    ghost use Rattle.gptp_links.specs.Flights.{frames_of, Holds};
+    ghost use Rattle.gptp_links.specs.Flights.{frames_of, Holds, HasSpare};
 
-    ghost view = { λ lane. record {
-      frames = frames_of lane.flights lane.keys.items;
-      room = min (lane.flights.capacity - slab_len lane.flights) (deque_capacity lane.keys - deque_len lane.keys);
-    } };
+    ghost view = { λ lane. record { frames = frames_of lane.flights lane.keys.items; room = lane.spare } };
 
-    ghost invariant = { λ lane. Holds lane.flights lane.keys.items };
+    ghost invariant = { λ lane. Holds lane.flights lane.keys.items × HasSpare lane.spare lane.flights (deque_len lane.keys) (deque_capacity lane.keys) };
 }
 
 impl Lane {
@@ -74,6 +71,7 @@ impl Lane {
         Lane {
             flights: Slab::new(alloc),
             keys: VecDeque::new(alloc),
+            spare: 0,
         }
     }
 
@@ -84,8 +82,14 @@ impl Lane {
         ensures ok { OnOk result (additional ≤ self.new.room) }
         ensures succeeds { additional ≤ self.old.room → IsOk result }
     {
-        self.flights.reserve(additional)?;
-        self.keys.reserve(additional)
+        if self.spare < additional {
+            self.flights.reserve(additional)?;
+            self.keys.reserve(additional)?;
+            let flights = self.flights.capacity() - self.flights.len();
+            let keys = self.keys.capacity() - self.keys.len();
+            self.spare = flights.min(keys);
+        }
+        Ok(())
     }
 
     /// Sends a frame, and answers when it is due, or `None` where it is lost.
@@ -141,6 +145,7 @@ impl Lane {
     {
         let key = self.flights.insert_reserved(Flight { due, octets });
         self.keys.push_back_reserved(key);
+        self.spare -= 1;
     }
 
     /// Takes the oldest frame out, and when it was due.

@@ -1,3 +1,4 @@
 pub mod AgendaLemmas
+pub mod DueLemmas
 pub mod EntryLemmas
 pub mod SlotLemmas

@@ -1,8 +1,8 @@
 -- The heap in which the entries of an agenda stand, the one that is due first on top.
-use Rattle.std.specs.Prelude.{◌≡◌, ℕ, ◌<◌, List, length, slice_index_or, Option, Some}
+use Rattle.std.specs.Prelude.{◌≡◌, ℕ, ◌+◌, ◌^◌, ◌<◌, ◌≤◌, List, length, slice_index_or, Option, Some}
 use Rattle.std.specs.List.{All, Contains}
 use Rattle.std.specs.Option.{option_map}
-use Rattle.std.specs.Ordering.{nat_cmp, ordering_then}
+use Rattle.std.specs.Ordering.{nat_cmp, on, ordering_then, then_cmp}
 use Rattle.std.specs.declared.cmp.Ordering.{Ordering}
 use Rattle.std.specs.BinaryHeap.{IsHeap}
 use Rattle.std.specs.declared.cmp.Reverse.{Reverse}
@@ -12,6 +12,10 @@ use Rattle.gptp_scheduler.specs.declared.agenda.Due.{Due}
 -- what the heap has of an entry
 abbrev pub due_at : ℕ → ℕ → Reverse Due
 due_at time number = record { 0 = record { time = time; number = number } }
+
+-- what is due earlier, and of one time what has the lower number
+abbrev pub earlier : Due → Due → Ordering
+earlier = then_cmp (on (λ d. d.time) nat_cmp) (on (λ d. d.number) nat_cmp)
 
 -- how the heap compares two: what is due first is the greatest
 abbrev pub due_first : Reverse Due → Reverse Due → Ordering
@@ -42,3 +46,9 @@ module _ {T : Type 0} (entries : List (Entry T)) where
   pub record Orders (heap : List (Reverse Due)) (next : ℕ) : Type 0 where
     pub holds : Holds heap next
     pub top : (d : Reverse Due) → 0 < length heap → IsThere (slice_index_or heap 0 d)
+
+-- there is room for so many more entries, and numbers for them, and so has the heap
+pub record HasSpare (spare room next len capacity : ℕ) : Type 0 where
+  pub entries : spare ≤ room
+  pub numbers : next + spare < 2 ^ 64
+  pub heap : len + spare ≤ capacity

@@ -9,15 +9,61 @@ ghost use Rattle.std.specs.List.{All};
 
 use crate::slots::Slots;
 use std::alloc::{AllocError, Global};
-use std::cmp::Reverse;
+use std::cmp::{Ordering, Reverse};
 use std::collections::BinaryHeap;
 use std::marker::Model;
 
 /// When an entry is due, and its number.
-#[derive(Clone, Copy, Debug, PartialEq, Eq, PartialOrd, Ord)]
+#[derive(Clone, Copy, Debug, PartialEq, Eq)]
 pub(crate) struct Due {
     time: u64,
     number: u64,
+}
+
+impl Due {
+    ghost use Rattle.std.specs.Prelude.{◌≡◌, ◌+◌, ◌*◌, ◌^◌, ◌<◌};
+
+    /// The two as one number, by which it is compared: one comparison in place of two, and no branch between them.
+    fn rank(&self) -> u128
+        ensures rank { result ≡ self.now.time * 2 ^ 64 + self.now.number }
+        ensures number { self.now.number < 2 ^ 64 }
+    {
+        (u128::from(self.time) << 64) + u128::from(self.number)
+    }
+}
+
+impl PartialOrd for Due {
+    ghost use Rattle.std.proofs.Common.{rules};
+    ghost use Rattle.std.specs.Cmp.{partial_order_from_own_ties};
+    ghost use Rattle.std.specs.Cmp.Rules.{comparing};
+    ghost use Rattle.std.specs.Ordering.{as_partial_cmp};
+    ghost use Rattle.gptp_scheduler.specs.Order.{earlier};
+
+    ghost partial_cmp = { as_partial_cmp earlier };
+
+    ghost laws = { partial_order_from_own_ties (Prim.search (comparing, rules)) (Prim.search (comparing, rules)) };
+
+    fn partial_cmp(&self, other: &Due) -> Option<Ordering> {
+        Some(self.cmp(other))
+    }
+}
+
+impl Ord for Due {
+    ghost use Rattle.std.proofs.Common.{rules};
+    ghost use Rattle.std.specs.Cmp.Rules.{comparing};
+    ghost use Rattle.gptp_scheduler.specs.Order.{earlier};
+
+    ghost cmp = { earlier };
+
+    ghost total = { Prim.search (comparing, rules) };
+
+    ghost matches_partial_cmp = { Prim.search (comparing, rules) };
+
+    ghost matches_eq = { Prim.search (comparing, rules) };
+
+    fn cmp(&self, other: &Due) -> Ordering {
+        self.rank().cmp(&other.rank())
+    }
 }
 
 /// What is to be done, each entry at a time of its own, in ns. An entry gets a number when it is put,
@@ -31,11 +77,11 @@ pub struct Agenda<T> {
     // is on top.
     order: BinaryHeap<Reverse<Due>>,
     entries: Slots<T>,
+    // Both have room for so many more, or for more than that: whether there is room for a put is one comparison.
+    spare: usize,
 }
 
 impl<T> Model for Agenda<T> {
-    ghost use Rattle.std.specs.Prelude.{◌-◌};
-    ghost use Rattle.std.specs.Prelude.{min};
     ghost use Rattle.std.specs.BinaryHeap.{heap_items, heap_len, heap_capacity};
     ghost use Rattle.gptp_scheduler.specs.Pending.{Pending, pending_code};
 
@@ -43,15 +89,11 @@ impl<T> Model for Agenda<T> {
 
     ghost coded = { pending_code T.code };
 
-    ghost use Rattle.gptp_scheduler.specs.Order.{Orders};
+    ghost use Rattle.gptp_scheduler.specs.Order.{Orders, HasSpare};
 
-    ghost view = { λ a. record {
-      next = a.entries.next;
-      entries = a.entries.entries;
-      room = min a.entries.room (heap_capacity a.order - heap_len a.order);
-    } };
+    ghost view = { λ a. record { next = a.entries.next; entries = a.entries.entries; room = a.spare } };
 
-    ghost invariant = { λ a. Orders a.entries.entries (heap_items a.order) a.entries.next };
+    ghost invariant = { λ a. Orders a.entries.entries (heap_items a.order) a.entries.next × HasSpare a.spare a.entries.room a.entries.next (heap_len a.order) (heap_capacity a.order) };
 }
 
 impl<T: Drop> Agenda<T> {
@@ -63,6 +105,7 @@ impl<T: Drop> Agenda<T> {
         Agenda {
             order: BinaryHeap::new(alloc),
             entries: Slots::new(alloc),
+            spare: 0,
         }
     }
 
@@ -76,12 +119,11 @@ impl<T: Drop> Agenda<T> {
         ensures numbers { OnOk result (self.old.next + additional < 2 ^ 64) }
         ensures succeeds { additional ≤ self.old.room → IsOk result }
     {
-        self.entries.reserve(additional)?;
-        if self.order.capacity() - self.order.len() < additional {
-            drop_cancelled(&mut self.order, &self.entries);
-            // As much again as there is, so that what was cancelled is looked for seldom.
-            self.order
-                .reserve(self.order.len().saturating_add(additional))?;
+        if self.spare < additional {
+            self.entries.reserve(additional)?;
+            reserve_order(&mut self.order, &self.entries, additional)?;
+            let order = self.order.capacity() - self.order.len();
+            self.spare = order.min(self.entries.room());
         }
         Ok(())
     }
@@ -101,6 +143,7 @@ impl<T: Drop> Agenda<T> {
         let number = self.entries.next_number();
         self.order.push(Reverse(Due { time, number }))?;
         self.entries.push(time, item);
+        self.spare -= 1;
         Ok(number)
     }
 
@@ -158,6 +201,26 @@ impl<T: Drop> Agenda<T> {
     {
         let _ = &self.order;
     }
+}
+
+/// Makes room for so many more. Refused where there is no memory for them.
+fn reserve_order<T>(
+    order: &mut BinaryHeap<Reverse<Due>>,
+    entries: &Slots<T>,
+    additional: usize,
+) -> Result<(), AllocError>
+    requires { Orders entries.now.entries (heap_items order.old) entries.now.next }
+    ensures orders { Orders entries.now.entries (heap_items order.new) entries.now.next }
+    ensures room { OnOk result (heap_len order.new + additional ≤ heap_capacity order.new) }
+    ensures kept { heap_len order.new + heap_capacity order.old ≤ heap_capacity order.new + heap_len order.old }
+    ensures succeeds { heap_len order.old + additional ≤ heap_capacity order.old → IsOk result }
+{
+    if order.capacity() - order.len() < additional {
+        drop_cancelled(order, entries);
+        // As much again as there is, so that what was cancelled is looked for seldom.
+        order.reserve(order.len().saturating_add(additional))?;
+    }
+    Ok(())
 }
 
 /// Drops what was cancelled from the top, so that the least entry is there.

@@ -10,11 +10,11 @@ use std::alloc::{AllocError, Global};
 use std::collections::VecDeque;
 use std::marker::Model;
 
-/// What stands at a number: a time, in ns, and what is to be done then.
+/// What stands at a number: a time, in ns, and what is to be done then, or nothing any more.
 #[derive(Drop)]
 pub(crate) struct Slot<T> {
     time: u64,
-    item: T,
+    item: Option<T>,
 }
 
 /// The entries from the oldest that is still there on, a slot for each number. It is seen as an
@@ -22,7 +22,7 @@ pub(crate) struct Slot<T> {
 #[derive(Drop)]
 pub(crate) struct Slots<T> {
     first: u64,
-    slots: VecDeque<Option<Slot<T>>>,
+    slots: VecDeque<Slot<T>>,
 }
 
 impl<T> Model for Slots<T> {
@@ -79,6 +79,16 @@ impl<T> Slots<T> {
         self.slots.reserve(additional)
     }
 
+    /// How many more entries there is room for, and numbers.
+    pub fn room(&self) -> usize
+        ensures room { result ≡ self.now.room }
+        ensures numbers { self.now.next + result < 2 ^ 64 }
+    {
+        let slots = (self.slots.capacity() - self.slots.len()) as u64;
+        let numbers = u64::MAX - self.next_number();
+        slots.min(numbers) as usize
+    }
+
     /// Puts an entry under the next number.
     pub fn push(&mut self, time: u64, item: T)
         requires { 0 < self.old.room }
@@ -86,7 +96,10 @@ impl<T> Slots<T> {
         ensures entries { self.new.entries ≡ self.old.entries ++ entry time self.old.next item ∷ [] }
         ensures room { self.old.room ≤ self.new.room + 1 }
     {
-        self.slots.push_back_reserved(Some(Slot { time, item }));
+        self.slots.push_back_reserved(Slot {
+            time,
+            item: Some(item),
+        });
     }
 
     /// The item of the entry of a number, where it is there.
@@ -96,7 +109,8 @@ impl<T> Slots<T> {
         if number < self.first {
             return None;
         }
-        item_of(self.slots.get((number - self.first) as usize)?)
+        let slot = self.slots.get((number - self.first) as usize)?;
+        slot.item.as_ref()
     }
 
     /// Whether the entry of a number is there.
@@ -118,44 +132,34 @@ impl<T> Slots<T> {
         if number < self.first || self.next_number() <= number {
             return None;
         }
-        let slot = empty_slot(&mut self.slots, (number - self.first) as usize);
+        let entry = empty_slot(&mut self.slots[(number - self.first) as usize]);
         self.first += drop_empty(&mut self.slots);
-        match slot {
-            Some(slot) => Some((slot.time, slot.item)),
-            None => None,
-        }
+        entry
     }
 }
 
-/// What is to be done at a slot.
-fn item_of<T>(slot: &Option<Slot<T>>) -> Option<&T>
-    ensures { option_copied result ≡ option_map (λ s. s.item) slot.now }
+/// Empties a slot, and answers what stood there.
+fn empty_slot<T>(slot: &mut Slot<T>) -> Option<(u64, T)>
+    ensures taken { result ≡ option_map (λ item. (slot.old.time, item)) slot.old.item }
+    ensures emptied { slot.new ≡ record slot.old { item = None } }
 {
-    match slot {
-        Some(slot) => Some(&slot.item),
+    match slot.item.take() {
+        Some(item) => Some((slot.time, item)),
         None => None,
     }
 }
 
-/// Empties a slot.
-fn empty_slot<T>(slots: &mut VecDeque<Option<Slot<T>>>, place: usize) -> Option<Slot<T>>
-    requires { place < deque_len slots.old }
-    ensures taken { result ≡ slice_index_or slots.old.items place None }
-    ensures items { slots.new.items ≡ slice_set slots.old.items place None }
-    ensures len { deque_len slots.new ≡ deque_len slots.old }
-    ensures capacity { deque_capacity slots.new ≡ deque_capacity slots.old }
-{
-    slots[place].take()
-}
-
 /// Drops the empty slots before the oldest entry, and answers how many there were.
-fn drop_empty<T: Drop>(slots: &mut VecDeque<Option<Slot<T>>>) -> u64
+fn drop_empty<T: Drop>(slots: &mut VecDeque<Slot<T>>) -> u64
     ensures entries { (first : ℕ) → entries_from (first + result) slots.new.items ≡ entries_from first slots.old.items }
     ensures len { result + length slots.new.items ≡ length slots.old.items }
     ensures capacity { deque_capacity slots.new ≡ deque_capacity slots.old }
 {
     let mut dropped = 0;
-    while let Some(None) = slots.front() {
+    while let Some(slot) = slots.front() {
+        if slot.item.is_some() {
+            break;
+        }
         slots.pop_front();
         dropped += 1;
     }

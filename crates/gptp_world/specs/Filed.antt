@@ -39,7 +39,7 @@ pushed number queue = record { numbers = queue.numbers ++ number ∷ []; room = 
 
 abbrev pub popped_from : List ℕ → QueueState → QueueState
 popped_from [] queue = queue
-popped_from (number ∷ numbers) queue = record { numbers = numbers; room = queue.room + 1 }
+popped_from (number ∷ numbers) queue = record queue { numbers = numbers }
 
 -- a queue without its first number
 abbrev pub popped : QueueState → QueueState

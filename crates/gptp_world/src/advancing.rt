@@ -16,8 +16,14 @@ fn aim_of(item: Item) -> Aim
     ensures { result ≡ aim_of item }
 {
     match item {
-        Item::Expiry { place, timer } => Aim::Timer { place, timer },
-        Item::Arrival { link, direction } => Aim::Arrival(Lane { link, direction }),
+        Item::Expiry { place, timer } => Aim::Timer {
+            place: usize::from(place),
+            timer,
+        },
+        Item::Arrival { link, direction } => Aim::Arrival(Lane {
+            link: usize::from(link),
+            direction,
+        }),
     }
 }
 

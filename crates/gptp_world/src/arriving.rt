@@ -6,7 +6,6 @@ ghost use Rattle.gptp_links.specs.State.{queue, ChangesOnly, KeepsRoom};
 
 use crate::cable::{Cable, Lane};
 use crate::net::Net;
-use gptp_acts::Item;
 use gptp_links::Direction;
 
 /// The oldest frame of a link in a direction, which is due.
@@ -40,10 +39,7 @@ impl Net {
         ensures uses { Uses nothing self.old self.new }
     {
         let octets = deliver_on(&mut self.cables[lane.link], lane.direction, now);
-        self.pending.take(Item::Arrival {
-            link: lane.link,
-            direction: lane.direction,
-        });
+        self.pending.take_arrival(lane.link, lane.direction);
         octets
     }
 }

@@ -2,7 +2,6 @@
 
 use crate::net::Net;
 use crate::stage::Stage;
-use gptp_acts::Item;
 use gptp_links::Fate;
 use gptp_system::Timer;
 use std::alloc::AllocError;
@@ -22,7 +21,7 @@ impl Net {
         ensures uses { Uses nothing self.old self.new }
         ensures taken { between self.new ≡ record (between self.old) { pending = without_first (Expiry place timer) (between self.old).pending } }
     {
-        self.pending.take(Item::Expiry { place, timer });
+        self.pending.stop(place, timer);
     }
 }
 

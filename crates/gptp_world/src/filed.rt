@@ -23,19 +23,20 @@ pub(crate) struct Running {
 #[derive(Drop)]
 pub(crate) struct Queue {
     numbers: VecDeque<u64>,
+    // There is room for so many more, or for more than that: whether there is room is one comparison.
+    spare: usize,
 }
 
 impl Model for Queue {
-    ghost use Rattle.std.specs.Prelude.{◌-◌};
+    ghost use Rattle.std.specs.Prelude.{◌+◌, ◌≤◌};
     ghost use Rattle.std.specs.VecDeque.{deque_len, deque_capacity};
     ghost use Rattle.gptp_world.specs.Filed.{QueueState};
 
     ghost Value = { QueueState };
 
-    ghost view = { λ q. record {
-      numbers = q.numbers.items;
-      room = deque_capacity q.numbers - deque_len q.numbers;
-    } };
+    ghost view = { λ q. record { numbers = q.numbers.items; room = q.spare } };
+
+    ghost invariant = { λ q. deque_len q.numbers + q.spare ≤ deque_capacity q.numbers };
 }
 
 impl Queue {
@@ -45,6 +46,7 @@ impl Queue {
     {
         Queue {
             numbers: VecDeque::new(alloc),
+            spare: 0,
         }
     }
 
@@ -55,7 +57,11 @@ impl Queue {
         ensures ok { OnOk result (additional ≤ self.new.room) }
         ensures succeeds { additional ≤ self.old.room → IsOk result }
     {
-        self.numbers.reserve(additional)
+        if self.spare < additional {
+            self.numbers.reserve(additional)?;
+            self.spare = self.numbers.capacity() - self.numbers.len();
+        }
+        Ok(())
     }
 
     /// Puts a number behind all others.
@@ -64,6 +70,7 @@ impl Queue {
         ensures { self.new ≡ pushed number self.old }
     {
         self.numbers.push_back_reserved(number);
+        self.spare -= 1;
     }
 
     /// Takes the first number out.

@@ -130,7 +130,13 @@ impl Pending {
     {
         let number = self
             .agenda
-            .put(time, Item::Expiry { place, timer })
+            .put(
+                time,
+                Item::Expiry {
+                    place: place as u16,
+                    timer,
+                },
+            )
             .unwrap();
         self.filed.set_timer(
             timer_place(place, timer),
@@ -139,10 +145,11 @@ impl Pending {
     }
 
     /// Cancels a timer, where it runs.
-    fn stop(&mut self, place: usize, timer: Timer)
+    pub fn stop(&mut self, place: usize, timer: Timer)
         requires { IsKnown self.old.systems self.old.links (Expiry place timer) }
         ensures kept { self.new ≡ record self.old { entries = without_first (Expiry place timer) self.old.entries; room = self.new.room } }
         ensures room { self.old.room ≤ self.new.room }
+        ensures arrivals { KeepsArrivalRoom self.old self.new }
         ensures once { length (times (Expiry place timer) self.old.entries) ≤ 1 }
     {
         self.agenda.numbers_rise();
@@ -168,28 +175,19 @@ impl Pending {
     {
         let number = self
             .agenda
-            .put(due, Item::Arrival { link, direction })
+            .put(
+                due,
+                Item::Arrival {
+                    link: link as u16,
+                    direction,
+                },
+            )
             .unwrap();
         self.filed.push(arrival_place(link, direction), number);
     }
 
-    /// Takes the first entry of an item out, where it is pending.
-    pub fn take(&mut self, item: Item)
-        requires { IsKnown self.old.systems self.old.links item }
-        ensures kept { self.new ≡ record self.old { entries = without_first item self.old.entries; room = self.new.room; rooms = self.new.rooms } }
-        ensures room { self.old.room ≤ self.new.room }
-        ensures arrivals { KeepsArrivalRoom self.old self.new }
-    {
-        match item {
-            Item::Expiry { place, timer } => self.stop(place, timer),
-            Item::Arrival { link, direction } => {
-                self.take_arrival(link, direction);
-            }
-        }
-    }
-
     /// Takes the first arrival over a link in a direction out, and answers whether there was one.
-    fn take_arrival(&mut self, link: usize, direction: Direction) -> bool
+    pub fn take_arrival(&mut self, link: usize, direction: Direction) -> bool
         requires { link < self.old.links }
         ensures kept { self.new ≡ record self.old { entries = without_first (Arrival link direction) self.old.entries; room = self.new.room; rooms = self.new.rooms } }
         ensures room { self.old.room ≤ self.new.room }

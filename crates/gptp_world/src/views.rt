@@ -166,9 +166,12 @@ pub(crate) fn act_of(stage: &Stage, item: Item) -> Act
 {
     match item {
         Item::Expiry { place, timer } => Act::Expire {
-            clock: stage.net.directory.clock_in(place),
+            clock: stage.net.directory.clock_in(usize::from(place)),
             timer,
         },
-        Item::Arrival { link, direction } => Act::Deliver { link, direction },
+        Item::Arrival { link, direction } => Act::Deliver {
+            link: usize::from(link),
+            direction,
+        },
     }
 }

@@ -5,5 +5,6 @@ use Rattle.gptp_world.proofs.views.act_of.Goals as goal
 
 pub returns-in-Expiry-clause-act : goal.returns-in-Expiry-clause-act
 returns-in-Expiry-clause-act c =
-    let stands = station_at c.args.stage.now c.in-Expiry.place c.clock_in.result c.requires.stage c.clock_in.ensures in
+    let named = rw c.from.ensures at c.clock_in.ensures in
+    let stands = station_at c.args.stage.now c.in-Expiry.place c.clock_in.result c.requires.stage named in
     rw c.in-Expiry.is (stands.station, stands.here, ap (λ number. Expire number c.in-Expiry.timer) (sym stands.named))

@@ -8,7 +8,7 @@ returns-in_err-due-clause-nothing g c =
     let inside = c.self.inside in
     let none = no_length (heap_len inside.order) c.in_err-due.ensures.variant.1 in
     rw (c.from_residual.ensures, ← c.self.view_is)
-    (nothing_at_all inside.entries.entries (heap_items inside.order) inside.entries.next c.args.now c.self.invariant
+    (nothing_at_all inside.entries.entries (heap_items inside.order) inside.entries.next c.args.now c.self.invariant.0
     (omega (arith, none, inside.order.data.ok)))
 
 pub returns-then-now-due-clause-nothing : goal.returns-then-now-due-clause-nothing
@@ -16,7 +16,7 @@ returns-then-now-due-clause-nothing g c =
     let inside = c.self.inside in
     let some = c.in_ok-due.ensures.variant.0 (refl {a = true}) in
     rw (← c.self.view_is)
-    (nothing_due inside.entries.entries (heap_items inside.order) inside.entries.next c.self.invariant
+    (nothing_due inside.entries.entries (heap_items inside.order) inside.entries.next c.self.invariant.0
     c.in_ok-due.field-0.now (omega (arith, some, inside.order.data.ok)) c.in_ok-due.ensures.lookup c.args.now
     c.if-now-due.true)
 
@@ -25,14 +25,14 @@ uncover-requires g c =
     let inside = c.self.inside in
     rw (c.remove.ensures.next, c.remove.ensures.entries)
     (holds-without inside.entries.entries (heap_items inside.order) inside.entries.next
-    c.in_ok-due.field-0.now.0.number c.self.invariant.holds)
+    c.in_ok-due.field-0.now.0.number c.self.invariant.0.holds)
 
 pub returns-clause-first : goal.returns-clause-first
 returns-clause-first g c =
     let inside = c.self.inside in
     let some = c.in_ok-due.ensures.variant.0 (refl {a = true}) in
     rw (← c.self.view_is)
-    (first_is inside.entries.entries (heap_items inside.order) inside.entries.next c.self.invariant
+    (first_is inside.entries.entries (heap_items inside.order) inside.entries.next c.self.invariant.0
     c.in_ok-due.field-0.now (omega (arith, some, inside.order.data.ok)) c.in_ok-due.ensures.lookup)
 
 pub returns-clause-item : goal.returns-clause-item
@@ -40,6 +40,6 @@ returns-clause-item g c =
     let inside = c.self.inside in
     let some = c.in_ok-due.ensures.variant.0 (refl {a = true}) in
     rw (← c.self.view_is)
-    (taken_is inside.entries.entries (heap_items inside.order) inside.entries.next c.self.invariant
+    (taken_is inside.entries.entries (heap_items inside.order) inside.entries.next c.self.invariant.0
     c.in_ok-due.field-0.now (omega (arith, some, inside.order.data.ok)) c.in_ok-due.ensures.lookup
     c.unwrap-item.result.0 c.unwrap-item.result.1 (sym c.remove.ensures.taken ∙ c.unwrap-item.ensures))

@@ -14,7 +14,7 @@ returns-clause-net c =
     let is : one ≡ due.cable = c.index_mut.ensures.value ∙ read cables c.args.lane.link due.cable one due.here in
     let here = due.here ∙ ap Some (sym is) in
     let e = c.deliver_on-octets.ensures in
-    let links = ap (λ (p : PendingState). p.links) c.take.ensures.kept in
+    let links = ap (λ (p : PendingState). p.links) c.take_arrival.ensures.kept in
     let joins = joins_kept cables c.args.lane.link one c.deliver_on-octets.new.cable here e.a e.b in
     let fits = c.requires.net.links in
     record {
@@ -29,18 +29,18 @@ returns-clause-takes c = λ cable there.
     let same : due.cable ≡ one = same_Some due.cable one (sym due.here ∙ (there ∙ ap Some (sym is))) in
     let here = there ∙ ap Some (sym is) in
     let e = c.deliver_on-octets.ensures in
-    let entries = ap (λ (p : PendingState). p.entries) c.take.ensures.kept in
+    let entries = ap (λ (p : PendingState). p.entries) c.take_arrival.ensures.kept in
     rw (← is) (taken c.args.lane c.args.now c.deliver_on-octets.result.items cables one c.deliver_on-octets.new.cable
-    c.args.self.now.pending
-    c.take.new.self due.oldest due.rest here e.a e.b e.others (rw (← same) due.front) due.due_now e.taken entries)
+    c.args.self.now.pending c.take_arrival.new.self due.oldest due.rest here e.a e.b e.others
+    (rw (← same) due.front) due.due_now e.taken entries)
 
 pub returns-clause-uses : goal.returns-clause-uses
 returns-clause-uses c =
     let one = c.index_mut.result.now in let cables = c.args.self.now.cables.items in let due = c.requires.due in
     let is : one ≡ due.cable = c.index_mut.ensures.value ∙ read cables c.args.lane.link due.cable one due.here in
     let here = due.here ∙ ap Some (sym is) in
-    let e = c.deliver_on-octets.ensures in let systems = ap (λ (p : PendingState). p.systems) c.take.ensures.kept in
-    uses_nothing c.args.self.now _ refl systems c.take.ensures.room (omega arith)
-    (kept_on cables c.args.lane.link one c.deliver_on-octets.new.cable c.args.self.now.pending c.take.new.self here
-    e.room
-    c.take.ensures.arrivals)
+    let e = c.deliver_on-octets.ensures in let gone = c.take_arrival.ensures in
+    let systems = ap (λ (p : PendingState). p.systems) gone.kept in
+    uses_nothing c.args.self.now _ refl systems gone.room (omega arith)
+    (kept_on cables c.args.lane.link one c.deliver_on-octets.new.cable c.args.self.now.pending
+    c.take_arrival.new.self here e.room gone.arrivals)

@@ -5,7 +5,7 @@ use Rattle.gptp_world.proofs.net.Net.take_timer.Goals as goal
 
 pub returns-clause-uses : goal.returns-clause-uses
 returns-clause-uses c =
-    let e = c.take.ensures in let room = e.room in
+    let e = c.stop.ensures in let room = e.room in
     uses_nothing c.args.self.now _ refl (ap (λ (p : PendingState). p.systems) e.kept) room (omega arith)
     (λ more lane has.
     let had = has.arrivals in let no_less = e.arrivals lane.link lane.direction in
