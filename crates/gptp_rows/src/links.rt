@@ -1,194 +1,227 @@
 //! What links do to frames, and what fates draw.
 
-ghost use Rattle.std.specs.Prelude.{◌≡◌, ◌≤◌, ◌^◌, true};
+ghost use Rattle.std.specs.Prelude.{◌≡◌, true};
+ghost use Rattle.gptp_links.specs.Bounds.{Fit};
 
 use crate::same::{same, same_at};
 use gptp_links::{Bounds, Direction, Fate, Link, ListFate, NotDue, PcgFate, draws_join};
-use std::alloc::{AllocError, Global};
+use std::alloc::Global;
 use std::process::Abort;
 use std::test::Fail;
 
-/// A list of fates.
-fn fates(alloc: Global, answers: &[Option<u64>]) -> Result<ListFate, AllocError> {
-    Ok(ListFate::new(answers.to_vec(alloc)?))
+const A: Direction = Direction::FromA;
+
+const B: Direction = Direction::FromB;
+
+/// The last moment of a simulation.
+const LAST: u64 = 1_000_000_000_000_000;
+
+/// What is done with a link, and what is wanted of it then. Times are in ns.
+#[derive(Clone, Copy, Debug)]
+enum Step {
+    /// A frame of these octets is sent at a time: when it is due, if it isn't lost.
+    Sends(Direction, &'static [u8], u64, Option<u64>),
+    /// A frame is taken off at a time: its octets, if there is one that is due.
+    Delivers(Direction, u64, Option<&'static [u8]>),
+    /// When the oldest frame is due.
+    NextDue(Direction, Option<u64>),
+    /// The oldest frame.
+    Front(Direction, Option<&'static [u8]>),
+    /// The link gets other bounds.
+    Sets(Bounds),
+    /// The link is taken up, or down.
+    Turns(bool),
 }
 
-/// When a frame of these octets is due that is sent then; not if it is lost.
-fn sent(
+/// Bounds of link 0.
+const fn bounds(min: u64, max: u64, loss: u16) -> Bounds
+    ensures { result ≡ record { link = 0; min = min; max = max; loss = loss } }
+{
+    Bounds {
+        link: 0,
+        min,
+        max,
+        loss,
+    }
+}
+
+/// Whether a link can have these bounds.
+fn fit(bounds: &Bounds) -> bool
+    ensures { result ≡ true → Fit bounds.now }
+{
+    1 <= bounds.min
+        && bounds.min <= bounds.max
+        && bounds.max <= 16_000_000_000
+        && bounds.loss <= 1_000
+}
+
+/// One step of a link.
+fn take(
+    rt: &impl Abort,
     alloc: Global,
     link: &mut Link,
     fate: &mut ListFate,
-    direction: Direction,
-    octets: &[u8],
-    now: u64,
-) -> Result<Option<u64>, AllocError>
-    requires up { link.old.up ≡ true }
-    requires early { now ≤ 10 ^ 15 }
-    ensures { link.new.up ≡ true }
-{
-    let frame = octets.to_vec(alloc)?;
-    link.send(direction, frame, now, fate)
+    step: &Step,
+) -> Result<(), Fail> {
+    match *step {
+        Step::Sends(direction, octets, now, want) if link.is_up() && now <= LAST => {
+            let frame = octets.to_vec(alloc)?;
+            same_at(rt, step, link.send(direction, frame, now, fate)?, want);
+        }
+        Step::Delivers(direction, now, want) => match link.deliver(direction, now) {
+            Ok(frame) => same_at(rt, step, Some(frame.as_slice()), want),
+            Err(NotDue::NotDue) => same_at(rt, step, None, want),
+        },
+        Step::NextDue(direction, want) => same_at(rt, step, link.next_due(direction), want),
+        Step::Front(direction, want) => same_at(rt, step, link.front(direction), want),
+        Step::Sets(bounds) if fit(&bounds) => {
+            link.set(bounds);
+            same_at(rt, step, link.bounds(), bounds);
+        }
+        Step::Turns(up) => {
+            if up {
+                link.up();
+            } else {
+                link.down();
+            }
+            same_at(rt, step, link.is_up(), up);
+        }
+        _ => return Err(Fail::from("no such step")),
+    }
+    Ok(())
 }
 
-/// The frame that is taken off then has these octets, or there is none.
-fn assert_delivers(
+/// A new link of these bounds, and what is done with it, step by step, where the fates are these.
+fn play(
     rt: &impl Abort,
-    link: &mut Link,
-    direction: Direction,
-    now: u64,
-    want: Option<&[u8]>,
-)
-    ensures { link.new.up ≡ link.old.up }
-{
-    match link.deliver(direction, now) {
-        Ok(frame) => same(rt, Some(frame.as_slice()), want),
-        Err(NotDue::NotDue) => same(rt, None, want),
+    alloc: Global,
+    bounds: Bounds,
+    fates: &[Option<u64>],
+    steps: &[Step],
+) -> Result<(), Fail> {
+    if !fit(&bounds) {
+        return Err(Fail::from("no such link"));
     }
+    let mut fate = ListFate::new(fates.to_vec(alloc)?);
+    let mut link = Link::new(alloc, bounds);
+    assert!(rt; link.is_up());
+    for step in steps {
+        take(rt, alloc, &mut link, &mut fate, step)?;
+    }
+    link.due_in_order();
+    Ok(())
 }
 
 #[test]
 fn no_frame_overtakes(rt: HostRuntime) -> Result<(), Fail> {
-    let alloc = rt.alloc();
-    let mut fate = fates(alloc, &[Some(500), Some(100)])?;
-    let bounds = Bounds {
-        link: 0,
-        min: 100,
-        max: 500,
-        loss: 0,
-    };
-    let mut link = Link::new(alloc, bounds);
-    assert!(rt; link.is_up());
-    link.reserve(2)?;
-    same(
+    let steps = [
+        Step::Sends(A, &[1, 2], 0, Some(500)),
+        Step::Sends(A, &[3], 10, Some(500)),
+        Step::NextDue(A, Some(500)),
+        Step::NextDue(B, None),
+        Step::Front(A, Some(&[1, 2])),
+        Step::Front(B, None),
+        Step::Delivers(A, 499, None),
+        Step::Delivers(B, 500, None),
+        Step::Delivers(A, 500, Some(&[1, 2])),
+        Step::Delivers(A, 500, Some(&[3])),
+        Step::Delivers(A, 500, None),
+    ];
+    play(
         &rt,
-        sent(alloc, &mut link, &mut fate, Direction::FromA, &[1, 2], 0)?,
-        Some(500),
-    );
-    same(
-        &rt,
-        sent(alloc, &mut link, &mut fate, Direction::FromA, &[3], 10)?,
-        Some(500),
-    );
-    same(&rt, link.next_due(Direction::FromA), Some(500));
-    same(&rt, link.next_due(Direction::FromB), None);
-    same(&rt, link.front(Direction::FromA), Some([1, 2].as_slice()));
-    same(&rt, link.front(Direction::FromB), None);
-    link.due_in_order();
-    assert_delivers(&rt, &mut link, Direction::FromA, 499, None);
-    assert_delivers(&rt, &mut link, Direction::FromB, 500, None);
-    assert_delivers(
-        &rt,
-        &mut link,
-        Direction::FromA,
-        500,
-        Some([1, 2].as_slice()),
-    );
-    assert_delivers(&rt, &mut link, Direction::FromA, 500, Some([3].as_slice()));
-    assert_delivers(&rt, &mut link, Direction::FromA, 500, None);
-    same(&rt, NotDue::NotDue as u8, 1);
-    Ok(())
+        rt.alloc(),
+        bounds(100, 500, 0),
+        &[Some(500), Some(100)],
+        &steps,
+    )
 }
 
 #[test]
 fn directions_are_apart(rt: HostRuntime) -> Result<(), Fail> {
-    let alloc = rt.alloc();
-    let mut fate = fates(alloc, &[Some(400), Some(200)])?;
-    let bounds = Bounds {
-        link: 3,
-        min: 100,
-        max: 500,
-        loss: 0,
-    };
-    let mut link = Link::new(alloc, bounds);
-    same(
+    let steps = [
+        Step::Sends(A, &[1], 0, Some(400)),
+        Step::Sends(B, &[2], 0, Some(200)),
+        Step::NextDue(B, Some(200)),
+        Step::Delivers(B, 400, Some(&[2])),
+        Step::Delivers(A, 400, Some(&[1])),
+    ];
+    play(
         &rt,
-        sent(alloc, &mut link, &mut fate, Direction::FromA, &[1], 0)?,
-        Some(400),
-    );
-    same(
-        &rt,
-        sent(alloc, &mut link, &mut fate, Direction::FromB, &[2], 0)?,
-        Some(200),
-    );
-    same(&rt, link.next_due(Direction::FromB), Some(200));
-    assert_delivers(&rt, &mut link, Direction::FromB, 400, Some([2].as_slice()));
-    assert_delivers(&rt, &mut link, Direction::FromA, 400, Some([1].as_slice()));
-    Ok(())
+        rt.alloc(),
+        bounds(100, 500, 0),
+        &[Some(400), Some(200)],
+        &steps,
+    )
 }
 
 #[test]
 fn a_link_taken_down_loses_what_is_in_flight(rt: HostRuntime) -> Result<(), Fail> {
-    let alloc = rt.alloc();
-    let mut fate = fates(alloc, &[])?;
-    let bounds = Bounds {
-        link: 0,
-        min: 1,
-        max: 7,
-        loss: 0,
-    };
-    let mut link = Link::new(alloc, bounds);
-    same(
-        &rt,
-        sent(alloc, &mut link, &mut fate, Direction::FromA, &[1], 0)?,
-        Some(7),
-    );
-    same(
-        &rt,
-        sent(alloc, &mut link, &mut fate, Direction::FromB, &[2], 1)?,
-        Some(8),
-    );
-    link.down();
-    assert!(rt; !link.is_up());
-    same(&rt, link.next_due(Direction::FromA), None);
-    same(&rt, link.next_due(Direction::FromB), None);
-    assert_delivers(&rt, &mut link, Direction::FromA, 1_000, None);
-    link.up();
-    assert!(rt; link.is_up());
-    same(
-        &rt,
-        sent(alloc, &mut link, &mut fate, Direction::FromA, &[3], 2)?,
-        Some(9),
-    );
-    same(&rt, link.bounds(), bounds);
-    Ok(())
+    let steps = [
+        Step::Sends(A, &[1], 0, Some(7)),
+        Step::Sends(B, &[2], 1, Some(8)),
+        Step::Turns(false),
+        Step::NextDue(A, None),
+        Step::NextDue(B, None),
+        Step::Delivers(A, 1_000, None),
+        Step::Turns(true),
+        Step::Sends(A, &[3], 2, Some(9)),
+    ];
+    play(&rt, rt.alloc(), bounds(1, 7, 0), &[], &steps)
 }
 
 #[test]
 fn new_bounds_hold_for_what_is_sent_later(rt: HostRuntime) -> Result<(), Fail> {
-    let alloc = rt.alloc();
-    let mut fate = fates(alloc, &[])?;
-    let mut link = Link::new(
-        alloc,
-        Bounds {
-            link: 0,
-            min: 500,
-            max: 500,
-            loss: 0,
-        },
-    );
-    same(
-        &rt,
-        sent(alloc, &mut link, &mut fate, Direction::FromA, &[1], 0)?,
-        Some(500),
-    );
-    link.set(Bounds {
-        link: 0,
-        min: 10,
-        max: 20,
-        loss: 0,
-    });
-    same(&rt, link.next_due(Direction::FromA), Some(500));
-    same(
-        &rt,
-        sent(alloc, &mut link, &mut fate, Direction::FromA, &[2], 0)?,
-        Some(500),
-    );
-    same(
-        &rt,
-        sent(alloc, &mut link, &mut fate, Direction::FromA, &[3], 490)?,
-        Some(510),
-    );
-    Ok(())
+    let steps = [
+        Step::Sends(A, &[1], 0, Some(500)),
+        Step::Sets(bounds(10, 20, 0)),
+        Step::NextDue(A, Some(500)),
+        Step::Sends(A, &[2], 0, Some(500)),
+        Step::Sends(A, &[3], 490, Some(510)),
+    ];
+    play(&rt, rt.alloc(), bounds(500, 500, 0), &[], &steps)
+}
+
+#[test]
+fn a_lost_frame_is_not_queued(rt: HostRuntime) -> Result<(), Fail> {
+    let steps = [
+        Step::Sends(A, &[1], 0, None),
+        Step::NextDue(A, None),
+        Step::Sends(A, &[2], 0, Some(5)),
+        Step::Front(A, Some(&[2])),
+    ];
+    play(&rt, rt.alloc(), bounds(1, 9, 500), &[None, Some(5)], &steps)
+}
+
+#[test]
+fn a_frame_of_any_length_is_sent(rt: HostRuntime) -> Result<(), Fail> {
+    const LONGEST: &[u8] = &[0; 2_116];
+    let steps = [
+        Step::Sends(A, &[], 0, Some(1)),
+        Step::Sends(A, LONGEST, 0, Some(1)),
+        Step::Delivers(A, 1, Some(&[])),
+        Step::Delivers(A, 1, Some(LONGEST)),
+    ];
+    play(&rt, rt.alloc(), bounds(1, 1, 0), &[], &steps)
+}
+
+#[test]
+fn room_is_made_or_refused(rt: HostRuntime) {
+    let mut link = Link::new(rt.alloc(), bounds(1, 1, 0));
+    for (more, want) in [
+        (0, true),
+        (1, true),
+        (10_000, true),
+        (1 << 60, false),
+        (usize::MAX, false),
+    ] {
+        same_at(&rt, &more, link.reserve(more).is_ok(), want);
+    }
+}
+
+#[test]
+fn draws_join_and_refusals_have_a_number(rt: HostRuntime) {
+    draws_join::<ListFate>();
+    same(&rt, NotDue::NotDue as u8, 1);
 }
 
 #[test]
@@ -206,84 +239,11 @@ fn a_list_gives_lawful_answers(rt: HostRuntime) -> Result<(), Fail> {
         (1000, Some(250), Some(250)),
     ];
     for (loss, listed, want) in rows {
-        let bounds = Bounds {
-            link: 0,
-            min: 100,
-            max: 500,
-            loss,
-        };
-        let mut fate = fates(rt.alloc(), &[listed])?;
+        let bounds = bounds(100, 500, loss);
+        let mut fate = ListFate::new([listed].to_vec(rt.alloc())?);
         same_at(&rt, &(listed, loss), fate.fate(&bounds, 0), want);
         same_at(&rt, &("after", listed), fate.fate(&bounds, 0), Some(500));
     }
-    Ok(())
-}
-
-#[test]
-fn a_lost_frame_is_not_queued(rt: HostRuntime) -> Result<(), Fail> {
-    let alloc = rt.alloc();
-    let mut fate = fates(alloc, &[None, Some(5)])?;
-    let mut link = Link::new(
-        alloc,
-        Bounds {
-            link: 0,
-            min: 1,
-            max: 9,
-            loss: 500,
-        },
-    );
-    same(
-        &rt,
-        sent(alloc, &mut link, &mut fate, Direction::FromA, &[1], 0)?,
-        None,
-    );
-    same(&rt, link.next_due(Direction::FromA), None);
-    same(
-        &rt,
-        sent(alloc, &mut link, &mut fate, Direction::FromA, &[2], 0)?,
-        Some(5),
-    );
-    same(&rt, link.front(Direction::FromA), Some([2].as_slice()));
-    draws_join::<ListFate>();
-    Ok(())
-}
-
-#[test]
-fn room_is_made_or_refused(rt: HostRuntime) -> Result<(), Fail> {
-    let alloc = rt.alloc();
-    let mut link = Link::new(
-        alloc,
-        Bounds {
-            link: 0,
-            min: 1,
-            max: 1,
-            loss: 0,
-        },
-    );
-    for (more, want) in [
-        (0, true),
-        (1, true),
-        (10_000, true),
-        (1 << 60, false),
-        (usize::MAX, false),
-    ] {
-        same_at(&rt, &more, link.reserve(more).is_ok(), want);
-    }
-    link.up();
-    let mut fate = fates(alloc, &[])?;
-    same(
-        &rt,
-        sent(
-            alloc,
-            &mut link,
-            &mut fate,
-            Direction::FromA,
-            &[0; 2_116],
-            0,
-        )?,
-        Some(1),
-    );
-    same(&rt, link.deliver(Direction::FromA, 1)?.len(), 2_116);
     Ok(())
 }
 
@@ -306,12 +266,7 @@ fn delays_are_the_words_of_the_generator(rt: HostRuntime) {
             [4_770_207_640, 1_374_316_555, 12_026_267_302, 7_969_753_892],
         ),
     ];
-    let bounds = Bounds {
-        link: 0,
-        min: 1,
-        max: 16_000_000_000,
-        loss: 0,
-    };
+    let bounds = bounds(1, 16_000_000_000, 0);
     for (seed, wants) in rows {
         let mut fate = PcgFate::new(seed);
         for want in wants {
@@ -340,12 +295,7 @@ fn losses_take_a_word_each(rt: HostRuntime) {
             [Some(336), None, Some(155), Some(406), Some(412), None],
         ),
     ];
-    let bounds = Bounds {
-        link: 0,
-        min: 100,
-        max: 500,
-        loss: 400,
-    };
+    let bounds = bounds(100, 500, 400);
     for (seed, wants) in rows {
         let mut fate = PcgFate::new(seed);
         for want in wants {
@@ -361,12 +311,7 @@ fn one_delay_takes_no_word(rt: HostRuntime) {
         (1, [Some(300), None, Some(300), Some(300)]),
         (4_294_967_295, [Some(300), Some(300), None, Some(300)]),
     ];
-    let bounds = Bounds {
-        link: 0,
-        min: 300,
-        max: 300,
-        loss: 400,
-    };
+    let bounds = bounds(300, 300, 400);
     for (seed, wants) in rows {
         let mut fate = PcgFate::new(seed);
         for want in wants {

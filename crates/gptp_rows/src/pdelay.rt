@@ -2,7 +2,7 @@
 
 use crate::same::{same, same_at};
 use gptp_messages::{Head, PdelayResp, PdelayRespFollowUp};
-use gptp_pdelay::{Answer, Peer, Step, laws};
+use gptp_pdelay::{Peer, Step, laws};
 use gptp_samples::{head, port};
 use gptp_scaled::{ScaledNs, Stamp};
 use gptp_vector::PortId;
@@ -53,26 +53,38 @@ fn carrying(source: PortId, sequence: u16, value: i128) -> Result<(Head, Stamp),
     Ok((carrying, stamp))
 }
 
-fn response(source: PortId, sequence: u16, t2: i128, to: PortId) -> Result<PdelayResp, Fail> {
-    let (head, stamp) = carrying(source, sequence, t2)?;
+/// Whose answer it is, to which request, and to whom.
+#[derive(Clone, Copy, Debug)]
+struct Reply {
+    from: PortId,
+    sequence: u16,
+    to: PortId,
+}
+
+/// The neighbour's answer to a request of the own port.
+fn awaited(sequence: u16) -> Reply {
+    Reply {
+        from: neighbor(),
+        sequence,
+        to: own(),
+    }
+}
+
+fn response(reply: Reply, t2: i128) -> Result<PdelayResp, Fail> {
+    let (head, stamp) = carrying(reply.from, reply.sequence, t2)?;
     Ok(PdelayResp {
         head,
         stamp,
-        requester: to,
+        requester: reply.to,
     })
 }
 
-fn follow_up(
-    source: PortId,
-    sequence: u16,
-    t3: i128,
-    to: PortId,
-) -> Result<PdelayRespFollowUp, Fail> {
-    let (head, stamp) = carrying(source, sequence, t3)?;
+fn follow_up(reply: Reply, t3: i128) -> Result<PdelayRespFollowUp, Fail> {
+    let (head, stamp) = carrying(reply.from, reply.sequence, t3)?;
     Ok(PdelayRespFollowUp {
         head,
         stamp,
-        requester: to,
+        requester: reply.to,
     })
 }
 
@@ -91,10 +103,10 @@ fn hears(rt: &impl Abort, peer: &mut Peer, response: &PdelayResp, t4: i128) -> R
 /// What the port makes of a full exchange with these four times.
 fn exchanges(rt: &impl Abort, peer: &mut Peer, times: [i128; 4]) -> Result<Step, Fail> {
     let [t1, t2, t3, t4] = times;
-    let sequence = requests(rt, peer, t1)?;
-    let response = response(neighbor(), sequence, t2, own())?;
+    let reply = awaited(requests(rt, peer, t1)?);
+    let response = response(reply, t2)?;
     same(rt, hears(rt, peer, &response, t4)?, Step::Recorded);
-    Ok(peer.on_follow_up(&follow_up(neighbor(), sequence, t3, own())?))
+    Ok(peer.on_follow_up(&follow_up(reply, t3)?))
 }
 
 /// The four times of an exchange that begins `begins` ns after 0 and measures this delay, both clocks being as fast.
@@ -104,17 +116,83 @@ fn measuring(delay: u32, begins: u32) -> [i128; 4] {
     [begins, ends, ends, ends]
 }
 
-/// A port that is capable, and may lose this many requests in a row.
-fn capable(rt: &impl Abort, lost: u8) -> Result<Peer, Fail> {
-    let mut peer = Peer::new(own(), THRESHOLD, lost);
-    same(rt, exchanges(rt, &mut peer, measuring(65_536, 0))?, FIRST);
-    same(rt, exchanges(rt, &mut peer, measuring(65_536, 9))?, CHANGED);
-    assert!(rt; peer.capable());
-    Ok(peer)
+/// What the port says: its meanLinkDelay, the rate of its neighbour, and whether it is capable.
+fn says(peer: &Peer) -> (Option<i128>, i32, bool) {
+    let delay = peer.delay().map(|delay| delay.value());
+    (delay, peer.rate().q(), peer.capable())
 }
 
-fn delay(peer: &Peer) -> Option<i128> {
-    peer.delay().map(|delay| delay.value())
+/// A port that may lose this many requests in a row.
+fn new(lost: u8) -> Peer {
+    Peer::new(own(), THRESHOLD, lost)
+}
+
+/// What the port does or gets, and what is wanted of it then.
+#[derive(Clone, Copy, Debug)]
+enum Event {
+    /// It asks at t1: the number of its request.
+    Asks(i128, u16),
+    /// It hears a response, with its t2, at t4.
+    Hears(Reply, i128, i128, Step),
+    /// It hears what follows the response, with its t3.
+    Follows(Reply, i128, Step),
+    /// A full exchange begins so many ns after 0, and measures one ns.
+    Exchanges(u32, Step),
+    /// Its interval is over: whether it lost too many requests.
+    Interval(bool),
+    /// It starts anew.
+    Reset,
+    /// A request comes from a port, with its number, at t2.
+    Asked(PortId, u16, i128),
+    /// Whom it answers, which request, and its t2.
+    Answers(Option<(PortId, u16, i128)>),
+    /// What it says.
+    Says(Option<i128>, i32, bool),
+}
+
+/// One event of a port.
+fn take(rt: &impl Abort, what: &str, peer: &mut Peer, event: &Event) -> Result<(), Fail> {
+    let row = (what, event);
+    match *event {
+        Event::Asks(t1, want) => same_at(rt, &row, requests(rt, peer, t1)?, want),
+        Event::Hears(reply, t2, t4, want) => {
+            let response = response(reply, t2)?;
+            same_at(rt, &row, hears(rt, peer, &response, t4)?, want);
+        }
+        Event::Follows(reply, t3, want) => {
+            let follow_up = follow_up(reply, t3)?;
+            same_at(rt, &row, peer.on_follow_up(&follow_up), want);
+        }
+        Event::Exchanges(begins, want) => {
+            let times = measuring(65_536, begins);
+            same_at(rt, &row, exchanges(rt, peer, times)?, want);
+        }
+        Event::Interval(want) => same_at(rt, &row, peer.on_interval(), want),
+        Event::Reset => peer.reset(),
+        Event::Asked(from, sequence, t2) => peer.respond(from, sequence, time(t2)?),
+        Event::Answers(want) => {
+            let answer = peer.take_response();
+            let answer = answer.map(|answer| (
+                answer.requester,
+                answer.sequence,
+                answer.t2.value(),
+            ));
+            same_at(rt, &row, answer, want);
+        }
+        Event::Says(delay, rate, capable) => {
+            same_at(rt, &row, says(peer), (delay, rate, capable));
+        }
+    }
+    Ok(())
+}
+
+/// What a new port that may lose so many requests in a row does and gets, one after the other.
+fn play(rt: &impl Abort, what: &str, lost: u8, events: &[Event]) -> Result<(), Fail> {
+    let mut peer = new(lost);
+    for event in events {
+        take(rt, what, &mut peer, event)?;
+    }
+    Ok(())
 }
 
 #[test]
@@ -140,12 +218,10 @@ fn the_delay_is_half_of_what_is_left(rt: HostRuntime) -> Result<(), Fail> {
         ("a clock that went back", [LAST, 0, 0, 0], 0),
     ];
     for (what, times, want) in cases {
-        let mut peer = Peer::new(own(), THRESHOLD, 9);
-        same_at(&rt, &what, delay(&peer), None);
+        let mut peer = new(9);
+        same_at(&rt, &what, says(&peer), (None, 0, false));
         same_at(&rt, &what, exchanges(&rt, &mut peer, times)?, FIRST);
-        same_at(&rt, &what, delay(&peer), Some(want));
-        same_at(&rt, &what, peer.rate().q(), 0);
-        assert!(rt; !peer.capable(), "{what}");
+        same_at(&rt, &what, says(&peer), (Some(want), 0, false));
     }
     Ok(())
 }
@@ -160,7 +236,7 @@ fn the_rate_is_that_of_the_last_two_exchanges(rt: HostRuntime) -> Result<(), Fai
         ("time went back", 5, -1, 0),
     ];
     for (what, e3, e4, want) in cases {
-        let mut peer = Peer::new(own(), THRESHOLD, 9);
+        let mut peer = new(9);
         let (t3, t4) = (100_000 + i128::from(e3), 100_000 + i128::from(e4));
         exchanges(&rt, &mut peer, [100_000, 100_000, 100_000, 100_000])?;
         exchanges(&rt, &mut peer, [100_000, 100_000, t3, t4])?;
@@ -171,17 +247,16 @@ fn the_rate_is_that_of_the_last_two_exchanges(rt: HostRuntime) -> Result<(), Fai
 
 #[test]
 fn the_delay_counts_the_rate_with_its_own_exchange(rt: HostRuntime) -> Result<(), Fail> {
-    let mut peer = Peer::new(own(), THRESHOLD, 9);
+    let mut peer = new(9);
     exchanges(&rt, &mut peer, [100_000, 100_000, 100_000, 100_000])?;
     exchanges(&rt, &mut peer, [90_000, 110_000, 110_001, 110_000])?;
-    same(&rt, peer.rate().q(), 219_902_325);
-    same(&rt, delay(&peer), Some(10_000));
+    same(&rt, says(&peer), (Some(10_000), 219_902_325, true));
     Ok(())
 }
 
 #[test]
 fn the_threshold_decides_from_the_second_exchange_on(rt: HostRuntime) -> Result<(), Fail> {
-    let mut peer = Peer::new(own(), THRESHOLD, 9);
+    let mut peer = new(9);
     let cases = [
         ("the first", LONGEST, 0, FIRST, false),
         (
@@ -199,134 +274,103 @@ fn the_threshold_decides_from_the_second_exchange_on(rt: HostRuntime) -> Result<
     for (what, measured, begins, step, capable) in cases {
         let times = measuring(measured, begins);
         same_at(&rt, &what, exchanges(&rt, &mut peer, times)?, step);
-        same_at(&rt, &what, delay(&peer), Some(i128::from(measured)));
-        same_at(&rt, &what, peer.rate().q(), 0);
-        same_at(&rt, &what, peer.capable(), capable);
+        let delay = Some(i128::from(measured));
+        same_at(&rt, &what, says(&peer), (delay, 0, capable));
     }
     Ok(())
 }
 
 #[test]
 fn too_many_lost_requests_in_a_row_reset(rt: HostRuntime) -> Result<(), Fail> {
-    let mut peer = capable(&rt, 1)?;
-    requests(&rt, &mut peer, 50 * NS)?;
-    assert!(rt; !peer.on_interval());
-    assert!(rt; peer.capable());
-    same(&rt, delay(&peer), Some(NS));
-    requests(&rt, &mut peer, 60 * NS)?;
-    assert!(rt; peer.on_interval());
-    assert!(rt; !peer.capable());
-    same(&rt, delay(&peer), None);
-    same(&rt, peer.rate().q(), 0);
-
-    same(
-        &rt,
-        exchanges(&rt, &mut peer, measuring(65_536, 70))?,
-        FIRST,
-    );
-    same(
-        &rt,
-        exchanges(&rt, &mut peer, measuring(65_536, 80))?,
-        CHANGED,
-    );
-    Ok(())
+    let events = [
+        Event::Exchanges(0, FIRST),
+        Event::Exchanges(9, CHANGED),
+        Event::Asks(50 * NS, 2),
+        Event::Interval(false),
+        Event::Says(Some(NS), 0, true),
+        Event::Asks(60 * NS, 3),
+        Event::Interval(true),
+        Event::Says(None, 0, false),
+        Event::Exchanges(70, FIRST),
+        Event::Exchanges(80, CHANGED),
+    ];
+    play(&rt, "one may be lost", 1, &events)
 }
 
 #[test]
 fn an_exchange_ends_the_row_of_lost_requests(rt: HostRuntime) -> Result<(), Fail> {
-    let mut peer = capable(&rt, 1)?;
-    for begins in [50, 70, 90] {
-        requests(&rt, &mut peer, 40 * NS)?;
-        assert!(rt; !peer.on_interval());
-        same(
-            &rt,
-            exchanges(&rt, &mut peer, measuring(65_536, begins))?,
-            FIRST,
-        );
-        assert!(rt; !peer.on_interval());
-        assert!(rt; peer.capable());
-    }
-    Ok(())
+    let events = [
+        Event::Exchanges(0, FIRST),
+        Event::Exchanges(9, CHANGED),
+        Event::Asks(40 * NS, 2),
+        Event::Interval(false),
+        Event::Exchanges(50, FIRST),
+        Event::Interval(false),
+        Event::Asks(60 * NS, 4),
+        Event::Interval(false),
+        Event::Exchanges(70, FIRST),
+        Event::Interval(false),
+        Event::Asks(80 * NS, 6),
+        Event::Interval(false),
+        Event::Exchanges(90, FIRST),
+        Event::Interval(false),
+        Event::Says(Some(NS), 0, true),
+    ];
+    play(&rt, "one may be lost", 1, &events)
 }
 
 #[test]
 fn a_response_that_is_not_awaited_is_ignored(rt: HostRuntime) -> Result<(), Fail> {
-    let cases = [
+    let others = [
         ("of the own clock", port(1, 2), 0, own()),
         ("to another request", neighbor(), 1, own()),
         ("to another port", neighbor(), 0, port(1, 2)),
         ("to another clock", neighbor(), 0, port(3, 1)),
     ];
-    let awaited = response(neighbor(), 0, 7, own())?;
-    for (what, source, sequence, to) in cases {
-        let mut peer = Peer::new(own(), THRESHOLD, 9);
-        same_at(
-            &rt,
-            &what,
-            hears(&rt, &mut peer, &awaited, 9)?,
-            Step::Ignored,
-        );
-        requests(&rt, &mut peer, 0)?;
-        let other = response(source, sequence, 7, to)?;
-        same_at(&rt, &what, hears(&rt, &mut peer, &other, 8)?, Step::Ignored);
-        same_at(
-            &rt,
-            &what,
-            hears(&rt, &mut peer, &awaited, 9)?,
-            Step::Recorded,
-        );
-        let again = response(neighbor(), 0, 1, own())?;
-        same_at(
-            &rt,
-            &what,
-            hears(&rt, &mut peer, &again, 99)?,
-            Step::Ignored,
-        );
-        let end = follow_up(neighbor(), 0, 7, own())?;
-        same_at(&rt, &what, peer.on_follow_up(&end), FIRST);
-        same_at(&rt, &what, delay(&peer), Some(4));
-        same_at(
-            &rt,
-            &what,
-            hears(&rt, &mut peer, &awaited, 9)?,
-            Step::Ignored,
-        );
+    for (what, from, sequence, to) in others {
+        let other = Reply { from, sequence, to };
+        let events = [
+            Event::Hears(awaited(0), 7, 9, Step::Ignored),
+            Event::Asks(0, 0),
+            Event::Hears(other, 7, 8, Step::Ignored),
+            Event::Hears(awaited(0), 7, 9, Step::Recorded),
+            Event::Hears(awaited(0), 1, 99, Step::Ignored),
+            Event::Follows(awaited(0), 7, FIRST),
+            Event::Says(Some(4), 0, false),
+            Event::Hears(awaited(0), 7, 9, Step::Ignored),
+        ];
+        play(&rt, what, 9, &events)?;
     }
     Ok(())
 }
 
 #[test]
 fn a_follow_up_that_is_not_awaited_is_ignored(rt: HostRuntime) -> Result<(), Fail> {
-    let cases = [
+    let others = [
         ("of another port", port(2, 2), 0, own()),
         ("of another clock", port(3, 1), 0, own()),
         ("to another request", neighbor(), 1, own()),
         ("to another port", neighbor(), 0, port(1, 2)),
     ];
-    let awaited = follow_up(neighbor(), 0, 7, own())?;
-    for (what, source, sequence, to) in cases {
-        let mut peer = Peer::new(own(), THRESHOLD, 9);
-        requests(&rt, &mut peer, 0)?;
-        same_at(&rt, &what, peer.on_follow_up(&awaited), Step::Ignored);
-        let response = response(neighbor(), 0, 7, own())?;
-        same_at(
-            &rt,
-            &what,
-            hears(&rt, &mut peer, &response, 9)?,
-            Step::Recorded,
-        );
-        let other = follow_up(source, sequence, 1, to)?;
-        same_at(&rt, &what, peer.on_follow_up(&other), Step::Ignored);
-        same_at(&rt, &what, delay(&peer), None);
-        same_at(&rt, &what, peer.on_follow_up(&awaited), FIRST);
-        same_at(&rt, &what, peer.on_follow_up(&awaited), Step::Ignored);
+    for (what, from, sequence, to) in others {
+        let other = Reply { from, sequence, to };
+        let events = [
+            Event::Asks(0, 0),
+            Event::Follows(awaited(0), 7, Step::Ignored),
+            Event::Hears(awaited(0), 7, 9, Step::Recorded),
+            Event::Follows(other, 1, Step::Ignored),
+            Event::Says(None, 0, false),
+            Event::Follows(awaited(0), 7, FIRST),
+            Event::Follows(awaited(0), 7, Step::Ignored),
+        ];
+        play(&rt, what, 9, &events)?;
     }
     Ok(())
 }
 
 #[test]
 fn sequence_numbers_wrap(rt: HostRuntime) -> Result<(), Fail> {
-    let mut peer = Peer::new(own(), THRESHOLD, 9);
+    let mut peer = new(9);
     for want in 0..=u16::MAX {
         same(&rt, requests(&rt, &mut peer, 0)?, want);
     }
@@ -336,60 +380,48 @@ fn sequence_numbers_wrap(rt: HostRuntime) -> Result<(), Fail> {
 
 #[test]
 fn a_newer_request_replaces_one_that_is_open(rt: HostRuntime) -> Result<(), Fail> {
-    let mut peer = capable(&rt, 1)?;
-    let older = requests(&rt, &mut peer, 50 * NS)?;
-    let newer = requests(&rt, &mut peer, 60 * NS)?;
-    let late = response(neighbor(), older, 61 * NS, own())?;
-    same(&rt, hears(&rt, &mut peer, &late, 62 * NS)?, Step::Ignored);
-    let response = response(neighbor(), newer, 61 * NS, own())?;
-    same(
-        &rt,
-        hears(&rt, &mut peer, &response, 62 * NS)?,
-        Step::Recorded,
-    );
-    requests(&rt, &mut peer, 70 * NS)?;
-    let end = follow_up(neighbor(), newer, 61 * NS, own())?;
-    same(&rt, peer.on_follow_up(&end), Step::Ignored);
-    assert!(rt; !peer.on_interval());
-    assert!(rt; peer.capable());
-    Ok(())
+    let events = [
+        Event::Exchanges(0, FIRST),
+        Event::Exchanges(9, CHANGED),
+        Event::Asks(50 * NS, 2),
+        Event::Asks(60 * NS, 3),
+        Event::Hears(awaited(2), 61 * NS, 62 * NS, Step::Ignored),
+        Event::Hears(awaited(3), 61 * NS, 62 * NS, Step::Recorded),
+        Event::Asks(70 * NS, 4),
+        Event::Follows(awaited(3), 61 * NS, Step::Ignored),
+        Event::Interval(false),
+        Event::Says(Some(NS), 0, true),
+    ];
+    play(&rt, "the third asks before it is answered", 1, &events)
 }
 
 #[test]
 fn a_reset_leaves_the_sequence_and_the_answer(rt: HostRuntime) -> Result<(), Fail> {
-    let mut peer = capable(&rt, 1)?;
-    peer.respond(neighbor(), 77, time(5)?);
-    requests(&rt, &mut peer, 50 * NS)?;
-    peer.reset();
-    assert!(rt; !peer.capable());
-    same(&rt, delay(&peer), None);
-    same(&rt, peer.rate().q(), 0);
-    assert!(rt; !peer.on_interval());
-    same(&rt, requests(&rt, &mut peer, 60 * NS)?, 3);
-    let answer = Answer {
-        requester: neighbor(),
-        sequence: 77,
-        t2: time(5)?,
-    };
-    same(&rt, peer.take_response(), Some(answer));
-    same(&rt, peer.take_response(), None);
-    Ok(())
+    let events = [
+        Event::Exchanges(0, FIRST),
+        Event::Exchanges(9, CHANGED),
+        Event::Asked(neighbor(), 77, 5),
+        Event::Asks(50 * NS, 2),
+        Event::Reset,
+        Event::Says(None, 0, false),
+        Event::Interval(false),
+        Event::Asks(60 * NS, 3),
+        Event::Answers(Some((neighbor(), 77, 5))),
+        Event::Answers(None),
+    ];
+    play(&rt, "a request is open", 1, &events)
 }
 
 #[test]
 fn the_newest_request_is_answered_once(rt: HostRuntime) -> Result<(), Fail> {
-    let mut peer = Peer::new(own(), THRESHOLD, 9);
-    same(&rt, peer.take_response(), None);
-    peer.respond(port(3, 4), 1, time(5)?);
-    peer.respond(neighbor(), 2, time(-6)?);
-    let answer = Answer {
-        requester: neighbor(),
-        sequence: 2,
-        t2: time(-6)?,
-    };
-    same(&rt, peer.take_response(), Some(answer));
-    same(&rt, peer.take_response(), None);
-    Ok(())
+    let events = [
+        Event::Answers(None),
+        Event::Asked(port(3, 4), 1, 5),
+        Event::Asked(neighbor(), 2, -6),
+        Event::Answers(Some((neighbor(), 2, -6))),
+        Event::Answers(None),
+    ];
+    play(&rt, "two ask", 9, &events)
 }
 
 #[test]

@@ -80,14 +80,14 @@ fn a_follow_up_is_read_and_written(rt: HostRuntime) -> Result<(), Fail> {
 /// An information TLV's octets behind the lengthField, but for the last.
 const INFORMATION: &str = "0080c2000001010203040000000000000000000000000000000000";
 
-/// The Follow_Up with those octets as its TLVs, between these.
+/// The Follow_Up with those octets in its TLVs, begun and ended so, between others.
 fn with_information(
     rt: &impl Abort,
     alloc: Global,
-    before: &str,
-    behind: &str,
+    (before, behind): (&str, &str),
+    (begin, end): (&str, &str),
 ) -> Result<Vec<u8>, Fail> {
-    let digits = format!(in alloc; "{before}{INFORMATION}{behind}")?;
+    let digits = format!(in alloc; "{before}{begin}{INFORMATION}{end}{behind}")?;
     let tlvs = hex::decode(alloc, digits.as_str())?;
     lengthened(rt, alloc, &FOLLOW_UP[..44], &tlvs)
 }
@@ -141,9 +141,7 @@ fn the_first_information_tlv_counts(rt: HostRuntime) -> Result<(), Fail> {
         ),
     ];
     for (what, before, behind) in cases {
-        let before = format!(in rt.alloc(); "{before}0003001c")?;
-        let behind = format!(in rt.alloc(); "00{behind}")?;
-        let frame = with_information(&rt, rt.alloc(), before.as_str(), behind.as_str())?;
+        let frame = with_information(&rt, rt.alloc(), (before, behind), ("0003001c", "00"))?;
         same_at(
             &rt,
             &what,
@@ -156,7 +154,7 @@ fn the_first_information_tlv_counts(rt: HostRuntime) -> Result<(), Fail> {
 
 #[test]
 fn a_follow_up_without_its_rate_is_refused(rt: HostRuntime) -> Result<(), Fail> {
-    // what stands before those octets, and what behind
+    // what begins with those octets, and what ends them
     let cases = [
         ("the one TLV is a path trace", "0008001c", "00"),
         ("the one TLV is of a type that ends alike", "0103001c", "00"),
@@ -181,8 +179,8 @@ fn a_follow_up_without_its_rate_is_refused(rt: HostRuntime) -> Result<(), Fail> 
         ("another TLV past the end before", "000900210003001c", "00"),
         ("inside of another TLV", "000900200003001c", "00"),
     ];
-    for (what, before, behind) in cases {
-        let frame = with_information(&rt, rt.alloc(), before, behind)?;
+    for (what, begin, end) in cases {
+        let frame = with_information(&rt, rt.alloc(), ("", ""), (begin, end))?;
         same_at(&rt, &what, decode(&frame).err(), Some(Refused::Tlv));
     }
     Ok(())
