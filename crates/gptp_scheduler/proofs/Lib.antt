@@ -2,3 +2,4 @@ pub mod AgendaLemmas
 pub mod DueLemmas
 pub mod EntryLemmas
 pub mod SlotLemmas
+pub mod OrderLemmas

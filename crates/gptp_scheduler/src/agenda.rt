@@ -1,70 +1,20 @@
 //! An agenda of what is to be done.
 
-ghost use Rattle.std.specs.Prelude.{◌≡◌, ℕ, ◌+◌, ◌-◌, ◌^◌, ◌<◌, ◌≤◌, [], ◌∷◌, ◌++◌, IsOk, OnOk, OnErr, IfOk, IfSome, IfNone, Some, None, option_copied};
-ghost use Rattle.std.specs.BinaryHeap.{heap_items, heap_len, heap_capacity};
+ghost use Rattle.std.specs.Prelude.{◌≡◌, ℕ, ◌+◌, ◌^◌, ◌<◌, ◌≤◌, [], ◌∷◌, ◌++◌, Option, IsOk, OnOk, OnErr, IfOk, IfSome, IfNone, Some, option_copied};
 ghost use Rattle.std.specs.Option.{option_map};
 ghost use Rattle.gptp_scheduler.specs.Pending.{entry, entry_at, without, IsFirst, NothingDue, RiseFrom};
-ghost use Rattle.gptp_scheduler.specs.Order.{Holds, IsThere, Orders};
-ghost use Rattle.std.specs.List.{All};
+ghost use Rattle.gptp_scheduler.specs.Order.{Holds, IsFirstThere, IsLeastOf};
+ghost use Rattle.gptp_scheduler.specs.declared.order.Due.{Due};
 
+use crate::order::{Beside, Due, Queue, lesser};
 use crate::slots::Slots;
 use std::alloc::{AllocError, Global};
-use std::cmp::{Ordering, Reverse};
+use std::cmp::Reverse;
 use std::collections::BinaryHeap;
 use std::marker::Model;
 
-/// When an entry is due, and its number.
-#[derive(Clone, Copy, Debug, PartialEq, Eq)]
-pub(crate) struct Due {
-    time: u64,
-    number: u64,
-}
-
-impl Due {
-    ghost use Rattle.std.specs.Prelude.{◌≡◌, ◌+◌, ◌*◌, ◌^◌, ◌<◌};
-
-    /// The two as one number, by which it is compared: one comparison in place of two, and no branch between them.
-    fn rank(&self) -> u128
-        ensures rank { result ≡ self.now.time * 2 ^ 64 + self.now.number }
-        ensures number { self.now.number < 2 ^ 64 }
-    {
-        (u128::from(self.time) << 64) + u128::from(self.number)
-    }
-}
-
-impl PartialOrd for Due {
-    ghost use Rattle.std.proofs.Common.{rules};
-    ghost use Rattle.std.specs.Cmp.{partial_order_from_own_ties};
-    ghost use Rattle.std.specs.Cmp.Rules.{comparing};
-    ghost use Rattle.std.specs.Ordering.{as_partial_cmp};
-    ghost use Rattle.gptp_scheduler.specs.Order.{earlier};
-
-    ghost partial_cmp = { as_partial_cmp earlier };
-
-    ghost laws = { partial_order_from_own_ties (Prim.search (comparing, rules)) (Prim.search (comparing, rules)) };
-
-    fn partial_cmp(&self, other: &Due) -> Option<Ordering> {
-        Some(self.cmp(other))
-    }
-}
-
-impl Ord for Due {
-    ghost use Rattle.std.proofs.Common.{rules};
-    ghost use Rattle.std.specs.Cmp.Rules.{comparing};
-    ghost use Rattle.gptp_scheduler.specs.Order.{earlier};
-
-    ghost cmp = { earlier };
-
-    ghost total = { Prim.search (comparing, rules) };
-
-    ghost matches_partial_cmp = { Prim.search (comparing, rules) };
-
-    ghost matches_eq = { Prim.search (comparing, rules) };
-
-    fn cmp(&self, other: &Due) -> Ordering {
-        self.rank().cmp(&other.rank())
-    }
-}
+/// Most of what is put is due later than the last of its kind: so runs come first, and a heap takes what fits in none.
+type Order = Beside<Beside<Beside<Beside<BinaryHeap<Reverse<Due>>>>>>;
 
 /// What is to be done, each entry at a time of its own, in ns. An entry gets a number when it is put,
 /// rising from 0. The least entry is the first of least time.
@@ -73,27 +23,31 @@ impl Ord for Due {
 /// more can be put without being refused.
 #[derive(Drop)]
 pub struct Agenda<T> {
-    // The times and numbers of all entries, least first, and of some that were cancelled, of which none
-    // is on top.
-    order: BinaryHeap<Reverse<Due>>,
+    // The times and numbers of all entries, and of some that were cancelled.
+    order: Order,
+    // The least of them, which wasn't.
+    first: Option<Due>,
     entries: Slots<T>,
     // Both have room for so many more, or for more than that: whether there is room for a put is one comparison.
     spare: usize,
 }
 
 impl<T> Model for Agenda<T> {
-    ghost use Rattle.std.specs.BinaryHeap.{heap_items, heap_len, heap_capacity};
     ghost use Rattle.gptp_scheduler.specs.Pending.{Pending, pending_code};
 
     ghost Value = { Pending T };
 
     ghost coded = { pending_code T.code };
 
-    ghost use Rattle.gptp_scheduler.specs.Order.{Orders, HasSpare};
+    ghost use Rattle.gptp_scheduler.specs.Order.{Holds, HasSpare, IsFirstThere};
 
     ghost view = { λ a. record { next = a.entries.next; entries = a.entries.entries; room = a.spare } };
 
-    ghost invariant = { λ a. Orders a.entries.entries (heap_items a.order) a.entries.next × HasSpare a.spare a.entries.room a.entries.next (heap_len a.order) (heap_capacity a.order) };
+    ghost invariant = { λ a.
+        Holds a.entries.entries (⟦<Order as Queue>⟧.dues a.order) a.entries.next
+        × ⟦<Order as Queue>⟧.ordered a.order
+        × IsFirstThere a.entries.entries (⟦<Order as Queue>⟧.dues a.order) a.first
+        × HasSpare a.spare a.entries.room a.entries.next (⟦<Order as Queue>⟧.room a.order) };
 }
 
 impl<T: Drop> Agenda<T> {
@@ -103,7 +57,14 @@ impl<T: Drop> Agenda<T> {
         ensures entries { result.entries ≡ [] }
     {
         Agenda {
-            order: BinaryHeap::new(alloc),
+            order: Beside::new(
+                alloc,
+                Beside::new(
+                    alloc,
+                    Beside::new(alloc, Beside::new(alloc, BinaryHeap::new(alloc))),
+                ),
+            ),
+            first: None,
             entries: Slots::new(alloc),
             spare: 0,
         }
@@ -121,9 +82,8 @@ impl<T: Drop> Agenda<T> {
     {
         if self.spare < additional {
             self.entries.reserve(additional)?;
-            reserve_order(&mut self.order, &self.entries, additional)?;
-            let order = self.order.capacity() - self.order.len();
-            self.spare = order.min(self.entries.room());
+            self.order.reserve(additional, &self.entries)?;
+            self.spare = self.order.room().min(self.entries.room());
         }
         Ok(())
     }
@@ -141,8 +101,10 @@ impl<T: Drop> Agenda<T> {
     {
         self.reserve(1)?;
         let number = self.entries.next_number();
-        self.order.push(Reverse(Due { time, number }))?;
+        let due = Due { time, number };
+        self.order.put(due);
         self.entries.push(time, item);
+        self.first = lesser(self.first, Some(due));
         self.spare -= 1;
         Ok(number)
     }
@@ -152,7 +114,7 @@ impl<T: Drop> Agenda<T> {
         ensures first { IfSome result (λ due. IsFirst self.now.entries due.0 due.1) }
         ensures empty { IfNone result (self.now.entries ≡ []) }
     {
-        let Reverse(due) = *self.order.peek()?;
+        let due = self.first?;
         Some((due.time, due.number))
     }
 
@@ -174,12 +136,12 @@ impl<T: Drop> Agenda<T> {
         ensures next { self.new.next ≡ self.old.next }
         ensures room { self.old.room ≤ self.new.room }
     {
-        let Reverse(due) = *self.order.peek()?;
+        let due = self.first?;
         if now < due.time {
             return None;
         }
         let (_, item) = self.entries.remove(due.number).unwrap();
-        uncover(&mut self.order, &self.entries);
+        uncover(&mut self.first, &mut self.order, &self.entries);
         Some((due.time, due.number, item))
     }
 
@@ -191,7 +153,7 @@ impl<T: Drop> Agenda<T> {
         ensures room { self.old.room ≤ self.new.room }
     {
         let (_, item) = self.entries.remove(number)?;
-        uncover(&mut self.order, &self.entries);
+        uncover(&mut self.first, &mut self.order, &self.entries);
         Some(item)
     }
 
@@ -203,48 +165,21 @@ impl<T: Drop> Agenda<T> {
     }
 }
 
-/// Makes room for so many more. Refused where there is no memory for them.
-fn reserve_order<T>(
-    order: &mut BinaryHeap<Reverse<Due>>,
-    entries: &Slots<T>,
-    additional: usize,
-) -> Result<(), AllocError>
-    requires { Orders entries.now.entries (heap_items order.old) entries.now.next }
-    ensures orders { Orders entries.now.entries (heap_items order.new) entries.now.next }
-    ensures room { OnOk result (heap_len order.new + additional ≤ heap_capacity order.new) }
-    ensures kept { heap_len order.new + heap_capacity order.old ≤ heap_capacity order.new + heap_len order.old }
-    ensures succeeds { heap_len order.old + additional ≤ heap_capacity order.old → IsOk result }
+/// Drops what was cancelled from the front, so that the first is there.
+fn uncover<T, Q: Queue>(first: &mut Option<Due>, order: &mut Q, entries: &Slots<T>)
+    requires holds { Holds entries.now.entries (Q.dues order.old) entries.now.next }
+    requires ordered { Q.ordered order.old }
+    requires least { IsLeastOf (Q.dues order.old) first.old }
+    ensures holds { Holds entries.now.entries (Q.dues order.new) entries.now.next }
+    ensures ordered { Q.ordered order.new }
+    ensures first { IsFirstThere entries.now.entries (Q.dues order.new) first.new }
+    ensures room { Q.room order.old ≤ Q.room order.new }
 {
-    if order.capacity() - order.len() < additional {
-        drop_cancelled(order, entries);
-        // As much again as there is, so that what was cancelled is looked for seldom.
-        order.reserve(order.len().saturating_add(additional))?;
-    }
-    Ok(())
-}
-
-/// Drops what was cancelled from the top, so that the least entry is there.
-fn uncover<T>(order: &mut BinaryHeap<Reverse<Due>>, entries: &Slots<T>)
-    requires { Holds entries.now.entries (heap_items order.old) entries.now.next }
-    ensures orders { Orders entries.now.entries (heap_items order.new) entries.now.next }
-    ensures len { heap_len order.new ≤ heap_len order.old }
-    ensures capacity { heap_capacity order.new ≡ heap_capacity order.old }
-{
-    while let Some(Reverse(due)) = order.peek() {
+    while let Some(due) = *first {
         if entries.holds(due.number) {
             break;
         }
-        order.pop();
+        order.take(due);
+        *first = order.first();
     }
-}
-
-/// Drops all that was cancelled.
-fn drop_cancelled<T>(order: &mut BinaryHeap<Reverse<Due>>, entries: &Slots<T>)
-    requires { Holds entries.now.entries (heap_items order.old) entries.now.next }
-    ensures orders { Orders entries.now.entries (heap_items order.new) entries.now.next }
-    ensures there { All (IsThere entries.now.entries) (heap_items order.new) }
-    ensures len { heap_len order.new ≤ heap_len order.old }
-    ensures capacity { heap_capacity order.new ≡ heap_capacity order.old }
-{
-    order.retain(|Reverse(due)| entries.holds(due.number));
 }

@@ -7,6 +7,7 @@
 #![tactic(auto)]
 
 mod agenda;
+mod order;
 mod slots;
 
 pub use agenda::Agenda;

@@ -1,26 +1,26 @@
 use Rattle.std.proofs.Common.{arith}
-use Rattle.std.specs.BinaryHeap.{heap_items}
-use Rattle.gptp_scheduler.proofs.AgendaLemmas.{orders-put}
+use Rattle.gptp_scheduler.proofs.AgendaLemmas.{first-put, holds-put}
 use Rattle.gptp_scheduler.proofs.agenda.Agenda.put.Goals as goal
 
-pub invariant_of-self-2 : goal.invariant_of-self-2
-invariant_of-self-2 g c =
-    let spare = c.self.invariant.1 in
+pub invariant_of-self : goal.invariant_of-self
+invariant_of-self g c =
+    let inside = c.self.inside in
+    let spare = c.self.invariant.3 in
     let entries = spare.entries in
     let numbers = spare.numbers in
-    let heap = spare.heap in
+    let order = spare.order in
     let one = rw (← c.self.view_is) at c.in_ok-reserve.ensures.ok in
-    let room = c.push-2.ensures.room in
-    let len = c.in_ok-push.ensures.len in
-    let capacity = c.push.ensures.capacity in
-    rw (c.push-2.ensures.next, c.push-2.ensures.entries) (
-      orders-put c.self.inside.entries.entries (heap_items c.self.inside.order) (heap_items c.push.new.self)
-          c.self.inside.entries.next c.args.time c.args.item c.self.invariant.0
-          (rw c.next_number-number.ensures at c.in_ok-push.ensures.permutation)
-          (c.in_ok-push.ensures.heap_order c.self.invariant.0.holds.ordered),
+    let room = c.push.ensures.room in
+    let in_order = c.put.ensures.room in
+    let same = rw c.next_number-number.ensures at c.put.ensures.put in
+    rw (c.push.ensures.next, c.push.ensures.entries, c.lesser-self-inside.ensures, c.next_number-number.ensures) (
+      holds-put inside.entries.entries _ _ inside.entries.next c.args.time c.args.item c.self.invariant.0 same,
+      c.put.ensures.ordered,
+      first-put inside.entries.entries _ _ inside.entries.next c.args.time c.args.item c.self.invariant.0 same
+          inside.first c.self.invariant.2,
       record {
         entries = omega (arith, one, room, entries);
         numbers = omega (arith, one, numbers);
-        heap = omega (arith, one, len, capacity, heap);
+        order = omega (arith, one, in_order, order);
       },
     )

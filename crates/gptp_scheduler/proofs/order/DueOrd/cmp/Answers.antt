@@ -1,5 +1,5 @@
 use Rattle.gptp_scheduler.proofs.DueLemmas.{by_rank}
-use Rattle.gptp_scheduler.proofs.agenda.DueOrd.cmp.Goals as goal
+use Rattle.gptp_scheduler.proofs.order.DueOrd.cmp.Goals as goal
 
 pub returns : goal.returns
 returns c =
