@@ -10,6 +10,7 @@ pub mod FactLemmas
 pub mod TouchedLemmas
 pub mod StepLemmas
 pub mod RestLemmas
+pub mod AgainLemmas
 pub mod EndLemmas
 pub mod MidLemmas
 pub mod SendLemmas

@@ -95,6 +95,16 @@ selects_again now s s' sends a r k = (state, silent)
         k.sends_are ∙ ap (λ (v : Vector). announcements (clock s) v.root v.steps 1 (fresh_ports v s) s.ports) one
         ∙ no_announcements (clock s) r.vector.root r.vector.steps 1 (fresh_ports r.vector s) s.ports (none_fresh s a r)
 
+-- so it has selected where it stays as it is
+pub selects_itself : (now : ℕ) (s : SystemState) → AreHeld s → IsAtRest s → Selects now s s []
+selects_itself now s a r = record {
+  vector = r.vector;
+  is_chosen = r.is_chosen;
+  state = sym (choosing_same now s a r);
+  sends_are = sym (no_announcements (clock s) r.vector.root r.vector.steps 1 (fresh_ports r.vector s) s.ports
+      (none_fresh s a r));
+}
+
 -- ---- the start
 
 no_paths : (hs : List Held) → ((i : ℕ) (h : Held) → slice_get hs i ≡ Some h → h ≡ helds.Disabled) → path_vectors hs ≡ []

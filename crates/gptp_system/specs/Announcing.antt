@@ -1,12 +1,14 @@
 -- Announces: what hearing one, ageing one and sending one make of a system (IEEE 802.1AS-2020, 10.3.10 to 10.3.16).
-use Rattle.std.specs.Prelude.{◌≡◌, ℕ, ◌+◌, ◌*◌, ◌^◌, ◌%◌, Bool, true, false, List, [], ◌∷◌}
-use Rattle.std.specs.Option.{option_map_or}
+use Rattle.std.specs.Prelude.{◌≡◌, ℕ, ◌+◌, ◌*◌, ◌^◌, ◌%◌, Bool, true, false, List, [], ◌∷◌, Some}
+use Rattle.std.specs.Option.{option_map, option_map_or}
+use Rattle.gptp_vector.specs.declared.port.PortId.{PortId}
 use Rattle.gptp_messages.specs.declared.announce.AnnounceView.{AnnounceView}
+use Rattle.gptp_receipt.specs.declared.held.Held.{Held}
 use Rattle.gptp_receipt.specs.declared.held.Heard.{Heard}
 use Rattle.gptp_receipt.specs.declared.held.Heard.TheVariants as heards
 use Rattle.gptp_receipt.specs.declared.qualification.Why.{Why}
 use Rattle.gptp_receipt.specs.declared.qualification.Why.TheVariants as whys
-use Rattle.gptp_receipt.specs.Held.{comparison, held_after, reception, aged}
+use Rattle.gptp_receipt.specs.Held.{Reception, aged, comparison, held_after, message_vector, received, reception}
 use Rattle.gptp_receipt.specs.Qualification.{Qualified, FirstFailure}
 use Rattle.gptp_system.specs.declared.answer.Answer.{Answer}
 use Rattle.gptp_system.specs.declared.answer.Answer.TheVariants as answers
@@ -32,6 +34,10 @@ answer_to_heard heards.Inferior = answers.Inferior
 abbrev pub is_taken : Heard → Bool
 is_taken heards.Inferior = false
 is_taken _ = true
+
+-- it says what the port received last: the same vector from the same port
+abbrev pub SaysAgain : Held → PortId → AnnounceView → Type 0
+SaysAgain h own a = option_map (λ (r : Reception). r.vector) (received h) ≡ Some (message_vector a own.port)
 
 -- an Announce on a port that isn't asCapable
 pub record HearsOff (p : ℕ) (s s' : SystemState) (sends : List Sending) (answer : Answer) : Type 0 where

@@ -1,11 +1,11 @@
 //! Announces: what hearing one, ageing one and sending one make of a system.
 
-ghost use Rattle.std.specs.Prelude.{◌≡◌, ◌≢◌, ◌≤◌, ◌∷◌, [], length};
+ghost use Rattle.std.specs.Prelude.{◌≡◌, ◌≢◌, ◌↔◌, ◌≤◌, ◌&&◌, ◌∷◌, [], length, not, IsTrue};
 ghost use Rattle.std.specs.Option.{option_map_or};
 ghost use Rattle.std.specs.List.{AllByRecursion};
 ghost use Rattle.gptp_receipt.specs.Held.{aged, comparison, held_after, reception};
 ghost use Rattle.gptp_receipt.specs.Qualification.{Qualified};
-ghost use Rattle.gptp_system.specs.Announcing.{answer_to_heard, answer_to_why, is_taken};
+ghost use Rattle.gptp_system.specs.Announcing.{answer_to_heard, answer_to_why, is_taken, SaysAgain};
 ghost use Rattle.gptp_system.specs.Intervals.{IsLog, IsMoment};
 ghost use Rattle.gptp_system.specs.Ready.{IsPort, IsRecent};
 ghost use Rattle.gptp_system.specs.Selection.{announced};
@@ -21,7 +21,7 @@ use crate::setup::Params;
 use crate::state::State;
 use gptp_messages::AnnounceView;
 use gptp_receipt::{Heard, Held, Why, age, hear, qualify};
-use gptp_vector::{Identity, PortId};
+use gptp_vector::{Identity, PortId, Vector};
 
 /// How it is answered that an Announce isn't taken for heard.
 fn answer_to_why(why: Why) -> Answer
@@ -54,6 +54,31 @@ fn is_taken(heard: Heard) -> bool
         Heard::Inferior => false,
         Heard::Superior | Heard::Repeated => true,
     }
+}
+
+/// Whether an Announce says what a port received last: the same vector from the same port.
+fn says_again(held: &Held, own: PortId, announce: &AnnounceView<'_>) -> bool
+    ensures { IsTrue result ↔ SaysAgain held.now own announce.now }
+{
+    match held {
+        Held::Received { vector, .. } => {
+            *vector
+                == Vector {
+                    root: announce.body.root,
+                    steps: announce.body.steps,
+                    source: announce.head.source,
+                    receiver: own.port,
+                }
+        }
+        Held::Disabled | Held::Aged | Held::Mine { .. } => false,
+    }
+}
+
+/// Whether selection can change anything after an Announce: it took the place of what was held, and says something else.
+fn can_change(heard: Heard, again: bool) -> bool
+    ensures { result ≡ (is_taken heard && not again) }
+{
+    is_taken(heard) && !again
 }
 
 /// A port compares a qualified Announce with what it holds, and takes it where it is Superior or Repeated.
@@ -118,9 +143,10 @@ fn announce_at(
 }
 
 impl State {
-    ghost use Rattle.std.specs.Prelude.{◌≡◌, ◌≢◌, ◌⊎◌, ◌≤◌, length, true, []};
+    ghost use Rattle.std.specs.Prelude.{◌≡◌, ◌≢◌, ◌⊎◌, ◌↔◌, ◌≤◌, length, true, [], IsTrue};
     ghost use Rattle.gptp_receipt.specs.declared.held.Held.TheVariants.{Disabled};
-    ghost use Rattle.gptp_system.specs.Announcing.{AgeExpires, AnnounceExpires, ChangesPriority, HearsOff, HearsQualified, HearsUnqualified};
+    ghost use Rattle.gptp_system.specs.Announcing.{AgeExpires, AnnounceExpires, ChangesPriority, HearsOff, HearsQualified, HearsUnqualified, SaysAgain};
+    ghost use Rattle.gptp_system.specs.Facts.{AreHeld, IsAtRest};
     ghost use Rattle.gptp_system.specs.Intervals.{IsMoment};
     ghost use Rattle.gptp_system.specs.Ready.{IsReady, state_of};
     ghost use Rattle.gptp_system.specs.Selection.{SelectsIf};
@@ -158,6 +184,16 @@ impl State {
         self.ports[usize::from(port) - 1].peer.capable()
     }
 
+    /// Whether an Announce says what the port received last.
+    fn hears_again(&self, port: u8, announce: &AnnounceView<'_>) -> bool
+        requires least { 1 ≤ port }
+        requires most { port ≤ length (state_of self.now).held }
+        ensures { IsTrue result ↔ SaysAgain (held_at (state_of self.now) port) (own (state_of self.now) port) announce.now }
+    {
+        let own = self.own(port);
+        says_again(&self.held[usize::from(port) - 1], own, announce)
+    }
+
     /// A port hears an Announce (IEEE 802.1AS-2020, 10.3.11 and 10.3.12).
     pub(crate) fn hear_announce(
         &mut self,
@@ -171,6 +207,8 @@ impl State {
         requires least { 1 ≤ port }
         requires most { port ≤ length (state_of self.old).ports }
         requires shown { is_capable_at (state_of self.old) port ≡ true → held_at (state_of self.old) port ≢ Disabled }
+        requires held { AreHeld (state_of self.old) }
+        requires rest { IsAtRest (state_of self.old) }
         requires empty { outbox.old.items ≡ [] }
         ensures step { HearsOff port (state_of self.old) (state_of self.new) outbox.new.items result
             ⊎ (HearsUnqualified port announce.now (state_of self.old) (state_of self.new) outbox.new.items result
@@ -184,8 +222,9 @@ impl State {
         if let Err(why) = qualify(announce, own.clock) {
             return answer_to_why(why);
         }
+        let again = self.hears_again(port, announce);
         let heard = hear_at(self.held.as_mut_slice(), own, announce, now);
-        self.select_if(is_taken(heard), now, outbox);
+        self.select_if(can_change(heard, again), now, outbox);
         answer_to_heard(heard)
     }
 

@@ -9,6 +9,7 @@ use gptp_messages::{Message, decode};
 impl State {
     ghost use Rattle.std.specs.Prelude.{◌≡◌, ◌≢◌, true, []};
     ghost use Rattle.gptp_receipt.specs.declared.held.Held.TheVariants.{Disabled};
+    ghost use Rattle.gptp_system.specs.Facts.{AreHeld, IsAtRest};
     ghost use Rattle.gptp_system.specs.Intervals.{IsMoment};
     ghost use Rattle.gptp_system.specs.Ready.{IsReady, state_of};
     ghost use Rattle.gptp_system.specs.State.{held_at, is_capable_at};
@@ -20,6 +21,8 @@ impl State {
         requires moment { IsMoment now }
         requires port { IsPortOf (state_of self.old) port }
         requires shown { is_capable_at (state_of self.old) port ≡ true → held_at (state_of self.old) port ≢ Disabled }
+        requires held { AreHeld (state_of self.old) }
+        requires rest { IsAtRest (state_of self.old) }
         requires empty { outbox.old.items ≡ [] }
         ensures step { HearsMessage port message.now now (state_of self.old) (state_of self.new) outbox.new.items result }
         ensures ready { IsReady (state_of self.new) }
@@ -48,6 +51,8 @@ impl State {
         requires moment { IsMoment now }
         requires port { IsPortOf (state_of self.old) port }
         requires shown { is_capable_at (state_of self.old) port ≡ true → held_at (state_of self.old) port ≢ Disabled }
+        requires held { AreHeld (state_of self.old) }
+        requires rest { IsAtRest (state_of self.old) }
         requires empty { outbox.old.items ≡ [] }
         ensures step { HearsFrame port frame.now now (state_of self.old) (state_of self.new) outbox.new.items result }
         ensures ready { IsReady (state_of self.new) }

@@ -1,4 +1,4 @@
-use Rattle.std.proofs.Common.{◌≡◌, rules, true, length, ap, ◌∙◌, sym, inr, arith}
+use Rattle.std.proofs.Common.{◌≡◌, rules, true, ◌&&◌, length, ap, ◌∙◌, sym, inr, arith}
 use Rattle.arrayvec.specs.ArrayVec.{array_vec_len}
 use Rattle.arrayvec.proofs.ArrayVecLemmas.{items-with_items}
 use Rattle.gptp_receipt.specs.declared.held.Held.{Held}
@@ -6,7 +6,9 @@ use Rattle.gptp_receipt.specs.Held.{comparison, held_after, reception}
 use Rattle.gptp_receipt.specs.Qualification.{Qualified}
 use Rattle.gptp_system.specs.State.{own, change, clock, held_at}
 use Rattle.gptp_system.specs.Ready.{state_of}
-use Rattle.gptp_system.specs.Announcing.{is_taken, answer_to_heard}
+use Rattle.std.specs.Prelude.{not}
+use Rattle.gptp_system.specs.Announcing.{answer_to_heard, is_taken}
+use Rattle.gptp_system.proofs.AgainLemmas.{selects_again_or_not}
 use Rattle.gptp_system.proofs.ChangedLemmas.{change-length}
 use Rattle.gptp_system.proofs.ReadyLemmas.{held_ready, hearing_keeps}
 use Rattle.gptp_system.proofs.state.State.hear_announce.Goals as goal
@@ -39,13 +41,16 @@ returns-clause-step c =
     ≡ array_vec_len s.held = omega (arith, ap length is, change-length hear c.args.port s.held.items) in
     let heard : c.hear_at-heard.result ≡ comparison (held_at (state_of s) c.args.port) me a =
     rw (c.own-own.ensures, c.as_mut_slice.ensures.value) at c.hear_at-heard.ensures.heard in
-    let taken = c.is_taken.ensures ∙ ap is_taken heard in
+    let again = c.hears_again-again.result in
+    let moves = c.can_change.ensures ∙ ap (λ heard. is_taken heard && not again) heard in
     let items = items-with_items s.held c.hear_at-heard.new.held kept ∙ is in
     let capable : c.is_capable.result ≡ true = search rules in
     let qualified : Qualified a c.own-own.result.clock = search rules in
     inr (inr (record {
       on = sym c.is_capable.ensures ∙ capable;
       qualified = rw c.own-own.ensures at qualified;
-      selects = rw (← taken, ← items) c.select_if.ensures.selects;
+      selects = selects_again_or_not c.args.port a c.args.now (state_of s) _ _ again c.hears_again-again.ensures.0
+          (rw c.own-own.ensures at qualified) c.requires.held
+          c.requires.rest (rw (← moves, ← items) c.select_if.ensures.selects);
       answer_is = c.answer_to_heard.ensures ∙ ap answer_to_heard heard;
     }))
