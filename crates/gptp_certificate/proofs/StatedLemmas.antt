@@ -7,7 +7,7 @@ use Rattle.std.specs.List.{range_with_len}
 use Rattle.gptp_graph.specs.Labelling.{PortLine, SystemLine, line_clocks, port_numbers}
 use Rattle.gptp_graph.specs.Members.{In, Different}
 use Rattle.gptp_graph.specs.Order.{IsRising}
-use Rattle.gptp_graph.proofs.MemberLemmas.{In-map, In-slice_get, from_map, slice_get-In}
+use Rattle.gptp_graph.proofs.MemberLemmas.{In-left, In-map, In-parts, In-right, In-slice_get, from_map, slice_get-In}
 use Rattle.gptp_system.specs.State.{SystemState, clock}
 use Rattle.gptp_acts.specs.Acts.{AtSystem}
 use Rattle.gptp_acts.specs.Sound.{HaveOwnClocks}
@@ -163,25 +163,11 @@ if_live station line true is (inl e) = (is, e)
 if_live station line true is (inr k) = absurd k
 if_live station line false is k = absurd k
 
-In-front : {X : Type 0} (x : X) (xs ys : List X) → In x xs → In x (xs ++ ys)
-In-front x [] ys h = absurd h
-In-front x (y ∷ xs) ys (inl e) = inl e
-In-front x (y ∷ xs) ys (inr h) = inr (In-front x xs ys h)
-
-In-back : {X : Type 0} (x : X) (xs ys : List X) → In x ys → In x (xs ++ ys)
-In-back x [] ys h = h
-In-back x (y ∷ xs) ys h = inr (In-back x xs ys h)
-
-In-append : {X : Type 0} (x : X) (xs ys : List X) → In x (xs ++ ys) → In x xs ⊎ In x ys
-In-append x [] ys h = inr h
-In-append x (y ∷ xs) ys (inl e) = inl (inl e)
-In-append x (y ∷ xs) ys (inr h) = elim (In-append x xs ys h) [ inl k ↦ inl (inr k) | inr k ↦ inr k ]
-
 stated_of : (names : List ℕ) (w : WorldState) (lines : List SystemLine) (line : SystemLine) → AreLines names w lines
     → In line lines → IsStatedOf names w line
 stated_of [] w lines line are h = absurd (rw are at h)
 stated_of (name ∷ names) w lines line (rest, one, are) h =
-    elim (In-append line (stated_if one.station) rest (rw one.so at h)) [
+    elim (In-parts line (stated_if one.station) rest (rw one.so at h)) [
       | inl here ↦ (let both = if_live one.station line one.station.live refl here in record {
         station = one.station;
         there = In-slice_get one.station w.stations one.place one.is.here;
@@ -208,9 +194,9 @@ of_stated (name ∷ names) w lines station own (rest, one, are) there (inl e) li
     let same : one.station ≡ station =
     same_Some one.station station (sym one.is.here ∙ ap (slice_get w.stations) (sym place_is) ∙ at) in
     let first : In (stated_line station.system) (stated_if station) = rw live (inl refl) in
-    rw (one.so, same) (In-front (stated_line station.system) (stated_if station) rest first)
+    rw (one.so, same) (In-left (stated_line station.system) (stated_if station) rest first)
 of_stated (name ∷ names) w lines station own (rest, one, are) there (inr k) live =
-    rw one.so (In-back (stated_line station.system) (stated_if one.station) rest
+    rw one.so (In-right (stated_line station.system) (stated_if one.station) rest
     (of_stated names w rest station own are there k live))
 
 -- one more line rises below those of later clocks

@@ -1,5 +1,5 @@
--- Members of lists: images, places, removal, and the pigeonhole principle.
-use Rattle.std.proofs.Common.{◌≡◌, ◌≤◌, ℕ, zero, suc, List, [], ◌∷◌, length, map, refl, sym, ap, subst, ◌∙◌, inl, inr, arith, Some, slice_get}
+-- Members of lists: images, parts, places, removal, and the pigeonhole principle.
+use Rattle.std.proofs.Common.{◌≡◌, ◌≤◌, ◌⊎◌, ℕ, zero, suc, List, [], ◌∷◌, ◌++◌, length, map, take, refl, sym, ap, subst, ◌∙◌, inl, inr, arith, Some, slice_get}
 use Rattle.gptp_graph.specs.Members.{In, Different}
 
 -- a member's image is a member of the image
@@ -14,6 +14,30 @@ pub from_map : {X Y : Type 0} (f : X → Y) (y : Y) (xs : List X) → In y (map 
 from_map f y [] h = absurd h
 from_map f y (x ∷ xs) (inl e) = (x, inl refl, sym e)
 from_map f y (x ∷ xs) (inr h) = let r = from_map f y xs h in (r.0, inr r.1, r.2)
+
+-- a member of the first part
+pub In-left : {X : Type 0} (x : X) (xs ys : List X) → In x xs → In x (xs ++ ys)
+In-left x [] ys h = absurd h
+In-left x (y ∷ xs) ys (inl e) = inl e
+In-left x (y ∷ xs) ys (inr h) = inr (In-left x xs ys h)
+
+-- a member of the second part
+pub In-right : {X : Type 0} (x : X) (xs ys : List X) → In x ys → In x (xs ++ ys)
+In-right x [] ys h = h
+In-right x (y ∷ xs) ys h = inr (In-right x xs ys h)
+
+-- a member of one part or the other
+pub In-parts : {X : Type 0} (x : X) (xs ys : List X) → In x (xs ++ ys) → In x xs ⊎ In x ys
+In-parts x [] ys h = inr h
+In-parts x (y ∷ xs) ys (inl e) = inl (inl e)
+In-parts x (y ∷ xs) ys (inr h) = elim (In-parts x xs ys h) [ inl k ↦ inl (inr k) | inr k ↦ inr k ]
+
+-- a member of the front of a list
+pub In-take : {X : Type 0} (x : X) (n : ℕ) (xs : List X) → In x (take n xs) → In x xs
+In-take x zero xs h = absurd h
+In-take x (suc n) [] h = absurd h
+In-take x (suc n) (y ∷ ys) (inl e) = inl e
+In-take x (suc n) (y ∷ ys) (inr h) = inr (In-take x n ys h)
 
 -- two members with one image are one, where images differ
 pub same_image : {X Y : Type 0} (f : X → Y) (x y : X) (xs : List X) → Different (map f xs) → In x xs → In y xs

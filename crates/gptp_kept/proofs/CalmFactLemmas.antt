@@ -3,6 +3,7 @@ use Rattle.std.proofs.Common.{◌≡◌, ◌⊎◌, ◌≤◌, ◌+◌, ◌*◌,
 use Rattle.std.proofs.lemmas.Bool.{and_from}
 use Rattle.gptp_graph.specs.Members.{In}
 use Rattle.gptp_graph.specs.Snapshot.{Joins, System, clocks}
+use Rattle.gptp_graph.proofs.MemberLemmas.{from_map}
 use Rattle.gptp_links.specs.declared.link.Direction.{Direction}
 use Rattle.gptp_links.specs.declared.link.Direction.TheVariants.{FromA, FromB}
 use Rattle.gptp_links.specs.Queue.{Frame}
@@ -24,7 +25,7 @@ use Rattle.gptp_kept.proofs.DueLemmas.{frames_on_links, ports_known}
 use Rattle.gptp_kept.specs.View.{frame_view, lane_view, lanes_view, reception_view, station_view, view}
 use Rattle.gptp_kept.proofs.SeenLaneLemmas.{lane_from}
 use Rattle.gptp_kept.proofs.OrderLemmas.{in_contains}
-use Rattle.gptp_kept.proofs.PlaceLemmas.{In-mapped, station_from}
+use Rattle.gptp_kept.proofs.PlaceLemmas.{station_from}
 use Rattle.gptp_kept.specs.Calm.{network_of}
 use Rattle.gptp_kept.specs.Standing.{has_clock, is_used, live_systems, snapshot_of}
 use Rattle.gptp_kept.proofs.PortLemmas.{held_from, holds_there, same_standing, span_is}
@@ -48,7 +49,7 @@ pub frame_from : (w : WorldState) (j : ℕ) (lane : Lane) (seen : SeenFrame)
     → slice_get (lanes_view w.net.channels) j ≡ Some lane → In seen lane.frames → IsFrameAt w lane seen
 frame_from w j lane seen there member =
     let at = lane_from w.net.channels j lane there in
-    let (frame, among, is) = In-mapped frame_view seen (queue at.direction at.channel)
+    let (frame, among, is) = from_map frame_view seen (queue at.direction at.channel)
     (subst (λ (l : Lane). In seen l.frames) at.is member) in
     record {
       link = at.link;
@@ -58,7 +59,7 @@ frame_from w j lane seen there member =
       lane_is = at.is;
       frame = frame;
       among = among;
-      is = is;
+      is = sym is;
     }
 
 -- a link that is up between two of the systems is used

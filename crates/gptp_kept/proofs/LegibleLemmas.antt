@@ -1,6 +1,7 @@
 -- Every call leaves a world legible, and so do deliveries and expiries.
 use Rattle.std.proofs.Common.{◌≡◌, ◌⊎◌, ℕ, List, [], ◌∷◌, ◌++◌, Option, Some, None, slice_get, slice_set, refl, sym, subst, inl, inr}
 use Rattle.gptp_graph.specs.Members.{In}
+use Rattle.gptp_graph.proofs.MemberLemmas.{In-parts}
 use Rattle.gptp_links.specs.declared.link.Direction.{Direction}
 use Rattle.gptp_links.specs.declared.link.Direction.TheVariants.{FromA, FromB}
 use Rattle.gptp_links.specs.Fate.{Draw}
@@ -18,7 +19,6 @@ use Rattle.gptp_acts.specs.Sends.{SendsAll, entered, written}
 use Rattle.gptp_acts.specs.Sound.{IsItsSetup, IsSound}
 use Rattle.gptp_acts.specs.World.{Channel, Net, WorldState, queue, receiver, with_queue}
 use Rattle.gptp_acts.proofs.PlaceLemmas.{get-set_all}
-use Rattle.gptp_settling.proofs.ListLemmas.{In-parts}
 use Rattle.gptp_kept.specs.Legible.{ChannelFits, IsLegible, SayWhatFits, StationFits}
 use Rattle.gptp_kept.proofs.SeenDeliveryLemmas.{receiver_up}
 use Rattle.gptp_kept.proofs.SeenExpiryLemmas.{expiry_timely}

@@ -1,6 +1,7 @@
 -- Links on which each frame is due by a limit, which follows from their bounds; what is sent and delivered keeps it.
 use Rattle.std.proofs.Common.{◌≡◌, ◌⊎◌, ℕ, ◌+◌, ◌≤◌, true, List, [], ◌∷◌, ◌++◌, Option, Some, None, slice_get, slice_set, refl, sym, subst, inl, inr, arith}
 use Rattle.gptp_graph.specs.Members.{In}
+use Rattle.gptp_graph.proofs.MemberLemmas.{In-parts}
 use Rattle.gptp_vector.specs.declared.port.PortId.{PortId}
 use Rattle.gptp_links.specs.declared.bounds.Bounds.{Bounds}
 use Rattle.gptp_links.specs.declared.link.Direction.{Direction}
@@ -10,7 +11,6 @@ use Rattle.gptp_links.specs.Fate.{Draw}
 use Rattle.gptp_links.specs.Queue.{Frame, due_after, frame, newest_due}
 use Rattle.gptp_system.specs.declared.sending.Sending.{Sending}
 use Rattle.gptp_system.specs.State.{SystemState, own}
-use Rattle.gptp_system.proofs.SendLemmas.{In-either}
 use Rattle.gptp_acts.specs.Act.{Takes}
 use Rattle.gptp_acts.specs.Changing.{lost}
 use Rattle.gptp_acts.specs.Sends.{SendsAll, SendsOne, entered, written}
@@ -31,7 +31,7 @@ newest_by time (f ∷ (g ∷ frames)) due = newest_by time (g ∷ frames) (λ x 
 -- one more goes behind them
 pushed_by : (time : ℕ) (frames : List Frame) (g : Frame) → AreDueBy time frames → g.due ≤ time
     → AreDueBy time (frames ++ g ∷ [])
-pushed_by time frames g due last f among = by (In-either f frames (g ∷ []) among)
+pushed_by time frames g due last f among = by (In-parts f frames (g ∷ []) among)
   where
     by : In f frames ⊎ In f (g ∷ []) → f.due ≤ time
     by (inl before) = due f before

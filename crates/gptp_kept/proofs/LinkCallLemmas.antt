@@ -3,7 +3,7 @@ use Rattle.std.proofs.Common.{◌≡◌, ◌≢◌, ◌⊎◌, ◌+◌, ◌≤�
 use Rattle.std.specs.Prelude.{if◌then◌else◌, ◌==◌}
 use Rattle.std.proofs.lemmas.List.{append-nil, map-append}
 use Rattle.gptp_graph.specs.Members.{In}
-use Rattle.gptp_graph.proofs.MemberLemmas.{In-map}
+use Rattle.gptp_graph.proofs.MemberLemmas.{In-map, In-parts}
 use Rattle.gptp_vector.specs.declared.port.PortId.{PortId}
 use Rattle.gptp_links.specs.declared.link.Direction.{Direction}
 use Rattle.gptp_links.specs.Queue.{Frame}
@@ -16,7 +16,6 @@ use Rattle.gptp_system.specs.Input.{Input, Expires, PortUp}
 use Rattle.gptp_system.specs.Intervals.{interval_of}
 use Rattle.gptp_system.specs.Measures.{IsPartAfter, Part, only_at, part_answered, part_asked, part_of}
 use Rattle.gptp_system.specs.State.{SystemState}
-use Rattle.gptp_system.proofs.SendLemmas.{In-either}
 use Rattle.gptp_acts.specs.World.{WorldState, queue, receiver, sender}
 use Rattle.gptp_acts.proofs.PlaceLemmas.{same_place}
 use Rattle.gptp_measuring.specs.Acts.{OthersSend}
@@ -99,7 +98,7 @@ pub sent_in_time : (k : Setting) (time : ℕ) (old news : List Frame) (was now :
     → ((f : Frame) → In f news → IsDueSoon time k.most old f)
     → IsSentInTime k time was now
 sent_in_time k time old news was now is kept dues g member =
-    elim (In-either g (map frame_view old) (map frame_view news) (subst (In g) is member)) [
+    elim (In-parts g (map frame_view old) (map frame_view news) (subst (In g) is member)) [
       | inl stays ↦ inl (kept g stays)
       | inr added ↦ inr (new (seen_from news g added))
     ]

@@ -6,6 +6,7 @@ use Rattle.std.proofs.lemmas.Bool.{cases_lt}
 use Rattle.std.proofs.lemmas.Bool.Decides.{nat_tests}
 use Rattle.std.proofs.lemmas.List.{append-nil, map-append}
 use Rattle.gptp_graph.specs.Members.{In}
+use Rattle.gptp_graph.proofs.MemberLemmas.{In-parts}
 use Rattle.gptp_vector.specs.declared.port.PortId.{PortId}
 use Rattle.gptp_links.specs.declared.bounds.Bounds.{Bounds}
 use Rattle.gptp_links.specs.declared.link.Direction.{Direction}
@@ -16,7 +17,6 @@ use Rattle.gptp_links.specs.Queue.{Frame, due_after, frame, newest_due}
 use Rattle.gptp_pdelay.specs.Progress.{same_port}
 use Rattle.gptp_system.specs.declared.sending.Sending.{Sending}
 use Rattle.gptp_system.specs.State.{SystemState, own}
-use Rattle.gptp_system.proofs.SendLemmas.{In-either}
 use Rattle.gptp_acts.specs.Sends.{entered, written, SendsAll, SendsOne}
 use Rattle.gptp_acts.specs.World.{Channel, Net, queue, sender, with_queue}
 use Rattle.gptp_acts.proofs.ListLemmas.{same_there}
@@ -116,7 +116,7 @@ grows_on now first second third one two both g h is = record {
       ∙ ap (λ os. os ++ map (λ (f : Frame). f.octets) (h.news direction)) (g.said direction)
       ∙ ap (λ os. one direction ++ os) (h.said direction) ∙ sym (is direction);
   dues = λ direction f member.
-      elim (In-either f (g.news direction) (h.news direction) member) [
+      elim (In-parts f (g.news direction) (h.news direction) member) [
         | inl early ↦ g.dues direction f early
         | inr late ↦ due_on direction f (h.dues direction f late)
       ];
@@ -130,7 +130,7 @@ grows_on now first second third one two both g h is = record {
     due_on direction f (later, inr (with_one, among, before)) = (
       later,
       go with_one before
-          (In-either with_one (queue direction first) (g.news direction)
+          (In-parts with_one (queue direction first) (g.news direction)
           (subst (In with_one) (g.queues direction) among)),
     )
       where

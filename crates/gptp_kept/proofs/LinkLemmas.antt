@@ -4,6 +4,7 @@ use Rattle.std.specs.Option.{option_map_or}
 use Rattle.std.proofs.lemmas.Nat.{mod_below}
 use Rattle.std.proofs.lemmas.Option.{none-some, slice_get_within}
 use Rattle.gptp_graph.specs.Members.{In}
+use Rattle.gptp_graph.proofs.MemberLemmas.{In-parts}
 use Rattle.gptp_vector.specs.declared.port.PortId.{PortId}
 use Rattle.gptp_messages.specs.Frame.{PortFits}
 use Rattle.gptp_links.specs.declared.bounds.Bounds.{Bounds}
@@ -21,7 +22,6 @@ use Rattle.gptp_system.specs.Intervals.{AreParams, interval_of}
 use Rattle.gptp_system.specs.Measures.{part_of}
 use Rattle.gptp_system.specs.Messages.{AreSent}
 use Rattle.gptp_system.specs.State.{SystemState, clock, number, own}
-use Rattle.gptp_system.proofs.SendLemmas.{In-either}
 use Rattle.gptp_system.proofs.SentLemmas.{steps_send}
 use Rattle.gptp_acts.specs.declared.station.Station.{Station}
 use Rattle.gptp_acts.specs.Act.{Calls, all_timers, in_state}
@@ -224,7 +224,7 @@ module _ (at : LinkPlace) (place : ℕ) (input : Input) (w : WorldState) (draws 
 
   fit : (direction : Direction) (f : Frame) → In f (queue direction grown.new) → SaysWhatFits f.octets
   fit direction f member =
-      by (In-either f (queue direction l.channel) (grown.grows.news direction)
+      by (In-parts f (queue direction l.channel) (grown.grows.news direction)
       (subst (In f) (grown.grows.queues direction) member))
     where
       among : (fs : List Frame) → In f fs → In f.octets (octets_of fs)

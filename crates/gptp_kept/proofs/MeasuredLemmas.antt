@@ -1,9 +1,10 @@
 -- Calls leave every port measuring and what is in flight fitting, and so does what happens between them.
 use Rattle.std.proofs.Common.{◌≡◌, ◌⊎◌, ◌^◌, ◌<◌, ℕ, zero, suc, List, [], ◌∷◌, length, Option, Some, None, slice_get, slice_set, refl, sym, ap, subst, ◌∙◌, inl, inr, arith}
-use Rattle.std.specs.Option.{option_and_then, option_map_or}
+use Rattle.std.specs.Option.{option_map_or}
 use Rattle.std.proofs.lemmas.Nat.{mod_below}
 use Rattle.std.proofs.lemmas.Option.{none-some}
 use Rattle.gptp_graph.specs.Members.{In}
+use Rattle.gptp_graph.proofs.MemberLemmas.{In-parts}
 use Rattle.gptp_links.specs.declared.link.Direction.{Direction}
 use Rattle.gptp_links.specs.declared.link.Direction.TheVariants.{FromA, FromB}
 use Rattle.gptp_links.specs.Fate.{Draw}
@@ -18,8 +19,7 @@ use Rattle.gptp_system.specs.Messages.{AreSent}
 use Rattle.gptp_system.specs.State.{SystemState, due, number, own}
 use Rattle.gptp_system.proofs.InTimeLemmas.{stays_in_time}
 use Rattle.gptp_system.proofs.MeasureLemmas.{steps_measure}
-use Rattle.gptp_system.proofs.SendLemmas.{In-either}
-use Rattle.gptp_system.proofs.SentLemmas.{steps_send}
+use Rattle.gptp_system.proofs.SentLemmas.{port_there, steps_send}
 use Rattle.gptp_system.proofs.StepLemmas.{steps_sound}
 use Rattle.gptp_system.proofs.TimelyLemmas.{moment_of, port_stands}
 use Rattle.gptp_acts.specs.declared.station.Station.{Station}
@@ -78,15 +78,6 @@ step_measured input now station s' sends answer timely steady k given is =
     }
 
 -- ---- what it sends
-
--- a port whose timer is due is there
-port_there : (p t : ℕ) (s : SystemState) → due (timers.Pdelay p) s ≡ Some t → (q : Port) × (number s.ports p ≡ Some q)
-port_there p t s is = go (number s.ports p) refl is
-  where
-    go : (o : Option Port) → number s.ports p ≡ o → option_and_then (λ (q : Port). q.pdelay) o ≡ Some t
-        → (q : Port) × (number s.ports p ≡ Some q)
-    go None there e = absurd (none-some t e)
-    go (Some q) there e = (q, there)
 
 -- the request of a port fits
 request_fits : (now : ℕ) (station : Station) → IsItsSetup station → IsStationMeasured now station → (p : ℕ) (q : Port)
@@ -149,7 +140,7 @@ entered_fits : (place : ℕ) (direction : Direction) (channel : Channel) (now : 
 entered_fits place direction channel now octets None net here fits all = all
 entered_fits place direction channel now octets (Some delay) net here fits all =
     queue_fits net.channels place direction channel _ here
-    (λ f member. by f (In-either f (queue direction channel) _ member)) all
+    (λ f member. by f (In-parts f (queue direction channel) _ member)) all
   where
     by : (f : Frame) → In f (queue direction channel)
         ⊎ In f (frame (due_after (queue direction channel) now delay) octets ∷ []) → SaysWhatFits f.octets

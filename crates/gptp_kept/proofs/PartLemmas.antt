@@ -14,11 +14,12 @@ use Rattle.gptp_pdelay.specs.declared.progress.Request.{Request}
 use Rattle.gptp_pdelay.specs.declared.progress.Response.{Response}
 use Rattle.gptp_pdelay.specs.Progress.{is_response_to}
 use Rattle.gptp_pdelay.specs.declared.progress.Progress.TheVariants as progresses
-use Rattle.gptp_pdelay.specs.Peer.{PeerState, after_interval, given_up, is_open, loses_too_many, requested, reset_peer}
+use Rattle.gptp_pdelay.specs.Peer.{PeerState, after_interval, given_up, is_open, requested, reset_peer}
 use Rattle.gptp_system.specs.Intervals.{interval_of}
 use Rattle.gptp_system.specs.Measures.{Part, part_asked, part_answered, part_heard}
 use Rattle.gptp_system.specs.State.{SystemState, local_time}
 use Rattle.gptp_system.proofs.MeasuringLemmas.{follow_up_keeps, interval_keeps, response_keeps}
+use Rattle.gptp_system.proofs.SentLemmas.{interval_next}
 use Rattle.gptp_measuring.specs.Asker.{Closed, Asked, Answered, asks_now, after_interval as gives_up, given_up as lost_one}
 use Rattle.gptp_kept.proofs.LinkLaneLemmas.{same_true}
 use Rattle.gptp_kept.specs.LinkView.{asked_at, asker_view, identity_of, progress_view, waits_by, waits_view}
@@ -62,18 +63,6 @@ given_up_seen period x = go (nat_lt x.peer.allowed (x.peer.lost + 1))
         else record (asker_view period x) { progress = Closed; lost = x.peer.lost + 1 })
     go true = refl
     go false = refl
-
--- the sequence number of the next request stays
-interval_next : (peer : PeerState) → (after_interval peer).next ≡ peer.next
-interval_next peer = go (is_open peer.progress) (loses_too_many peer)
-  where
-    go : (open_one too_many : Bool)
-        → (if open_one
-        then (if too_many then reset_peer peer else record peer { progress = progresses.Closed; lost = peer.lost + 1 })
-        else peer).next ≡ peer.next
-    go true true = refl
-    go true false = refl
-    go false too_many = refl
 
 -- what an interval that ends leaves
 gives_up_seen : (period : ℕ) (x : Part)

@@ -1,7 +1,6 @@
 -- Where the systems of a world and their ports stand in its view, and members of mapped lists.
-use Rattle.std.proofs.Common.{◌≡◌, ℕ, zero, suc, List, [], ◌∷◌, map, Some, slice_get, refl, sym, ap, ◌∙◌, inl, inr}
+use Rattle.std.proofs.Common.{◌≡◌, ℕ, zero, suc, List, [], ◌∷◌, map, Some, slice_get, refl, sym, ap, ◌∙◌}
 use Rattle.std.proofs.lemmas.Option.{none-some, same_Some}
-use Rattle.gptp_graph.specs.Members.{In}
 use Rattle.gptp_receipt.specs.declared.held.Held.{Held}
 use Rattle.gptp_system.specs.declared.port.Port.{Port}
 use Rattle.gptp_system.specs.declared.setup.Params.{Params}
@@ -68,15 +67,3 @@ port_from params (h ∷ hs) (q ∷ qs) (suc i) seen there =
       port_there = later.port_there;
       is = later.is;
     }
-
--- ---- members of mapped lists
-
-pub In-map : {X Y : Type 0} (f : X → Y) (x : X) (xs : List X) → In x xs → In (f x) (map f xs)
-In-map f x [] h = absurd h
-In-map f x (y ∷ ys) (inl same) = inl (ap f same)
-In-map f x (y ∷ ys) (inr h) = inr (In-map f x ys h)
-
-pub In-mapped : {X Y : Type 0} (f : X → Y) (y : Y) (xs : List X) → In y (map f xs) → (x : X) × In x xs × (y ≡ f x)
-In-mapped f y [] h = absurd h
-In-mapped f y (x ∷ xs) (inl same) = (x, inl refl, same)
-In-mapped f y (x ∷ xs) (inr h) = let (z, among, same) = In-mapped f y xs h in (z, inr among, same)

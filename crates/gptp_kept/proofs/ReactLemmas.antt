@@ -3,6 +3,7 @@ use Rattle.std.proofs.Common.{◌≡◌, ◌⊎◌, ℕ, suc, ◌*◌, Bool, Lis
 use Rattle.std.proofs.lemmas.Option.{none-some, same_Some}
 use Rattle.gptp_graph.specs.Members.{In}
 use Rattle.gptp_graph.specs.Order.{IsLower}
+use Rattle.gptp_graph.proofs.MemberLemmas.{In-map, from_map}
 use Rattle.gptp_vector.specs.declared.port.PortId.{PortId}
 use Rattle.gptp_vector.specs.Vector.{master_of}
 use Rattle.gptp_messages.specs.declared.announce.AnnounceView.{AnnounceView}
@@ -27,7 +28,7 @@ use Rattle.gptp_settling.proofs.PlaceLemmas.{received_injective}
 use Rattle.gptp_kept.specs.View.{held_view, port_view, ports_view, reception_view, says, send_view, span_at, system_view, touch_view}
 use Rattle.gptp_kept.proofs.MidLemmas.{ReceivedAt, mid_seen, parts_of, seen_on}
 use Rattle.gptp_kept.proofs.OrderLemmas.{lower_parts}
-use Rattle.gptp_kept.proofs.PlaceLemmas.{IsPortAt, In-map, In-mapped, port_from, port_there}
+use Rattle.gptp_kept.proofs.PlaceLemmas.{IsPortAt, port_from, port_there}
 
 -- ---- what is received after a touch
 
@@ -185,14 +186,14 @@ module _ (live : Bool) (s s' : SystemState) (touch : Touch) (now : ℕ) (sends :
 
   tells_own : (x : Send) (a : Announce) → In x (map (send_view s') sends) → says x.octets a
       → IsOwn (system_view live s') x.port a × IsMasterAt (system_view live s') x.port
-  tells_own x a member says_it = go (In-mapped (send_view s') x sends member)
+  tells_own x a member says_it = go (from_map (send_view s') x sends member)
     where
-      go : (y : Sending) × In y sends × (x ≡ send_view s' y)
+      go : (y : Sending) × In y sends × (send_view s' y ≡ x)
           → IsOwn (system_view live s') x.port a × IsMasterAt (system_view live s') x.port
       go (y, among, is) =
           subst
-          (λ (z : Send). IsOwn (system_view live s') z.port a × IsMasterAt (system_view live s') z.port) (sym is)
-          (are_own y a among (subst (λ (z : Send). says z.octets a) is says_it))
+          (λ (z : Send). IsOwn (system_view live s') z.port a × IsMasterAt (system_view live s') z.port) is
+          (are_own y a among (subst (λ (z : Send). says z.octets a) (sym is) says_it))
 
   pub reacts_seen : SeenReacts says (system_view live s) (touch_view touch) now (system_view live s')
       (map (send_view s') sends)

@@ -1,8 +1,9 @@
 -- What octets are read as: numbers that fit their octets.
-use Rattle.std.proofs.Common.{◌≡◌, ◌<◌, ℕ, zero, suc, ◌*◌, ◌/◌, ◌^◌, Bool, true, false, List, [], ◌∷◌, ◌++◌, length, take, drop, Option, Some, None, refl, sym, ap, subst, ◌∙◌, inl, inr, arith}
+use Rattle.std.proofs.Common.{◌≡◌, ◌<◌, ℕ, zero, suc, ◌*◌, ◌/◌, ◌^◌, Bool, true, false, List, [], ◌∷◌, ◌++◌, length, drop, Option, Some, None, refl, sym, ap, subst, ◌∙◌, inl, inr, arith}
 use Rattle.std.specs.Prelude.{if◌then◌else◌, slice_index}
 use Rattle.std.specs.List.{flat_map, range_with_len}
 use Rattle.std.proofs.lemmas.Option.{none-some, same_Some}
+use Rattle.gptp_graph.proofs.MemberLemmas.{In-left, In-right, In-take, from_map}
 use Rattle.byteorder.specs.Endian.{big_bytes}
 use Rattle.byteorder.specs.Numbers.{big_from-lt}
 use Rattle.gptp_graph.specs.Members.{In}
@@ -16,17 +17,9 @@ use Rattle.gptp_messages.specs.MessageType.{type_of}
 use Rattle.gptp_messages.specs.Path.{clocks}
 use Rattle.gptp_messages.specs.Tlv.{FirstTlv, Tlv, first_value, is_of_kind, spelled}
 use Rattle.gptp_system.proofs.TypeLemmas.{type_is}
-use Rattle.gptp_settling.proofs.ListLemmas.{In-left, In-right}
 use Rattle.gptp_kept.specs.Legible.{AreClocks, AreOctets, SayWhatFits}
-use Rattle.gptp_kept.proofs.PlaceLemmas.{In-mapped}
 
 -- ---- octets
-
-In-take : {X : Type 0} (x : X) (n : ℕ) (xs : List X) → In x (take n xs) → In x xs
-In-take x zero xs h = absurd h
-In-take x (suc n) [] h = absurd h
-In-take x (suc n) (y ∷ ys) (inl same) = inl same
-In-take x (suc n) (y ∷ ys) (inr h) = inr (In-take x n ys h)
 
 In-drop : {X : Type 0} (x : X) (n : ℕ) (xs : List X) → In x (drop n xs) → In x xs
 In-drop x zero xs h = h
@@ -47,9 +40,8 @@ field_fits n i octets all =
 clocks_fit : (octets : List ℕ) → AreOctets octets → AreClocks (clocks octets)
 unfolding clocks
 clocks_fit octets all c member =
-    let (k, among, is) =
-    In-mapped (λ j. field 8 (8 * j) octets) c (range_with_len 0 (length octets / 8)) member in
-    subst (λ x. x < 2 ^ 64) (sym is) (field_fits 8 (8 * k) octets all)
+    let (k, among, is) = from_map (λ j. field 8 (8 * j) octets) c (range_with_len 0 (length octets / 8)) member in
+    subst (λ x. x < 2 ^ 64) is (field_fits 8 (8 * k) octets all)
 
 -- the value of the first TLV that passes a test stands among the octets
 first_among : (test : Tlv → Bool) (first : List Tlv → Option (List ℕ)) → first [] ≡ None

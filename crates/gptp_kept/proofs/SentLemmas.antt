@@ -4,6 +4,7 @@ use Rattle.std.specs.Prelude.{if◌then◌else◌}
 use Rattle.std.specs.Int.{w64}
 use Rattle.std.proofs.lemmas.Int.{ints}
 use Rattle.gptp_graph.specs.Members.{In}
+use Rattle.gptp_graph.proofs.MemberLemmas.{In-left, In-right}
 use Rattle.gptp_vector.specs.declared.port.PortId.{PortId}
 use Rattle.gptp_messages.specs.declared.head.Head.{Head}
 use Rattle.gptp_messages.specs.declared.message.Message.TheVariants as messages
@@ -23,7 +24,7 @@ use Rattle.gptp_system.specs.Measuring.{Responds, RespondsIf, owed_at, request_o
 use Rattle.gptp_system.specs.Messages.{Announcing, Answering, AreSent, Asking, AsksOnce, Kind, Telling, kind_of}
 use Rattle.gptp_system.specs.Sends.{head_from, response, response_follow_up, sends_up_to}
 use Rattle.gptp_system.specs.State.{SystemState, local_time, own, trace}
-use Rattle.gptp_system.proofs.SendLemmas.{In-left, In-right, responds_answer, with_send-from}
+use Rattle.gptp_system.proofs.SendLemmas.{responds_answer, with_send-from}
 use Rattle.gptp_acts.specs.Sends.{written}
 use Rattle.gptp_measuring.specs.Lanes.{Frame as SeenFrame, AreMute, FirstIs}
 use Rattle.gptp_measuring.specs.Messages.{Request, Reply, Response, FollowUp}

@@ -1,6 +1,7 @@
 -- Every act leaves what is in flight due within the longest delay from now.
 use Rattle.std.proofs.Common.{◌≡◌, ◌⊎◌, ◌+◌, ◌≤◌, ℕ, Bool, true, false, List, [], ◌∷◌, ◌++◌, map, Option, Some, None, slice_get, slice_set, refl, sym, subst, inl, inr, arith}
 use Rattle.gptp_graph.specs.Members.{In}
+use Rattle.gptp_graph.proofs.MemberLemmas.{In-parts}
 use Rattle.gptp_links.specs.declared.bounds.Bounds.{Bounds}
 use Rattle.gptp_links.specs.declared.link.Direction.{Direction}
 use Rattle.gptp_links.specs.declared.link.Direction.TheVariants.{FromA, FromB}
@@ -11,7 +12,6 @@ use Rattle.gptp_system.specs.declared.answer.Answer.{Answer}
 use Rattle.gptp_system.specs.declared.sending.Sending.{Sending}
 use Rattle.gptp_system.specs.Input.{Input, PortUp, PortDown, Priority, Frame as FrameHeard, Expires as TimerExpires}
 use Rattle.gptp_system.specs.State.{SystemState, own}
-use Rattle.gptp_system.proofs.SendLemmas.{In-either}
 use Rattle.gptp_acts.specs.declared.change.Act.{Act}
 use Rattle.gptp_acts.specs.declared.change.Act.TheVariants.{Deliver, Expire, Change as Changing}
 use Rattle.gptp_acts.specs.declared.change.Change.{Change}
@@ -92,7 +92,7 @@ module _ (span : ℕ) where
           channel_short now net.channels one.place one.channel (with_queue one.direction (fs ++ new ∷ []) one.channel)
           one.here
           (queue_short now one.direction one.channel (fs ++ new ∷ [])
-          (λ f member. behind now f new fs (old.dues one.direction) due (In-either f fs (new ∷ []) member)) old)
+          (λ f member. behind now f new fs (old.dues one.direction) due (In-parts f fs (new ∷ []) member)) old)
           all
 
   sends_short : (now : ℕ) (s : SystemState) (xs : List Sending) (draws : List Draw) (net net' : Net)

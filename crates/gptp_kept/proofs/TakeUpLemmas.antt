@@ -3,15 +3,16 @@ use Rattle.std.proofs.Common.{◌≡◌, ◌≢◌, ◌⊎◌, ℕ, true, false,
 use Rattle.std.proofs.lemmas.List.{append-nil}
 use Rattle.gptp_graph.specs.Members.{In}
 use Rattle.gptp_graph.specs.Snapshot.{port_of}
+use Rattle.gptp_graph.proofs.MemberLemmas.{In-left, In-parts, In-right}
 use Rattle.gptp_settling.specs.Frame.{Frame, Lane, Send}
 use Rattle.gptp_settling.specs.Acts.{LaneStep}
-use Rattle.gptp_settling.proofs.ListLemmas.{In-left, In-parts, In-right}
 use Rattle.gptp_acts.proofs.ListLemmas.{same_there}
 use Rattle.gptp_kept.proofs.SeenLaneLemmas.{IsSetAt}
 
--- a lane takes up nothing
-pub lane_stays : (c : ℕ) (l : Lane) → LaneStep c [] l l
-lane_stays c l = record {
+-- a lane takes up nothing of sends that can't arrive on it
+stays : (c : ℕ) (xs : List Send) (l : Lane)
+    → (l.loss ≡ 0 → l.is_up ≡ true → (x : Send) → In x xs → l.from ≡ port_of c x.port → ⊥) → LaneStep c xs l l
+stays c xs l never = record {
   from = refl;
   to = refl;
   loss = refl;
@@ -19,8 +20,12 @@ lane_stays c l = record {
   news = [];
   behind = sym (append-nil l.frames);
   sent = λ f member. absurd member;
-  arrives = λ none up x member begins. absurd member;
+  arrives = λ none up x member begins. absurd (never none up x member begins);
 }
+
+-- nor where nothing is sent
+pub lane_stays : (c : ℕ) (l : Lane) → LaneStep c [] l l
+lane_stays c l = stays c [] l (λ none up x member begins. member)
 
 -- it takes up what comes first, and then what comes behind
 pub lane_goes_on : (c : ℕ) (xs ys : List Send) (l m n : Lane) → LaneStep c xs l m → LaneStep c ys m n
@@ -103,16 +108,7 @@ pub record Enters (c : ℕ) (x : Send) (lanes lanes' : List Lane) : Type 0 where
 -- a lane that the send can't arrive on stays
 passes_by : (c : ℕ) (x : Send) (l : Lane) → (l.loss ≡ 0 → l.is_up ≡ true → l.from ≡ port_of c x.port → ⊥)
     → LaneStep c (x ∷ []) l l
-passes_by c x l never = record {
-  from = refl;
-  to = refl;
-  loss = refl;
-  is_up = refl;
-  news = [];
-  behind = sym (append-nil l.frames);
-  sent = λ f member. absurd member;
-  arrives = λ none up y member begins. absurd (go none up y member begins);
-}
+passes_by c x l never = stays c (x ∷ []) l go
   where
     go : l.loss ≡ 0 → l.is_up ≡ true → (y : Send) → In y (x ∷ []) → l.from ≡ port_of c y.port → ⊥
     go none up y (inl same) begins = never none up (begins ∙ ap (λ (z : Send). port_of c z.port) same)

@@ -1,18 +1,8 @@
 -- Lanes: frames that are added behind the others, and what is known of the first that isn't mute.
 use Rattle.std.proofs.Common.{◌≡◌, ◌++◌, ◌⊎◌, ℕ, List, [], ◌∷◌, refl, sym, subst, inl, inr}
 use Rattle.gptp_graph.specs.Members.{In}
+use Rattle.gptp_graph.proofs.MemberLemmas.{In-parts, In-right}
 use Rattle.gptp_measuring.specs.Lanes.{Frame, AreMute, FirstIs}
-
--- a member of two lists, one behind the other, is a member of the one or of the other
-pub from_append : {X : Type 0} (x : X) (xs ys : List X) → In x (xs ++ ys) → In x xs ⊎ In x ys
-from_append x [] ys h = inr h
-from_append x (z ∷ xs) ys (inl e) = inl (inl e)
-from_append x (z ∷ xs) ys (inr h) = elim (from_append x xs ys h) [ inl a ↦ inl (inr a) | inr b ↦ inr b ]
-
--- a member of the list behind is a member
-pub In-append_right : {X : Type 0} (x : X) (xs ys : List X) → In x ys → In x (xs ++ ys)
-In-append_right x [] ys h = h
-In-append_right x (z ∷ xs) ys h = inr (In-append_right x xs ys h)
 
 -- no frame is mute
 pub no_frames_mute : {X : Type 0} (says : List ℕ → X → Type 0) → AreMute says []
@@ -21,7 +11,7 @@ no_frames_mute says f h = absurd h
 -- mute frames behind mute frames
 pub mute_append : {X : Type 0} (says : List ℕ → X → Type 0) (fs news : List Frame) → AreMute says fs
     → AreMute says news → AreMute says (fs ++ news)
-mute_append says fs news old new f h = elim (from_append f fs news h) [ inl a ↦ old f a | inr b ↦ new f b ]
+mute_append says fs news old new f h = elim (In-parts f fs news h) [ inl a ↦ old f a | inr b ↦ new f b ]
 
 -- what is left of mute frames is mute
 pub mute_rest : {X : Type 0} (says : List ℕ → X → Type 0) (f : Frame) (fs : List Frame) → AreMute says (f ∷ fs)
@@ -72,11 +62,11 @@ first_is_there says P Q (f ∷ fs) (inr later) =
 
 -- a frame of the lane after frames were added was there or is new
 pub was_or_new : (f : Frame) (now was news : List Frame) → now ≡ was ++ news → In f now → In f was ⊎ In f news
-was_or_new f now was news e at = from_append f was news (subst (λ fs. In f fs) e at)
+was_or_new f now was news e at = In-parts f was news (subst (λ fs. In f fs) e at)
 
 -- a new frame is one of the lane
 pub new_is_there : (f : Frame) (now was news : List Frame) → now ≡ was ++ news → In f news → In f now
-new_is_there f now was news e at = subst (λ fs. In f fs) (sym e) (In-append_right f was news at)
+new_is_there f now was news e at = subst (λ fs. In f fs) (sym e) (In-right f was news at)
 
 -- a frame that is left was there
 pub left_was_there : (f front : Frame) (now was : List Frame) → was ≡ front ∷ now → In f now → In f was

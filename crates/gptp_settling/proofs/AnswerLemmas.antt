@@ -2,6 +2,7 @@
 use Rattle.std.proofs.Common.{◌≡◌, ◌≢◌, ◌⊎◌, ◌<◌, ◌≤◌, ◌+◌, ◌++◌, ℕ, suc, List, ◌∷◌, Some, length, slice_get, refl, sym, ap, subst, ◌∙◌, inl, inr, arith}
 use Rattle.gptp_graph.specs.Members.{In}
 use Rattle.gptp_graph.specs.Snapshot.{PortIdentity, port_of}
+use Rattle.gptp_graph.proofs.MemberLemmas.{In-right}
 use Rattle.gptp_settling.specs.Frame.{Announce, Says, Frame, Lane, Send}
 use Rattle.gptp_settling.specs.Station.{Reception, Held, Disabled, Aged, Mine, Received, Port, Station, State}
 use Rattle.gptp_settling.specs.Touch.{Touch, Hear, Grow, Mid}
@@ -9,7 +10,6 @@ use Rattle.gptp_settling.specs.Reacts.{IsKept, IsOwn, IsMasterAt, PortStep}
 use Rattle.gptp_settling.specs.Acts.{LaneStep, Calls}
 use Rattle.gptp_settling.specs.Stage.{Wiring, from_port, IsFinal, AllFinal, IsSaid, Stays, Stage}
 use Rattle.gptp_settling.specs.Link.{TellsSettled, HearsSettled, IsLaneOf, Ends, Stand, LinkSettles}
-use Rattle.gptp_settling.proofs.ListLemmas.{In-right}
 use Rattle.gptp_settling.proofs.PlaceLemmas.{same_mine}
 use Rattle.gptp_settling.proofs.StageLemmas.{enters, tells, keeps, hears, young}
 use Rattle.gptp_settling.proofs.HearingLemmas.{mid_stays, final_taken, mid_on, final_kept}

@@ -5,6 +5,7 @@ use Rattle.gptp_graph.specs.Members.{In}
 use Rattle.gptp_graph.specs.Snapshot.{System, PortIdentity, IsWellFormed, clocks, port_of, Joins, Adjacent}
 use Rattle.gptp_graph.proofs.LinkLemmas.{Joins-sym}
 use Rattle.gptp_graph.proofs.SystemLemmas.{In-clocks}
+use Rattle.gptp_graph.proofs.MemberLemmas.{In-parts}
 use Rattle.gptp_settling.specs.Frame.{Announce, Says, Frame, Lane, Send}
 use Rattle.gptp_settling.specs.Station.{Station, State}
 use Rattle.gptp_settling.specs.Touch.{Touch, Hear}
@@ -14,7 +15,7 @@ use Rattle.gptp_settling.specs.Clean.{Clean, Whole, Good, Came, CameWhole}
 use Rattle.gptp_settling.specs.Facts.{Setting, turn, Late, system_of, FollowsPort, IsInTime, IsStation, Facts}
 use Rattle.gptp_settling.specs.CleanInvariant.{LaneIsClean, StationIsClean, TracesAreClean}
 use Rattle.gptp_settling.specs.CleanLaws.{HeldIsWhole}
-use Rattle.gptp_settling.proofs.ListLemmas.{In-parts, reverse-end}
+use Rattle.gptp_settling.proofs.ListLemmas.{reverse-end}
 use Rattle.gptp_settling.proofs.TraceLemmas.{clean_first, clean_on, whole_own, whole_on, not_all_clean}
 use Rattle.gptp_settling.proofs.ReactsLemmas.{JustHeard, held_from}
 

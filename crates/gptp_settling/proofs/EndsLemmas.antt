@@ -1,6 +1,7 @@
 -- The links of a calm network: what is known of their ends, once the system that tells has settled.
 use Rattle.std.proofs.Common.{◌≡◌, ◌≢◌, ◌⊎◌, ◌≤◌, ◌<◌, ℕ, suc, true, List, [], ◌∷◌, Some, length, slice_get, sym, ap, subst, ◌∙◌, inl, inr, arith}
 use Rattle.std.proofs.lemmas.List.{length-append}
+use Rattle.gptp_graph.proofs.MemberLemmas.{In-parts}
 use native.Mathlib.Decide.{dec_le}
 use Rattle.gptp_graph.specs.Members.{In}
 use Rattle.gptp_graph.specs.Order.{IsLower}
@@ -21,7 +22,6 @@ use Rattle.gptp_settling.specs.Link.{final_vector, StandsAt, TellsSettled, Hears
 use Rattle.gptp_settling.specs.Network.{Network, IsNetwork, setting, clean_from, since, wiring}
 use Rattle.gptp_settling.specs.Calm.{IsCalmPort, HasLane, Calm}
 use Rattle.gptp_settling.specs.Levels.{LeadsFarther}
-use Rattle.gptp_settling.proofs.ListLemmas.{In-parts}
 use Rattle.gptp_settling.proofs.PlaceLemmas.{same_there}
 use Rattle.gptp_settling.proofs.NearestLemmas.{steps_not_fewer, on_way, path_length}
 use Rattle.gptp_settling.proofs.RestLemmas.{Chooses, IsClear, best_there, root_above, steps_above, is_master}

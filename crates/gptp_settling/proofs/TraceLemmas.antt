@@ -1,15 +1,16 @@
 -- Traces that are clean by some members or wholly: a system that follows one and adds itself makes it longer by one.
-use Rattle.std.proofs.Common.{◌≡◌, ◌≤◌, ◌<◌, ◌++◌, ℕ, zero, suc, take, drop, List, [], ◌∷◌, length, refl, inl, inr, reverse, sym, ap, subst, ◌∙◌, arith}
+use Rattle.std.proofs.Common.{◌≡◌, ◌≤◌, ◌<◌, ◌++◌, ℕ, zero, suc, take, drop, List, [], ◌∷◌, length, refl, reverse, sym, ap, subst, ◌∙◌, arith}
 use Rattle.std.proofs.lemmas.List.{reverse-reverse, take-append-le, length-take-le, take-append-drop}
 use Rattle.gptp_graph.specs.Members.{In, Different}
 use Rattle.gptp_graph.specs.Snapshot.{System, Snapshot, IsWellFormed, clocks, Adjacent}
 use Rattle.gptp_graph.specs.Path.{Route, IsPath}
 use Rattle.gptp_graph.proofs.SystemLemmas.{In-clocks}
 use Rattle.gptp_graph.proofs.PathLemmas.{IsPath-self, path_bounded}
+use Rattle.gptp_graph.proofs.MemberLemmas.{In-left, In-take}
 use Rattle.gptp_settling.specs.Frame.{Announce}
 use Rattle.gptp_settling.specs.Clean.{Clean, Whole}
 use Rattle.gptp_settling.specs.CleanLaws.{EndsInPath}
-use Rattle.gptp_settling.proofs.ListLemmas.{In-left, In-reverse, reverse-end}
+use Rattle.gptp_settling.proofs.ListLemmas.{In-reverse, reverse-end}
 
 -- what isn't in a trace isn't among its last members
 not_behind : (v : ℕ) (trace xs older : List ℕ) → reverse trace ≡ xs ++ older → (In v trace → ⊥) → In v xs → ⊥
@@ -99,18 +100,11 @@ route_front g v w (u ∷ us) (suc m) (first, rest) =
     let (end, on) = route_front g u w us m rest in
     (end, (first, on))
 
--- what is in the front of a list is in the list
-In-take : (x : ℕ) (xs : List ℕ) (m : ℕ) → In x (take m xs) → In x xs
-In-take x xs zero h = absurd h
-In-take x [] (suc m) h = h
-In-take x (y ∷ ys) (suc m) (inl e) = inl e
-In-take x (y ∷ ys) (suc m) (inr h) = inr (In-take x ys m h)
-
--- and differs as it does there
+-- what differs in a list differs in its front
 different_front : (xs : List ℕ) (m : ℕ) → Different xs → Different (take m xs)
 different_front xs zero d = tt
 different_front [] (suc m) d = d
-different_front (x ∷ xs) (suc m) (out, rest) = (λ h. out (In-take x xs m h), different_front xs m rest)
+different_front (x ∷ xs) (suc m) (out, rest) = (λ h. out (In-take x m xs h), different_front xs m rest)
 
 -- the last members of a trace that is clean by so many are a path, and what ends in such a path is clean by as many
 pub ends_in_path : (g : Snapshot) (m u : ℕ) (trace : List ℕ) → Clean g (suc m) u trace → EndsInPath g m u trace

@@ -2,6 +2,7 @@
 use Rattle.std.proofs.Common.{◌≡◌, ◌⊎◌, ℕ, ◌+◌, Bool, true, false, ℤ, List, [], ◌∷◌, ◌++◌, take, drop, Option, Some, None, refl, sym, subst, inl, inr, take-append-drop}
 use Rattle.std.specs.Prelude.{if◌then◌else◌}
 use Rattle.gptp_graph.specs.Members.{In}
+use Rattle.gptp_graph.proofs.MemberLemmas.{In-left, In-parts, In-right}
 use Rattle.gptp_correction.specs.declared.correction.Relayed.{Relayed}
 use Rattle.gptp_pdelay.specs.declared.answer.Answer.{Answer as Owed}
 use Rattle.gptp_receipt.specs.declared.held.Held.{Held}
@@ -15,28 +16,10 @@ use Rattle.gptp_system.specs.Messages.{AllAre, Answering, Telling, kind_of}
 
 -- ---- members
 
-pub In-left : {X : Type 0} (x : X) (xs ys : List X) → In x xs → In x (xs ++ ys)
-In-left x [] ys member = absurd member
-In-left x (y ∷ xs) ys (inl here) = inl here
-In-left x (y ∷ xs) ys (inr later) = inr (In-left x xs ys later)
-
-pub In-right : {X : Type 0} (x : X) (xs ys : List X) → In x ys → In x (xs ++ ys)
-In-right x [] ys member = member
-In-right x (y ∷ xs) ys member = inr (In-right x xs ys member)
-
-pub In-either : {X : Type 0} (x : X) (xs ys : List X) → In x (xs ++ ys) → In x xs ⊎ In x ys
-In-either x [] ys member = inr member
-In-either x (y ∷ xs) ys (inl here) = inl (inl here)
-In-either {X} x (y ∷ xs) ys (inr later) = go (In-either x xs ys later)
-  where
-    go : In x xs ⊎ In x ys → In x (y ∷ xs) ⊎ In x ys
-    go (inl first) = inl (inr first)
-    go (inr second) = inr second
-
 -- what is sent stays when one more is sent
 pub with_send-among : (x y : Sending) (ys : List Sending) → In y ys → In y (with_send x ys)
 with_send-among x y ys member =
-    go (In-either y front back (subst (In y) (sym (take-append-drop (sends_up_to x.port ys) ys)) member))
+    go (In-parts y front back (subst (In y) (sym (take-append-drop (sends_up_to x.port ys) ys)) member))
   where
     front : List Sending
     front = take (sends_up_to x.port ys) ys
@@ -54,7 +37,7 @@ with_send-itself x ys = In-right x (take (sends_up_to x.port ys) ys) (x ∷ drop
 
 -- and no other
 pub with_send-from : (x y : Sending) (ys : List Sending) → In y (with_send x ys) → (y ≡ x) ⊎ In y ys
-with_send-from x y ys member = go (In-either y front (x ∷ back) member)
+with_send-from x y ys member = go (In-parts y front (x ∷ back) member)
   where
     front : List Sending
     front = take (sends_up_to x.port ys) ys

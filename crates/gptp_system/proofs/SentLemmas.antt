@@ -126,7 +126,8 @@ asks_once p step now s s' sends q same there k = record {
   is = k.sends_are ∙ ap (λ x. with_send x k.first) (next_kept p step now s k.between k.first q same there k.turns);
 }
 
-interval_next : (x : PeerState) → (after_interval x).next ≡ x.next
+-- the sequence number of the next request stays
+pub interval_next : (x : PeerState) → (after_interval x).next ≡ x.next
 interval_next x = go (is_open x.progress) (loses_too_many x)
   where
     go : (open_one too_many : Bool)
@@ -212,7 +213,8 @@ announcement_announces p s = go (number s.ports p)
     go (Some q) x (inr later) = absurd later
 
 -- a port whose timer is due is there
-port_there : (p t : ℕ) (s : SystemState) → due (timers.Pdelay p) s ≡ Some t → (q : Port) × (number s.ports p ≡ Some q)
+pub port_there : (p t : ℕ) (s : SystemState) → due (timers.Pdelay p) s ≡ Some t
+    → (q : Port) × (number s.ports p ≡ Some q)
 port_there p t s is = go (number s.ports p) refl is
   where
     go : (o : Option Port) → number s.ports p ≡ o → option_and_then (λ (q : Port). q.pdelay) o ≡ Some t

@@ -1,8 +1,7 @@
 -- How far ahead the timers of a system are due, and those of a new one.
-use Rattle.std.proofs.Common.{◌≡◌, ◌≤◌, ℕ, zero, suc, ◌+◌, ◌*◌, ℤ, pos, negsuc, true, List, [], ◌∷◌, get_or, Option, Some, None, slice_get, refl, sym, ap, subst, ◌∙◌, arith, mul-le-mul}
+use Rattle.std.proofs.Common.{◌≡◌, ◌≤◌, ℕ, zero, suc, ◌+◌, ◌*◌, ℤ, true, List, [], ◌∷◌, get_or, Option, Some, None, slice_get, refl, sym, ap, subst, ◌∙◌, arith, mul-le-mul}
 use Rattle.std.specs.List.{AllByRecursion, range_with_len}
 use Rattle.std.specs.Option.{option_map, option_map_or}
-use Rattle.std.proofs.lemmas.Int.{ints}
 use Rattle.std.proofs.lemmas.Option.{none-some, same_Some, slice_get-get_or, slice_get-map, slice_get_within}
 use Rattle.gptp_receipt.specs.declared.held.Held.{Held}
 use Rattle.gptp_receipt.specs.declared.held.Held.TheVariants as helds
@@ -17,21 +16,10 @@ use Rattle.gptp_system.specs.State.{SystemState, age_due, announce_due, due, hel
 use Rattle.gptp_system.specs.Ready.{IsPort, IsReady}
 use Rattle.gptp_system.specs.Start.{all_disabled, new_port, new_ports, started}
 use Rattle.gptp_system.specs.Times.{IsInTime, IsPortInTime}
-use Rattle.gptp_system.proofs.StartedLemmas.{at_number, mine_due}
+use Rattle.gptp_system.proofs.StartedLemmas.{at_number, interval_within, mine_due}
 
--- no interval is above sixteen seconds
 pub interval_most : (log : ℤ) → IsLog log → interval_of log ≤ 16000000000
-interval_most (pos zero) k = omega arith
-interval_most (pos (suc zero)) k = omega arith
-interval_most (pos (suc (suc zero))) k = omega arith
-interval_most (pos (suc (suc (suc zero)))) k = omega arith
-interval_most (pos (suc (suc (suc (suc zero))))) k = omega arith
-interval_most (pos (suc (suc (suc (suc (suc n)))))) k = let high = k.high in absurd (omega (arith, ints))
-interval_most (negsuc zero) k = omega arith
-interval_most (negsuc (suc zero)) k = omega arith
-interval_most (negsuc (suc (suc zero))) k = omega arith
-interval_most (negsuc (suc (suc (suc zero)))) k = omega arith
-interval_most (negsuc (suc (suc (suc (suc n))))) k = let low = k.low in absurd (omega (arith, ints))
+interval_most log k = (interval_within log k).1
 
 all_at : {X : Type 0} (P : X → Type 0) (xs : List X) (i : ℕ) (x : X) → AllByRecursion P xs → slice_get xs i ≡ Some x
     → P x

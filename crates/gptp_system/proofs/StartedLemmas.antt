@@ -37,19 +37,22 @@ use Rattle.gptp_system.proofs.InTimeLemmas.{IsMid, kept_other, mid_is, mid_mine,
 use Rattle.gptp_system.proofs.MeasureLemmas.{steps_measure}
 use Rattle.gptp_system.proofs.TimeLemmas.{steps_run_on}
 
--- no interval is empty
+-- no interval is empty, and none is above sixteen seconds
+pub interval_within : (log : ℤ) → IsLog log → (1 ≤ interval_of log) × (interval_of log ≤ 16000000000)
+interval_within (pos zero) k = (omega arith, omega arith)
+interval_within (pos (suc zero)) k = (omega arith, omega arith)
+interval_within (pos (suc (suc zero))) k = (omega arith, omega arith)
+interval_within (pos (suc (suc (suc zero)))) k = (omega arith, omega arith)
+interval_within (pos (suc (suc (suc (suc zero))))) k = (omega arith, omega arith)
+interval_within (pos (suc (suc (suc (suc (suc n)))))) k = let high = k.high in absurd (omega (arith, ints))
+interval_within (negsuc zero) k = (omega arith, omega arith)
+interval_within (negsuc (suc zero)) k = (omega arith, omega arith)
+interval_within (negsuc (suc (suc zero))) k = (omega arith, omega arith)
+interval_within (negsuc (suc (suc (suc zero)))) k = (omega arith, omega arith)
+interval_within (negsuc (suc (suc (suc (suc n))))) k = let low = k.low in absurd (omega (arith, ints))
+
 pub interval_positive : (log : ℤ) → IsLog log → 1 ≤ interval_of log
-interval_positive (pos zero) k = omega arith
-interval_positive (pos (suc zero)) k = omega arith
-interval_positive (pos (suc (suc zero))) k = omega arith
-interval_positive (pos (suc (suc (suc zero)))) k = omega arith
-interval_positive (pos (suc (suc (suc (suc zero))))) k = omega arith
-interval_positive (pos (suc (suc (suc (suc (suc n)))))) k = let high = k.high in absurd (omega (arith, ints))
-interval_positive (negsuc zero) k = omega arith
-interval_positive (negsuc (suc zero)) k = omega arith
-interval_positive (negsuc (suc (suc zero))) k = omega arith
-interval_positive (negsuc (suc (suc (suc zero)))) k = omega arith
-interval_positive (negsuc (suc (suc (suc (suc n))))) k = let low = k.low in absurd (omega (arith, ints))
+interval_positive log k = (interval_within log k).0
 
 -- a timer runs as it did, or is due after now
 abbrev Runs : ℕ → Option ℕ → Option ℕ → Type 0
