@@ -1,3 +1,4 @@
+pub mod BareLemmas
 pub mod StayLemmas
 pub mod FlowLemmas
 pub mod UpLemmas

@@ -29,6 +29,11 @@ mapped_there f [] i x e = absurd cc
 mapped_there f (y ∷ xs) zero x e = ap (λ z. Some (f z)) (some_same y x e)
 mapped_there f (y ∷ xs) (suc i) x e = mapped_there f xs i x e
 
+-- where one list looks under f as another does under g, each member of the other has its like at its place
+pub alike : {X Y Z : Type 0} (f : X → Z) (g : Y → Z) (xs : List X) (ys : List Y) → map f xs ≡ map g ys → (i : ℕ) (y : Y)
+    → slice_get ys i ≡ Some y → (x : X) × (slice_get xs i ≡ Some x) × (f x ≡ g y)
+alike f g xs ys same i y there = mapped f xs i (g y) (ap (λ zs. slice_get zs i) same ∙ mapped_there g ys i y there)
+
 pub contains_there : {X : Type 0} (xs : List X) (i : ℕ) (x : X) → slice_get xs i ≡ Some x → Contains xs x
 contains_there xs i x e = (i, slice_get_within xs i x e, get_or_from_slice_get xs i x x e)
 

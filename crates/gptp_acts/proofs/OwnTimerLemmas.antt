@@ -17,7 +17,7 @@ use Rattle.gptp_acts.specs.World.{timers_from, station_due}
 use Rattle.gptp_acts.specs.Act.{set_timers}
 use Rattle.gptp_acts.specs.Agrees.{OnlyItsTimers}
 use Rattle.gptp_acts.proofs.PendingLemmas.{times-without_first_same, times-without_first_other}
-use Rattle.gptp_acts.proofs.PlaceLemmas.{within}
+use Rattle.gptp_acts.proofs.PlaceLemmas.{member_there}
 use Rattle.gptp_acts.proofs.TimerLemmas.{are_set, item_is, set_all, stays_set, IsSet}
 
 -- ---- the timers that a system has
@@ -70,7 +70,7 @@ number_timers ps (suc i) = by (slice_get ps i) refl
 port_has : (ps : List Port) (p : ℕ) → 1 ≤ p → p ≤ length ps → HasTimers p (timers_from 1 ps)
 port_has ps zero least most = absurd (omega arith)
 port_has ps (suc i) least most =
-    let found = within ps i (omega arith) in let same : 1 + i ≡ suc i = omega arith in
+    let found = member_there ps i (omega arith) in let same : 1 + i ≡ suc i = omega arith in
     subst (λ m. HasTimers m (timers_from 1 ps)) same (port_timers 1 i ps found.0 found.1)
 
 own_timers : (n : ℕ) (ps : List Port) → In timers.Sync (timers_from n ps) × In timers.Relay (timers_from n ps)

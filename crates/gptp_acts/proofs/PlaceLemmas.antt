@@ -16,22 +16,10 @@ get-set_other (z ∷ zs) zero (suc j) y other = refl
 get-set_other (z ∷ zs) (suc i) zero y other = refl
 get-set_other (z ∷ zs) (suc i) (suc j) y other = get-set_other zs i j y (λ e. other (ap suc e))
 
-pub get-map : {X Y : Type 0} (f : X → Y) (xs : List X) (i : ℕ) (x : X) → slice_get xs i ≡ Some x
-    → slice_get (map f xs) i ≡ Some (f x)
-get-map f [] i x is = absurd (none-some x is)
-get-map f (z ∷ zs) zero x is = ap (λ v. Some (f v)) (same_Some z x is)
-get-map f (z ∷ zs) (suc i) x is = get-map f zs i x is
-
 pub read : {X : Type 0} (xs : List X) (i : ℕ) (x d : X) → slice_get xs i ≡ Some x → slice_index_or xs i d ≡ x
 read [] i x d is = absurd (none-some x is)
 read (z ∷ zs) zero x d is = same_Some z x is
 read (z ∷ zs) (suc i) x d is = read zs i x d is
-
--- a place within a list has a member
-pub within : {X : Type 0} (xs : List X) (i : ℕ) → i < length xs → (x : X) × (slice_get xs i ≡ Some x)
-within [] i less = absurd (omega arith)
-within (z ∷ zs) zero less = (z, refl)
-within (z ∷ zs) (suc i) less = within zs i (omega arith)
 
 pub map-set : {X Y : Type 0} (f : X → Y) (xs : List X) (i : ℕ) (y : X)
     → map f (slice_set xs i y) ≡ slice_set (map f xs) i (f y)

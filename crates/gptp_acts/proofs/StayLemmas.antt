@@ -6,7 +6,6 @@ use Rattle.gptp_links.specs.declared.bounds.Bounds.{Bounds}
 use Rattle.gptp_links.specs.declared.link.Direction.{Direction}
 use Rattle.gptp_links.specs.declared.link.Direction.TheVariants.{FromA, FromB}
 use Rattle.gptp_links.specs.Fate.{Draw}
-use Rattle.gptp_links.specs.Queue.{Frame}
 use Rattle.gptp_roles.specs.Selection.{clock_of}
 use Rattle.gptp_system.specs.declared.answer.Answer.{Answer}
 use Rattle.gptp_system.specs.declared.sending.Sending.{Sending}
@@ -23,8 +22,8 @@ use Rattle.gptp_acts.specs.declared.change.Change.TheVariants.{LinkDown, LinkUp,
 use Rattle.gptp_acts.specs.declared.change.Timed.{Timed}
 use Rattle.gptp_acts.specs.declared.done.Done.{Done}
 use Rattle.gptp_acts.specs.declared.station.Station.{Station}
-use Rattle.gptp_acts.specs.World.{Channel, Net, WorldState, sender, receiver, with_queue}
-use Rattle.gptp_acts.specs.Sends.{entered, written, SendsAll, SendsOne}
+use Rattle.gptp_acts.specs.World.{Channel, Net, WorldState, sender, receiver}
+use Rattle.gptp_acts.specs.Sends.{SendsAll, SendsOne}
 use Rattle.gptp_acts.specs.Act.{all_timers, in_state, Calls, Delivers, Expires, Hears, Takes}
 use Rattle.gptp_acts.specs.Acts.{at, set_to, Acts, Changes}
 use Rattle.gptp_acts.specs.Advancing.{Advanced, Advances, Told}
@@ -33,6 +32,8 @@ use Rattle.gptp_acts.specs.Changing.{brought_up, failed, fresh, lost, taken_down
 use Rattle.gptp_acts.specs.Course.{WasDone}
 use Rattle.gptp_acts.specs.Sound.{AreApart, HaveOwnClocks, HaveTheirSetups, IsItsSetup, JoinPorts}
 use Rattle.gptp_acts.proofs.AgreeLemmas.{replaced}
+use Rattle.gptp_acts.proofs.BareLemmas.{bare, calls_bare, sends_bare, sends_one_bare, takes_bare, DifferInFlight}
+use Rattle.gptp_acts.proofs.ListLemmas.{alike}
 use Rattle.gptp_acts.proofs.PlaceLemmas.{set_each}
 use Rattle.gptp_acts.proofs.SteadyLemmas.{same_clock, same_ports}
 
@@ -114,42 +115,34 @@ set_carry channels place old new here a b up =
     (record { joins = record { old = old; here = here; a = a; b = b }; up = up })
     (λ other x apart there. carry_same channels other x there)
 
-pub queue_carry : (channels : List Channel) (place : ℕ) (direction : Direction) (channel : Channel)
-    (frames : List Frame) → slice_get channels place ≡ Some channel
-    → CarryTheSame channels (slice_set channels place (with_queue direction frames channel))
-queue_carry channels place FromA channel frames here =
-    set_carry channels place channel (with_queue FromA frames channel) here refl refl (λ up. up)
-queue_carry channels place FromB channel frames here =
-    set_carry channels place channel (with_queue FromB frames channel) here refl refl (λ up. up)
-
-pub entered_carry : (place : ℕ) (direction : Direction) (channel : Channel) (now : ℕ) (octets : List ℕ)
-    (answer : Option ℕ) (net : Net) → slice_get net.channels place ≡ Some channel
-    → CarryTheSame net.channels (entered place direction channel now octets answer net).channels
-entered_carry place direction channel now octets None net here = carry_same net.channels
-entered_carry place direction channel now octets (Some delay) net here =
-    queue_carry net.channels place direction channel _ here
+-- links that differ in what is in flight alone carry what they carried
+bare_carry : (before after : List Channel) → DifferInFlight before after → CarryTheSame before after
+bare_carry before after alone link new there =
+    let (old, here, same) = alike bare bare before after (sym alone) link new there in
+    record {
+      joins = record {
+        old = old;
+        here = here;
+        a = ap (λ (c : Channel). c.a) (sym same);
+        b = ap (λ (c : Channel). c.b) (sym same);
+      };
+      up = λ up. ap (λ (c : Channel). c.up) same ∙ up;
+    }
 
 pub sends_one_carry : (now : ℕ) (from : PortId) (octets : List ℕ) (draw : Draw) (net net' : Net)
     → SendsOne now from octets draw net net' → CarryTheSame net.channels net'.channels
 sends_one_carry now from octets draw net net' one =
-    subst (λ (n : Net). CarryTheSame net.channels n.channels) (sym one.after)
-    (entered_carry one.place one.direction one.channel now octets draw.answer net one.here)
+    bare_carry net.channels net'.channels (sends_one_bare now from octets draw net net' one)
 
 pub sends_carry : (now : ℕ) (s : SystemState) (xs : List Sending) (draws : List Draw) (net net' : Net)
     → SendsAll now s xs draws net net' → CarryTheSame net.channels net'.channels
-sends_carry now s [] draws net net' sends =
-    subst (λ (n : Net). CarryTheSame net.channels n.channels) (sym sends.1) (carry_same net.channels)
-sends_carry now s (x ∷ xs) draws net net' (inl (draw, rest, between, is, one, sends)) =
-    carry_on net.channels between.channels net'.channels
-    (sends_one_carry now (own s x.port) (written s x) draw net between one)
-    (sends_carry now s xs rest between net' sends)
-sends_carry now s (x ∷ xs) draws net net' (inr (unlinked, sends)) = sends_carry now s xs draws net net' sends
+sends_carry now s xs draws net net' sends =
+    bare_carry net.channels net'.channels (sends_bare now s xs draws net net' sends)
 
 pub takes_carry : (place : ℕ) (direction : Direction) (now : ℕ) (octets : List ℕ) (channel : Channel) (net net' : Net)
     → Takes place direction now octets channel net net' → CarryTheSame net.channels net'.channels
 takes_carry place direction now octets channel net net' takes =
-    subst (λ (n : Net). CarryTheSame net.channels n.channels) (sym takes.is)
-    (queue_carry net.channels place direction channel takes.rest takes.here)
+    bare_carry net.channels net'.channels (takes_bare place direction now octets channel net net' takes)
 
 -- ---- a call
 
@@ -157,8 +150,7 @@ pub calls_carry : (place : ℕ) (input : Input) (w : WorldState) (draws : List D
     → Calls place input w draws answer w' → CarryTheSame w.net.channels w'.net.channels
 calls_carry place input w draws answer w' calls =
     subst (λ (v : WorldState). CarryTheSame w.net.channels v.net.channels) (sym calls.is)
-    (sends_carry w.time calls.after calls.sends draws
-    (all_timers place (in_state calls.after calls.station) w.net) calls.net calls.sent)
+    (bare_carry w.net.channels calls.net.channels (calls_bare place input w draws answer w' calls))
 
 pub calls_if_live_carry : (place : ℕ) (input : Input) (w : WorldState) (draws : List Draw) (w' : WorldState)
     → CallsIfLive place input w draws w' → CarryTheSame w.net.channels w'.net.channels

@@ -1,5 +1,5 @@
 -- Every system of a world is steady, as it starts and after every step, and none of its timers is late.
-use Rattle.std.proofs.Common.{◌≡◌, ◌⊎◌, ℕ, ◌≤◌, ◌<◌, ℤ, List, length, Some, slice_get, sym, ap, subst, ◌∙◌, inl, inr, arith}
+use Rattle.std.proofs.Common.{◌≡◌, ◌⊎◌, ℕ, ◌≤◌, ◌<◌, ℤ, List, length, Some, slice_get, sym, subst, inl, inr, arith}
 use Rattle.gptp_system.specs.declared.answer.Answer.{Answer}
 use Rattle.gptp_system.specs.declared.port.Port.{Port}
 use Rattle.gptp_system.specs.declared.sending.Sending.{Sending}
@@ -16,7 +16,7 @@ use Rattle.gptp_system.proofs.StartedLemmas.{started_later}
 use Rattle.gptp_system.proofs.StepLemmas.{steps_sound}
 use Rattle.gptp_system.proofs.SystemLemmas.{is_new}
 use Rattle.gptp_acts.specs.Ahead.{IsSteady, NoneLate}
-use Rattle.gptp_acts.proofs.ListLemmas.{mapped, mapped_there}
+use Rattle.gptp_acts.proofs.ListLemmas.{alike}
 
 -- ---- every step
 
@@ -35,8 +35,7 @@ logs_kept : (s s' : SystemState) → Keeps s s'
     → (i : ℕ) (q' : Port) → slice_get s'.ports i ≡ Some q' → IsLog q'.log_interval
 logs_kept s s' kept logs i q' there =
     let log : Port → ℤ = λ q. q.log_interval in
-    let old = mapped log s.ports i q'.log_interval
-    (ap (λ ls. slice_get ls i) (sym kept.logs) ∙ mapped_there log s'.ports i q' there) in
+    let old = alike log log s.ports s'.ports (sym kept.logs) i q' there in
     subst IsLog old.2 (logs i old.0 old.1)
 
 -- a steady system is so after every step

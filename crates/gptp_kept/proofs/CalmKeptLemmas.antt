@@ -1,32 +1,28 @@
 -- What a delivery and an expiry leave of the network that a world has.
-use Rattle.std.proofs.Common.{◌≡◌, ◌≢◌, ℕ, zero, suc, true, List, [], ◌∷◌, map, Option, Some, None, slice_get, slice_set, refl, sym, ap, subst, ◌∙◌, inl, inr}
+use Rattle.std.proofs.Common.{◌≡◌, ◌≢◌, ℕ, zero, suc, true, List, [], ◌∷◌, map, Option, Some, None, slice_get, slice_set, refl, sym, ap, subst, ◌∙◌}
 use Rattle.std.specs.Prelude.{if◌then◌else◌, ◌==◌, max}
 use Rattle.std.proofs.lemmas.Option.{same_Some}
 use Rattle.gptp_graph.specs.Snapshot.{PortIdentity, System}
-use Rattle.gptp_vector.specs.declared.port.PortId.{PortId}
 use Rattle.gptp_links.specs.declared.link.Direction.{Direction}
 use Rattle.gptp_links.specs.declared.link.Direction.TheVariants.{FromA, FromB}
 use Rattle.gptp_links.specs.Fate.{Draw}
-use Rattle.gptp_links.specs.Queue.{Frame}
 use Rattle.gptp_system.specs.declared.answer.Answer.{Answer}
-use Rattle.gptp_system.specs.declared.sending.Sending.{Sending}
 use Rattle.gptp_system.specs.declared.setup.Params.{Params}
 use Rattle.gptp_system.specs.declared.timer.Timer.{Timer}
 use Rattle.gptp_system.specs.Input.{Input, Frame as FrameHeard, Priority, Expires as TimerExpires}
 use Rattle.gptp_system.specs.Intervals.{interval_of}
-use Rattle.gptp_system.specs.State.{SystemState, clock, own}
+use Rattle.gptp_system.specs.State.{clock}
 use Rattle.gptp_system.proofs.StepLemmas.{steps_steady}
 use Rattle.gptp_acts.specs.declared.change.Act.{Act}
 use Rattle.gptp_acts.specs.declared.change.Act.TheVariants.{Deliver, Expire, Change as Changing}
 use Rattle.gptp_acts.specs.declared.done.Done.{Done}
 use Rattle.gptp_acts.specs.declared.station.Station.{Station}
-use Rattle.gptp_acts.specs.Act.{Calls, Delivers, Expires, Hears, all_timers, in_state}
+use Rattle.gptp_acts.specs.Act.{Calls, Delivers, Expires, Hears, in_state}
 use Rattle.gptp_acts.specs.Acts.{Acts}
 use Rattle.gptp_acts.specs.Agrees.{stopped}
-use Rattle.gptp_acts.specs.Sends.{SendsAll, SendsOne, entered, written}
-use Rattle.gptp_acts.specs.World.{Channel, Net, WorldState, receiver, with_queue}
-use Rattle.gptp_acts.proofs.ListLemmas.{mapped, mapped_there}
-use Rattle.gptp_acts.proofs.PlaceLemmas.{map-set_same}
+use Rattle.gptp_acts.specs.World.{Channel, Net, WorldState, receiver}
+use Rattle.gptp_acts.proofs.BareLemmas.{DifferInFlight, bare, calls_bare, takes_bare}
+use Rattle.gptp_acts.proofs.ListLemmas.{alike}
 use Rattle.gptp_acts.proofs.SteadyLemmas.{same_clock, same_ports}
 use Rattle.gptp_kept.specs.SeenLaws.{IsNoChange}
 use Rattle.gptp_kept.specs.View.{lane_place}
@@ -62,45 +58,6 @@ places_kept (first ∷ stations) (suc place) old new here same number =
     ap (λ rest. if clock first.system == number then 0 else suc rest)
     (places_kept stations place old new here same number)
 
--- ---- links
-
--- a link without what is in flight on it
-abbrev bare : Channel → Channel
-bare channel = record channel { from_a = []; from_b = [] }
-
--- links become others in what is in flight on them alone
-abbrev KeepLinks : List Channel → List Channel → Type 0
-KeepLinks before after = map bare after ≡ map bare before
-
-queue_kept : (channels : List Channel) (place : ℕ) (direction : Direction) (channel : Channel) (frames : List Frame)
-    → slice_get channels place ≡ Some channel
-    → KeepLinks channels (slice_set channels place (with_queue direction frames channel))
-queue_kept channels place FromA channel frames here =
-    map-set_same bare channels place channel (with_queue FromA frames channel) here refl
-queue_kept channels place FromB channel frames here =
-    map-set_same bare channels place channel (with_queue FromB frames channel) here refl
-
-entered_kept : (place : ℕ) (direction : Direction) (channel : Channel) (now : ℕ) (octets : List ℕ)
-    (answer : Option ℕ) (net : Net) → slice_get net.channels place ≡ Some channel
-    → KeepLinks net.channels (entered place direction channel now octets answer net).channels
-entered_kept place direction channel now octets None net here = refl
-entered_kept place direction channel now octets (Some delay) net here =
-    queue_kept net.channels place direction channel _ here
-
-sends_one_kept : (now : ℕ) (from : PortId) (octets : List ℕ) (draw : Draw) (net net' : Net)
-    → SendsOne now from octets draw net net' → KeepLinks net.channels net'.channels
-sends_one_kept now from octets draw net net' one =
-    subst (λ (n : Net). KeepLinks net.channels n.channels) (sym one.after)
-    (entered_kept one.place one.direction one.channel now octets draw.answer net one.here)
-
-sends_kept : (now : ℕ) (s : SystemState) (xs : List Sending) (draws : List Draw) (net net' : Net)
-    → SendsAll now s xs draws net net' → KeepLinks net.channels net'.channels
-sends_kept now s [] draws net net' sends = ap (λ (n : Net). map bare n.channels) sends.1
-sends_kept now s (x ∷ xs) draws net net' (inl (draw, rest, between, is, one, sends)) =
-    sends_kept now s xs rest between net' sends
-    ∙ sends_one_kept now (own s x.port) (written s x) draw net between one
-sends_kept now s (x ∷ xs) draws net net' (inr (unlinked, sends)) = sends_kept now s xs draws net net' sends
-
 -- ---- what doesn't look at what is in flight
 
 used_bare : (systems : List System) (channels : List Channel)
@@ -124,7 +81,7 @@ delay_bare systems (first ∷ channels) =
 
 -- so it is the same of links that are kept
 of_kept : {X : Type 0} (f : List Channel → X) → ((channels : List Channel) → f (map bare channels) ≡ f channels)
-    → (before after : List Channel) → KeepLinks before after → f after ≡ f before
+    → (before after : List Channel) → DifferInFlight before after → f after ≡ f before
 of_kept f each before after kept = sym (each after) ∙ ap f kept ∙ each before
 
 -- ---- the network
@@ -134,7 +91,7 @@ of_kept f each before after kept = sym (each after) ∙ ap f kept ∙ each befor
 pub record KeepsNetwork (w w' : WorldState) : Type 0 where
   pub systems : live_systems w'.stations ≡ live_systems w.stations
   pub places : (number : ℕ) → place_of w'.stations number ≡ place_of w.stations number
-  pub links : KeepLinks w.net.channels w'.net.channels
+  pub links : DifferInFlight w.net.channels w'.net.channels
   pub change : w'.last_change ≡ w.last_change
 
 keeps_on : (first second third : WorldState) → KeepsNetwork first second → KeepsNetwork second third
@@ -147,7 +104,7 @@ keeps_on first second third f g = record {
 }
 
 -- the links alone are others
-net_keeps : (w : WorldState) (net : Net) → KeepLinks w.net.channels net.channels
+net_keeps : (w : WorldState) (net : Net) → DifferInFlight w.net.channels net.channels
     → KeepsNetwork w (record w { net = net })
 net_keeps w net links = record { systems = refl; places = λ number. refl; links = links; change = refl }
 
@@ -188,8 +145,7 @@ module _ (w w' : WorldState) (k : KeepsNetwork w w') where
   -- links that are quiet stay so
   pub stays_quiet : (p : Params) → IsQuietWorld p w → IsQuietWorld p w'
   stays_quiet p quiet link channel here used =
-      let there = ap (λ cs. slice_get cs link) (sym k.links) ∙ mapped_there bare w'.net.channels link channel here in
-      let (old, stands, same) = mapped bare w.net.channels link (bare channel) there in
+      let (old, stands, same) = alike bare bare w.net.channels w'.net.channels (sym k.links) link channel here in
       let uses : is_used (live_systems w.stations) old ≡ true =
       ap (is_used (live_systems w.stations)) same ∙ ap (λ s. is_used s channel) (sym k.systems) ∙ used in
       let is = quiet link old stands uses in
@@ -206,7 +162,7 @@ calls_keep place input w draws answer w' other k =
     (record {
       systems = systems_kept w.stations place k.station called k.here refl stands;
       places = places_kept w.stations place k.station called k.here named;
-      links = sends_kept w.time k.after k.sends draws (all_timers place called w.net) k.net k.sent;
+      links = calls_bare place input w draws answer w' k;
       change = refl;
     })
   where
@@ -233,9 +189,7 @@ pub delivers_keep : (link : ℕ) (direction : Direction) (octets : List ℕ) (w 
 delivers_keep link direction octets w draws answer w' k =
     let taken : WorldState = record w { net = k.net } in
     keeps_on w taken w'
-    (net_keeps w k.net
-    (subst (λ (n : Net). KeepLinks w.net.channels n.channels) (sym k.takes.is)
-    (queue_kept w.net.channels link direction k.channel k.takes.rest k.takes.here)))
+    (net_keeps w k.net (takes_bare link direction w.time octets k.channel w.net k.net k.takes))
     (hears_keep k.place (receiver direction k.channel).port octets taken draws answer w' k.hears)
 
 pub expires_keep : (place : ℕ) (timer : Timer) (w : WorldState) (draws : List Draw) (w' : WorldState)

@@ -1,5 +1,5 @@
 -- An act without change keeps the claim, and so does time that passes.
-use Rattle.std.proofs.Common.{◌≡◌, ◌≢◌, ◌≤◌, ◌+◌, ◌*◌, ℕ, List, [], Option, Some, slice_get, sym, ap, subst, ◌∙◌}
+use Rattle.std.proofs.Common.{◌≡◌, ◌≢◌, ◌≤◌, ◌+◌, ◌*◌, ℕ, List, Option, Some, slice_get, sym, ap, subst, ◌∙◌}
 use Rattle.gptp_graph.specs.Members.{In}
 use Rattle.gptp_graph.specs.Snapshot.{System}
 use Rattle.gptp_vector.specs.declared.port.PortId.{PortId}
@@ -22,7 +22,8 @@ use Rattle.gptp_acts.specs.Pending.{NothingBefore}
 use Rattle.gptp_acts.specs.Prompt.{IsPromptAct}
 use Rattle.gptp_acts.specs.Sound.{IsSound}
 use Rattle.gptp_acts.specs.World.{Channel, WorldState, receiver, sender}
-use Rattle.gptp_acts.proofs.ListLemmas.{mapped, mapped_there}
+use Rattle.gptp_acts.proofs.BareLemmas.{bare}
+use Rattle.gptp_acts.proofs.ListLemmas.{alike}
 use Rattle.gptp_acts.proofs.SoundLemmas.{later_sound}
 use Rattle.gptp_kept.specs.Measured.{IsLiveAt, IsMeasured, StandsAt}
 use Rattle.gptp_kept.specs.LinkView.{LinkPlace}
@@ -43,10 +44,6 @@ use Rattle.gptp_kept.proofs.BeginLemmas.{changes_begin}
 
 -- ---- where all stood
 
--- a link without what is in flight on it
-abbrev bare : Channel → Channel
-bare channel = record channel { from_a = []; from_b = [] }
-
 -- its ends
 same_sender : (direction : Direction) (x y : Channel) → bare x ≡ bare y → sender direction x ≡ sender direction y
 same_sender FromA x y same = ap (λ (c : Channel). c.a) same
@@ -61,9 +58,7 @@ module _ (p : Params) (w w' : WorldState) (is : IsWorld p w) (is' : IsWorld p w'
   -- a link stood there, with the same ends and bounds
   link_stood : (link : ℕ) (channel : Channel) → slice_get w'.net.channels link ≡ Some channel
       → (old : Channel) × (slice_get w.net.channels link ≡ Some old) × (bare old ≡ bare channel)
-  link_stood link channel here =
-      let there = ap (λ cs. slice_get cs link) (sym k.links) ∙ mapped_there bare w'.net.channels link channel here in
-      mapped bare w.net.channels link (bare channel) there
+  link_stood = alike bare bare w.net.channels w'.net.channels (sym k.links)
 
   -- a live system stood where it stands
   system_stood : (place number was : ℕ) → was ≡ number → IsLiveAt place number w' → IsLiveAt place was w

@@ -1,5 +1,5 @@
 -- What is known of a world, with what every act asks of its systems: item by item, and kept by every call.
-use Rattle.std.proofs.Common.{◌≡◌, ℕ, ◌+◌, ◌≤◌, max, ℤ, true, List, Some, slice_get, slice_set, sym, ap, subst, ◌∙◌, arith}
+use Rattle.std.proofs.Common.{◌≡◌, ℕ, ◌+◌, ◌≤◌, max, ℤ, true, List, Some, slice_get, slice_set, sym, subst, ◌∙◌, arith}
 use Rattle.gptp_links.specs.declared.bounds.Bounds.{Bounds}
 use Rattle.gptp_links.specs.declared.link.Direction.TheVariants.{FromA, FromB}
 use Rattle.gptp_links.specs.Fate.{Draw}
@@ -17,7 +17,7 @@ use Rattle.gptp_acts.specs.declared.station.Station.{Station}
 use Rattle.gptp_acts.specs.Act.{Calls, all_timers, in_state}
 use Rattle.gptp_acts.specs.Ahead.{IsSteady, IsWorldOnTime}
 use Rattle.gptp_acts.specs.World.{Net, WorldState}
-use Rattle.gptp_acts.proofs.ListLemmas.{mapped, mapped_there}
+use Rattle.gptp_acts.proofs.ListLemmas.{alike}
 use Rattle.gptp_acts.proofs.PlaceLemmas.{get-set_all}
 use Rattle.gptp_acts.proofs.SteadyLemmas.{steps_steady}
 use Rattle.gptp_kept.specs.Known.{IsKnown, IsSetTo}
@@ -129,8 +129,7 @@ logs_kept : (p : Params) (s s' : SystemState) → Keeps s s'
     → (i : ℕ) (q' : Port) → slice_get s'.ports i ≡ Some q' → q'.log_interval ≡ p.announce
 logs_kept p s s' kept logs i q' there =
     let log : Port → ℤ = λ q. q.log_interval in
-    let old = mapped log s.ports i q'.log_interval
-    (ap (λ ls. slice_get ls i) (sym kept.logs) ∙ mapped_there log s'.ports i q' there) in
+    let old = alike log log s.ports s'.ports (sym kept.logs) i q' there in
     sym old.2 ∙ logs i old.0 old.1
 
 module _ (p : Params) (place : ℕ) (input : Input) (w : WorldState) (draws : List Draw) (answer : Answer)

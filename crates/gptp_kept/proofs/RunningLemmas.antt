@@ -1,5 +1,5 @@
 -- When the Pdelay timers of ports start and stop, and that links which are up stay so.
-use Rattle.std.proofs.Common.{◌≡◌, ◌≢◌, ◌⊎◌, ℕ, zero, suc, Bool, true, false, List, [], ◌∷◌, Option, Some, None, IsSome, slice_get, slice_set, refl, sym, ap, subst, ◌∙◌, inl, inr, arith}
+use Rattle.std.proofs.Common.{◌≡◌, ◌≢◌, ◌⊎◌, ℕ, zero, suc, Bool, true, false, List, Some, IsSome, slice_get, slice_set, refl, sym, ap, subst, ◌∙◌, inl, inr, arith}
 use Rattle.std.specs.Prelude.{if◌then◌else◌, ◌==◌}
 use Rattle.std.specs.Option.{option_and_then}
 use Rattle.std.proofs.lemmas.Bool.Decides.{nat_tests}
@@ -7,9 +7,7 @@ use Rattle.gptp_vector.specs.declared.port.PortId.{PortId}
 use Rattle.gptp_messages.specs.declared.message.Message.{Message}
 use Rattle.gptp_messages.specs.declared.message.Message.TheVariants as messages
 use Rattle.gptp_links.specs.declared.link.Direction.{Direction}
-use Rattle.gptp_links.specs.declared.link.Direction.TheVariants.{FromA, FromB}
 use Rattle.gptp_links.specs.Fate.{Draw}
-use Rattle.gptp_links.specs.Queue.{Frame as InFlight}
 use Rattle.gptp_pdelay.specs.Peer.{after_interval, reset_peer}
 use Rattle.gptp_system.specs.declared.answer.Answer.{Answer}
 use Rattle.gptp_system.specs.declared.port.Port.{Port}
@@ -17,14 +15,14 @@ use Rattle.gptp_system.specs.declared.sending.Sending.{Sending}
 use Rattle.gptp_system.specs.declared.timer.Timer.TheVariants as timers
 use Rattle.gptp_system.specs.Input.{Input, Steps, PortUp, PortDown, Frame, Expires, Priority}
 use Rattle.gptp_system.specs.Measures.{IsPartAfter, Part, only_at, part_answered, part_asked, part_down, part_heard, part_of}
-use Rattle.gptp_system.specs.State.{SystemState, own}
+use Rattle.gptp_system.specs.State.{SystemState}
 use Rattle.gptp_system.specs.Steps.{IsUp}
 use Rattle.gptp_system.proofs.MeasureLemmas.{steps_measure}
 use Rattle.gptp_system.proofs.SystemLemmas.{up_is_port}
-use Rattle.gptp_acts.specs.Act.{Calls, Takes, all_timers, in_state}
-use Rattle.gptp_acts.specs.Sends.{SendsAll, SendsOne, entered, written}
-use Rattle.gptp_acts.specs.World.{Channel, Net, WorldState, sender, with_queue}
-use Rattle.gptp_acts.proofs.ListLemmas.{same_there}
+use Rattle.gptp_acts.specs.Act.{Calls, Takes}
+use Rattle.gptp_acts.specs.World.{Channel, Net, WorldState, sender}
+use Rattle.gptp_acts.proofs.BareLemmas.{DifferInFlight, bare, calls_bare, takes_bare}
+use Rattle.gptp_acts.proofs.ListLemmas.{alike, same_there}
 use Rattle.gptp_acts.proofs.PlaceLemmas.{get-set_other, get-set_same, member_there, same_place}
 use Rattle.gptp_acts.proofs.StayLemmas.{sender_same}
 use Rattle.gptp_kept.specs.Linked.{BeginsLink}
@@ -130,10 +128,6 @@ KeepLinks before after = (port : PortId) → BeginsLink before port → BeginsLi
 pub keep_links : (channels : List Channel) → KeepLinks channels channels
 keep_links channels port begins = begins
 
-links_on : (first second third : List Channel) → KeepLinks first second → KeepLinks second third
-    → KeepLinks first third
-links_on first second third f g port begins = g port (f port begins)
-
 -- a link becomes another that joins the same ports, and stays up
 pub set_links : (channels : List Channel) (place : ℕ) (old new : Channel) → slice_get channels place ≡ Some old
     → new.a ≡ old.a → new.b ≡ old.b → (old.up ≡ true → new.up ≡ true)
@@ -161,45 +155,26 @@ set_links channels place old new here a b up port is = by (same_place is.link pl
       up = is.up;
     }
 
-queue_links : (channels : List Channel) (place : ℕ) (direction : Direction) (channel : Channel) (frames : List InFlight)
-    → slice_get channels place ≡ Some channel
-    → KeepLinks channels (slice_set channels place (with_queue direction frames channel))
-queue_links channels place FromA channel frames here =
-    set_links channels place channel (with_queue FromA frames channel) here refl refl (λ up. up)
-queue_links channels place FromB channel frames here =
-    set_links channels place channel (with_queue FromB frames channel) here refl refl (λ up. up)
-
-entered_links : (place : ℕ) (direction : Direction) (channel : Channel) (now : ℕ) (octets : List ℕ) (answer : Option ℕ)
-    (net : Net) → slice_get net.channels place ≡ Some channel
-    → KeepLinks net.channels (entered place direction channel now octets answer net).channels
-entered_links place direction channel now octets None net here = keep_links net.channels
-entered_links place direction channel now octets (Some delay) net here =
-    queue_links net.channels place direction channel _ here
-
-sends_one_links : (now : ℕ) (from : PortId) (octets : List ℕ) (draw : Draw) (net net' : Net)
-    → SendsOne now from octets draw net net' → KeepLinks net.channels net'.channels
-sends_one_links now from octets draw net net' one =
-    subst (λ (n : Net). KeepLinks net.channels n.channels) (sym one.after)
-    (entered_links one.place one.direction one.channel now octets draw.answer net one.here)
-
-sends_links : (now : ℕ) (s : SystemState) (xs : List Sending) (draws : List Draw) (net net' : Net)
-    → SendsAll now s xs draws net net' → KeepLinks net.channels net'.channels
-sends_links now s [] draws net net' sends =
-    subst (λ (n : Net). KeepLinks net.channels n.channels) (sym sends.1) (keep_links net.channels)
-sends_links now s (x ∷ xs) draws net net' (inl (draw, rest, between, is, one, sends)) =
-    links_on net.channels between.channels net'.channels
-    (sends_one_links now (own s x.port) (written s x) draw net between one)
-    (sends_links now s xs rest between net' sends)
-sends_links now s (x ∷ xs) draws net net' (inr (unlinked, sends)) = sends_links now s xs draws net net' sends
+-- links that differ in what is in flight alone begin where they began
+bare_links : (before after : List Channel) → DifferInFlight before after → KeepLinks before after
+bare_links before after alone port is =
+    let (new, here, same) = alike bare bare after before alone is.link is.channel is.here in
+    record {
+      link = is.link;
+      direction = is.direction;
+      channel = new;
+      here = here;
+      begins = sender_same is.direction is.channel new (ap (λ (c : Channel). c.a) same) (ap (λ (c : Channel). c.b) same)
+          ∙ is.begins;
+      up = ap (λ (c : Channel). c.up) same ∙ is.up;
+    }
 
 pub takes_links : (place : ℕ) (direction : Direction) (now : ℕ) (octets : List ℕ) (channel : Channel) (net net' : Net)
     → Takes place direction now octets channel net net' → KeepLinks net.channels net'.channels
 takes_links place direction now octets channel net net' takes =
-    subst (λ (n : Net). KeepLinks net.channels n.channels) (sym takes.is)
-    (queue_links net.channels place direction channel takes.rest takes.here)
+    bare_links net.channels net'.channels (takes_bare place direction now octets channel net net' takes)
 
 pub calls_links : (place : ℕ) (input : Input) (w : WorldState) (draws : List Draw) (answer : Answer) (w' : WorldState)
     → (calls : Calls place input w draws answer w') → KeepLinks w.net.channels calls.net.channels
 calls_links place input w draws answer w' calls =
-    sends_links w.time calls.after calls.sends draws (all_timers place (in_state calls.after calls.station) w.net)
-    calls.net calls.sent
+    bare_links w.net.channels calls.net.channels (calls_bare place input w draws answer w' calls)

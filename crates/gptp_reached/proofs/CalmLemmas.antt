@@ -13,10 +13,10 @@ use Rattle.gptp_acts.specs.Calm.{IsCalm, IsLive, IsQuiet, Rests}
 use Rattle.gptp_acts.specs.Change.{link_after, live_after, system_after}
 use Rattle.gptp_acts.specs.Network.{NetworkState}
 use Rattle.gptp_acts.specs.SettlingTime as acts
-use Rattle.gptp_acts.specs.SettlingTime.{settles, settling_span}
+use Rattle.gptp_acts.specs.SettlingTime.{settling_span}
 use Rattle.gptp_acts.specs.Sound.{IsSound}
 use Rattle.gptp_acts.specs.World.{WorldState}
-use Rattle.gptp_acts.proofs.ListLemmas.{mapped, mapped_there}
+use Rattle.gptp_acts.proofs.ListLemmas.{alike}
 use Rattle.gptp_network.specs.Document.{DocumentState}
 use Rattle.gptp_network.specs.Snapshot as network
 use Rattle.gptp_network.specs.Snapshot.{events_by}
@@ -70,8 +70,8 @@ record IsMemberAt (n : NetworkState) (events : List Timed) (place : ℕ) (statio
 member_at : (n : NetworkState) (events : List Timed) (w : WorldState) → StandsAs n events w → (place : ℕ)
     (station : Station) → slice_get w.stations place ≡ Some station → IsMemberAt n events place station
 member_at n events w so place station here =
-    let (m, there, is) = mapped (shape_after n.params events) n.systems place (shape station)
-    (ap (λ ss. slice_get ss place) (sym so.systems) ∙ mapped_there shape w.stations place station here) in
+    let (m, there, is) = alike (shape_after n.params events) shape n.systems w.stations (sym so.systems) place station
+    here in
     record { member = m; there = there; is = is }
 
 -- ---- links
@@ -101,8 +101,7 @@ pub quiet_stands : (n : NetworkState) (events : List Timed) (w : WorldState) →
     → IsQuietWorld n.params w
 quiet_stands n events w so calm link channel here used =
     let systems = live_systems w.stations in
-    let (v, there, is) = mapped (link_after events) n.links link (wire_of channel)
-    (ap (λ vs. slice_get vs link) (sym so.links) ∙ mapped_there wire_of w.net.channels link channel here) in
+    let (v, there, is) = alike (link_after events) wire_of n.links w.net.channels (sym so.links) link channel here in
     let rests = each_at (Rests n.params n.systems events) n.links calm link v there in
     let a = lives_so n events w so channel.a.clock (sender_lives systems FromA channel used) in
     let b = lives_so n events w so channel.b.clock (sender_lives systems FromB channel used) in

@@ -24,7 +24,7 @@ use Rattle.gptp_acts.specs.Initial.{setup_of}
 use Rattle.gptp_acts.specs.Network.{NetworkState, same_port}
 use Rattle.gptp_acts.specs.Sound.{IsSound}
 use Rattle.gptp_acts.specs.World.{Channel, WorldState, port_id, sender}
-use Rattle.gptp_acts.proofs.ListLemmas.{mapped, mapped_there}
+use Rattle.gptp_acts.proofs.ListLemmas.{alike}
 use Rattle.gptp_acts.proofs.PlaceLemmas.{map-set, map-set_same}
 use Rattle.gptp_network.proofs.SnapshotLemmas.{clock_after}
 use Rattle.gptp_reached.specs.Reached.{Shape, StandsAs, shape, shape_after, wire_of}
@@ -156,9 +156,7 @@ module _ (n : NetworkState) (events : List Timed) (timed : Timed) (change : Chan
     where
       -- the link of the network that stands there
       own : (v : Wire) × (slice_get n.links place ≡ Some v) × (link_after events v ≡ wire_of channel)
-      own =
-          mapped (link_after events) n.links place (wire_of channel)
-          (ap (λ vs. slice_get vs place) (sym so.links) ∙ mapped_there wire_of w.net.channels place channel is.here)
+      own = alike (link_after events) wire_of n.links w.net.channels (sym so.links) place channel is.here
 
       hit : link_after more own.0 ≡ step (wire_of channel)
       hit =
@@ -178,8 +176,7 @@ module _ (n : NetworkState) (events : List Timed) (timed : Timed) (change : Chan
 
       miss : (i : ℕ) (v : Wire) → i ≢ place → slice_get n.links i ≡ Some v → link_after more v ≡ link_after events v
       miss i v apart there =
-          let (other, here, same) = mapped wire_of w.net.channels i (link_after events v)
-          (ap (λ vs. slice_get vs i) so.links ∙ mapped_there (link_after events) n.links i v there) in
+          let (other, here, same) = alike wire_of (link_after events) w.net.channels n.links so.links i v there in
           let now = link_after events v in
           wire_more v ∙ does now ∙ missed i now other apart here same (is_at number port now) refl
 
@@ -198,8 +195,8 @@ module _ (n : NetworkState) (events : List Timed) (timed : Timed) (change : Chan
 
   found : (place : ℕ) (station : Station) → slice_get w.stations place ≡ Some station → Found place station
   found place station here =
-      let (m, there, same) = mapped (shape_after n.params events) n.systems place (shape station)
-      (ap (λ ss. slice_get ss place) (sym so.systems) ∙ mapped_there shape w.stations place station here) in
+      let (m, there, same) = alike (shape_after n.params events) shape n.systems w.stations (sym so.systems) place
+      station here in
       record {
         member = m;
         there = there;
@@ -236,8 +233,7 @@ module _ (n : NetworkState) (events : List Timed) (timed : Timed) (change : Chan
           → (number == clock_of m.identity) ≡ b → shape_after n.params more m ≡ shape_after n.params events m
       missed i m apart there false off = others m off
       missed i m apart there true on =
-          let (at, here, same) = mapped shape w.stations i (shape_after n.params events m)
-          (ap (λ ss. slice_get ss i) so.systems ∙ mapped_there (shape_after n.params events) n.systems i m there) in
+          let (at, here, same) = alike shape (shape_after n.params events) w.stations n.systems so.systems i m there in
           let named : clock at.system ≡ clock_of m.identity =
           sym (sound.wired.setups i at here).named ∙ ap (λ (s : Shape). clock_of s.setup.identity) same
           ∙ clock_after events m in

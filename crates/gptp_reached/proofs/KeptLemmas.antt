@@ -1,66 +1,41 @@
 -- What a delivery, an expiry and a call leave of how a world stands.
-use Rattle.std.proofs.Common.{◌≡◌, ◌≢◌, ℕ, List, [], ◌∷◌, map, Option, Some, None, slice_get, slice_set, refl, sym, ap, subst, ◌∙◌, inl, inr}
-use Rattle.gptp_vector.specs.declared.port.PortId.{PortId}
+use Rattle.std.proofs.Common.{◌≡◌, ◌≢◌, ℕ, List, map, Option, Some, None, refl, sym, subst, ◌∙◌, inl, inr}
 use Rattle.gptp_links.specs.declared.link.Direction.{Direction}
-use Rattle.gptp_links.specs.declared.link.Direction.TheVariants.{FromA, FromB}
 use Rattle.gptp_links.specs.Fate.{Draw}
-use Rattle.gptp_links.specs.Queue.{Frame}
 use Rattle.gptp_system.specs.declared.answer.Answer.{Answer}
-use Rattle.gptp_system.specs.declared.sending.Sending.{Sending}
 use Rattle.gptp_system.specs.declared.timer.Timer.{Timer}
 use Rattle.gptp_system.specs.Input.{Input, Frame as FrameHeard, Priority, Expires as TimerExpires}
-use Rattle.gptp_system.specs.State.{SystemState, own}
 use Rattle.gptp_system.proofs.StepLemmas.{steps_steady}
 use Rattle.gptp_acts.specs.declared.change.Act.{Act}
 use Rattle.gptp_acts.specs.declared.change.Act.TheVariants.{Deliver, Expire, Change as Changing}
 use Rattle.gptp_acts.specs.declared.change.Timed.{Timed}
 use Rattle.gptp_acts.specs.declared.done.Done.{Done}
 use Rattle.gptp_acts.specs.declared.station.Station.{Station}
-use Rattle.gptp_acts.specs.Act.{Calls, Delivers, Expires, Hears, all_timers, in_state}
+use Rattle.gptp_acts.specs.Act.{Calls, Delivers, Expires, Hears, in_state}
 use Rattle.gptp_acts.specs.Acts.{Acts, at}
 use Rattle.gptp_acts.specs.Agrees.{stopped}
 use Rattle.gptp_acts.specs.Changing.{CallsIfLive, TellsEnds}
 use Rattle.gptp_acts.specs.Network.{NetworkState}
-use Rattle.gptp_acts.specs.Sends.{SendsAll, SendsOne, entered, written}
-use Rattle.gptp_acts.specs.World.{Channel, Net, WorldState, receiver, with_queue}
+use Rattle.gptp_acts.specs.World.{Channel, WorldState, receiver}
+use Rattle.gptp_acts.proofs.BareLemmas.{DifferInFlight, calls_bare, same_but_flight, takes_bare}
 use Rattle.gptp_acts.proofs.PlaceLemmas.{map-set_same}
 use Rattle.gptp_kept.specs.SeenLaws.{IsNoChange}
 use Rattle.gptp_reached.specs.Reached.{StandsAs, shape, wire_of}
 
 -- ---- links
 
--- links become others in what is in flight on them alone
+-- links join the same ports, have the same bounds, and are up where they were
 abbrev pub KeepLinks : List Channel → List Channel → Type 0
 KeepLinks before after = map wire_of after ≡ map wire_of before
 
-queue_kept : (channels : List Channel) (place : ℕ) (direction : Direction) (channel : Channel) (frames : List Frame)
-    → slice_get channels place ≡ Some channel
-    → KeepLinks channels (slice_set channels place (with_queue direction frames channel))
-queue_kept channels place FromA channel frames here =
-    map-set_same wire_of channels place channel (with_queue FromA frames channel) here refl
-queue_kept channels place FromB channel frames here =
-    map-set_same wire_of channels place channel (with_queue FromB frames channel) here refl
+-- so it is where they differ in what is in flight alone
+bare_kept : (before after : List Channel) → DifferInFlight before after → KeepLinks before after
+bare_kept = same_but_flight wire_of (λ channel. refl)
 
-entered_kept : (place : ℕ) (direction : Direction) (channel : Channel) (now : ℕ) (octets : List ℕ)
-    (answer : Option ℕ) (net : Net) → slice_get net.channels place ≡ Some channel
-    → KeepLinks net.channels (entered place direction channel now octets answer net).channels
-entered_kept place direction channel now octets None net here = refl
-entered_kept place direction channel now octets (Some delay) net here =
-    queue_kept net.channels place direction channel _ here
-
-sends_one_kept : (now : ℕ) (from : PortId) (octets : List ℕ) (draw : Draw) (net net' : Net)
-    → SendsOne now from octets draw net net' → KeepLinks net.channels net'.channels
-sends_one_kept now from octets draw net net' one =
-    subst (λ (n : Net). KeepLinks net.channels n.channels) (sym one.after)
-    (entered_kept one.place one.direction one.channel now octets draw.answer net one.here)
-
-pub sends_kept : (now : ℕ) (s : SystemState) (xs : List Sending) (draws : List Draw) (net net' : Net)
-    → SendsAll now s xs draws net net' → KeepLinks net.channels net'.channels
-sends_kept now s [] draws net net' sends = ap (λ (n : Net). map wire_of n.channels) sends.1
-sends_kept now s (x ∷ xs) draws net net' (inl (draw, rest, between, is, one, sends)) =
-    sends_kept now s xs rest between net' sends
-    ∙ sends_one_kept now (own s x.port) (written s x) draw net between one
-sends_kept now s (x ∷ xs) draws net net' (inr (unlinked, sends)) = sends_kept now s xs draws net net' sends
+pub calls_kept : (place : ℕ) (input : Input) (w : WorldState) (draws : List Draw) (answer : Answer) (w' : WorldState)
+    → (calls : Calls place input w draws answer w') → KeepLinks w.net.channels calls.net.channels
+calls_kept place input w draws answer w' calls =
+    bare_kept w.net.channels calls.net.channels (calls_bare place input w draws answer w' calls)
 
 -- ---- the whole world
 
@@ -86,7 +61,7 @@ calls_keep place input w draws answer w' other k =
     subst (Keeps w) (sym k.is)
     (record {
       systems = map-set_same shape w.stations place k.station called k.here stands;
-      links = sends_kept w.time k.after k.sends draws (all_timers place called w.net) k.net k.sent;
+      links = calls_kept place input w draws answer w' k;
       last = refl;
     })
   where
@@ -126,8 +101,8 @@ delivers_keep link direction octets w draws answer w' k =
     keeps_on w taken w'
     (record {
       systems = refl;
-      links = subst (λ (n : Net). KeepLinks w.net.channels n.channels) (sym k.takes.is)
-          (queue_kept w.net.channels link direction k.channel k.takes.rest k.takes.here);
+      links = bare_kept w.net.channels k.net.channels
+          (takes_bare link direction w.time octets k.channel w.net k.net k.takes);
       last = refl;
     })
     (hears_keep k.place (receiver direction k.channel).port octets taken draws answer w' k.hears)

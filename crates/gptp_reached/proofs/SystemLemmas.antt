@@ -5,13 +5,13 @@ use Rattle.gptp_links.specs.Fate.{Draw}
 use Rattle.gptp_system.specs.Input.{Priority}
 use Rattle.gptp_system.specs.State.{SystemState}
 use Rattle.gptp_acts.specs.declared.station.Station.{Station}
-use Rattle.gptp_acts.specs.Act.{all_timers, in_state}
+use Rattle.gptp_acts.specs.Act.{in_state}
 use Rattle.gptp_acts.specs.Changing.{CallsIfLive, FailsIf, RecoversIf, with_setup, with_station}
 use Rattle.gptp_acts.specs.World.{WorldState}
 use Rattle.gptp_acts.proofs.ListLemmas.{mapped_there, same_there}
 use Rattle.gptp_acts.proofs.PlaceLemmas.{get-set_same, map-set}
 use Rattle.gptp_reached.specs.Reached.{Shape, shape}
-use Rattle.gptp_reached.proofs.KeptLemmas.{sends_kept}
+use Rattle.gptp_reached.proofs.KeptLemmas.{calls_kept}
 use Rattle.gptp_reached.proofs.BeginLemmas.{SystemBecomes, of_setup, starts_becomes}
 use Rattle.gptp_reached.proofs.EventLemmas.{set_itself, set_twice}
 
@@ -60,7 +60,7 @@ prioritized_becomes value place station w draws w' here its (inl (answer, k)) =
           ∙ ap (λ ss. slice_set ss place (shape called)) (map-set shape w.stations place next)
           ∙ set_twice (map shape w.stations) place (shape next) (shape called)
           ∙ ap (slice_set (map shape w.stations) place) stands;
-      links = sends_kept w.time k.after k.sends draws (all_timers place called set.net) k.net k.sent;
+      links = calls_kept place (Priority value) set draws answer w' k;
       last = refl;
     })
   where

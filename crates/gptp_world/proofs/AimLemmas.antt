@@ -30,7 +30,7 @@ use Rattle.gptp_acts.specs.World.{Channel, WorldState, queue, sender}
 use Rattle.gptp_world.proofs.EndLemmas.{station_at}
 use Rattle.gptp_world.proofs.NetLemmas.{known_cable, known_lane}
 use Rattle.gptp_acts.proofs.NextDueLemmas.{next_comes, next_runs_out}
-use Rattle.gptp_acts.proofs.PlaceLemmas.{get-map}
+use Rattle.gptp_acts.proofs.ListLemmas.{mapped_there}
 
 -- ---- links
 
@@ -48,7 +48,7 @@ link_found stage port lane is begins =
     record {
       channel = channel_of known.0;
       is = record {
-        here = get-map channel_of stage.net.cables.items lane.link known.0 known.1;
+        here = mapped_there channel_of stage.net.cables.items lane.link known.0 known.1;
         joined = at_end port lane.direction (channel_of known.0) known.2;
       };
     }
@@ -92,7 +92,7 @@ pub system_clock : (stage : Stage) (number : ℕ) → IsStage stage → (at : At
     → slice_get stage.net.directory.clocks at.place ≡ Some number
 system_clock stage number is at =
     ap (λ cs. slice_get cs at.place) (sym is.clocks)
-    ∙ (get-map clock_at stage.stations.items at.place at.station at.is.here ∙ ap Some at.is.named)
+    ∙ (mapped_there clock_at stage.stations.items at.place at.station at.is.here ∙ ap Some at.is.named)
 
 pub no_system : (stage : Stage) (number : ℕ) → IsStage stage
     → ((place : ℕ) → slice_get stage.net.directory.clocks place ≡ Some number → ⊥)

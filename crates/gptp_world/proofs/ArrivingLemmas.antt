@@ -11,7 +11,8 @@ use Rattle.gptp_acts.specs.Act.{Takes}
 use Rattle.gptp_world.specs.Cable.{join_of, channel_of, net_of}
 use Rattle.gptp_acts.specs.Pending.{PendingState, without_first}
 use Rattle.gptp_acts.specs.World.{with_queue}
-use Rattle.gptp_acts.proofs.PlaceLemmas.{get-map, map-set, map-set_same}
+use Rattle.gptp_acts.proofs.ListLemmas.{mapped_there}
+use Rattle.gptp_acts.proofs.PlaceLemmas.{map-set, map-set_same}
 use Rattle.gptp_world.proofs.SendingLemmas.{channel_sent, queue_same}
 
 abbrev made : PortId → PortId → Join
@@ -46,7 +47,7 @@ taken lane now octets cables old new pending after oldest rest here a b only fro
     map-set channel_of cables lane.link new ∙ ap (slice_set (map channel_of cables) lane.link) channel in
     record {
       rest = left;
-      here = get-map channel_of cables lane.link old here;
+      here = mapped_there channel_of cables lane.link old here;
       front = queue_same lane.direction old ∙ (is.oldest ∙ ap (λ t. frame t octets ∷ left) time);
       is = rw (channels, entries) refl;
     }

@@ -24,7 +24,8 @@ use Rattle.gptp_world.specs.Stage.{clock_at, world_of, Called, CallUses, HasRoom
 use Rattle.gptp_world.specs.Starting.{CameUp, HasRoomForPorts}
 use Rattle.gptp_acts.specs.World.{WorldState}
 use Rattle.gptp_world.proofs.NeedLemmas.{covered, left_of, unsent, uses_both, uses_less, Covers}
-use Rattle.gptp_acts.proofs.PlaceLemmas.{get-map, get-set_same}
+use Rattle.gptp_acts.proofs.ListLemmas.{mapped_there}
+use Rattle.gptp_acts.proofs.PlaceLemmas.{get-set_same}
 use Rattle.gptp_acts.proofs.SteadyLemmas.{same_clock, same_ports}
 use Rattle.gptp_world.proofs.UpPortLemmas.{calls_all_up, up_tells}
 
@@ -149,7 +150,7 @@ pub linked : (stage : Stage) (place port : ℕ) (one : Station) (lane : Option L
 linked stage place port one lane is here some none =
     let number = clock one.system in
     let known : slice_get stage.net.directory.clocks place ≡ Some number =
-    ap (λ cs. slice_get cs place) (sym is.clocks) ∙ get-map clock_at stage.stations.items place one here in
+    ap (λ cs. slice_get cs place) (sym is.clocks) ∙ mapped_there clock_at stage.stations.items place one here in
     up_tells stage.net number port lane is.net (some number known) (none number known)
 
 pub one_came : {F : Type 0} (answers : Bounds → ℕ → F → Option ℕ → F → Type 0) (place port : ℕ) (fate fate_after : F)

@@ -13,7 +13,8 @@ use Rattle.gptp_world.specs.Delivering.{HasRoomToHear}
 use Rattle.gptp_world.specs.Directory.{end_of, DirectoryState, IsDirectory, Join}
 use Rattle.gptp_world.specs.Net.{between, IsFrameDue, IsOldest}
 use Rattle.gptp_world.specs.Stage.{world_of, HasRoomWithin, IsStage}
-use Rattle.gptp_acts.proofs.PlaceLemmas.{get-map, within}
+use Rattle.gptp_acts.proofs.ListLemmas.{mapped_there}
+use Rattle.gptp_acts.proofs.PlaceLemmas.{member_there}
 use Rattle.gptp_world.proofs.EndLemmas.{known_join, place_within}
 use Rattle.gptp_world.proofs.NetLemmas.{from_map}
 use Rattle.gptp_world.proofs.SendingLemmas.{queue_same}
@@ -28,7 +29,7 @@ pub receiver_within : (stage : Stage) (lane : Lane) (place : ℕ) → IsStage st
     → lane.link < length stage.net.cables.items
     → IsReceiver lane place stage.net.directory → place < length stage.stations.items
 receiver_within stage lane place is known hears =
-    let cable = within stage.net.cables.items lane.link known in let join = join_of cable.0 in
+    let cable = member_there stage.net.cables.items lane.link known in let join = join_of cable.0 in
     place_within stage place (end_of lane.direction join).clock is
     (hears join (known_join stage.net lane.link cable.0 is.net cable.1))
 
@@ -53,7 +54,7 @@ oldest_before stage stage' lane octets world oldest =
     ap (λ (w : WorldState). w.net.channels) world in
     let there : slice_get (map channel_of stage.net.cables.items) lane.link ≡ Some (channel_of oldest.cable) =
     ap (λ cs. slice_get cs lane.link) (sym channels)
-    ∙ get-map channel_of stage'.net.cables.items lane.link oldest.cable oldest.here in
+    ∙ mapped_there channel_of stage'.net.cables.items lane.link oldest.cable oldest.here in
     let made = from_map channel_of stage.net.cables.items lane.link (channel_of oldest.cable) there in
     record {
       cable = made.one;

@@ -13,13 +13,13 @@ use Rattle.gptp_world.specs.Net.{IsNet}
 use Rattle.gptp_world.specs.Stage.{clock_at, IsStage}
 use Rattle.gptp_acts.specs.World.{receiver}
 use Rattle.gptp_world.proofs.NetLemmas.{from_map}
-use Rattle.gptp_acts.proofs.PlaceLemmas.{get-map}
+use Rattle.gptp_acts.proofs.ListLemmas.{mapped_there}
 
 -- the directory knows the ports that a link joins
 pub known_join : (net : Between) (link : ℕ) (cable : Cable) → IsNet net → slice_get net.cables.items link ≡ Some cable
     → slice_get net.directory.joins link ≡ Some (join_of cable)
 known_join net link cable is here =
-    ap (λ js. slice_get js link) (sym is.joins) ∙ get-map join_of net.cables.items link cable here
+    ap (λ js. slice_get js link) (sym is.joins) ∙ mapped_there join_of net.cables.items link cable here
 
 pub end_same : (d : Direction) (cable : Cable) → end_of d (join_of cable) ≡ receiver d (channel_of cable)
 end_same FromA cable = refl

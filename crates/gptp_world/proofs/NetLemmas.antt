@@ -15,7 +15,7 @@ use Rattle.gptp_acts.specs.World.{Channel, sender}
 use Rattle.std.specs.Prelude.{Vec}
 use Rattle.std.specs.Vec.{with_items}
 use Rattle.std.proofs.lemmas.List.{with_items_is, length-map}
-use Rattle.gptp_acts.proofs.PlaceLemmas.{get-map}
+use Rattle.gptp_acts.proofs.ListLemmas.{mapped_there}
 
 -- what stands in a list that was made of another, backwards
 pub record MadeOf {X Y : Type 0} (f : X → Y) (xs : List X) (i : ℕ) (y : Y) : Type 0 where
@@ -57,7 +57,8 @@ known_lane net port place direction channel is there begins =
     let made = from_map channel_of net.cables.items place channel there in
     record {
       join = join_of made.one;
-      there = ap (λ js. slice_get js place) (sym is.joins) ∙ get-map join_of net.cables.items place made.one made.there;
+      there = ap (λ js. slice_get js place) (sym is.joins)
+          ∙ mapped_there join_of net.cables.items place made.one made.there;
       begins = start_same direction made.one ∙ (ap (sender direction) (sym made.is) ∙ begins);
     }
 

@@ -41,7 +41,8 @@ use Rattle.gptp_world.specs.Telling.{HasRoomAtEnds}
 use Rattle.gptp_acts.specs.World.{Channel, WorldState, queue, receiver}
 use Rattle.gptp_world.proofs.EndLemmas.{end_same, known_join}
 use Rattle.gptp_world.proofs.NetLemmas.{from_map}
-use Rattle.gptp_acts.proofs.PlaceLemmas.{get-map, read}
+use Rattle.gptp_acts.proofs.ListLemmas.{mapped_there}
+use Rattle.gptp_acts.proofs.PlaceLemmas.{read}
 use Rattle.gptp_world.proofs.SendingLemmas.{queue_same}
 
 -- ---- where it is
@@ -147,7 +148,7 @@ pub may_hear : (stage : Stage) (lane : Lane) (time : ℕ) → IsStage stage → 
 may_hear stage lane time is wired at = λ join place there placed station here live.
     let ends = end_is stage lane.link lane.direction join at.channel is there at.here in
     let known : slice_get stage.net.directory.clocks place ≡ Some (clock station.system) =
-    ap (λ cs. slice_get cs place) (sym is.clocks) ∙ get-map clock_at stage.stations.items place station here in
+    ap (λ cs. slice_get cs place) (sym is.clocks) ∙ mapped_there clock_at stage.stations.items place station here in
     let named : clock station.system ≡ (end_of lane.direction join).clock =
     same_Some (clock station.system) (end_of lane.direction join).clock (sym known ∙ placed) in
     let up = carries_up lane.direction at.channel time (wired.flow lane.link lane.direction at.channel at.here) at.so in

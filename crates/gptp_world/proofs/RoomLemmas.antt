@@ -28,7 +28,8 @@ use Rattle.gptp_world.specs.Starting.{for_start, HasRoomToStart}
 use Rattle.gptp_acts.specs.World.{Channel, Net}
 use Rattle.gptp_world.proofs.NeedLemmas.{covered, repeated-covered, Covers}
 use Rattle.gptp_world.proofs.NetLemmas.{known_cable}
-use Rattle.gptp_acts.proofs.PlaceLemmas.{get-map, get-set_same, get-set_other, same_place}
+use Rattle.gptp_acts.proofs.ListLemmas.{mapped_there}
+use Rattle.gptp_acts.proofs.PlaceLemmas.{get-set_same, get-set_other, same_place}
 
 -- ---- one link
 
@@ -233,7 +234,7 @@ frames_within stage r more place station is here has port lane begins =
         → HasRoomOn (most_within r more (clock station.system) port) lane stage.net.cables.items stage.net.pending
     by true reached (inl (test, same)) =
         let known : slice_get stage.net.directory.clocks place ≡ Some (clock station.system) =
-        ap (λ cs. slice_get cs place) (sym is.clocks) ∙ get-map clock_at stage.stations.items place station here in
+        ap (λ cs. slice_get cs place) (sym is.clocks) ∙ mapped_there clock_at stage.stations.items place station here in
         let starts : BeginsAt stage.net.directory.joins (port_id (clock station.system) port.port) lane =
         subst (λ number. BeginsAt stage.net.directory.joins (port_id number port.port) lane) same begins in
         let range = is.ports place station port.port lane here starts in
@@ -331,7 +332,7 @@ clocks_apart stage first second near far is directory here there apart = λ same
     let known : (place : ℕ) (station : Station) → slice_get stage.stations.items place ≡ Some station
     → slice_get stage.net.directory.clocks place ≡ Some (clock station.system) =
     λ place station at. ap (λ cs. slice_get cs place) (sym is.clocks)
-    ∙ get-map clock_at stage.stations.items place station at in
+    ∙ mapped_there clock_at stage.stations.items place station at in
     apart (directory.plan.differ first second (clock near.system) (known first near here)
     (known second far there ∙ ap Some (sym same)))
 

@@ -16,7 +16,7 @@ use Rattle.gptp_world.specs.Stage.{world_of}
 use Rattle.gptp_world.specs.Starting.{CanStart, Started}
 use Rattle.gptp_acts.specs.World.{WorldState}
 use Rattle.gptp_world.proofs.ComingUpLemmas.{range-more}
-use Rattle.gptp_acts.proofs.PlaceLemmas.{within}
+use Rattle.gptp_acts.proofs.PlaceLemmas.{member_there}
 use Rattle.gptp_acts.proofs.SoundLemmas.{later_sound, starts_sound}
 
 -- ---- one system
@@ -25,7 +25,7 @@ use Rattle.gptp_acts.proofs.SoundLemmas.{later_sound, starts_sound}
 pub can_start : (stage : Stage) (place : ℕ) → IsSound (world_of stage) → place < length stage.stations.items
     → CanStart place stage
 can_start stage place is less =
-    let found = within stage.stations.items place less in
+    let found = member_there stage.stations.items place less in
     record {
       station = found.0;
       here = found.1;

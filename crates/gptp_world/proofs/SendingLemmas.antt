@@ -18,7 +18,8 @@ use Rattle.gptp_acts.specs.Pending.{PendingState, put_if, arrival_room, KeepsOth
 use Rattle.gptp_acts.specs.World.{Channel, sender, queue, with_queue}
 use Rattle.gptp_acts.specs.Sends.{entered}
 use Rattle.gptp_world.specs.Cable.{net_of, channel_of, HasRoomOn, SentOne}
-use Rattle.gptp_acts.proofs.PlaceLemmas.{get-set_same, get-set_other, get-map, map-set, map-set_same, same_place}
+use Rattle.gptp_acts.proofs.ListLemmas.{mapped_there}
+use Rattle.gptp_acts.proofs.PlaceLemmas.{get-set_same, get-set_other, map-set, map-set_same, same_place}
 
 -- a link whose queue in one direction became another, and nothing else of it
 pub channel_sent : (d : Direction) (old new : Cable) (frames : List Frame) → new.a ≡ old.a → new.b ≡ old.b
@@ -93,7 +94,7 @@ sent answers now lane octets fate fate_after cables old new due pending after he
     place = lane.link;
     direction = lane.direction;
     channel = channel_of old;
-    here = get-map channel_of cables lane.link old here;
+    here = mapped_there channel_of cables lane.link old here;
     begins = refl;
     up = up;
     bounds = refl;

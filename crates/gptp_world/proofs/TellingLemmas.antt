@@ -26,7 +26,8 @@ use Rattle.gptp_world.specs.Telling.{AreEndsOf, HasRoomAtEnds, IsEndAt, Told}
 use Rattle.gptp_acts.specs.World.{Channel, Net, WorldState}
 use Rattle.gptp_world.proofs.NeedLemmas.{covered, left_of}
 use Rattle.gptp_world.proofs.NetLemmas.{from_map, lane_of, MadeOf}
-use Rattle.gptp_acts.proofs.PlaceLemmas.{get-map, get-set_other, read}
+use Rattle.gptp_acts.proofs.ListLemmas.{mapped_there}
+use Rattle.gptp_acts.proofs.PlaceLemmas.{get-set_other, read}
 use Rattle.gptp_world.proofs.RoomLemmas.{joins_kept}
 
 -- ---- the ends of a link
@@ -68,7 +69,8 @@ named : (stage : Stage) (port : PortId) (end : End) (station : Station) → IsSt
     → clock station.system ≡ port.clock
 named stage port end station is at there =
     let known : slice_get stage.net.directory.clocks end.place ≡ Some (clock station.system) =
-    ap (λ cs. slice_get cs end.place) (sym is.clocks) ∙ get-map clock_at stage.stations.items end.place station there in
+    ap (λ cs. slice_get cs end.place) (sym is.clocks)
+    ∙ mapped_there clock_at stage.stations.items end.place station there in
     same_Some (clock station.system) port.clock (sym known ∙ at.clock)
 
 -- the port of an end is one of its system
@@ -291,7 +293,7 @@ both_told answers input changed link a b first second third stage net between af
     } in
     record {
       channel = channel;
-      here = get-map channel_of stage.net.cables.items link cable made.there;
+      here = mapped_there channel_of stage.net.cables.items link cable made.there;
       draws = all;
       drawn = draws.draws-append answers first second third told_a.draws told_b.draws told_a.drawn told_b.drawn;
       tells = subst (λ n. TellsEnds input channel (record (world_of stage) { net = n }) all (world_of after))

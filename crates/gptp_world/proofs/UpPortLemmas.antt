@@ -22,7 +22,7 @@ use Rattle.gptp_acts.specs.World.{port_id}
 use Rattle.gptp_acts.specs.Sends.{entered, IsUnlinked, SendsAll, SendsOne}
 use Rattle.gptp_acts.specs.World.{Channel, Net, WorldState, sender, with_queue}
 use Rattle.gptp_world.proofs.NetLemmas.{known_cable}
-use Rattle.gptp_acts.proofs.PlaceLemmas.{get-map}
+use Rattle.gptp_acts.proofs.ListLemmas.{mapped_there}
 
 -- ---- the ends of a link
 
@@ -121,7 +121,7 @@ up_tells net number port (Some lane) is up none =
     let known = known_cable net (port_id number port) lane is up.begins in
     let same : known.0 ≡ up.cable = same_Some known.0 up.cable (sym known.1 ∙ up.here) in
     up_where (map channel_of net.cables.items) lane.link lane.direction (channel_of known.0) number port
-    (get-map channel_of net.cables.items lane.link known.0 known.1) known.2 (rw same up.up)
+    (mapped_there channel_of net.cables.items lane.link known.0 known.1) known.2 (rw same up.up)
 
 -- ---- calls
 
