@@ -1,5 +1,5 @@
 -- The claim begins by itself.
-use Rattle.std.proofs.Common.{◌≡◌, ◌≤◌, ◌<◌, ◌+◌, ◌*◌, ℕ, List, Option, length, sym, ap, ◌∙◌, arith}
+use Rattle.std.proofs.Common.{◌≡◌, ◌≤◌, ◌<◌, ◌+◌, ◌*◌, ℕ, List, Option, length, refl, arith}
 use Rattle.std.specs.List.{range_with_len}
 use Rattle.gptp_links.specs.declared.bounds.Bounds.{Bounds}
 use Rattle.gptp_links.specs.Fate.{Draw}
@@ -25,7 +25,7 @@ use Rattle.gptp_kept.proofs.ChangeKeptLemmas.{initially_measured, starts_measure
 use Rattle.gptp_kept.proofs.LinkStandLemmas.{links_seen}
 use Rattle.gptp_kept.proofs.WatchLemmas.{watch_begins}
 use Rattle.gptp_kept.specs.Holds.{IsWorld}
-use Rattle.gptp_kept.proofs.MomentLemmas.{change_is_last, starts_all_moment}
+use Rattle.gptp_kept.proofs.OutlineLemmas.{change_is_last, starts_are_last}
 use Rattle.gptp_kept.specs.Watch.{Watches}
 
 -- ---- one world
@@ -79,9 +79,8 @@ pub first_begins : {F : Type 0} (answers : Bounds → ℕ → F → Option ℕ �
     (fate fate_after : F) (w : WorldState) → IsNetwork n → Begun answers n fate fate_after w → IsWorld n.params w
     → IsMeasured w → Watches n.params w
 first_begins answers n fate fate_after w network k =
-    let same = starts_all_moment (range_with_len 0 (length n.systems)) (initial n) k.draws w k.starts in
     fresh_watches n.params w network.params
-    (ap (λ (m : ℕ × ℕ). m.1) same ∙ sym (ap (λ (m : ℕ × ℕ). m.0) same))
+    (starts_are_last (range_with_len 0 (length n.systems)) (initial n) k.draws w refl k.starts)
 
 pub first_measured : {F : Type 0} (answers : Bounds → ℕ → F → Option ℕ → F → Type 0) (n : NetworkState)
     (fate fate_after : F) (w : WorldState) → IsSound (initial n) → Begun answers n fate fate_after w → IsMeasured w

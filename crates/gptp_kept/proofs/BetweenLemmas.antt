@@ -20,7 +20,7 @@ use Rattle.gptp_acts.proofs.ListLemmas.{mapped, mapped_there, same_there}
 use Rattle.gptp_acts.proofs.PlaceLemmas.{member_there}
 use Rattle.gptp_acts.proofs.StayLemmas.{Stays, acts_stay, starts_all_stay}
 use Rattle.gptp_kept.specs.Standing.{AreBetween, HasPort, IsBetween}
-use Rattle.gptp_kept.proofs.CountLemmas.{acts_count, count, starts_all_count}
+use Rattle.gptp_kept.proofs.OutlineLemmas.{acts_count, count, starts_all_count}
 
 -- ---- the world that a network makes
 

@@ -1,5 +1,5 @@
 -- The claim begins with the world of a network, and is kept.
-use Rattle.std.proofs.Common.{◌≢◌, ◌≤◌, ℕ, Option, length, sym, ap, ◌∙◌}
+use Rattle.std.proofs.Common.{◌≢◌, ◌≤◌, ℕ, Option, length, refl}
 use Rattle.std.specs.List.{range_with_len}
 use Rattle.gptp_links.specs.declared.bounds.Bounds.{Bounds}
 use Rattle.gptp_system.specs.declared.setup.Params.{Params}
@@ -25,7 +25,7 @@ use Rattle.gptp_kept.proofs.ActLegibleLemmas.{initial_legible, starts_legible}
 use Rattle.gptp_kept.proofs.BetweenLemmas.{networks_between, starts_between}
 use Rattle.gptp_kept.specs.Holds.{AreCapable, IsWorld}
 use Rattle.gptp_kept.proofs.HoldsLemmas.{done_holds, first_begins as holds_first, later_holds}
-use Rattle.gptp_kept.proofs.MomentLemmas.{change_is_last, starts_all_moment}
+use Rattle.gptp_kept.proofs.OutlineLemmas.{change_is_last, starts_are_last}
 use Rattle.gptp_kept.proofs.SettledWorldLemmas.{done_stays, time_stays}
 use Rattle.gptp_kept.proofs.BeginLemmas.{first_begins as watches_first, first_measured}
 use Rattle.gptp_kept.proofs.CapableKeptLemmas.{done_measured, done_watches, later_watches}
@@ -60,8 +60,7 @@ pub claim_begins : {F : Type 0} (answers : Bounds → ℕ → F → Option ℕ �
 claim_begins answers n fate fate_after w network sound k =
     let world = first_world answers n fate fate_after w network sound k in
     let measured = first_measured answers n fate fate_after w sound k in
-    let same = starts_all_moment (range_with_len 0 (length n.systems)) (initial n) k.draws w k.starts in
-    let now = ap (λ (m : ℕ × ℕ). m.1) same ∙ sym (ap (λ (m : ℕ × ℕ). m.0) same) in
+    let now = starts_are_last (range_with_len 0 (length n.systems)) (initial n) k.draws w refl k.starts in
     record {
       params = network.params;
       world = world;

@@ -30,7 +30,7 @@ use Rattle.gptp_kept.specs.Calm.{IsQuietWorld, network_of}
 use Rattle.gptp_kept.proofs.CalmLemmas.{calm, network}
 use Rattle.gptp_kept.proofs.CalmKeptLemmas.{KeepsNetwork, acts_keep, same_network, stays_quiet}
 use Rattle.gptp_kept.specs.Holds.{AreCapable, Holds, IsWorld, settling_network, start_of}
-use Rattle.gptp_kept.proofs.MomentLemmas.{change_is_last, starts_all_moment}
+use Rattle.gptp_kept.proofs.OutlineLemmas.{change_is_last, starts_are_last}
 use Rattle.gptp_kept.proofs.SettledWorldLemmas.{done_stays, ready_stays, still_acts_stay}
 
 -- ---- one world
@@ -65,9 +65,8 @@ pub first_begins : {F : Type 0} (answers : Bounds → ℕ → F → Option ℕ �
     (fate fate_after : F) (w : WorldState) → IsSimulated n → Begun answers n fate fate_after w → IsWorld n.params w
     → Holds n.params w
 first_begins answers n fate fate_after w network k =
-    let same = starts_all_moment (range_with_len 0 (length n.systems)) (initial n) k.draws w k.starts in
     fresh_begins n.params w network.params.ranges.params
-    (ap (λ (m : ℕ × ℕ). m.1) same ∙ sym (ap (λ (m : ℕ × ℕ). m.0) same))
+    (starts_are_last (range_with_len 0 (length n.systems)) (initial n) k.draws w refl k.starts)
 
 -- ---- from one world to the next
 

@@ -33,7 +33,7 @@ pub mod LegibleLemmas
 pub mod AnsweringLemmas
 pub mod ChangeLegibleLemmas
 pub mod ActLegibleLemmas
-pub mod CountLemmas
+pub mod OutlineLemmas
 pub mod BetweenLemmas
 pub mod SystemLemmas
 pub mod WayLemmas
@@ -46,7 +46,6 @@ pub mod CalmFactLemmas
 pub mod DelayLemmas
 pub mod CalmLemmas
 pub mod SettledWorldLemmas
-pub mod MomentLemmas
 pub mod HoldsLemmas
 pub mod ParentLemmas
 pub mod SettledLemmas

@@ -12,7 +12,7 @@ use Rattle.gptp_kept.specs.LinkView.{IsEndOf, IsMeasuring, opposite}
 use Rattle.gptp_kept.proofs.LinkLemmas.{sender_opposite}
 
 -- a live station's port at a link is an end of it
-abbrev end_is : (place : ℕ) (port : PortId) (w : WorldState) → IsMeasured w → (e : IsLiveAt place port.clock w)
+abbrev pub end_is : (place : ℕ) (port : PortId) (w : WorldState) → IsMeasured w → (e : IsLiveAt place port.clock w)
     → IsPortOf e.station.system port.port → IsEndOf place port w
 end_is place port w measured e of =
     let found = port_stands e.station.system port.port of in

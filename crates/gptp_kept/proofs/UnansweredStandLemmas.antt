@@ -7,41 +7,27 @@ use Rattle.gptp_vector.specs.declared.port.PortId.{PortId}
 use Rattle.gptp_system.specs.declared.port.Port.{Port}
 use Rattle.gptp_system.specs.declared.setup.Params.{Params}
 use Rattle.gptp_system.specs.Intervals.{interval_of}
-use Rattle.gptp_system.specs.Measures.{part_of}
 use Rattle.gptp_system.specs.State.{number}
-use Rattle.gptp_system.proofs.TimelyLemmas.{port_stands}
 use Rattle.gptp_acts.specs.Sound.{IsSound}
 use Rattle.gptp_acts.specs.World.{WorldState, sender}
 use Rattle.gptp_acts.proofs.PlaceLemmas.{member_there}
-use Rattle.gptp_kept.specs.LinkView.{IsEndOf, IsMeasuring, LinkPlace, asked_at}
+use Rattle.gptp_kept.specs.LinkView.{IsEndOf, LinkPlace, asked_at}
 use Rattle.gptp_kept.specs.Due.{IsWithin}
 use Rattle.gptp_kept.specs.Known.{IsKnown}
 use Rattle.gptp_kept.proofs.DueLemmas.{ports_known}
+use Rattle.gptp_kept.proofs.LinkStandLemmas.{end_is}
 use Rattle.gptp_kept.specs.UnansweredLaws.{PortsAreSeen, TimersAreKnown}
 use Rattle.gptp_kept.specs.Unanswered.{IsUnansweredAt}
 
 pub ports_seen : PortsAreSeen
 ports_seen at w sound measured s =
-    let port : PortId = sender at.direction s.channel in
-    let e = s.asking in
-    let found = port_stands e.station.system port.port
-    (sound.wired.ports at.link at.asking at.direction s.channel e.station s.here e.here e.named) in
-    let all = measured.stations at.asking e.station e.here in
     record {
       channel = s.channel;
       here = s.here;
       up = s.up;
-      asking = record {
-        station = e.station;
-        state = found.0;
-        here = e.here;
-        live = e.live;
-        set_up = all.set_up;
-        named = e.named;
-        there = found.1;
-        measures = subst (λ p. IsMeasuring e.station.setup.params p (part_of found.0))
-            (λ i. record { clock = e.named i; port = port.port }) (all.ports port.port found.0 found.1);
-      };
+      asking = end_is at.asking (sender at.direction s.channel) w measured s.asking
+          (sound.wired.ports at.link at.asking at.direction s.channel s.asking.station s.here s.asking.here
+          s.asking.named);
       answering = s.answering;
     }
 
