@@ -23,7 +23,7 @@ use Rattle.gptp_kept.proofs.ChangeKeptLemmas.{later_measured}
 use Rattle.gptp_kept.specs.LegibleLaws.{SetsAnOctet}
 use Rattle.gptp_kept.proofs.ActLegibleLemmas.{initial_legible, starts_legible}
 use Rattle.gptp_kept.proofs.BetweenLemmas.{networks_between, starts_between}
-use Rattle.gptp_kept.specs.Holds.{AreCapable, IsWorld}
+use Rattle.gptp_kept.specs.Holds.{BecomeCapable, IsWorld}
 use Rattle.gptp_kept.proofs.HoldsLemmas.{done_holds, first_begins as holds_first, later_holds}
 use Rattle.gptp_kept.proofs.OutlineLemmas.{change_is_last, starts_are_last}
 use Rattle.gptp_kept.proofs.SettledWorldLemmas.{done_stays, time_stays}
@@ -36,7 +36,7 @@ use Rattle.gptp_kept.proofs.ClaimedCapableLemmas.{are_capable}
 
 -- ---- one world
 
-pub claim_capable : (p : Params) (w : WorldState) → IsClaimed p w → AreCapable p w
+pub claim_capable : (p : Params) (w : WorldState) → IsClaimed p w → BecomeCapable p w
 claim_capable p w is = are_capable p w is.params is.world is.watched is.silent
 
 -- ---- it begins

@@ -23,7 +23,7 @@ use Rattle.gptp_kept.specs.Calm.{IsQuietWorld}
 use Rattle.gptp_kept.specs.Standing.{HasPort, IsBetween, has_clock, is_used, live_systems, snapshot_of, standing}
 use Rattle.gptp_kept.proofs.SystemLemmas.{clock_in, clock_there, live_there}
 use Rattle.gptp_kept.proofs.WayLemmas.{used_joins}
-use Rattle.gptp_kept.specs.Holds.{AreCapable, IsWorld, start_of}
+use Rattle.gptp_kept.specs.Holds.{BecomeCapable, IsWorld, start_of}
 use Rattle.gptp_kept.specs.Watch.{IsCapablePort, Watches}
 use Rattle.gptp_kept.proofs.CapableLemmas.{used_capable}
 use Rattle.gptp_kept.specs.Unanswered.{AreSilent, StandsUnanswered}
@@ -172,7 +172,7 @@ ports_settled p w params is watched silent quiet late place station here live i 
 
 -- so the ports are capable as the machine of gptp_settling wants them
 pub are_capable : (p : Params) (w : WorldState) → KeepParams p → IsWorld p w → Watches p w → AreSilent p w
-    → AreCapable p w
+    → BecomeCapable p w
 are_capable p w params is watched silent quiet late place station here live i h q stands there =
     let settled = ports_settled p w params is watched silent quiet late place station here live i h q stands there in
     record {

@@ -29,7 +29,7 @@ use Rattle.gptp_kept.proofs.SeenActLemmas.{acts_seen}
 use Rattle.gptp_kept.specs.Calm.{IsQuietWorld, network_of}
 use Rattle.gptp_kept.proofs.CalmLemmas.{calm, network}
 use Rattle.gptp_kept.proofs.CalmKeptLemmas.{KeepsNetwork, acts_keep, same_network, stays_quiet}
-use Rattle.gptp_kept.specs.Holds.{AreCapable, Holds, IsWorld, settling_network, start_of}
+use Rattle.gptp_kept.specs.Holds.{BecomeCapable, Holds, IsWorld, settling_network, start_of}
 use Rattle.gptp_kept.proofs.OutlineLemmas.{change_is_last, starts_are_last}
 use Rattle.gptp_kept.proofs.SettledWorldLemmas.{done_stays, ready_stays, still_acts_stay}
 
@@ -40,7 +40,7 @@ pub is_network : (p : Params) (w : WorldState) → IsWorld p w → IsNetwork (se
 is_network p w is = network p (start_of p w) w is.sound is.between is.legible is.known
 
 -- and a quiet one is a calm state
-pub is_calm : (p : Params) (w : WorldState) → IsWorld p w → IsQuietWorld p w → AreCapable p w
+pub is_calm : (p : Params) (w : WorldState) → IsWorld p w → IsQuietWorld p w → BecomeCapable p w
     → Calm (settling_network p w) (view w)
 is_calm p w is quiet capable =
     let passed : w.last_change + interval_of p.announce ≤ start_of p w = omega arith in
@@ -71,7 +71,7 @@ first_begins answers n fate fate_after w network k =
 -- ---- from one world to the next
 
 -- a step of the machine keeps the claim, where the network and its links stay as they are
-step_keeps : (p : Params) (w w' : WorldState) → IsWorld p w → IsWorld p w' → AreCapable p w → AreCapable p w'
+step_keeps : (p : Params) (w w' : WorldState) → IsWorld p w → IsWorld p w' → BecomeCapable p w → BecomeCapable p w'
     → settling_network p w' ≡ settling_network p w → (IsQuietWorld p w' → IsQuietWorld p w)
     → Steps says (view w) (view w') → Holds p w → Holds p w'
 step_keeps p w w' is is' capable capable' same back step holds quiet =
@@ -97,7 +97,7 @@ same_settling p w w' k =
     ∙ same_network w w' k p (start_of p w)
 
 pub acts_hold : (p : Params) (act : Act) (w : WorldState) (draws : List Draw) (done : Done) (w' : WorldState)
-    → IsNoChange act → Acts act w draws done w' → IsWorld p w → AreCapable p w → AreCapable p w' → Holds p w
+    → IsNoChange act → Acts act w draws done w' → IsWorld p w → BecomeCapable p w → BecomeCapable p w' → Holds p w
     → Holds p w'
 acts_hold p act w draws done w' none k is capable capable' =
     let keeps = acts_keep act w draws done w' none k in
@@ -106,7 +106,7 @@ acts_hold p act w draws done w' none k is capable capable' =
     (inr (acts_seen act w draws done w' none is.sound is.legible k))
 
 pub later_holds : (p : Params) (w : WorldState) (time : ℕ) → w.time ≤ time → IsWorld p w → IsWorld p (at time w)
-    → AreCapable p w → AreCapable p (at time w) → Holds p w → Holds p (at time w)
+    → BecomeCapable p w → BecomeCapable p (at time w) → Holds p w → Holds p (at time w)
 later_holds p w time later is is' capable capable' =
     step_keeps p w (at time w) is is' capable capable' refl (λ quiet. quiet)
     (inl (record { time = time; later = later; is = refl }))
@@ -115,7 +115,7 @@ later_holds p w time later is is' capable capable' =
 pub done_holds : {F : Type 0} (answers : Bounds → ℕ → F → Option ℕ → F → Type 0) (p : Params) (timed : Timed)
     (fate fate_after : F) (w w' : WorldState) (done : Done) → AreParams p → IsFitAct timed.act
     → IsPromptAct p timed.act → SetsAnOctet timed.act → WasDone answers timed fate fate_after w w' done → IsWorld p w
-    → AreCapable p w → AreCapable p (at timed.at w) → AreCapable p w' → Holds p w → Holds p w'
+    → BecomeCapable p w → BecomeCapable p (at timed.at w) → BecomeCapable p w' → Holds p w → Holds p w'
 done_holds answers p timed fate fate_after w w' done params fit prompt octet k is capable then capable' holds =
     by timed.act k.acts
   where

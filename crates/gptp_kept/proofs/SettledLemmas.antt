@@ -27,7 +27,7 @@ use Rattle.gptp_kept.specs.View.{held_view, port_view, says, span_at, station_vi
 use Rattle.gptp_kept.proofs.PlaceLemmas.{port_there, station_there}
 use Rattle.gptp_kept.specs.Calm.{IsQuietWorld}
 use Rattle.gptp_kept.specs.Standing.{snapshot_of}
-use Rattle.gptp_kept.specs.Holds.{AreCapable, Holds, IsWorld, settling_network}
+use Rattle.gptp_kept.specs.Holds.{BecomeCapable, Holds, IsWorld, settling_network}
 use Rattle.gptp_kept.specs.Settled.{Settled, role_of}
 use Rattle.gptp_kept.proofs.HoldsLemmas.{is_calm, is_network}
 use Rattle.gptp_kept.proofs.ParentLemmas.{parent_settled}
@@ -97,7 +97,7 @@ module _ (g : Snapshot) (station : Station) (shown : AreShown station.system)
 
 -- ---- the world
 
-module _ (p : Params) (w : WorldState) (is : IsWorld p w) (quiet : IsQuietWorld p w) (capable : AreCapable p w)
+module _ (p : Params) (w : WorldState) (is : IsWorld p w) (quiet : IsQuietWorld p w) (capable : BecomeCapable p w)
     (holds : Holds p w) (late : w.last_change + settling_span p (length (snapshot_of w).systems) ≤ w.time) where
   -- the machine has settled by then
   settled_by : settled_from (settling_network p w) ≤ w.time

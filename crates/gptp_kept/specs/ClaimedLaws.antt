@@ -14,7 +14,7 @@ use Rattle.gptp_acts.specs.Sound.{IsSound}
 use Rattle.gptp_acts.specs.World.{WorldState}
 use Rattle.gptp_acts.specs.Prompt.{IsPromptAct, IsPromptIn}
 use Rattle.gptp_kept.specs.LegibleLaws.{SetsAnOctet}
-use Rattle.gptp_kept.specs.Holds.{AreCapable}
+use Rattle.gptp_kept.specs.Holds.{BecomeCapable}
 use Rattle.gptp_kept.specs.Settled.{Settled}
 use Rattle.gptp_kept.specs.CalmFor.{ArePortsSettled, IsCalmFor, capable_span}
 use Rattle.gptp_kept.specs.Claimed.{Claimed, IsClaimed}
@@ -42,7 +42,7 @@ ClaimLater = (p : Params) (w : WorldState) (time : ℕ)
 
 -- from the start on the ports of live systems are disabled exactly where no link of the snapshot is at them
 abbrev pub ClaimIsCapable : Type 0
-ClaimIsCapable = (p : Params) (w : WorldState) → IsClaimed p w → AreCapable p w
+ClaimIsCapable = (p : Params) (w : WorldState) → IsClaimed p w → BecomeCapable p w
 
 -- ---- without them
 

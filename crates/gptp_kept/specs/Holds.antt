@@ -24,8 +24,8 @@ abbrev pub start_of : Params → WorldState → ℕ
 start_of p w = w.last_change + (p.lost + 5) * interval_of p.announce
 
 -- it is so of the ports of live systems, where the links are quiet
-abbrev pub AreCapable : Params → WorldState → Type 0
-AreCapable p w = IsQuietWorld p w → AreCapableFrom (start_of p w) w
+abbrev pub BecomeCapable : Params → WorldState → Type 0
+BecomeCapable p w = IsQuietWorld p w → AreCapableFrom (start_of p w) w
 
 -- the network of the machine of gptp_settling that the world then has
 abbrev pub settling_network : Params → WorldState → Network

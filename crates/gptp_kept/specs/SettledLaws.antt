@@ -20,7 +20,7 @@ use Rattle.gptp_kept.specs.LegibleLaws.{SetsAnOctet}
 use Rattle.gptp_kept.specs.SeenLaws.{IsNoChange}
 use Rattle.gptp_kept.specs.Calm.{IsQuietWorld}
 use Rattle.gptp_kept.specs.Standing.{snapshot_of}
-use Rattle.gptp_kept.specs.Holds.{AreCapable, Holds, IsWorld, start_of}
+use Rattle.gptp_kept.specs.Holds.{BecomeCapable, Holds, IsWorld, start_of}
 use Rattle.gptp_kept.specs.Settled.{Settled}
 
 -- ---- worlds
@@ -69,13 +69,13 @@ HoldsAtFirst {F} answers = (n : NetworkState) (fate fate_after : F) (w : WorldSt
 -- an act that changes nothing of the network keeps it
 abbrev pub HoldsKept : Type 0
 HoldsKept = (p : Params) (act : Act) (w : WorldState) (draws : List Draw) (done : Done) (w' : WorldState)
-    → IsNoChange act → Acts act w draws done w' → IsWorld p w → AreCapable p w → AreCapable p w' → Holds p w
+    → IsNoChange act → Acts act w draws done w' → IsWorld p w → BecomeCapable p w → BecomeCapable p w' → Holds p w
     → Holds p w'
 
 -- and so does time that passes
 abbrev pub HoldsLater : Type 0
 HoldsLater = (p : Params) (w : WorldState) (time : ℕ)
-    → w.time ≤ time → IsWorld p w → IsWorld p (at time w) → AreCapable p w → AreCapable p (at time w) → Holds p w
+    → w.time ≤ time → IsWorld p w → IsWorld p (at time w) → BecomeCapable p w → BecomeCapable p (at time w) → Holds p w
     → Holds p (at time w)
 
 -- so it is kept from act to act, where the ports are capable before the act, at its time, and after it
@@ -83,7 +83,7 @@ abbrev pub HoldsDone : {F : Type 0} → (Bounds → ℕ → F → Option ℕ →
 HoldsDone {F} answers = (p : Params) (timed : Timed) (fate fate_after : F) (w w' : WorldState) (done : Done)
     → AreParams p → IsFitAct timed.act → IsPromptAct p timed.act → SetsAnOctet timed.act
     → WasDone answers timed fate fate_after w w' done → IsWorld p w
-    → AreCapable p w → AreCapable p (at timed.at w) → AreCapable p w' → Holds p w
+    → BecomeCapable p w → BecomeCapable p (at timed.at w) → BecomeCapable p w' → Holds p w
     → Holds p w'
 
 -- ---- the world settles
@@ -91,6 +91,6 @@ HoldsDone {F} answers = (p : Params) (timed : Timed) (fate fate_after : F) (w w'
 -- a quiet world of which it holds has settled once the span of its live systems has passed from the last change
 abbrev pub HoldsSettled : Type 0
 HoldsSettled = (p : Params) (w : WorldState)
-    → IsWorld p w → IsQuietWorld p w → AreCapable p w → Holds p w
+    → IsWorld p w → IsQuietWorld p w → BecomeCapable p w → Holds p w
     → w.last_change + settling_span p (length (snapshot_of w).systems) ≤ w.time
     → Settled w

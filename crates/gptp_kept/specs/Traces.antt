@@ -28,11 +28,11 @@ abbrev pub turns_span : ℕ → Params → ℕ → ℕ
 turns_span c p n = capable_span p n + c * turn_of p
 
 -- the world is calm, for however long
-abbrev pub IsCalm : WorldState → Type 0
-IsCalm = IsCalmFor (λ p n. 0)
+abbrev pub IsCalmWorld : WorldState → Type 0
+IsCalmWorld = IsCalmFor (λ p n. 0)
 
 -- what arrived at this time was sent so many turns after ports have become capable
-abbrev pub WasSentAfter : ℕ → ℕ → (w : WorldState) → IsCalm w → Type 0
+abbrev pub WasSentAfter : ℕ → ℕ → (w : WorldState) → IsCalmWorld w → Type 0
 WasSentAfter c time w calm =
     w.last_change + turns_span c calm.params (length (snapshot_of w).systems) + interval_of calm.params.announce ≤ time
 
@@ -70,7 +70,7 @@ pub record IsHeldClean (g : Snapshot) (m number port : ℕ) (r : Reception) : Ty
 
 -- so is what each port received that was sent c turns after ports have become capable
 abbrev pub AreHeldCleanInTime : WorldState → SystemState → Type 0
-AreHeldCleanInTime w s = (calm : IsCalm w) (c n : ℕ) (r : Reception)
+AreHeldCleanInTime w s = (calm : IsCalmWorld w) (c n : ℕ) (r : Reception)
     → received (held_at s n) ≡ Some r → WasSentAfter c r.at w calm
     → IsHeldClean (snapshot_of w) (suc c) (clock s) n r
 
@@ -87,6 +87,6 @@ pub record IsFrameClean (g : Snapshot) (m : ℕ) (reached : PortIdentity) (a : A
 abbrev pub IsHeardClean : WorldState → ℕ → Done → Type 0
 IsHeardClean w time Quiet = ⊤
 IsHeardClean w time (Heard number port answer frame) =
-    (calm : IsCalm w) (c : ℕ) (m : AnnounceView)
+    (calm : IsCalmWorld w) (c : ℕ) (m : AnnounceView)
     → Reads frame.items (messages.Announce m) → WasSentAfter c time w calm
     → IsFrameClean (snapshot_of w) (suc c) (port_of number port) (said m)
