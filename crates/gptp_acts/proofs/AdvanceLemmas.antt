@@ -213,11 +213,6 @@ module _ {F : Type 0} (answers : Bounds → ℕ → F → Option ℕ → F → T
       let late = next_not_before (until + 1) w.net.pending t.timed.at next.item next.next none in
       absurd (omega (arith, early, late))
 
-  -- no act at all
-  pub none_happened : (until : ℕ) (fate fate_after : F) (w w' : WorldState) → fate_after ≡ fate → w' ≡ w
-      → Stopped answers until fate fate_after w w'
-  none_happened until fate fate_after w w' same is = record { told = []; advances = (same, is) }
-
   -- one act
   pub one_happened : (until : ℕ) (told : Told) (fate fate_after : F) (w w' : WorldState)
       → Happened until told fate fate_after w w' → Stopped answers until fate fate_after w w'

@@ -1,6 +1,6 @@
 -- How much is pending at a time or before it, as entries are put and taken.
 use Rattle.std.proofs.Common.{◌≡◌, ◌⊎◌, ℕ, ◌+◌, ◌≤◌, ◌<◌, nat_le, Bool, true, false, if◌then◌else◌, List, [], ◌∷◌, ◌++◌, length, Option, Some, None, refl, sym, ap, ◌∙◌, inl, inr, arith}
-use Rattle.std.specs.List.{AllByRecursion, filter}
+use Rattle.std.specs.List.{filter}
 use Rattle.std.proofs.lemmas.Bool.Decides.{nat_tests}
 use Rattle.std.proofs.lemmas.List.{length-append}
 use Rattle.std.proofs.lemmas.List.Elements.{filter-append}
@@ -11,9 +11,8 @@ use Rattle.gptp_acts.specs.declared.station.Station.{Station}
 use Rattle.gptp_acts.specs.Act.{set_timers}
 use Rattle.gptp_acts.specs.Ahead.{due_by}
 use Rattle.gptp_acts.specs.Item.{same_item}
-use Rattle.gptp_acts.specs.Pending.{Entry, IsNext, entry, listed, put, put_if, same_times, set_due, times, without, without_first}
+use Rattle.gptp_acts.specs.Pending.{Entry, entry, listed, put, put_if, same_times, set_due, times, without, without_first}
 use Rattle.gptp_acts.specs.World.{station_due}
-use Rattle.gptp_acts.proofs.MomentLemmas.{next-first}
 use Rattle.gptp_acts.proofs.PendingLemmas.{same_times-refl, times-set_due_other, times-set_due_same}
 use Rattle.gptp_acts.proofs.TimerLemmas.{same_timer}
 
@@ -83,12 +82,6 @@ module _ (time : ℕ) where
           let less = ih rest early in
           let all = due_by-step e es in
           let kept = due_by-step e (without_first i es) in rw b (omega (arith, less, all, kept))
-
-  -- so it is with the next, where the times of its item don't fall
-  pub due_by-next : (es : List Entry) (i : Item) → IsNext es time i → (t : ℕ) (ts : List ℕ) → times i es ≡ t ∷ ts
-      → AllByRecursion (λ u. t ≤ u) ts → due_by time (without_first i es) + 1 ≡ due_by time es
-  due_by-next es i next t ts is least =
-      let first = next-first es time i next t ts is least in due_by-taken i es t ts is (omega arith)
 
   -- ---- timers that are set
 

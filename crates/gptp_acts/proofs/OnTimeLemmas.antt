@@ -16,7 +16,7 @@ use Rattle.gptp_acts.specs.Changing.{failed}
 use Rattle.gptp_acts.specs.Item.{same_item}
 use Rattle.gptp_acts.specs.Pending.{Entry, NothingBefore, listed, times, without_first}
 use Rattle.gptp_acts.specs.World.{Net, WorldState, queue, receiver, station_due}
-use Rattle.gptp_acts.proofs.AheadLemmas.{calls_due_by, calls_nothing_before, calls_on_time, live_due, pending_none_late, requeued_fit}
+use Rattle.gptp_acts.proofs.AheadLemmas.{calls_due_by, calls_on_time, live_due, pending_none_late, requeued_fit}
 use Rattle.gptp_acts.proofs.DueByLemmas.{due_by-taken}
 use Rattle.gptp_acts.proofs.ListLemmas.{same_there}
 use Rattle.gptp_acts.proofs.MomentLemmas.{nothing_before-without_first}
@@ -92,14 +92,6 @@ module _ (place : ℕ) (timer : Timer) (w : WorldState) (draws : List Draw) (w' 
       (other_item place timer t other (same_item (Expiry place t) (Expiry place timer)) refl)
       ∙ agree t ∙ ap listed (station_dues t)
 
-  -- Where what is pending agrees with the system, an expiry leaves nothing pending before now.
-  pub expires_nothing_before : IsSteady k.station.system → AreFit w.net.channels
-      → ((t : Timer) → times (Expiry place t) w.net.pending ≡ listed (station_due t k.station))
-      → NothingBefore w.time w.net.pending → NothingBefore w.time w'.net.pending
-  expires_nothing_before steady fit agree none =
-      calls_nothing_before place (TimerExpires timer) between draws k.answer w' k.calls (out_steady steady) out_timely
-      fit (out_pending agree) (nothing_before-without_first w.time (Expiry place timer) w.net.pending none)
-
   -- And it leaves less to do by now.
   pub expires_due_by : IsSteady k.station.system → AreFit w.net.channels
       → ((t : Timer) → times (Expiry place t) w.net.pending ≡ listed (station_due t k.station))
@@ -170,27 +162,6 @@ module _ (link : ℕ) (direction : Direction) (octets : List ℕ) (w : WorldStat
       ∙ times-without_first_other (Arrival link direction) (Expiry k.place t) w.net.pending
       (no_arrival k.place t link direction)
       ∙ agree t ∙ ap listed (ap (station_due t) same ∙ live_due c.station t c.live)
-
-  -- Where what is pending agrees with the receiver, a delivery leaves nothing pending before now.
-  pub delivers_nothing_before : IsSteady k.station.system
-      → (k.station.live ≡ true → IsUp k.station.system (receiver direction k.channel).port) → AreFit w.net.channels
-      → ((t : Timer) → times (Expiry k.place t) w.net.pending ≡ listed (station_due t k.station))
-      → NothingBefore w.time w.net.pending → NothingBefore w.time w'.net.pending
-  delivers_nothing_before steady up fit agree none = by answer k.hears
-    where
-      before : NothingBefore w.time k.net.pending
-      before =
-          subst (NothingBefore w.time) (sym left_is)
-          (nothing_before-without_first w.time (Arrival link direction) w.net.pending none)
-
-      by : (a : Option Answer) → Hears k.place (receiver direction k.channel).port octets emptied draws a w'
-          → NothingBefore w.time w'.net.pending
-      by (Some one) c =
-          let timely = heard_timely up one c in
-          calls_nothing_before k.place heard emptied draws one w' c
-          (subst (λ (x : Station). IsSteady x.system) timely.0 steady) timely.1 (emptied_fit fit)
-          (heard_pending one c timely.0 agree) before
-      by None (failed, none, is) = subst (λ (x : WorldState). NothingBefore w.time x.net.pending) (sym is) before
 
   -- And it leaves less to do by now, where what is pending agrees with the link.
   pub delivers_due_by : IsSteady k.station.system

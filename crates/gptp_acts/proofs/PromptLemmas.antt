@@ -5,11 +5,10 @@ use Rattle.gptp_links.specs.declared.bounds.Bounds.{Bounds}
 use Rattle.gptp_system.specs.declared.setup.Params.{Params}
 use Rattle.gptp_acts.specs.declared.change.Act.{Act}
 use Rattle.gptp_acts.specs.declared.change.Timed.{Timed}
-use Rattle.gptp_acts.specs.declared.done.Done.{Done}
 use Rattle.gptp_acts.specs.declared.item.Item.{Item}
 use Rattle.gptp_acts.specs.declared.item.Item.TheVariants.{Expiry, Arrival}
 use Rattle.gptp_acts.specs.declared.station.Station.{Station}
-use Rattle.gptp_acts.specs.Course.{Begun, WasDone}
+use Rattle.gptp_acts.specs.Course.{Begun}
 use Rattle.gptp_acts.specs.Initial.{initial, station_of}
 use Rattle.gptp_acts.specs.Network.{NetworkState}
 use Rattle.gptp_acts.specs.Prompt.{ArePromptActs, ArePromptIn, HaveParams, IsPromptAct, IsPromptIn}
@@ -17,7 +16,7 @@ use Rattle.gptp_acts.specs.Sound.{HaveTheirSetups}
 use Rattle.gptp_acts.specs.Views.{IsActOf, IsNextAct}
 use Rattle.gptp_acts.specs.World.{WorldState}
 use Rattle.gptp_acts.proofs.ListLemmas.{mapped}
-use Rattle.gptp_acts.proofs.StayLemmas.{Stays, done_stays, starts_all_stay}
+use Rattle.gptp_acts.proofs.StayLemmas.{Stays, starts_all_stay}
 
 -- ---- what stays
 
@@ -33,13 +32,6 @@ stays_prompt act w w' stays prompt place new there =
 
 pub stay_prompt : (acts : List Timed) (w w' : WorldState) → Stays w w' → ArePromptIn w acts → ArePromptIn w' acts
 stay_prompt acts w w' stays prompt place timed here = stays_prompt timed.act w w' stays (prompt place timed here)
-
--- an act that was prompt is so after another
-pub done_prompt : {F : Type 0} (answers : Bounds → ℕ → F → Option ℕ → F → Type 0) (act : Act) (timed : Timed)
-    (fate fate_after : F) (w w' : WorldState) (done : Done) → HaveTheirSetups w
-    → WasDone answers timed fate fate_after w w' done → IsPromptIn w act → IsPromptIn w' act
-done_prompt answers act timed fate fate_after w w' done setups k =
-    stays_prompt act w w' (done_stays answers timed fate fate_after w w' done setups k)
 
 -- ---- worlds of one network
 

@@ -90,9 +90,6 @@ rises_from (n ∷ ns) up = (
   rises_from ns (λ i j d le less. up (suc i) (suc j) d (omega arith) (omega arith)),
 )
 
-pub rising-order : (ns : List ℕ) → IsNonDecreasing (rising ns)
-rising-order ns = non_decreasing (rising ns) (rises ns)
-
 -- ---- no other list of them is so
 
 -- both have the same total of every measure

@@ -1,5 +1,5 @@
 -- The systems are their own and the links join them, and every act keeps it so.
-use Rattle.std.proofs.Common.{◌≡◌, ◌≢◌, ℕ, Bool, true, false, List, [], Option, Some, slice_get, refl, sym, ◌∙◌}
+use Rattle.std.proofs.Common.{◌≡◌, ◌≢◌, ℕ, Bool, List, Option, Some, slice_get, refl}
 use Rattle.gptp_links.specs.declared.bounds.Bounds.{Bounds}
 use Rattle.gptp_links.specs.declared.link.Direction.{Direction}
 use Rattle.gptp_links.specs.Fate.{Draw}
@@ -7,13 +7,13 @@ use Rattle.gptp_system.specs.declared.answer.Answer.{Answer}
 use Rattle.gptp_system.specs.declared.timer.Timer.{Timer}
 use Rattle.gptp_system.specs.Input.{Input, PortDown}
 use Rattle.gptp_acts.specs.declared.station.Station.{Station}
-use Rattle.gptp_acts.specs.World.{Channel, WorldState, queue}
+use Rattle.gptp_acts.specs.World.{Channel, WorldState}
 use Rattle.gptp_acts.specs.Act.{Calls, Delivers, Expires}
-use Rattle.gptp_acts.specs.Changing.{with_bounds, with_setup, with_station, ComesUpIf, FailsIf, GoesDownIf, RecoversIf, Starts, StartsAll}
-use Rattle.gptp_acts.specs.Sound.{AllFlow, AreApart, AreLinked, HaveOwnClocks, HaveTheirSetups, IsWired, JoinPorts}
-use Rattle.gptp_acts.proofs.FlowLemmas.{calls_flow, comes_up_flow, delivers_flow, expires_flow, fails_flow, goes_down_flow, recovers_flow, starts_all_flow, starts_flow, with_bounds_flow}
-use Rattle.gptp_acts.proofs.LinkedLemmas.{calls_linked, comes_up_linked, delivers_linked, expires_linked, fails_linked, goes_down_linked, recovers_linked, starts_all_linked, starts_linked, with_bounds_linked, with_setup_linked}
-use Rattle.gptp_acts.proofs.StayLemmas.{calls_stay, comes_up_stays, delivers_stay, expires_stay, fails_stays, goes_down_stays, recovers_stays, starts_all_stay, starts_stays, stays_apart, stays_clocks, stays_ports, stays_setups, with_bounds_stays, with_setup_stays, Stays}
+use Rattle.gptp_acts.specs.Changing.{with_bounds, with_setup, with_station, ComesUpIf, FailsIf, GoesDownIf, RecoversIf, StartsAll}
+use Rattle.gptp_acts.specs.Sound.{AllFlow, AreLinked, IsWired}
+use Rattle.gptp_acts.proofs.FlowLemmas.{calls_flow, comes_up_flow, delivers_flow, expires_flow, fails_flow, goes_down_flow, recovers_flow, starts_all_flow, with_bounds_flow}
+use Rattle.gptp_acts.proofs.LinkedLemmas.{calls_linked, comes_up_linked, delivers_linked, expires_linked, fails_linked, goes_down_linked, recovers_linked, starts_all_linked, with_bounds_linked, with_setup_linked}
+use Rattle.gptp_acts.proofs.StayLemmas.{calls_stay, comes_up_stays, delivers_stay, expires_stay, fails_stays, goes_down_stays, recovers_stays, starts_all_stay, stays_apart, stays_clocks, stays_ports, stays_setups, with_bounds_stays, with_setup_stays, Stays}
 
 -- what stays, with what flows and which ports measure
 stays_wired : (w w' : WorldState) → IsWired w → Stays w w' → AllFlow w' → AreLinked w' → IsWired w'
@@ -108,13 +108,6 @@ setup_wired value place station w here wired =
     (with_setup_stays value place station w here wired.setups) wired.flow
     (with_setup_linked value place station w here wired.linked)
 
-pub starts_wired : (place : ℕ) (w : WorldState) (draws : List Draw) (w' : WorldState) → IsWired w
-    → Starts place w draws w' → IsWired w'
-starts_wired place w draws w' wired starts =
-    stays_wired w w' wired (starts_stays place w draws w' wired.setups starts)
-    (starts_flow place w draws w' wired.flow starts)
-    (starts_linked place w draws w' wired.setups wired.clocks wired.ports wired.linked starts)
-
 pub recovers_wired : (live : Bool) (place : ℕ) (w : WorldState) (draws : List Draw) (w' : WorldState) → IsWired w
     → RecoversIf live place w draws w' → IsWired w'
 recovers_wired live place w draws w' wired recovers =
@@ -128,23 +121,3 @@ starts_all_wired places w draws w' wired starts =
     stays_wired w w' wired (starts_all_stay places w draws w' wired.setups starts)
     (starts_all_flow places w draws w' wired.flow starts)
     (starts_all_linked places w draws w' wired.setups wired.clocks wired.ports wired.linked starts)
-
--- ---- before a start
-
--- a world in which no system is live, and nothing in flight
-pub silent_wired : (w : WorldState) → HaveTheirSetups w → HaveOwnClocks w → JoinPorts w → AreApart w
-    → ((place : ℕ) (station : Station) → slice_get w.stations place ≡ Some station → station.live ≡ false)
-    → ((link : ℕ) (direction : Direction) (channel : Channel) → slice_get w.net.channels link ≡ Some channel
-    → queue direction channel ≡ [])
-    → IsWired w
-silent_wired w setups clocks ports apart failed idle = record {
-  setups = setups;
-  clocks = clocks;
-  ports = ports;
-  apart = apart;
-  flow = λ link direction channel here.
-      let empty = idle link direction channel here in
-      record { order = rw empty tt; still = λ down. empty };
-  linked = λ link place direction channel station here up there live named.
-      let both : true ≡ false = sym live ∙ failed place station there in absurd cc;
-}

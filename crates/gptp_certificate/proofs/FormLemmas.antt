@@ -1,9 +1,9 @@
 -- The forms of lines: what stands behind each word of a line.
-use Rattle.std.proofs.Common.{◌≡◌, ◌≢◌, ℕ, List, ◌∷◌, ◌++◌, codes, refl, sym, ◌∙◌, append_assoc}
+use Rattle.std.proofs.Common.{◌≡◌, ℕ, List, ◌∷◌, ◌++◌, codes, refl, sym, ◌∙◌, append_assoc}
 use Rattle.std.specs.Prelude.{Some}
 use Rattle.std.proofs.lemmas.List.{append_cancel_left}
 use Rattle.gptp_certificate.specs.Words.{IsWord}
-use Rattle.gptp_certificate.specs.Forms.{Form, SystemForm, PortForm, ParentWords, SystemWords, PortWords, AreParentWords, AreSystemWords, ArePortWords, HasWords, HasForm, form_text, parent_text, port_text, role_text, system_text}
+use Rattle.gptp_certificate.specs.Forms.{ParentWords, SystemWords, PortWords, AreParentWords, AreSystemWords, ArePortWords, parent_text, port_text, role_text, system_text}
 use Rattle.gptp_certificate.proofs.WordLemmas.{one_value, one_word}
 
 abbrev pub behind_steps : SystemWords → List ℕ
@@ -71,14 +71,3 @@ link_behind_own link text own rest are is d e =
 pub link_behind_clock : (link : ParentWords) (text clock rest : List ℕ) → AreParentWords link → IsWord clock
     → text ≡ clock ++ 32 ∷ rest → text ≡ link.clock ++ 32 ∷ link.port → (clock ≡ link.clock) × (rest ≡ link.port)
 link_behind_clock link text clock rest are is d e = one_word clock link.clock rest link.port is are.clock (sym d ∙ e)
-
--- a line that is neither a system line nor a port line has no form
-no_form_of : (line : List ℕ) → ((words : SystemWords) → AreSystemWords words → line ≢ system_text words)
-    → ((words : PortWords) → ArePortWords words → line ≢ port_text words) → (form : Form) → HasWords form
-    → line ≢ form_text form
-no_form_of line f g (SystemForm words) are = f words are
-no_form_of line f g (PortForm words) are = g words are
-
-pub no_form : (line : List ℕ) → ((words : SystemWords) → AreSystemWords words → line ≢ system_text words)
-    → ((words : PortWords) → ArePortWords words → line ≢ port_text words) → HasForm line → ⊥
-no_form line f g has = no_form_of line f g has.form has.words has.is

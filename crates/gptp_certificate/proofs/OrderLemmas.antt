@@ -100,17 +100,6 @@ port_appended lines after front last more entry split then_split stand is follow
       order = subst StandInOrder (sym grown) (line_stands lines front last entry split stand follows);
     }
 
--- a system more is a line more
-pub system_appended : (lines : List declared.SystemLine) (line : declared.SystemLine) (after : List declared.SystemLine)
-    → after ≡ lines ++ line ∷ [] → entries_of_line (line_of line) ≡ system_entry (line_of line) ∷ []
-    → StandInOrder (entries_of (lines_of lines) ++ system_entry (line_of line) ∷ [])
-    → Appends (entries_of (lines_of lines)) (system_entry (line_of line)) (entries_of (lines_of after))
-system_appended lines line after split alone stand =
-    let grown : entries_of (lines_of after) ≡ entries_of (lines_of lines) ++ system_entry (line_of line) ∷ [] =
-    ap entries_of (lines_split after lines line split) ∙ entries_split (lines_of lines) (line_of line)
-    ∙ ap (λ t. entries_of (lines_of lines) ++ t) alone in
-    record { is = grown; order = subst StandInOrder (sym grown) stand }
-
 clock_last : (first : Entry) (clock : ℕ) (ports : List PortLine) → clock_of first ≡ clock
     → clock_of (last_of first (map (PortEntry clock) ports)) ≡ clock
 clock_last first clock [] is = is

@@ -1,5 +1,5 @@
 -- Reading line by line: lines have no line feed in them, so the first line of a text is one.
-use Rattle.std.proofs.Common.{◌≡◌, ◌≢◌, ℕ, List, [], ◌∷◌, ◌++◌, inl, inr, refl, sym, ap, subst, ◌∙◌, append_assoc, append-nil}
+use Rattle.std.proofs.Common.{◌≡◌, ◌≢◌, ℕ, List, [], ◌∷◌, ◌++◌, inl, inr, refl, sym, ap, subst, ◌∙◌}
 use Rattle.std.specs.Prelude.{◌⊎◌, Option, Some, None, not, ◌==◌}
 use Rattle.std.specs.List.{AllByRecursion}
 use Rattle.std.proofs.lemmas.List.Folds.{list_all-append}
@@ -8,14 +8,13 @@ use Rattle.gptp_certificate.specs.declared.fault.CertificateFault.{CertificateFa
 use Rattle.gptp_certificate.specs.declared.fault.CertificateFault.TheVariants.{OutOfMemory}
 use Rattle.gptp_certificate.specs.Words.{IsWord, Lacks}
 use Rattle.gptp_certificate.specs.Forms.{Form, SystemForm, PortForm, ParentWords, HasForm, HasParentWords, HasWords, form_text, parent_text, role_text}
-use Rattle.gptp_certificate.specs.CertificateText.{end_text, entry_text, front_text, head_text, spelled}
+use Rattle.gptp_certificate.specs.CertificateText.{end_text, entry_text, spelled}
 use Rattle.gptp_certificate.specs.Entries.{Entry, IsReadableEntry}
-use Rattle.gptp_certificate.specs.Lines.{ReadsLine, RefusesLine}
-use Rattle.gptp_certificate.specs.Parsing.{HasNoForm, RestFails, StandBefore}
+use Rattle.gptp_certificate.specs.Lines.{RefusesLine}
+use Rattle.gptp_certificate.specs.Parsing.{HasNoForm, RestFails}
 use Rattle.gptp_certificate.proofs.WordLemmas.{no_cut, one_cut, plain_lacks_feed}
 use Rattle.gptp_certificate.proofs.FormLemmas.{link_parts, port_parts, system_parts}
 use Rattle.gptp_certificate.proofs.LineLemmas.{entry_words}
-use Rattle.gptp_certificate.proofs.TextLemmas.{entries_text, entries_text-append}
 
 lacks_value : (word rest : List ℕ) → IsWord word → Lacks 10 rest → Lacks 10 (word ++ 32 ∷ rest)
 lacks_value word rest is lacks =
@@ -79,25 +78,3 @@ all_then : (before : List Entry) (entry : Entry) → AllByRecursion IsReadableEn
     → AllByRecursion IsReadableEntry (before ++ entry ∷ [])
 all_then [] entry all is = (is, tt)
 all_then (x ∷ before) entry all is = (all.0, all_then before entry all.1 is)
-
-regroup : (head lines line more : List ℕ) → (head ++ (lines ++ (line ++ 10 ∷ []))) ++ more
-    ≡ (head ++ lines) ++ (line ++ 10 ∷ more)
-regroup head lines line more = simp append_assoc refl
-
--- a line that is read goes from the rest to the lines before
-pub next_stands : (before after : List Entry) (text rest line more : List ℕ) → StandBefore before rest text
-    → ReadsLine before line after
-    → rest ≡ line ++ 10 ∷ more → StandBefore after more text
-next_stands before after text rest line more stand reads first =
-    let entry = reads.entry in
-    let grown : entries_text after ≡ entries_text before ++ (entry_text entry ++ 10 ∷ []) =
-    ap entries_text reads.appends.is ∙ entries_text-append before (entry ∷ [])
-    ∙ ap (λ t. entries_text before ++ t) (append-nil (entry_text entry ++ 10 ∷ [])) in
-    let head = head_text ++ 10 ∷ [] in
-    record {
-      readable = subst (AllByRecursion IsReadableEntry) (sym reads.appends.is)
-          (all_then before entry stand.readable reads.readable);
-      order = reads.appends.order;
-      split = stand.split ∙ ap (λ r. front_text before ++ r) (first ∙ ap (λ l. l ++ 10 ∷ more) reads.is)
-          ∙ sym (ap (λ t. (head ++ t) ++ more) grown ∙ regroup head (entries_text before) (entry_text entry) more);
-    }

@@ -114,9 +114,6 @@ AreLines (name ∷ names) w lines = (rest : List SystemLine)
 pub record StatedSoFar (names left : List ℕ) (w : WorldState) (lines : List SystemLine) : Type 0 where
   pub more : (rest : List SystemLine) → AreLines left w rest → AreLines names w (lines ++ rest)
 
-pub stated_none : (names : List ℕ) (w : WorldState) → StatedSoFar names names w []
-stated_none names w = record { more = λ rest are. are }
-
 stated_more : (names : List ℕ) (name : ℕ) (left : List ℕ) (w : WorldState) (before after : List SystemLine)
     → StatedSoFar names (name ∷ left) w before → Adds name w before after → StatedSoFar names left w after
 stated_more names name left w before after so_far one = record {

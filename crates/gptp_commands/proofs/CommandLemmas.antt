@@ -1,6 +1,5 @@
 -- The words that the parser takes of the program's command line: what it finds wrong with any others.
 use Rattle.std.proofs.Common.{◌≡◌, ◌⊎◌, inl, inr, ℕ, suc, Bool, true, false, ◌==◌, List, [], ◌∷◌, Option, Some, None, length, codes, bytes_eq, refl, sym, ap, ap₂, ◌∙◌, arith, chars, slice_get, drop}
-use Rattle.std.proofs.lemmas.Option.{same_Some}
 use Rattle.std.proofs.lemmas.Slice.Eq.{bytes_eq-Decides}
 use Rattle.std.specs.Option.{option_map_or}
 use Rattle.std.specs.Prelude.{Box, cond, is_some, option_and_then, option_map}
@@ -317,16 +316,6 @@ entered_of : (parsed : App) (words : List Text) (m : ArgMatches) → parsed ≡ 
     → subcommand_name_of m ≡ entered_name (drop 1 words)
 entered_of parsed words m is matches =
     name_of (out-ArgMatches m).subcommand ∙ ap name_in (rows_of_words parsed words m is matches)
-
--- a command that was entered by this name, with these rows
-pub entered_is : {Z : Type 0} (found : Option (Box SubCommand Z)) (name : Text) (rows : List Row)
-    → option_map (λ b. (out-SubCommand (box_value b)).name.now) found ≡ Some name
-    → option_map (λ p. p.1) (subcommand_rows found) ≡ Some rows → subcommand_rows found ≡ Some (name, rows)
-entered_is None name rows named has = absurd (some_isn't_none name (sym named))
-entered_is (Some sub) name rows named has =
-    let names = same_Some _ name named in
-    let holds = same_Some _ rows has in
-    ap₂ (λ n r. Some (n, r)) names holds
 
 -- one that succeeds
 accepted_words : (parsed : App) (words : List Text) → parsed ≡ program

@@ -1,5 +1,5 @@
 -- What several reads take, together.
-use Rattle.std.proofs.Common.{◌≡◌, ℕ, ◌+◌, ◌≤◌, List, [], ◌++◌, length, Option, Some, None, refl, arith, append_assoc, length-append}
+use Rattle.std.proofs.Common.{◌≡◌, ℕ, ◌+◌, ◌≤◌, List, ◌++◌, length, Option, Some, None, arith, append_assoc, length-append}
 use Rattle.std.specs.Io.KnownBytes.{Consumes}
 use Rattle.gptp_commands.specs.Source.{TakesAtMost}
 
@@ -13,8 +13,3 @@ takes_both most (Some xs) (Some ys) None first second one two few = absurd two
 takes_both most (Some xs) (Some ys) (Some zs) first second one two few =
     let e : xs ≡ (first ++ second) ++ zs = rw append_assoc (cc) in
     (first ++ second, e, simp length-append few)
-
--- nothing was taken of what stays as it was
-pub takes_none : (most : ℕ) (left : Option (List ℕ)) → TakesAtMost most left left
-takes_none most None = ([], tt, omega arith)
-takes_none most (Some xs) = ([], refl, omega arith)

@@ -110,17 +110,6 @@ frames_of-pop s t keys key f holds found updates =
     ∙ ap (λ (fs : List Frame). frame f.due f.octets.items ∷ fs)
     (sym (frames-kept s t key None updates keys holds.differ.0))
 
--- the slab has more room, and holds what it held
-pub holds-grow : (s : Slab Flight) (keys : List ℕ) (capacity : ℕ) → Holds s keys → s.capacity ≤ capacity
-    → Holds (record s { capacity = capacity }) keys
-holds-grow s keys capacity holds more =
-    record {
-      fits = let h = holds.fits in omega arith;
-      there = holds.there;
-      differ = holds.differ;
-      due_in_order = holds.due_in_order;
-    }
-
 -- the newest frame is that of the last key
 pub last-frame : (s : Slab Flight) (keys : List ℕ) (key n : ℕ) → length keys ≡ n → 0 < n → key ≡ get_or keys (n - 1) key
     → last (frames_of s keys) ≡ Some (frame_at s key)

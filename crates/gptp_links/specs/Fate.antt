@@ -1,17 +1,12 @@
 -- What fates draw, one after another.
 use Rattle.std.specs.Prelude.{◌≡◌, ℕ, List, [], ◌∷◌, Option}
-use Rattle.std.specs.List.{AllByRecursion}
 use Rattle.gptp_links.specs.declared.bounds.Bounds.{Bounds}
-use Rattle.gptp_links.specs.Bounds.{IsLawful}
 
 -- one draw: the bounds, the time at which the frame is sent, and the answer
 pub record Draw : Type 0 where
   pub bounds : Bounds
   pub sent : ℕ
   pub answer : Option ℕ
-
-abbrev pub AreLawful : List Draw → Type 0
-AreLawful = AllByRecursion (λ d. IsLawful d.bounds d.answer)
 
 -- these draws, one after another, lead a fate from one state to another
 abbrev pub Draws : {F : Type 0} → (Bounds → ℕ → F → Option ℕ → F → Type 0) → F → List Draw → F → Type 0

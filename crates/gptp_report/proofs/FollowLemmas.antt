@@ -56,17 +56,6 @@ heard_shown at clock port answer frame octets before after same kind is written 
 -- ---- acts and their lines
 
 module _ {F : Type 0} (answers : Bounds → ℕ → F → Option ℕ → F → Type 0) where
-  -- no act, no line
-  pub follows_none : (until : ℕ) (fate : F) (w : WorldState) (text : List ℕ)
-      → Follows answers until fate fate w w text text
-  follows_none until fate w text = record {
-    told = [];
-    advances = (refl, refl);
-    lines = [];
-    shows = refl;
-    is = sym (append-nil text);
-  }
-
   -- one act, with its line
   pub follows_one : (until : ℕ) (told : Told) (fate fate_after : F) (w w' : WorldState) (lines : List (List ℕ))
       (before after : List ℕ) → Happened answers until told fate fate_after w w'

@@ -32,9 +32,6 @@ pub record ShownSoFar (names left : List ℕ) (w : WorldState) (before text : Li
   pub more : (rest : List (List ℕ)) → ShowsSystems left w rest → ShowsSystems names w (lines ++ rest)
   pub is : text ≡ before ++ text_of lines
 
-pub shown_none : (names : List ℕ) (w : WorldState) (text : List ℕ) → ShownSoFar names names w text text
-shown_none names w text = record { lines = []; more = λ rest shows. shows; is = sym (append-nil text) }
-
 pub shown_more : (names : List ℕ) (name : ℕ) (left : List ℕ) (w : WorldState) (before text after : List ℕ)
     → ShownSoFar names (name ∷ left) w before text → WritesSystem name w text after
     → ShownSoFar names left w before after

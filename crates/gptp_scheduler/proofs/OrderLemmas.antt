@@ -1,6 +1,6 @@
 -- What is due, in order: the least of it, runs of it, and what is left of it.
 use Rattle.std.proofs.Common.{◌≡◌, ℕ, ◌-◌, ◌<◌, Bool, true, false, List, [], ◌∷◌, ◌++◌, length, get_or, refl, sym, ap, ◌∙◌, arith, inl, inr, ◌⊎◌, subst}
-use Rattle.std.proofs.Common.{Bor, Option, Some, None, IsSome, IfSome, ◌==◌, ◌&&◌, not, filter, map, drop, if◌then◌else◌}
+use Rattle.std.proofs.Common.{Bor, Option, Some, None, IsSome, IfSome, ◌==◌, ◌&&◌, not, filter, map, if◌then◌else◌}
 use Prim.Native.Nat.{zero, suc}
 use Rattle.std.proofs.HeapSift.{greatest}
 use Rattle.std.proofs.lemmas.Bool.Decides.{nat_tests}
@@ -111,10 +111,6 @@ rise_push (e ∷ dues) d rises after = (
   before =
       let at : suc (length dues) - 1 ≡ length dues = omega arith in
       through e _ d (first_last e dues rises) (rw at at (after e (omega arith)))
-
-pub rise_drop : (dues : List Due) → Rise dues → Rise (drop 1 dues)
-rise_drop [] rises = tt
-rise_drop (d ∷ dues) rises = rises.1
 
 pub rise_filter : (p : Due → Bool) (dues : List Due) → Rise dues → Rise (filter p dues)
 rise_filter p [] rises = tt

@@ -7,7 +7,7 @@ use Rattle.gptp_acts.specs.declared.change.Act.TheVariants.{Deliver, Expire, Cha
 use Rattle.gptp_acts.specs.declared.change.Change.{Change}
 use Rattle.gptp_acts.specs.declared.change.Change.TheVariants as changes
 use Rattle.gptp_world.specs.declared.stage.Stage.{Stage}
-use Rattle.gptp_acts.specs.Acts.{at, IsDueThen}
+use Rattle.gptp_acts.specs.Acts.{at}
 use Rattle.gptp_world.specs.Aim.{IsAimOf, IsAimOfChange}
 use Rattle.gptp_system.specs.declared.reach.Reach.{Reach}
 use Rattle.gptp_system.specs.declared.reach.Reach.TheVariants as reaches
@@ -100,17 +100,6 @@ aim_later (Expire number timer) w time (aims.Fail place) is = is
 aim_later (Expire number timer) w time (aims.Recover place) is = is
 aim_later (Expire number timer) w time (aims.Priority1 place set) is = is
 aim_later (Changing c) w time aim is = change_later c w time aim is
-
--- and it is due when it was
-pub due_later : (act : Act) (w : WorldState) (time : ℕ) → IsDueThen act time w → IsDueThen act time (at time w)
-due_later (Deliver link direction) w time is = is
-due_later (Expire number timer) w time is = record {
-  place = is.place;
-  station = is.station;
-  is = record { here = is.is.here; named = is.is.named };
-  so = is.so;
-}
-due_later (Changing c) w time is = is
 
 -- time that passes takes no room
 abbrev pub at_time : ℕ → Stage → Stage

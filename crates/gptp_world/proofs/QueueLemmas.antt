@@ -32,16 +32,6 @@ length-more : (queues : List QueueState) (q : QueueState) → length (queues ++ 
 length-more [] q = refl
 length-more (x ∷ queues) q = let ih = length-more queues q in omega arith
 
-pub are_empty-more : (count : ℕ) (queues : List QueueState) (q : QueueState) → AreEmpty count queues → q.numbers ≡ []
-    → AreEmpty (count + 1) (queues ++ q ∷ [])
-are_empty-more count queues q are e = record {
-  len = length-more queues q ∙ ap (λ n. n + 1) are.len;
-  empty = empty-more queues q are.empty e;
-}
-
-pub none_empty : AreEmpty 0 []
-none_empty = record { len = refl; empty = λ place. refl }
-
 -- ---- queues
 
 pub queue-same : (filed : FiledState) (place : ℕ) (q : QueueState) → place < length filed.queues

@@ -1,5 +1,5 @@
 -- What making room leaves as it was.
-use Rattle.std.proofs.Common.{◌≡◌, ◌≢◌, ◌⊎◌, ℕ, ◌+◌, ◌*◌, ◌≤◌, ◌==◌, if◌then◌else◌, Bool, true, false, ◌&&◌, List, [], ◌∷◌, length, map, Some, slice_get, slice_set, Result, Ok, Err, OnOk, refl, ap, sym, subst, ◌∙◌, inl, inr, arith}
+use Rattle.std.proofs.Common.{◌≡◌, ◌≢◌, ◌⊎◌, ℕ, ◌+◌, ◌*◌, ◌≤◌, ◌==◌, if◌then◌else◌, Bool, true, false, ◌&&◌, List, [], ◌∷◌, length, map, Some, slice_get, slice_set, refl, ap, sym, subst, ◌∙◌, inl, inr, arith}
 use Rattle.std.proofs.lemmas.Option.{same_Some}
 use Rattle.std.proofs.lemmas.List.{length-map}
 use Rattle.std.proofs.lemmas.Bool.{eqb-true}
@@ -95,17 +95,6 @@ both_ways more link cables old new pending here room arrivals = λ direction. re
 
 -- ---- what is between the systems
 
-pub nothing_changes : (net : Between) → OnlyRoom net net
-nothing_changes net = record {
-  same = refl;
-  directory = refl;
-  systems = refl;
-  links = refl;
-  entries = omega arith;
-  buffers = omega arith;
-  lanes = λ more lane has. has;
-}
-
 pub one_after_another : (first second third : Between) → OnlyRoom first second → OnlyRoom second third
     → OnlyRoom first third
 one_after_another first second third a b =
@@ -149,9 +138,6 @@ from_kept more port net net' only has = λ lane begins.
     let directory = only.directory in only.lanes more lane (has lane (rw (← directory) begins))
 
 -- ---- port by port
-
-pub no_ports : (more place : ℕ) (net : Between) → HasRoomAtPorts more place 0 net
-no_ports more place net = λ clock p here least most. absurd (omega arith)
 
 pub one_more_port : (more place ports : ℕ) (net net' : Between) → OnlyRoom net net'
     → HasRoomAtPorts more place ports net
@@ -386,9 +372,3 @@ room_to_call_both stage first second near far is here there apart entries buffer
         ≡ most_from 2 (clock far.system) port =
         rw test (omega arith) in
         subst (λ n. HasRoomOn n lane stage.net.cables.items stage.net.pending) (sym only) from-far
-
--- three things that hold where a call is not refused
-pub all_on_ok : {X E : Type 0} (r : Result X E) (P Q R S : Type 0) → (P → Q → R → S) → OnOk r P → OnOk r Q → OnOk r R
-    → OnOk r S
-all_on_ok (Ok x) P Q R S f p q r = f p q r
-all_on_ok (Err e) P Q R S f p q r = p

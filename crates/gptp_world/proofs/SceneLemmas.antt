@@ -91,10 +91,6 @@ starts_more (p ∷ ps) place w between after ds es (first, rest, next, are, star
     associates [] ys zs = refl
     associates (x ∷ xs) ys zs = ap (λ us. x ∷ us) (associates xs ys zs)
 
-pub none_started : {F : Type 0} (answers : Bounds → ℕ → F → Option ℕ → F → Type 0) (fate : F) (stage : Stage)
-    → SystemsStarted answers 0 fate fate stage stage
-none_started answers fate stage = record { draws = []; drawn = refl; starts = (refl, refl) }
-
 pub one_started : {F : Type 0} (answers : Bounds → ℕ → F → Option ℕ → F → Type 0) (count : ℕ) (first second third : F)
     (stage between after : Stage) → SystemsStarted answers count first second stage between
     → Started answers count second third between after → SystemsStarted answers (count + 1) first third stage after

@@ -15,17 +15,6 @@ only_more m n first second third a b = record {
   room = let r = a.room in let q = b.room in omega arith;
 }
 
-pub only_none : (net : Between) → OnlyEntries 0 net net
-only_none net = record {
-  directory = refl;
-  cables = refl;
-  buffers = refl;
-  systems = refl;
-  links = refl;
-  rooms = refl;
-  room = omega arith;
-}
-
 -- what is left of a list at a place within it
 pub drop_here : {X : Type 0} (i : ℕ) (xs : List X) → i < length xs → (x : X) × (drop i xs ≡ x ∷ drop (i + 1) xs)
 drop_here i [] within = absurd (omega arith)

@@ -12,7 +12,7 @@ use Rattle.gptp_acts.specs.declared.change.Change.TheVariants as changes
 use Rattle.gptp_acts.specs.declared.item.Item.{Item}
 use Rattle.gptp_acts.specs.declared.item.Item.TheVariants.{Expiry, Arrival}
 use Rattle.gptp_acts.specs.declared.station.Station.{Station}
-use Rattle.gptp_acts.specs.Acts.{set_to, AtPlace, IsOldestDue}
+use Rattle.gptp_acts.specs.Acts.{set_to, AtPlace}
 use Rattle.gptp_acts.specs.Changing.{IsChannel, IsStation}
 use Rattle.gptp_acts.specs.World.{port_id}
 use Rattle.gptp_acts.specs.World.{Channel, WorldState, station_due}
@@ -57,12 +57,6 @@ pub record IsTimerDue (place : ℕ) (timer : Timer) (time : ℕ) (w : WorldState
   pub station : Station
   pub here : slice_get w.stations place ≡ Some station
   pub due : station_due timer station ≡ Some time
-
--- what it is about is due at this time
-abbrev pub IsDueAim : Aim → ℕ → WorldState → Type 0
-IsDueAim (aims.Arrival lane) time w = AtPlace lane.link w.net (IsOldestDue lane.direction time)
-IsDueAim (aims.Timer place timer) time w = IsTimerDue place timer time w
-IsDueAim aim time w = ⊤
 
 -- what an item is about
 abbrev pub aim_of : Item → Aim
