@@ -1,5 +1,5 @@
 //! Worked rows of networks, worlds and documents, as an outside caller sees them: also that whatever the order of acts
-//! and the fate of frames, a calm network settles in time.
+//! and the fate of frames, a calm network settles in time, and that a refused allocation leaves things as they were.
 //!
 //! What they expect was written down before the code.
 #![tactic(auto)]
@@ -12,6 +12,8 @@ mod constants;
 mod document;
 #[cfg(test)]
 mod far;
+#[cfg(test)]
+mod refused;
 #[cfg(test)]
 mod ring;
 #[cfg(test)]

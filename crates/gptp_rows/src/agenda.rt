@@ -1,118 +1,158 @@
 //! What an agenda holds, and in which order it gives it back.
 
-use crate::same::{same, same_at};
+use crate::same::same_at;
 use gptp_scheduler::Agenda;
+use std::alloc::Global;
+use std::process::Abort;
 use std::test::Fail;
 
-#[test]
-fn entries_are_taken_by_time_then_by_number(rt: HostRuntime) -> Result<(), Fail> {
-    let mut agenda = Agenda::new(rt.alloc());
-    agenda.reserve(3)?;
-    same(&rt, agenda.next(), None);
-    same(&rt, agenda.put(5, 'a')?, 0);
-    same(&rt, agenda.put(3, 'b')?, 1);
-    same(&rt, agenda.put(5, 'c')?, 2);
-    let rows = [
-        (2, None),
-        (4, Some((3, 1, 'b'))),
-        (4, None),
-        (5, Some((5, 0, 'a'))),
-        (5, Some((5, 2, 'c'))),
-        (u64::MAX, None),
-    ];
-    for (now, want) in rows {
-        same_at(&rt, &now, agenda.take_due(now), want);
+/// What is done with an agenda, and what is wanted of it then.
+#[derive(Clone, Copy, Debug)]
+enum Step {
+    /// Room for so many more entries is asked for: whether it is had.
+    Reserves(usize, bool),
+    /// An item is put in at a time: its number.
+    Puts(u64, char, u64),
+    /// The entry of this number is cancelled: its item.
+    Cancels(u64, Option<char>),
+    /// The least entry, by its time and number.
+    Next(Option<(u64, u64)>),
+    /// The least entry is taken if it is due at a time: its time, number and item.
+    Takes(u64, Option<(u64, u64, char)>),
+}
+
+/// One step of an agenda.
+fn take(rt: &impl Abort, agenda: &mut Agenda<char>, step: &Step) -> Result<(), Fail> {
+    match *step {
+        Step::Reserves(more, want) => same_at(rt, step, agenda.reserve(more).is_ok(), want),
+        Step::Puts(time, item, want) => same_at(rt, step, agenda.put(time, item)?, want),
+        Step::Cancels(number, want) => same_at(rt, step, agenda.cancel(number), want),
+        Step::Next(want) => same_at(rt, step, agenda.next(), want),
+        Step::Takes(now, want) => same_at(rt, step, agenda.take_due(now), want),
     }
-    same(&rt, agenda.next(), None);
     Ok(())
 }
 
-#[test]
-fn what_is_put_in_the_past_comes_first(rt: HostRuntime) -> Result<(), Fail> {
-    let mut agenda = Agenda::new(rt.alloc());
-    same(&rt, agenda.put(300, 'a')?, 0);
-    same(&rt, agenda.put(70_000, 'b')?, 1);
-    same(&rt, agenda.take_due(300), Some((300, 0, 'a')));
-    same(&rt, agenda.put(5, 'c')?, 2);
-    same(&rt, agenda.next(), Some((5, 2)));
-    same(&rt, agenda.take_due(70_000), Some((5, 2, 'c')));
-    same(&rt, agenda.take_due(70_000), Some((70_000, 1, 'b')));
-    same(&rt, agenda.cancel(1), None);
-    Ok(())
-}
-
-#[test]
-fn a_cancelled_entry_is_gone(rt: HostRuntime) -> Result<(), Fail> {
-    let mut agenda = Agenda::new(rt.alloc());
-    for (time, item) in [(7, 'a'), (7, 'b'), (1, 'c'), (9, 'd')] {
-        agenda.put(time, item)?;
+/// A new agenda, and what is done with it, step by step.
+fn play(rt: &impl Abort, alloc: Global, steps: &[Step]) -> Result<(), Fail> {
+    let mut agenda = Agenda::new(alloc);
+    for step in steps {
+        take(rt, &mut agenda, step)?;
     }
-    same(&rt, agenda.cancel(1), Some('b'));
-    same(&rt, agenda.cancel(1), None);
-    same(&rt, agenda.cancel(4), None);
-    same(&rt, agenda.cancel(u64::MAX), None);
-    same(&rt, agenda.cancel(2), Some('c'));
-    same(&rt, agenda.next(), Some((7, 0)));
-    same(&rt, agenda.put(7, 'e')?, 4);
-    same(&rt, agenda.take_due(9), Some((7, 0, 'a')));
-    same(&rt, agenda.take_due(9), Some((7, 4, 'e')));
-    same(&rt, agenda.take_due(9), Some((9, 3, 'd')));
-    same(&rt, agenda.take_due(9), None);
     agenda.numbers_rise();
     Ok(())
 }
 
 #[test]
+fn entries_are_taken_by_time_then_by_number(rt: HostRuntime) -> Result<(), Fail> {
+    let steps = [
+        Step::Reserves(3, true),
+        Step::Next(None),
+        Step::Puts(5, 'a', 0),
+        Step::Puts(3, 'b', 1),
+        Step::Puts(5, 'c', 2),
+        Step::Takes(2, None),
+        Step::Takes(4, Some((3, 1, 'b'))),
+        Step::Takes(4, None),
+        Step::Takes(5, Some((5, 0, 'a'))),
+        Step::Takes(5, Some((5, 2, 'c'))),
+        Step::Takes(u64::MAX, None),
+        Step::Next(None),
+    ];
+    play(&rt, rt.alloc(), &steps)
+}
+
+#[test]
+fn what_is_put_in_the_past_comes_first(rt: HostRuntime) -> Result<(), Fail> {
+    let steps = [
+        Step::Puts(300, 'a', 0),
+        Step::Puts(70_000, 'b', 1),
+        Step::Takes(300, Some((300, 0, 'a'))),
+        Step::Puts(5, 'c', 2),
+        Step::Next(Some((5, 2))),
+        Step::Takes(70_000, Some((5, 2, 'c'))),
+        Step::Takes(70_000, Some((70_000, 1, 'b'))),
+        Step::Cancels(1, None),
+    ];
+    play(&rt, rt.alloc(), &steps)
+}
+
+#[test]
+fn a_cancelled_entry_is_gone(rt: HostRuntime) -> Result<(), Fail> {
+    let steps = [
+        Step::Puts(7, 'a', 0),
+        Step::Puts(7, 'b', 1),
+        Step::Puts(1, 'c', 2),
+        Step::Puts(9, 'd', 3),
+        Step::Cancels(1, Some('b')),
+        Step::Cancels(1, None),
+        Step::Cancels(4, None),
+        Step::Cancels(u64::MAX, None),
+        Step::Cancels(2, Some('c')),
+        Step::Next(Some((7, 0))),
+        Step::Puts(7, 'e', 4),
+        Step::Takes(9, Some((7, 0, 'a'))),
+        Step::Takes(9, Some((7, 4, 'e'))),
+        Step::Takes(9, Some((9, 3, 'd'))),
+        Step::Takes(9, None),
+    ];
+    play(&rt, rt.alloc(), &steps)
+}
+
+#[test]
 fn many_are_cancelled(rt: HostRuntime) -> Result<(), Fail> {
     let mut agenda = Agenda::new(rt.alloc());
-    same(&rt, agenda.put(5, 0)?, 0);
-    for number in 1_u64..3_000 {
-        same(&rt, agenda.put(7, number)?, number);
-        same(&rt, agenda.cancel(number), Some(number));
+    take(&rt, &mut agenda, &Step::Puts(5, 'a', 0))?;
+    for number in 1..3_000 {
+        take(&rt, &mut agenda, &Step::Puts(7, 'b', number))?;
+        take(&rt, &mut agenda, &Step::Cancels(number, Some('b')))?;
     }
-    same(&rt, agenda.put(6, 3_000)?, 3_000);
-    same(&rt, agenda.take_due(9), Some((5, 0, 0)));
-    same(&rt, agenda.take_due(9), Some((6, 3_000, 3_000)));
-    same(&rt, agenda.take_due(9), None);
+    let steps = [
+        Step::Puts(6, 'c', 3_000),
+        Step::Takes(9, Some((5, 0, 'a'))),
+        Step::Takes(9, Some((6, 3_000, 'c'))),
+        Step::Takes(9, None),
+    ];
+    for step in &steps {
+        take(&rt, &mut agenda, step)?;
+    }
     Ok(())
 }
 
 #[test]
 fn the_last_moment_is_a_time_too(rt: HostRuntime) -> Result<(), Fail> {
-    let mut agenda = Agenda::new(rt.alloc());
-    same(&rt, agenda.put(u64::MAX, 'a')?, 0);
-    same(&rt, agenda.put(0, 'b')?, 1);
-    same(&rt, agenda.next(), Some((0, 1)));
-    same(&rt, agenda.cancel(1), Some('b'));
-    same(&rt, agenda.next(), Some((u64::MAX, 0)));
-    same(&rt, agenda.take_due(u64::MAX - 1), None);
-    same(&rt, agenda.take_due(u64::MAX), Some((u64::MAX, 0, 'a')));
-    Ok(())
+    let steps = [
+        Step::Puts(u64::MAX, 'a', 0),
+        Step::Puts(0, 'b', 1),
+        Step::Next(Some((0, 1))),
+        Step::Cancels(1, Some('b')),
+        Step::Next(Some((u64::MAX, 0))),
+        Step::Takes(u64::MAX - 1, None),
+        Step::Takes(u64::MAX, Some((u64::MAX, 0, 'a'))),
+    ];
+    play(&rt, rt.alloc(), &steps)
 }
 
 #[test]
 fn room_is_made_or_refused(rt: HostRuntime) -> Result<(), Fail> {
     let mut agenda = Agenda::new(rt.alloc());
-    // a million entries of 32 octets are had, 2^60 and 2^64 - 1 are not
-    for (more, want) in [
-        (0, true),
-        (1, true),
-        (1_000_000, true),
-        (1 << 60, false),
-        (usize::MAX, false),
-    ] {
-        same_at(&rt, &more, agenda.reserve(more).is_ok(), want);
+    let steps = [
+        Step::Reserves(0, true),
+        Step::Reserves(1, true),
+        // 16 megabytes are had, 2^64 and more octets are not
+        Step::Reserves(1_000_000, true),
+        Step::Reserves(1 << 60, false),
+        Step::Reserves(usize::MAX, false),
+    ];
+    for step in &steps {
+        take(&rt, &mut agenda, step)?;
     }
-    for place in 0_u64..500 {
-        same(&rt, agenda.put(1_000 - place, place)?, place);
+    for place in 0..500 {
+        take(&rt, &mut agenda, &Step::Puts(1_000 - place, 'a', place))?;
     }
-    for place in 0_u64..500 {
-        same(
-            &rt,
-            agenda.take_due(1_000),
-            Some((501 + place, 499 - place, 499 - place)),
-        );
+    for place in 0..500 {
+        let least = (501 + place, 499 - place, 'a');
+        take(&rt, &mut agenda, &Step::Takes(1_000, Some(least)))?;
     }
-    same(&rt, agenda.take_due(u64::MAX), None);
-    Ok(())
+    take(&rt, &mut agenda, &Step::Takes(u64::MAX, None))
 }
