@@ -2,13 +2,10 @@
 use Rattle.std.proofs.Common.{◌≡◌, ℕ, ◌<◌, ◌≤◌, not, Bool, true, false, List, [], ◌∷◌, ◌++◌, Option, Some, None, refl, sym, ap, ◌∙◌, arith}
 use Rattle.std.specs.List.{All, AllByRecursion}
 use Rattle.std.proofs.lemmas.List.Elements.{All-append, All-cons, All-filter, All-head, All-push, All-tail, All-weaker}
-use Rattle.gptp_system.specs.declared.timer.Timer.{Timer}
 use Rattle.gptp_acts.specs.declared.item.Item.{Item}
-use Rattle.gptp_acts.specs.declared.item.Item.TheVariants.{Expiry}
 use Rattle.gptp_acts.specs.Item.{same_item}
 use Rattle.gptp_acts.specs.Pending.{Entry, entry, times, put, put_if, without, without_first, listed, same_times, set_due, IsNext, NothingBefore}
 use Rattle.gptp_acts.proofs.PendingLemmas.{same_itself, times-append}
-use Rattle.gptp_acts.proofs.TimerLemmas.{set_all}
 
 -- ---- nothing before a time
 
@@ -56,14 +53,6 @@ pub nothing_before-set_due : (time : ℕ) (i : Item) (due : Option ℕ) (es : Li
     → NothingBefore time es → NothingBefore time (set_due i due es)
 nothing_before-set_due time i due es late none =
     set_due-step time i due es late none (same_times (times i es) (listed due)) refl
-
-pub nothing_before-set_all : (time : ℕ) (due : Timer → Option ℕ) (place : ℕ) (ts : List Timer) (es : List Entry)
-    → AllByRecursion (λ t. IsNotBefore time (due t)) ts → NothingBefore time es
-    → NothingBefore time (set_all due place ts es)
-nothing_before-set_all time due place [] es late none = none
-nothing_before-set_all time due place (t ∷ ts) es late none =
-    nothing_before-set_all time due place ts (set_due (Expiry place t) (due t) es) late.1
-    (nothing_before-set_due time (Expiry place t) (due t) es late.0 none)
 
 -- ---- the next
 

@@ -11,7 +11,7 @@ use Rattle.gptp_system.proofs.StepLemmas.{steps_sound}
 use Rattle.gptp_acts.specs.declared.station.Station.{Station}
 use Rattle.gptp_acts.specs.World.{Net, WorldState}
 use Rattle.gptp_acts.specs.Act.{all_timers, in_state, Calls}
-use Rattle.gptp_acts.specs.Changing.{fresh, up_ports, with_station, CallsAll, Starts, StartsAll}
+use Rattle.gptp_acts.specs.Changing.{fresh, up_ports, with_station, CallsAll, Starts}
 use Rattle.gptp_acts.specs.Agrees.{HaveTheirPorts}
 use Rattle.gptp_acts.proofs.PlaceLemmas.{get-set_same, get-set_other, same_place}
 
@@ -58,9 +58,3 @@ starts_have_ports place w draws w' have starts =
     calls_all_have_ports place (map PortUp (up_ports new w.net)) (record (with_station place new w) { net = net })
     draws w' (station_has_ports place w starts.station new net starts.here
     (length-new_ports (clock_of setup.identity) setup.params setup.ports) have) starts.calls
-
-pub starts_all_have_ports : (places : List ℕ) (w : WorldState) (draws : List Draw) (w' : WorldState) → HaveTheirPorts w
-    → StartsAll places w draws w' → HaveTheirPorts w'
-starts_all_have_ports [] w draws w' have starts = subst HaveTheirPorts (sym starts.1) have
-starts_all_have_ports (place ∷ places) w draws w' have (first, rest, between, is, one, more) =
-    starts_all_have_ports places between rest w' (starts_have_ports place w first between have one) more

@@ -1,12 +1,12 @@
 -- Numbers in rising order: each is there, they don't fall, and no other list of them is so. So it is with the clocks
 -- of a world, and each of them is that of a system.
-use Rattle.std.proofs.Common.{◌≡◌, ℕ, zero, suc, nat_le, ◌+◌, ◌≤◌, Bool, true, false, if◌then◌else◌, List, [], ◌∷◌, length, map, Some, slice_get, refl, sym, ap, subst, ◌∙◌, arith}
+use Rattle.std.proofs.Common.{◌≡◌, ℕ, suc, nat_le, ◌+◌, ◌≤◌, Bool, true, false, if◌then◌else◌, List, [], ◌∷◌, length, map, Some, slice_get, refl, sym, ap, subst, ◌∙◌, arith}
 use Rattle.std.specs.Bool.{⊤}
 use Rattle.std.specs.List.{AllByRecursion, sum_by}
 use Rattle.std.specs.List.Sorted.{IsNonDecreasing, IsPermutation}
 use Rattle.std.proofs.lemmas.Bool.Decides.{nat_tests}
 use Rattle.std.proofs.lemmas.List.{length-map}
-use Rattle.std.proofs.lemmas.List.Elements.{All-from_recursion, recursion_from_All}
+use Rattle.std.proofs.lemmas.List.Elements.{recursion_from_All}
 use Rattle.std.proofs.lemmas.List.Sorted.{length_permutation, Contains-permutation, IsPermutation-cons, IsPermutation-middle, IsPermutation-refl, IsPermutation-sym, IsPermutation-trans, sum_by-IsPermutation}
 use Rattle.std.proofs.lemmas.List.Sums.{sum_by-cons}
 use Rattle.gptp_system.specs.State.{clock}
@@ -73,15 +73,6 @@ put_rises n (x ∷ xs) up = put_one_rises n x xs (nat_le n x) refl up (put_rises
 rises : (ns : List ℕ) → Rises (rising ns)
 rises [] = tt
 rises (n ∷ ns) = put_rises n (rising ns) (rises ns)
-
-non_decreasing : (ns : List ℕ) → Rises ns → IsNonDecreasing ns
-non_decreasing [] up i j d le less = absurd (omega arith)
-non_decreasing (n ∷ ns) up zero zero d le less = omega arith
-non_decreasing (n ∷ ns) up zero (suc j) d le less =
-    All-from_recursion (λ m. n ≤ m) ns up.0 j d (omega arith)
-non_decreasing (n ∷ ns) up (suc i) zero d le less = absurd (omega arith)
-non_decreasing (n ∷ ns) up (suc i) (suc j) d le less =
-    non_decreasing ns up.1 i j d (omega arith) (omega arith)
 
 rises_from : (ns : List ℕ) → IsNonDecreasing ns → Rises ns
 rises_from [] up = tt

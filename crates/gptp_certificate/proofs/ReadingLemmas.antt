@@ -1,7 +1,6 @@
 -- Reading line by line: lines have no line feed in them, so the first line of a text is one.
-use Rattle.std.proofs.Common.{◌≡◌, ◌≢◌, ℕ, List, [], ◌∷◌, ◌++◌, inl, inr, refl, sym, ap, subst, ◌∙◌}
+use Rattle.std.proofs.Common.{◌≡◌, ◌≢◌, ℕ, List, ◌∷◌, ◌++◌, inl, inr, refl, sym, ap, subst, ◌∙◌}
 use Rattle.std.specs.Prelude.{◌⊎◌, Option, Some, None, not, ◌==◌}
-use Rattle.std.specs.List.{AllByRecursion}
 use Rattle.std.proofs.lemmas.List.Folds.{list_all-append}
 use Rattle.gptp_graph.specs.SettledRole.{Role, Disabled, Master, Slave, Passive}
 use Rattle.gptp_certificate.specs.declared.fault.CertificateFault.{CertificateFault}
@@ -73,8 +72,3 @@ rest_fails before rest line more fault goes_on first lacks (inr (inr (e, out))) 
       first = first ∙ ap (λ l. l ++ 10 ∷ more) out.is;
       order = out.order;
     }))
-
-all_then : (before : List Entry) (entry : Entry) → AllByRecursion IsReadableEntry before → IsReadableEntry entry
-    → AllByRecursion IsReadableEntry (before ++ entry ∷ [])
-all_then [] entry all is = (is, tt)
-all_then (x ∷ before) entry all is = (all.0, all_then before entry all.1 is)

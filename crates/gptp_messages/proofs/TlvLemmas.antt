@@ -43,9 +43,6 @@ field-spelled t rest fits =
     let length-fits = fits.length in
     (omega arith, omega arith)
 
-length-spelled : (t : Tlv) → length (spelled t) ≡ 4 + length t.value
-length-spelled t = omega arith
-
 -- octets that are long enough begin with a TLV
 pub is_front : (f : List ℕ) → IsOctets f → 4 ≤ length f → field 2 2 f ≤ length (drop 4 f) → field 2 0 f < 2 ^ 16
     → field 2 2 f < 2 ^ 16
@@ -159,18 +156,6 @@ pub record Walked (kind : TlvKind) (octets rest : List ℕ) (found : Option (Lis
   pub fit : AllByRecursion Fits passed
   pub split : octets ≡ flat_map spelled passed ++ rest
   pub found_is : found ≡ first_value kind passed
-
-pub walk_starts : (kind : TlvKind) (octets : List ℕ) → Walked kind octets octets None
-walk_starts kind octets = record { passed = []; fit = tt; split = refl; found_is = refl }
-
-pub walk_ends : (kind : TlvKind) (octets : List ℕ) (found : Option (List ℕ)) → Walked kind octets [] found
-    → FirstTlv kind octets found
-walk_ends kind octets found walked =
-    record {
-      tlvs = walked.passed;
-      are = record { fit = walked.fit; spelling = walked.split ∙ append-nil (flat_map spelled walked.passed) };
-      first = walked.found_is;
-    }
 
 -- one more TLV that fits
 fits-append : (ts : List Tlv) (t : Tlv) → AllByRecursion Fits ts → Fits t → AllByRecursion Fits (ts ++ t ∷ [])

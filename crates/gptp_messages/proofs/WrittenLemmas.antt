@@ -270,9 +270,6 @@ pdelay_resp_follow_up-reads m rest fits =
 
 -- ---- a Follow_Up
 
-information-long : (rate : ℤ) → length (information rate).value ≡ 28
-information-long rate = refl
-
 information-is : (rate : ℤ) → is_of_kind Information (information rate) ≡ true
 unfolding field
 information-is rate = refl

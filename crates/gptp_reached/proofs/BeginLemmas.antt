@@ -82,10 +82,6 @@ pub record AllAwake (front rest : List Shape) (w w' : WorldState) : Type 0 where
   pub links : KeepLinks w.net.channels w'.net.channels
   pub last : w'.last_change ≡ w.last_change
 
-nothing_behind : {X : Type 0} (front : List X) → front ++ [] ≡ front
-nothing_behind [] = refl
-nothing_behind (z ∷ front) = ap (λ more. z ∷ more) (nothing_behind front)
-
 starts_all : (front rest : List Shape) (w : WorldState) (draws : List Draw) (w' : WorldState)
     → map shape w.stations ≡ front ++ rest → StartsAll (range_with_len (length front) (length rest)) w draws w'
     → AllAwake front rest w w'

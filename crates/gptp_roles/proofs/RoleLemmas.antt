@@ -115,22 +115,9 @@ role_is_of_received : (v : Vector) (clock port : ℕ) (h : Held) (r : Reception)
     → OfReceived v clock port r.vector (role_of v clock port h)
 role_is_of_received v clock port h r is = rw is (of_received v clock port r.vector)
 
--- the chosen vector came from the Slave port
-pub slave_is_receiver : (v : Vector) (clock port : ℕ) (h : Held) (r : Reception) → received h ≡ Some r
-    → role_of v clock port h ≡ Slave → v.receiver ≡ port
-slave_is_receiver v clock port h r is slave =
-    subst (OfReceived v clock port r.vector) slave (role_is_of_received v clock port h r is)
-
 -- what a Master port drops its master vector was lower than
 pub master_is_lower : (v : Vector) (clock port : ℕ) (h : Held) (r : Reception) → received h ≡ Some r
     → role_of v clock port h ≡ Master
     → lower (master_of v.root v.steps clock port) r.vector ≡ true
 master_is_lower v clock port h r is master =
     subst (OfReceived v clock port r.vector) master (role_is_of_received v clock port h r is)
-
--- what a Passive port keeps its master vector isn't lower than
-pub passive_is_not_lower : (v : Vector) (clock port : ℕ) (h : Held) (r : Reception) → received h ≡ Some r
-    → role_of v clock port h ≡ Passive
-    → lower (master_of v.root v.steps clock port) r.vector ≡ false
-passive_is_not_lower v clock port h r is passive =
-    subst (OfReceived v clock port r.vector) passive (role_is_of_received v clock port h r is)

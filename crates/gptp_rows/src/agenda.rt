@@ -139,7 +139,7 @@ fn room_is_made_or_refused(rt: HostRuntime) -> Result<(), Fail> {
     let steps = [
         Step::Reserves(0, true),
         Step::Reserves(1, true),
-        // 16 megabytes are had, 2^64 and more octets are not
+        // room for a million is had, 2^64 and more octets are not
         Step::Reserves(1_000_000, true),
         Step::Reserves(1 << 60, false),
         Step::Reserves(usize::MAX, false),

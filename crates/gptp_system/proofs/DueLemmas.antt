@@ -98,9 +98,6 @@ apart_leaves touched s s' ports held params sync relay (timers.Respond n) off = 
 apart_leaves touched s s' ports held params sync relay timers.Sync off = rw (sync off) refl
 apart_leaves touched s s' ports held params sync relay timers.Relay off = relay off
 
-pub leaves_itself : (touched : Timer → Bool) (s : SystemState) → Leaves touched s s
-leaves_itself touched s timer off = refl
-
 pub leaves_on : (touched : Timer → Bool) (s t u : SystemState) → Leaves touched s t → Leaves touched t u
     → Leaves touched s u
 leaves_on touched s t u a b timer off = b timer off ∙ a timer off

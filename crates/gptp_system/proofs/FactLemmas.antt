@@ -27,9 +27,6 @@ length-map f (x ∷ xs) = let ih = length-map f xs in omega arith
 
 -- ---- what is kept
 
-pub keeps_itself : (s : SystemState) → Keeps s s
-keeps_itself s = record { params = refl; phase = refl; drift = refl; same_clock = refl; places = refl; logs = refl }
-
 pub keeps_on : (s t u : SystemState) → Keeps s t → Keeps t u → Keeps s u
 keeps_on s t u a b = record {
   params = b.params ∙ a.params;

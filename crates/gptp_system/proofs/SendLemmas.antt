@@ -31,10 +31,6 @@ with_send-among x y ys member =
     go (inl first) = In-left y front (x ∷ back) first
     go (inr second) = In-right y front (x ∷ back) (inr second)
 
--- and that one is sent
-pub with_send-itself : (x : Sending) (ys : List Sending) → In x (with_send x ys)
-with_send-itself x ys = In-right x (take (sends_up_to x.port ys) ys) (x ∷ drop (sends_up_to x.port ys) ys) (inl refl)
-
 -- and no other
 pub with_send-from : (x y : Sending) (ys : List Sending) → In y (with_send x ys) → (y ≡ x) ⊎ In y ys
 with_send-from x y ys member = go (In-parts y front (x ∷ back) member)

@@ -1,6 +1,6 @@
 -- What is true of every system between its calls stays true.
 use Rattle.std.proofs.Common.{◌≡◌, ◌≢◌, ◌≤◌, ℕ, zero, suc, ◌+◌, true, false, List, [], ◌∷◌, length, map, Option, Some, None, slice_get, refl, sym, ap, ◌∙◌, arith}
-use Rattle.std.specs.Prelude.{IsSome, IsSomeAnd}
+use Rattle.std.specs.Prelude.{IsSome}
 use Rattle.std.specs.List.{range_with_len}
 use Rattle.std.specs.Option.{option_and_then, option_map_or}
 use Rattle.std.proofs.lemmas.Option.{none-some, same_Some}
@@ -15,14 +15,12 @@ use Rattle.gptp_system.specs.declared.sending.Sending.{Sending}
 use Rattle.gptp_system.specs.declared.setup.Params.{Params}
 use Rattle.gptp_system.specs.declared.setup.Setup.{Setup}
 use Rattle.gptp_pdelay.specs.Peer.{is_capable}
-use Rattle.gptp_system.specs.declared.timer.Timer.{Timer}
-use Rattle.gptp_system.specs.declared.timer.Timer.TheVariants as timers
 use Rattle.gptp_system.specs.Facts.{AreShown, IsNew, IsSystem}
 use Rattle.gptp_system.specs.Input.{Input, Steps}
 use Rattle.gptp_system.specs.Ready.{IsReady}
 use Rattle.gptp_system.specs.Start.{new_port, started}
-use Rattle.gptp_system.specs.State.{SystemState, number, held_at, is_capable_at, announce_due, age_due}
-use Rattle.gptp_system.specs.Steps.{IsPortOf, IsTimerOf, IsUp, IsDue}
+use Rattle.gptp_system.specs.State.{SystemState, number, held_at, is_capable_at}
+use Rattle.gptp_system.specs.Steps.{IsPortOf, IsUp}
 use Rattle.gptp_system.proofs.ReadyLemmas.{length-all_disabled, length-new_ports}
 use Rattle.gptp_system.proofs.RestLemmas.{new_held, new_rest, new_shown}
 use Rattle.gptp_system.proofs.StepLemmas.{steps_sound}
@@ -85,25 +83,9 @@ within [] f (suc i) some = absurd cc
 within (x ∷ xs) f (suc zero) some = (omega arith, omega arith)
 within (x ∷ xs) f (suc (suc i)) some = let ih = within xs f (suc i) some in (omega arith, omega arith)
 
-port_of : {Y : Type 0} (s : SystemState) (f : Port → Option Y) (p : ℕ) → IsSome (option_and_then f (number s.ports p))
-    → IsPortOf s p
-port_of s f p some = let is = within s.ports f p some in record { least = is.0; most = is.1 }
-
 pub up_is_port : (s : SystemState) (p : ℕ) → IsUp s p → IsPortOf s p
-up_is_port s p up = port_of s (λ (q : Port). q.pdelay) p up
-
-some_of : (o : Option ℕ) (P : ℕ → Type 0) → IsSomeAnd o P → IsSome o
-some_of None P some = absurd some
-some_of (Some x) P some = refl
-
--- a timer that is due is that of a port
-pub due_is_timer : (s : SystemState) (timer : Timer) (now : ℕ) → IsDue s timer now → IsTimerOf s timer
-due_is_timer s (timers.Announce p) now is = port_of s (λ (q : Port). announce_due q (held_at s p)) p (some_of _ _ is)
-due_is_timer s (timers.Age p) now is = port_of s (λ (q : Port). age_due s.params q (held_at s p)) p (some_of _ _ is)
-due_is_timer s (timers.Pdelay p) now is = port_of s (λ (q : Port). q.pdelay) p (some_of _ _ is)
-due_is_timer s (timers.Respond p) now is = port_of s (λ (q : Port). q.respond) p (some_of _ _ is)
-due_is_timer s timers.Sync now is = tt
-due_is_timer s timers.Relay now is = tt
+up_is_port s p up =
+    let is = within s.ports (λ (q : Port). q.pdelay) p up in record { least = is.0; most = is.1 }
 
 -- where a port is, it holds something
 held_there : (hs : List Held) (qs : List Port) (i : ℕ) (q : Port) → length hs ≡ length qs → slice_get qs i ≡ Some q

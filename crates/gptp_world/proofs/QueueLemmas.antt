@@ -1,5 +1,5 @@
 -- The queues of the table in which what is pending is filed, and their room.
-use Rattle.std.proofs.Common.{◌≡◌, ℕ, ◌+◌, ◌<◌, ◌≤◌, ◌==◌, Bool, true, false, List, [], ◌∷◌, ◌++◌, map, length, Some, None, get_or, length-set, refl, sym, ap, subst, ◌∙◌, arith}
+use Rattle.std.proofs.Common.{◌≡◌, ℕ, ◌+◌, ◌<◌, ◌≤◌, ◌==◌, Bool, true, false, List, [], ◌∷◌, map, length, Some, None, get_or, length-set, refl, sym, ap, subst, ◌∙◌, arith}
 use Prim.Native.Nat.{zero, suc}
 use Rattle.std.specs.Prelude.{slice_index_or}
 use Rattle.std.specs.Prelude.{Result, Ok, Err, OnOk}
@@ -20,17 +20,6 @@ use Rattle.gptp_world.specs.Filed.{QueueState, FiledState, no_queue, queue_at, w
 pub record AreEmpty (count : ℕ) (queues : List QueueState) : Type 0 where
   pub len : length queues ≡ count
   pub empty : (place : ℕ) → (slice_index_or queues place no_queue).numbers ≡ []
-
-empty-more : (queues : List QueueState) (q : QueueState) → ((place : ℕ) → (get_or queues place no_queue).numbers ≡ [])
-    → q.numbers ≡ [] → (place : ℕ) → (get_or (queues ++ q ∷ []) place no_queue).numbers ≡ []
-empty-more [] q empty e zero = e
-empty-more [] q empty e (suc place) = refl
-empty-more (x ∷ queues) q empty e zero = empty 0
-empty-more (x ∷ queues) q empty e (suc place) = empty-more queues q (λ p. empty (suc p)) e place
-
-length-more : (queues : List QueueState) (q : QueueState) → length (queues ++ q ∷ []) ≡ length queues + 1
-length-more [] q = refl
-length-more (x ∷ queues) q = let ih = length-more queues q in omega arith
 
 -- ---- queues
 

@@ -8,7 +8,7 @@ use Rattle.gptp_scheduler.proofs.EntryLemmas.{without-other_head}
 use Rattle.gptp_acts.specs.declared.item.Item.{Item}
 use Rattle.gptp_acts.specs.declared.item.Item.TheVariants.{Expiry, Arrival}
 use Rattle.gptp_acts.specs.Item.{timer_kind, timer_port, same_item}
-use Rattle.gptp_acts.specs.Pending.{entry, plain, times, without_first, IsKnown}
+use Rattle.gptp_acts.specs.Pending.{plain, times, without_first, IsKnown}
 use Rattle.gptp_world.specs.Filed.{slot_of, in_slot}
 use Rattle.gptp_acts.proofs.TimerLemmas.{kind_below}
 
@@ -49,15 +49,6 @@ apart_too p k q l m r h i =
     both_tests _ _
     (λ t. let e : 2 * m + 1 ≡ 2 * ((p * 6 + k) * 17 + q) = grind (arith, nat_tests) in absurd (omega arith))
     (λ t. let e : r ≡ k = grind (arith, nat_tests) in absurd (omega arith))
-
-same_way : (l l' x y : ℕ) → x < 2 → y < 2
-    → (2 * (l * 2 + x) + 1 == 2 * (l' * 2 + y) + 1) ≡ (l == l' && (6 + x == 6 + y && 0 == 0))
-same_way l l' x y h i =
-    both_tests _ _
-    (λ t. let e : 2 * (l * 2 + x) + 1 ≡ 2 * (l' * 2 + y) + 1 = grind (arith, nat_tests) in
-    let a : l ≡ l' = omega arith in let b : x ≡ y = omega arith in grind (arith, nat_tests))
-    (λ t. let a : l ≡ l' = grind (arith, nat_tests) in let b : x ≡ y = grind (arith, nat_tests) in
-    let e : 2 * (l * 2 + x) + 1 ≡ 2 * (l' * 2 + y) + 1 = omega arith in grind (arith, nat_tests))
 
 -- items of a world have the same slot exactly where they are the same
 pub same_slot : (systems links : ℕ) (a b : Item) → IsKnown systems links a → IsKnown systems links b
@@ -228,8 +219,3 @@ plain-cut systems links item (e ∷ es) known all =
     let ih = plain-cut systems links item es known all.1 in
     rw (← same_slot systems links item e.item known all.0, ← ih)
     (if_map plain (slot_of item == slot_of e.item) es (e ∷ cut (slot_of item) es))
-
-pub plain-push : (es : List (Numbered Item)) (e : Numbered Item)
-    → plain (es ++ e ∷ []) ≡ plain es ++ entry e.time e.item ∷ []
-plain-push [] e = refl
-plain-push (x ∷ es) e = ap (λ ys. entry x.time x.item ∷ ys) (plain-push es e)
