@@ -11,8 +11,6 @@ use Rattle.gptp_messages.specs.declared.announce.AnnounceBody.{AnnounceBody}
 use Rattle.gptp_messages.specs.declared.announce.AnnounceView.{AnnounceView}
 use Rattle.gptp_scaled.specs.Stamp.{Timestamp, IsTimestamp}
 use Rattle.gptp_messages.specs.declared.follow_up.FollowUp.{FollowUp as FollowUpFields}
-use Rattle.gptp_messages.specs.declared.peer_delay.PdelayResp.{PdelayResp as PdelayRespFields}
-use Rattle.gptp_messages.specs.declared.peer_delay.PdelayRespFollowUp.{PdelayRespFollowUp as PdelayRespFollowUpFields}
 use Rattle.gptp_messages.specs.declared.head.Head.{Head}
 use Rattle.gptp_vector.specs.declared.port.PortId.{PortId}
 use Rattle.gptp_messages.specs.declared.message.Message.{Message}
@@ -30,7 +28,7 @@ use Rattle.gptp_messages.specs.Announce.{announce_body_of, announce_tlvs, ReadsP
 use Rattle.gptp_messages.specs.Timestamp.{stamp_of, HasStamp, written_stamp}
 use Rattle.gptp_messages.specs.PeerDelay.{requester_of, written_request, written_response, ResponseFits}
 use Rattle.gptp_messages.specs.FollowUp.{follow_up_tlvs, ReadsRate, information, written_sync, written_follow_up, FollowUpFits}
-use Rattle.gptp_messages.specs.Grammar.{header_fault, PassesHeader, Reads, Written, MessageFits, ReadsBack}
+use Rattle.gptp_messages.specs.Grammar.{header_fault, PassesHeader, Reads, ReadsTlvs, StampIsRead, Written, MessageFits, ReadsBack, message_of}
 use Rattle.gptp_messages.proofs.PathLemmas.{field-big_bytes, length-path_octets, clocks-path_octets}
 use Rattle.gptp_messages.proofs.GrammarLemmas.{one_reading, never_both}
 
@@ -201,6 +199,26 @@ module _ (a : AnnounceView) (rest : List ℕ) (fits : AnnounceFits a) where
         is = λ i. messages.Announce (record { head = sym head i; body = sym body i; path = a.path });
       }
 
+-- ---- what has nothing but its header
+
+module _ (kind : MessageType) (make : Head → Message) (head : Head) (behind rest : List ℕ)
+    (spells : Spells kind head behind) where
+  abbrev bare : List ℕ
+  bare = written_message kind head behind ++ rest
+
+  bare-reads : ReadsTlvs kind bare [] (pos 0) → StampIsRead kind bare
+      → make (head_of bare) ≡ message_of kind bare [] (pos 0) → Reads bare (make head)
+  bare-reads tlvs stamp made =
+      record {
+        kind = kind;
+        header = passes kind head behind rest spells;
+        path = [];
+        rate = pos 0;
+        tlvs = tlvs;
+        stamp = stamp;
+        is = ap make (sym (head_is kind head behind rest spells)) ∙ made;
+      }
+
 -- ---- what has a timestamp behind its header
 
 module _ (kind : MessageType) (head : Head) (t : Timestamp) (more rest : List ℕ) (fits : IsTimestamp t) where
@@ -221,52 +239,31 @@ module _ (kind : MessageType) (head : Head) (t : Timestamp) (more rest : List �
 
 -- ---- a response
 
-module _ (kind : MessageType) (head : Head) (t : Timestamp) (p : PortId) (rest : List ℕ)
-    (fits : ResponseFits head t p) where
+module _ (kind : MessageType) (make : Head → Timestamp → PortId → Message) (h : Head) (t : Timestamp) (p : PortId)
+    (rest : List ℕ) (size : least_length kind ≡ 54) (fits : ResponseFits h t p) where
   abbrev response : List ℕ
-  response = written_message kind head (written_response t p) ++ rest
+  response = written_message kind h (written_response t p) ++ rest
 
-  requester-back : requester_of response ≡ p
-  requester-back = port_back 44 p response _ refl refl fits.requester
+  response-spells : Spells kind h (written_response t p)
+  response-spells = record { head = fits.head; least = omega arith; short = omega arith }
 
-pdelay_resp-reads : (m : PdelayRespFields) (rest : List ℕ) → ResponseFits m.head m.stamp m.requester
-    → Reads (Written (messages.PdelayResp m) ++ rest) (messages.PdelayResp m)
-pdelay_resp-reads m rest fits =
-    let behind = written_response m.stamp m.requester in
-    let spells : Spells PdelayResp m.head behind =
-    record { head = fits.head; least = omega arith; short = omega arith } in
-    let head = head_is PdelayResp m.head behind rest spells in
-    let stamp = stamp-back PdelayResp m.head m.stamp (written_port m.requester) rest fits.stamp in
-    let requester = requester-back PdelayResp m.head m.stamp m.requester rest fits in
-    record {
-      kind = PdelayResp;
-      header = passes PdelayResp m.head behind rest spells;
-      path = [];
-      rate = pos 0;
-      tlvs = tt;
-      stamp = stamp-in_range PdelayResp m.head m.stamp (written_port m.requester) rest fits.stamp;
-      is = λ i. messages.PdelayResp (record { head = sym head i; stamp = sym stamp i; requester = sym requester i });
-    }
-
-pdelay_resp_follow_up-reads : (m : PdelayRespFollowUpFields) (rest : List ℕ) → ResponseFits m.head m.stamp m.requester
-    → Reads (Written (messages.PdelayRespFollowUp m) ++ rest) (messages.PdelayRespFollowUp m)
-pdelay_resp_follow_up-reads m rest fits =
-    let behind = written_response m.stamp m.requester in
-    let spells : Spells PdelayRespFollowUp m.head behind =
-    record { head = fits.head; least = omega arith; short = omega arith } in
-    let head = head_is PdelayRespFollowUp m.head behind rest spells in
-    let stamp = stamp-back PdelayRespFollowUp m.head m.stamp (written_port m.requester) rest fits.stamp in
-    let requester = requester-back PdelayRespFollowUp m.head m.stamp m.requester rest fits in
-    record {
-      kind = PdelayRespFollowUp;
-      header = passes PdelayRespFollowUp m.head behind rest spells;
-      path = [];
-      rate = pos 0;
-      tlvs = tt;
-      stamp = stamp-in_range PdelayRespFollowUp m.head m.stamp (written_port m.requester) rest fits.stamp;
-      is = λ i. messages.PdelayRespFollowUp
-          (record { head = sym head i; stamp = sym stamp i; requester = sym requester i });
-    }
+  -- of either type, it reads as the message that is made of these three
+  response-reads : ReadsTlvs kind response [] (pos 0) → (HasStamp response → StampIsRead kind response)
+      → make (head_of response) (stamp_of response) (requester_of response) ≡ message_of kind response [] (pos 0)
+      → Reads response (make h t p)
+  response-reads tlvs read made =
+      let head = head_is kind h (written_response t p) rest response-spells in
+      let stamp = stamp-back kind h t (written_port p) rest fits.stamp in
+      let requester : requester_of response ≡ p = port_back 44 p response _ refl refl fits.requester in
+      record {
+        kind = kind;
+        header = passes kind h (written_response t p) rest response-spells;
+        path = [];
+        rate = pos 0;
+        tlvs = tlvs;
+        stamp = read (stamp-in_range kind h t (written_port p) rest fits.stamp);
+        is = (λ i. make (sym head i) (sym stamp i) (sym requester i)) ∙ made;
+      }
 
 -- ---- a Follow_Up
 
@@ -316,31 +313,19 @@ module _ (m : FollowUpFields) (rest : List ℕ) (fits : FollowUpFits m) where
 
 written_reads : (m : Message) (rest : List ℕ) → MessageFits m → Reads (Written m ++ rest) m
 written_reads (messages.Sync head) rest fits =
-    let spells : Spells Sync head written_sync = record { head = fits; least = omega arith; short = omega arith } in
-    record {
-      kind = Sync;
-      header = passes Sync head written_sync rest spells;
-      path = [];
-      rate = pos 0;
-      tlvs = tt;
-      stamp = tt;
-      is = ap messages.Sync (sym (head_is Sync head written_sync rest spells));
-    }
+    bare-reads Sync messages.Sync head written_sync rest
+    (record { head = fits; least = omega arith; short = omega arith }) tt tt refl
 written_reads (messages.PdelayReq head) rest fits =
-    let spells : Spells PdelayReq head written_request =
-    record { head = fits; least = omega arith; short = omega arith } in
-    record {
-      kind = PdelayReq;
-      header = passes PdelayReq head written_request rest spells;
-      path = [];
-      rate = pos 0;
-      tlvs = tt;
-      stamp = tt;
-      is = ap messages.PdelayReq (sym (head_is PdelayReq head written_request rest spells));
-    }
-written_reads (messages.PdelayResp m) rest fits = pdelay_resp-reads m rest fits
+    bare-reads PdelayReq messages.PdelayReq head written_request rest
+    (record { head = fits; least = omega arith; short = omega arith }) tt tt refl
+written_reads (messages.PdelayResp m) rest fits =
+    response-reads PdelayResp (λ h t p. messages.PdelayResp (record { head = h; stamp = t; requester = p }))
+    m.head m.stamp m.requester rest refl fits tt (λ s. s) refl
 written_reads (messages.FollowUp m) rest fits = follow_up-reads m rest fits
-written_reads (messages.PdelayRespFollowUp m) rest fits = pdelay_resp_follow_up-reads m rest fits
+written_reads (messages.PdelayRespFollowUp m) rest fits =
+    response-reads PdelayRespFollowUp
+    (λ h t p. messages.PdelayRespFollowUp (record { head = h; stamp = t; requester = p }))
+    m.head m.stamp m.requester rest refl fits tt (λ s. s) refl
 written_reads (messages.Announce a) rest fits = announce-reads a rest fits
 
 -- what is written reads back, and as nothing else

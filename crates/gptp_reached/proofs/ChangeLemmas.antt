@@ -75,6 +75,16 @@ record LinkBecomes (place : ℕ) (new : Wire) (w w' : WorldState) : Type 0 where
   pub links : map wire_of w'.net.channels ≡ slice_set (map wire_of w.net.channels) place new
   pub last : w'.last_change ≡ w.last_change
 
+-- a link that is up, or down, as it is to become
+stays_so : (up : Bool) (place : ℕ) (channel : Channel) (w : WorldState) → slice_get w.net.channels place ≡ Some channel
+    → channel.up ≡ up → LinkBecomes place (with_up up (wire_of channel)) w w
+stays_so up place channel w here is = record {
+  systems = refl;
+  links = sym (map-set_same wire_of w.net.channels place channel (record channel { up = up }) here (rw is refl))
+      ∙ map-set wire_of w.net.channels place (record channel { up = up });
+  last = refl;
+}
+
 goes_down_becomes : (up : Bool) (place : ℕ) (channel : Channel) (w : WorldState) (draws : List Draw) (w' : WorldState)
     → slice_get w.net.channels place ≡ Some channel → channel.up ≡ up → GoesDownIf up place channel w draws w'
     → LinkBecomes place (with_up false (wire_of channel)) w w'
@@ -87,13 +97,7 @@ goes_down_becomes true place channel w draws w' here is k =
       last = kept.last;
     }
 goes_down_becomes false place channel w draws w' here is k =
-    subst (LinkBecomes place (with_up false (wire_of channel)) w) (sym k.1)
-    (record {
-      systems = refl;
-      links = sym (map-set_same wire_of w.net.channels place channel (record channel { up = false }) here (rw is refl))
-          ∙ map-set wire_of w.net.channels place (record channel { up = false });
-      last = refl;
-    })
+    subst (LinkBecomes place (with_up false (wire_of channel)) w) (sym k.1) (stays_so false place channel w here is)
 
 comes_up_becomes : (up : Bool) (place : ℕ) (channel : Channel) (w : WorldState) (draws : List Draw) (w' : WorldState)
     → slice_get w.net.channels place ≡ Some channel → channel.up ≡ up → ComesUpIf up place channel w draws w'
@@ -107,13 +111,7 @@ comes_up_becomes false place channel w draws w' here is k =
       last = kept.last;
     }
 comes_up_becomes true place channel w draws w' here is k =
-    subst (LinkBecomes place (with_up true (wire_of channel)) w) (sym k.1)
-    (record {
-      systems = refl;
-      links = sym (map-set_same wire_of w.net.channels place channel (record channel { up = true }) here (rw is refl))
-          ∙ map-set wire_of w.net.channels place (record channel { up = true });
-      last = refl;
-    })
+    subst (LinkBecomes place (with_up true (wire_of channel)) w) (sym k.1) (stays_so true place channel w here is)
 
 -- ---- one event more
 

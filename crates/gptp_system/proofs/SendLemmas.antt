@@ -31,7 +31,7 @@ with_send-among x y ys member =
     go (inl first) = In-left y front (x ∷ back) first
     go (inr second) = In-right y front (x ∷ back) (inr second)
 
--- and no other
+-- and each of them is that one or was sent before
 pub with_send-from : (x y : Sending) (ys : List Sending) → In y (with_send x ys) → (y ≡ x) ⊎ In y ys
 with_send-from x y ys member = go (In-parts y front (x ∷ back) member)
   where
