@@ -8,7 +8,7 @@ use Rattle.std.proofs.lemmas.List.{append_cancel_left}
 use Rattle.hex.specs.Hex.{encode_lower, decode_sized}
 use Rattle.byteorder.specs.Endian.{big_bytes, big_number}
 use Rattle.gptp_graph.specs.Labelling.{PortLine, SystemLine, line_clocks}
-use Rattle.gptp_graph.specs.Members.{In}
+use Rattle.gptp_lists.specs.Members.{In}
 use Rattle.gptp_graph.specs.Order.{IsRising}
 use Rattle.gptp_graph.specs.Parent.{ParentLink}
 use Rattle.gptp_graph.specs.SettledRole.{Role}

@@ -5,7 +5,7 @@ use Rattle.std.specs.Prelude.{◌⊎◌, Option, Result, Ok, Err, IfErr, OnOk}
 use Rattle.std.proofs.lemmas.List.{map-append}
 use Rattle.std.proofs.lemmas.Grind.{flat_map-append}
 use Rattle.gptp_graph.specs.Labelling.{PortLine, SystemLine, line_clocks, port_numbers}
-use Rattle.gptp_graph.specs.Members.{In}
+use Rattle.gptp_lists.specs.Members.{In}
 use Rattle.gptp_graph.specs.Order.{IsRising}
 use Rattle.gptp_graph.specs.Parent.{ParentLink}
 use Rattle.gptp_roles.specs.declared.role.Role.{Role}

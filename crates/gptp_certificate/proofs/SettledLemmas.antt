@@ -6,12 +6,12 @@ use Rattle.std.specs.Option.{option_map}
 use Rattle.gptp_graph.specs.Distance.{IsDistance, IsNear}
 use Rattle.gptp_graph.specs.Labelling.{HasItsSystems, IsLineOf, PortLine, SystemLine, line_clocks, port_numbers}
 use Rattle.gptp_graph.specs.LocalTests.{PassesTooFar}
-use Rattle.gptp_graph.specs.Members.{In}
+use Rattle.gptp_lists.specs.Members.{In}
 use Rattle.gptp_graph.specs.SettledChoice.{IsParentIfAny, IsSettledChoice, IsSettledLine}
 use Rattle.gptp_graph.specs.SettledRole.{IsSettledRole}
 use Rattle.gptp_graph.specs.Snapshot.{IsWellFormed, Snapshot, System, port_of}
 use Rattle.gptp_graph.proofs.DistanceLemmas.{IsDistance-unique}
-use Rattle.gptp_graph.proofs.MemberLemmas.{In-slice_get, from_map, slice_get-In}
+use Rattle.gptp_lists.proofs.MemberLemmas.{In-slice_get, from_map, slice_get-In}
 use Rattle.gptp_graph.proofs.RisingLemmas.{Different-rising}
 use Rattle.gptp_vector.specs.declared.port.PortId.{PortId}
 use Rattle.gptp_roles.specs.declared.role.Role.{Role}

@@ -5,9 +5,9 @@ use Rattle.std.proofs.lemmas.List.{drop_more}
 use Rattle.std.proofs.lemmas.Option.{same_Some, slice_get-get_or, slice_get_within}
 use Rattle.std.specs.List.{range_with_len}
 use Rattle.gptp_graph.specs.Labelling.{PortLine, SystemLine, line_clocks, port_numbers}
-use Rattle.gptp_graph.specs.Members.{In, Different}
+use Rattle.gptp_lists.specs.Members.{In, Different}
 use Rattle.gptp_graph.specs.Order.{IsRising}
-use Rattle.gptp_graph.proofs.MemberLemmas.{In-left, In-map, In-parts, In-right, In-slice_get, from_map, slice_get-In}
+use Rattle.gptp_lists.proofs.MemberLemmas.{In-left, In-map, In-parts, In-right, In-slice_get, from_map, slice_get-In}
 use Rattle.gptp_system.specs.State.{SystemState, clock}
 use Rattle.gptp_acts.specs.Acts.{AtSystem}
 use Rattle.gptp_acts.specs.Sound.{HaveOwnClocks}

@@ -3,7 +3,7 @@ use Rattle.std.specs.Prelude.{List}
 use Rattle.gptp_graph.specs.Distance.{IsNear}
 use Rattle.gptp_graph.specs.Labelling.{SystemLine}
 use Rattle.gptp_graph.specs.LocalTests.{PassesTooFar}
-use Rattle.gptp_graph.specs.Members.{In}
+use Rattle.gptp_lists.specs.Members.{In}
 use Rattle.gptp_graph.specs.SettledChoice.{IsSettledChoice}
 use Rattle.gptp_graph.specs.Snapshot.{Snapshot, System}
 use Rattle.gptp_acts.specs.SettlingTime.{settling_span}

@@ -1,6 +1,6 @@
 -- The first fault, and the choice that has none.
 use Rattle.std.proofs.Common.{Bool, IsTrue, ◌≡◌, ◌↔◌, ℕ, suc, List, [], ◌∷◌, Some, slice_get, take, drop, refl, sym, ap, subst, inl, inr}
-use Rattle.gptp_graph.specs.Members.{In}
+use Rattle.gptp_lists.specs.Members.{In}
 use Rattle.gptp_graph.specs.Snapshot.{Snapshot, IsWellFormed}
 use Rattle.gptp_graph.specs.Labelling.{SystemLine}
 use Rattle.gptp_graph.specs.LocalTests.{PassesSystems, PassesTooFar, PassesLocalTests}

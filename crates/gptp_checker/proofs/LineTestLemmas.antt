@@ -1,12 +1,12 @@
 -- A test of a certificate passes exactly where it passes for each line, port or link.
 use Rattle.std.proofs.Common.{Bool, IsTrue, ◌≡◌, ◌↔◌, ◌<◌, ◌≤◌, ◌+◌, ℕ, zero, suc, List, Option, Some, None, refl, sym, subst, inl, inr, arith}
 use Rattle.std.specs.List.{range_with_len}
-use Rattle.gptp_graph.specs.Members.{In}
+use Rattle.gptp_lists.specs.Members.{In}
 use Rattle.gptp_graph.specs.Snapshot.{Snapshot, PortIdentity, Link, port_of, Joins, Adjacent, IsWellFormed}
 use Rattle.gptp_graph.specs.Parent.{ParentLink}
 use Rattle.gptp_graph.specs.Labelling.{PortLine, SystemLine, HasItsSystems}
 use Rattle.gptp_graph.specs.LocalTests.{PassesTooFar, PassesRoot, PassesSteps, PassesParent, PassesLink, PassesIdentity, PassesTie, PassesRole}
-use Rattle.gptp_graph.proofs.MemberLemmas.{from_map}
+use Rattle.gptp_lists.proofs.MemberLemmas.{from_map}
 use Rattle.gptp_checker.specs.LineTests.{FitsParent, IsNoLower, PassesLine, PassesEachLine, AgreeAcross, AgreeOver}
 use Rattle.gptp_checker.specs.declared.line_test.LineTest.{LineTest}
 use Rattle.gptp_checker.specs.declared.line_test.LineTest.TheVariants.{TooFar, Root, Steps, Parent, Identity, Tie, Role}

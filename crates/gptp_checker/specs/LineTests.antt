@@ -1,7 +1,7 @@
 -- The local tests line by line, port by port and link by link (profile): a test of a certificate passes where it passes
 -- for each.
 use Rattle.std.specs.Prelude.{◌≡◌, ◌⊎◌, ◌+◌, ◌<◌, ◌≤◌, ℕ, List, [], ◌∷◌, Option, Some, None}
-use Rattle.gptp_graph.specs.Members.{In}
+use Rattle.gptp_lists.specs.Members.{In}
 use Rattle.gptp_graph.specs.Order.{IsLower}
 use Rattle.gptp_graph.specs.Snapshot.{System, Snapshot, PortIdentity, port_of, Joins}
 use Rattle.gptp_graph.specs.Parent.{ParentLink, key, JoinsAt}

@@ -1,7 +1,7 @@
 -- The systems of a snapshot and the lines of a certificate place by place: both stand by rising clock.
 use Rattle.std.specs.Prelude.{◌≡◌, ℕ, List, Some, map, slice_get}
 use Rattle.std.specs.List.{range_with_len}
-use Rattle.gptp_graph.specs.Members.{In}
+use Rattle.gptp_lists.specs.Members.{In}
 use Rattle.gptp_graph.specs.Snapshot.{System}
 use Rattle.gptp_graph.specs.Labelling.{PortLine, SystemLine, port_numbers}
 use Rattle.gptp_certificate.specs.Certificate.{port_line_of}

@@ -4,7 +4,7 @@ ghost use Rattle.std.specs.Prelude.{◌≡◌, ◌↔◌, IsTrue, Some, slice_ge
 ghost use Rattle.gptp_certificate.specs.Certificate.{line_of, parent_of};
 ghost use Rattle.gptp_graph.specs.LocalTests.{PassesSystems};
 ghost use Rattle.gptp_graph.specs.Labelling as graphs;
-ghost use Rattle.gptp_graph.specs.Members.{In};
+ghost use Rattle.gptp_lists.specs.Members.{In};
 ghost use Rattle.gptp_graph.specs.Snapshot.{clocks};
 ghost use Rattle.gptp_checker.specs.LineTests.{FitsParent, Follows, HasLowRoot, HasOwnRoot, PassesEachLine, PassesLine};
 ghost use Rattle.gptp_checker.specs.declared.line_test.LineTest.TheVariants as tests;

@@ -2,7 +2,7 @@
 -- `unfoldable` compute at literals.
 use Rattle.std.proofs.Common.{◌≡◌, ◌⊎◌, ◌≤◌, ◌<◌, ℕ, zero, suc, List, [], ◌∷◌, refl, subst, inl, inr, arith}
 use native.Mathlib.Decide.{ℕ_discrete, dec_lt}
-use Rattle.gptp_graph.specs.Members.{In}
+use Rattle.gptp_lists.specs.Members.{In}
 
 -- an equivalent fact
 unfoldable pub dec_iff : {A B : Type 0} → (A → B) → (B → A) → Dec A → Dec B

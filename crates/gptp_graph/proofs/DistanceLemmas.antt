@@ -1,6 +1,6 @@
 -- Distances: each is one number, below the number of systems, and falls by one step at a time toward the best.
 use Rattle.std.proofs.Common.{◌≡◌, ◌≤◌, ◌<◌, ◌++◌, ℕ, suc, List, [], ◌∷◌, length, refl, subst, ◌∙◌, arith, length-append}
-use Rattle.gptp_graph.specs.Members.{In}
+use Rattle.gptp_lists.specs.Members.{In}
 use Rattle.gptp_graph.specs.Snapshot.{System, Snapshot, IsWellFormed, clocks, Adjacent}
 use Rattle.gptp_graph.specs.Path.{Route}
 use Rattle.gptp_graph.specs.Best.{IsBest}

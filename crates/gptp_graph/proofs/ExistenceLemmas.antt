@@ -1,7 +1,7 @@
 -- Every system of a snapshot has a best and a distance.
 use Rattle.std.proofs.Common.{◌≡◌, ◌≤◌, ◌<◌, ℕ, zero, suc, List, [], ◌∷◌, length, refl, sym, ap, subst, inl, inr, arith}
 use native.Mathlib.Decide.{ℕ_discrete, dec_le}
-use Rattle.gptp_graph.specs.Members.{In}
+use Rattle.gptp_lists.specs.Members.{In}
 use Rattle.gptp_graph.specs.Order.{IsLower}
 use Rattle.gptp_graph.specs.Snapshot.{System, Snapshot, IsWellFormed, clocks, Adjacent}
 use Rattle.gptp_graph.specs.Path.{Route, Reaches}

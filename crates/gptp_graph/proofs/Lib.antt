@@ -1,4 +1,3 @@
-pub mod MemberLemmas
 pub mod SystemLemmas
 pub mod DecisionLemmas
 pub mod LinkDecisions

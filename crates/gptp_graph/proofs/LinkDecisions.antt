@@ -1,7 +1,7 @@
 -- Decisions on the links of a snapshot.
 use Rattle.std.proofs.Common.{◌≡◌, ◌⊎◌, ℕ, List, [], ◌∷◌, refl, ap, subst, inl, inr}
 use native.Mathlib.Decide.{ℕ_discrete}
-use Rattle.gptp_graph.specs.Members.{In}
+use Rattle.gptp_lists.specs.Members.{In}
 use Rattle.gptp_graph.specs.Snapshot.{PortIdentity, Link, Snapshot, port_of, Joins, Adjacent, IsLinked}
 use Rattle.gptp_graph.proofs.DecisionLemmas.{dec_iff, dec_both, dec_either, any_dec}
 

@@ -1,9 +1,9 @@
 -- Links: they turn round, end at systems, and leave each port one other end where no port is named twice.
 use Rattle.std.proofs.Common.{◌≡◌, ◌⊎◌, ℕ, List, [], ◌∷◌, sym, ap, subst, ◌∙◌, inl, inr}
-use Rattle.gptp_graph.specs.Members.{In, Different}
+use Rattle.gptp_lists.specs.Members.{In, Different}
 use Rattle.gptp_graph.specs.Snapshot.{System, PortIdentity, Link, Snapshot, IsWellFormed, clocks, port_of, Joins, Adjacent}
 use Rattle.gptp_graph.specs.Parent.{ParentLink, JoinsAt}
-use Rattle.gptp_graph.proofs.MemberLemmas.{In-map}
+use Rattle.gptp_lists.proofs.MemberLemmas.{In-map}
 
 -- a link joins either end to the other
 pub Joins-sym : (g : Snapshot) (p q : PortIdentity) → Joins g p q → Joins g q p

@@ -1,6 +1,6 @@
 -- A labelling passes the local tests exactly where all systems are near.
 use Rattle.std.proofs.Common.{◌<◌, ℕ, List, subst}
-use Rattle.gptp_graph.specs.Members.{In}
+use Rattle.gptp_lists.specs.Members.{In}
 use Rattle.gptp_graph.specs.Snapshot.{Snapshot, IsWellFormed, clocks}
 use Rattle.gptp_graph.specs.Distance.{IsDistance, IsNear}
 use Rattle.gptp_graph.specs.Labelling.{SystemLine}

@@ -1,7 +1,7 @@
 -- A system that is not the best of its component has one parent, and the best has none.
 use Rattle.std.proofs.Common.{◌≡◌, ◌⊎◌, ℕ, suc, List, [], ◌∷◌, refl, subst, inl, inr, arith}
 use native.Mathlib.Decide.{ℕ_discrete}
-use Rattle.gptp_graph.specs.Members.{In}
+use Rattle.gptp_lists.specs.Members.{In}
 use Rattle.gptp_graph.specs.Snapshot.{Link, Snapshot, IsWellFormed, port_of, Adjacent}
 use Rattle.gptp_graph.specs.Distance.{IsDistance}
 use Rattle.gptp_graph.specs.Parent.{ParentLink, key, JoinsAt, LeadsNearer, IsParent}

@@ -1,6 +1,6 @@
 -- Routes and paths: they turn round, join, and every route has a path no longer than it.
 use Rattle.std.proofs.Common.{◌≡◌, ◌≤◌, ◌<◌, ℕ, List, [], ◌∷◌, ◌++◌, length, refl, sym, subst, inl, inr, arith, length-append}
-use Rattle.gptp_graph.specs.Members.{In, Different}
+use Rattle.gptp_lists.specs.Members.{In, Different}
 use Rattle.gptp_graph.specs.Snapshot.{Snapshot, IsWellFormed, clocks, Adjacent}
 use Rattle.gptp_graph.specs.Path.{Route, IsPath, Reaches}
 use Rattle.gptp_graph.proofs.LinkLemmas.{Adjacent-clock, Adjacent-sym}

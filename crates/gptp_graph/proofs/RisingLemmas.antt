@@ -1,9 +1,9 @@
 -- Lists in rising order: every list with different keys has one, and two with the same members are one.
 use Rattle.std.proofs.Common.{◌≡◌, ◌<◌, ℕ, List, [], ◌∷◌, map, refl, sym, ap, ap₂, subst, ◌∙◌, inl, inr, arith}
 use native.Mathlib.Decide.{dec_lt}
-use Rattle.gptp_graph.specs.Members.{In, Different}
+use Rattle.gptp_lists.specs.Members.{In, Different}
 use Rattle.gptp_graph.specs.Order.{IsRising}
-use Rattle.gptp_graph.proofs.MemberLemmas.{In-map, from_map}
+use Rattle.gptp_lists.proofs.MemberLemmas.{In-map, from_map}
 
 -- rising numbers differ
 pub Different-rising : (xs : List ℕ) → IsRising xs → Different xs

@@ -1,7 +1,7 @@
 -- Every port of a system has one settled role; the port at the other end of a slave port is a master port.
 use Rattle.std.proofs.Common.{◌≡◌, ◌⊎◌, ◌<◌, ℕ, zero, suc, refl, ap, subst, ◌∙◌, inl, arith}
 use native.Mathlib.Decide.{ℕ_discrete, dec_lt}
-use Rattle.gptp_graph.specs.Members.{In}
+use Rattle.gptp_lists.specs.Members.{In}
 use Rattle.gptp_graph.specs.Snapshot.{PortIdentity, Snapshot, IsWellFormed, clocks, port_of, Joins, IsLinked}
 use Rattle.gptp_graph.specs.Distance.{IsDistance}
 use Rattle.gptp_graph.specs.Parent.{ParentLink, IsParent}

@@ -1,6 +1,6 @@
 -- A labelling that passes the local tests is the settled choice.
 use Rattle.std.proofs.Common.{◌≡◌, ◌≤◌, ◌<◌, ◌+◌, ℕ, zero, suc, List, [], ◌∷◌, length, Option, Some, None, refl, sym, ap, subst, ◌∙◌, arith}
-use Rattle.gptp_graph.specs.Members.{In}
+use Rattle.gptp_lists.specs.Members.{In}
 use Rattle.gptp_graph.specs.Snapshot.{System, Snapshot, IsWellFormed, Adjacent}
 use Rattle.gptp_graph.specs.Path.{Route, Reaches}
 use Rattle.gptp_graph.specs.Best.{IsBest}

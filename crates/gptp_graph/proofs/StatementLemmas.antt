@@ -1,6 +1,6 @@
 -- Where the stated steps are the distances, what the lines state of ports is what holds of them.
 use Rattle.std.proofs.Common.{◌≡◌, ◌⊎◌, ◌<◌, ℕ, List, Option, Some, None, refl, sym, ap, subst, ◌∙◌}
-use Rattle.gptp_graph.specs.Members.{In}
+use Rattle.gptp_lists.specs.Members.{In}
 use Rattle.gptp_graph.specs.Snapshot.{Snapshot, IsWellFormed, clocks, port_of}
 use Rattle.gptp_graph.specs.Distance.{IsDistance}
 use Rattle.gptp_graph.specs.Parent.{ParentLink}
@@ -8,7 +8,7 @@ use Rattle.gptp_graph.specs.SettledRole.{IsSlavePort, IsMasterPort}
 use Rattle.gptp_graph.specs.Labelling.{SystemLine, HasItsSystems}
 use Rattle.gptp_graph.specs.SettledChoice.{IsParentIfAny}
 use Rattle.gptp_graph.specs.LocalTests.{StatesSteps, StatesSlave, StatesMaster}
-use Rattle.gptp_graph.proofs.MemberLemmas.{same_image}
+use Rattle.gptp_lists.proofs.MemberLemmas.{same_image}
 use Rattle.gptp_graph.proofs.SystemLemmas.{In-clocks, system_of}
 use Rattle.gptp_graph.proofs.DistanceLemmas.{IsDistance-unique, IsDistance-clock}
 use Rattle.gptp_graph.proofs.ParentLemmas.{IsParent-unique}

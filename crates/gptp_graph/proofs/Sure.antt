@@ -1,6 +1,6 @@
 -- Tests that compute: where the test of a fact is true, the fact holds. A fact about literals follows by `refl`.
 use Rattle.std.proofs.Common.{◌≡◌, ◌⊎◌, Bool, true, false, ◌&&◌, ◌||◌, List, [], ◌∷◌, refl, sym, subst, inl, inr}
-use Rattle.gptp_graph.specs.Members.{In}
+use Rattle.gptp_lists.specs.Members.{In}
 use Rattle.gptp_graph.specs.Snapshot.{PortIdentity, Link, Snapshot, Joins}
 use Rattle.gptp_graph.proofs.LinkDecisions.{PortIdentity-dec}
 

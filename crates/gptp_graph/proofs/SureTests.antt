@@ -2,7 +2,7 @@
 use Rattle.std.proofs.Common.{◌≡◌, ◌≢◌, ◌⊎◌, ◌≤◌, ◌<◌, ◌+◌, ◌%◌, ◌^◌, ℕ, true, false, List, [], ◌∷◌, Option, Some, None, refl, sym, ap, ap₂, subst, ◌∙◌}
 use Rattle.std.specs.List.{range_with_len}
 use native.Mathlib.Decide.{ℕ_discrete, dec_le, dec_lt}
-use Rattle.gptp_graph.specs.Members.{In, Different}
+use Rattle.gptp_lists.specs.Members.{In, Different}
 use Rattle.gptp_graph.specs.Order.{IsLower}
 use Rattle.gptp_graph.specs.Snapshot.{System, PortIdentity, Snapshot, clocks, port_of, Joins, IsLinked, IsPortOf, IsIdentified, IsWellFormed}
 use Rattle.gptp_graph.specs.Parent.{ParentLink, key, JoinsAt}

@@ -1,6 +1,6 @@
 -- The best system of a component.
 use Rattle.std.specs.Prelude.{◌≤◌, ℕ}
-use Rattle.gptp_graph.specs.Members.{In}
+use Rattle.gptp_lists.specs.Members.{In}
 use Rattle.gptp_graph.specs.Snapshot.{System, Snapshot}
 use Rattle.gptp_graph.specs.Path.{Reaches}
 

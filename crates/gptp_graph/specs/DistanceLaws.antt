@@ -1,6 +1,6 @@
 -- Laws on paths and distances.
 use Rattle.std.specs.Prelude.{◌+◌, ◌<◌, ◌≤◌, ℕ, List, length}
-use Rattle.gptp_graph.specs.Members.{In, Different}
+use Rattle.gptp_lists.specs.Members.{In, Different}
 use Rattle.gptp_graph.specs.Snapshot.{System, Snapshot, clocks, Adjacent, IsWellFormed}
 use Rattle.gptp_graph.specs.Path.{Route, IsPath}
 use Rattle.gptp_graph.specs.Best.{IsBest}

@@ -2,7 +2,7 @@
 -- each port, and a settled choice.
 use Rattle.std.specs.Prelude.{◌≡◌, ◌≢◌, ℕ, List}
 use Rattle.gptp_graph.specs.Once.{ExistsOnce}
-use Rattle.gptp_graph.specs.Members.{In}
+use Rattle.gptp_lists.specs.Members.{In}
 use Rattle.gptp_graph.specs.Order.{IsRising}
 use Rattle.gptp_graph.specs.Snapshot.{System, PortIdentity, Snapshot, clocks, IsWellFormed}
 use Rattle.gptp_graph.specs.Best.{IsBest}

@@ -2,7 +2,7 @@
 -- role of each port (profile).
 use Rattle.std.specs.Prelude.{◌≡◌, ℕ, List, Option, map}
 use Rattle.std.specs.List.{range_with_len}
-use Rattle.gptp_graph.specs.Members.{In, Different}
+use Rattle.gptp_lists.specs.Members.{In, Different}
 use Rattle.gptp_graph.specs.Snapshot.{System, Snapshot}
 use Rattle.gptp_graph.specs.Parent.{ParentLink}
 use Rattle.gptp_graph.specs.SettledRole.{Role}

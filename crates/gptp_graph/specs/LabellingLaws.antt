@@ -1,6 +1,6 @@
 -- Laws on the tests of a certificate.
 use Rattle.std.specs.Prelude.{◌≡◌, ◌↔◌, ℕ, List}
-use Rattle.gptp_graph.specs.Members.{In}
+use Rattle.gptp_lists.specs.Members.{In}
 use Rattle.gptp_graph.specs.Order.{IsRising}
 use Rattle.gptp_graph.specs.Snapshot.{Snapshot, clocks, IsWellFormed}
 use Rattle.gptp_graph.specs.Distance.{IsNear}

@@ -2,7 +2,7 @@
 -- ends of one link, and none at a path. They stand in the order in which a checker makes them, each over the whole
 -- certificate before the next; each is named for the fault that is found where it fails.
 use Rattle.std.specs.Prelude.{◌≡◌, ◌⊎◌, ◌+◌, ◌<◌, ◌≤◌, ℕ, List, Some, None}
-use Rattle.gptp_graph.specs.Members.{In}
+use Rattle.gptp_lists.specs.Members.{In}
 use Rattle.gptp_graph.specs.Order.{IsLower}
 use Rattle.gptp_graph.specs.Snapshot.{System, Snapshot, PortIdentity, port_of, Joins, Adjacent, IsLinked}
 use Rattle.gptp_graph.specs.Parent.{ParentLink, key, JoinsAt}

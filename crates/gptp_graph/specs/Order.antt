@@ -1,7 +1,7 @@
 -- The order of lists of numbers by which priority vectors are compared: part by part, lower is better
 -- (IEEE 802.1AS-2020, 10.3.4).
 use Rattle.std.specs.Prelude.{◌≡◌, ◌⊎◌, ◌<◌, ⊤, ℕ, List, [], ◌∷◌}
-use Rattle.gptp_graph.specs.Members.{In}
+use Rattle.gptp_lists.specs.Members.{In}
 
 -- the first difference decides
 abbrev pub IsLower : List ℕ → List ℕ → Type 0

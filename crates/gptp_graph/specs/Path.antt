@@ -1,6 +1,6 @@
 -- Routes and paths over the links of a snapshot, and the components that they make.
 use Rattle.std.specs.Prelude.{◌≡◌, ℕ, List, [], ◌∷◌}
-use Rattle.gptp_graph.specs.Members.{In, Different}
+use Rattle.gptp_lists.specs.Members.{In, Different}
 use Rattle.gptp_graph.specs.Snapshot.{Snapshot, clocks, Adjacent}
 
 -- from v over the systems of the list in turn, each joined by a link to the one before it, the last of them w;

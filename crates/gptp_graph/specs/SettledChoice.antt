@@ -1,7 +1,7 @@
 -- The choice that a network settles at: the spanning tree of each component, as the best master clock algorithm
 -- builds it (IEEE 802.1AS-2020, 10.3).
 use Rattle.std.specs.Prelude.{◌≡◌, ℕ, List, Option, Some, None}
-use Rattle.gptp_graph.specs.Members.{In}
+use Rattle.gptp_lists.specs.Members.{In}
 use Rattle.gptp_graph.specs.Snapshot.{System, Snapshot, port_of}
 use Rattle.gptp_graph.specs.Best.{IsBest}
 use Rattle.gptp_graph.specs.Distance.{IsDistance}

@@ -1,7 +1,7 @@
 -- A snapshot of a network: its live systems and the links that are up between two of them. It has no frames, no
 -- timers and no vectors.
 use Rattle.std.specs.Prelude.{◌≡◌, ◌≢◌, ◌⊎◌, ◌<◌, ◌≤◌, ◌^◌, ◌%◌, ℕ, List, map}
-use Rattle.gptp_graph.specs.Members.{In, Different}
+use Rattle.gptp_lists.specs.Members.{In, Different}
 
 -- a live system: its clockIdentity as a number, its systemIdentity as the number of its 14 octets
 -- (IEEE 802.1AS-2020, 10.3.2), and the number of its ports

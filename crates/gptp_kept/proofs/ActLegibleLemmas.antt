@@ -1,6 +1,6 @@
 -- The world that a network makes is legible, and every act leaves it so.
 use Rattle.std.proofs.Common.{◌≡◌, ◌≢◌, ℕ, false, List, Some, slice_get, sym, ap, subst}
-use Rattle.gptp_graph.specs.Members.{In}
+use Rattle.gptp_lists.specs.Members.{In}
 use Rattle.gptp_vector.specs.declared.port.PortId.{PortId}
 use Rattle.gptp_links.specs.declared.link.Direction.{Direction}
 use Rattle.gptp_links.specs.declared.link.Direction.TheVariants.{FromA, FromB}

@@ -1,7 +1,7 @@
 -- From the start on a port is capable exactly where a link of the snapshot is at it.
 use Rattle.std.proofs.Common.{◌≡◌, ◌⊎◌, ◌≤◌, ℕ, suc, Bool, true, false, List, Option, Some, None, slice_get, refl, sym, ap, subst, ◌∙◌, inl, inr}
 use Rattle.gptp_graph.specs.Snapshot.{IsLinked, Joins, Snapshot}
-use Rattle.gptp_graph.proofs.MemberLemmas.{In-map}
+use Rattle.gptp_lists.proofs.MemberLemmas.{In-map}
 use Rattle.gptp_vector.specs.declared.port.PortId.{PortId}
 use Rattle.gptp_links.specs.declared.link.Direction.{Direction}
 use Rattle.gptp_links.specs.declared.link.Direction.TheVariants.{FromA, FromB}

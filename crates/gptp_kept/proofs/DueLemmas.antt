@@ -1,7 +1,7 @@
 -- When the timers of each port and the frames in flight are due.
 use Rattle.std.proofs.Common.{◌≡◌, ℕ, suc, ◌+◌, ◌*◌, ◌<◌, ◌≤◌, Bool, true, false, List, [], ◌∷◌, map, Option, Some, None, slice_get, refl, sym, subst, ◌∙◌, inl, inr, arith, mul-le-mul}
 use Rattle.std.specs.List.{AllByRecursion}
-use Rattle.gptp_graph.specs.Members.{In}
+use Rattle.gptp_lists.specs.Members.{In}
 use Rattle.gptp_links.specs.Queue.{Frame}
 use Rattle.gptp_receipt.specs.declared.held.Held.{Held}
 use Rattle.gptp_receipt.specs.declared.held.Held.TheVariants as helds

@@ -4,8 +4,8 @@ use Rattle.std.specs.List.{AllByRecursion}
 use Rattle.std.proofs.lemmas.List.{length-append}
 use Rattle.std.proofs.lemmas.Nat.{mod_below}
 use Rattle.std.proofs.lemmas.Option.{none-some, slice_get_within}
-use Rattle.gptp_graph.specs.Members.{In}
-use Rattle.gptp_graph.proofs.MemberLemmas.{In-parts}
+use Rattle.gptp_lists.specs.Members.{In}
+use Rattle.gptp_lists.proofs.MemberLemmas.{In-parts}
 use Rattle.gptp_messages.specs.declared.announce.AnnounceView.{AnnounceView}
 use Rattle.gptp_receipt.specs.declared.held.Held.{Held}
 use Rattle.gptp_receipt.specs.Held.{Reception, received}

@@ -1,7 +1,7 @@
 -- Every call leaves a world legible, and so do deliveries and expiries.
 use Rattle.std.proofs.Common.{◌≡◌, ◌⊎◌, ℕ, List, [], ◌∷◌, ◌++◌, Option, Some, None, slice_get, slice_set, refl, sym, subst, inl, inr}
-use Rattle.gptp_graph.specs.Members.{In}
-use Rattle.gptp_graph.proofs.MemberLemmas.{In-parts}
+use Rattle.gptp_lists.specs.Members.{In}
+use Rattle.gptp_lists.proofs.MemberLemmas.{In-parts}
 use Rattle.gptp_links.specs.declared.link.Direction.{Direction}
 use Rattle.gptp_links.specs.declared.link.Direction.TheVariants.{FromA, FromB}
 use Rattle.gptp_links.specs.Fate.{Draw}

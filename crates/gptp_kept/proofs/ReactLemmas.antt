@@ -1,9 +1,9 @@
 -- A system's answer to a touch is an answer of the machine.
 use Rattle.std.proofs.Common.{◌≡◌, ◌⊎◌, ℕ, suc, ◌*◌, Bool, List, map, Some, slice_get, refl, sym, ap, subst, ◌∙◌, inl, inr}
 use Rattle.std.proofs.lemmas.Option.{none-some, same_Some}
-use Rattle.gptp_graph.specs.Members.{In}
+use Rattle.gptp_lists.specs.Members.{In}
 use Rattle.gptp_graph.specs.Order.{IsLower}
-use Rattle.gptp_graph.proofs.MemberLemmas.{In-map, from_map}
+use Rattle.gptp_lists.proofs.MemberLemmas.{In-map, from_map}
 use Rattle.gptp_vector.specs.declared.port.PortId.{PortId}
 use Rattle.gptp_vector.specs.Vector.{master_of}
 use Rattle.gptp_messages.specs.declared.announce.AnnounceView.{AnnounceView}

@@ -1,9 +1,9 @@
 -- What a system sends enters the lanes that begin at its ports, behind all that is in flight there.
 use Rattle.std.proofs.Common.{◌≡◌, ◌≢◌, ◌⊎◌, ℕ, true, false, List, [], ◌∷◌, ◌++◌, Some, slice_get, refl, sym, ap, subst, ◌∙◌, inl, inr, append_assoc}
 use Rattle.std.proofs.lemmas.List.{append-nil}
-use Rattle.gptp_graph.specs.Members.{In}
+use Rattle.gptp_lists.specs.Members.{In}
 use Rattle.gptp_graph.specs.Snapshot.{port_of}
-use Rattle.gptp_graph.proofs.MemberLemmas.{In-left, In-parts, In-right}
+use Rattle.gptp_lists.proofs.MemberLemmas.{In-left, In-parts, In-right}
 use Rattle.gptp_settling.specs.Frame.{Frame, Lane, Send}
 use Rattle.gptp_settling.specs.Acts.{LaneStep}
 use Rattle.gptp_acts.proofs.ListLemmas.{same_there}

@@ -1,6 +1,6 @@
 -- What is known of every item of a world, at every time.
 use Rattle.std.specs.Prelude.{◌≡◌, ◌≤◌, ◌+◌, ℕ, max, true, Some, slice_get}
-use Rattle.gptp_graph.specs.Members.{In}
+use Rattle.gptp_lists.specs.Members.{In}
 use Rattle.gptp_links.specs.declared.link.Direction.{Direction}
 use Rattle.gptp_links.specs.Queue.{Frame}
 use Rattle.gptp_system.specs.declared.port.Port.{Port}

@@ -1,7 +1,7 @@
 -- A world as the machine of gptp_measuring sees it at one link, in one direction.
 use Rattle.std.specs.Prelude.{◌≡◌, ◌≢◌, ◌⊎◌, ◌≤◌, ◌<◌, ◌-◌, ◌^◌, ℕ, true, List, map, Option, Some, None, is_some, slice_get}
 use Rattle.std.specs.Option.{option_map_or}
-use Rattle.gptp_graph.specs.Members.{In}
+use Rattle.gptp_lists.specs.Members.{In}
 use Rattle.gptp_graph.specs.Snapshot.{PortIdentity, port_of}
 use Rattle.gptp_vector.specs.declared.port.PortId.{PortId}
 use Rattle.gptp_messages.specs.declared.head.Head.{Head}

@@ -1,6 +1,6 @@
 -- How clean path traces are in a world that has been calm for so long.
 use Rattle.std.specs.Prelude.{◌≡◌, ◌⊎◌, ◌≤◌, ◌+◌, ◌*◌, ℕ, ⊤, suc, length, Some}
-use Rattle.gptp_graph.specs.Members.{In}
+use Rattle.gptp_lists.specs.Members.{In}
 use Rattle.gptp_graph.specs.Snapshot.{Joins, PortIdentity, Snapshot, clocks, port_of}
 use Rattle.gptp_receipt.specs.Held.{Reception, received}
 use Rattle.gptp_messages.specs.declared.announce.AnnounceView.{AnnounceView}

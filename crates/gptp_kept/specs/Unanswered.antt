@@ -1,6 +1,6 @@
 -- A world as the machine of gptp_measuring sees a port of a live station on a link whose other end has failed.
 use Rattle.std.specs.Prelude.{◌≡◌, ◌≤◌, ◌+◌, ℕ, true, false, List, Some, slice_get}
-use Rattle.gptp_graph.specs.Members.{In}
+use Rattle.gptp_lists.specs.Members.{In}
 use Rattle.gptp_links.specs.Queue.{Frame}
 use Rattle.gptp_system.specs.declared.setup.Params.{Params}
 use Rattle.gptp_system.specs.Intervals.{interval_of}

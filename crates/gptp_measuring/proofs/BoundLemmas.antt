@@ -1,6 +1,6 @@
 -- The bounds are kept by every act.
 use Rattle.std.proofs.Common.{◌≡◌, ◌≤◌, ◌+◌, ◌++◌, ◌⊎◌, ℕ, max, List, Some, None, sym, ap, subst, ◌∙◌, inl, inr, arith}
-use Rattle.gptp_graph.specs.Members.{In}
+use Rattle.gptp_lists.specs.Members.{In}
 use Rattle.gptp_measuring.specs.Lanes.{Frame, IsMute, AreMute}
 use Rattle.gptp_measuring.specs.Messages.{Request, Reply}
 use Rattle.gptp_measuring.specs.Setting.{Setting}

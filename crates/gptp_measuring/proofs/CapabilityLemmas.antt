@@ -1,7 +1,7 @@
 -- What the invariant of a good link gives: no request is lost, no exchange is bad, and the port becomes capable.
 use Rattle.std.proofs.Common.{◌≡◌, ◌≤◌, ◌+◌, ◌*◌, ◌⊎◌, ℕ, ℤ, true, List, [], ◌∷◌, sym, subst, inl, inr, arith}
 use Rattle.std.proofs.Math.Nat.{add-mul}
-use Rattle.gptp_graph.specs.Members.{In}
+use Rattle.gptp_lists.specs.Members.{In}
 use Rattle.gptp_graph.specs.Snapshot.{PortIdentity}
 use Rattle.gptp_measuring.specs.Messages.{Request, Reply}
 use Rattle.gptp_measuring.specs.Setting.{Setting}

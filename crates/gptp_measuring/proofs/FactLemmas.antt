@@ -1,7 +1,7 @@
 -- The facts of each item are kept by every act that sends in time.
 use Rattle.std.proofs.Common.{◌≡◌, ◌≤◌, ◌<◌, ◌+◌, ◌*◌, ◌⊎◌, ℕ, max, List, Some, None, sym, ap, subst, ◌∙◌, inl, inr}
 use Rattle.std.proofs.Common.{arith}
-use Rattle.gptp_graph.specs.Members.{In}
+use Rattle.gptp_lists.specs.Members.{In}
 use Rattle.gptp_pdelay.specs.GoodLink.{IsGoodLink}
 use Rattle.gptp_measuring.specs.Lanes.{Frame}
 use Rattle.gptp_measuring.specs.Messages.{Request, Reply}

@@ -1,7 +1,7 @@
 -- The invariant of a good link: it begins, and every act keeps it.
 use Rattle.std.proofs.Common.{◌≡◌, ◌≤◌, ◌<◌, ◌+◌, ◌++◌, ℕ, max, true, List, ◌∷◌, Option, Some, None, refl, sym, ap}
 use Rattle.std.proofs.Common.{subst, ◌∙◌, inl, inr, arith}
-use Rattle.gptp_graph.specs.Members.{In}
+use Rattle.gptp_lists.specs.Members.{In}
 use Rattle.gptp_measuring.specs.Lanes.{Frame, IsMute, AreMute}
 use Rattle.gptp_measuring.specs.Messages.{Request, Reply, FollowUp}
 use Rattle.gptp_measuring.specs.Setting.{Setting, IsInTime}

@@ -2,7 +2,7 @@
 use Rattle.std.proofs.Common.{rules, ◌≡◌, ◌≤◌, ◌<◌, ◌+◌, ◌*◌, ℕ, Bool, true, false, nat_lt, if◌then◌else◌, refl, sym}
 use Rattle.std.proofs.Common.{subst, inl, inr, arith, List, [], ◌∷◌}
 use Rattle.std.proofs.Math.Nat.{add-mul, mul-le-mul_left, mul-le-mul_right}
-use Rattle.gptp_graph.specs.Members.{In}
+use Rattle.gptp_lists.specs.Members.{In}
 use Rattle.gptp_measuring.specs.Setting.{Setting}
 use Rattle.gptp_measuring.specs.Asker.{Asker, Progress, Closed, Asked, Answered, after_interval, given_up, asks_now}
 use Rattle.gptp_measuring.specs.Silence.{Unanswered, TimerFacts, AsksInVain, ActsInVain, InvUnanswered, IsRunInVain}

@@ -1,6 +1,6 @@
 -- How late what belongs to an exchange can be, by the time of the last request, whatever was in flight before.
 use Rattle.std.specs.Prelude.{◌≡◌, ℕ, ◌+◌, ◌≤◌, max, List, Some}
-use Rattle.gptp_graph.specs.Members.{In}
+use Rattle.gptp_lists.specs.Members.{In}
 use Rattle.gptp_measuring.specs.Lanes.{Frame}
 use Rattle.gptp_measuring.specs.Messages.{Request, Reply}
 use Rattle.gptp_measuring.specs.Setting.{Setting}

@@ -1,7 +1,7 @@
 -- Frames in flight, and what is said of a lane of them. Which message a frame's octets are is a parameter throughout:
 -- `says octets x`, the octets are the message x. Frames that are no such message are mute, whatever else they are.
 use Rattle.std.specs.Prelude.{◌⊎◌, ℕ, List, [], ◌∷◌}
-use Rattle.gptp_graph.specs.Members.{In}
+use Rattle.gptp_lists.specs.Members.{In}
 
 -- a frame in flight: when it is due at the other end, in ns, and its octets
 pub record Frame : Type 0 where

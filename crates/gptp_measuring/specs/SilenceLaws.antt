@@ -1,6 +1,6 @@
 -- Laws on a port on a link whose other end has failed.
 use Rattle.std.specs.Prelude.{◌≡◌, ℕ, ◌+◌, ◌*◌, ◌<◌, ◌≤◌, true, List, ◌∷◌}
-use Rattle.gptp_graph.specs.Members.{In}
+use Rattle.gptp_lists.specs.Members.{In}
 use Rattle.gptp_measuring.specs.Setting.{Setting}
 use Rattle.gptp_measuring.specs.Silence.{Unanswered, TimerFacts, ActsInVain, InvUnanswered, IsRunInVain}
 

@@ -6,9 +6,9 @@ use Rattle.std.specs.List.Sorted.{IsPermutation}
 use Rattle.std.proofs.lemmas.List.Folds.{Any-from_list_any}
 use Rattle.std.proofs.lemmas.List.Sorted.{Contains-permutation, IsPermutation-sym}
 use Rattle.std.proofs.lemmas.Option.{cond_some, same_Some, slice_get-get_or}
-use Rattle.gptp_graph.specs.Members.{In}
+use Rattle.gptp_lists.specs.Members.{In}
 use Rattle.gptp_graph.specs.Snapshot.{System, PortIdentity, Link, Snapshot, IsPortOf, IsWellFormed, Joins, clocks}
-use Rattle.gptp_graph.proofs.MemberLemmas.{In-slice_get, slice_get-In, from_map}
+use Rattle.gptp_lists.proofs.MemberLemmas.{In-slice_get, slice_get-In, from_map}
 use Rattle.gptp_graph.proofs.RisingLemmas.{Different-rising}
 use Rattle.gptp_graph.proofs.Sure.{and_true}
 use Rattle.gptp_roles.specs.Selection.{clock_of}

@@ -10,10 +10,10 @@ use Rattle.std.proofs.lemmas.List.Elements.{filter-append, filter_map-append}
 use Rattle.std.proofs.lemmas.List.Sorted.{IsNonDecreasingBy-from_sort, IsPermutation-map, IsPermutation-sym}
 use Rattle.std.proofs.lemmas.Map.Keys.{IsDistinct-IsPermutation}
 use Rattle.std.proofs.lemmas.Option.{cond_some, get_or_from_slice_get, none-some, same_Some, slice_get-get_or, slice_get_within}
-use Rattle.gptp_graph.specs.Members.{In, Different}
+use Rattle.gptp_lists.specs.Members.{In, Different}
 use Rattle.gptp_graph.specs.Order.{IsRising}
 use Rattle.gptp_graph.specs.Snapshot.{System, PortIdentity, Link}
-use Rattle.gptp_graph.proofs.MemberLemmas.{slice_get-In, from_map}
+use Rattle.gptp_lists.proofs.MemberLemmas.{slice_get-In, from_map}
 use Rattle.gptp_roles.specs.Selection.{clock_of}
 use Rattle.gptp_vector.specs.declared.port.PortId.{PortId}
 use Rattle.gptp_acts.specs.Change.{joined_after, live_after, system_after}

@@ -18,7 +18,7 @@ use crate::params::network_of;
 use crate::snapshot::Snapshot;
 use crate::systems::add_systems;
 use crate::values::natural;
-use gptp_world::{Network, Timed};
+use gptp_acts::{Network, Timed};
 use std::alloc::{AllocError, Global};
 use std::marker::Model;
 use toml::Table;

@@ -13,8 +13,8 @@ use crate::fault::DocumentFault;
 use crate::links::{delay, port_number};
 use crate::members::limited;
 use crate::values::{array_at, clock, natural, text};
+use gptp_acts::{Act, Change, Network, NetworkFault, Timed};
 use gptp_vector::{ClockId, PortId};
-use gptp_world::{Act, Change, Network, NetworkFault, Timed};
 use std::alloc::Global;
 use toml::{Table, Value};
 

@@ -1,6 +1,6 @@
 //! Why a document is refused.
 
-use gptp_world::NetworkFault;
+use gptp_acts::NetworkFault;
 use std::alloc::AllocFailed;
 use std::error::Error;
 use std::fmt;

@@ -10,8 +10,8 @@ ghost use Rattle.gptp_network.specs.Links.{link_of, with_link_of, with_links};
 use crate::fault::DocumentFault;
 use crate::members::limited;
 use crate::values::{array_at, clock, flag, natural};
+use gptp_acts::Network;
 use gptp_vector::PortId;
-use gptp_world::Network;
 use toml::{Table, Value};
 
 /// A link as a document describes it.

@@ -1,12 +1,12 @@
 //! Snapshots: a network as it stands at a time.
 
 ghost use Rattle.std.specs.Prelude.{◌≡◌, ℕ, IfNone, IfSome, None, Some, slice_get};
-ghost use Rattle.gptp_graph.specs.Members.{In};
+ghost use Rattle.gptp_lists.specs.Members.{In};
 ghost use Rattle.gptp_network.specs.SnapshotTables.{HasClock, RisesByClock, RisesByPort, seen_systems};
 
 use crate::taking::{ends_by_port, links_between, systems_by_clock};
+use gptp_acts::{Network, Timed};
 use gptp_vector::{ClockId, Identity, PortId};
-use gptp_world::{Network, Timed};
 use std::alloc::{AllocError, Global};
 use std::marker::Model;
 

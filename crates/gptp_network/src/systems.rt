@@ -10,8 +10,8 @@ ghost use Rattle.gptp_network.specs.Systems.{identity_of, system_of, with_system
 use crate::fault::DocumentFault;
 use crate::members::{limited, needed};
 use crate::values::{array_at, clock, natural, whole};
+use gptp_acts::Network;
 use gptp_vector::{ClockId, Identity};
-use gptp_world::Network;
 use toml::{Table, Value};
 
 /// A system as a document describes it.

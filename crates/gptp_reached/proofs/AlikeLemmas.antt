@@ -4,13 +4,13 @@ use Rattle.std.proofs.lemmas.List.Sorted.{IsPermutation-sym}
 use Rattle.gptp_graph.specs.Best.{IsBest}
 use Rattle.gptp_graph.specs.Distance.{IsDistance, IsDistanceFrom, IsNear}
 use Rattle.gptp_graph.specs.Labelling.{HasItsSystems, IsLineOf, SystemLine}
-use Rattle.gptp_graph.specs.Members.{In}
+use Rattle.gptp_lists.specs.Members.{In}
 use Rattle.gptp_graph.specs.Parent.{IsParent, LeadsNearer, ParentLink}
 use Rattle.gptp_graph.specs.Path.{IsPath, Reaches, Route}
 use Rattle.gptp_graph.specs.SettledChoice.{IsParentIfAny, IsSettledLine}
 use Rattle.gptp_graph.specs.SettledRole.{Disabled, IsMasterPort, IsSettledRole, IsSlavePort, Master, Passive, Role, Slave}
 use Rattle.gptp_graph.specs.Snapshot.{IsLinked, Joins, Link, PortIdentity, Snapshot, System, clocks, port_of}
-use Rattle.gptp_graph.proofs.MemberLemmas.{In-map, from_map}
+use Rattle.gptp_lists.proofs.MemberLemmas.{In-map, from_map}
 use Rattle.gptp_network.proofs.SnapshotLemmas.{In-permutation}
 use Rattle.gptp_certificate.specs.Settled.{AreNear, IsRight}
 use Rattle.gptp_kept.proofs.SystemLemmas.{clock_in}

@@ -1,8 +1,8 @@
 -- A system answers: what that does to the stage of a link.
 use Rattle.std.proofs.Common.{◌≡◌, ◌≢◌, ◌⊎◌, ◌<◌, ◌≤◌, ◌+◌, ◌++◌, ℕ, suc, List, ◌∷◌, Some, length, slice_get, refl, sym, ap, subst, ◌∙◌, inl, inr, arith}
-use Rattle.gptp_graph.specs.Members.{In}
+use Rattle.gptp_lists.specs.Members.{In}
 use Rattle.gptp_graph.specs.Snapshot.{PortIdentity, port_of}
-use Rattle.gptp_graph.proofs.MemberLemmas.{In-right}
+use Rattle.gptp_lists.proofs.MemberLemmas.{In-right}
 use Rattle.gptp_settling.specs.Frame.{Announce, Says, Frame, Lane, Send}
 use Rattle.gptp_settling.specs.Station.{Reception, Held, Disabled, Aged, Mine, Received, Port, Station, State}
 use Rattle.gptp_settling.specs.Touch.{Touch, Hear, Grow, Mid}

@@ -1,11 +1,11 @@
 -- Traces become clean: each step keeps how clean they are by when they were sent, and in the end all that is held is
 -- wholly clean.
 use Rattle.std.proofs.Common.{◌≡◌, ◌⊎◌, ◌≤◌, ◌<◌, ◌+◌, ◌*◌, ◌++◌, ℕ, zero, suc, true, List, [], ◌∷◌, Some, length, slice_get, reverse, refl, sym, ap, subst, ◌∙◌, inl, inr, arith}
-use Rattle.gptp_graph.specs.Members.{In}
+use Rattle.gptp_lists.specs.Members.{In}
 use Rattle.gptp_graph.specs.Snapshot.{System, PortIdentity, IsWellFormed, clocks, port_of, Joins, Adjacent}
 use Rattle.gptp_graph.proofs.LinkLemmas.{Joins-sym}
 use Rattle.gptp_graph.proofs.SystemLemmas.{In-clocks}
-use Rattle.gptp_graph.proofs.MemberLemmas.{In-parts}
+use Rattle.gptp_lists.proofs.MemberLemmas.{In-parts}
 use Rattle.gptp_settling.specs.Frame.{Announce, Says, Frame, Lane, Send}
 use Rattle.gptp_settling.specs.Station.{Station, State}
 use Rattle.gptp_settling.specs.Touch.{Touch, Hear}

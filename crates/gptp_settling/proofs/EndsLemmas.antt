@@ -1,9 +1,9 @@
 -- The links of a calm network: what is known of their ends, once the system that tells has settled.
 use Rattle.std.proofs.Common.{◌≡◌, ◌≢◌, ◌⊎◌, ◌≤◌, ◌<◌, ℕ, suc, true, List, [], ◌∷◌, Some, length, slice_get, sym, ap, subst, ◌∙◌, inl, inr, arith}
 use Rattle.std.proofs.lemmas.List.{length-append}
-use Rattle.gptp_graph.proofs.MemberLemmas.{In-parts}
+use Rattle.gptp_lists.proofs.MemberLemmas.{In-parts}
 use native.Mathlib.Decide.{dec_le}
-use Rattle.gptp_graph.specs.Members.{In}
+use Rattle.gptp_lists.specs.Members.{In}
 use Rattle.gptp_graph.specs.Order.{IsLower}
 use Rattle.gptp_graph.specs.Snapshot.{System, port_of, Joins, IsLinked, clocks}
 use Rattle.gptp_graph.specs.Best.{IsBest}

@@ -1,7 +1,7 @@
 -- The example run is one: each of its states is calm, and each follows by a step.
 use Rattle.std.proofs.Common.{◌≡◌, ◌≢◌, pred, ◌⊎◌, ◌≤◌, ◌<◌, ◌+◌, ℕ, zero, suc, true, List, [], ◌∷◌, Some, slice_get, refl, sym, ap, subst, ◌∙◌, inl, inr, arith}
 use native.Mathlib.Decide.{ℕ_discrete, dec_le, dec_lt}
-use Rattle.gptp_graph.specs.Members.{In}
+use Rattle.gptp_lists.specs.Members.{In}
 use Rattle.gptp_graph.specs.Order.{IsLower}
 use Rattle.gptp_graph.specs.Snapshot.{System, PortIdentity, port_of, Joins, IsLinked, IsWellFormed}
 use Rattle.gptp_graph.proofs.DecisionLemmas.{dec_both, dec_either}

@@ -1,6 +1,6 @@
 -- The steps of the example run.
 use Rattle.std.proofs.Common.{◌≡◌, ◌≢◌, ◌⊎◌, ◌≤◌, ◌+◌, ℕ, zero, suc, true, List, [], ◌∷◌, Some, slice_get, append-nil, refl, sym, ap, subst, inl, inr, arith}
-use Rattle.gptp_graph.specs.Members.{In}
+use Rattle.gptp_lists.specs.Members.{In}
 use Rattle.gptp_graph.specs.Snapshot.{PortIdentity, port_of, IsLinked}
 use Rattle.gptp_settling.specs.Frame.{Announce, Frame, Lane, Send}
 use Rattle.gptp_settling.specs.Station.{Disabled, Mine, Received, Port, Station}

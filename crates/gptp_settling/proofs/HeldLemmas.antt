@@ -1,6 +1,6 @@
 -- No trace that a system holds names it, since none that did is taken.
 use Rattle.std.proofs.Common.{◌≡◌, ◌≤◌, ℕ, suc, List, sym, subst, inl, inr, arith}
-use Rattle.gptp_graph.specs.Members.{In}
+use Rattle.gptp_lists.specs.Members.{In}
 use Rattle.gptp_settling.specs.Frame.{Announce, Says, Send}
 use Rattle.gptp_settling.specs.Station.{Station, State}
 use Rattle.gptp_settling.specs.Touch.{Touch}

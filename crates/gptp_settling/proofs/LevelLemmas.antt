@@ -1,7 +1,7 @@
 -- Settling by distance: systems at one distance settle by what those one step nearer tell, and every step keeps that.
 use Rattle.std.proofs.Common.{◌≡◌, ◌≤◌, ◌<◌, ◌+◌, ℕ, zero, suc, true, Some, length, slice_get, refl, sym, subst, ◌∙◌, inl, arith}
 use native.Mathlib.Decide.{dec_lt}
-use Rattle.gptp_graph.specs.Members.{In}
+use Rattle.gptp_lists.specs.Members.{In}
 use Rattle.gptp_graph.specs.Snapshot.{System, PortIdentity, Snapshot, IsWellFormed, port_of, Joins, Adjacent, clocks}
 use Rattle.gptp_graph.specs.Best.{IsBest}
 use Rattle.gptp_graph.specs.Distance.{IsDistance}

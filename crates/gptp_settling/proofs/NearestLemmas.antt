@@ -1,7 +1,7 @@
 -- A wholly clean Announce names no better root than the best, and for the best no fewer steps than the distance.
 use Rattle.std.proofs.Common.{◌≡◌, ◌≤◌, ℕ, suc, List, [], ◌∷◌, length, sym, ap, subst, ◌∙◌, inl, inr, arith}
 use Rattle.std.proofs.lemmas.List.{length-reverse}
-use Rattle.gptp_graph.specs.Members.{In}
+use Rattle.gptp_lists.specs.Members.{In}
 use Rattle.gptp_graph.specs.Snapshot.{System, Snapshot, IsWellFormed}
 use Rattle.gptp_graph.specs.Path.{Route}
 use Rattle.gptp_graph.specs.Best.{IsBest}

@@ -1,6 +1,6 @@
 -- A frame is taken off a lane: what that does to the ends of a link, and to its stage.
 use Rattle.std.proofs.Common.{◌≡◌, ◌≢◌, ◌≤◌, ℕ, List, Some, slice_get, sym, ap, subst, ◌∙◌, inl, inr}
-use Rattle.gptp_graph.specs.Members.{In}
+use Rattle.gptp_lists.specs.Members.{In}
 use Rattle.gptp_settling.specs.Frame.{Says, Frame, Lane}
 use Rattle.gptp_settling.specs.Station.{Port, State}
 use Rattle.gptp_settling.specs.Acts.{Pops}

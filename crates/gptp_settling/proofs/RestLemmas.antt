@@ -1,7 +1,7 @@
 -- A system at rest of which all that is held is wholly clean: what it has chosen, and which of its ports are master.
 use Rattle.std.proofs.Common.{◌≡◌, ◌≢◌, ◌⊎◌, ◌≤◌, ◌<◌, ℕ, zero, suc, List, [], ◌∷◌, Some, None, slice_get, refl, sym, ap, subst, ◌∙◌, inl, inr, arith}
 use native.Mathlib.Decide.{dec_le}
-use Rattle.gptp_graph.specs.Members.{In}
+use Rattle.gptp_lists.specs.Members.{In}
 use Rattle.gptp_graph.specs.Order.{IsLower}
 use Rattle.gptp_graph.specs.Snapshot.{System, PortIdentity, Snapshot, IsWellFormed, port_of, Joins, Adjacent}
 use Rattle.gptp_graph.specs.Best.{IsBest}

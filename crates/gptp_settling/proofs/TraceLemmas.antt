@@ -1,12 +1,12 @@
 -- Traces that are clean by some members or wholly: a system that follows one and adds itself makes it longer by one.
 use Rattle.std.proofs.Common.{◌≡◌, ◌≤◌, ◌<◌, ◌++◌, ℕ, zero, suc, take, drop, List, [], ◌∷◌, length, refl, reverse, sym, ap, subst, ◌∙◌, arith}
 use Rattle.std.proofs.lemmas.List.{reverse-reverse, take-append-le, length-take-le, take-append-drop}
-use Rattle.gptp_graph.specs.Members.{In, Different}
+use Rattle.gptp_lists.specs.Members.{In, Different}
 use Rattle.gptp_graph.specs.Snapshot.{System, Snapshot, IsWellFormed, clocks, Adjacent}
 use Rattle.gptp_graph.specs.Path.{Route, IsPath}
 use Rattle.gptp_graph.proofs.SystemLemmas.{In-clocks}
 use Rattle.gptp_graph.proofs.PathLemmas.{IsPath-self, path_bounded}
-use Rattle.gptp_graph.proofs.MemberLemmas.{In-left, In-take}
+use Rattle.gptp_lists.proofs.MemberLemmas.{In-left, In-take}
 use Rattle.gptp_settling.specs.Frame.{Announce}
 use Rattle.gptp_settling.specs.Clean.{Clean, Whole}
 use Rattle.gptp_settling.specs.CleanLaws.{EndsInPath}

@@ -1,6 +1,6 @@
 -- The steps of the machine.
 use Rattle.std.specs.Prelude.{◌≡◌, ◌≢◌, ◌⊎◌, ◌≤◌, ◌+◌, ℕ, suc, true, List, ◌∷◌, ◌++◌, Some, slice_get}
-use Rattle.gptp_graph.specs.Members.{In}
+use Rattle.gptp_lists.specs.Members.{In}
 use Rattle.gptp_graph.specs.Snapshot.{port_of}
 use Rattle.gptp_settling.specs.Frame.{Announce, Says, Frame, Lane, Send}
 use Rattle.gptp_settling.specs.Station.{Reception, Disabled, Received, Port, Station, State}

@@ -1,7 +1,7 @@
 -- What is known of each state of a network whose last change is past, of one item each. This is what a world has to
 -- show of itself; the laws of settling have no other premise.
 use Rattle.std.specs.Prelude.{◌≡◌, ◌≢◌, ◌<◌, ◌≤◌, ◌+◌, ℕ, suc, true, Some, slice_get}
-use Rattle.gptp_graph.specs.Members.{In}
+use Rattle.gptp_lists.specs.Members.{In}
 use Rattle.gptp_graph.specs.Snapshot.{System, PortIdentity, port_of, Joins, IsLinked}
 use Rattle.gptp_settling.specs.Frame.{Frame, Lane}
 use Rattle.gptp_settling.specs.Station.{Reception, Disabled, Mine, Received, Port, Station, State}

@@ -1,6 +1,6 @@
 -- Path traces of which the last members are a path of the snapshot.
 use Rattle.std.specs.Prelude.{◌≡◌, ◌⊎◌, ◌≤◌, ℕ, suc, List, ◌∷◌, ◌++◌, length, reverse}
-use Rattle.gptp_graph.specs.Members.{In}
+use Rattle.gptp_lists.specs.Members.{In}
 use Rattle.gptp_graph.specs.Snapshot.{System, Snapshot, PortIdentity, port_of, Joins}
 use Rattle.gptp_graph.specs.Path.{IsPath}
 use Rattle.gptp_settling.specs.Frame.{Announce}

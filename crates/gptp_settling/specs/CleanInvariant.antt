@@ -1,6 +1,6 @@
 -- How clean traces are, by when they were sent: what the steps of the machine keep.
 use Rattle.std.specs.Prelude.{◌≡◌, ℕ, suc, true, Some, slice_get}
-use Rattle.gptp_graph.specs.Members.{In}
+use Rattle.gptp_lists.specs.Members.{In}
 use Rattle.gptp_graph.specs.Snapshot.{clocks}
 use Rattle.gptp_settling.specs.Frame.{Announce, Says, Frame, Lane}
 use Rattle.gptp_settling.specs.Station.{Reception, Station, State, HoldsAt}

@@ -1,6 +1,6 @@
 -- What is known of each state between two changes of the network, of one item each.
 use Rattle.std.specs.Prelude.{◌≡◌, ◌⊎◌, ◌≤◌, ◌+◌, ◌*◌, ℕ, suc, true, [], ◌∷◌, ◌++◌, Some, length, slice_get}
-use Rattle.gptp_graph.specs.Members.{In}
+use Rattle.gptp_lists.specs.Members.{In}
 use Rattle.gptp_graph.specs.Snapshot.{Snapshot, System, clocks, Joins}
 use Rattle.gptp_settling.specs.Frame.{Frame, Lane}
 use Rattle.gptp_settling.specs.Station.{Reception, Station, State, HoldsAt}

@@ -1,6 +1,6 @@
 -- Laws on what systems hold: facts of one item that the steps themselves keep.
 use Rattle.std.specs.Prelude.{◌≡◌, ◌≢◌, ◌≤◌, ◌+◌, ℕ, true, Some, slice_get}
-use Rattle.gptp_graph.specs.Members.{In}
+use Rattle.gptp_lists.specs.Members.{In}
 use Rattle.gptp_settling.specs.Frame.{Says}
 use Rattle.gptp_settling.specs.Station.{Reception, Aged, Mine, Port, Station, State, HoldsAt}
 use Rattle.gptp_settling.specs.Acts.{Steps}

@@ -1,6 +1,6 @@
 -- One direction of a link of the machine: what is known of its two ends, and the stage that it is at.
 use Rattle.std.specs.Prelude.{◌≡◌, ◌≢◌, ◌↔◌, ◌<◌, ◌≤◌, ◌+◌, ℕ, suc, true, List, [], ◌∷◌, Some, length, slice_get}
-use Rattle.gptp_graph.specs.Members.{In}
+use Rattle.gptp_lists.specs.Members.{In}
 use Rattle.gptp_graph.specs.Order.{IsLower}
 use Rattle.gptp_settling.specs.Frame.{Says, Frame, Lane}
 use Rattle.gptp_settling.specs.Station.{Reception, Disabled, Mine, Received, Port, Station, State}

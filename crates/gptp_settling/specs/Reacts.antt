@@ -1,6 +1,6 @@
 -- One system's answer to an input: what its ports hold afterwards, and the Announces that it sends.
 use Rattle.std.specs.Prelude.{◌≡◌, ◌≢◌, ◌⊎◌, ◌+◌, ⊤, ℕ, suc, List, Some, slice_get}
-use Rattle.gptp_graph.specs.Members.{In}
+use Rattle.gptp_lists.specs.Members.{In}
 use Rattle.gptp_graph.specs.Order.{IsLower}
 use Rattle.gptp_graph.specs.Snapshot.{port_of}
 use Rattle.gptp_settling.specs.Frame.{Announce, Says, Send}

@@ -1,6 +1,6 @@
 -- The stages through which a link comes to tell what the system at its one end has settled at.
 use Rattle.std.specs.Prelude.{◌≡◌, ◌⊎◌, ◌<◌, ◌≤◌, ◌+◌, ℕ, suc, List, [], ◌∷◌}
-use Rattle.gptp_graph.specs.Members.{In}
+use Rattle.gptp_lists.specs.Members.{In}
 use Rattle.gptp_graph.specs.Snapshot.{PortIdentity, port_of}
 use Rattle.gptp_settling.specs.Frame.{Announce, Says, Frame}
 use Rattle.gptp_settling.specs.Station.{Reception, Held, Received}

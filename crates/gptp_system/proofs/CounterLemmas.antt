@@ -5,7 +5,7 @@ use Rattle.std.specs.Option.{option_map_or}
 use Rattle.std.proofs.lemmas.Bool.{cases_Bool}
 use Rattle.std.proofs.lemmas.Bool.Decides.{nat_tests}
 use Rattle.std.proofs.lemmas.Option.{none-some, same_Some}
-use Rattle.gptp_graph.specs.Members.{In}
+use Rattle.gptp_lists.specs.Members.{In}
 use Rattle.gptp_correction.specs.declared.correction.Relayed.{Relayed}
 use Rattle.gptp_receipt.specs.declared.held.Held.{Held}
 use Rattle.gptp_vector.specs.declared.port.PortId.{PortId}

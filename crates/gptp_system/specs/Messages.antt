@@ -1,6 +1,6 @@
 -- Which messages a step sends (IEEE 802.1AS-2020, 10.3.16, 11.2.14, 11.2.15, 11.2.19 and 11.2.20).
 use Rattle.std.specs.Prelude.{◌≡◌, ℕ, List}
-use Rattle.gptp_graph.specs.Members.{In}
+use Rattle.gptp_lists.specs.Members.{In}
 use Rattle.gptp_system.specs.declared.sending.Body.{Body}
 use Rattle.gptp_system.specs.declared.sending.Body.TheVariants as bodies
 use Rattle.gptp_system.specs.declared.sending.Sending.{Sending}

@@ -1,6 +1,6 @@
 -- What a system makes of a touch: what its ports hold afterwards, and the Announces that it sends.
 use Rattle.std.specs.Prelude.{◌≡◌, ◌≢◌, ◌⊎◌, ◌+◌, ℕ, suc, true, List, Some, slice_get}
-use Rattle.gptp_graph.specs.Members.{In}
+use Rattle.gptp_lists.specs.Members.{In}
 use Rattle.gptp_vector.specs.Vector.{lower, master_of}
 use Rattle.gptp_messages.specs.declared.announce.AnnounceBody.{AnnounceBody}
 use Rattle.gptp_receipt.specs.declared.held.Held.{Held}
