@@ -10,7 +10,7 @@ use Rattle.gptp_links.specs.Fate.{Draw}
 use Rattle.gptp_links.specs.Queue.{frame, Frame, due_after}
 use Rattle.gptp_system.specs.declared.answer.Answer.{Answer}
 use Rattle.gptp_system.specs.declared.sending.Sending.{Sending}
-use Rattle.gptp_system.specs.declared.timer.Timer.{Timer}
+use Rattle.gptp_setup.specs.declared.timer.Timer.{Timer}
 use Rattle.gptp_system.specs.Input.{Input, Frame as FrameHeard, Expires as TimerExpires}
 use Rattle.gptp_system.specs.State.{SystemState, own}
 use Rattle.gptp_system.proofs.FactLemmas.{keeps_length}
@@ -27,7 +27,7 @@ use Rattle.gptp_acts.specs.Changing.{with_station, CallsAll, CallsIfLive, TellsE
 use Rattle.gptp_acts.specs.Agrees.{stopped, Agrees, AgreesBut}
 use Rattle.gptp_acts.proofs.OwnTimerLemmas.{only_same_count, only_without_first, set_timers_is, station_timer, timers_agree}
 use Rattle.gptp_acts.proofs.PendingLemmas.{times-put_same, times-put_other, times-without_first_same, times-without_first_other}
-use Rattle.gptp_acts.proofs.PlaceLemmas.{get-set_same, get-set_other, same_place}
+use Rattle.gptp_lists.proofs.PlaceLemmas.{get-set_same, get-set_other, same_place}
 use Rattle.gptp_acts.proofs.TimerLemmas.{item_is, no_timer, other_system, times-set_all_arrival, times-set_all_elsewhere}
 
 -- ---- what is expected

@@ -11,7 +11,7 @@ use Rattle.gptp_links.specs.Fate.{Draw}
 use Rattle.gptp_links.specs.Queue.{Frame, due_after, frame, newest_due}
 use Rattle.gptp_system.specs.declared.answer.Answer.{Answer}
 use Rattle.gptp_system.specs.declared.sending.Sending.{Sending}
-use Rattle.gptp_system.specs.declared.timer.Timer.{Timer}
+use Rattle.gptp_setup.specs.declared.timer.Timer.{Timer}
 use Rattle.gptp_system.specs.Input.{Input, IsTimely, Steps, PortUp, PortDown, Frame as FrameHeard, Expires, Priority}
 use Rattle.gptp_system.specs.State.{SystemState, due, own}
 use Rattle.gptp_system.proofs.FactLemmas.{keeps_length}
@@ -28,7 +28,7 @@ use Rattle.gptp_acts.specs.World.{Channel, Net, WorldState, queue, station_due, 
 use Rattle.gptp_acts.proofs.DueByLemmas.{AreKeptOrLater, due_by-put, due_by-set_timers}
 use Rattle.gptp_acts.proofs.MomentLemmas.{IsNotBefore, nothing_before-put, nothing_before-set_due, times-all}
 use Rattle.gptp_acts.proofs.PendingLemmas.{same_itself}
-use Rattle.gptp_acts.proofs.PlaceLemmas.{get-set_all, get-set_other, get-set_same, same_place}
+use Rattle.gptp_lists.proofs.PlaceLemmas.{get-set_all, get-set_other, get-set_same, same_place}
 use Rattle.gptp_acts.proofs.SteadyLemmas.{steps_none_late, steps_steady}
 use Rattle.gptp_acts.proofs.TimerLemmas.{same_timer}
 

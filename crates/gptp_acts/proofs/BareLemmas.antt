@@ -12,7 +12,7 @@ use Rattle.gptp_system.specs.State.{SystemState, own}
 use Rattle.gptp_acts.specs.Act.{all_timers, in_state, Calls, Takes}
 use Rattle.gptp_acts.specs.Sends.{entered, written, SendsAll, SendsOne}
 use Rattle.gptp_acts.specs.World.{Channel, Net, WorldState, with_queue}
-use Rattle.gptp_acts.proofs.PlaceLemmas.{map-set_same}
+use Rattle.gptp_lists.proofs.PlaceLemmas.{map-set_same}
 
 -- a link without what is in flight on it
 abbrev pub bare : Channel → Channel

@@ -7,7 +7,7 @@ use Rattle.gptp_links.specs.declared.link.Direction.TheVariants.{FromA, FromB}
 use Rattle.gptp_links.specs.Fate.{Draw}
 use Rattle.gptp_links.specs.Queue.{Frame}
 use Rattle.gptp_roles.specs.Selection.{clock_of}
-use Rattle.gptp_system.specs.declared.timer.Timer.{Timer}
+use Rattle.gptp_setup.specs.declared.timer.Timer.{Timer}
 use Rattle.gptp_system.specs.Input.{PortUp, PortDown}
 use Rattle.gptp_system.proofs.ReadyLemmas.{length-new_ports}
 use Rattle.gptp_acts.specs.declared.item.Item.TheVariants.{Expiry, Arrival}
@@ -18,7 +18,7 @@ use Rattle.gptp_acts.specs.Changing.{brought_up, failed, fresh, lost, taken_down
 use Rattle.gptp_acts.specs.Agrees.{Agrees, AgreesBut, HasItsPorts, HaveTheirPorts}
 use Rattle.gptp_acts.proofs.AgreeLemmas.{agrees_but, calls_all_agree, dues, arriving, only_arrivals, other_way, relinked_agrees, replaced, replaced_agrees, running, tells_ends_agree, OnlyArrivals}
 use Rattle.gptp_acts.proofs.PendingLemmas.{times-without_same, times-without_other}
-use Rattle.gptp_acts.proofs.PlaceLemmas.{get-set_same, get-set_other, same_place}
+use Rattle.gptp_lists.proofs.PlaceLemmas.{get-set_same, get-set_other, same_place}
 use Rattle.gptp_acts.proofs.PortCountLemmas.{starts_have_ports}
 
 -- ---- a system fails

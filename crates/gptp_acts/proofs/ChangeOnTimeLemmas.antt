@@ -17,9 +17,9 @@ use Rattle.gptp_acts.specs.Changing.{CallsAll, CallsIfLive, ComesUpIf, FailsIf, 
 use Rattle.gptp_acts.specs.Pending.{without}
 use Rattle.gptp_acts.specs.World.{Channel, WorldState, timers_from}
 use Rattle.gptp_acts.proofs.AheadLemmas.{calls_on_time, calls_ports, nothing_before-set_timers, relinked_fit}
-use Rattle.gptp_acts.proofs.ListLemmas.{same_there}
+use Rattle.gptp_lists.proofs.MappedLemmas.{same_there}
 use Rattle.gptp_acts.proofs.MomentLemmas.{nothing_before-without}
-use Rattle.gptp_acts.proofs.PlaceLemmas.{get-set_all, get-set_same}
+use Rattle.gptp_lists.proofs.PlaceLemmas.{get-set_all, get-set_same}
 use Rattle.gptp_acts.proofs.SteadyLemmas.{started_none_late, started_steady}
 
 -- ---- calls one after another

@@ -9,7 +9,7 @@ use Rattle.gptp_links.specs.Queue.{frame, newest_due, AreDueInOrder, Frame, due_
 use Rattle.gptp_links.proofs.FlightLemmas.{in_order-push, in_order-tail}
 use Rattle.gptp_system.specs.declared.answer.Answer.{Answer}
 use Rattle.gptp_system.specs.declared.sending.Sending.{Sending}
-use Rattle.gptp_system.specs.declared.timer.Timer.{Timer}
+use Rattle.gptp_setup.specs.declared.timer.Timer.{Timer}
 use Rattle.gptp_system.specs.Input.{Input, PortUp, PortDown, Frame as FrameHeard, Expires as TimerExpires}
 use Rattle.gptp_system.specs.State.{SystemState, own}
 use Rattle.gptp_acts.specs.declared.station.Station.{Station}
@@ -20,7 +20,7 @@ use Rattle.gptp_acts.specs.Agrees.{stopped}
 use Rattle.gptp_acts.specs.Changing.{brought_up, failed, fresh, lost, taken_down, up_ports, with_bounds, CallsAll, CallsIfLive, ComesUpIf, FailsIf, GoesDownIf, RecoversIf, Starts, StartsAll, TellsEnds}
 use Rattle.gptp_acts.specs.Sound.{AllFlow, Flows}
 use Rattle.gptp_acts.proofs.AgreeLemmas.{replaced}
-use Rattle.gptp_acts.proofs.PlaceLemmas.{set_each}
+use Rattle.gptp_lists.proofs.PlaceLemmas.{set_each}
 
 -- ---- what is on a link becomes other
 

@@ -9,14 +9,10 @@ pub mod ChangeAgreeLemmas
 pub mod NextDueLemmas
 pub mod OwnTimerLemmas
 pub mod PortCountLemmas
-pub mod PlaceLemmas
-pub mod NetworkLemmas
 pub mod NextLemmas
 pub mod PendingLemmas
 pub mod MomentLemmas
 pub mod TimerLemmas
-pub mod ListLemmas
-pub mod SpanLemmas
 pub mod SteadyLemmas
 pub mod DueByLemmas
 pub mod AheadLemmas

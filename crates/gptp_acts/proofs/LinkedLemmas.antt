@@ -7,7 +7,7 @@ use Rattle.gptp_links.specs.declared.link.Direction.{Direction}
 use Rattle.gptp_links.specs.declared.link.Direction.TheVariants.{FromA, FromB}
 use Rattle.gptp_links.specs.Fate.{Draw}
 use Rattle.gptp_system.specs.declared.answer.Answer.{Answer}
-use Rattle.gptp_system.specs.declared.timer.Timer.{Timer}
+use Rattle.gptp_setup.specs.declared.timer.Timer.{Timer}
 use Rattle.gptp_system.specs.Input.{Input, PortUp, PortDown, Frame as FrameHeard, Expires as TimerExpires}
 use Rattle.gptp_system.specs.State.{clock}
 use Rattle.gptp_system.specs.Steps.{IsPortOf, IsUp}
@@ -19,8 +19,8 @@ use Rattle.gptp_acts.specs.Changing.{brought_up, failed, fresh, lost, taken_down
 use Rattle.gptp_acts.specs.World.{port_id}
 use Rattle.gptp_acts.specs.Sound.{AreApart, AreLinked, HaveOwnClocks, HaveTheirSetups, JoinPorts}
 use Rattle.gptp_acts.proofs.AgreeLemmas.{replaced}
-use Rattle.gptp_acts.proofs.ListLemmas.{same_there}
-use Rattle.gptp_acts.proofs.PlaceLemmas.{get-set_same, set_each}
+use Rattle.gptp_lists.proofs.MappedLemmas.{same_there}
+use Rattle.gptp_lists.proofs.PlaceLemmas.{get-set_same, set_each}
 use Rattle.gptp_acts.proofs.SteadyLemmas.{same_clock}
 use Rattle.gptp_acts.proofs.StayLemmas.{begins_same, calls_if_live_stay, calls_stay, carry_same, refreshed_stays, sends_carry, set_carry, starts_stays, stays_clocks, stays_ports, stays_setups, takes_carry, tells_ends_carry, CarryTheSame, Stays}
 use Rattle.gptp_acts.proofs.UpLemmas.{brings_port, brought_ports, comes_up, is_down, stays_up}

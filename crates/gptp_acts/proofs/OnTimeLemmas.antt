@@ -4,7 +4,7 @@ use Rattle.gptp_links.specs.declared.link.Direction.{Direction}
 use Rattle.gptp_links.specs.Fate.{Draw}
 use Rattle.gptp_links.specs.Queue.{Frame}
 use Rattle.gptp_system.specs.declared.answer.Answer.{Answer}
-use Rattle.gptp_system.specs.declared.timer.Timer.{Timer}
+use Rattle.gptp_setup.specs.declared.timer.Timer.{Timer}
 use Rattle.gptp_system.specs.Input.{Input, Frame as FrameHeard, Expires as TimerExpires}
 use Rattle.gptp_system.specs.State.{due}
 use Rattle.gptp_system.specs.Steps.{IsDue, IsUp}
@@ -18,7 +18,7 @@ use Rattle.gptp_acts.specs.Pending.{Entry, NothingBefore, listed, times, without
 use Rattle.gptp_acts.specs.World.{Net, WorldState, queue, receiver, station_due}
 use Rattle.gptp_acts.proofs.AheadLemmas.{calls_due_by, calls_on_time, live_due, pending_none_late, requeued_fit}
 use Rattle.gptp_acts.proofs.DueByLemmas.{due_by-taken}
-use Rattle.gptp_acts.proofs.ListLemmas.{same_there}
+use Rattle.gptp_lists.proofs.MappedLemmas.{same_there}
 use Rattle.gptp_acts.proofs.MomentLemmas.{nothing_before-without_first}
 use Rattle.gptp_acts.proofs.PendingLemmas.{times-without_first_other}
 use Rattle.gptp_acts.proofs.TimerLemmas.{no_arrival, same_timer}

@@ -4,8 +4,8 @@ use Rattle.std.specs.Option.{option_and_then}
 use Rattle.std.proofs.lemmas.Option.{none-some}
 use Rattle.gptp_lists.specs.Members.{In}
 use Rattle.gptp_system.specs.declared.port.Port.{Port}
-use Rattle.gptp_system.specs.declared.timer.Timer.{Timer}
-use Rattle.gptp_system.specs.declared.timer.Timer.TheVariants as timers
+use Rattle.gptp_setup.specs.declared.timer.Timer.{Timer}
+use Rattle.gptp_setup.specs.declared.timer.Timer.TheVariants as timers
 use Rattle.gptp_system.specs.State.{SystemState, age_due, announce_due, due, held_at, number}
 use Rattle.gptp_system.specs.Steps.{IsTimerOf}
 use Rattle.gptp_acts.specs.declared.item.Item.{Item}
@@ -17,7 +17,7 @@ use Rattle.gptp_acts.specs.World.{timers_from, station_due}
 use Rattle.gptp_acts.specs.Act.{set_timers}
 use Rattle.gptp_acts.specs.Agrees.{OnlyItsTimers}
 use Rattle.gptp_acts.proofs.PendingLemmas.{times-without_first_same, times-without_first_other}
-use Rattle.gptp_acts.proofs.PlaceLemmas.{member_there}
+use Rattle.gptp_lists.proofs.PlaceLemmas.{member_there}
 use Rattle.gptp_acts.proofs.TimerLemmas.{are_set, item_is, set_all, stays_set, IsSet}
 
 -- ---- the timers that a system has

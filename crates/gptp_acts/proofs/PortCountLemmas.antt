@@ -13,7 +13,7 @@ use Rattle.gptp_acts.specs.World.{Net, WorldState}
 use Rattle.gptp_acts.specs.Act.{all_timers, in_state, Calls}
 use Rattle.gptp_acts.specs.Changing.{fresh, up_ports, with_station, CallsAll, Starts}
 use Rattle.gptp_acts.specs.Agrees.{HaveTheirPorts}
-use Rattle.gptp_acts.proofs.PlaceLemmas.{get-set_same, get-set_other, same_place}
+use Rattle.gptp_lists.proofs.PlaceLemmas.{get-set_same, get-set_other, same_place}
 
 -- one system becomes another that has its ports
 pub station_has_ports : (place : ℕ) (w : WorldState) (old new : Station) (net : Net)

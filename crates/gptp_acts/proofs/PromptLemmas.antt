@@ -2,20 +2,21 @@
 use Rattle.std.proofs.Common.{ℕ, List, length, Option, sym, ap, subst, ◌∙◌}
 use Rattle.std.specs.List.{range_with_len}
 use Rattle.gptp_links.specs.declared.bounds.Bounds.{Bounds}
-use Rattle.gptp_system.specs.declared.setup.Params.{Params}
-use Rattle.gptp_acts.specs.declared.change.Act.{Act}
-use Rattle.gptp_acts.specs.declared.change.Timed.{Timed}
+use Rattle.gptp_setup.specs.declared.setup.Params.{Params}
+use Rattle.gptp_plan.specs.declared.change.Act.{Act}
+use Rattle.gptp_plan.specs.declared.change.Timed.{Timed}
 use Rattle.gptp_acts.specs.declared.item.Item.{Item}
 use Rattle.gptp_acts.specs.declared.item.Item.TheVariants.{Expiry, Arrival}
 use Rattle.gptp_acts.specs.declared.station.Station.{Station}
 use Rattle.gptp_acts.specs.Course.{Begun}
 use Rattle.gptp_acts.specs.Initial.{initial, station_of}
-use Rattle.gptp_acts.specs.Network.{NetworkState}
-use Rattle.gptp_acts.specs.Prompt.{ArePromptActs, ArePromptIn, HaveParams, IsPromptAct, IsPromptIn}
+use Rattle.gptp_plan.specs.Network.{NetworkState}
+use Rattle.gptp_plan.specs.Prompt.{ArePromptActs, IsPromptAct}
+use Rattle.gptp_acts.specs.Prompt.{ArePromptIn, HaveParams, IsPromptIn}
 use Rattle.gptp_acts.specs.Sound.{HaveTheirSetups}
 use Rattle.gptp_acts.specs.Views.{IsActOf, IsNextAct}
 use Rattle.gptp_acts.specs.World.{WorldState}
-use Rattle.gptp_acts.proofs.ListLemmas.{mapped}
+use Rattle.gptp_lists.proofs.MappedLemmas.{mapped}
 use Rattle.gptp_acts.proofs.StayLemmas.{Stays, starts_all_stay}
 
 -- ---- what stays

@@ -14,7 +14,7 @@ use Rattle.gptp_acts.specs.declared.station.Station.{Station}
 use Rattle.gptp_acts.specs.Acts.{AnySystem, AtSystem}
 use Rattle.gptp_acts.specs.Views.{put_rising, rising, rising_clocks}
 use Rattle.gptp_acts.specs.World.{WorldState}
-use Rattle.gptp_acts.proofs.ListLemmas.{contains_there, mapped, there_contains}
+use Rattle.gptp_lists.proofs.MappedLemmas.{contains_there, mapped, there_contains}
 
 -- ---- each number is there
 

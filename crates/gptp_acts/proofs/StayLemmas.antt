@@ -9,17 +9,17 @@ use Rattle.gptp_links.specs.Fate.{Draw}
 use Rattle.gptp_roles.specs.Selection.{clock_of}
 use Rattle.gptp_system.specs.declared.answer.Answer.{Answer}
 use Rattle.gptp_system.specs.declared.sending.Sending.{Sending}
-use Rattle.gptp_system.specs.declared.timer.Timer.{Timer}
+use Rattle.gptp_setup.specs.declared.timer.Timer.{Timer}
 use Rattle.gptp_system.specs.Input.{Input, PortUp, PortDown, Priority, Frame as FrameHeard, Expires as TimerExpires}
 use Rattle.gptp_system.specs.Start.{started}
 use Rattle.gptp_system.specs.State.{SystemState, clock, own}
 use Rattle.gptp_system.proofs.ReadyLemmas.{length-new_ports}
 use Rattle.gptp_system.proofs.TouchedLemmas.{priority_clock}
-use Rattle.gptp_acts.specs.declared.change.Act.{Act}
-use Rattle.gptp_acts.specs.declared.change.Act.TheVariants.{Deliver, Expire, Change as Changing}
-use Rattle.gptp_acts.specs.declared.change.Change.{Change}
-use Rattle.gptp_acts.specs.declared.change.Change.TheVariants.{LinkDown, LinkUp, LinkSet, Fail, Recover, Priority1}
-use Rattle.gptp_acts.specs.declared.change.Timed.{Timed}
+use Rattle.gptp_plan.specs.declared.change.Act.{Act}
+use Rattle.gptp_plan.specs.declared.change.Act.TheVariants.{Deliver, Expire, Change as Changing}
+use Rattle.gptp_plan.specs.declared.change.Change.{Change}
+use Rattle.gptp_plan.specs.declared.change.Change.TheVariants.{LinkDown, LinkUp, LinkSet, Fail, Recover, Priority1}
+use Rattle.gptp_plan.specs.declared.change.Timed.{Timed}
 use Rattle.gptp_acts.specs.declared.done.Done.{Done}
 use Rattle.gptp_acts.specs.declared.station.Station.{Station}
 use Rattle.gptp_acts.specs.World.{Channel, Net, WorldState, sender, receiver}
@@ -33,8 +33,8 @@ use Rattle.gptp_acts.specs.Course.{WasDone}
 use Rattle.gptp_acts.specs.Sound.{AreApart, HaveOwnClocks, HaveTheirSetups, IsItsSetup, JoinPorts}
 use Rattle.gptp_acts.proofs.AgreeLemmas.{replaced}
 use Rattle.gptp_acts.proofs.BareLemmas.{bare, calls_bare, sends_bare, sends_one_bare, takes_bare, DifferInFlight}
-use Rattle.gptp_acts.proofs.ListLemmas.{alike}
-use Rattle.gptp_acts.proofs.PlaceLemmas.{set_each}
+use Rattle.gptp_lists.proofs.MappedLemmas.{alike}
+use Rattle.gptp_lists.proofs.PlaceLemmas.{set_each}
 use Rattle.gptp_acts.proofs.SteadyLemmas.{same_clock, same_ports}
 
 -- ---- links

@@ -3,10 +3,10 @@ use Rattle.std.proofs.Common.{◌≡◌, ◌⊎◌, ℕ, ◌≤◌, ◌<◌, ℤ
 use Rattle.gptp_system.specs.declared.answer.Answer.{Answer}
 use Rattle.gptp_system.specs.declared.port.Port.{Port}
 use Rattle.gptp_system.specs.declared.sending.Sending.{Sending}
-use Rattle.gptp_system.specs.declared.setup.Setup.{Setup}
+use Rattle.gptp_setup.specs.declared.setup.Setup.{Setup}
 use Rattle.gptp_system.specs.Facts.{Keeps}
 use Rattle.gptp_system.specs.Input.{Input, IsTimely, Steps}
-use Rattle.gptp_system.specs.Intervals.{AreParams, IsLog}
+use Rattle.gptp_setup.specs.Intervals.{AreParams, IsLog}
 use Rattle.gptp_system.specs.Start.{started}
 use Rattle.gptp_system.specs.State.{SystemState, clock, due}
 use Rattle.gptp_system.proofs.FactLemmas.{keeps_length}
@@ -16,7 +16,7 @@ use Rattle.gptp_system.proofs.StartedLemmas.{started_later}
 use Rattle.gptp_system.proofs.StepLemmas.{steps_sound}
 use Rattle.gptp_system.proofs.SystemLemmas.{is_new}
 use Rattle.gptp_acts.specs.Ahead.{IsSteady, NoneLate}
-use Rattle.gptp_acts.proofs.ListLemmas.{alike}
+use Rattle.gptp_lists.proofs.MappedLemmas.{alike}
 
 -- ---- every step
 

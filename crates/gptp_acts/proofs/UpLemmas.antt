@@ -13,7 +13,7 @@ use Rattle.gptp_links.specs.declared.link.Direction.TheVariants.{FromA, FromB}
 use Rattle.gptp_system.specs.declared.answer.Answer.{Answer}
 use Rattle.gptp_system.specs.declared.port.Port.{Port}
 use Rattle.gptp_system.specs.declared.sending.Sending.{Sending}
-use Rattle.gptp_system.specs.declared.timer.Timer.TheVariants as timers
+use Rattle.gptp_setup.specs.declared.timer.Timer.TheVariants as timers
 use Rattle.gptp_system.specs.Input.{Input, Steps, PortUp, PortDown, Frame, Expires, Priority}
 use Rattle.gptp_system.specs.Measures.{only_at, part_answered, part_asked, part_down, part_heard, part_of, HearsPart, IsPartAfter, Part}
 use Rattle.gptp_system.specs.State.{SystemState, clock}
@@ -24,7 +24,7 @@ use Rattle.gptp_system.proofs.SystemLemmas.{up_is_port}
 use Rattle.gptp_acts.specs.declared.station.Station.{Station}
 use Rattle.gptp_acts.specs.Changing.{is_end, is_up_at, up_ports}
 use Rattle.gptp_acts.specs.World.{Channel, Net, sender}
-use Rattle.gptp_acts.proofs.PlaceLemmas.{member_there, same_place}
+use Rattle.gptp_lists.proofs.PlaceLemmas.{member_there, same_place}
 use Rattle.gptp_acts.proofs.SteadyLemmas.{same_ports}
 
 -- ---- one port

@@ -9,10 +9,10 @@ use Rattle.gptp_system.specs.declared.answer.Answer.{Answer}
 use Rattle.gptp_system.specs.Input.{Priority}
 use Rattle.gptp_system.specs.Steps.{IsTimerOf}
 use Rattle.gptp_vector.specs.declared.port.PortId.{PortId}
-use Rattle.gptp_acts.specs.declared.change.Act.{Act}
-use Rattle.gptp_acts.specs.declared.change.Act.TheVariants.{Deliver, Expire, Change as Changing}
-use Rattle.gptp_acts.specs.declared.change.Change.{Change}
-use Rattle.gptp_acts.specs.declared.change.Change.TheVariants.{LinkDown, LinkUp, LinkSet, Fail, Recover, Priority1}
+use Rattle.gptp_plan.specs.declared.change.Act.{Act}
+use Rattle.gptp_plan.specs.declared.change.Act.TheVariants.{Deliver, Expire, Change as Changing}
+use Rattle.gptp_plan.specs.declared.change.Change.{Change}
+use Rattle.gptp_plan.specs.declared.change.Change.TheVariants.{LinkDown, LinkUp, LinkSet, Fail, Recover, Priority1}
 use Rattle.gptp_acts.specs.declared.done.Done.{Done}
 use Rattle.gptp_acts.specs.declared.done.Done.TheVariants.{Quiet, Heard}
 use Rattle.gptp_acts.specs.declared.done.Refused.{Refused}
@@ -79,17 +79,6 @@ abbrev pub IsDueThen : Act → ℕ → WorldState → Type 0
 IsDueThen (Deliver link direction) time w = AtPlace link w.net (IsOldestDue direction time)
 IsDueThen (Expire number timer) time w = AtSystem number w (λ place station. station_due timer station ≡ Some time)
 IsDueThen (Changing change) time w = ⊤
-
--- what is asked of a change of bounds: delays of 1 ns to 16 s, the least first, and a loss of at most all frames
-pub record IsFitChange (min max loss : ℕ) : Type 0 where
-  pub positive : 1 ≤ min
-  pub ordered : min ≤ max
-  pub short : max ≤ 16000000000
-  pub share : loss ≤ 1000
-
-abbrev pub IsFitAct : Act → Type 0
-IsFitAct (Changing (LinkSet number port min max loss)) = IsFitChange min max loss
-IsFitAct act = ⊤
 
 -- ---- when it is refused
 

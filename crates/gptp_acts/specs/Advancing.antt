@@ -1,7 +1,7 @@
 -- How a world goes on by itself: what is pending happens, one act after another (profile).
 use Rattle.std.specs.Prelude.{◌≡◌, ◌+◌, ◌<◌, ◌≤◌, ℕ, List, [], ◌∷◌, Option}
 use Rattle.gptp_links.specs.declared.bounds.Bounds.{Bounds}
-use Rattle.gptp_acts.specs.declared.change.Timed.{Timed}
+use Rattle.gptp_plan.specs.declared.change.Timed.{Timed}
 use Rattle.gptp_acts.specs.declared.done.Done.{Done}
 use Rattle.gptp_acts.specs.declared.done.Refused.{Refused}
 use Rattle.gptp_acts.specs.declared.done.Refused.TheVariants.{InThePast, Untimely, NoSuch, NotDue, OutOfMemory}

@@ -4,10 +4,10 @@ use Rattle.std.specs.List.{filter}
 use Rattle.gptp_vector.specs.declared.port.PortId.{PortId}
 use Rattle.gptp_links.specs.Bounds.{Fit}
 use Rattle.gptp_system.specs.declared.port.Port.{Port}
-use Rattle.gptp_system.specs.declared.timer.Timer.{Timer}
+use Rattle.gptp_setup.specs.declared.timer.Timer.{Timer}
 use Rattle.gptp_system.specs.Facts.{AreHeld, AreShown, IsAtRest}
 use Rattle.gptp_system.specs.Input.{Input, Expires}
-use Rattle.gptp_system.specs.Intervals.{AreParams, IsLog}
+use Rattle.gptp_setup.specs.Intervals.{AreParams, IsLog}
 use Rattle.gptp_system.specs.State.{SystemState, clock, due}
 use Rattle.gptp_system.specs.Steps.{IsPortOf}
 use Rattle.gptp_acts.specs.declared.item.Item.TheVariants.{Expiry}

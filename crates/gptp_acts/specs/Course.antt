@@ -3,12 +3,12 @@ use Rattle.std.specs.Prelude.{ℕ, List, length, Option}
 use Rattle.std.specs.List.{range_with_len}
 use Rattle.gptp_links.specs.declared.bounds.Bounds.{Bounds}
 use Rattle.gptp_links.specs.Fate.{Draw, Draws}
-use Rattle.gptp_acts.specs.declared.change.Timed.{Timed}
+use Rattle.gptp_plan.specs.declared.change.Timed.{Timed}
 use Rattle.gptp_acts.specs.declared.done.Done.{Done}
 use Rattle.gptp_acts.specs.Acts.{at, Acts, IsReadyAct}
 use Rattle.gptp_acts.specs.Changing.{StartsAll}
 use Rattle.gptp_acts.specs.Initial.{initial}
-use Rattle.gptp_acts.specs.Network.{NetworkState}
+use Rattle.gptp_plan.specs.Network.{NetworkState}
 use Rattle.gptp_acts.specs.World.{WorldState}
 
 -- The world of a network begins: all its systems start at time 0, in their order.

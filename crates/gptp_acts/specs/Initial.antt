@@ -1,12 +1,12 @@
 -- The world that a network makes, before its systems start (profile).
 use Rattle.std.specs.Prelude.{false, List, [], map}
-use Rattle.gptp_system.specs.declared.setup.Params.{Params}
-use Rattle.gptp_system.specs.declared.setup.Setup.{Setup}
+use Rattle.gptp_setup.specs.declared.setup.Params.{Params}
+use Rattle.gptp_setup.specs.declared.setup.Setup.{Setup}
 use Rattle.gptp_system.specs.Start.{started}
-use Rattle.gptp_acts.specs.declared.network.Member.{Member}
-use Rattle.gptp_acts.specs.declared.network.Wire.{Wire}
+use Rattle.gptp_plan.specs.declared.network.Member.{Member}
+use Rattle.gptp_plan.specs.declared.network.Wire.{Wire}
 use Rattle.gptp_acts.specs.declared.station.Station.{Station}
-use Rattle.gptp_acts.specs.Network.{NetworkState}
+use Rattle.gptp_plan.specs.Network.{NetworkState}
 use Rattle.gptp_acts.specs.World.{Channel, Net, WorldState}
 
 -- what a system of a network starts with

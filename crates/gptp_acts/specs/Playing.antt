@@ -1,20 +1,12 @@
 -- Acts of a list, one after another.
 use Rattle.std.specs.Prelude.{◌≡◌, ◌≤◌, ℕ, List, [], ◌∷◌, Option, Some, slice_get, take}
 use Rattle.gptp_links.specs.declared.bounds.Bounds.{Bounds}
-use Rattle.gptp_acts.specs.declared.change.Timed.{Timed}
+use Rattle.gptp_plan.specs.declared.change.Timed.{Timed}
 use Rattle.gptp_acts.specs.declared.done.Done.{Done}
 use Rattle.gptp_acts.specs.declared.done.Refused.{Refused}
-use Rattle.gptp_acts.specs.Acts.{IsFitAct, Refuses}
+use Rattle.gptp_acts.specs.Acts.{Refuses}
 use Rattle.gptp_acts.specs.Course.{WasDone}
 use Rattle.gptp_acts.specs.World.{WorldState}
-
--- what is asked of each act
-pub record IsAllowed (timed : Timed) : Type 0 where
-  pub moment : timed.at ≤ 1000000000000000
-  pub fit : IsFitAct timed.act
-
-abbrev pub AreAllowed : List Timed → Type 0
-AreAllowed acts = (place : ℕ) (timed : Timed) → slice_get acts place ≡ Some timed → IsAllowed timed
 
 -- an act was done
 pub record IsPlayed {F : Type 0} (answers : Bounds → ℕ → F → Option ℕ → F → Type 0) (timed : Timed)

@@ -1,9 +1,4 @@
-//! Networks, and what acts make of a world: the state of a world, what each act does to it, and what every act keeps.
-//!
-//! A [`Network`] is what a world starts from: systems, and links that join two of their ports, each within its limits
-//! (profile). A [`Change`] is what can be done to it, and a [`Timed`] act is what happens at a moment: a frame is
-//! delivered, a timer expires, or a change is made. `specs/Calm.antt` says when a network with such changes is calm, and
-//! `specs/SettlingTime.antt` by when it has settled.
+//! What acts make of a world: the state of a world, what each act does to it, and what every act keeps.
 //!
 //! The state of a world stands in `specs/World.antt`, and what an act makes of it in `specs/Acts.antt`: the system that is
 //! given a frame, a timer or a change takes its own step, its timers are pending as it says, its sends go onto their links
@@ -11,19 +6,11 @@
 //! world, and `SoundLemmas` of `proofs/` that every act keeps it.
 #![tactic(auto)]
 
-mod calm;
-mod change;
 mod done;
-mod fault;
 mod item;
-mod network;
-mod params;
 mod station;
 
-pub use change::{Act, Change, Timed};
 pub use done::{Done, Refused};
-pub use fault::NetworkFault;
-pub use gptp_system::Params;
+pub use gptp_plan::{Act, Change, Network, NetworkFault, Params, Timed};
 pub use item::Item;
-pub use network::Network;
 pub use station::Station;

@@ -1,11 +1,2 @@
 pub mod StatedLemmas
-pub mod TextLemmas
-pub mod PrintedLemmas
-pub mod WordLemmas
-pub mod FormLemmas
-pub mod SpellingLemmas
-pub mod LineLemmas
-pub mod OrderLemmas
-pub mod ReadingLemmas
-pub mod LawLemmas
 pub mod SettledLemmas

@@ -29,7 +29,7 @@ use Rattle.gptp_kept.specs.Settled.{IsSettledSystem, Settled, link_of}
 use Rattle.gptp_kept.specs.Settled as graphs
 use Rattle.gptp_kept.specs.Claimed.{Claimed}
 use Rattle.gptp_kept.proofs.ClaimedLemmas.{claimed_settled}
-use Rattle.gptp_certificate.specs.Certificate.{parent_of, role_of}
+use Rattle.gptp_certificate_text.specs.Certificate.{parent_of, role_of}
 use Rattle.gptp_certificate.specs.Settled.{AreNear, IsRightInTime}
 use Rattle.gptp_certificate.specs.Stated.{States, stated_line, stated_port}
 

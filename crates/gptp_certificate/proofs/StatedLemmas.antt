@@ -15,7 +15,7 @@ use Rattle.gptp_acts.specs.Views.{put_rising, rising, rising_clocks}
 use Rattle.gptp_acts.specs.World.{WorldState}
 use Rattle.gptp_acts.specs.declared.station.Station.{Station}
 use Rattle.gptp_acts.proofs.RisingLemmas.{rising_clocks-count}
-use Rattle.gptp_certificate.specs.Certificate.{AreInOrder}
+use Rattle.gptp_certificate_text.specs.Certificate.{AreInOrder}
 use Rattle.gptp_certificate.specs.Stated.{stated_line, stated_port, States}
 use Rattle.gptp_certificate.specs.Stating.{stated_if, Adds}
 

@@ -1,11 +1,3 @@
-pub mod Certificate
 pub mod Stated
 pub mod Stating
-pub mod Entries
-pub mod CertificateText
-pub mod Words
-pub mod Forms
-pub mod Lines
-pub mod Faults
-pub mod Parsing
 pub mod Settled

@@ -6,7 +6,7 @@ use Rattle.gptp_graph.specs.LocalTests.{PassesTooFar}
 use Rattle.gptp_lists.specs.Members.{In}
 use Rattle.gptp_graph.specs.SettledChoice.{IsSettledChoice}
 use Rattle.gptp_graph.specs.Snapshot.{Snapshot, System}
-use Rattle.gptp_acts.specs.SettlingTime.{settling_span}
+use Rattle.gptp_plan.specs.SettlingTime.{settling_span}
 use Rattle.gptp_acts.specs.World.{WorldState}
 use Rattle.gptp_kept.specs.Standing.{snapshot_of}
 use Rattle.gptp_kept.specs.CalmFor.{IsCalmFor}

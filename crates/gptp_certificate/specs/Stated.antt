@@ -9,7 +9,7 @@ use Rattle.gptp_system.specs.Start.{role_at}
 use Rattle.gptp_system.specs.State.{SystemState, clock, parent}
 use Rattle.gptp_acts.specs.World.{WorldState}
 use Rattle.gptp_acts.specs.declared.station.Station.{Station}
-use Rattle.gptp_certificate.specs.Certificate.{parent_of, role_of}
+use Rattle.gptp_certificate_text.specs.Certificate.{parent_of, role_of}
 
 -- the role of a port, and what a system follows with all its ports: by the system's own state
 abbrev pub stated_port : SystemState → ℕ → PortLine

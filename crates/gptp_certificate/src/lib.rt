@@ -1,25 +1,11 @@
-//! Certificates: what each system of a network says that it has chosen, and their text (profile).
+//! The certificate of a world: what each system says that it has chosen (profile).
 //!
-//! A [`Certificate`] has a line for each live system, by rising clock: the root that it follows, its steps, its parent,
-//! and the role of each of its ports. `specs/CertificateText.antt` says how such lines are spelled. [`print`] writes
-//! the text of a certificate, and [`parse`] reads it or names its first fault, as `specs/Parsing.antt` says. A
-//! certificate is no proof by itself: whether it is the right choice for a network is for a checker to say.
+//! [`write_certificate`] asks the systems of a world, each for itself, and nothing else: `specs/Stated.antt` says what each
+//! line then is. Where the world has been calm for long enough and all systems are near, that is the settled choice of its
+//! snapshot (`specs/Settled.antt`). What a certificate is, its text, and how that is read is gptp_certificate_text's.
 #![tactic(auto)]
 
-mod certificate;
-mod entry;
-mod fault;
-mod form;
-pub mod laws;
-mod order;
-mod reading;
-mod spelling;
 mod stated;
-mod text;
-mod words;
 
-pub use certificate::{Certificate, SystemLine};
-pub use fault::CertificateFault;
-pub use reading::parse;
+pub use gptp_certificate_text::{Certificate, CertificateFault, SystemLine, parse, print};
 pub use stated::write_certificate;
-pub use text::print;

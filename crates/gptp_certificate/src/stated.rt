@@ -5,12 +5,12 @@ ghost use Rattle.std.specs.List.{range_with_len};
 ghost use Rattle.gptp_system.specs.State.{clock, parent};
 ghost use Rattle.gptp_acts.specs.Acts.{AnySystem, AtSystem};
 ghost use Rattle.gptp_acts.specs.Views.{rising_clocks};
-ghost use Rattle.gptp_certificate.specs.Certificate.{line_of, lines_of, parent_of, port_line_of};
+ghost use Rattle.gptp_certificate_text.specs.Certificate.{line_of, lines_of, parent_of, port_line_of};
 ghost use Rattle.gptp_certificate.specs.Settled.{IsRightInTime};
 ghost use Rattle.gptp_certificate.specs.Stated.{stated_line, stated_port, States};
 ghost use Rattle.gptp_certificate.specs.Stating.{Adds};
 
-use crate::certificate::{Certificate, SystemLine};
+use gptp_certificate_text::{Certificate, SystemLine};
 use gptp_links::Fate;
 use gptp_roles::Role;
 use gptp_system::System;
@@ -132,5 +132,5 @@ pub fn write_certificate<F: Fate + Drop>(
 {
     world.well_formed();
     let lines = list_lines(alloc, world)?;
-    Ok(Certificate { lines })
+    Ok(Certificate::of_lines(lines))
 }

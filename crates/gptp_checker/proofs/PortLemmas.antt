@@ -3,7 +3,7 @@ use Rattle.std.proofs.Common.{Bool, true, false, not, rules, ◌≡◌, ◌<◌,
 use Rattle.std.proofs.lemmas.List.{length-map}
 use Rattle.std.proofs.lemmas.Option.{slice_get-get_or, slice_get-map}
 use Rattle.std.specs.List.{range_with_len}
-use Rattle.gptp_certificate.specs.Certificate.{port_line_of, role_of}
+use Rattle.gptp_certificate_text.specs.Certificate.{port_line_of, role_of}
 use Rattle.gptp_graph.specs.Labelling.{PortLine}
 use Rattle.gptp_lists.specs.Members.{In}
 use Rattle.gptp_graph.specs.SettledRole as settled

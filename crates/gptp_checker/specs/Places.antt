@@ -4,7 +4,7 @@ use Rattle.std.specs.List.{range_with_len}
 use Rattle.gptp_lists.specs.Members.{In}
 use Rattle.gptp_graph.specs.Snapshot.{System}
 use Rattle.gptp_graph.specs.Labelling.{PortLine, SystemLine, port_numbers}
-use Rattle.gptp_certificate.specs.Certificate.{port_line_of}
+use Rattle.gptp_certificate_text.specs.Certificate.{port_line_of}
 use Rattle.gptp_roles.specs.declared.role.Role.{Role}
 
 -- the numbers of these ports

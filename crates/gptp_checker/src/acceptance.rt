@@ -10,7 +10,7 @@ use crate::line_test::LineTest;
 use crate::lines::every_line_passes;
 use crate::links::passes_link;
 use crate::systems::passes_systems;
-use gptp_certificate::Certificate;
+use gptp_certificate_text::Certificate;
 use gptp_network::Snapshot;
 
 /// The faults that are looked for where the systems are right, in this order.

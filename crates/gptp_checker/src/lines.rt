@@ -1,7 +1,7 @@
 //! The tests that each line has to pass.
 
 ghost use Rattle.std.specs.Prelude.{◌≡◌, ◌↔◌, IsTrue, Some, slice_get};
-ghost use Rattle.gptp_certificate.specs.Certificate.{line_of, parent_of};
+ghost use Rattle.gptp_certificate_text.specs.Certificate.{line_of, parent_of};
 ghost use Rattle.gptp_graph.specs.LocalTests.{PassesSystems};
 ghost use Rattle.gptp_graph.specs.Labelling as graphs;
 ghost use Rattle.gptp_lists.specs.Members.{In};
@@ -13,7 +13,7 @@ use crate::line_test::LineTest;
 use crate::roles::has_roles;
 use crate::stated::{identity_of, joins, steps_of};
 use crate::ties::follows_lowest;
-use gptp_certificate::{Certificate, SystemLine};
+use gptp_certificate_text::{Certificate, SystemLine};
 use gptp_network::Snapshot;
 use gptp_vector::PortId;
 

@@ -1,13 +1,13 @@
 //! Whether a certificate agrees across links.
 
 ghost use Rattle.std.specs.Prelude.{◌≡◌, ◌↔◌, IsTrue, Some, slice_get};
-ghost use Rattle.gptp_certificate.specs.Certificate.{line_of};
+ghost use Rattle.gptp_certificate_text.specs.Certificate.{line_of};
 ghost use Rattle.gptp_graph.specs.LocalTests.{PassesLink, PassesSystems};
 ghost use Rattle.gptp_graph.specs.Snapshot.{Link};
 ghost use Rattle.gptp_checker.specs.LineTests.{AgreeAcross, AgreeOver};
 
 use crate::stated::line_of;
-use gptp_certificate::{Certificate, SystemLine};
+use gptp_certificate_text::{Certificate, SystemLine};
 use gptp_network::Snapshot;
 use gptp_vector::ClockId;
 

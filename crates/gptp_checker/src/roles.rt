@@ -1,13 +1,13 @@
 //! The tests of a line's ports.
 
 ghost use Rattle.std.specs.Prelude.{◌≡◌, ◌⊎◌, ◌↔◌, ◌<◌, IsTrue};
-ghost use Rattle.gptp_certificate.specs.Certificate.{line_of, role_of};
+ghost use Rattle.gptp_certificate_text.specs.Certificate.{line_of, role_of};
 ghost use Rattle.gptp_graph.specs.LocalTests.{HasStatedRole, PassesSystems, StatesSlave};
 ghost use Rattle.gptp_checker.specs.LineTests.{IsNearer, PassesLine};
 ghost use Rattle.gptp_checker.specs.declared.line_test.LineTest.TheVariants as tests;
 
 use crate::stated::steps_of;
-use gptp_certificate::{Certificate, SystemLine};
+use gptp_certificate_text::{Certificate, SystemLine};
 use gptp_network::Snapshot;
 use gptp_roles::Role;
 use gptp_vector::{ClockId, PortId};

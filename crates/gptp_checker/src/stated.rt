@@ -1,14 +1,14 @@
 //! What is known of a clock: its identity, and what a certificate states of it.
 
 ghost use Rattle.std.specs.Prelude.{◌≡◌, ◌↔◌, ℕ, IfNone, IfSome, IsTrue, Some};
-ghost use Rattle.gptp_certificate.specs.Certificate.{line_of};
+ghost use Rattle.gptp_certificate_text.specs.Certificate.{line_of};
 ghost use Rattle.gptp_graph.specs.Labelling as graphs;
 ghost use Rattle.gptp_graph.specs.LocalTests.{PassesSystems, StatesSteps};
 ghost use Rattle.gptp_graph.specs.Snapshot.{Joins, System};
 ghost use Rattle.gptp_network.specs.Snapshot.{port_identity};
 ghost use Rattle.gptp_checker.specs.Places.{IsIdentityOf, IsLineAt, IsSystemAt};
 
-use gptp_certificate::{Certificate, SystemLine};
+use gptp_certificate_text::{Certificate, SystemLine};
 use gptp_network::Snapshot;
 use gptp_vector::{ClockId, Identity, PortId};
 

@@ -2,12 +2,12 @@
 
 ghost use Rattle.std.specs.Prelude.{◌≡◌, ◌↔◌, IsTrue};
 ghost use Rattle.std.specs.List.{range_with_len};
-ghost use Rattle.gptp_certificate.specs.Certificate.{line_of};
+ghost use Rattle.gptp_certificate_text.specs.Certificate.{line_of};
 ghost use Rattle.gptp_graph.specs.LocalTests.{PassesSystems};
 ghost use Rattle.gptp_network.specs.Snapshot.{system_of};
 ghost use Rattle.gptp_checker.specs.Places.{AgreeAt, IsLineFor, numbers_of};
 
-use gptp_certificate::{Certificate, SystemLine};
+use gptp_certificate_text::{Certificate, SystemLine};
 use gptp_network::Snapshot;
 use gptp_roles::Role;
 use gptp_vector::Identity;

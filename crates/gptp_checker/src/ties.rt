@@ -1,7 +1,7 @@
 //! Whether a parent is the first of those that are as near.
 
 ghost use Rattle.std.specs.Prelude.{◌↔◌, [], ◌∷◌, IsTrue};
-ghost use Rattle.gptp_certificate.specs.Certificate.{line_of, parent_of};
+ghost use Rattle.gptp_certificate_text.specs.Certificate.{line_of, parent_of};
 ghost use Rattle.gptp_graph.specs.LocalTests.{PassesSystems};
 ghost use Rattle.gptp_graph.specs.Order.{IsLower};
 ghost use Rattle.gptp_graph.specs.Parent.{key};
@@ -9,7 +9,7 @@ ghost use Rattle.gptp_checker.specs.LineTests.{AreNoLower, IsNoLower, PassesLine
 ghost use Rattle.gptp_checker.specs.declared.line_test.LineTest.TheVariants as tests;
 
 use crate::stated::steps_of;
-use gptp_certificate::{Certificate, SystemLine};
+use gptp_certificate_text::{Certificate, SystemLine};
 use gptp_network::Snapshot;
 use gptp_vector::PortId;
 

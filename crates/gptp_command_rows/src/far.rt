@@ -5,7 +5,7 @@ use crate::run::{TO_THE_END, ran};
 use crate::same::same;
 use gptp_commands::failure::Status;
 use gptp_commands::run::RunOptions;
-use gptp_report::ClockDigits;
+use gptp_spelling::ClockDigits;
 use gptp_vector::ClockId;
 use std::alloc::{AllocError, Global};
 use std::test::Fail;

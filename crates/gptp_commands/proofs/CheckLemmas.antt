@@ -1,9 +1,9 @@
 -- What is written for a document and a certificate as they were read is written for all there is of both.
 use Rattle.std.proofs.Common.{◌≡◌, ℕ, List, Option, Some, None, inl, inr}
 use Rattle.std.specs.Prelude.{IfSome}
-use Rattle.gptp_certificate.specs.declared.fault.CertificateFault.TheVariants.{Line}
+use Rattle.gptp_certificate_text.specs.declared.fault.CertificateFault.TheVariants.{Line}
 use Rattle.gptp_network.specs.declared.fault.DocumentFault.TheVariants.{TooMany}
-use Rattle.gptp_report.specs.Lines.{text_of}
+use Rattle.gptp_spelling.specs.Lines.{text_of}
 use Rattle.gptp_commands.specs.declared.failure.Status.{Status}
 use Rattle.gptp_commands.specs.CheckText.{certificate_limit, AnswersBoth, AnswersCertificate, CheckText, RefusesCertificate}
 use Rattle.gptp_commands.specs.RunText.{document_limit, RefusesFault}

@@ -8,7 +8,7 @@ use Rattle.std.proofs.lemmas.List.Folds.{list_any-append}
 use Rattle.gptp_commands.specs.declared.answer.Answer.{Answer}
 use Rattle.gptp_commands.specs.Answer.{Answers, answer_text, is_refusal}
 use Rattle.gptp_commands.specs.Failure.{status_by}
-use Rattle.gptp_report.specs.Lines.{text_of}
+use Rattle.gptp_spelling.specs.Lines.{text_of}
 use Rattle.gptp_commands.specs.CompareText.{AreAnswers, AnswersLines}
 
 -- some answers are in the text, and with the answers to the lines that are left they are the answers to all lines

@@ -5,7 +5,7 @@ use Rattle.std.specs.Prelude.{IfSome}
 use Rattle.std.proofs.lemmas.Bool.{leb-true, leb-false, lt-leb}
 use Rattle.gptp_commands.specs.declared.failure.Status.{Status}
 use Rattle.gptp_commands.specs.Limited.{Limited}
-use Rattle.gptp_report.specs.Lines.{text_of}
+use Rattle.gptp_spelling.specs.Lines.{text_of}
 use Rattle.gptp_commands.specs.Source.{ReadsWhole}
 
 -- what is said of known octets

@@ -1,7 +1,7 @@
 -- The run of a document that is at rest at its end shows a settled world, and certifies it.
 use Rattle.std.proofs.Common.{ℕ, Bool, true, false, List, Result, Ok, Err, inl}
 use Rattle.std.specs.Prelude.{IfOk}
-use Rattle.gptp_acts.specs.Network.{IsNetwork}
+use Rattle.gptp_plan.specs.Network.{IsNetwork}
 use Rattle.gptp_network.specs.Document.{DocumentState, Means}
 use Rattle.gptp_network.specs.Events.{AreEvents}
 use Rattle.gptp_kept.proofs.ClaimedLemmas.{claimed_settled}

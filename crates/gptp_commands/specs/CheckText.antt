@@ -8,13 +8,13 @@ use Rattle.gptp_network.specs.declared.fault.DocumentFault.{DocumentFault}
 use Rattle.gptp_network.specs.declared.fault.DocumentFault.TheVariants.{TooMany}
 use Rattle.gptp_network.specs.Document.{DocumentState, Fails as FailsDocument, Means}
 use Rattle.gptp_network.specs.Snapshot.{IsSnapshot}
-use Rattle.gptp_acts.specs.Calm.{last_change}
-use Rattle.gptp_certificate.specs.declared.fault.CertificateFault.{CertificateFault}
-use Rattle.gptp_certificate.specs.declared.fault.CertificateFault.TheVariants.{Line}
-use Rattle.gptp_certificate.specs.Faults as certificates
-use Rattle.gptp_certificate.specs.CertificateText.{certificate_text}
-use Rattle.gptp_certificate.specs.Entries.{IsReadable}
-use Rattle.gptp_certificate.specs.Parsing.{Fails}
+use Rattle.gptp_plan.specs.Calm.{last_change}
+use Rattle.gptp_certificate_text.specs.declared.fault.CertificateFault.{CertificateFault}
+use Rattle.gptp_certificate_text.specs.declared.fault.CertificateFault.TheVariants.{Line}
+use Rattle.gptp_certificate_text.specs.Faults as certificates
+use Rattle.gptp_certificate_text.specs.CertificateText.{certificate_text}
+use Rattle.gptp_certificate_text.specs.Entries.{IsReadable}
+use Rattle.gptp_certificate_text.specs.Parsing.{Fails}
 use Rattle.gptp_checker.specs.declared.fault.Fault.{Fault}
 use Rattle.gptp_checker.specs.Faults.{IsFirstFault, fault_text}
 use Rattle.gptp_commands.specs.declared.failure.Status.{Status}

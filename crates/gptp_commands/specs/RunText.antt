@@ -10,14 +10,14 @@ use Rattle.gptp_network.specs.declared.fault.DocumentFault.TheVariants.{TooMany}
 use Rattle.gptp_network.specs.Document.{DocumentState, Fails, Means}
 use Rattle.gptp_network.specs.Faults.{fault_text}
 use Rattle.gptp_network.specs.Snapshot.{IsSnapshot}
-use Rattle.gptp_acts.specs.SettlingTime.{settles}
+use Rattle.gptp_plan.specs.SettlingTime.{settles}
 use Rattle.gptp_acts.specs.World.{WorldState}
 use Rattle.gptp_graph.specs.Labelling.{SystemLine}
 use Rattle.gptp_graph.specs.Snapshot.{Snapshot}
 use Rattle.gptp_kept.specs.Settled.{Settled}
 use Rattle.gptp_report.specs.Report.{Reports}
 use Rattle.gptp_report.specs.Run.{LeadsTo}
-use Rattle.gptp_certificate.specs.CertificateText.{certificate_lines}
+use Rattle.gptp_certificate_text.specs.CertificateText.{certificate_lines}
 use Rattle.gptp_certificate.specs.Settled.{AreNear, IsRight}
 use Rattle.gptp_certificate.specs.Stated.{States}
 use Rattle.gptp_reached.specs.PlayedLaws.{IsAtRest}

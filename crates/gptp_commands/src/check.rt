@@ -3,10 +3,10 @@
 ghost use Rattle.std.specs.Prelude.{◌≡◌, ◌≢◌, ◌⊎◌, ◌+◌, List, ℕ, IfErr, IfOk, IfSome, OnOk, codes, ◌++◌};
 ghost use Rattle.std.specs.Io.KnownBytes.{Keeps};
 ghost use Rattle.gptp_network.specs.Snapshot.{IsSnapshot};
-ghost use Rattle.gptp_report.specs.Lines.{text_of};
+ghost use Rattle.gptp_spelling.specs.Lines.{text_of};
 ghost use Rattle.gptp_checker.specs.Faults.{fault_text};
 ghost use Rattle.gptp_commands.specs.CheckText.{certificate_limit, moment_of, AnswersBoth, AnswersCertificate, CheckText, Judges, JudgesAt, RefusesCertificate, Says};
-ghost use Rattle.gptp_certificate.specs.declared.fault.CertificateFault.TheVariants.{Line};
+ghost use Rattle.gptp_certificate_text.specs.declared.fault.CertificateFault.TheVariants.{Line};
 ghost use Rattle.gptp_commands.specs.declared.failure.Status.TheVariants.{Done, Refused};
 ghost use Rattle.gptp_commands.specs.Limited.{Limited};
 ghost use Rattle.gptp_commands.specs.RunText.{document_limit};

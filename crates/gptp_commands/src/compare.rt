@@ -3,7 +3,7 @@
 ghost use Rattle.std.specs.Prelude.{◌≡◌, ◌≢◌, ◌+◌, List, ℕ, IfOk, OnOk, IfErr, string_bytes};
 ghost use Rattle.std.specs.Io.KnownBytes.{Keeps};
 ghost use Rattle.gptp_commands.specs.Source.{ReadsWhole, TakesAtMost};
-ghost use Rattle.gptp_report.specs.Lines.{text_of};
+ghost use Rattle.gptp_spelling.specs.Lines.{text_of};
 ghost use Rattle.gptp_commands.specs.Written.{Writes, WritesFront};
 ghost use Rattle.gptp_commands.specs.CompareText.{size_limit, AnswersLines, CompareText};
 

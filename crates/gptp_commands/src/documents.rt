@@ -1,7 +1,7 @@
 //! What every command that reads a document does with it.
 
 ghost use Rattle.std.specs.Prelude.{◌≡◌, List, ℕ, IfErr, IfOk};
-ghost use Rattle.gptp_report.specs.Lines.{text_of};
+ghost use Rattle.gptp_spelling.specs.Lines.{text_of};
 ghost use Rattle.gptp_commands.specs.RunText.{RefusesFault};
 
 use crate::failure::{SimError, Status};

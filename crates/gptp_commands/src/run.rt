@@ -4,8 +4,8 @@ ghost use Rattle.std.specs.Prelude.{◌≡◌, ◌≢◌, ◌≤◌, ◌+◌, �
 ghost use Rattle.std.specs.Io.KnownBytes.{Keeps};
 ghost use Rattle.gptp_network.specs.Document.{Means};
 ghost use Rattle.gptp_network.specs.Faults.{fault_text};
-ghost use Rattle.gptp_acts.specs.SettlingTime.{settles};
-ghost use Rattle.gptp_report.specs.Lines.{text_of};
+ghost use Rattle.gptp_plan.specs.SettlingTime.{settles};
+ghost use Rattle.gptp_spelling.specs.Lines.{text_of};
 ghost use Rattle.gptp_commands.specs.Source.{ReadsWhole, TakesAtMost};
 ghost use Rattle.gptp_commands.specs.RunText.{document_limit, until_of, AnswersDocument, CertifiesIf, PlaysDocument, ReportsRun, RunText};
 ghost use Rattle.gptp_commands.specs.Written.{Writes, WritesFront};

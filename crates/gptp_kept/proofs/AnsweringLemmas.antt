@@ -7,9 +7,9 @@ use Rattle.gptp_links.specs.Fate.{Draw}
 use Rattle.gptp_receipt.specs.declared.held.Held.TheVariants as helds
 use Rattle.gptp_receipt.specs.Held.{received}
 use Rattle.gptp_system.specs.declared.answer.Answer.{Answer}
-use Rattle.gptp_system.specs.declared.setup.Setup.{Setup}
+use Rattle.gptp_setup.specs.declared.setup.Setup.{Setup}
 use Rattle.gptp_system.specs.Input.{Input, IsTimely, PortUp}
-use Rattle.gptp_system.specs.Intervals.{AreParams}
+use Rattle.gptp_setup.specs.Intervals.{AreParams}
 use Rattle.gptp_system.specs.Start.{started}
 use Rattle.gptp_system.specs.State.{clock}
 use Rattle.gptp_system.specs.Steps.{IsPortOf}
@@ -21,8 +21,8 @@ use Rattle.gptp_acts.specs.Sound.{IsItsSetup, IsSound}
 use Rattle.gptp_acts.specs.World.{Channel, WorldState}
 use Rattle.gptp_acts.proofs.AheadLemmas.{calls_ports}
 use Rattle.gptp_acts.proofs.ChangeOnTimeLemmas.{IsOfPort, calls_if_live_ports}
-use Rattle.gptp_acts.proofs.ListLemmas.{mapped, same_there}
-use Rattle.gptp_acts.proofs.PlaceLemmas.{get-set_all, get-set_same}
+use Rattle.gptp_lists.proofs.MappedLemmas.{mapped, same_there}
+use Rattle.gptp_lists.proofs.PlaceLemmas.{get-set_all, get-set_same}
 use Rattle.gptp_acts.proofs.StayLemmas.{called_same, fresh_same}
 use Rattle.gptp_acts.proofs.SteadyLemmas.{started_steady, steps_steady}
 use Rattle.gptp_acts.proofs.UpLemmas.{brought_ports}

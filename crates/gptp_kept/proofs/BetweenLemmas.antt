@@ -6,18 +6,18 @@ use Rattle.gptp_vector.specs.declared.port.PortId.{PortId}
 use Rattle.gptp_roles.specs.Selection.{clock_of}
 use Rattle.gptp_system.specs.State.{clock}
 use Rattle.gptp_system.proofs.ReadyLemmas.{length-new_ports}
-use Rattle.gptp_acts.specs.declared.change.Act.{Act}
+use Rattle.gptp_plan.specs.declared.change.Act.{Act}
 use Rattle.gptp_acts.specs.declared.done.Done.{Done}
-use Rattle.gptp_acts.specs.declared.network.Wire.{Wire}
+use Rattle.gptp_plan.specs.declared.network.Wire.{Wire}
 use Rattle.gptp_acts.specs.declared.station.Station.{Station}
 use Rattle.gptp_acts.specs.Acts.{Acts}
 use Rattle.gptp_acts.specs.Changing.{StartsAll}
 use Rattle.gptp_acts.specs.Initial.{channel_from, initial, setup_of, station_of, stations_of}
-use Rattle.gptp_acts.specs.Network.{IsNetwork, IsPort, IsWire, NetworkState}
+use Rattle.gptp_plan.specs.Network.{IsNetwork, IsPort, IsWire, NetworkState}
 use Rattle.gptp_acts.specs.Sound.{IsSound}
 use Rattle.gptp_acts.specs.World.{WorldState}
-use Rattle.gptp_acts.proofs.ListLemmas.{mapped, mapped_there, same_there}
-use Rattle.gptp_acts.proofs.PlaceLemmas.{member_there}
+use Rattle.gptp_lists.proofs.MappedLemmas.{mapped, mapped_there, same_there}
+use Rattle.gptp_lists.proofs.PlaceLemmas.{member_there}
 use Rattle.gptp_acts.proofs.StayLemmas.{Stays, acts_stay, starts_all_stay}
 use Rattle.gptp_kept.specs.Standing.{AreBetween, HasPort, IsBetween}
 use Rattle.gptp_kept.proofs.OutlineLemmas.{acts_count, count, starts_all_count}

@@ -7,9 +7,9 @@ use Rattle.gptp_lists.proofs.MemberLemmas.{from_map}
 use Rattle.gptp_links.specs.declared.link.Direction.{Direction}
 use Rattle.gptp_links.specs.declared.link.Direction.TheVariants.{FromA, FromB}
 use Rattle.gptp_links.specs.Queue.{Frame}
-use Rattle.gptp_system.specs.declared.setup.Params.{Params}
+use Rattle.gptp_setup.specs.declared.setup.Params.{Params}
 use Rattle.gptp_system.specs.Follows.{FollowsItself, FollowsPort}
-use Rattle.gptp_system.specs.Intervals.{interval_of}
+use Rattle.gptp_setup.specs.Intervals.{interval_of}
 use Rattle.gptp_system.specs.State.{clock}
 use Rattle.gptp_acts.specs.Ahead.{IsSteady}
 use Rattle.gptp_acts.specs.declared.station.Station.{Station}

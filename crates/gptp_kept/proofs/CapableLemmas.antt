@@ -6,13 +6,13 @@ use Rattle.gptp_links.specs.declared.link.Direction.{Direction}
 use Rattle.gptp_pdelay.specs.Peer.{is_capable}
 use Rattle.gptp_receipt.specs.declared.held.Held.{Held}
 use Rattle.gptp_system.specs.declared.port.Port.{Port}
-use Rattle.gptp_system.specs.declared.setup.Params.{Params}
-use Rattle.gptp_system.specs.Intervals.{interval_of}
+use Rattle.gptp_setup.specs.declared.setup.Params.{Params}
+use Rattle.gptp_setup.specs.Intervals.{interval_of}
 use Rattle.gptp_system.specs.State.{clock, number, own}
 use Rattle.gptp_acts.specs.declared.station.Station.{Station}
-use Rattle.gptp_acts.specs.Params.{KeepParams}
+use Rattle.gptp_plan.specs.Params.{KeepParams}
 use Rattle.gptp_acts.specs.World.{Channel, WorldState, receiver, sender}
-use Rattle.gptp_acts.proofs.ListLemmas.{same_there, some_same}
+use Rattle.gptp_lists.proofs.MappedLemmas.{same_there, some_same}
 use Rattle.gptp_kept.specs.Measured.{IsLiveAt, StandsAt}
 use Rattle.gptp_kept.specs.LinkView.{LinkPlace, opposite}
 use Rattle.gptp_kept.proofs.LinkLemmas.{sender_opposite}

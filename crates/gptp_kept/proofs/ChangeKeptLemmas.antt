@@ -6,15 +6,15 @@ use Rattle.gptp_links.specs.declared.link.Direction.TheVariants.{FromA, FromB}
 use Rattle.gptp_links.specs.Fate.{Draw}
 use Rattle.gptp_links.specs.Queue.{Frame, frame}
 use Rattle.gptp_system.specs.declared.answer.Answer.{Answer}
-use Rattle.gptp_system.specs.declared.timer.Timer.{Timer}
+use Rattle.gptp_setup.specs.declared.timer.Timer.{Timer}
 use Rattle.gptp_system.specs.Input.{PortUp, PortDown, Priority, Frame as FrameHeard, Expires as TimerExpires}
 use Rattle.gptp_system.specs.State.{number}
 use Rattle.gptp_system.specs.Steps.{IsUp}
 use Rattle.gptp_system.proofs.InTimeLemmas.{later_in_time}
-use Rattle.gptp_acts.specs.declared.change.Act.TheVariants.{Deliver, Expire, Change as Changing}
-use Rattle.gptp_acts.specs.declared.change.Change.{Change}
-use Rattle.gptp_acts.specs.declared.change.Change.TheVariants.{LinkDown, LinkUp, LinkSet, Fail, Recover, Priority1}
-use Rattle.gptp_acts.specs.declared.network.Wire.{Wire}
+use Rattle.gptp_plan.specs.declared.change.Act.TheVariants.{Deliver, Expire, Change as Changing}
+use Rattle.gptp_plan.specs.declared.change.Change.{Change}
+use Rattle.gptp_plan.specs.declared.change.Change.TheVariants.{LinkDown, LinkUp, LinkSet, Fail, Recover, Priority1}
+use Rattle.gptp_plan.specs.declared.network.Wire.{Wire}
 use Rattle.gptp_acts.specs.declared.station.Station.{Station}
 use Rattle.gptp_acts.specs.Act.{Delivers, Expires, Hears, all_timers}
 use Rattle.gptp_acts.specs.Acts.{Changes, set_to}
@@ -24,8 +24,8 @@ use Rattle.gptp_acts.specs.Changing.{CallsIfLive, ComesUpIf, FailsIf, GoesDownIf
 use Rattle.gptp_acts.specs.Initial.{channel_from, setup_of, station_of}
 use Rattle.gptp_acts.specs.Sound.{HaveTheirSetups, IsSound, JoinPorts}
 use Rattle.gptp_acts.specs.World.{Channel, Net, WorldState, queue, receiver}
-use Rattle.gptp_acts.proofs.ListLemmas.{mapped, same_there}
-use Rattle.gptp_acts.proofs.PlaceLemmas.{get-set_all}
+use Rattle.gptp_lists.proofs.MappedLemmas.{mapped, same_there}
+use Rattle.gptp_lists.proofs.PlaceLemmas.{get-set_all}
 use Rattle.gptp_acts.proofs.SoundLemmas.{delivered_up}
 use Rattle.gptp_acts.proofs.StayLemmas.{failed_stays, stays_setups, with_setup_stays}
 use Rattle.gptp_kept.specs.LinkLaws.{InitiallyMeasured, MeasuredHoldsLater, MeasuredIsKept, StartsMeasured}

@@ -13,7 +13,7 @@ use Rattle.gptp_acts.specs.declared.station.Station.{Station}
 use Rattle.gptp_acts.specs.Ahead.{IsPortAmong}
 use Rattle.gptp_acts.specs.Changing.{CallsIfLive, ComesUpIf, FailsIf, GoesDownIf, brought_up, lost, taken_down, with_bounds, with_setup, with_station}
 use Rattle.gptp_acts.specs.World.{Channel, Net, WorldState, queue}
-use Rattle.gptp_acts.proofs.PlaceLemmas.{get-set_all}
+use Rattle.gptp_lists.proofs.PlaceLemmas.{get-set_all}
 use Rattle.gptp_kept.specs.Legible.{ChannelFits, IsLegible, SayWhatFits, StationFits}
 use Rattle.gptp_kept.proofs.LegibleLemmas.{LinksFit, set_fits}
 use Rattle.gptp_kept.proofs.AnsweringLemmas.{CanAnswer, IsAnswering, calls_if_live_answering, tells_answering}

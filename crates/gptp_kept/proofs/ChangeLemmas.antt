@@ -8,30 +8,30 @@ use Rattle.gptp_links.specs.declared.link.Direction.TheVariants.{FromA, FromB}
 use Rattle.gptp_links.specs.Fate.{Draw}
 use Rattle.gptp_roles.specs.Selection.{clock_of}
 use Rattle.gptp_system.specs.declared.port.Port.{Port}
-use Rattle.gptp_system.specs.declared.setup.Params.{Params}
-use Rattle.gptp_system.specs.declared.setup.Setup.{Setup}
+use Rattle.gptp_setup.specs.declared.setup.Params.{Params}
+use Rattle.gptp_setup.specs.declared.setup.Setup.{Setup}
 use Rattle.gptp_system.specs.Input.{Input, IsTimely, PortUp, PortDown, Priority}
-use Rattle.gptp_system.specs.Intervals.{interval_of}
+use Rattle.gptp_setup.specs.Intervals.{interval_of}
 use Rattle.gptp_system.specs.Start.{new_port, new_ports, started}
 use Rattle.gptp_system.specs.State.{SystemState}
 use Rattle.gptp_system.specs.Steps.{IsPortOf}
 use Rattle.gptp_system.proofs.SpanLemmas.{starts_in_time}
-use Rattle.gptp_acts.specs.declared.change.Act.TheVariants.{Change as Changing}
-use Rattle.gptp_acts.specs.declared.change.Change.{Change}
-use Rattle.gptp_acts.specs.declared.change.Change.TheVariants.{LinkDown, LinkUp, LinkSet, Fail, Recover, Priority1}
+use Rattle.gptp_plan.specs.declared.change.Act.TheVariants.{Change as Changing}
+use Rattle.gptp_plan.specs.declared.change.Change.{Change}
+use Rattle.gptp_plan.specs.declared.change.Change.TheVariants.{LinkDown, LinkUp, LinkSet, Fail, Recover, Priority1}
 use Rattle.gptp_acts.specs.declared.station.Station.{Station}
 use Rattle.gptp_acts.specs.Act.{all_timers}
 use Rattle.gptp_acts.specs.Acts.{set_to, Changes}
 use Rattle.gptp_acts.specs.Ahead.{HasPorts, IsPortAmong}
 use Rattle.gptp_acts.specs.Changing.{CallsAll, CallsIfLive, ComesUpIf, FailsIf, GoesDownIf, RecoversIf, Starts, StartsAll, TellsEnds, brought_up, failed, fresh, taken_down, up_ports, with_bounds, with_setup, with_station}
-use Rattle.gptp_acts.specs.Prompt.{IsPromptAct}
+use Rattle.gptp_plan.specs.Prompt.{IsPromptAct}
 use Rattle.gptp_acts.specs.Sound.{IsWired}
 use Rattle.gptp_acts.specs.World.{Channel, WorldState, sender}
 use Rattle.gptp_acts.proofs.AgreeLemmas.{replaced}
 use Rattle.gptp_acts.proofs.AheadLemmas.{calls_ports}
 use Rattle.gptp_acts.proofs.ChangeOnTimeLemmas.{IsOfPort, calls_if_live_ports}
-use Rattle.gptp_acts.proofs.ListLemmas.{mapped, same_there}
-use Rattle.gptp_acts.proofs.PlaceLemmas.{get-set_all, get-set_same}
+use Rattle.gptp_lists.proofs.MappedLemmas.{mapped, same_there}
+use Rattle.gptp_lists.proofs.PlaceLemmas.{get-set_all, get-set_same}
 use Rattle.gptp_acts.proofs.SteadyLemmas.{started_steady}
 use Rattle.gptp_acts.proofs.UpLemmas.{brought_ports}
 use Rattle.gptp_kept.specs.Known.{IsSetTo}

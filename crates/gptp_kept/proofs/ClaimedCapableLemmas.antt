@@ -9,12 +9,12 @@ use Rattle.gptp_pdelay.specs.Peer.{is_capable}
 use Rattle.gptp_receipt.specs.declared.held.Held.{Held}
 use Rattle.gptp_receipt.specs.declared.held.Held.TheVariants.{Disabled}
 use Rattle.gptp_system.specs.declared.port.Port.{Port}
-use Rattle.gptp_system.specs.declared.setup.Params.{Params}
+use Rattle.gptp_setup.specs.declared.setup.Params.{Params}
 use Rattle.gptp_system.specs.Facts.{IsShown}
 use Rattle.gptp_system.specs.State.{clock, number, own}
 use Rattle.gptp_system.specs.Steps.{IsUp}
 use Rattle.gptp_acts.specs.declared.station.Station.{Station}
-use Rattle.gptp_acts.specs.Params.{KeepParams}
+use Rattle.gptp_plan.specs.Params.{KeepParams}
 use Rattle.gptp_acts.specs.World.{Channel, WorldState, receiver, sender}
 use Rattle.gptp_kept.specs.Linked.{BeginsLink}
 use Rattle.gptp_kept.specs.LinkView.{LinkPlace}

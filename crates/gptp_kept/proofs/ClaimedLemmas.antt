@@ -1,23 +1,25 @@
 -- The claim without its parameters: it begins, is kept, and says that a calm world settles.
 use Rattle.std.proofs.Common.{◌≡◌, ◌≤◌, ◌+◌, ℕ, Option, Some, length, slice_get, sym, subst, ◌∙◌, arith}
 use Rattle.gptp_links.specs.declared.bounds.Bounds.{Bounds}
-use Rattle.gptp_system.specs.declared.setup.Params.{Params}
-use Rattle.gptp_acts.specs.declared.change.Act.{Act}
-use Rattle.gptp_acts.specs.declared.change.Act.TheVariants.{Deliver, Expire, Change as Changing}
-use Rattle.gptp_acts.specs.declared.change.Change.TheVariants.{LinkDown, LinkUp, LinkSet, Fail, Recover, Priority1}
-use Rattle.gptp_acts.specs.declared.change.Timed.{Timed}
+use Rattle.gptp_setup.specs.declared.setup.Params.{Params}
+use Rattle.gptp_plan.specs.declared.change.Act.{Act}
+use Rattle.gptp_plan.specs.declared.change.Act.TheVariants.{Deliver, Expire, Change as Changing}
+use Rattle.gptp_plan.specs.declared.change.Change.TheVariants.{LinkDown, LinkUp, LinkSet, Fail, Recover, Priority1}
+use Rattle.gptp_plan.specs.declared.change.Timed.{Timed}
 use Rattle.gptp_acts.specs.declared.done.Done.{Done}
 use Rattle.gptp_acts.specs.declared.station.Station.{Station}
-use Rattle.gptp_acts.specs.Acts.{IsFitAct, IsThere, at as at_time}
+use Rattle.gptp_plan.specs.Allowed.{IsFitAct}
+use Rattle.gptp_acts.specs.Acts.{IsThere, at as at_time}
 use Rattle.gptp_acts.specs.Course.{Begun, WasDone}
 use Rattle.gptp_acts.specs.Initial.{initial}
-use Rattle.gptp_acts.specs.Network.{IsNetwork, NetworkState}
+use Rattle.gptp_plan.specs.Network.{IsNetwork, NetworkState}
 use Rattle.gptp_acts.specs.Pending.{NothingBefore}
-use Rattle.gptp_acts.specs.SettlingTime.{settling_span}
+use Rattle.gptp_plan.specs.SettlingTime.{settling_span}
 use Rattle.gptp_acts.specs.Sound.{IsSound}
 use Rattle.gptp_acts.specs.World.{WorldState}
 use Rattle.gptp_kept.specs.Known.{AreSet}
-use Rattle.gptp_acts.specs.Prompt.{IsPromptAct, IsPromptIn}
+use Rattle.gptp_plan.specs.Prompt.{IsPromptAct}
+use Rattle.gptp_acts.specs.Prompt.{IsPromptIn}
 use Rattle.gptp_kept.specs.LegibleLaws.{SetsAnOctet}
 use Rattle.gptp_kept.specs.Standing.{snapshot_of}
 use Rattle.gptp_kept.specs.Holds.{IsWorld}

@@ -10,8 +10,8 @@ use Rattle.gptp_acts.specs.declared.station.Station.{Station}
 use Rattle.gptp_acts.specs.Act.{in_state}
 use Rattle.gptp_acts.specs.Changing.{CallsIfLive, ComesUpIf, IsStation, TellsEnds, brought_up}
 use Rattle.gptp_acts.specs.World.{Channel, WorldState, port_id, sender}
-use Rattle.gptp_acts.proofs.ListLemmas.{same_there}
-use Rattle.gptp_acts.proofs.PlaceLemmas.{get-set_same, set_each}
+use Rattle.gptp_lists.proofs.MappedLemmas.{same_there}
+use Rattle.gptp_lists.proofs.PlaceLemmas.{get-set_same, set_each}
 use Rattle.gptp_acts.proofs.StayLemmas.{sender_same}
 use Rattle.gptp_acts.proofs.SteadyLemmas.{same_clock}
 use Rattle.gptp_kept.specs.Linked.{BeginsLink, MeasureLinks}

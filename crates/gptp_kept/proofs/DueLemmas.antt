@@ -8,14 +8,14 @@ use Rattle.gptp_receipt.specs.declared.held.Held.TheVariants as helds
 use Rattle.gptp_receipt.specs.Held.{Reception, received}
 use Rattle.gptp_pdelay.specs.Peer.{is_capable}
 use Rattle.gptp_system.specs.declared.port.Port.{Port}
-use Rattle.gptp_system.specs.declared.setup.Params.{Params}
-use Rattle.gptp_system.specs.declared.timer.Timer.TheVariants as timers
-use Rattle.gptp_system.specs.Intervals.{AreParams, interval_of}
+use Rattle.gptp_setup.specs.declared.setup.Params.{Params}
+use Rattle.gptp_setup.specs.declared.timer.Timer.TheVariants as timers
+use Rattle.gptp_setup.specs.Intervals.{AreParams, interval_of}
 use Rattle.gptp_system.specs.Measures.{part_of}
 use Rattle.gptp_system.specs.State.{SystemState, age_due, announce_due, due, is_mine, span_of}
 use Rattle.gptp_system.specs.Steps.{IsUp}
 use Rattle.gptp_system.specs.Times.{IsPortInTime}
-use Rattle.gptp_system.proofs.StartedLemmas.{interval_positive}
+use Rattle.gptp_setup.proofs.IntervalLemmas.{interval_positive}
 use Rattle.gptp_acts.specs.declared.item.Item.TheVariants.{Arrival}
 use Rattle.gptp_acts.specs.declared.station.Station.{Station}
 use Rattle.gptp_acts.specs.Ahead.{NoneLate}

@@ -19,12 +19,12 @@ use Rattle.gptp_pdelay.specs.Peer.{PeerState, after_follow_up, after_interval, a
 use Rattle.gptp_system.specs.declared.answer.Answer.{Answer}
 use Rattle.gptp_system.specs.declared.port.Port.{Port}
 use Rattle.gptp_system.specs.declared.sending.Sending.{Sending}
-use Rattle.gptp_system.specs.declared.setup.Params.{Params}
-use Rattle.gptp_system.specs.declared.setup.Setup.{Setup}
-use Rattle.gptp_system.specs.declared.timer.Timer.TheVariants as timers
+use Rattle.gptp_setup.specs.declared.setup.Params.{Params}
+use Rattle.gptp_setup.specs.declared.setup.Setup.{Setup}
+use Rattle.gptp_setup.specs.declared.timer.Timer.TheVariants as timers
 use Rattle.gptp_system.specs.Facts.{Keeps}
 use Rattle.gptp_system.specs.Input.{Input, Steps, PortUp, PortDown, Frame as FrameHeard, Expires, Priority}
-use Rattle.gptp_system.specs.Intervals.{interval_of}
+use Rattle.gptp_setup.specs.Intervals.{interval_of}
 use Rattle.gptp_system.specs.Measures.{IsPartAfter, Part, only_at, part_answered, part_asked, part_down, part_heard, part_of, part_owing}
 use Rattle.gptp_system.specs.State.{SystemState, clock, local_time, number}
 use Rattle.gptp_system.proofs.MeasureLemmas.{steps_measure}
@@ -32,8 +32,8 @@ use Rattle.gptp_system.proofs.StepLemmas.{steps_sound}
 use Rattle.gptp_acts.specs.declared.station.Station.{Station}
 use Rattle.gptp_acts.specs.Act.{Calls, in_state}
 use Rattle.gptp_acts.specs.World.{WorldState}
-use Rattle.gptp_acts.proofs.ListLemmas.{same_there}
-use Rattle.gptp_acts.proofs.PlaceLemmas.{get-set_other, get-set_same, member_there, same_place}
+use Rattle.gptp_lists.proofs.MappedLemmas.{same_there}
+use Rattle.gptp_lists.proofs.PlaceLemmas.{get-set_other, get-set_same, member_there, same_place}
 use Rattle.gptp_acts.proofs.SteadyLemmas.{same_ports}
 use Rattle.gptp_kept.specs.LinkView.{IsEndOf, IsMeasuring, RequestFits, SaysWhatFits}
 

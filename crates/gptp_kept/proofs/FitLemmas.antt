@@ -17,7 +17,7 @@ use Rattle.gptp_system.specs.Reacts.{PlaceReacts, PortEnds, Reacts}
 use Rattle.gptp_system.specs.State.{SystemState, clock, trace}
 use Rattle.gptp_system.specs.Touch.{Touch, Hear}
 use Rattle.gptp_system.proofs.FollowLemmas.{follows}
-use Rattle.gptp_acts.proofs.PlaceLemmas.{member_there}
+use Rattle.gptp_lists.proofs.PlaceLemmas.{member_there}
 use Rattle.gptp_kept.specs.Legible.{AreClocks, ReceptionFits, SaysWhatFits, SystemFits}
 use Rattle.gptp_kept.proofs.ReactLemmas.{mid_received}
 

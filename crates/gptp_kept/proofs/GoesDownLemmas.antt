@@ -14,8 +14,8 @@ use Rattle.gptp_acts.specs.Changing.{CallsIfLive, GoesDownIf, TellsEnds, lost, t
 use Rattle.gptp_acts.specs.Sound.{HaveOwnClocks, HaveTheirSetups, IsWired}
 use Rattle.gptp_acts.specs.World.{Channel, WorldState, sender}
 use Rattle.gptp_acts.proofs.LinkedLemmas.{NoPort}
-use Rattle.gptp_acts.proofs.ListLemmas.{same_there}
-use Rattle.gptp_acts.proofs.PlaceLemmas.{get-set_other, same_place}
+use Rattle.gptp_lists.proofs.MappedLemmas.{same_there}
+use Rattle.gptp_lists.proofs.PlaceLemmas.{get-set_other, same_place}
 use Rattle.gptp_acts.proofs.StayLemmas.{calls_if_live_stay, stays_clocks}
 use Rattle.gptp_kept.specs.Linked.{BeginsLink, MeasureLinks}
 use Rattle.gptp_kept.proofs.RunningLemmas.{came_up, went_down}

@@ -3,8 +3,8 @@ use Rattle.std.proofs.Common.{◌≡◌, ℕ, ◌≤◌, List, Option, Some, Non
 use Rattle.gptp_links.specs.declared.link.Direction.{Direction}
 use Rattle.gptp_links.specs.Fate.{Draw}
 use Rattle.gptp_system.specs.declared.answer.Answer.{Answer}
-use Rattle.gptp_system.specs.declared.setup.Params.{Params}
-use Rattle.gptp_system.specs.declared.timer.Timer.{Timer}
+use Rattle.gptp_setup.specs.declared.setup.Params.{Params}
+use Rattle.gptp_setup.specs.declared.timer.Timer.{Timer}
 use Rattle.gptp_system.specs.Input.{Frame as FrameHeard, Expires as TimerExpires}
 use Rattle.gptp_system.specs.State.{due}
 use Rattle.gptp_system.specs.Steps.{IsDue, IsUp}
@@ -14,7 +14,7 @@ use Rattle.gptp_acts.specs.Agrees.{stopped}
 use Rattle.gptp_acts.specs.Sound.{IsWired}
 use Rattle.gptp_acts.specs.World.{WorldState, receiver, station_due}
 use Rattle.gptp_acts.proofs.AheadLemmas.{live_due}
-use Rattle.gptp_acts.proofs.ListLemmas.{same_there}
+use Rattle.gptp_lists.proofs.MappedLemmas.{same_there}
 use Rattle.gptp_acts.proofs.SoundLemmas.{delivered_up}
 use Rattle.gptp_kept.proofs.KnownKeptLemmas.{IsKept, calls_kept, net_kept}
 use Rattle.gptp_kept.proofs.LimitLemmas.{keep_all, takes_keep}

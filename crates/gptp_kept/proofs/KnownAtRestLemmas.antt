@@ -17,7 +17,7 @@ use Rattle.gptp_system.proofs.ChangedLemmas.{each_port-get}
 use Rattle.gptp_system.proofs.FollowLemmas.{follows}
 use Rattle.gptp_acts.specs.Sound.{IsSound}
 use Rattle.gptp_acts.specs.World.{WorldState}
-use Rattle.gptp_acts.proofs.ListLemmas.{same_there}
+use Rattle.gptp_lists.proofs.MappedLemmas.{same_there}
 use Rattle.gptp_kept.specs.AtRest.{IsPortAtRest, OfEachSystem}
 
 -- ---- what a choice leaves as it is

@@ -1,6 +1,6 @@
 -- Time that passes keeps what is known of a world.
 use Rattle.std.proofs.Common.{ℕ, ◌≤◌, arith}
-use Rattle.gptp_system.specs.declared.setup.Params.{Params}
+use Rattle.gptp_setup.specs.declared.setup.Params.{Params}
 use Rattle.gptp_system.proofs.InTimeLemmas.{later_in_time}
 use Rattle.gptp_acts.specs.Acts.{at}
 use Rattle.gptp_acts.specs.World.{WorldState}

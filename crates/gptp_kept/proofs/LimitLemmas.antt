@@ -15,7 +15,7 @@ use Rattle.gptp_acts.specs.Act.{Takes}
 use Rattle.gptp_acts.specs.Changing.{lost}
 use Rattle.gptp_acts.specs.Sends.{SendsAll, SendsOne, entered, written}
 use Rattle.gptp_acts.specs.World.{Channel, Net, queue, with_queue}
-use Rattle.gptp_acts.proofs.PlaceLemmas.{get-set_all}
+use Rattle.gptp_lists.proofs.PlaceLemmas.{get-set_all}
 
 -- ---- queues
 

@@ -1,6 +1,6 @@
 -- Time that passes, and every act between two changes, seen at a link.
 use Rattle.std.proofs.Common.{refl}
-use Rattle.gptp_acts.specs.declared.change.Act.TheVariants.{Deliver, Expire, Change as Changing}
+use Rattle.gptp_plan.specs.declared.change.Act.TheVariants.{Deliver, Expire, Change as Changing}
 use Rattle.gptp_kept.specs.LinkLaws.{ActsAreActs, TimePasses}
 use Rattle.gptp_kept.proofs.LinkDeliveryLemmas.{delivers_seen}
 use Rattle.gptp_kept.proofs.LinkExpiryLemmas.{expires_seen}

@@ -9,15 +9,15 @@ use Rattle.gptp_links.specs.declared.link.Direction.{Direction}
 use Rattle.gptp_links.specs.Queue.{Frame}
 use Rattle.gptp_pdelay.specs.Peer.{after_interval}
 use Rattle.gptp_system.specs.declared.sending.Sending.{Sending}
-use Rattle.gptp_system.specs.declared.setup.Setup.{Setup}
-use Rattle.gptp_system.specs.declared.timer.Timer.{Timer}
-use Rattle.gptp_system.specs.declared.timer.Timer.TheVariants as timers
+use Rattle.gptp_setup.specs.declared.setup.Setup.{Setup}
+use Rattle.gptp_setup.specs.declared.timer.Timer.{Timer}
+use Rattle.gptp_setup.specs.declared.timer.Timer.TheVariants as timers
 use Rattle.gptp_system.specs.Input.{Input, Expires, PortUp}
-use Rattle.gptp_system.specs.Intervals.{interval_of}
+use Rattle.gptp_setup.specs.Intervals.{interval_of}
 use Rattle.gptp_system.specs.Measures.{IsPartAfter, Part, only_at, part_answered, part_asked, part_of}
 use Rattle.gptp_system.specs.State.{SystemState}
 use Rattle.gptp_acts.specs.World.{WorldState, queue, receiver, sender}
-use Rattle.gptp_acts.proofs.PlaceLemmas.{same_place}
+use Rattle.gptp_lists.proofs.PlaceLemmas.{same_place}
 use Rattle.gptp_measuring.specs.Acts.{OthersSend}
 use Rattle.gptp_measuring.specs.Facts.{IsSentInTime}
 use Rattle.gptp_measuring.specs.Lanes.{Frame as SeenFrame, AreMute}

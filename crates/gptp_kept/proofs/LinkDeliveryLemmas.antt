@@ -12,9 +12,9 @@ use Rattle.gptp_links.specs.Fate.{Draw}
 use Rattle.gptp_links.specs.Queue.{Frame, frame}
 use Rattle.gptp_pdelay.specs.GoodLink.{IsGoodLink}
 use Rattle.gptp_system.specs.declared.answer.Answer.{Answer}
-use Rattle.gptp_system.specs.declared.setup.Params.{Params}
+use Rattle.gptp_setup.specs.declared.setup.Params.{Params}
 use Rattle.gptp_system.specs.Input.{Frame as FrameHeard}
-use Rattle.gptp_system.specs.Intervals.{interval_of}
+use Rattle.gptp_setup.specs.Intervals.{interval_of}
 use Rattle.gptp_system.specs.Measures.{IsPartAfter, Part, part_heard, part_of}
 use Rattle.gptp_system.specs.State.{SystemState, clock}
 use Rattle.gptp_system.specs.Steps.{IsUp}
@@ -22,8 +22,8 @@ use Rattle.gptp_acts.specs.declared.station.Station.{Station}
 use Rattle.gptp_acts.specs.Act.{Calls, Delivers, HasFailed, Hears}
 use Rattle.gptp_acts.specs.Sound.{IsSound}
 use Rattle.gptp_acts.specs.World.{Channel, Net, WorldState, queue, receiver, sender, with_queue}
-use Rattle.gptp_acts.proofs.ListLemmas.{same_there}
-use Rattle.gptp_acts.proofs.PlaceLemmas.{get-set_other, get-set_same, same_place}
+use Rattle.gptp_lists.proofs.MappedLemmas.{same_there}
+use Rattle.gptp_lists.proofs.PlaceLemmas.{get-set_other, get-set_same, same_place}
 use Rattle.gptp_acts.proofs.StayLemmas.{carry_join, sender_same, takes_carry}
 use Rattle.gptp_measuring.specs.Acts.{Acts, AskerHears, AnswererHears, asker_hears, answerer_hears, others_send}
 use Rattle.gptp_measuring.specs.Answerer.{Notes}

@@ -10,9 +10,9 @@ use Rattle.gptp_links.specs.declared.link.Direction.{Direction}
 use Rattle.gptp_links.specs.Queue.{Frame}
 use Rattle.gptp_pdelay.specs.declared.answer.Answer.{Answer as Owed}
 use Rattle.gptp_system.specs.declared.port.Port.{Port}
-use Rattle.gptp_system.specs.declared.setup.Params.{Params}
-use Rattle.gptp_system.specs.declared.timer.Timer.TheVariants as timers
-use Rattle.gptp_system.specs.Intervals.{interval_of}
+use Rattle.gptp_setup.specs.declared.setup.Params.{Params}
+use Rattle.gptp_setup.specs.declared.timer.Timer.TheVariants as timers
+use Rattle.gptp_setup.specs.Intervals.{interval_of}
 use Rattle.gptp_system.specs.State.{SystemState, number}
 use Rattle.gptp_system.specs.Times.{IsPortInTime}
 use Rattle.gptp_acts.specs.declared.item.Item.TheVariants.{Arrival}
@@ -22,7 +22,7 @@ use Rattle.gptp_acts.specs.Sound.{IsSound}
 use Rattle.gptp_acts.specs.World.{Channel, WorldState, queue, receiver, sender}
 use Rattle.gptp_acts.proofs.AheadLemmas.{live_due, pending_none_late}
 use Rattle.gptp_acts.proofs.MomentLemmas.{times-all}
-use Rattle.gptp_acts.proofs.PlaceLemmas.{member_there}
+use Rattle.gptp_lists.proofs.PlaceLemmas.{member_there}
 use Rattle.gptp_acts.proofs.SoundLemmas.{agrees_arrivals, agrees_pending}
 use Rattle.gptp_measuring.specs.Answerer.{Waiting}
 use Rattle.gptp_measuring.specs.Lanes.{Frame as SeenFrame}

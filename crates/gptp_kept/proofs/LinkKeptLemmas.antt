@@ -7,9 +7,9 @@ use Rattle.gptp_vector.specs.declared.port.PortId.{PortId}
 use Rattle.gptp_links.specs.Fate.{Draw}
 use Rattle.gptp_roles.specs.Selection.{clock_of}
 use Rattle.gptp_system.specs.declared.port.Port.{Port}
-use Rattle.gptp_system.specs.declared.setup.Setup.{Setup}
+use Rattle.gptp_setup.specs.declared.setup.Setup.{Setup}
 use Rattle.gptp_system.specs.Input.{Input, IsTimely, PortUp, PortDown}
-use Rattle.gptp_system.specs.Intervals.{AreParams}
+use Rattle.gptp_setup.specs.Intervals.{AreParams}
 use Rattle.gptp_system.specs.Measures.{part_of}
 use Rattle.gptp_system.specs.Start.{new_port, started}
 use Rattle.gptp_system.specs.State.{clock, number, own}
@@ -20,8 +20,8 @@ use Rattle.gptp_acts.specs.Act.{all_timers}
 use Rattle.gptp_acts.specs.Ahead.{IsPortAmong, IsSteady}
 use Rattle.gptp_acts.specs.Changing.{CallsAll, CallsIfLive, Starts, StartsAll, TellsEnds, fresh, up_ports, with_station}
 use Rattle.gptp_acts.specs.World.{Channel, WorldState}
-use Rattle.gptp_acts.proofs.ListLemmas.{mapped, same_there}
-use Rattle.gptp_acts.proofs.PlaceLemmas.{get-set_all, get-set_same}
+use Rattle.gptp_lists.proofs.MappedLemmas.{mapped, same_there}
+use Rattle.gptp_lists.proofs.PlaceLemmas.{get-set_all, get-set_same}
 use Rattle.gptp_acts.proofs.StayLemmas.{Stays, calls_if_live_stay, calls_stay, refreshed_stays, stays_setups}
 use Rattle.gptp_acts.proofs.SteadyLemmas.{started_steady}
 use Rattle.gptp_acts.proofs.UpLemmas.{brought_ports}

@@ -18,7 +18,7 @@ use Rattle.gptp_system.specs.declared.answer.Answer.{Answer}
 use Rattle.gptp_system.specs.declared.port.Port.{Port}
 use Rattle.gptp_system.specs.declared.sending.Sending.{Sending}
 use Rattle.gptp_system.specs.Input.{Input, IsTimely}
-use Rattle.gptp_system.specs.Intervals.{AreParams, interval_of}
+use Rattle.gptp_setup.specs.Intervals.{AreParams, interval_of}
 use Rattle.gptp_system.specs.Measures.{part_of}
 use Rattle.gptp_system.specs.Messages.{AreSent}
 use Rattle.gptp_system.specs.State.{SystemState, clock, number, own}
@@ -27,8 +27,8 @@ use Rattle.gptp_acts.specs.declared.station.Station.{Station}
 use Rattle.gptp_acts.specs.Act.{Calls, all_timers, in_state}
 use Rattle.gptp_acts.specs.Sound.{AreApart, HaveOwnClocks, HaveTheirSetups, IsSound}
 use Rattle.gptp_acts.specs.World.{Channel, Net, WorldState, queue, receiver, sender}
-use Rattle.gptp_acts.proofs.ListLemmas.{same_there}
-use Rattle.gptp_acts.proofs.PlaceLemmas.{same_place}
+use Rattle.gptp_lists.proofs.MappedLemmas.{same_there}
+use Rattle.gptp_lists.proofs.PlaceLemmas.{same_place}
 use Rattle.gptp_acts.proofs.SteadyLemmas.{same_clock}
 use Rattle.gptp_acts.proofs.StayLemmas.{JoinTheSame, begins_same, sender_same}
 use Rattle.gptp_kept.specs.LinkView.{IsEndOf, IsLinkOf, LinkPlace, RequestFits, SaysWhatFits, identity_of, opposite, setting}

@@ -12,7 +12,7 @@ use Rattle.gptp_links.specs.Queue.{Frame, due_after, frame}
 use Rattle.gptp_system.specs.declared.answer.Answer.{Answer}
 use Rattle.gptp_system.specs.declared.port.Port.{Port}
 use Rattle.gptp_system.specs.declared.sending.Sending.{Sending}
-use Rattle.gptp_system.specs.declared.timer.Timer.TheVariants as timers
+use Rattle.gptp_setup.specs.declared.timer.Timer.TheVariants as timers
 use Rattle.gptp_system.specs.Input.{Input, IsTimely, Steps, PortUp, Expires}
 use Rattle.gptp_system.specs.Measures.{part_of}
 use Rattle.gptp_system.specs.Messages.{AreSent}
@@ -28,7 +28,7 @@ use Rattle.gptp_acts.specs.Ahead.{IsSteady}
 use Rattle.gptp_acts.specs.Sends.{entered, written, SendsAll}
 use Rattle.gptp_acts.specs.Sound.{HaveTheirSetups, IsItsSetup, IsSound}
 use Rattle.gptp_acts.specs.World.{Channel, Net, WorldState, queue, with_queue}
-use Rattle.gptp_acts.proofs.PlaceLemmas.{get-set_all}
+use Rattle.gptp_lists.proofs.PlaceLemmas.{get-set_all}
 use Rattle.gptp_acts.proofs.StayLemmas.{calls_stay, stays_setups}
 use Rattle.gptp_acts.proofs.SteadyLemmas.{steps_steady}
 use Rattle.gptp_kept.specs.Measured.{AllFit, IsMeasured, IsStationMeasured}

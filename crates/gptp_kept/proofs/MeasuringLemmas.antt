@@ -18,9 +18,9 @@ use Rattle.gptp_roles.specs.Selection.{clock_of}
 use Rattle.gptp_system.specs.declared.answer.Answer.{Answer}
 use Rattle.gptp_system.specs.declared.port.Port.{Port}
 use Rattle.gptp_system.specs.declared.sending.Sending.{Sending}
-use Rattle.gptp_system.specs.declared.setup.Params.{Params}
-use Rattle.gptp_system.specs.declared.setup.Setup.{Setup}
-use Rattle.gptp_system.specs.declared.timer.Timer.TheVariants as timers
+use Rattle.gptp_setup.specs.declared.setup.Params.{Params}
+use Rattle.gptp_setup.specs.declared.setup.Setup.{Setup}
+use Rattle.gptp_setup.specs.declared.timer.Timer.TheVariants as timers
 use Rattle.gptp_system.specs.Input.{Input, IsTimely, Steps, PortUp, PortDown, Frame, Expires, Priority}
 use Rattle.gptp_system.specs.Measures.{IsPartAfter, Part, only_at, part_answered, part_asked, part_down, part_heard, part_of, part_owing, part_stepped}
 use Rattle.gptp_system.specs.Start.{new_port, started}
@@ -28,7 +28,7 @@ use Rattle.gptp_system.specs.State.{SystemState, local_time, own}
 use Rattle.gptp_system.specs.Steps.{IsUp}
 use Rattle.gptp_system.proofs.MeasureLemmas.{steps_measure}
 use Rattle.gptp_acts.specs.World.{port_id}
-use Rattle.gptp_acts.proofs.ListLemmas.{mapped}
+use Rattle.gptp_lists.proofs.MappedLemmas.{mapped}
 use Rattle.gptp_acts.proofs.SteadyLemmas.{same_clock}
 use Rattle.gptp_kept.specs.Measuring.{IsMeasuring, IsPeerOf, PortsMeasure}
 

@@ -3,7 +3,7 @@ use Rattle.std.proofs.Common.{◌≡◌, ◌≢◌, ◌⊎◌, ℕ, true, List, 
 use Rattle.gptp_vector.specs.declared.port.PortId.{PortId}
 use Rattle.gptp_links.specs.Fate.{Draw}
 use Rattle.gptp_system.specs.declared.answer.Answer.{Answer}
-use Rattle.gptp_system.specs.declared.timer.Timer.TheVariants as timers
+use Rattle.gptp_setup.specs.declared.timer.Timer.TheVariants as timers
 use Rattle.gptp_system.specs.Input.{Input, PortUp, Expires as TimerExpires}
 use Rattle.gptp_system.specs.State.{SystemState, own}
 use Rattle.gptp_system.specs.Steps.{IsUp}
@@ -13,7 +13,7 @@ use Rattle.gptp_acts.specs.Changing.{with_station}
 use Rattle.gptp_acts.specs.World.{Net, WorldState, port_id}
 use Rattle.gptp_acts.proofs.AgreeLemmas.{replaced}
 use Rattle.gptp_acts.proofs.LinkedLemmas.{NoPort}
-use Rattle.gptp_acts.proofs.PlaceLemmas.{set_each}
+use Rattle.gptp_lists.proofs.PlaceLemmas.{set_each}
 use Rattle.gptp_acts.proofs.SteadyLemmas.{same_clock}
 use Rattle.gptp_kept.specs.Linked.{BeginsLink, MeasureLinks}
 use Rattle.gptp_kept.proofs.RunningLemmas.{KeepLinks, calls_links, came_up, keep_links}

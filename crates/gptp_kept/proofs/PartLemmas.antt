@@ -15,7 +15,7 @@ use Rattle.gptp_pdelay.specs.declared.progress.Response.{Response}
 use Rattle.gptp_pdelay.specs.Progress.{is_response_to}
 use Rattle.gptp_pdelay.specs.declared.progress.Progress.TheVariants as progresses
 use Rattle.gptp_pdelay.specs.Peer.{PeerState, after_interval, given_up, is_open, requested, reset_peer}
-use Rattle.gptp_system.specs.Intervals.{interval_of}
+use Rattle.gptp_setup.specs.Intervals.{interval_of}
 use Rattle.gptp_system.specs.Measures.{Part, part_asked, part_answered, part_heard}
 use Rattle.gptp_system.specs.State.{SystemState, local_time}
 use Rattle.gptp_system.proofs.MeasuringLemmas.{follow_up_keeps, interval_keeps, response_keeps}

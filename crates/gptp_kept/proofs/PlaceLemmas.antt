@@ -3,9 +3,9 @@ use Rattle.std.proofs.Common.{◌≡◌, ℕ, zero, suc, List, [], ◌∷◌, ma
 use Rattle.std.proofs.lemmas.Option.{none-some, same_Some}
 use Rattle.gptp_receipt.specs.declared.held.Held.{Held}
 use Rattle.gptp_system.specs.declared.port.Port.{Port}
-use Rattle.gptp_system.specs.declared.setup.Params.{Params}
+use Rattle.gptp_setup.specs.declared.setup.Params.{Params}
 use Rattle.gptp_acts.specs.declared.station.Station.{Station}
-use Rattle.gptp_acts.proofs.ListLemmas.{mapped, mapped_there}
+use Rattle.gptp_lists.proofs.MappedLemmas.{mapped, mapped_there}
 use Rattle.gptp_settling.specs.Station.{Port as SeenPort, Station as SeenStation}
 use Rattle.gptp_kept.specs.View.{port_view, ports_view, station_view}
 

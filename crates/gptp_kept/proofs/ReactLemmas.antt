@@ -14,9 +14,9 @@ use Rattle.gptp_receipt.specs.declared.held.Heard.TheVariants.{Superior, Repeate
 use Rattle.gptp_receipt.specs.Held.{Reception, comparison, held_after, received, reception}
 use Rattle.gptp_system.specs.declared.port.Port.{Port}
 use Rattle.gptp_system.specs.declared.sending.Sending.{Sending}
-use Rattle.gptp_system.specs.declared.setup.Params.{Params}
+use Rattle.gptp_setup.specs.declared.setup.Params.{Params}
 use Rattle.gptp_system.specs.Facts.{AreHeld}
-use Rattle.gptp_system.specs.Intervals.{interval_of}
+use Rattle.gptp_setup.specs.Intervals.{interval_of}
 use Rattle.gptp_system.specs.State.{SystemState, clock}
 use Rattle.gptp_system.specs.Touch.{Touch, Hear, Tick, Grow, Enable, Disable, Other, HeardAs, Mid}
 use Rattle.gptp_system.specs.Reacts.{IsAnnounce, IsKept, PortEnds, PortReacts, Reacts, Tells}

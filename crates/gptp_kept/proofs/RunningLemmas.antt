@@ -12,7 +12,7 @@ use Rattle.gptp_pdelay.specs.Peer.{after_interval, reset_peer}
 use Rattle.gptp_system.specs.declared.answer.Answer.{Answer}
 use Rattle.gptp_system.specs.declared.port.Port.{Port}
 use Rattle.gptp_system.specs.declared.sending.Sending.{Sending}
-use Rattle.gptp_system.specs.declared.timer.Timer.TheVariants as timers
+use Rattle.gptp_setup.specs.declared.timer.Timer.TheVariants as timers
 use Rattle.gptp_system.specs.Input.{Input, Steps, PortUp, PortDown, Frame, Expires, Priority}
 use Rattle.gptp_system.specs.Measures.{IsPartAfter, Part, only_at, part_answered, part_asked, part_down, part_heard, part_of}
 use Rattle.gptp_system.specs.State.{SystemState}
@@ -22,8 +22,8 @@ use Rattle.gptp_system.proofs.SystemLemmas.{up_is_port}
 use Rattle.gptp_acts.specs.Act.{Calls, Takes}
 use Rattle.gptp_acts.specs.World.{Channel, Net, WorldState, sender}
 use Rattle.gptp_acts.proofs.BareLemmas.{DifferInFlight, bare, calls_bare, takes_bare}
-use Rattle.gptp_acts.proofs.ListLemmas.{alike, same_there}
-use Rattle.gptp_acts.proofs.PlaceLemmas.{get-set_other, get-set_same, member_there, same_place}
+use Rattle.gptp_lists.proofs.MappedLemmas.{alike, same_there}
+use Rattle.gptp_lists.proofs.PlaceLemmas.{get-set_other, get-set_same, member_there, same_place}
 use Rattle.gptp_acts.proofs.StayLemmas.{sender_same}
 use Rattle.gptp_kept.specs.Linked.{BeginsLink}
 

@@ -2,8 +2,8 @@
 use Rattle.std.proofs.Common.{◌⊎◌, List, inl, inr}
 use Rattle.gptp_links.specs.Fate.{Draw}
 use Rattle.gptp_system.specs.State.{number}
-use Rattle.gptp_acts.specs.declared.change.Act.{Act}
-use Rattle.gptp_acts.specs.declared.change.Act.TheVariants.{Deliver, Expire, Change as Changing}
+use Rattle.gptp_plan.specs.declared.change.Act.{Act}
+use Rattle.gptp_plan.specs.declared.change.Act.TheVariants.{Deliver, Expire, Change as Changing}
 use Rattle.gptp_acts.specs.declared.done.Done.{Done}
 use Rattle.gptp_acts.specs.Acts.{Acts}
 use Rattle.gptp_acts.specs.Sound.{IsSound}

@@ -17,7 +17,7 @@ use Rattle.gptp_acts.specs.Sends.{written}
 use Rattle.gptp_acts.specs.Ahead.{IsSteady}
 use Rattle.gptp_acts.specs.Sound.{IsItsSetup}
 use Rattle.gptp_acts.specs.World.{WorldState}
-use Rattle.gptp_acts.proofs.PlaceLemmas.{get-set_other, get-set_same, same_place}
+use Rattle.gptp_lists.proofs.PlaceLemmas.{get-set_other, get-set_same, same_place}
 use Rattle.gptp_acts.proofs.SteadyLemmas.{same_clock, same_ports, steps_steady}
 use Rattle.gptp_settling.specs.Acts.{Calls as SeenCalls}
 use Rattle.gptp_settling.specs.Reacts.{Reacts as SeenReacts}

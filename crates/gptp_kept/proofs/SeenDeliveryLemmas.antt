@@ -21,7 +21,7 @@ use Rattle.gptp_acts.specs.declared.station.Station.{Station}
 use Rattle.gptp_acts.specs.Act.{Calls, Delivers, HasFailed, Hears}
 use Rattle.gptp_acts.specs.Sound.{IsSound}
 use Rattle.gptp_acts.specs.World.{Net, WorldState, receiver}
-use Rattle.gptp_acts.proofs.ListLemmas.{same_there}
+use Rattle.gptp_lists.proofs.MappedLemmas.{same_there}
 use Rattle.gptp_acts.proofs.SoundLemmas.{delivered_up}
 use Rattle.gptp_settling.specs.Acts.{Arrives, Drops, Pops}
 use Rattle.gptp_settling.specs.Frame.{Announce, Lane}

@@ -5,7 +5,7 @@ use Rattle.gptp_links.specs.declared.link.Direction.{Direction}
 use Rattle.gptp_links.specs.declared.link.Direction.TheVariants.{FromA, FromB}
 use Rattle.gptp_links.specs.Queue.{Frame}
 use Rattle.gptp_acts.specs.World.{Channel, with_queue}
-use Rattle.gptp_acts.proofs.PlaceLemmas.{get-set_other, get-set_same, same_place}
+use Rattle.gptp_lists.proofs.PlaceLemmas.{get-set_other, get-set_same, same_place}
 use Rattle.gptp_settling.specs.Frame.{Lane}
 use Rattle.gptp_kept.specs.View.{frame_view, lane_place, lane_view, lanes_view}
 

@@ -13,7 +13,7 @@ use Rattle.gptp_system.specs.State.{SystemState, clock, own}
 use Rattle.gptp_acts.specs.Sends.{entered, written, IsUnlinked, SendsAll, SendsOne}
 use Rattle.gptp_acts.specs.Sound.{AreApart, IsSound}
 use Rattle.gptp_acts.specs.World.{Channel, Net, WorldState, queue, sender}
-use Rattle.gptp_acts.proofs.ListLemmas.{same_there}
+use Rattle.gptp_lists.proofs.MappedLemmas.{same_there}
 use Rattle.gptp_settling.specs.Frame.{Frame as SeenFrame, Lane}
 use Rattle.gptp_kept.specs.Legible.{IsLegible}
 use Rattle.gptp_kept.specs.View.{frame_view, identity_of, lane_place, lane_view, lanes_view, send_view}

@@ -17,9 +17,9 @@ use Rattle.gptp_links.specs.Queue.{Frame}
 use Rattle.gptp_pdelay.specs.declared.answer.Answer.{Answer as Owed}
 use Rattle.gptp_pdelay.specs.Progress.{same_port}
 use Rattle.gptp_system.specs.declared.sending.Sending.{Sending}
-use Rattle.gptp_system.specs.declared.timer.Timer.TheVariants as timers
+use Rattle.gptp_setup.specs.declared.timer.Timer.TheVariants as timers
 use Rattle.gptp_system.specs.Input.{Input, PortUp, PortDown, Frame as FrameHeard, Expires, Priority}
-use Rattle.gptp_system.specs.Intervals.{IsLog}
+use Rattle.gptp_setup.specs.Intervals.{IsLog}
 use Rattle.gptp_system.specs.Measuring.{Responds, RespondsIf, owed_at, request_of}
 use Rattle.gptp_system.specs.Messages.{Announcing, Answering, AreSent, Asking, AsksOnce, Kind, Telling, kind_of}
 use Rattle.gptp_system.specs.Sends.{head_from, response, response_follow_up, sends_up_to}

@@ -12,7 +12,7 @@ use Rattle.gptp_links.specs.declared.link.Direction.TheVariants.{FromA, FromB}
 use Rattle.gptp_links.specs.Fate.{Draw}
 use Rattle.gptp_roles.specs.Selection.{clock_of}
 use Rattle.gptp_system.specs.declared.port.Port.{Port}
-use Rattle.gptp_system.specs.declared.setup.Setup.{Setup}
+use Rattle.gptp_setup.specs.declared.setup.Setup.{Setup}
 use Rattle.gptp_system.specs.Input.{PortUp}
 use Rattle.gptp_system.specs.Start.{new_port, started}
 use Rattle.gptp_system.specs.State.{clock}
@@ -21,8 +21,8 @@ use Rattle.gptp_acts.specs.declared.station.Station.{Station}
 use Rattle.gptp_acts.specs.Changing.{CallsAll, CallsIfLive, RecoversIf, Starts, StartsAll, fresh, is_end, is_up_at, up_ports}
 use Rattle.gptp_acts.specs.World.{Channel, WorldState, port_id, sender}
 use Rattle.gptp_acts.proofs.AgreeLemmas.{replaced}
-use Rattle.gptp_acts.proofs.ListLemmas.{mapped}
-use Rattle.gptp_acts.proofs.PlaceLemmas.{get-set_same}
+use Rattle.gptp_lists.proofs.MappedLemmas.{mapped}
+use Rattle.gptp_lists.proofs.PlaceLemmas.{get-set_same}
 use Rattle.gptp_kept.specs.Linked.{BeginsLink, MeasureLinks}
 use Rattle.gptp_kept.proofs.OnLinkLemmas.{replaced_measure}
 use Rattle.gptp_kept.proofs.ComesUpLemmas.{IsAt, calls_if_live_at, calls_if_live_links, port_up_measures}

@@ -6,7 +6,7 @@ use Rattle.gptp_graph.specs.Snapshot.{port_of}
 use Rattle.gptp_lists.proofs.MemberLemmas.{In-left, In-parts, In-right}
 use Rattle.gptp_settling.specs.Frame.{Frame, Lane, Send}
 use Rattle.gptp_settling.specs.Acts.{LaneStep}
-use Rattle.gptp_acts.proofs.ListLemmas.{same_there}
+use Rattle.gptp_lists.proofs.MappedLemmas.{same_there}
 use Rattle.gptp_kept.proofs.SeenLaneLemmas.{IsSetAt}
 
 -- a lane takes up nothing of sends that can't arrive on it

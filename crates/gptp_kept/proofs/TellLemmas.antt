@@ -18,7 +18,7 @@ use Rattle.gptp_system.specs.Sends.{announcement}
 use Rattle.gptp_system.specs.State.{SystemState, clock, own, trace}
 use Rattle.gptp_system.proofs.TypeLemmas.{type_is}
 use Rattle.gptp_acts.specs.Sends.{message_of, written}
-use Rattle.gptp_acts.proofs.PlaceLemmas.{member_there}
+use Rattle.gptp_lists.proofs.PlaceLemmas.{member_there}
 use Rattle.gptp_settling.specs.Frame.{Announce}
 use Rattle.gptp_settling.specs.Reacts.{IsMasterAt}
 use Rattle.gptp_kept.specs.Legible.{AreClocks, SayWhatFits}

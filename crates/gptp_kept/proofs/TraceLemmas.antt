@@ -13,11 +13,11 @@ use Rattle.gptp_links.specs.Queue.{Frame, frame}
 use Rattle.gptp_receipt.specs.declared.held.Held.{Held}
 use Rattle.gptp_receipt.specs.declared.held.Held.TheVariants as helds
 use Rattle.gptp_receipt.specs.Held.{Reception, received}
-use Rattle.gptp_system.specs.declared.setup.Params.{Params}
+use Rattle.gptp_setup.specs.declared.setup.Params.{Params}
 use Rattle.gptp_system.specs.State.{SystemState, clock, held_at}
-use Rattle.gptp_acts.specs.declared.change.Act.{Act}
-use Rattle.gptp_acts.specs.declared.change.Act.TheVariants.{Deliver, Expire, Change as Changing}
-use Rattle.gptp_acts.specs.declared.change.Timed.{Timed}
+use Rattle.gptp_plan.specs.declared.change.Act.{Act}
+use Rattle.gptp_plan.specs.declared.change.Act.TheVariants.{Deliver, Expire, Change as Changing}
+use Rattle.gptp_plan.specs.declared.change.Timed.{Timed}
 use Rattle.gptp_acts.specs.declared.done.Done.{Done}
 use Rattle.gptp_acts.specs.declared.done.Done.TheVariants.{Quiet, Heard}
 use Rattle.gptp_acts.specs.declared.station.Station.{Station}
@@ -25,7 +25,7 @@ use Rattle.gptp_acts.specs.Acts.{Acts, Delivery, at as at_time}
 use Rattle.gptp_acts.specs.Course.{WasDone}
 use Rattle.gptp_acts.specs.Views.{ShowsLive}
 use Rattle.gptp_acts.specs.World.{Channel, WorldState, queue, receiver, sender}
-use Rattle.gptp_acts.proofs.PlaceLemmas.{member_there}
+use Rattle.gptp_lists.proofs.PlaceLemmas.{member_there}
 use Rattle.gptp_settling.specs.Calm.{Calm}
 use Rattle.gptp_settling.specs.CleanInvariant.{StationIsClean, TracesAreClean}
 use Rattle.gptp_settling.specs.Facts.{IsStation, Late, Setting}

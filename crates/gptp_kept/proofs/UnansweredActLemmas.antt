@@ -1,6 +1,6 @@
 -- Time that passes, and every act between two changes, seen at a port whose link's other end has failed.
 use Rattle.std.proofs.Common.{refl}
-use Rattle.gptp_acts.specs.declared.change.Act.TheVariants.{Deliver, Expire, Change as Changing}
+use Rattle.gptp_plan.specs.declared.change.Act.TheVariants.{Deliver, Expire, Change as Changing}
 use Rattle.gptp_kept.specs.UnansweredLaws.{ActsAreActs, TimePasses}
 use Rattle.gptp_kept.proofs.UnansweredDeliveryLemmas.{delivers_seen}
 use Rattle.gptp_kept.proofs.UnansweredExpiryLemmas.{expires_seen}

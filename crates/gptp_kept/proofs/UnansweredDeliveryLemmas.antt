@@ -17,14 +17,14 @@ use Rattle.gptp_pdelay.specs.declared.progress.Progress.{Progress}
 use Rattle.gptp_pdelay.specs.Peer.{PeerState, after_follow_up, after_response, answered_by, completed, measured_by}
 use Rattle.gptp_system.specs.declared.answer.Answer.{Answer}
 use Rattle.gptp_system.specs.Input.{Frame as FrameHeard}
-use Rattle.gptp_system.specs.Intervals.{interval_of}
+use Rattle.gptp_setup.specs.Intervals.{interval_of}
 use Rattle.gptp_system.specs.Measures.{HearsPart, Part, part_heard, part_of}
 use Rattle.gptp_system.specs.State.{SystemState, clock, local_time}
 use Rattle.gptp_acts.specs.declared.station.Station.{Station}
 use Rattle.gptp_acts.specs.Act.{Calls, Delivers, Hears}
 use Rattle.gptp_acts.specs.Sound.{IsSound}
 use Rattle.gptp_acts.specs.World.{WorldState, queue, receiver, sender}
-use Rattle.gptp_acts.proofs.ListLemmas.{same_there}
+use Rattle.gptp_lists.proofs.MappedLemmas.{same_there}
 use Rattle.gptp_measuring.specs.Asker.{Asker}
 use Rattle.gptp_measuring.specs.Silence.{ActsInVain, HearsOld}
 use Rattle.gptp_kept.specs.Measured.{IsMeasured}

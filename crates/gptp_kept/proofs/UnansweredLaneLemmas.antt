@@ -13,8 +13,8 @@ use Rattle.gptp_system.specs.State.{SystemState, clock, own}
 use Rattle.gptp_acts.specs.Act.{Calls, Takes, all_timers, in_state}
 use Rattle.gptp_acts.specs.Sends.{entered, written, SendsAll, SendsOne}
 use Rattle.gptp_acts.specs.World.{Channel, Net, WorldState, queue, sender, with_queue}
-use Rattle.gptp_acts.proofs.ListLemmas.{same_there}
-use Rattle.gptp_acts.proofs.PlaceLemmas.{get-set_other, get-set_same, same_place}
+use Rattle.gptp_lists.proofs.MappedLemmas.{same_there}
+use Rattle.gptp_lists.proofs.PlaceLemmas.{get-set_other, get-set_same, same_place}
 use Rattle.gptp_acts.proofs.SteadyLemmas.{same_clock}
 use Rattle.gptp_acts.proofs.StayLemmas.{sender_same}
 

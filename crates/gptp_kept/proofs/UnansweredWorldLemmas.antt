@@ -3,10 +3,10 @@ use Rattle.std.proofs.Common.{◌≡◌, ◌+◌, sym, ap, subst, ◌∙◌}
 use Rattle.std.proofs.lemmas.Option.{same_Some}
 use Rattle.gptp_pdelay.specs.Peer.{is_capable}
 use Rattle.gptp_system.specs.declared.port.Port.{Port}
-use Rattle.gptp_system.specs.Intervals.{interval_of}
+use Rattle.gptp_setup.specs.Intervals.{interval_of}
 use Rattle.gptp_system.specs.State.{number}
 use Rattle.gptp_acts.specs.World.{sender}
-use Rattle.gptp_acts.proofs.ListLemmas.{same_there}
+use Rattle.gptp_lists.proofs.MappedLemmas.{same_there}
 use Rattle.gptp_kept.specs.UnansweredLaws.{ActsLeaveSilent, SilentPortsBecomeIncapable, AreSilentAtFirst, AreSilentLater}
 use Rattle.gptp_kept.specs.Unanswered.{IsSilent}
 use Rattle.gptp_kept.proofs.BeforeLemmas.{acts_before, none_anew, stood_earlier}

@@ -8,7 +8,7 @@ use Rattle.gptp_links.specs.declared.link.Direction.{Direction}
 use Rattle.gptp_links.specs.declared.link.Direction.TheVariants.{FromA, FromB}
 use Rattle.gptp_acts.specs.Sound.{IsSound}
 use Rattle.gptp_acts.specs.World.{Channel, WorldState, receiver, sender}
-use Rattle.gptp_acts.proofs.ListLemmas.{same_there}
+use Rattle.gptp_lists.proofs.MappedLemmas.{same_there}
 use Rattle.gptp_kept.specs.Legible.{IsLegible}
 use Rattle.gptp_kept.specs.View.{identity_of, lane_view}
 use Rattle.gptp_kept.proofs.SeenLaneLemmas.{lane_there, one_lane}

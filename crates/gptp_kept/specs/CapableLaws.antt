@@ -2,19 +2,20 @@
 use Rattle.std.specs.Prelude.{◌≤◌, ℕ, List, Option}
 use Rattle.gptp_links.specs.declared.bounds.Bounds.{Bounds}
 use Rattle.gptp_links.specs.Fate.{Draw}
-use Rattle.gptp_system.specs.declared.setup.Params.{Params}
-use Rattle.gptp_acts.specs.declared.change.Act.{Act}
-use Rattle.gptp_acts.specs.declared.change.Act.TheVariants.{Change as Changing}
-use Rattle.gptp_acts.specs.declared.change.Change.{Change}
-use Rattle.gptp_acts.specs.declared.change.Timed.{Timed}
+use Rattle.gptp_setup.specs.declared.setup.Params.{Params}
+use Rattle.gptp_plan.specs.declared.change.Act.{Act}
+use Rattle.gptp_plan.specs.declared.change.Act.TheVariants.{Change as Changing}
+use Rattle.gptp_plan.specs.declared.change.Change.{Change}
+use Rattle.gptp_plan.specs.declared.change.Timed.{Timed}
 use Rattle.gptp_acts.specs.declared.done.Done.{Done}
-use Rattle.gptp_acts.specs.Acts.{Acts, IsFitAct, at}
+use Rattle.gptp_acts.specs.Acts.{Acts, at}
+use Rattle.gptp_plan.specs.Allowed.{IsFitAct}
 use Rattle.gptp_acts.specs.Course.{Begun, WasDone}
 use Rattle.gptp_acts.specs.Initial.{initial}
-use Rattle.gptp_acts.specs.Network.{IsNetwork, NetworkState}
-use Rattle.gptp_acts.specs.Params.{KeepParams}
+use Rattle.gptp_plan.specs.Network.{IsNetwork, NetworkState}
+use Rattle.gptp_plan.specs.Params.{KeepParams}
 use Rattle.gptp_acts.specs.Pending.{NothingBefore}
-use Rattle.gptp_acts.specs.Prompt.{IsPromptAct}
+use Rattle.gptp_plan.specs.Prompt.{IsPromptAct}
 use Rattle.gptp_acts.specs.Sound.{IsSound}
 use Rattle.gptp_acts.specs.World.{WorldState}
 use Rattle.gptp_kept.specs.Measured.{IsMeasured}

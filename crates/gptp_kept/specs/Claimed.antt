@@ -1,6 +1,6 @@
 -- What every world of a network keeps.
-use Rattle.gptp_system.specs.declared.setup.Params.{Params}
-use Rattle.gptp_acts.specs.Params.{KeepParams}
+use Rattle.gptp_setup.specs.declared.setup.Params.{Params}
+use Rattle.gptp_plan.specs.Params.{KeepParams}
 use Rattle.gptp_acts.specs.World.{WorldState}
 use Rattle.gptp_kept.specs.Measured.{IsMeasured}
 use Rattle.gptp_kept.specs.Holds.{Holds, IsWorld}

@@ -1,18 +1,20 @@
 -- Laws on what every world of a network keeps.
 use Rattle.std.specs.Prelude.{◌≤◌, ℕ, Option}
 use Rattle.gptp_links.specs.declared.bounds.Bounds.{Bounds}
-use Rattle.gptp_system.specs.declared.setup.Params.{Params}
-use Rattle.gptp_acts.specs.declared.change.Timed.{Timed}
+use Rattle.gptp_setup.specs.declared.setup.Params.{Params}
+use Rattle.gptp_plan.specs.declared.change.Timed.{Timed}
 use Rattle.gptp_acts.specs.declared.done.Done.{Done}
-use Rattle.gptp_acts.specs.Acts.{IsFitAct, at}
+use Rattle.gptp_plan.specs.Allowed.{IsFitAct}
+use Rattle.gptp_acts.specs.Acts.{at}
 use Rattle.gptp_acts.specs.Course.{Begun, WasDone}
 use Rattle.gptp_acts.specs.Initial.{initial}
-use Rattle.gptp_acts.specs.Network.{IsNetwork, NetworkState}
+use Rattle.gptp_plan.specs.Network.{IsNetwork, NetworkState}
 use Rattle.gptp_acts.specs.Pending.{NothingBefore}
-use Rattle.gptp_acts.specs.SettlingTime.{settling_span}
+use Rattle.gptp_plan.specs.SettlingTime.{settling_span}
 use Rattle.gptp_acts.specs.Sound.{IsSound}
 use Rattle.gptp_acts.specs.World.{WorldState}
-use Rattle.gptp_acts.specs.Prompt.{IsPromptAct, IsPromptIn}
+use Rattle.gptp_plan.specs.Prompt.{IsPromptAct}
+use Rattle.gptp_acts.specs.Prompt.{IsPromptIn}
 use Rattle.gptp_kept.specs.LegibleLaws.{SetsAnOctet}
 use Rattle.gptp_kept.specs.Holds.{BecomeCapable}
 use Rattle.gptp_kept.specs.Settled.{Settled}

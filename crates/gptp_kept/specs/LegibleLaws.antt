@@ -1,14 +1,14 @@
 -- Laws: worlds are legible, and stay so.
 use Rattle.std.specs.Prelude.{◌<◌, ℕ, ⊤, List}
 use Rattle.gptp_links.specs.Fate.{Draw}
-use Rattle.gptp_acts.specs.declared.change.Act.{Act}
-use Rattle.gptp_acts.specs.declared.change.Act.TheVariants.{Change as Changing}
-use Rattle.gptp_acts.specs.declared.change.Change.TheVariants.{Priority1}
+use Rattle.gptp_plan.specs.declared.change.Act.{Act}
+use Rattle.gptp_plan.specs.declared.change.Act.TheVariants.{Change as Changing}
+use Rattle.gptp_plan.specs.declared.change.Change.TheVariants.{Priority1}
 use Rattle.gptp_acts.specs.declared.done.Done.{Done}
 use Rattle.gptp_acts.specs.Acts.{Acts, at}
 use Rattle.gptp_acts.specs.Changing.{StartsAll}
 use Rattle.gptp_acts.specs.Initial.{initial}
-use Rattle.gptp_acts.specs.Network.{IsNetwork, NetworkState}
+use Rattle.gptp_plan.specs.Network.{IsNetwork, NetworkState}
 use Rattle.gptp_acts.specs.Sound.{IsSound}
 use Rattle.gptp_acts.specs.World.{WorldState}
 use Rattle.gptp_kept.specs.Legible.{AreOctets, IsLegible, SayWhatFits}

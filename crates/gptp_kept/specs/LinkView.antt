@@ -21,9 +21,9 @@ use Rattle.gptp_pdelay.specs.Exchange.{carried_time}
 use Rattle.gptp_pdelay.specs.GoodLink.{IsGoodLink}
 use Rattle.gptp_pdelay.specs.Peer.{is_capable}
 use Rattle.gptp_system.specs.declared.port.Port.{Port}
-use Rattle.gptp_system.specs.declared.setup.Params.{Params}
-use Rattle.gptp_system.specs.declared.setup.Setup.{Setup}
-use Rattle.gptp_system.specs.Intervals.{interval_of}
+use Rattle.gptp_setup.specs.declared.setup.Params.{Params}
+use Rattle.gptp_setup.specs.declared.setup.Setup.{Setup}
+use Rattle.gptp_setup.specs.Intervals.{interval_of}
 use Rattle.gptp_system.specs.Measures.{Part, part_of}
 use Rattle.gptp_system.specs.State.{clock, number}
 use Rattle.gptp_acts.specs.declared.station.Station.{Station}

@@ -4,7 +4,7 @@ use Rattle.gptp_vector.specs.declared.port.PortId.{PortId}
 use Rattle.gptp_pdelay.specs.declared.progress.Progress.TheVariants.{Closed}
 use Rattle.gptp_pdelay.specs.Peer.{PeerState}
 use Rattle.gptp_system.specs.declared.port.Port.{Port}
-use Rattle.gptp_system.specs.declared.setup.Params.{Params}
+use Rattle.gptp_setup.specs.declared.setup.Params.{Params}
 use Rattle.gptp_system.specs.Measures.{Part, part_of}
 use Rattle.gptp_system.specs.State.{SystemState, own}
 use Rattle.gptp_acts.specs.declared.station.Station.{Station}

@@ -3,9 +3,9 @@ use Rattle.std.specs.Prelude.{◌≡◌, ◌+◌, ◌≤◌, ℕ, ⊤, List, Som
 use Rattle.gptp_lists.specs.Members.{In}
 use Rattle.gptp_links.specs.declared.link.Direction.{Direction}
 use Rattle.gptp_links.specs.Queue.{Frame}
-use Rattle.gptp_acts.specs.declared.change.Act.{Act}
-use Rattle.gptp_acts.specs.declared.change.Act.TheVariants.{Change as Changing}
-use Rattle.gptp_acts.specs.declared.change.Change.TheVariants.{LinkSet}
+use Rattle.gptp_plan.specs.declared.change.Act.{Act}
+use Rattle.gptp_plan.specs.declared.change.Act.TheVariants.{Change as Changing}
+use Rattle.gptp_plan.specs.declared.change.Change.TheVariants.{LinkSet}
 use Rattle.gptp_acts.specs.World.{Channel, WorldState, queue}
 
 -- no delay of a link is longer than this span, and what is in flight is due within it from now

@@ -5,14 +5,14 @@ use Rattle.gptp_links.specs.Fate.{Draw}
 use Rattle.gptp_pdelay.specs.Peer.{is_capable}
 use Rattle.gptp_system.specs.declared.answer.Answer.{Answer}
 use Rattle.gptp_system.specs.declared.port.Port.{Port}
-use Rattle.gptp_system.specs.declared.setup.Params.{Params}
-use Rattle.gptp_system.specs.declared.timer.Timer.{Timer}
-use Rattle.gptp_system.specs.declared.timer.Timer.TheVariants as timers
-use Rattle.gptp_system.specs.Intervals.{interval_of}
+use Rattle.gptp_setup.specs.declared.setup.Params.{Params}
+use Rattle.gptp_setup.specs.declared.timer.Timer.{Timer}
+use Rattle.gptp_setup.specs.declared.timer.Timer.TheVariants as timers
+use Rattle.gptp_setup.specs.Intervals.{interval_of}
 use Rattle.gptp_system.specs.State.{number}
-use Rattle.gptp_acts.specs.declared.change.Act.{Act}
-use Rattle.gptp_acts.specs.declared.change.Act.TheVariants.{Change as Changing}
-use Rattle.gptp_acts.specs.declared.change.Change.{Change}
+use Rattle.gptp_plan.specs.declared.change.Act.{Act}
+use Rattle.gptp_plan.specs.declared.change.Act.TheVariants.{Change as Changing}
+use Rattle.gptp_plan.specs.declared.change.Change.{Change}
 use Rattle.gptp_acts.specs.declared.done.Done.{Done}
 use Rattle.gptp_acts.specs.Act.{Delivers, Expires}
 use Rattle.gptp_acts.specs.Acts.{Acts, at as at_time}

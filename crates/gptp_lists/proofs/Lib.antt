@@ -1,1 +1,4 @@
 pub mod MemberLemmas
+pub mod PlaceLemmas
+pub mod MappedLemmas
+pub mod ReverseLemmas

@@ -1,19 +1,19 @@
 -- The events of a document.
 use Rattle.std.proofs.Common.{◌≡◌, ◌≤◌, ◌-◌, ◌++◌, ℕ, zero, suc, List, [], ◌∷◌, length, slice_get, Some, refl, sym, ap, subst, ◌∙◌, arith}
 use Rattle.std.specs.List.{AllByRecursion}
-use Rattle.gptp_system.specs.Intervals.{IsLog}
-use Rattle.gptp_system.proofs.SpanLemmas.{interval_most}
-use Rattle.gptp_acts.specs.Acts.{IsFitAct}
-use Rattle.gptp_acts.specs.Calm.{last_change}
+use Rattle.gptp_setup.specs.Intervals.{IsLog}
+use Rattle.gptp_setup.proofs.IntervalLemmas.{interval_most}
+use Rattle.gptp_plan.specs.Allowed.{IsFitAct}
+use Rattle.gptp_plan.specs.Calm.{last_change}
 use Rattle.gptp_network.specs.Events.{timed, AreInOrder, AreEvents, IsEvent, IsChange}
 use Rattle.gptp_network.specs.declared.events.Event.{Event}
-use Rattle.gptp_acts.specs.Network.{NetworkState}
-use Rattle.gptp_acts.specs.Playing.{AreAllowed, IsAllowed}
-use Rattle.gptp_acts.specs.Prompt.{ArePromptActs, IsPromptAct}
-use Rattle.gptp_acts.specs.declared.change.Act.TheVariants as acts
-use Rattle.gptp_acts.specs.declared.change.Change.{Change}
-use Rattle.gptp_acts.specs.declared.change.Change.TheVariants as changes
-use Rattle.gptp_acts.specs.declared.change.Timed.{Timed}
+use Rattle.gptp_plan.specs.Network.{NetworkState}
+use Rattle.gptp_plan.specs.Allowed.{AreAllowed, IsAllowed}
+use Rattle.gptp_plan.specs.Prompt.{ArePromptActs, IsPromptAct}
+use Rattle.gptp_plan.specs.declared.change.Act.TheVariants as acts
+use Rattle.gptp_plan.specs.declared.change.Change.{Change}
+use Rattle.gptp_plan.specs.declared.change.Change.TheVariants as changes
+use Rattle.gptp_plan.specs.declared.change.Timed.{Timed}
 
 before_last : (n : ℕ) → suc n - 1 ≡ n
 before_last n = omega arith

@@ -16,11 +16,11 @@ use Rattle.gptp_graph.specs.Snapshot.{System, PortIdentity, Link}
 use Rattle.gptp_lists.proofs.MemberLemmas.{slice_get-In, from_map}
 use Rattle.gptp_roles.specs.Selection.{clock_of}
 use Rattle.gptp_vector.specs.declared.port.PortId.{PortId}
-use Rattle.gptp_acts.specs.Change.{joined_after, live_after, system_after}
-use Rattle.gptp_acts.specs.Network.{NetworkState, IsNetwork}
-use Rattle.gptp_acts.specs.declared.change.Timed.{Timed}
-use Rattle.gptp_acts.specs.declared.network.Member.{Member}
-use Rattle.gptp_acts.specs.declared.network.Wire.{Wire}
+use Rattle.gptp_plan.specs.Change.{joined_after, live_after, system_after}
+use Rattle.gptp_plan.specs.Network.{NetworkState, IsNetwork}
+use Rattle.gptp_plan.specs.declared.change.Timed.{Timed}
+use Rattle.gptp_plan.specs.declared.network.Member.{Member}
+use Rattle.gptp_plan.specs.declared.network.Wire.{Wire}
 use Rattle.gptp_network.specs.Events.{AreInOrder}
 use Rattle.gptp_network.specs.Snapshot.{StandsAfter, has_clock, joins_two, link_of, live_systems, system_of, used_links}
 use Rattle.gptp_network.specs.SnapshotTables.{AreEnds, AreLive, AreSystems, AreTables, HasClock, HaveOctets, RisesByPort, both_ends, seen, seen_links, seen_systems}

@@ -2,16 +2,16 @@
 use Rattle.std.specs.Prelude.{◌≡◌, ◌≤◌, ⊤, true, ℕ, codes, not, nat_lt, if◌then◌else◌, bytes_eq, List, [], ◌∷◌, ◌++◌, Option, None, Result, Ok, Err}
 use Rattle.std.specs.List.{AllByRecursion}
 use Rattle.toml.specs.Data.{Data, Members, as_table}
-use Rattle.gptp_system.specs.Intervals.{interval_of}
-use Rattle.gptp_acts.specs.Calm.{last_change}
-use Rattle.gptp_acts.specs.Faults.{first_fault}
-use Rattle.gptp_acts.specs.Network.{NetworkState, has_clock, is_taken}
-use Rattle.gptp_acts.specs.declared.change.Act.TheVariants as acts
-use Rattle.gptp_acts.specs.declared.change.Change.{Change}
-use Rattle.gptp_acts.specs.declared.change.Change.TheVariants as changes
-use Rattle.gptp_acts.specs.declared.change.Timed.{Timed}
-use Rattle.gptp_acts.specs.declared.fault.NetworkFault.{NetworkFault}
-use Rattle.gptp_acts.specs.declared.fault.NetworkFault.TheVariants as networks
+use Rattle.gptp_setup.specs.Intervals.{interval_of}
+use Rattle.gptp_plan.specs.Calm.{last_change}
+use Rattle.gptp_plan.specs.Faults.{first_fault}
+use Rattle.gptp_plan.specs.Network.{NetworkState, has_clock, is_taken}
+use Rattle.gptp_plan.specs.declared.change.Act.TheVariants as acts
+use Rattle.gptp_plan.specs.declared.change.Change.{Change}
+use Rattle.gptp_plan.specs.declared.change.Change.TheVariants as changes
+use Rattle.gptp_plan.specs.declared.change.Timed.{Timed}
+use Rattle.gptp_plan.specs.declared.fault.NetworkFault.{NetworkFault}
+use Rattle.gptp_plan.specs.declared.fault.NetworkFault.TheVariants as networks
 use Rattle.gptp_network.specs.Faults.{◌>>=◌, tested}
 use Rattle.gptp_network.specs.Links.{port_id}
 use Rattle.gptp_network.specs.Members.{limited, each_of}

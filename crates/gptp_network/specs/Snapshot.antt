@@ -7,11 +7,11 @@ use Rattle.gptp_graph.specs.Order.{IsRising}
 use Rattle.gptp_graph.specs.Snapshot.{System, PortIdentity, Link, Snapshot, clocks}
 use Rattle.gptp_roles.specs.Selection.{clock_of}
 use Rattle.gptp_vector.specs.declared.port.PortId.{PortId}
-use Rattle.gptp_acts.specs.Change.{joined_after, live_after}
-use Rattle.gptp_acts.specs.Network.{NetworkState}
-use Rattle.gptp_acts.specs.declared.change.Timed.{Timed}
-use Rattle.gptp_acts.specs.declared.network.Member.{Member}
-use Rattle.gptp_acts.specs.declared.network.Wire.{Wire}
+use Rattle.gptp_plan.specs.Change.{joined_after, live_after}
+use Rattle.gptp_plan.specs.Network.{NetworkState}
+use Rattle.gptp_plan.specs.declared.change.Timed.{Timed}
+use Rattle.gptp_plan.specs.declared.network.Member.{Member}
+use Rattle.gptp_plan.specs.declared.network.Wire.{Wire}
 use Rattle.gptp_network.specs.Document.{DocumentState}
 
 -- the events up to a time, in their order

@@ -2,10 +2,10 @@
 
 ghost use Rattle.std.specs.Prelude.{◌≡◌, ◌≤◌, ◌⊎◌, ◌↔◌, IsTrue, Ok, IfOk, IfErr};
 ghost use Rattle.toml.specs.View.{table_view};
-ghost use Rattle.gptp_acts.specs.Calm.{last_change, IsCalm};
-ghost use Rattle.gptp_acts.specs.Playing.{AreAllowed};
-ghost use Rattle.gptp_acts.specs.Prompt.{ArePromptActs};
-ghost use Rattle.gptp_acts.specs.SettlingTime.{settles};
+ghost use Rattle.gptp_plan.specs.Calm.{last_change, IsCalm};
+ghost use Rattle.gptp_plan.specs.Allowed.{AreAllowed};
+ghost use Rattle.gptp_plan.specs.Prompt.{ArePromptActs};
+ghost use Rattle.gptp_plan.specs.SettlingTime.{settles};
 ghost use Rattle.gptp_network.specs.Events.{AreEvents};
 ghost use Rattle.gptp_network.specs.Faults.{Refuses};
 ghost use Rattle.gptp_network.specs.Snapshot.{IsSnapshot};
@@ -18,7 +18,7 @@ use crate::params::network_of;
 use crate::snapshot::Snapshot;
 use crate::systems::add_systems;
 use crate::values::natural;
-use gptp_acts::{Network, Timed};
+use gptp_plan::{Network, Timed};
 use std::alloc::{AllocError, Global};
 use std::marker::Model;
 use toml::Table;

@@ -2,7 +2,7 @@
 
 ghost use Rattle.std.specs.Prelude.{◌≡◌, ◌≤◌, ◌++◌, ◌∷◌, [], Ok, Some, None, OnOk, IfOk, IfErr};
 ghost use Rattle.toml.specs.View.{view, items_view, table_view};
-ghost use Rattle.gptp_acts.specs.Calm.{last_change};
+ghost use Rattle.gptp_plan.specs.Calm.{last_change};
 ghost use Rattle.gptp_network.specs.Faults.{Refuses};
 ghost use Rattle.gptp_network.specs.Members.{each_of};
 ghost use Rattle.gptp_network.specs.Values.{natural};
@@ -13,7 +13,7 @@ use crate::fault::DocumentFault;
 use crate::links::{delay, port_number};
 use crate::members::limited;
 use crate::values::{array_at, clock, natural, text};
-use gptp_acts::{Act, Change, Network, NetworkFault, Timed};
+use gptp_plan::{Act, Change, Network, NetworkFault, Timed};
 use gptp_vector::{ClockId, PortId};
 use std::alloc::Global;
 use toml::{Table, Value};

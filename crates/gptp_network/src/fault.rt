@@ -1,6 +1,6 @@
 //! Why a document is refused.
 
-use gptp_acts::NetworkFault;
+use gptp_plan::NetworkFault;
 use std::alloc::AllocFailed;
 use std::error::Error;
 use std::fmt;

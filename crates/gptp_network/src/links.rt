@@ -10,7 +10,7 @@ ghost use Rattle.gptp_network.specs.Links.{link_of, with_link_of, with_links};
 use crate::fault::DocumentFault;
 use crate::members::limited;
 use crate::values::{array_at, clock, flag, natural};
-use gptp_acts::Network;
+use gptp_plan::Network;
 use gptp_vector::PortId;
 use toml::{Table, Value};
 

@@ -8,7 +8,7 @@ ghost use Rattle.gptp_network.specs.Params.{params_of, network_of, network_of_se
 
 use crate::fault::DocumentFault;
 use crate::values::{natural, table_at, whole};
-use gptp_acts::{Network, Params};
+use gptp_plan::{Network, Params};
 use std::alloc::Global;
 use toml::Table;
 

@@ -10,7 +10,7 @@ ghost use Rattle.gptp_network.specs.Systems.{identity_of, system_of, with_system
 use crate::fault::DocumentFault;
 use crate::members::{limited, needed};
 use crate::values::{array_at, clock, natural, whole};
-use gptp_acts::Network;
+use gptp_plan::Network;
 use gptp_vector::{ClockId, Identity};
 use toml::{Table, Value};
 

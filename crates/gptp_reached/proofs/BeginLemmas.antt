@@ -4,17 +4,17 @@ use Rattle.std.specs.Prelude.{Bool, true}
 use Rattle.std.specs.List.{range_with_len}
 use Rattle.gptp_links.specs.declared.bounds.Bounds.{Bounds}
 use Rattle.gptp_links.specs.Fate.{Draw}
-use Rattle.gptp_system.specs.declared.setup.Setup.{Setup}
+use Rattle.gptp_setup.specs.declared.setup.Setup.{Setup}
 use Rattle.gptp_system.specs.Input.{PortUp}
 use Rattle.gptp_acts.specs.declared.station.Station.{Station}
 use Rattle.gptp_acts.specs.Act.{all_timers}
 use Rattle.gptp_acts.specs.Changing.{CallsAll, Starts, StartsAll, fresh, up_ports, with_station}
 use Rattle.gptp_acts.specs.Course.{Begun}
 use Rattle.gptp_acts.specs.Initial.{channel_from, initial, station_of, stations_of}
-use Rattle.gptp_acts.specs.Network.{NetworkState}
+use Rattle.gptp_plan.specs.Network.{NetworkState}
 use Rattle.gptp_acts.specs.World.{WorldState}
-use Rattle.gptp_acts.proofs.ListLemmas.{mapped_there, same_there}
-use Rattle.gptp_acts.proofs.PlaceLemmas.{map-set}
+use Rattle.gptp_lists.proofs.MappedLemmas.{mapped_there, same_there}
+use Rattle.gptp_lists.proofs.PlaceLemmas.{map-set}
 use Rattle.gptp_reached.specs.Reached.{Shape, StandsAs, shape, wire_of}
 use Rattle.gptp_reached.proofs.KeptLemmas.{KeepLinks, Keeps, calls_keep, keeps_on, same_keeps}
 

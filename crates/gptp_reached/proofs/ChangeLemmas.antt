@@ -9,23 +9,23 @@ use Rattle.gptp_links.specs.Fate.{Draw}
 use Rattle.gptp_roles.specs.Selection.{clock_of}
 use Rattle.gptp_system.specs.Input.{PortDown, PortUp}
 use Rattle.gptp_system.specs.State.{clock}
-use Rattle.gptp_acts.specs.declared.change.Act.TheVariants.{Change as Changing}
-use Rattle.gptp_acts.specs.declared.change.Change.{Change}
-use Rattle.gptp_acts.specs.declared.change.Change.TheVariants.{LinkDown, LinkUp, LinkSet, Fail, Recover, Priority1}
-use Rattle.gptp_acts.specs.declared.change.Timed.{Timed}
+use Rattle.gptp_plan.specs.declared.change.Act.TheVariants.{Change as Changing}
+use Rattle.gptp_plan.specs.declared.change.Change.{Change}
+use Rattle.gptp_plan.specs.declared.change.Change.TheVariants.{LinkDown, LinkUp, LinkSet, Fail, Recover, Priority1}
+use Rattle.gptp_plan.specs.declared.change.Timed.{Timed}
 use Rattle.gptp_acts.specs.declared.done.Done.{Done}
-use Rattle.gptp_acts.specs.declared.network.Member.{Member}
-use Rattle.gptp_acts.specs.declared.network.Wire.{Wire}
+use Rattle.gptp_plan.specs.declared.network.Member.{Member}
+use Rattle.gptp_plan.specs.declared.network.Wire.{Wire}
 use Rattle.gptp_acts.specs.declared.station.Station.{Station}
 use Rattle.gptp_acts.specs.Acts.{Acts, Changes, at, set_to}
-use Rattle.gptp_acts.specs.Change.{is_at, link_acted, link_after, link_changed, system_acted, system_after, system_changed, standing, with_bounds, with_up}
+use Rattle.gptp_plan.specs.Change.{is_at, link_acted, link_after, link_changed, system_acted, system_after, system_changed, standing, with_bounds, with_up}
 use Rattle.gptp_acts.specs.Changing.{ComesUpIf, GoesDownIf, IsChannel, IsStation, brought_up, lost, taken_down, with_setup}
 use Rattle.gptp_acts.specs.Initial.{setup_of}
-use Rattle.gptp_acts.specs.Network.{NetworkState, same_port}
+use Rattle.gptp_plan.specs.Network.{NetworkState, same_port}
 use Rattle.gptp_acts.specs.Sound.{IsSound}
 use Rattle.gptp_acts.specs.World.{Channel, WorldState, port_id, sender}
-use Rattle.gptp_acts.proofs.ListLemmas.{alike}
-use Rattle.gptp_acts.proofs.PlaceLemmas.{map-set, map-set_same}
+use Rattle.gptp_lists.proofs.MappedLemmas.{alike}
+use Rattle.gptp_lists.proofs.PlaceLemmas.{map-set, map-set_same}
 use Rattle.gptp_network.proofs.SnapshotLemmas.{clock_after}
 use Rattle.gptp_reached.specs.Reached.{Shape, StandsAs, shape, shape_after, wire_of}
 use Rattle.gptp_reached.proofs.KeptLemmas.{tells_keep}

@@ -1,10 +1,10 @@
 -- What one event more makes of systems and links, and lists of which one member becomes another.
 use Rattle.std.proofs.Common.{◌≡◌, ◌≢◌, ℕ, zero, suc, List, [], ◌∷◌, ◌++◌, map, Some, slice_get, slice_set, refl, sym, ap, ◌∙◌, arith}
 use Rattle.std.proofs.lemmas.Option.{none-some, same_Some}
-use Rattle.gptp_acts.specs.declared.change.Timed.{Timed}
-use Rattle.gptp_acts.specs.declared.network.Wire.{Wire}
-use Rattle.gptp_acts.specs.Calm.{last_change}
-use Rattle.gptp_acts.specs.Change.{link_acted, link_after, system_acted, system_stands}
+use Rattle.gptp_plan.specs.declared.change.Timed.{Timed}
+use Rattle.gptp_plan.specs.declared.network.Wire.{Wire}
+use Rattle.gptp_plan.specs.Calm.{last_change}
+use Rattle.gptp_plan.specs.Change.{link_acted, link_after, system_acted, system_stands}
 
 -- ---- one event more
 

@@ -4,14 +4,14 @@ use Rattle.std.specs.Prelude.{if◌then◌else◌, bytes_eq, nat_lt}
 use Rattle.std.specs.List.{AllByRecursion}
 use Rattle.std.proofs.lemmas.Bool.{and_parts, leb-true}
 use Rattle.toml.specs.Data.{Data, Items, Members, as_integer, as_table, get_member, item, no_items}
-use Rattle.gptp_acts.specs.declared.change.Act.TheVariants.{Change as Changing}
-use Rattle.gptp_acts.specs.declared.change.Change.{Change}
-use Rattle.gptp_acts.specs.declared.change.Change.TheVariants.{LinkDown, LinkUp, LinkSet, Fail, Recover, Priority1}
-use Rattle.gptp_acts.specs.declared.change.Timed.{Timed}
-use Rattle.gptp_acts.specs.declared.fault.NetworkFault.{NetworkFault}
-use Rattle.gptp_acts.specs.Calm.{last_change}
-use Rattle.gptp_acts.specs.Network.{IsNetwork, NetworkState}
-use Rattle.gptp_acts.specs.Params.{is_between}
+use Rattle.gptp_plan.specs.declared.change.Act.TheVariants.{Change as Changing}
+use Rattle.gptp_plan.specs.declared.change.Change.{Change}
+use Rattle.gptp_plan.specs.declared.change.Change.TheVariants.{LinkDown, LinkUp, LinkSet, Fail, Recover, Priority1}
+use Rattle.gptp_plan.specs.declared.change.Timed.{Timed}
+use Rattle.gptp_plan.specs.declared.fault.NetworkFault.{NetworkFault}
+use Rattle.gptp_plan.specs.Calm.{last_change}
+use Rattle.gptp_plan.specs.Network.{IsNetwork, NetworkState}
+use Rattle.gptp_plan.specs.Params.{is_between}
 use Rattle.gptp_network.specs.declared.fault.DocumentFault.{DocumentFault}
 use Rattle.gptp_network.specs.declared.fault.DocumentFault.TheVariants.{EventOrder, MissingKey, OutOfRange}
 use Rattle.gptp_network.specs.Document.{DocumentState, Means, document_of, whole_network_of}
@@ -19,7 +19,7 @@ use Rattle.gptp_network.specs.Events.{AreEvents, change_fault, change_of, event_
 use Rattle.gptp_network.specs.Faults.{◌>>=◌, tested}
 use Rattle.gptp_network.specs.Members.{each_of, limited}
 use Rattle.gptp_network.specs.Values.{array_at, clock, key_in, kind_of, natural, natural_of, text}
-use Rattle.gptp_certificate.proofs.SpellingLemmas.{same_ok}
+use Rattle.gptp_certificate_text.proofs.SpellingLemmas.{same_ok}
 use Rattle.gptp_kept.specs.LegibleLaws.{SetsAnOctet}
 use Rattle.gptp_reached.specs.PlayedLaws.{IsPlayable}
 use Rattle.gptp_reached.proofs.ClaimedLemmas.{each_there}

@@ -1,9 +1,9 @@
 -- A calm document is at rest from the time on at which it has settled: by then all its events are made.
 use Rattle.std.proofs.Common.{◌≡◌, ◌≤◌, ℕ, List, [], ◌∷◌, refl, ap, sym, subst, arith}
 use Rattle.std.proofs.lemmas.Bool.{le-leb}
-use Rattle.gptp_acts.specs.Calm.{IsCalm, last_change}
-use Rattle.gptp_acts.specs.SettlingTime.{settles}
-use Rattle.gptp_acts.specs.declared.change.Timed.{Timed}
+use Rattle.gptp_plan.specs.Calm.{IsCalm, last_change}
+use Rattle.gptp_plan.specs.SettlingTime.{settles}
+use Rattle.gptp_plan.specs.declared.change.Timed.{Timed}
 use Rattle.gptp_network.specs.Document.{DocumentState}
 use Rattle.gptp_network.specs.Events.{AreEvents, AreInOrder}
 use Rattle.gptp_network.specs.Snapshot.{events_by}

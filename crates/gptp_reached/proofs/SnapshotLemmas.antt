@@ -7,17 +7,17 @@ use Rattle.std.proofs.lemmas.List.Sorted.{list_any-IsPermutation}
 use Rattle.gptp_graph.specs.Snapshot.{Link, Snapshot, System}
 use Rattle.gptp_vector.specs.declared.port.PortId.{PortId}
 use Rattle.gptp_roles.specs.Selection.{clock_of}
-use Rattle.gptp_system.specs.declared.setup.Params.{Params}
-use Rattle.gptp_acts.specs.declared.change.Act.{Act}
-use Rattle.gptp_acts.specs.declared.change.Act.TheVariants.{Deliver, Expire, Change as Changing}
-use Rattle.gptp_acts.specs.declared.change.Change.{Change}
-use Rattle.gptp_acts.specs.declared.change.Change.TheVariants.{LinkDown, LinkUp, LinkSet, Fail, Recover, Priority1}
-use Rattle.gptp_acts.specs.declared.change.Timed.{Timed}
-use Rattle.gptp_acts.specs.declared.network.Member.{Member}
-use Rattle.gptp_acts.specs.declared.network.Wire.{Wire}
+use Rattle.gptp_setup.specs.declared.setup.Params.{Params}
+use Rattle.gptp_plan.specs.declared.change.Act.{Act}
+use Rattle.gptp_plan.specs.declared.change.Act.TheVariants.{Deliver, Expire, Change as Changing}
+use Rattle.gptp_plan.specs.declared.change.Change.{Change}
+use Rattle.gptp_plan.specs.declared.change.Change.TheVariants.{LinkDown, LinkUp, LinkSet, Fail, Recover, Priority1}
+use Rattle.gptp_plan.specs.declared.change.Timed.{Timed}
+use Rattle.gptp_plan.specs.declared.network.Member.{Member}
+use Rattle.gptp_plan.specs.declared.network.Wire.{Wire}
 use Rattle.gptp_acts.specs.declared.station.Station.{Station}
-use Rattle.gptp_acts.specs.Change.{is_at, joined_after, link_acted, link_after, link_changed, live_after, system_after, with_bounds, with_up}
-use Rattle.gptp_acts.specs.Network.{NetworkState}
+use Rattle.gptp_plan.specs.Change.{is_at, joined_after, link_acted, link_after, link_changed, live_after, system_after, with_bounds, with_up}
+use Rattle.gptp_plan.specs.Network.{NetworkState}
 use Rattle.gptp_acts.specs.Sound.{IsSound}
 use Rattle.gptp_acts.specs.World.{Channel, WorldState}
 use Rattle.gptp_network.specs.Snapshot as network

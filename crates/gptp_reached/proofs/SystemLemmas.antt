@@ -8,8 +8,8 @@ use Rattle.gptp_acts.specs.declared.station.Station.{Station}
 use Rattle.gptp_acts.specs.Act.{in_state}
 use Rattle.gptp_acts.specs.Changing.{CallsIfLive, FailsIf, RecoversIf, with_setup, with_station}
 use Rattle.gptp_acts.specs.World.{WorldState}
-use Rattle.gptp_acts.proofs.ListLemmas.{mapped_there, same_there}
-use Rattle.gptp_acts.proofs.PlaceLemmas.{get-set_same, map-set}
+use Rattle.gptp_lists.proofs.MappedLemmas.{mapped_there, same_there}
+use Rattle.gptp_lists.proofs.PlaceLemmas.{get-set_same, map-set}
 use Rattle.gptp_reached.specs.Reached.{Shape, shape}
 use Rattle.gptp_reached.proofs.KeptLemmas.{calls_kept}
 use Rattle.gptp_reached.proofs.BeginLemmas.{SystemBecomes, of_setup, starts_becomes}

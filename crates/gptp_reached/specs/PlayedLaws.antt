@@ -2,14 +2,14 @@
 use Rattle.std.specs.Prelude.{◌≡◌, ◌≤◌, ℕ, List, Option, Some, slice_get}
 use Rattle.std.specs.List.{AllByRecursion}
 use Rattle.gptp_links.specs.declared.bounds.Bounds.{Bounds}
-use Rattle.gptp_acts.specs.declared.change.Act.TheVariants.{Change as Changing}
-use Rattle.gptp_acts.specs.declared.change.Change.{Change}
-use Rattle.gptp_acts.specs.declared.change.Timed.{Timed}
-use Rattle.gptp_acts.specs.Acts.{IsFitAct}
+use Rattle.gptp_plan.specs.declared.change.Act.TheVariants.{Change as Changing}
+use Rattle.gptp_plan.specs.declared.change.Change.{Change}
+use Rattle.gptp_plan.specs.declared.change.Timed.{Timed}
+use Rattle.gptp_plan.specs.Allowed.{IsFitAct}
 use Rattle.gptp_acts.specs.Advancing.{Told}
-use Rattle.gptp_acts.specs.Calm.{IsCalm}
-use Rattle.gptp_acts.specs.Network.{IsNetwork}
-use Rattle.gptp_acts.specs.SettlingTime.{settles, settling_span}
+use Rattle.gptp_plan.specs.Calm.{IsCalm}
+use Rattle.gptp_plan.specs.Network.{IsNetwork}
+use Rattle.gptp_plan.specs.SettlingTime.{settles, settling_span}
 use Rattle.gptp_acts.specs.Sound.{IsSound}
 use Rattle.gptp_acts.specs.World.{WorldState}
 use Rattle.gptp_network.specs.Document.{DocumentState, Means}

@@ -2,10 +2,10 @@
 use Rattle.std.specs.Prelude.{◌≡◌, List, length}
 use Rattle.std.specs.List.Sorted.{IsPermutation}
 use Rattle.gptp_graph.specs.Snapshot.{Snapshot}
-use Rattle.gptp_acts.specs.declared.change.Timed.{Timed}
-use Rattle.gptp_acts.specs.Calm.{IsCalm}
-use Rattle.gptp_acts.specs.Network.{NetworkState}
-use Rattle.gptp_acts.specs.SettlingTime.{live_systems}
+use Rattle.gptp_plan.specs.declared.change.Timed.{Timed}
+use Rattle.gptp_plan.specs.Calm.{IsCalm}
+use Rattle.gptp_plan.specs.Network.{NetworkState}
+use Rattle.gptp_plan.specs.SettlingTime.{live_systems}
 use Rattle.gptp_acts.specs.Sound.{IsSound}
 use Rattle.gptp_acts.specs.World.{WorldState}
 use Rattle.gptp_network.specs.Snapshot.{StandsAfter}

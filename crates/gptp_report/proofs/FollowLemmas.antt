@@ -11,7 +11,7 @@ use Rattle.gptp_system.specs.declared.answer.Answer.{Answer}
 use Rattle.gptp_report.specs.declared.frame_line.FrameType.{FrameType}
 use Rattle.gptp_report.specs.FrameLine.{frame_line, IsOfType}
 use Rattle.gptp_report.specs.Following.{Follows, Showed}
-use Rattle.gptp_report.specs.Lines.{text_of}
+use Rattle.gptp_spelling.specs.Lines.{text_of}
 use Rattle.gptp_report.specs.Run.{ShowsDone, ShowsFrames}
 
 -- ---- texts

@@ -1,4 +1,3 @@
-pub mod DigitsLemmas
 pub mod LineLemmas
 pub mod FollowLemmas
 pub mod ReportLemmas

@@ -4,7 +4,7 @@ use Rattle.std.proofs.Common.{append_assoc, append-nil}
 use Rattle.std.specs.List.{range_with_len}
 use Rattle.std.proofs.lemmas.Grind.{flat_map-append}
 use Rattle.std.proofs.lemmas.List.FromFn.{map-range_with_len_more}
-use Rattle.gptp_report.specs.Lines.{text_of}
+use Rattle.gptp_spelling.specs.Lines.{text_of}
 
 -- a line behind a text is the last of its lines
 one_line : (lines : List (List ℕ)) (line : List ℕ) → text_of lines ++ (line ++ 10 ∷ []) ≡ text_of (lines ++ line ∷ [])

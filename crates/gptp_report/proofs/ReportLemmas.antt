@@ -7,7 +7,7 @@ use Rattle.gptp_acts.proofs.RisingLemmas.{rising_clocks-count}
 use Rattle.gptp_system.specs.State.{clock}
 use Rattle.gptp_acts.specs.declared.station.Station.{Station}
 use Rattle.gptp_acts.specs.World.{WorldState}
-use Rattle.gptp_report.specs.Lines.{text_of}
+use Rattle.gptp_spelling.specs.Lines.{text_of}
 use Rattle.gptp_report.specs.Report.{ShowsSystems, WritesSystem}
 use Rattle.gptp_report.specs.SystemLines.{failed_line, system_lines}
 use Rattle.gptp_report.proofs.FollowLemmas.{written_more}

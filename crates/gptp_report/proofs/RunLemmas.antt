@@ -1,7 +1,7 @@
 -- Events, one after another.
 use Rattle.std.proofs.Common.{◌≡◌, ℕ, nat_le, Bool, true, false, List, [], ◌∷◌, ◌++◌, Option, refl, sym, subst, append_assoc, append-nil}
 use Rattle.gptp_links.specs.declared.bounds.Bounds.{Bounds}
-use Rattle.gptp_acts.specs.declared.change.Timed.{Timed}
+use Rattle.gptp_plan.specs.declared.change.Timed.{Timed}
 use Rattle.gptp_acts.specs.Advancing.{Told}
 use Rattle.gptp_acts.specs.Course.{Begun}
 use Rattle.gptp_acts.specs.Sound.{HaveTheirSetups}
@@ -9,7 +9,7 @@ use Rattle.gptp_acts.specs.World.{WorldState}
 use Rattle.gptp_acts.proofs.StayLemmas.{Stays, advanced_stays, done_stays, same_stays, stays_on, stays_setups}
 use Rattle.gptp_network.specs.Document.{DocumentState}
 use Rattle.gptp_report.specs.Following.{ChangedIf, Showed}
-use Rattle.gptp_report.specs.Lines.{text_of}
+use Rattle.gptp_spelling.specs.Lines.{text_of}
 use Rattle.gptp_network.specs.Snapshot.{events_by}
 use Rattle.gptp_report.specs.Run.{Changed, Goes, LeadsTo, ShowsIf}
 use Rattle.gptp_report.proofs.FollowLemmas.{shows-append, written_more}

@@ -1,10 +1,10 @@
 -- A world that goes on, and the lines that are written meanwhile.
 use Rattle.std.specs.Prelude.{◌≡◌, ℕ, Bool, true, false, List, ◌++◌, [], Option}
 use Rattle.gptp_links.specs.declared.bounds.Bounds.{Bounds}
-use Rattle.gptp_acts.specs.declared.change.Timed.{Timed}
+use Rattle.gptp_plan.specs.declared.change.Timed.{Timed}
 use Rattle.gptp_acts.specs.Advancing.{Advances, Told}
 use Rattle.gptp_acts.specs.World.{WorldState}
-use Rattle.gptp_report.specs.Lines.{text_of}
+use Rattle.gptp_spelling.specs.Lines.{text_of}
 use Rattle.gptp_report.specs.Run.{Changed, ShowsFrames, ShowsIf}
 
 -- Acts were done, each the next that was pending then, none later than a time, and the lines of their frames were

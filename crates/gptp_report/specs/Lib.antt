@@ -1,5 +1,3 @@
-pub mod Digits
-pub mod Lines
 pub mod FrameLine
 pub mod SystemLines
 pub mod Report

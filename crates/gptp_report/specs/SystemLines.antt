@@ -3,14 +3,13 @@ use Rattle.std.specs.Prelude.{ℕ, ◌/◌, ◌^◌, nat_lt, Bool, List, [], ◌
 use Rattle.std.specs.Fmt.{decimal, signed_decimal}
 use Rattle.std.specs.List.{range_with_len}
 use Rattle.std.specs.Option.{option_and_then}
-use Rattle.gptp_roles.specs.declared.role.Role.{Role}
-use Rattle.gptp_roles.specs.declared.role.Role.TheVariants.{Disabled, Master, Slave, Passive}
 use Rattle.gptp_system.specs.declared.port.Port.{Port}
 use Rattle.gptp_system.specs.Start.{role_at}
 use Rattle.gptp_system.specs.State.{SystemState, clock, is_capable_at, number}
 use Rattle.gptp_pdelay.specs.Peer.{delay_of}
 use Rattle.gptp_acts.specs.declared.station.Station.{Station}
-use Rattle.gptp_report.specs.Digits.{clock_text, identity_text, or_none, yes_or_no}
+use Rattle.gptp_spelling.specs.Roles.{role_text}
+use Rattle.gptp_spelling.specs.Digits.{clock_text, identity_text, or_none, yes_or_no}
 
 -- A grandmaster is there where the root's priority1 is below 255 (IEEE 802.1AS-2020, 10.2.4.13).
 abbrev pub is_grandmaster : ℕ → Bool
@@ -25,12 +24,6 @@ live_line name s =
     ++ codes " gm " ++ yes_or_no (is_grandmaster s.root)
     ++ codes " slave " ++ or_none decimal s.slave
     ++ codes " offset " ++ or_none signed_decimal s.offset
-
-abbrev pub role_text : Role → List ℕ
-role_text Disabled = codes "disabled"
-role_text Master = codes "master"
-role_text Slave = codes "slave"
-role_text Passive = codes "passive"
 
 -- a port: its role, whether it is asCapable, and its meanLinkDelay
 abbrev pub port_line : ℕ → SystemState → ℕ → List ℕ

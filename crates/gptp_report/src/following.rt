@@ -1,16 +1,16 @@
 //! Worlds that go on, with a line for each frame.
 
 ghost use Rattle.std.specs.Prelude.{◌≡◌, ◌++◌, ◌≤◌, ◌<◌, ◌+◌, ℕ, List, true, IfNone, IfOk, IfSome, OnOk, string_bytes};
-ghost use Rattle.gptp_acts.specs.declared.change.Timed.{Timed};
+ghost use Rattle.gptp_plan.specs.declared.change.Timed.{Timed};
 ghost use Rattle.gptp_acts.specs.Advancing.{Advanced, Told};
 ghost use Rattle.gptp_acts.specs.Ahead.{due_by};
 ghost use Rattle.gptp_acts.specs.Pending.{NothingBefore};
-ghost use Rattle.gptp_acts.specs.Playing.{IsAllowed};
+ghost use Rattle.gptp_plan.specs.Allowed.{IsAllowed};
 ghost use Rattle.gptp_acts.specs.Prompt.{IsPromptIn};
 ghost use Rattle.gptp_acts.specs.Course.{WasDone};
 ghost use Rattle.gptp_acts.specs.Views.{IsNextAct};
 ghost use Rattle.gptp_report.specs.Following.{Follows, Showed};
-ghost use Rattle.gptp_report.specs.Lines.{text_of};
+ghost use Rattle.gptp_spelling.specs.Lines.{text_of};
 ghost use Rattle.gptp_report.specs.Run.{ShowsDone};
 
 use crate::frame_line::write_frame_line;

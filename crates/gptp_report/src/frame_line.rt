@@ -3,8 +3,8 @@
 ghost use Rattle.std.specs.Prelude.{◌≡◌, List, ℕ, [], ◌∷◌, ◌++◌, OnOk, string_bytes};
 ghost use Rattle.gptp_report.specs.FrameLine.{IsOfType, frame_line, refusal_number, type_of};
 
-use crate::digits::{ClockDigits, OctetDigits};
 use gptp_messages::{Message, Refused, decode};
+use gptp_spelling::{ClockDigits, OctetDigits};
 use gptp_system::Answer;
 use gptp_vector::ClockId;
 use std::alloc::AllocError;

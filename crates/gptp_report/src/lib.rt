@@ -8,15 +8,13 @@
 //! [`write_report`] tells of a world, by `specs/Report.antt`.
 #![tactic(auto)]
 
-mod digits;
 mod following;
 mod frame_line;
 mod report;
 mod run;
 mod system_lines;
 
-pub use digits::{ClockDigits, IdentityDigits, OctetDigits, OrNone};
 pub use frame_line::{AnswerWord, FrameType, type_of, write_frame_line};
 pub use report::write_report;
 pub use run::run_document;
-pub use system_lines::{RoleWord, write_failed, write_system};
+pub use system_lines::{write_failed, write_system};

@@ -3,7 +3,7 @@
 ghost use Rattle.std.specs.Prelude.{◌≡◌, ◌++◌, ℕ, List, [], ◌∷◌, OnOk, Some, slice_get, string_bytes};
 ghost use Rattle.gptp_acts.specs.Acts.{AnySystem, AtSystem};
 ghost use Rattle.gptp_acts.specs.Views.{rising_clocks};
-ghost use Rattle.gptp_report.specs.Lines.{text_of};
+ghost use Rattle.gptp_spelling.specs.Lines.{text_of};
 ghost use Rattle.gptp_report.specs.Report.{calm_line, restless_line, time_line, IsChangeLine, Reports, ShowsSystems, WritesSystem};
 
 use crate::system_lines::{write_failed, write_system};

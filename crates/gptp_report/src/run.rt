@@ -2,10 +2,11 @@
 
 ghost use Rattle.std.specs.Prelude.{◌≡◌, ◌++◌, ◌≤◌, ℕ, List, IfOk, OnOk, nat_le, string_bytes};
 ghost use Rattle.gptp_acts.specs.Advancing.{Told};
-ghost use Rattle.gptp_acts.specs.Playing.{AreAllowed, IsAllowed, IsPlayed};
+ghost use Rattle.gptp_plan.specs.Allowed.{AreAllowed, IsAllowed};
+ghost use Rattle.gptp_acts.specs.Playing.{IsPlayed};
 ghost use Rattle.gptp_acts.specs.Prompt.{ArePromptIn, IsPromptIn};
 ghost use Rattle.gptp_report.specs.Following.{ChangedIf, Showed};
-ghost use Rattle.gptp_report.specs.Lines.{text_of};
+ghost use Rattle.gptp_spelling.specs.Lines.{text_of};
 ghost use Rattle.gptp_network.specs.Snapshot.{events_by};
 ghost use Rattle.gptp_report.specs.Run.{Changed, Goes, LeadsTo};
 

@@ -3,43 +3,13 @@
 ghost use Rattle.std.specs.Prelude.{◌≡◌, List, ℕ, [], ◌∷◌, ◌++◌, length, map, OnOk, string_bytes};
 ghost use Rattle.std.specs.List.{range_with_len};
 ghost use Rattle.gptp_system.specs.Steps.{IsPortOf};
-ghost use Rattle.gptp_report.specs.Digits.{yes_or_no};
-ghost use Rattle.gptp_report.specs.Lines.{text_of};
+ghost use Rattle.gptp_spelling.specs.Lines.{text_of};
 ghost use Rattle.gptp_report.specs.SystemLines.{failed_line, is_grandmaster, live_line, live_lines, port_line};
 
-use crate::digits::{ClockDigits, IdentityDigits, OrNone};
-use gptp_roles::Role;
+use gptp_spelling::{ClockDigits, IdentityDigits, OrNone, RoleWord, yes_or_no};
 use gptp_system::System;
 use gptp_vector::{ClockId, Identity};
 use std::alloc::AllocError;
-use std::fmt;
-
-/// The role of a port, in one word.
-#[derive(Clone, Copy)]
-pub struct RoleWord(pub Role);
-
-impl fmt::Display for RoleWord {
-    ghost use Rattle.std.specs.Prelude.{Some};
-    ghost use Rattle.gptp_report.specs.SystemLines.{role_text};
-
-    ghost output = { λ role. Some (role_text role.0) };
-
-    fn fmt<W: fmt::Write>(&self, f: &mut fmt::Formatter<W>) -> fmt::Result {
-        f.write_str(match self.0 {
-            Role::Disabled => "disabled",
-            Role::Master => "master",
-            Role::Slave => "slave",
-            Role::Passive => "passive",
-        })
-    }
-}
-
-/// The word for whether something is so.
-fn yes_or_no(is_so: bool) -> &'static str
-    ensures { result.now ≡ yes_or_no is_so }
-{
-    if is_so { "yes" } else { "no" }
-}
 
 /// Whether this root is a grandmaster's.
 fn is_grandmaster(root: Identity) -> bool

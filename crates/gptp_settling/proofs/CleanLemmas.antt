@@ -15,7 +15,7 @@ use Rattle.gptp_settling.specs.Clean.{Clean, Whole, Good, Came, CameWhole}
 use Rattle.gptp_settling.specs.Facts.{Setting, turn, Late, system_of, FollowsPort, IsInTime, IsStation, Facts}
 use Rattle.gptp_settling.specs.CleanInvariant.{LaneIsClean, StationIsClean, TracesAreClean}
 use Rattle.gptp_settling.specs.CleanLaws.{HeldIsWhole}
-use Rattle.gptp_settling.proofs.ListLemmas.{reverse-end}
+use Rattle.gptp_lists.proofs.ReverseLemmas.{reverse-end}
 use Rattle.gptp_settling.proofs.TraceLemmas.{clean_first, clean_on, whole_own, whole_on, not_all_clean}
 use Rattle.gptp_settling.proofs.ReactsLemmas.{JustHeard, held_from}
 

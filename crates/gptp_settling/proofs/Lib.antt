@@ -1,4 +1,3 @@
-pub mod ListLemmas
 pub mod PlaceLemmas
 pub mod TraceLemmas
 pub mod ReactsLemmas

@@ -11,7 +11,7 @@ use Rattle.gptp_graph.proofs.PathLemmas.{Route-reverse}
 use Rattle.gptp_graph.proofs.DistanceLemmas.{least_route, distance_from}
 use Rattle.gptp_settling.specs.Frame.{Announce}
 use Rattle.gptp_settling.specs.Clean.{Whole}
-use Rattle.gptp_settling.proofs.ListLemmas.{In-reverse}
+use Rattle.gptp_lists.proofs.ReverseLemmas.{In-reverse}
 
 -- the part of a route from one of its systems on
 route_from : (g : Snapshot) (u end x : ℕ) (us : List ℕ) → Route g u end us → In x (u ∷ us)

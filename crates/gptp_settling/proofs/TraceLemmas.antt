@@ -10,7 +10,7 @@ use Rattle.gptp_lists.proofs.MemberLemmas.{In-left, In-take}
 use Rattle.gptp_settling.specs.Frame.{Announce}
 use Rattle.gptp_settling.specs.Clean.{Clean, Whole}
 use Rattle.gptp_settling.specs.CleanLaws.{EndsInPath}
-use Rattle.gptp_settling.proofs.ListLemmas.{In-reverse, reverse-end}
+use Rattle.gptp_lists.proofs.ReverseLemmas.{In-reverse, reverse-end}
 
 -- what isn't in a trace isn't among its last members
 not_behind : (v : ℕ) (trace xs older : List ℕ) → reverse trace ≡ xs ++ older → (In v trace → ⊥) → In v xs → ⊥

@@ -2,8 +2,8 @@
 use Rattle.std.proofs.Common.{◌≡◌, ℕ, Bool, false, List, [], refl}
 use Rattle.gptp_pdelay.specs.Peer.{PeerState}
 use Rattle.gptp_system.specs.declared.port.Port.{Port}
-use Rattle.gptp_system.specs.declared.timer.Timer.{Timer}
-use Rattle.gptp_system.specs.declared.timer.Timer.TheVariants as timers
+use Rattle.gptp_setup.specs.declared.timer.Timer.{Timer}
+use Rattle.gptp_setup.specs.declared.timer.Timer.TheVariants as timers
 use Rattle.gptp_system.specs.State.{SystemState, on_port, with_peer}
 use Rattle.gptp_system.specs.Measuring.{turned}
 use Rattle.gptp_system.specs.Reach.{Leaves}

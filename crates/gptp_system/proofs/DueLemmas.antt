@@ -5,9 +5,9 @@ use Rattle.gptp_receipt.specs.declared.held.Held.{Held}
 use Rattle.gptp_receipt.specs.declared.held.Held.TheVariants as helds
 use Rattle.gptp_system.specs.declared.port.Port.{Port}
 use Rattle.gptp_system.specs.declared.sending.Sending.{Sending}
-use Rattle.gptp_system.specs.declared.setup.Params.{Params}
-use Rattle.gptp_system.specs.declared.timer.Timer.{Timer}
-use Rattle.gptp_system.specs.declared.timer.Timer.TheVariants as timers
+use Rattle.gptp_setup.specs.declared.setup.Params.{Params}
+use Rattle.gptp_setup.specs.declared.timer.Timer.{Timer}
+use Rattle.gptp_setup.specs.declared.timer.Timer.TheVariants as timers
 use Rattle.gptp_system.specs.State.{SystemState, age_due, announce_due, change, change_at, held_at, number, on_port}
 use Rattle.gptp_system.specs.Selection.{Selects, all_announced, choosing, fresh_ports}
 use Rattle.gptp_system.specs.Syncing.{counted, telling}

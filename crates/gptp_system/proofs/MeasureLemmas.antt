@@ -14,9 +14,9 @@ use Rattle.gptp_pdelay.specs.Peer.{PeerState, after_follow_up, after_interval, a
 use Rattle.gptp_system.specs.declared.answer.Answer.{Answer}
 use Rattle.gptp_system.specs.declared.port.Port.{Port}
 use Rattle.gptp_system.specs.declared.sending.Sending.{Sending}
-use Rattle.gptp_system.specs.declared.timer.Timer.{Timer}
-use Rattle.gptp_system.specs.declared.timer.Timer.TheVariants as timers
-use Rattle.gptp_system.specs.Intervals.{interval_of}
+use Rattle.gptp_setup.specs.declared.timer.Timer.{Timer}
+use Rattle.gptp_setup.specs.declared.timer.Timer.TheVariants as timers
+use Rattle.gptp_setup.specs.Intervals.{interval_of}
 use Rattle.gptp_system.specs.State.{SystemState, held_at, is_capable_at, local_time, number, on_port, own, with_peer}
 use Rattle.gptp_system.specs.Selection.{Becomes, Selects, SelectsIf, announced, choosing, fresh_ports}
 use Rattle.gptp_system.specs.Measuring.{Turns, TurnsAndAsks, TurnsIf, answering_done, asking, down, is_turned, owes, owing, silenced, turned}

@@ -16,7 +16,7 @@ use Rattle.gptp_pdelay.specs.declared.exchange.Measurement.{Measurement}
 use Rattle.gptp_system.specs.declared.port.Port.{Port}
 use Rattle.gptp_system.specs.declared.sending.Sending.{Sending}
 use Rattle.gptp_system.specs.declared.state.State.{State}
-use Rattle.gptp_system.specs.Intervals.{IsLog}
+use Rattle.gptp_setup.specs.Intervals.{IsLog}
 use Rattle.gptp_system.specs.Measuring.{down, held_if, held_turned, is_turned, settled, SettlesIf, silenced, turned, Turns, TurnsIf}
 use Rattle.gptp_system.specs.Ready.{IsReady, state_of}
 use Rattle.gptp_system.specs.Selection.{fresh_ports, Selects}

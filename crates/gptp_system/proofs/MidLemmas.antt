@@ -13,8 +13,8 @@ use Rattle.gptp_receipt.specs.Qualification.{Qualified}
 use Rattle.gptp_pdelay.specs.Peer.{PeerState, is_capable}
 use Rattle.gptp_system.specs.declared.port.Port.{Port}
 use Rattle.gptp_system.specs.declared.sending.Sending.{Sending}
-use Rattle.gptp_system.specs.declared.timer.Timer.TheVariants as timers
-use Rattle.gptp_system.specs.Intervals.{interval_of}
+use Rattle.gptp_setup.specs.declared.timer.Timer.TheVariants as timers
+use Rattle.gptp_setup.specs.Intervals.{interval_of}
 use Rattle.gptp_system.specs.State.{SystemState, age_due, clock, due, held_at, is_capable_at, number, on_held, on_port, own, span_of}
 use Rattle.gptp_system.specs.Measuring.{down, held_if, held_turned, is_turned, silenced, turned}
 use Rattle.gptp_system.specs.Announcing.{aged_at, compared, with_priority}

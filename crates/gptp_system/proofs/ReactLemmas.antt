@@ -11,8 +11,8 @@ use Rattle.gptp_correction.specs.SyncIn.{KeptSync}
 use Rattle.gptp_pdelay.specs.Peer.{PeerState}
 use Rattle.gptp_system.specs.declared.port.Port.{Port}
 use Rattle.gptp_system.specs.declared.sending.Sending.{Sending}
-use Rattle.gptp_system.specs.declared.timer.Timer.TheVariants as timers
-use Rattle.gptp_system.specs.Intervals.{interval_of}
+use Rattle.gptp_setup.specs.declared.timer.Timer.TheVariants as timers
+use Rattle.gptp_setup.specs.Intervals.{interval_of}
 use Rattle.gptp_system.specs.State.{SystemState, announce_due, clock, due, held_at, local_time, number, on_port, own, with_peer}
 use Rattle.gptp_system.specs.Sends.{announcement, with_send}
 use Rattle.gptp_system.specs.Selection.{Becomes, announced}

@@ -20,12 +20,12 @@ use Rattle.std.specs.List.{range_with_len}
 use Rattle.std.proofs.lemmas.List.FromFn.{length-map-range_with_len}
 use Rattle.gptp_roles.specs.Selection.{clock_of}
 use Rattle.gptp_pdelay.specs.Clock.{IsDrift}
-use Rattle.gptp_system.specs.declared.setup.Params.{Params}
-use Rattle.gptp_system.specs.declared.setup.Setup.{Setup}
+use Rattle.gptp_setup.specs.declared.setup.Params.{Params}
+use Rattle.gptp_setup.specs.declared.setup.Setup.{Setup}
 use Rattle.gptp_system.specs.Start.{new_port, new_ports, all_disabled, started}
 use Rattle.gptp_system.specs.declared.port.Port.{Port}
 use Rattle.gptp_system.specs.declared.sending.Sending.{Sending}
-use Rattle.gptp_system.specs.Intervals.{AreParams, IsLog, IsMoment}
+use Rattle.gptp_setup.specs.Intervals.{AreParams, IsLog, IsMoment}
 use Rattle.gptp_system.specs.State.{SystemState, clock, change, change_at}
 use Rattle.gptp_system.specs.Selection.{announced, all_announced, fresh_ports, choosing, Selects}
 use Rattle.gptp_system.specs.Ready.{IsReady, IsRecent, IsPort}

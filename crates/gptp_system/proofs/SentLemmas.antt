@@ -17,8 +17,8 @@ use Rattle.gptp_pdelay.specs.Peer.{PeerState, after_follow_up, after_interval, i
 use Rattle.gptp_system.specs.declared.answer.Answer.{Answer}
 use Rattle.gptp_system.specs.declared.port.Port.{Port}
 use Rattle.gptp_system.specs.declared.sending.Sending.{Sending}
-use Rattle.gptp_system.specs.declared.timer.Timer.{Timer}
-use Rattle.gptp_system.specs.declared.timer.Timer.TheVariants as timers
+use Rattle.gptp_setup.specs.declared.timer.Timer.{Timer}
+use Rattle.gptp_setup.specs.declared.timer.Timer.TheVariants as timers
 use Rattle.gptp_system.specs.State.{SystemState, clock, due, held_at, is_capable_at, number, own}
 use Rattle.gptp_system.specs.Sends.{announcement, with_send}
 use Rattle.gptp_system.specs.Selection.{Selects, SelectsIf, announcements, fresh_ports}

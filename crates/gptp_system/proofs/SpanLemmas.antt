@@ -8,18 +8,16 @@ use Rattle.gptp_receipt.specs.declared.held.Held.TheVariants as helds
 use Rattle.gptp_receipt.specs.Held.{Reception, received}
 use Rattle.gptp_roles.specs.Selection.{clock_of}
 use Rattle.gptp_system.specs.declared.port.Port.{Port}
-use Rattle.gptp_system.specs.declared.setup.Setup.{Setup}
-use Rattle.gptp_system.specs.declared.timer.Timer.{Timer}
-use Rattle.gptp_system.specs.declared.timer.Timer.TheVariants as timers
-use Rattle.gptp_system.specs.Intervals.{IsLog, interval_of}
+use Rattle.gptp_setup.specs.declared.setup.Setup.{Setup}
+use Rattle.gptp_setup.specs.declared.timer.Timer.{Timer}
+use Rattle.gptp_setup.specs.declared.timer.Timer.TheVariants as timers
+use Rattle.gptp_setup.specs.Intervals.{IsLog, interval_of}
 use Rattle.gptp_system.specs.State.{SystemState, age_due, announce_due, due, held_at, is_mine, number, span_of}
 use Rattle.gptp_system.specs.Ready.{IsPort, IsReady}
 use Rattle.gptp_system.specs.Start.{all_disabled, new_port, new_ports, started}
 use Rattle.gptp_system.specs.Times.{IsInTime, IsPortInTime}
-use Rattle.gptp_system.proofs.StartedLemmas.{at_number, interval_within, mine_due}
-
-pub interval_most : (log : ℤ) → IsLog log → interval_of log ≤ 16000000000
-interval_most log k = (interval_within log k).1
+use Rattle.gptp_setup.proofs.IntervalLemmas.{interval_most}
+use Rattle.gptp_system.proofs.StartedLemmas.{at_number, mine_due}
 
 all_at : {X : Type 0} (P : X → Type 0) (xs : List X) (i : ℕ) (x : X) → AllByRecursion P xs → slice_get xs i ≡ Some x
     → P x

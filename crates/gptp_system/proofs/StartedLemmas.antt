@@ -14,9 +14,10 @@ use Rattle.gptp_pdelay.specs.Peer.{PeerState, after_interval, reset_peer}
 use Rattle.gptp_system.specs.declared.answer.Answer.{Answer}
 use Rattle.gptp_system.specs.declared.port.Port.{Port}
 use Rattle.gptp_system.specs.declared.sending.Sending.{Sending}
-use Rattle.gptp_system.specs.declared.timer.Timer.{Timer}
-use Rattle.gptp_system.specs.declared.timer.Timer.TheVariants as timers
-use Rattle.gptp_system.specs.Intervals.{AreParams, IsLog, interval_of}
+use Rattle.gptp_setup.specs.declared.timer.Timer.{Timer}
+use Rattle.gptp_setup.specs.declared.timer.Timer.TheVariants as timers
+use Rattle.gptp_setup.specs.Intervals.{AreParams, IsLog, interval_of}
+use Rattle.gptp_setup.proofs.IntervalLemmas.{interval_positive}
 use Rattle.gptp_system.specs.State.{SystemState, age_due, announce_due, clock, due, held_at, is_mine, number, span_of}
 use Rattle.gptp_system.specs.Input.{Input, IsTimely, Steps, PortUp, PortDown, Frame, Expires, Priority}
 use Rattle.gptp_system.specs.Facts.{AreShown, IsAtRest, Keeps}
@@ -27,7 +28,7 @@ use Rattle.gptp_system.specs.Touch.{IsSeenAs, Mid, Touch, Grow}
 use Rattle.gptp_system.specs.Reacts.{PlaceReacts, PortEnds, Tells}
 use Rattle.gptp_system.specs.Measures.{IsPartAfter, Part, only_at, part_answered, part_asked, part_down, part_heard, part_of, Measures}
 use Rattle.gptp_system.specs.Times.{RunsOn}
-use Rattle.gptp_system.specs.declared.setup.Params.{Params}
+use Rattle.gptp_setup.specs.declared.setup.Params.{Params}
 use Rattle.gptp_correction.specs.declared.sync_in.SyncInfo.{SyncInfo}
 use Rattle.gptp_system.proofs.ChangedLemmas.{Changed, change-get}
 use Rattle.gptp_system.proofs.AnswerLemmas.{steps_react}
@@ -36,23 +37,6 @@ use Rattle.gptp_system.proofs.StepLemmas.{steps_sound}
 use Rattle.gptp_system.proofs.InTimeLemmas.{IsMid, kept_other, mid_is, mid_mine, mid_received}
 use Rattle.gptp_system.proofs.MeasureLemmas.{steps_measure}
 use Rattle.gptp_system.proofs.TimeLemmas.{steps_run_on}
-
--- no interval is empty, and none is above sixteen seconds
-pub interval_within : (log : ℤ) → IsLog log → (1 ≤ interval_of log) × (interval_of log ≤ 16000000000)
-interval_within (pos zero) k = (omega arith, omega arith)
-interval_within (pos (suc zero)) k = (omega arith, omega arith)
-interval_within (pos (suc (suc zero))) k = (omega arith, omega arith)
-interval_within (pos (suc (suc (suc zero)))) k = (omega arith, omega arith)
-interval_within (pos (suc (suc (suc (suc zero))))) k = (omega arith, omega arith)
-interval_within (pos (suc (suc (suc (suc (suc n)))))) k = let high = k.high in absurd (omega (arith, ints))
-interval_within (negsuc zero) k = (omega arith, omega arith)
-interval_within (negsuc (suc zero)) k = (omega arith, omega arith)
-interval_within (negsuc (suc (suc zero))) k = (omega arith, omega arith)
-interval_within (negsuc (suc (suc (suc zero)))) k = (omega arith, omega arith)
-interval_within (negsuc (suc (suc (suc (suc n))))) k = let low = k.low in absurd (omega (arith, ints))
-
-pub interval_positive : (log : ℤ) → IsLog log → 1 ≤ interval_of log
-interval_positive log k = (interval_within log k).0
 
 -- a timer runs as it did, or is due after now
 abbrev Runs : ℕ → Option ℕ → Option ℕ → Type 0

@@ -10,7 +10,7 @@ use Rattle.gptp_pdelay.specs.Peer.{PeerState, after_follow_up, changes_capabilit
 use Rattle.gptp_system.specs.declared.answer.Answer.{Answer}
 use Rattle.gptp_system.specs.declared.port.Port.{Port}
 use Rattle.gptp_system.specs.declared.sending.Sending.{Sending}
-use Rattle.gptp_system.specs.declared.timer.Timer.{Timer}
+use Rattle.gptp_setup.specs.declared.timer.Timer.{Timer}
 use Rattle.gptp_system.specs.Measures.{Part, only_at, part_of, part_stepped}
 use Rattle.gptp_system.specs.Measuring.{Turns, TurnsIf, is_turned}
 use Rattle.gptp_system.specs.Reach.{Leaves}

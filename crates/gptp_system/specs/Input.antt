@@ -2,7 +2,7 @@
 use Rattle.std.specs.Prelude.{ℕ, ⊤, List}
 use Rattle.gptp_system.specs.declared.answer.Answer.{Answer}
 use Rattle.gptp_system.specs.declared.sending.Sending.{Sending}
-use Rattle.gptp_system.specs.declared.timer.Timer.{Timer}
+use Rattle.gptp_setup.specs.declared.timer.Timer.{Timer}
 use Rattle.gptp_system.specs.State.{SystemState}
 use Rattle.gptp_system.specs.Measuring.{ComesUp, GoesDown}
 use Rattle.gptp_system.specs.Announcing.{ChangesPriority}

@@ -5,9 +5,9 @@ use Rattle.gptp_roles.specs.SystemTrace.{SlaveReceived}
 use Rattle.gptp_system.specs.declared.answer.Answer.{Answer}
 use Rattle.gptp_system.specs.declared.port.Port.{Port}
 use Rattle.gptp_system.specs.declared.sending.Sending.{Sending}
-use Rattle.gptp_system.specs.declared.setup.Setup.{Setup}
-use Rattle.gptp_system.specs.declared.timer.Timer.{Timer}
-use Rattle.gptp_system.specs.Intervals.{AreParams, IsLog}
+use Rattle.gptp_setup.specs.declared.setup.Setup.{Setup}
+use Rattle.gptp_setup.specs.declared.timer.Timer.{Timer}
+use Rattle.gptp_setup.specs.Intervals.{AreParams, IsLog}
 use Rattle.gptp_system.specs.State.{SystemState, due}
 use Rattle.gptp_system.specs.Selection.{Selects}
 use Rattle.gptp_system.specs.Input.{Input, IsTimely, Steps, Expires, Priority}

@@ -1,4 +1,3 @@
-pub mod Intervals
 pub mod State
 pub mod Sends
 pub mod Selection

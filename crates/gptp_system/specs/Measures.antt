@@ -8,8 +8,8 @@ use Rattle.gptp_messages.specs.Grammar.{Reads}
 use Rattle.gptp_pdelay.specs.Peer.{PeerState, after_follow_up, after_interval, after_response, answered, answering}
 use Rattle.gptp_pdelay.specs.Peer.{requested, reset_peer}
 use Rattle.gptp_system.specs.declared.port.Port.{Port}
-use Rattle.gptp_system.specs.declared.timer.Timer.TheVariants as timers
-use Rattle.gptp_system.specs.Intervals.{interval_of}
+use Rattle.gptp_setup.specs.declared.timer.Timer.TheVariants as timers
+use Rattle.gptp_setup.specs.Intervals.{interval_of}
 use Rattle.gptp_system.specs.State.{SystemState, local_time}
 use Rattle.gptp_system.specs.Input.{Input, PortUp, PortDown, Frame, Expires, Priority}
 

@@ -17,7 +17,7 @@ use Rattle.gptp_system.specs.declared.answer.Answer.{Answer}
 use Rattle.gptp_system.specs.declared.answer.Answer.TheVariants as answers
 use Rattle.gptp_system.specs.declared.port.Port.{Port}
 use Rattle.gptp_system.specs.declared.sending.Sending.{Sending}
-use Rattle.gptp_system.specs.Intervals.{interval_of}
+use Rattle.gptp_setup.specs.Intervals.{interval_of}
 use Rattle.gptp_system.specs.State.{SystemState, number, is_capable_at, own, local_time, on_port, on_held, with_peer}
 use Rattle.gptp_system.specs.Sends.{request, response, response_follow_up, with_send}
 use Rattle.gptp_system.specs.Selection.{Selects, Becomes}

@@ -4,7 +4,7 @@ use Rattle.gptp_lists.specs.Members.{In}
 use Rattle.gptp_system.specs.declared.sending.Body.{Body}
 use Rattle.gptp_system.specs.declared.sending.Body.TheVariants as bodies
 use Rattle.gptp_system.specs.declared.sending.Sending.{Sending}
-use Rattle.gptp_system.specs.declared.timer.Timer.TheVariants as timers
+use Rattle.gptp_setup.specs.declared.timer.Timer.TheVariants as timers
 use Rattle.gptp_system.specs.State.{SystemState}
 use Rattle.gptp_system.specs.Sends.{with_send}
 use Rattle.gptp_system.specs.Measuring.{RespondsIf, owed_at, request_of}

@@ -7,8 +7,8 @@ use Rattle.gptp_pdelay.specs.Peer.{after_interval}
 use Rattle.gptp_system.specs.declared.reach.Reach.{Reach}
 use Rattle.gptp_system.specs.declared.reach.Reach.TheVariants as reaches
 use Rattle.gptp_system.specs.declared.sending.Sending.{Sending}
-use Rattle.gptp_system.specs.declared.timer.Timer.{Timer}
-use Rattle.gptp_system.specs.declared.timer.Timer.TheVariants as timers
+use Rattle.gptp_setup.specs.declared.timer.Timer.{Timer}
+use Rattle.gptp_setup.specs.declared.timer.Timer.TheVariants as timers
 use Rattle.gptp_system.specs.State.{SystemState, due, is_capable_at, number}
 use Rattle.gptp_system.specs.Sends.{count}
 use Rattle.gptp_system.specs.Measuring.{is_turned}

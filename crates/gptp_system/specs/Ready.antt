@@ -9,7 +9,7 @@ use Rattle.gptp_pdelay.specs.declared.answer.Answer.{Answer}
 use Rattle.gptp_pdelay.specs.Clock.{IsTime, IsDrift}
 use Rattle.gptp_system.specs.declared.port.Port.{Port}
 use Rattle.gptp_system.specs.declared.state.State.{State}
-use Rattle.gptp_system.specs.Intervals.{AreParams, IsLog, IsMoment}
+use Rattle.gptp_setup.specs.Intervals.{AreParams, IsLog, IsMoment}
 use Rattle.gptp_system.specs.State.{SystemState}
 
 -- the state of a system, without the places that hold nothing

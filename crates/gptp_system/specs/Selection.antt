@@ -6,7 +6,7 @@ use Rattle.gptp_roles.specs.Choice.{IsChosen, slave_port}
 use Rattle.gptp_roles.specs.Role.{each_port, held_after, is_fresh}
 use Rattle.gptp_system.specs.declared.port.Port.{Port}
 use Rattle.gptp_system.specs.declared.sending.Sending.{Sending}
-use Rattle.gptp_system.specs.Intervals.{interval_of}
+use Rattle.gptp_setup.specs.Intervals.{interval_of}
 use Rattle.gptp_system.specs.State.{SystemState, clock}
 use Rattle.gptp_system.specs.Sends.{announcement, next_sequence}
 

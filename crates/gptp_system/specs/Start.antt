@@ -10,9 +10,9 @@ use Rattle.gptp_roles.specs.declared.role.Role.{Role}
 use Rattle.gptp_roles.specs.declared.role.Role.TheVariants as roles
 use Rattle.gptp_pdelay.specs.Peer.{new_peer}
 use Rattle.gptp_system.specs.declared.port.Port.{Port}
-use Rattle.gptp_system.specs.declared.setup.Params.{Params}
-use Rattle.gptp_system.specs.declared.setup.Setup.{Setup}
-use Rattle.gptp_system.specs.Intervals.{interval_of}
+use Rattle.gptp_setup.specs.declared.setup.Params.{Params}
+use Rattle.gptp_setup.specs.declared.setup.Setup.{Setup}
+use Rattle.gptp_setup.specs.Intervals.{interval_of}
 use Rattle.gptp_system.specs.State.{SystemState, held_at}
 
 -- a port that has measured nothing, sent nothing, and whose link is down

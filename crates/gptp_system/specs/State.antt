@@ -13,10 +13,10 @@ use Rattle.gptp_pdelay.specs.Peer.{PeerState, is_capable}
 use Rattle.gptp_correction.specs.SyncIn.{KeptSync}
 use Rattle.gptp_correction.specs.declared.sync_in.SyncInfo.{SyncInfo}
 use Rattle.gptp_system.specs.declared.port.Port.{Port}
-use Rattle.gptp_system.specs.declared.setup.Params.{Params}
-use Rattle.gptp_system.specs.declared.timer.Timer.{Timer}
-use Rattle.gptp_system.specs.declared.timer.Timer.TheVariants as timers
-use Rattle.gptp_system.specs.Intervals.{interval_of}
+use Rattle.gptp_setup.specs.declared.setup.Params.{Params}
+use Rattle.gptp_setup.specs.declared.timer.Timer.{Timer}
+use Rattle.gptp_setup.specs.declared.timer.Timer.TheVariants as timers
+use Rattle.gptp_setup.specs.Intervals.{interval_of}
 
 -- What a system knows. The first port stands first in both lists, and has the number 1. Times of timers are in ns.
 pub record SystemState : Type 0 where

@@ -7,8 +7,8 @@ use Rattle.gptp_messages.specs.Grammar.{Reads, Refuses}
 use Rattle.gptp_system.specs.declared.answer.Answer.{Answer}
 use Rattle.gptp_system.specs.declared.answer.Answer.TheVariants as answers
 use Rattle.gptp_system.specs.declared.sending.Sending.{Sending}
-use Rattle.gptp_system.specs.declared.timer.Timer.{Timer}
-use Rattle.gptp_system.specs.declared.timer.Timer.TheVariants as timers
+use Rattle.gptp_setup.specs.declared.timer.Timer.{Timer}
+use Rattle.gptp_setup.specs.declared.timer.Timer.TheVariants as timers
 use Rattle.gptp_system.specs.State.{SystemState, due}
 use Rattle.gptp_system.specs.Selection.{Becomes}
 use Rattle.gptp_system.specs.Measuring.{PdelayExpires, RespondExpires, HearsRequest, HearsResponse}

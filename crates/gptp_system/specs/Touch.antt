@@ -8,7 +8,7 @@ use Rattle.gptp_receipt.specs.declared.held.Held.{Held}
 use Rattle.gptp_receipt.specs.declared.held.Held.TheVariants as helds
 use Rattle.gptp_receipt.specs.Held.{comparison, held_after, reception}
 use Rattle.gptp_receipt.specs.Qualification.{Qualified}
-use Rattle.gptp_system.specs.declared.timer.Timer.TheVariants as timers
+use Rattle.gptp_setup.specs.declared.timer.Timer.TheVariants as timers
 use Rattle.gptp_system.specs.State.{SystemState, is_capable_at}
 use Rattle.gptp_system.specs.Input.{Input, PortUp, PortDown, Frame, Expires, Priority}
 

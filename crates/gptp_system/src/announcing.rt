@@ -6,21 +6,20 @@ ghost use Rattle.std.specs.List.{AllByRecursion};
 ghost use Rattle.gptp_receipt.specs.Held.{aged, comparison, held_after, reception};
 ghost use Rattle.gptp_receipt.specs.Qualification.{Qualified};
 ghost use Rattle.gptp_system.specs.Announcing.{answer_to_heard, answer_to_why, is_taken, SaysAgain};
-ghost use Rattle.gptp_system.specs.Intervals.{IsLog, IsMoment};
+ghost use Rattle.gptp_setup.specs.Intervals.{IsLog, IsMoment};
 ghost use Rattle.gptp_system.specs.Ready.{IsPort, IsRecent};
 ghost use Rattle.gptp_system.specs.Selection.{announced};
 ghost use Rattle.gptp_system.specs.Sends.{announcement};
 ghost use Rattle.gptp_system.specs.State.{change, number, span_of};
 
 use crate::answer::Answer;
-use crate::interval::interval_of;
 use crate::port::Port;
 use crate::selection::announce;
 use crate::sending::Outbox;
-use crate::setup::Params;
 use crate::state::State;
 use gptp_messages::AnnounceView;
 use gptp_receipt::{Heard, Held, Why, age, hear, qualify};
+use gptp_setup::{Params, interval_of};
 use gptp_vector::{Identity, PortId, Vector};
 
 /// How it is answered that an Announce isn't taken for heard.
@@ -147,7 +146,7 @@ impl State {
     ghost use Rattle.gptp_receipt.specs.declared.held.Held.TheVariants.{Disabled};
     ghost use Rattle.gptp_system.specs.Announcing.{AgeExpires, AnnounceExpires, ChangesPriority, HearsOff, HearsQualified, HearsUnqualified, SaysAgain};
     ghost use Rattle.gptp_system.specs.Facts.{AreHeld, IsAtRest};
-    ghost use Rattle.gptp_system.specs.Intervals.{IsMoment};
+    ghost use Rattle.gptp_setup.specs.Intervals.{IsMoment};
     ghost use Rattle.gptp_system.specs.Ready.{IsReady, state_of};
     ghost use Rattle.gptp_system.specs.Selection.{SelectsIf};
     ghost use Rattle.gptp_system.specs.State.{held_at, is_capable_at, own};

@@ -2,7 +2,7 @@
 
 ghost use Rattle.std.specs.Prelude.{◌≡◌, ◌*◌, ◌≤◌, pos};
 ghost use Rattle.gptp_pdelay.specs.Clock.{IsDrift, IsTime, local_clock};
-ghost use Rattle.gptp_system.specs.Intervals.{IsMoment};
+ghost use Rattle.gptp_setup.specs.Intervals.{IsMoment};
 
 use crate::state::State;
 use gptp_scaled::{Rate, ScaledNs};
@@ -30,7 +30,7 @@ pub(crate) fn local_clock(phase: u64, drift: i32, t: u64) -> ScaledNs
 impl State {
     ghost use Rattle.std.specs.Prelude.{◌≡◌};
     ghost use Rattle.gptp_pdelay.specs.Clock.{IsTime};
-    ghost use Rattle.gptp_system.specs.Intervals.{IsMoment};
+    ghost use Rattle.gptp_setup.specs.Intervals.{IsMoment};
     ghost use Rattle.gptp_system.specs.Ready.{IsReady, state_of};
     ghost use Rattle.gptp_system.specs.State.{local_time};
 

@@ -3,14 +3,14 @@
 use crate::answer::Answer;
 use crate::sending::Outbox;
 use crate::state::State;
-use crate::timer::Timer;
 use gptp_messages::{Message, decode};
+use gptp_setup::Timer;
 
 impl State {
     ghost use Rattle.std.specs.Prelude.{◌≡◌, ◌≢◌, true, []};
     ghost use Rattle.gptp_receipt.specs.declared.held.Held.TheVariants.{Disabled};
     ghost use Rattle.gptp_system.specs.Facts.{AreHeld, IsAtRest};
-    ghost use Rattle.gptp_system.specs.Intervals.{IsMoment};
+    ghost use Rattle.gptp_setup.specs.Intervals.{IsMoment};
     ghost use Rattle.gptp_system.specs.Ready.{IsReady, state_of};
     ghost use Rattle.gptp_system.specs.State.{held_at, is_capable_at};
     ghost use Rattle.gptp_system.specs.Steps.{Expires, HearsFrame, HearsMessage, IsPortOf, IsTimerOf};

@@ -9,7 +9,6 @@ ghost use Rattle.gptp_system.specs.Measuring.{answer_of, answering_done, asking,
 ghost use Rattle.gptp_system.specs.Sends.{request, response, response_follow_up};
 
 use crate::answer::Answer;
-use crate::interval::interval_of;
 use crate::port::Port;
 use crate::sending::{Body, Outbox, Sending, insert, push};
 use crate::state::State;
@@ -17,6 +16,7 @@ use gptp_messages::{Head, PdelayResp, PdelayRespFollowUp};
 use gptp_pdelay::{Answer as Owed, Step};
 use gptp_receipt::Held;
 use gptp_scaled::{ScaledNs, Stamp};
+use gptp_setup::interval_of;
 use gptp_vector::PortId;
 
 /// The logMessageInterval of a response, which has none (IEEE 1588-2019, table 42).
@@ -184,7 +184,7 @@ fn split(time: ScaledNs) -> (Stamp, u16)
 impl State {
     ghost use Rattle.std.specs.Prelude.{◌≡◌, ◌≤◌, ◌<◌, length, []};
     ghost use Rattle.arrayvec.specs.ArrayVec.{array_vec_len};
-    ghost use Rattle.gptp_system.specs.Intervals.{IsMoment};
+    ghost use Rattle.gptp_setup.specs.Intervals.{IsMoment};
     ghost use Rattle.gptp_system.specs.Measuring.{ComesUp, GoesDown, PdelayExpires, RespondExpires, Responds, HearsRequest, HearsResponse, HearsResponseFollowUp, SettlesIf, asks, request_of};
     ghost use Rattle.gptp_system.specs.Ready.{IsReady, state_of};
     ghost use Rattle.gptp_system.specs.Sends.{with_send};

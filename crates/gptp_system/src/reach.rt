@@ -8,7 +8,7 @@ ghost use Rattle.gptp_system.specs.State.{number};
 
 use crate::port::Port;
 use crate::state::State;
-use crate::timer::Timer;
+use gptp_setup::Timer;
 
 /// At which ports a step can send.
 #[derive(Clone, Copy, Debug, PartialEq, Eq, Hash)]

@@ -3,18 +3,18 @@
 ghost use Rattle.std.specs.Prelude.{◌≡◌, ◌==◌, ◌&&◌, ◌+◌, ◌*◌, ◌<◌, ◌≤◌, ◌++◌, ◌∷◌, [], length, if◌then◌else◌};
 ghost use Rattle.std.specs.List.{AllByRecursion};
 ghost use Rattle.arrayvec.specs.ArrayVec.{array_vec_len};
-ghost use Rattle.gptp_system.specs.Intervals.{IsLog, IsMoment};
+ghost use Rattle.gptp_setup.specs.Intervals.{IsLog, IsMoment};
 ghost use Rattle.gptp_system.specs.Ready.{IsPort};
 ghost use Rattle.gptp_system.specs.Selection.{all_announced, announced, announcements, kept_if, same_port};
 ghost use Rattle.gptp_system.specs.Sends.{announcement};
 
-use crate::interval::interval_of;
 use crate::port::Port;
 use crate::sending::{Body, Outbox, Sending, push};
 use crate::state::State;
 use gptp_correction::SyncIn;
 use gptp_messages::{AnnounceBody, Head};
 use gptp_roles::{Selected, select};
+use gptp_setup::interval_of;
 use gptp_vector::{ClockId, Identity, PortId};
 
 /// The currentUtcOffset that is announced. No rule reads it.
@@ -153,7 +153,7 @@ where
 
 impl State {
     ghost use Rattle.std.specs.Prelude.{◌≡◌, []};
-    ghost use Rattle.gptp_system.specs.Intervals.{IsMoment};
+    ghost use Rattle.gptp_setup.specs.Intervals.{IsMoment};
     ghost use Rattle.gptp_system.specs.Ready.{IsReady, state_of};
     ghost use Rattle.gptp_system.specs.Selection.{Selects};
 

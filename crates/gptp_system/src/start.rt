@@ -2,17 +2,16 @@
 
 ghost use Rattle.std.specs.Prelude.{◌≡◌, ◌≤◌, ◌+◌};
 ghost use Rattle.gptp_pdelay.specs.Clock.{IsDrift};
-ghost use Rattle.gptp_system.specs.Intervals.{AreParams, IsMoment};
+ghost use Rattle.gptp_setup.specs.Intervals.{AreParams, IsMoment};
 ghost use Rattle.gptp_system.specs.Start.{new_port};
 
-use crate::interval::interval_of;
 use crate::port::Port;
-use crate::setup::{Params, Setup};
 use crate::state::State;
 use arrayvec::ArrayVec;
 use gptp_correction::SyncIn;
 use gptp_pdelay::Peer;
 use gptp_receipt::Held;
+use gptp_setup::{Params, Setup, interval_of};
 use gptp_vector::PortId;
 
 /// A port that has measured and sent nothing, and whose link is down.
@@ -33,7 +32,7 @@ fn new_port(own: PortId, params: &Params) -> Port
 impl State {
     ghost use Rattle.std.specs.Prelude.{◌≡◌, ◌≤◌};
     ghost use Rattle.gptp_pdelay.specs.Clock.{IsDrift};
-    ghost use Rattle.gptp_system.specs.Intervals.{AreParams, IsMoment};
+    ghost use Rattle.gptp_setup.specs.Intervals.{AreParams, IsMoment};
     ghost use Rattle.gptp_system.specs.Ready.{IsReady, state_of};
     ghost use Rattle.gptp_system.specs.Start.{started};
 

@@ -3,11 +3,11 @@
 ghost use Rattle.std.specs.Prelude.{◌≡◌, ◌≤◌, length};
 
 use crate::port::Port;
-use crate::setup::Params;
 use arrayvec::ArrayVec;
 use gptp_correction::{SyncIn, SyncInfo};
 use gptp_receipt::Held;
 use gptp_scaled::ScaledNs;
+use gptp_setup::Params;
 use gptp_vector::Identity;
 
 /// What a system keeps. Port i stands at place i - 1 of `held` and of `ports`.

@@ -11,7 +11,6 @@ ghost use Rattle.gptp_system.specs.State.{is_mine, number};
 ghost use Rattle.gptp_system.specs.Syncing.{came_from, counted, counting, follow_up_of, offset_of, sync_of, syncs, IsOwnTime, OffsetFits};
 
 use crate::answer::Answer;
-use crate::interval::interval_of;
 use crate::port::Port;
 use crate::sending::{Body, Outbox, Sending, push};
 use crate::state::State;
@@ -19,6 +18,7 @@ use gptp_correction::{Relayed, SyncIn, SyncInfo, receipt_time, relay};
 use gptp_messages::{FollowUp, Head};
 use gptp_receipt::Held;
 use gptp_scaled::{Interval, OutOfRange, Rate, ScaledNs};
+use gptp_setup::interval_of;
 use gptp_vector::{ClockId, Identity, PortId};
 
 /// The Sync of a port.
@@ -225,7 +225,7 @@ fn offset_of(info: &SyncInfo, delay: ScaledNs, rate: Rate) -> Result<ScaledNs, O
 impl State {
     ghost use Rattle.std.specs.Prelude.{◌≡◌, ◌⊎◌, ◌≤◌, [], length, pos};
     ghost use Rattle.std.specs.Option.{option_map_or};
-    ghost use Rattle.gptp_system.specs.Intervals.{IsMoment};
+    ghost use Rattle.gptp_setup.specs.Intervals.{IsMoment};
     ghost use Rattle.gptp_system.specs.Ready.{IsReady, state_of};
     ghost use Rattle.gptp_system.specs.Syncing.{delay_at, is_followed, is_slave_at, leads, rate_at, telling, told_by, HearsFollowUp, HearsSync, IsForgotten, IsKnown, RelayExpires, SyncExpires};
 

@@ -3,11 +3,10 @@
 use crate::answer::Answer;
 use crate::reach::{Reach, frame_reach};
 use crate::sending::Outbox;
-use crate::setup::Setup;
 use crate::state::State;
-use crate::timer::Timer;
 use gptp_roles::Role;
 use gptp_scaled::ScaledNs;
+use gptp_setup::{Setup, Timer};
 use gptp_vector::{Identity, PortId, Trace};
 use std::marker::Model;
 
@@ -35,7 +34,7 @@ impl System {
     ghost use Rattle.std.specs.Prelude.{◌≡◌, ◌≤◌, [], length};
     ghost use Rattle.gptp_pdelay.specs.Clock.{IsDrift};
     ghost use Rattle.gptp_system.specs.Announcing.{ChangesPriority};
-    ghost use Rattle.gptp_system.specs.Intervals.{AreParams, IsMoment};
+    ghost use Rattle.gptp_setup.specs.Intervals.{AreParams, IsMoment};
     ghost use Rattle.gptp_system.specs.Measuring.{ComesUp, GoesDown};
     ghost use Rattle.std.specs.Option.{option_and_then};
     ghost use Rattle.gptp_pdelay.specs.Peer.{delay_of};

@@ -9,12 +9,11 @@ ghost use Rattle.gptp_system.specs.State.{age_due, announce_due, number, source_
 
 use crate::announcing::span_of;
 use crate::port::Port;
-use crate::setup::Params;
 use crate::state::State;
-use crate::timer::Timer;
 use gptp_receipt::{Held, due};
 use gptp_roles::{Role, slave_trace};
 use gptp_scaled::ScaledNs;
+use gptp_setup::{Params, Timer};
 use gptp_vector::{PortId, Trace};
 
 /// The role of a port that holds this, in a system at rest.

@@ -5,14 +5,14 @@ use Rattle.std.proofs.lemmas.Option.{none-some, same_Some}
 use Rattle.gptp_links.specs.Queue.{first, Frame}
 use Rattle.gptp_links.specs.declared.link.Direction.{Direction}
 use Rattle.gptp_links.specs.declared.link.Direction.TheVariants.{FromA, FromB}
-use Rattle.gptp_system.specs.declared.timer.Timer.{Timer}
+use Rattle.gptp_setup.specs.declared.timer.Timer.{Timer}
 use Rattle.gptp_system.specs.Steps.{IsTimerOf}
 use Rattle.gptp_vector.specs.declared.port.PortId.{PortId}
 use Rattle.gptp_world.specs.declared.cable.Lane.{Lane}
 use Rattle.gptp_world.specs.declared.net.Net.{Net as Between}
 use Rattle.gptp_world.specs.declared.stage.Stage.{Stage}
 use Rattle.gptp_acts.specs.declared.station.Station.{Station}
-use Rattle.gptp_acts.specs.declared.change.Act.{Act}
+use Rattle.gptp_plan.specs.declared.change.Act.{Act}
 use Rattle.gptp_acts.specs.declared.item.Item.{Item}
 use Rattle.gptp_acts.specs.declared.item.Item.TheVariants.{Expiry, Arrival}
 use Rattle.gptp_acts.specs.Agrees.{Agrees}
@@ -30,7 +30,7 @@ use Rattle.gptp_acts.specs.World.{Channel, WorldState, queue, sender}
 use Rattle.gptp_world.proofs.EndLemmas.{station_at}
 use Rattle.gptp_world.proofs.NetLemmas.{known_cable, known_lane}
 use Rattle.gptp_acts.proofs.NextDueLemmas.{next_comes, next_runs_out}
-use Rattle.gptp_acts.proofs.ListLemmas.{mapped_there}
+use Rattle.gptp_lists.proofs.MappedLemmas.{mapped_there}
 
 -- ---- links
 

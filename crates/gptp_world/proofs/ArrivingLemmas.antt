@@ -11,8 +11,8 @@ use Rattle.gptp_acts.specs.Act.{Takes}
 use Rattle.gptp_world.specs.Cable.{join_of, channel_of, net_of}
 use Rattle.gptp_acts.specs.Pending.{PendingState, without_first}
 use Rattle.gptp_acts.specs.World.{with_queue}
-use Rattle.gptp_acts.proofs.ListLemmas.{mapped_there}
-use Rattle.gptp_acts.proofs.PlaceLemmas.{map-set, map-set_same}
+use Rattle.gptp_lists.proofs.MappedLemmas.{mapped_there}
+use Rattle.gptp_lists.proofs.PlaceLemmas.{map-set, map-set_same}
 use Rattle.gptp_world.proofs.SendingLemmas.{channel_sent, queue_same}
 
 abbrev made : PortId → PortId → Join

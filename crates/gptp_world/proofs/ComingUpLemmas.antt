@@ -24,8 +24,8 @@ use Rattle.gptp_world.specs.Stage.{clock_at, world_of, Called, CallUses, HasRoom
 use Rattle.gptp_world.specs.Starting.{CameUp, HasRoomForPorts}
 use Rattle.gptp_acts.specs.World.{WorldState}
 use Rattle.gptp_world.proofs.NeedLemmas.{covered, left_of, unsent, uses_both, uses_less, Covers}
-use Rattle.gptp_acts.proofs.ListLemmas.{mapped_there}
-use Rattle.gptp_acts.proofs.PlaceLemmas.{get-set_same}
+use Rattle.gptp_lists.proofs.MappedLemmas.{mapped_there}
+use Rattle.gptp_lists.proofs.PlaceLemmas.{get-set_same}
 use Rattle.gptp_acts.proofs.SteadyLemmas.{same_clock, same_ports}
 use Rattle.gptp_world.proofs.UpPortLemmas.{calls_all_up, up_tells}
 

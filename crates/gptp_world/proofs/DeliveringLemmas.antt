@@ -13,8 +13,8 @@ use Rattle.gptp_world.specs.Delivering.{HasRoomToHear}
 use Rattle.gptp_world.specs.Directory.{end_of, DirectoryState, IsDirectory, Join}
 use Rattle.gptp_world.specs.Net.{between, IsFrameDue, IsOldest}
 use Rattle.gptp_world.specs.Stage.{world_of, HasRoomWithin, IsStage}
-use Rattle.gptp_acts.proofs.ListLemmas.{mapped_there}
-use Rattle.gptp_acts.proofs.PlaceLemmas.{member_there}
+use Rattle.gptp_lists.proofs.MappedLemmas.{mapped_there}
+use Rattle.gptp_lists.proofs.PlaceLemmas.{member_there}
 use Rattle.gptp_world.proofs.EndLemmas.{known_join, place_within}
 use Rattle.gptp_world.proofs.NetLemmas.{from_map}
 use Rattle.gptp_world.proofs.SendingLemmas.{queue_same}

@@ -10,11 +10,11 @@ use Rattle.gptp_links.specs.declared.link.Direction.TheVariants.{FromA, FromB}
 use Rattle.gptp_roles.specs.Selection.{clock_of}
 use Rattle.gptp_world.specs.declared.cable.Lane.{Lane}
 use Rattle.gptp_world.specs.declared.directory.Ends.{Ends}
-use Rattle.gptp_acts.specs.declared.network.Member.{Member}
-use Rattle.gptp_acts.specs.declared.network.Wire.{Wire}
-use Rattle.gptp_acts.specs.Network.{NetworkState, IsNetwork, IsPort, IsEnd}
+use Rattle.gptp_plan.specs.declared.network.Member.{Member}
+use Rattle.gptp_plan.specs.declared.network.Wire.{Wire}
+use Rattle.gptp_plan.specs.Network.{NetworkState, IsNetwork, IsPort, IsEnd}
 use Rattle.gptp_world.specs.Directory.{Join, clocks_of, joins_of, start_of, BeginsAt, IsPlaced, IsPlan, AreRising, ArePlaces, AreEnds, AreOuts, AreTables, AreNamed}
-use Rattle.gptp_acts.proofs.ListLemmas.{same_there, mapped, mapped_there, contains_there, there_contains}
+use Rattle.gptp_lists.proofs.MappedLemmas.{same_there, mapped, mapped_there, contains_there, there_contains}
 
 -- ---- a network
 

@@ -13,7 +13,7 @@ use Rattle.gptp_world.specs.Net.{IsNet}
 use Rattle.gptp_world.specs.Stage.{clock_at, IsStage}
 use Rattle.gptp_acts.specs.World.{receiver}
 use Rattle.gptp_world.proofs.NetLemmas.{from_map}
-use Rattle.gptp_acts.proofs.ListLemmas.{mapped_there}
+use Rattle.gptp_lists.proofs.MappedLemmas.{mapped_there}
 
 -- the directory knows the ports that a link joins
 pub known_join : (net : Between) (link : ℕ) (cable : Cable) → IsNet net → slice_get net.cables.items link ≡ Some cable

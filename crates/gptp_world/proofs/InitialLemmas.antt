@@ -15,8 +15,8 @@ use Rattle.gptp_vector.specs.declared.port.PortId.{PortId}
 use Rattle.gptp_world.specs.declared.cable.Cable.{Cable}
 use Rattle.gptp_world.specs.declared.cable.Lane.{Lane}
 use Rattle.gptp_world.specs.declared.net.Net.{Net as Between}
-use Rattle.gptp_acts.specs.declared.network.Member.{Member}
-use Rattle.gptp_acts.specs.declared.network.Wire.{Wire}
+use Rattle.gptp_plan.specs.declared.network.Member.{Member}
+use Rattle.gptp_plan.specs.declared.network.Wire.{Wire}
 use Rattle.gptp_world.specs.declared.stage.Stage.{Stage}
 use Rattle.gptp_acts.specs.declared.station.Station.{Station}
 use Rattle.gptp_acts.specs.Agrees.{Agrees}
@@ -26,12 +26,12 @@ use Rattle.gptp_world.specs.Directory.{Join, clocks_of, joins_of, start_of, Begi
 use Rattle.gptp_acts.specs.Initial.{channel_from, channels_of, initial, setup_of, station_of, stations_of}
 use Rattle.gptp_world.specs.Net.{IsNet}
 use Rattle.gptp_acts.specs.World.{port_id}
-use Rattle.gptp_acts.specs.Network.{member, NetworkState, IsEnd, IsNetwork, IsPort, IsWire}
+use Rattle.gptp_plan.specs.Network.{member, NetworkState, IsEnd, IsNetwork, IsPort, IsWire}
 use Rattle.gptp_acts.specs.Sound.{AllFlow, AreApart, AreLinked, Flows, HaveOwnClocks, HaveTheirSetups, IsItsSetup, IsSound, JoinPorts}
 use Rattle.gptp_world.specs.Stage.{clock_at, IsStage}
 use Rattle.gptp_acts.specs.World.{Channel, queue, sender}
 use Rattle.gptp_acts.proofs.ChangeAgreeLemmas.{silent_agrees}
-use Rattle.gptp_acts.proofs.ListLemmas.{mapped, same_there}
+use Rattle.gptp_lists.proofs.MappedLemmas.{mapped, same_there}
 use Rattle.gptp_acts.proofs.SteadyLemmas.{started_none_late, started_steady}
 
 -- ---- systems and links of a network

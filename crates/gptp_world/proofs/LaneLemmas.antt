@@ -10,7 +10,7 @@ use Rattle.gptp_links.specs.declared.link.Direction.TheVariants.{FromA, FromB}
 use Rattle.gptp_world.specs.declared.cable.Lane.{Lane}
 use Rattle.gptp_world.specs.declared.directory.Ends.{Ends}
 use Rattle.gptp_world.specs.Directory.{Join, start_of, direction_number, lane_number, entered, BeginsAt, IsPlan, IsOut, AreOuts}
-use Rattle.gptp_acts.proofs.ListLemmas.{same_there}
+use Rattle.gptp_lists.proofs.MappedLemmas.{same_there}
 
 abbrev pub port_id : ℕ → ℕ → PortId
 port_id clock port = record { clock = clock; port = port }

@@ -2,10 +2,10 @@
 use Rattle.std.proofs.Common.{ℕ, ◌≤◌}
 use Rattle.gptp_world.specs.declared.aim.Aim.{Aim}
 use Rattle.gptp_world.specs.declared.aim.Aim.TheVariants as aims
-use Rattle.gptp_acts.specs.declared.change.Act.{Act}
-use Rattle.gptp_acts.specs.declared.change.Act.TheVariants.{Deliver, Expire, Change as Changing}
-use Rattle.gptp_acts.specs.declared.change.Change.{Change}
-use Rattle.gptp_acts.specs.declared.change.Change.TheVariants as changes
+use Rattle.gptp_plan.specs.declared.change.Act.{Act}
+use Rattle.gptp_plan.specs.declared.change.Act.TheVariants.{Deliver, Expire, Change as Changing}
+use Rattle.gptp_plan.specs.declared.change.Change.{Change}
+use Rattle.gptp_plan.specs.declared.change.Change.TheVariants as changes
 use Rattle.gptp_world.specs.declared.stage.Stage.{Stage}
 use Rattle.gptp_acts.specs.Acts.{at}
 use Rattle.gptp_world.specs.Aim.{IsAimOf, IsAimOfChange}

@@ -15,7 +15,7 @@ use Rattle.gptp_acts.specs.World.{Channel, sender}
 use Rattle.std.specs.Prelude.{Vec}
 use Rattle.std.specs.Vec.{with_items}
 use Rattle.std.proofs.lemmas.List.{with_items_is, length-map}
-use Rattle.gptp_acts.proofs.ListLemmas.{mapped_there}
+use Rattle.gptp_lists.proofs.MappedLemmas.{mapped_there}
 
 -- what stands in a list that was made of another, backwards
 pub record MadeOf {X Y : Type 0} (f : X → Y) (xs : List X) (i : ℕ) (y : Y) : Type 0 where

@@ -9,7 +9,7 @@ use Rattle.gptp_links.specs.Fate.{Draw}
 use Rattle.gptp_system.specs.declared.answer.Answer.{Answer}
 use Rattle.gptp_system.specs.declared.reach.Reach.{Reach}
 use Rattle.gptp_system.specs.declared.reach.Reach.TheVariants as reaches
-use Rattle.gptp_system.specs.declared.timer.Timer.{Timer}
+use Rattle.gptp_setup.specs.declared.timer.Timer.{Timer}
 use Rattle.gptp_system.specs.Input.{Priority}
 use Rattle.gptp_system.specs.Reach.{frame_reach, timer_reach}
 use Rattle.gptp_system.specs.State.{clock}
@@ -19,15 +19,16 @@ use Rattle.gptp_world.specs.declared.aim.Aim.{Aim}
 use Rattle.gptp_world.specs.declared.aim.Aim.TheVariants as aims
 use Rattle.gptp_world.specs.declared.cable.Cable.{Cable}
 use Rattle.gptp_world.specs.declared.cable.Lane.{Lane}
-use Rattle.gptp_acts.specs.declared.change.Act.{Act}
-use Rattle.gptp_acts.specs.declared.change.Act.TheVariants.{Deliver, Expire, Change as Changing}
-use Rattle.gptp_acts.specs.declared.change.Change.{Change}
-use Rattle.gptp_acts.specs.declared.change.Change.TheVariants as changes
+use Rattle.gptp_plan.specs.declared.change.Act.{Act}
+use Rattle.gptp_plan.specs.declared.change.Act.TheVariants.{Deliver, Expire, Change as Changing}
+use Rattle.gptp_plan.specs.declared.change.Change.{Change}
+use Rattle.gptp_plan.specs.declared.change.Change.TheVariants as changes
 use Rattle.gptp_acts.specs.declared.done.Done.{Done}
 use Rattle.gptp_acts.specs.declared.done.Done.TheVariants.{Quiet}
 use Rattle.gptp_world.specs.declared.stage.Stage.{Stage}
 use Rattle.gptp_acts.specs.declared.station.Station.{Station}
-use Rattle.gptp_acts.specs.Acts.{Acts, AtPlace, Changes, IsFitAct, IsOldestDue, Tells}
+use Rattle.gptp_acts.specs.Acts.{Acts, AtPlace, Changes, IsOldestDue, Tells}
+use Rattle.gptp_plan.specs.Allowed.{IsFitAct}
 use Rattle.gptp_world.specs.Aim.{IsAimOf, IsAimOfChange}
 use Rattle.gptp_world.specs.Cable.{channel_of, join_of}
 use Rattle.gptp_acts.specs.Changing.{with_bounds, with_setup, with_station, CallsIfLive}
@@ -41,8 +42,8 @@ use Rattle.gptp_world.specs.Telling.{HasRoomAtEnds}
 use Rattle.gptp_acts.specs.World.{Channel, WorldState, queue, receiver}
 use Rattle.gptp_world.proofs.EndLemmas.{end_same, known_join}
 use Rattle.gptp_world.proofs.NetLemmas.{from_map}
-use Rattle.gptp_acts.proofs.ListLemmas.{mapped_there}
-use Rattle.gptp_acts.proofs.PlaceLemmas.{read}
+use Rattle.gptp_lists.proofs.MappedLemmas.{mapped_there}
+use Rattle.gptp_lists.proofs.PlaceLemmas.{read}
 use Rattle.gptp_world.proofs.SendingLemmas.{queue_same}
 
 -- ---- where it is

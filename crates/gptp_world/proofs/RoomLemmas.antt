@@ -28,8 +28,8 @@ use Rattle.gptp_world.specs.Starting.{for_start, HasRoomToStart}
 use Rattle.gptp_acts.specs.World.{Channel, Net}
 use Rattle.gptp_world.proofs.NeedLemmas.{covered, repeated-covered, Covers}
 use Rattle.gptp_world.proofs.NetLemmas.{known_cable}
-use Rattle.gptp_acts.proofs.ListLemmas.{mapped_there}
-use Rattle.gptp_acts.proofs.PlaceLemmas.{get-set_same, get-set_other, same_place}
+use Rattle.gptp_lists.proofs.MappedLemmas.{mapped_there}
+use Rattle.gptp_lists.proofs.PlaceLemmas.{get-set_same, get-set_other, same_place}
 
 -- ---- one link
 

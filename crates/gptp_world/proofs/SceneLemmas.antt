@@ -6,7 +6,7 @@ use Rattle.gptp_links.specs.declared.bounds.Bounds.{Bounds}
 use Rattle.gptp_links.specs.Fate.{Draw}
 use Rattle.gptp_links.proofs.DrawLemmas as draws
 use Rattle.gptp_system.specs.Input.{Input}
-use Rattle.gptp_acts.specs.declared.change.Act.{Act}
+use Rattle.gptp_plan.specs.declared.change.Act.{Act}
 use Rattle.gptp_world.specs.declared.stage.Stage.{Stage}
 use Rattle.gptp_acts.specs.Acts.{at, IsReadyAct}
 use Rattle.gptp_acts.specs.Changing.{fresh, CallsAll, Starts, StartsAll}
@@ -16,7 +16,7 @@ use Rattle.gptp_world.specs.Stage.{world_of}
 use Rattle.gptp_world.specs.Starting.{CanStart, Started}
 use Rattle.gptp_acts.specs.World.{WorldState}
 use Rattle.gptp_world.proofs.ComingUpLemmas.{range-more}
-use Rattle.gptp_acts.proofs.PlaceLemmas.{member_there}
+use Rattle.gptp_lists.proofs.PlaceLemmas.{member_there}
 use Rattle.gptp_acts.proofs.SoundLemmas.{later_sound, starts_sound}
 
 -- ---- one system

@@ -18,8 +18,8 @@ use Rattle.gptp_acts.specs.Pending.{PendingState, put_if, arrival_room, KeepsOth
 use Rattle.gptp_acts.specs.World.{Channel, sender, queue, with_queue}
 use Rattle.gptp_acts.specs.Sends.{entered}
 use Rattle.gptp_world.specs.Cable.{net_of, channel_of, HasRoomOn, SentOne}
-use Rattle.gptp_acts.proofs.ListLemmas.{mapped_there}
-use Rattle.gptp_acts.proofs.PlaceLemmas.{get-set_same, get-set_other, map-set, map-set_same, same_place}
+use Rattle.gptp_lists.proofs.MappedLemmas.{mapped_there}
+use Rattle.gptp_lists.proofs.PlaceLemmas.{get-set_same, get-set_other, map-set, map-set_same, same_place}
 
 -- a link whose queue in one direction became another, and nothing else of it
 pub channel_sent : (d : Direction) (old new : Cable) (frames : List Frame) → new.a ≡ old.a → new.b ≡ old.b

@@ -24,8 +24,8 @@ use Rattle.gptp_world.specs.Net.{between, IsNet, OnlyEntries}
 use Rattle.gptp_acts.specs.World.{port_id}
 use Rattle.gptp_world.specs.Room.{both, for_call, for_reach, is_reached, nothing, sends_from, HasRoom, Uses}
 use Rattle.gptp_system.specs.Reach.{may_select, reach, timer_reach}
-use Rattle.gptp_system.specs.declared.timer.Timer.{Timer}
-use Rattle.gptp_system.specs.declared.timer.Timer.TheVariants as timers
+use Rattle.gptp_setup.specs.declared.timer.Timer.{Timer}
+use Rattle.gptp_setup.specs.declared.timer.Timer.TheVariants as timers
 use Rattle.gptp_system.specs.Steps.{IsTimerOf}
 use Rattle.gptp_system.proofs.ReachLemmas.{steps_reach}
 use Rattle.gptp_world.specs.declared.stage.Stage.{Stage}
@@ -33,7 +33,7 @@ use Rattle.gptp_world.specs.Stage.{clock_at, for_left, CalledWith, CallUses, Car
 use Rattle.gptp_acts.specs.World.{timers_from}
 use Rattle.gptp_world.proofs.NeedLemmas.{covered, nothing_with, uses_less, Covers}
 use Rattle.gptp_acts.proofs.SteadyLemmas.{same_clock, same_ports}
-use Rattle.gptp_acts.proofs.PlaceLemmas.{read, get-set_same, get-set_other, map-set_same, same_place}
+use Rattle.gptp_lists.proofs.PlaceLemmas.{read, get-set_same, get-set_other, map-set_same, same_place}
 
 -- ---- the timers are set
 

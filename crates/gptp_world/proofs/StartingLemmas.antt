@@ -20,7 +20,7 @@ use Rattle.gptp_acts.specs.World.{WorldState}
 use Rattle.gptp_acts.proofs.AgreeLemmas.{replaced}
 use Rattle.gptp_world.proofs.NeedLemmas.{covered, left_of, uses_timers}
 use Rattle.gptp_world.proofs.ComingUpLemmas.{same_call}
-use Rattle.gptp_acts.proofs.PlaceLemmas.{get-set_same}
+use Rattle.gptp_lists.proofs.PlaceLemmas.{get-set_same}
 use Rattle.gptp_world.proofs.StageLemmas.{becomes, net_kept}
 
 -- ---- one stands for the system at a place

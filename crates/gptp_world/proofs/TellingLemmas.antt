@@ -26,8 +26,8 @@ use Rattle.gptp_world.specs.Telling.{AreEndsOf, HasRoomAtEnds, IsEndAt, Told}
 use Rattle.gptp_acts.specs.World.{Channel, Net, WorldState}
 use Rattle.gptp_world.proofs.NeedLemmas.{covered, left_of}
 use Rattle.gptp_world.proofs.NetLemmas.{from_map, lane_of, MadeOf}
-use Rattle.gptp_acts.proofs.ListLemmas.{mapped_there}
-use Rattle.gptp_acts.proofs.PlaceLemmas.{get-set_other, read}
+use Rattle.gptp_lists.proofs.MappedLemmas.{mapped_there}
+use Rattle.gptp_lists.proofs.PlaceLemmas.{get-set_other, read}
 use Rattle.gptp_world.proofs.RoomLemmas.{joins_kept}
 
 -- ---- the ends of a link

@@ -9,8 +9,8 @@ use Rattle.gptp_lists.specs.Members.{In}
 use Rattle.gptp_messages.specs.Head.{message_type}
 use Rattle.gptp_system.specs.declared.answer.Answer.{Answer}
 use Rattle.gptp_system.specs.declared.port.Port.{Port}
-use Rattle.gptp_system.specs.declared.timer.Timer.{Timer}
-use Rattle.gptp_system.specs.declared.timer.Timer.TheVariants as timers
+use Rattle.gptp_setup.specs.declared.timer.Timer.{Timer}
+use Rattle.gptp_setup.specs.declared.timer.Timer.TheVariants as timers
 use Rattle.gptp_system.specs.declared.sending.Sending.{Sending}
 use Rattle.gptp_system.specs.Input.{Input, Steps, Frame, Expires}
 use Rattle.gptp_system.specs.Reach.{is_selected, is_touched, is_touched_by, same_timer, stops_at, Leaves}
@@ -37,7 +37,7 @@ use Rattle.gptp_acts.specs.World.{station_due, timers_from, Channel, Net}
 use Rattle.gptp_acts.proofs.AgreeLemmas.{no_arrival, running}
 use Rattle.gptp_acts.proofs.OwnTimerLemmas.{set_timers_is}
 use Rattle.gptp_acts.proofs.PendingLemmas.{set_due-kept, times-set_due_same, times-without_first_other}
-use Rattle.gptp_acts.proofs.PlaceLemmas.{get-set_same}
+use Rattle.gptp_lists.proofs.PlaceLemmas.{get-set_same}
 use Rattle.gptp_acts.proofs.SteadyLemmas.{same_ports}
 use Rattle.gptp_acts.proofs.TimerLemmas.{same_timer as same_expiry, set_all, set_all-kept, stays_set, IsSet}
 

@@ -22,7 +22,7 @@ use Rattle.gptp_acts.specs.World.{port_id}
 use Rattle.gptp_acts.specs.Sends.{entered, IsUnlinked, SendsAll, SendsOne}
 use Rattle.gptp_acts.specs.World.{Channel, Net, WorldState, sender, with_queue}
 use Rattle.gptp_world.proofs.NetLemmas.{known_cable}
-use Rattle.gptp_acts.proofs.ListLemmas.{mapped_there}
+use Rattle.gptp_lists.proofs.MappedLemmas.{mapped_there}
 
 -- ---- the ends of a link
 

@@ -8,8 +8,8 @@ use Rattle.gptp_roles.specs.Selection.{clock_of}
 use Rattle.gptp_world.specs.declared.cable.Lane.{Lane}
 use Rattle.gptp_world.specs.declared.directory.Ends.{Ends}
 pub use Rattle.gptp_world.specs.declared.directory.Join.{Join}
-use Rattle.gptp_acts.specs.declared.network.Member.{Member}
-use Rattle.gptp_acts.specs.declared.network.Wire.{Wire}
+use Rattle.gptp_plan.specs.declared.network.Member.{Member}
+use Rattle.gptp_plan.specs.declared.network.Wire.{Wire}
 
 -- the clock of each system and the ports of each link, by place
 pub record DirectoryState : Type 0 where

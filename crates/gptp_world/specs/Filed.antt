@@ -2,7 +2,7 @@
 use Rattle.std.specs.Prelude.{◌≡◌, ℕ, ◌+◌, ◌-◌, ◌*◌, ◌≤◌, ◌==◌, List, [], ◌∷◌, ◌++◌, map, length, Option, Some, None, slice_index_or, slice_set}
 use Rattle.std.specs.List.{AllByRecursion, filter}
 use Rattle.gptp_scheduler.specs.Pending.{Entry as Numbered}
-use Rattle.gptp_system.specs.declared.timer.Timer.{Timer}
+use Rattle.gptp_setup.specs.declared.timer.Timer.{Timer}
 use Rattle.gptp_world.specs.declared.filed.Running.{Running}
 use Rattle.gptp_acts.specs.declared.item.Item.{Item}
 use Rattle.gptp_acts.specs.declared.item.Item.TheVariants.{Expiry, Arrival}

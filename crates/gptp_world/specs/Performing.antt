@@ -3,11 +3,11 @@ use Rattle.std.specs.Prelude.{◌≡◌, ◌<◌, ℕ, ⊤, List, [], length, Op
 use Rattle.gptp_links.specs.declared.bounds.Bounds.{Bounds}
 use Rattle.gptp_links.specs.Bounds.{Fit}
 use Rattle.gptp_links.specs.Fate.{Draw, Draws}
-use Rattle.gptp_system.specs.declared.timer.Timer.{Timer}
+use Rattle.gptp_setup.specs.declared.timer.Timer.{Timer}
 use Rattle.gptp_system.specs.Input.{Expires as TimerExpires, Priority}
 use Rattle.gptp_world.specs.declared.aim.Aim.{Aim}
 use Rattle.gptp_world.specs.declared.aim.Aim.TheVariants as aims
-use Rattle.gptp_acts.specs.declared.change.Act.{Act}
+use Rattle.gptp_plan.specs.declared.change.Act.{Act}
 use Rattle.gptp_acts.specs.declared.done.Done.{Done}
 use Rattle.gptp_world.specs.declared.stage.Stage.{Stage}
 use Rattle.gptp_acts.specs.declared.station.Station.{Station}

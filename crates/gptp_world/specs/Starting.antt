@@ -4,7 +4,7 @@ use Rattle.std.specs.List.{filter}
 use Rattle.gptp_links.specs.declared.bounds.Bounds.{Bounds}
 use Rattle.gptp_links.specs.Fate.{Draw, Draws}
 use Rattle.gptp_system.specs.Input.{PortUp, Priority}
-use Rattle.gptp_system.specs.Intervals.{AreParams}
+use Rattle.gptp_setup.specs.Intervals.{AreParams}
 use Rattle.gptp_system.specs.State.{SystemState, clock}
 use Rattle.gptp_world.specs.declared.stage.Stage.{Stage}
 use Rattle.gptp_acts.specs.declared.station.Station.{Station}

@@ -34,7 +34,7 @@ pub(crate) enum Aim {
 impl Stage {
     ghost use Rattle.std.specs.Prelude.{◌≡◌, ◌↔◌, ◌<◌, IfSome, IfNone, IsTrue, length, Some, slice_get};
     ghost use Rattle.gptp_system.specs.Steps.{IsTimerOf};
-    ghost use Rattle.gptp_acts.specs.declared.change.Act.TheVariants.{Deliver, Expire};
+    ghost use Rattle.gptp_plan.specs.declared.change.Act.TheVariants.{Deliver, Expire};
     ghost use Rattle.gptp_acts.specs.declared.station.Station.{Station};
     ghost use Rattle.gptp_acts.specs.World.{Channel};
     ghost use Rattle.gptp_acts.specs.Acts.{set_to, AtLink, AnyLink, AtSystem, AnySystem, IsThere, IsThereToChange};

@@ -13,7 +13,7 @@ impl Stage {
     ghost use Rattle.std.specs.Prelude.{◌≡◌, ◌<◌, [], length};
     ghost use Rattle.gptp_links.specs.Bounds.{Fit};
     ghost use Rattle.gptp_world.specs.declared.aim.Aim.TheVariants.{LinkDown, LinkUp, LinkSet, Fail, Recover};
-    ghost use Rattle.gptp_acts.specs.declared.change.Act.TheVariants.{Deliver};
+    ghost use Rattle.gptp_plan.specs.declared.change.Act.TheVariants.{Deliver};
     ghost use Rattle.gptp_acts.specs.Acts.{AtPlace, IsOldestDue};
     ghost use Rattle.gptp_acts.specs.Agrees.{Agrees};
     ghost use Rattle.gptp_world.specs.Delivering.{HasRoomToHear};
@@ -127,7 +127,8 @@ impl Stage {
 
 impl Stage {
     ghost use Rattle.std.specs.Prelude.{◌≡◌, OnOk};
-    ghost use Rattle.gptp_acts.specs.Acts.{IsDueThen, IsFitAct};
+    ghost use Rattle.gptp_acts.specs.Acts.{IsDueThen};
+    ghost use Rattle.gptp_plan.specs.Allowed.{IsFitAct};
     ghost use Rattle.gptp_world.specs.Aim.{IsAimOf};
     ghost use Rattle.gptp_world.specs.Performing.{Acted, HasRoomForAim};
     ghost use Rattle.gptp_acts.specs.Sound.{IsSound};

@@ -58,7 +58,8 @@ fn start_all<F: Fate>(stage: &mut Stage, fate: &mut F) -> Result<(), AllocError>
 
 impl Scene {
     ghost use Rattle.std.specs.Prelude.{◌≡◌, ◌≤◌, IfErr, IfOk, OnErr};
-    ghost use Rattle.gptp_acts.specs.Acts.{IsFitAct, IsReadyAct, Refuses};
+    ghost use Rattle.gptp_plan.specs.Allowed.{IsFitAct};
+    ghost use Rattle.gptp_acts.specs.Acts.{IsReadyAct, Refuses};
     ghost use Rattle.gptp_acts.specs.Prompt.{IsPromptIn};
     ghost use Rattle.gptp_kept.specs.LegibleLaws.{SetsAnOctet};
     ghost use Rattle.gptp_kept.specs.Traces.{IsHeardClean};

@@ -8,7 +8,7 @@ use gptp_system::Timer;
 impl Net {
     ghost use Rattle.std.specs.Prelude.{◌≡◌, ◌≤◌, ◌<◌, ◌+◌, ◌*◌, ◌∷◌, [], length};
     ghost use Rattle.gptp_system.specs.Steps.{IsPortOf, IsTimerOf};
-    ghost use Rattle.gptp_system.specs.declared.timer.Timer.TheVariants as timers;
+    ghost use Rattle.gptp_setup.specs.declared.timer.Timer.TheVariants as timers;
     ghost use Rattle.gptp_acts.specs.Item.{timer_port};
     ghost use Rattle.gptp_acts.specs.Act.{set_timers};
     ghost use Rattle.gptp_world.specs.Net.{OnlyEntries};

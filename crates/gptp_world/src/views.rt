@@ -3,7 +3,7 @@
 ghost use Rattle.std.specs.Prelude.{◌≡◌, IfNone, IfSome};
 ghost use Rattle.gptp_system.specs.Start.{role_at};
 ghost use Rattle.gptp_system.specs.Steps.{IsPortOf};
-ghost use Rattle.gptp_acts.specs.Acts.{IsFitAct};
+ghost use Rattle.gptp_plan.specs.Allowed.{IsFitAct};
 ghost use Rattle.gptp_world.specs.Stage.{world_of, IsStage};
 ghost use Rattle.gptp_world.specs.Stage.{IsPlacedItem};
 ghost use Rattle.gptp_acts.specs.Views.{IsActOf};
@@ -17,7 +17,8 @@ use gptp_vector::{ClockId, Identity};
 
 impl Scene {
     ghost use Rattle.std.specs.Prelude.{◌≡◌, ◌↔◌, [], IfNone, IfSome, IsTrue, length, slice_get, true};
-    ghost use Rattle.gptp_acts.specs.Acts.{AtSystem, IsFitAct};
+    ghost use Rattle.gptp_acts.specs.Acts.{AtSystem};
+    ghost use Rattle.gptp_plan.specs.Allowed.{IsFitAct};
     ghost use Rattle.gptp_acts.specs.Prompt.{IsPromptIn};
     ghost use Rattle.gptp_acts.specs.Sound.{IsSound};
     ghost use Rattle.gptp_acts.specs.Views.{Follows, HasPort, HasRole, IsLiveSystem, IsNextAct, ShowsLive, rising_clocks};

@@ -18,8 +18,10 @@ pub struct World<F> {
 
 impl<F: Fate + Drop> World<F> {
     ghost use Rattle.std.specs.Prelude.{◌≡◌, ◌≤◌, ◌↔◌, IsTrue, IfErr, IfNone, IfOk, IfSome, List, OnErr, OnOk, length, slice_get, []};
-    ghost use Rattle.gptp_acts.specs.Acts.{AtSystem, IsFitAct, Refuses};
-    ghost use Rattle.gptp_acts.specs.Playing.{AreAllowed, IsAllowed, IsPlayed, Plays, StopsAt};
+    ghost use Rattle.gptp_acts.specs.Acts.{AtSystem, Refuses};
+    ghost use Rattle.gptp_plan.specs.Allowed.{IsFitAct};
+    ghost use Rattle.gptp_plan.specs.Allowed.{AreAllowed, IsAllowed};
+    ghost use Rattle.gptp_acts.specs.Playing.{IsPlayed, Plays, StopsAt};
     ghost use Rattle.gptp_acts.specs.Prompt.{ArePromptIn, IsPromptIn};
     ghost use Rattle.gptp_acts.specs.Advancing.{Advanced, StopsShort, Told};
     ghost use Rattle.gptp_acts.specs.Course.{Begun, WasDone};

@@ -1,7 +1,7 @@
 use Rattle.std.proofs.Common.{◌∷◌, ◌++◌, ◌+◌, [], map, ap, sym, ◌∙◌, arith}
 use Rattle.std.proofs.lemmas.List.{map-append}
 use Rattle.std.proofs.lemmas.List.FromFn.{map-range_with_len_more}
-use Rattle.gptp_certificate.specs.Certificate.{port_line_of}
+use Rattle.gptp_certificate_text.specs.Certificate.{port_line_of}
 use Rattle.gptp_certificate.specs.Stated.{stated_port}
 use Rattle.gptp_certificate.proofs.stated.list_ports.Goals as goal
 

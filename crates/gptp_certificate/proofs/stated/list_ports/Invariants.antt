@@ -1,6 +1,6 @@
 use Rattle.std.proofs.Common.{◌≡◌, map}
 use Rattle.std.specs.List.{range_with_len}
-use Rattle.gptp_certificate.specs.Certificate.{port_line_of}
+use Rattle.gptp_certificate_text.specs.Certificate.{port_line_of}
 use Rattle.gptp_certificate.specs.Stated.{stated_port}
 use Rattle.gptp_certificate.proofs.stated.list_ports.Given as goal
 

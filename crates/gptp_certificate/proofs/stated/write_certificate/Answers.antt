@@ -1,4 +1,4 @@
-use Rattle.gptp_certificate.specs.Certificate.{lines_of}
+use Rattle.gptp_certificate_text.specs.Certificate.{lines_of}
 use Rattle.gptp_certificate.proofs.SettledLemmas.{right_in_time}
 use Rattle.gptp_certificate.proofs.StatedLemmas.{stated_in_order}
 use Rattle.gptp_certificate.proofs.stated.write_certificate.Goals as goal

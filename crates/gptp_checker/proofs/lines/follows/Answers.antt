@@ -1,6 +1,6 @@
 use Rattle.std.proofs.Common.{refl, arith, eq-eqb, ◌+◌}
 use Rattle.std.proofs.lemmas.Bool.{eqb-true}
-use Rattle.gptp_certificate.specs.Certificate.{parent_of}
+use Rattle.gptp_certificate_text.specs.Certificate.{parent_of}
 use Rattle.gptp_checker.proofs.StatedLemmas.{follows_by, follows_nothing}
 use Rattle.gptp_checker.proofs.lines.follows.Goals as goal
 

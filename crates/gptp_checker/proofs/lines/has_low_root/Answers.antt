@@ -1,4 +1,4 @@
-use Rattle.gptp_certificate.specs.Certificate.{line_of}
+use Rattle.gptp_certificate_text.specs.Certificate.{line_of}
 use Rattle.gptp_checker.proofs.StatedLemmas.{at_most_by, has_identity, low_root_by}
 use Rattle.gptp_checker.proofs.lines.has_low_root.Goals as goal
 

@@ -1,4 +1,4 @@
-use Rattle.gptp_certificate.specs.Certificate.{line_of, parent_of}
+use Rattle.gptp_certificate_text.specs.Certificate.{line_of, parent_of}
 use Rattle.gptp_checker.proofs.StatedLemmas.{equal_by, has_identity, image_of_none, own_root_by}
 use Rattle.gptp_checker.proofs.lines.has_own_root.Goals as goal
 

@@ -1,4 +1,4 @@
-use Rattle.gptp_certificate.specs.Certificate.{line_of}
+use Rattle.gptp_certificate_text.specs.Certificate.{line_of}
 use Rattle.gptp_graph.proofs.StatementLemmas.{line_clock}
 use Rattle.gptp_checker.specs.declared.line_test.LineTest.TheVariants.{Root, Identity, Tie, Role}
 use Rattle.gptp_checker.proofs.LineTestLemmas.{same_test}

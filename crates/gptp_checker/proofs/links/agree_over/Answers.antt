@@ -1,5 +1,5 @@
 use Rattle.std.proofs.Common.{refl}
-use Rattle.gptp_certificate.specs.Certificate.{line_of}
+use Rattle.gptp_certificate_text.specs.Certificate.{line_of}
 use Rattle.gptp_checker.proofs.StatedLemmas.{agree_by}
 use Rattle.gptp_checker.proofs.links.agree_over.Goals as goal
 

@@ -1,5 +1,5 @@
 use Rattle.std.proofs.Common.{refl, subst}
-use Rattle.gptp_certificate.specs.Certificate.{line_of, role_of}
+use Rattle.gptp_certificate_text.specs.Certificate.{line_of, role_of}
 use Rattle.gptp_graph.specs.Labelling.{PortLine}
 use Rattle.gptp_graph.specs.LocalTests.{HasStatedRole}
 use Rattle.gptp_graph.proofs.RoleLemmas.{RoleBy-unique}

@@ -1,4 +1,4 @@
-use Rattle.gptp_certificate.specs.Certificate.{line_of}
+use Rattle.gptp_certificate_text.specs.Certificate.{line_of}
 use Rattle.gptp_graph.specs.Labelling.{PortLine}
 use Rattle.gptp_graph.specs.LocalTests.{HasStatedRole}
 use Rattle.gptp_checker.proofs.EachLemmas.{HoldBefore}

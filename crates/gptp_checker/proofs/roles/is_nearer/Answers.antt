@@ -1,4 +1,4 @@
-use Rattle.gptp_certificate.specs.Certificate.{line_of}
+use Rattle.gptp_certificate_text.specs.Certificate.{line_of}
 use Rattle.gptp_checker.proofs.StatedLemmas.{nearer_by, no_nearer}
 use Rattle.gptp_checker.proofs.roles.is_nearer.Goals as goal
 

@@ -1,6 +1,6 @@
 use Rattle.std.proofs.Common.{ap, option_map, eq-eqb}
 use Rattle.std.proofs.lemmas.Bool.{eqb-true}
-use Rattle.gptp_certificate.specs.Certificate.{line_of, parent_of}
+use Rattle.gptp_certificate_text.specs.Certificate.{line_of, parent_of}
 use Rattle.gptp_checker.proofs.StatedLemmas.{slave_by}
 use Rattle.gptp_checker.proofs.roles.is_slave.Goals as goal
 

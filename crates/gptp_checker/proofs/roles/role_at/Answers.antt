@@ -1,4 +1,4 @@
-use Rattle.gptp_certificate.specs.Certificate.{line_of}
+use Rattle.gptp_certificate_text.specs.Certificate.{line_of}
 use Rattle.gptp_network.specs.Snapshot.{port_identity}
 use Rattle.gptp_checker.proofs.StatedLemmas.{passive_role}
 use Rattle.gptp_checker.proofs.roles.role_at.Goals as goal

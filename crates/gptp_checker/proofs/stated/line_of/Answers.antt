@@ -1,5 +1,5 @@
 use Rattle.std.proofs.Common.{◌∙◌}
-use Rattle.gptp_certificate.specs.Certificate.{line_of}
+use Rattle.gptp_certificate_text.specs.Certificate.{line_of}
 use Rattle.gptp_checker.specs.Places.{IsLineAt}
 use Rattle.gptp_checker.proofs.EachLemmas.{some_of_map, not_none_of_map}
 use Rattle.gptp_checker.proofs.PlaceLemmas.{line_at_place, place_of_line}

@@ -1,5 +1,5 @@
 use Rattle.std.proofs.Common.{Some, refl, sym, ap, ◌∙◌}
-use Rattle.gptp_certificate.specs.Certificate.{line_of}
+use Rattle.gptp_certificate_text.specs.Certificate.{line_of}
 use Rattle.gptp_graph.specs.Labelling.{SystemLine}
 use Rattle.gptp_graph.proofs.StatementLemmas.{same_line}
 use Rattle.gptp_checker.proofs.stated.steps_of.Goals as goal

@@ -1,4 +1,4 @@
-use Rattle.gptp_certificate.specs.Certificate.{line_of, parent_of}
+use Rattle.gptp_certificate_text.specs.Certificate.{line_of, parent_of}
 use Rattle.gptp_graph.specs.Labelling.{PortLine}
 use Rattle.gptp_checker.specs.LineTests.{IsNoLower}
 use Rattle.gptp_checker.proofs.EachLemmas.{HoldBefore}

@@ -1,5 +1,5 @@
 use Rattle.std.proofs.Common.{ap, option_map}
-use Rattle.gptp_certificate.specs.Certificate.{line_of, parent_of}
+use Rattle.gptp_certificate_text.specs.Certificate.{line_of, parent_of}
 use Rattle.gptp_checker.specs.LineTests.{AreNoLower}
 use Rattle.gptp_checker.proofs.StatedLemmas.{of_parent}
 use Rattle.gptp_checker.proofs.ties.follows_lowest.Goals as goal

@@ -1,5 +1,5 @@
 use Rattle.std.proofs.Common.{◌≡◌, Some, None, refl, arith}
-use Rattle.gptp_certificate.specs.Certificate.{line_of, parent_of}
+use Rattle.gptp_certificate_text.specs.Certificate.{line_of, parent_of}
 use Rattle.gptp_network.specs.Snapshot.{port_identity}
 use Rattle.gptp_checker.proofs.StatedLemmas.{no_lower_by, no_lower_elsewhere, not_by}
 use Rattle.gptp_checker.proofs.ties.is_no_lower.Goals as goal

@@ -1,6 +1,6 @@
 use Rattle.std.proofs.Common.{◌++◌, ap, refl, ◌∙◌}
-use Rattle.gptp_certificate.specs.CertificateText.{certificate_lines}
-use Rattle.gptp_certificate.proofs.PrintedLemmas.{text_of_lines}
+use Rattle.gptp_certificate_text.specs.CertificateText.{certificate_lines}
+use Rattle.gptp_certificate_text.proofs.PrintedLemmas.{text_of_lines}
 use Rattle.gptp_commands.proofs.run.certify.Goals as goal
 
 pub returns-in_ok-print-clause-certifies : goal.returns-in_ok-print-clause-certifies

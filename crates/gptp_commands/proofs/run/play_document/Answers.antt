@@ -1,5 +1,5 @@
 use Rattle.std.proofs.Common.{◌≡◌, ◌++◌, [], ap, refl, ◌∙◌}
-use Rattle.gptp_report.specs.Lines.{text_of}
+use Rattle.gptp_spelling.specs.Lines.{text_of}
 use Rattle.gptp_report.proofs.FollowLemmas.{written_more}
 use Rattle.gptp_commands.proofs.run.play_document.Goals as goal
 

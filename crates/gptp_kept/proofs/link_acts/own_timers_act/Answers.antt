@@ -1,5 +1,5 @@
 use Rattle.std.proofs.Common.{refl}
-use Rattle.gptp_system.specs.declared.timer.Timer.TheVariants as timers
+use Rattle.gptp_setup.specs.declared.timer.Timer.TheVariants as timers
 use Rattle.gptp_acts.specs.World.{receiver, sender}
 use Rattle.gptp_kept.proofs.LinkExpiryLemmas.{answer_timer_seen, request_timer_seen}
 use Rattle.gptp_kept.proofs.link_acts.own_timers_act.Goals as goal

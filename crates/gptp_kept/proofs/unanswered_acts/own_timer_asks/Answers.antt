@@ -1,5 +1,5 @@
 use Rattle.std.proofs.Common.{refl}
-use Rattle.gptp_system.specs.declared.timer.Timer.TheVariants as timers
+use Rattle.gptp_setup.specs.declared.timer.Timer.TheVariants as timers
 use Rattle.gptp_acts.specs.World.{sender}
 use Rattle.gptp_kept.proofs.UnansweredExpiryLemmas.{request_timer_seen}
 use Rattle.gptp_kept.proofs.unanswered_acts.own_timer_asks.Goals as goal

@@ -1,6 +1,6 @@
 use Rattle.std.proofs.Common.{◌∙◌, ap, sym, ◌++◌, ◌∷◌, []}
 use Rattle.gptp_world.specs.Directory.{joins_of}
-use Rattle.gptp_acts.proofs.ListLemmas.{taken}
+use Rattle.gptp_lists.proofs.MappedLemmas.{taken}
 use Rattle.gptp_world.proofs.directory.list_joins.Goals as goal
 
 pub loop-place-preserved : goal.loop-place-preserved

@@ -1,6 +1,6 @@
 use Rattle.std.proofs.Common.{◌∙◌, ap, sym, ◌++◌, ◌∷◌, []}
 use Rattle.gptp_acts.specs.Initial.{stations_of}
-use Rattle.gptp_acts.proofs.ListLemmas.{taken}
+use Rattle.gptp_lists.proofs.MappedLemmas.{taken}
 use Rattle.gptp_world.proofs.founding.list_stations.Goals as goal
 
 pub loop-place-preserved : goal.loop-place-preserved

@@ -1,6 +1,6 @@
 use Rattle.gptp_acts.specs.Initial.{station_of}
 use Rattle.gptp_world.proofs.InitialLemmas.{drift_back, member_told}
-use Rattle.gptp_acts.proofs.ListLemmas.{mapped_there}
+use Rattle.gptp_lists.proofs.MappedLemmas.{mapped_there}
 use Rattle.gptp_world.proofs.founding.station_in.Goals as goal
 
 pub new-requires-clause-ports : goal.new-requires-clause-ports

@@ -1,7 +1,7 @@
 use Rattle.std.proofs.Common.{slice_index_or, refl, arith}
 use Rattle.std.proofs.lemmas.Option.{slice_get-get_or}
 use Rattle.gptp_world.specs.Cable.{channel_of, join_of}
-use Rattle.gptp_acts.proofs.PlaceLemmas.{map-set_same}
+use Rattle.gptp_lists.proofs.PlaceLemmas.{map-set_same}
 use Rattle.gptp_world.proofs.QueueLemmas.{on_ok}
 use Rattle.gptp_world.proofs.RoomLemmas.{both_ways, channel_kept, kept_on}
 use Rattle.gptp_world.proofs.room.make_room_on.Goals as goal

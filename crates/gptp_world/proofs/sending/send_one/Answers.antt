@@ -3,7 +3,7 @@ use Rattle.gptp_world.specs.declared.cable.Cable.{Cable}
 use Rattle.gptp_world.specs.Cable.{join_of}
 use Rattle.gptp_vector.specs.declared.port.PortId.{PortId}
 use Rattle.gptp_world.specs.Directory.{Join}
-use Rattle.gptp_acts.proofs.PlaceLemmas.{read, stands, map-set_same}
+use Rattle.gptp_lists.proofs.PlaceLemmas.{read, stands, map-set_same}
 use Rattle.gptp_world.proofs.SendingLemmas.{sent, room_left, room_elsewhere}
 use Rattle.gptp_world.proofs.sending.send_one.Goals as goal
 

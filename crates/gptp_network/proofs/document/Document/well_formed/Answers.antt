@@ -1,6 +1,6 @@
 use Rattle.std.proofs.Common.{subst}
-use Rattle.gptp_acts.specs.Playing.{AreAllowed}
-use Rattle.gptp_acts.specs.Prompt.{ArePromptActs}
+use Rattle.gptp_plan.specs.Allowed.{AreAllowed}
+use Rattle.gptp_plan.specs.Prompt.{ArePromptActs}
 use Rattle.gptp_network.specs.Document.{DocumentState}
 use Rattle.gptp_network.proofs.EventLemmas.{events_allowed, events_prompt}
 use Rattle.gptp_network.proofs.document.Document.well_formed.Goals as goal

@@ -1,7 +1,7 @@
 use Rattle.std.proofs.Common.{◌≡◌, ℕ, true, false, List, Some, Contains, length, slice_get, slice_index_or, refl, sym, ap, ◌∙◌, subst, arith}
 use Rattle.std.proofs.lemmas.Option.{slice_get_within, slice_get_read}
 use Rattle.gptp_world.specs.Directory.{DirectoryState, ArePlaces}
-use Rattle.gptp_acts.proofs.ListLemmas.{contains_there}
+use Rattle.gptp_lists.proofs.MappedLemmas.{contains_there}
 use Rattle.gptp_world.proofs.DirectoryLemmas.{rank_there, same_at, places_length}
 use Rattle.gptp_world.proofs.directory.Directory.place_of.Goals as goal
 

@@ -1,6 +1,6 @@
 use Rattle.std.proofs.Common.{◌≡◌, Some, refl, ap, sym, ◌∙◌, arith}
 use Rattle.std.proofs.lemmas.Option.{slice_get-get_or}
-use Rattle.gptp_acts.proofs.PlaceLemmas.{read}
+use Rattle.gptp_lists.proofs.PlaceLemmas.{read}
 use Rattle.gptp_world.proofs.NeedLemmas.{uses_nothing}
 use Rattle.gptp_world.proofs.RoomLemmas.{kept_on}
 use Rattle.gptp_world.proofs.ChangingLemmas.{net_changed, still_net}

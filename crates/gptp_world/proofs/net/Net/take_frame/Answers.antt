@@ -2,7 +2,7 @@ use Rattle.std.proofs.Common.{◌≡◌, Some, refl, ap, sym, ◌∙◌, arith}
 use Rattle.std.proofs.lemmas.List.{length-set}
 use Rattle.std.proofs.lemmas.Option.{same_Some}
 use Rattle.gptp_acts.specs.Pending.{PendingState}
-use Rattle.gptp_acts.proofs.PlaceLemmas.{read}
+use Rattle.gptp_lists.proofs.PlaceLemmas.{read}
 use Rattle.gptp_world.proofs.ArrivingLemmas.{joins_kept, taken}
 use Rattle.gptp_world.proofs.NeedLemmas.{uses_nothing}
 use Rattle.gptp_world.proofs.RoomLemmas.{kept_on}

@@ -1,5 +1,5 @@
 use Rattle.std.proofs.Common.{subst, sym, arith}
-use Rattle.gptp_acts.specs.declared.change.Timed.{Timed}
+use Rattle.gptp_plan.specs.declared.change.Timed.{Timed}
 use Rattle.gptp_acts.specs.Advancing.{Told}
 use Rattle.gptp_acts.specs.Pending.{IsNext}
 use Rattle.gptp_acts.specs.Sound.{IsSound}

@@ -1,7 +1,7 @@
 use Rattle.std.proofs.Common.{◌<◌, length, refl, arith}
 use Rattle.gptp_world.specs.Cable.{channel_of}
-use Rattle.gptp_acts.proofs.ListLemmas.{mapped_there}
-use Rattle.gptp_acts.proofs.PlaceLemmas.{member_there}
+use Rattle.gptp_lists.proofs.MappedLemmas.{mapped_there}
+use Rattle.gptp_lists.proofs.PlaceLemmas.{member_there}
 use Rattle.gptp_world.proofs.stage.Stage.arrival.Goals as goal
 
 pub returns-clause-some : goal.returns-clause-some

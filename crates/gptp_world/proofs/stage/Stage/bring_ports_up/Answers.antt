@@ -3,7 +3,7 @@ use Rattle.std.specs.List.{range_with_len}
 use Rattle.gptp_acts.specs.declared.station.Station.{Station}
 use Rattle.gptp_world.specs.Starting.{CameUp}
 use Rattle.gptp_world.proofs.ComingUpLemmas.{came_more, came_remains, more_use, none_came, none_use, range-more, room_for_next}
-use Rattle.gptp_acts.proofs.PlaceLemmas.{read}
+use Rattle.gptp_lists.proofs.PlaceLemmas.{read}
 use Rattle.gptp_world.proofs.stage.Stage.bring_ports_up.Goals as goal
 
 pub loop-port-init : goal.loop-port-init

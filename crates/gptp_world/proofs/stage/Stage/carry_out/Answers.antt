@@ -7,7 +7,7 @@ use Rattle.gptp_world.specs.Net.{between}
 use Rattle.gptp_world.specs.Room.{for_sends, for_timers, HasRoom, Uses}
 use Rattle.gptp_world.specs.Stage.{for_left}
 use Rattle.gptp_world.proofs.NeedLemmas.{left_of, uses_both, uses_timers}
-use Rattle.gptp_acts.proofs.PlaceLemmas.{read, get-set_same}
+use Rattle.gptp_lists.proofs.PlaceLemmas.{read, get-set_same}
 use Rattle.gptp_world.proofs.StageLemmas.{call_uses, called, stays, timers_set}
 use Rattle.gptp_world.proofs.stage.Stage.carry_out.Goals as goal
 

@@ -6,7 +6,7 @@ use Rattle.gptp_system.specs.Reach.{same_timer}
 use Rattle.gptp_system.specs.Steps.{IsTimerOf}
 use Rattle.gptp_acts.specs.declared.station.Station.{Station}
 use Rattle.gptp_world.specs.Touched.{timer_touches}
-use Rattle.gptp_acts.proofs.PlaceLemmas.{read}
+use Rattle.gptp_lists.proofs.PlaceLemmas.{read}
 use Rattle.gptp_world.proofs.StageLemmas.{carries, stepped}
 use Rattle.gptp_world.proofs.TouchedLemmas.{has_touched, timer_covers, timer_touches_own}
 use Rattle.gptp_world.proofs.stage.Stage.expire.Goals as goal

@@ -7,7 +7,7 @@ use Rattle.gptp_acts.specs.declared.station.Station.{Station}
 use Rattle.gptp_world.specs.Touched.{none}
 use Rattle.gptp_world.proofs.StageLemmas.{carries, stepped}
 use Rattle.gptp_world.proofs.TouchedLemmas.{frame_leaves, frame_touches_own, has_left, same_port_of, unchanged}
-use Rattle.gptp_acts.proofs.PlaceLemmas.{read}
+use Rattle.gptp_lists.proofs.PlaceLemmas.{read}
 use Rattle.gptp_acts.proofs.SteadyLemmas.{same_ports}
 use Rattle.gptp_system.proofs.SystemLemmas.{up_is_port}
 use Rattle.gptp_world.proofs.stage.Stage.hear.Goals as goal

@@ -5,7 +5,7 @@ use Rattle.gptp_world.specs.Cable.{channel_of}
 use Rattle.gptp_acts.specs.World.{Channel, queue}
 use Rattle.gptp_world.proofs.AimLemmas.{due_oldest, oldest_due}
 use Rattle.gptp_world.proofs.NetLemmas.{from_map}
-use Rattle.gptp_acts.proofs.PlaceLemmas.{read}
+use Rattle.gptp_lists.proofs.PlaceLemmas.{read}
 use Rattle.gptp_world.proofs.SendingLemmas.{queue_same}
 use Rattle.gptp_world.proofs.stage.Stage.is_frame_due.Goals as goal
 

@@ -1,5 +1,5 @@
 use Rattle.std.proofs.Common.{subst}
-use Rattle.gptp_acts.specs.Acts.{IsFitAct}
+use Rattle.gptp_plan.specs.Allowed.{IsFitAct}
 use Rattle.gptp_world.specs.Stage.{world_of}
 use Rattle.gptp_world.proofs.PerformingLemmas.{can_change, change_told, is_change, same_room, same_stage}
 use Rattle.gptp_world.proofs.stage.Stage.perform.Goals as goal

@@ -1,5 +1,0 @@
-use Rattle.gptp_certificate.proofs.LawLemmas.{one_fault}
-use Rattle.gptp_certificate.proofs.laws.a_text_fails_in_one_way.Goals as goal
-
-pub returns : goal.returns
-returns c = one_fault

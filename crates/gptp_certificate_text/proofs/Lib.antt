@@ -1,0 +1,9 @@
+pub mod TextLemmas
+pub mod PrintedLemmas
+pub mod WordLemmas
+pub mod FormLemmas
+pub mod SpellingLemmas
+pub mod LineLemmas
+pub mod OrderLemmas
+pub mod ReadingLemmas
+pub mod LawLemmas

@@ -1,0 +1,60 @@
+-- The text of a certificate (profile).
+use Rattle.std.specs.Prelude.{ℕ, Option, List, [], ◌∷◌, ◌++◌, map, codes}
+use Rattle.std.specs.Fmt.{decimal}
+use Rattle.std.specs.Option.{option_map}
+use Rattle.gptp_graph.specs.Labelling.{PortLine, SystemLine}
+use Rattle.gptp_graph.specs.Parent.{ParentLink}
+use Rattle.gptp_spelling.specs.Digits.{clock_text, identity_text}
+use Rattle.gptp_spelling.specs.Lines.{text_of}
+use Rattle.gptp_certificate_text.specs.Entries.{Entry, SystemEntry, PortEntry, entries_of}
+use Rattle.gptp_certificate_text.specs.Forms.{Form, SystemForm, PortForm, ParentWords, PortWords, SystemWords, form_text}
+
+-- the words of a parent: numbers are decimal, clocks hexadecimal
+abbrev pub parent_words : ParentLink → ParentWords
+parent_words link = record {
+  own_port = decimal link.own_port;
+  clock = clock_text link.clock;
+  port = decimal link.port;
+}
+
+-- the words of a system line
+abbrev pub system_words : ℕ → ℕ → ℕ → Option ParentLink → SystemWords
+system_words clock root steps parent = record {
+  clock = clock_text clock;
+  root = identity_text root;
+  steps = decimal steps;
+  parent = option_map parent_words parent;
+}
+
+-- the words of a port line
+abbrev pub port_words : ℕ → PortLine → PortWords
+port_words clock port = record { clock = clock_text clock; number = decimal port.number; role = port.role }
+
+-- how a line is spelled
+abbrev pub spelled : Entry → Form
+spelled (SystemEntry clock root steps parent) = SystemForm (system_words clock root steps parent)
+spelled (PortEntry clock port) = PortForm (port_words clock port)
+
+-- a line, as it is spelled
+abbrev pub entry_text : Entry → List ℕ
+entry_text entry = form_text (spelled entry)
+
+-- the head line
+abbrev pub head_text : List ℕ
+head_text = codes "gptp-certificate 1"
+
+-- the head, and then these lines
+abbrev pub front_text : List Entry → List ℕ
+front_text entries = text_of (head_text ∷ map entry_text entries)
+
+-- the line that a certificate ends with
+abbrev pub end_text : List ℕ
+end_text = codes "end" ++ 10 ∷ []
+
+-- the head, the lines of each system, and the end
+abbrev pub certificate_text : List SystemLine → List ℕ
+certificate_text lines = front_text (entries_of lines) ++ end_text
+
+-- the same, line by line
+abbrev pub certificate_lines : List SystemLine → List (List ℕ)
+certificate_lines lines = head_text ∷ map entry_text (entries_of lines) ++ codes "end" ∷ []

@@ -1,0 +1,94 @@
+-- The lines that a text is read by, in the words of the code (profile).
+use Rattle.std.specs.Prelude.{◌≡◌, ◌≢◌, ◌⊎◌, ◌++◌, ℕ, List, [], ◌∷◌, map}
+use Rattle.std.specs.Option.{option_map}
+use Rattle.gptp_certificate_text.specs.declared.fault.CertificateFault.{CertificateFault}
+use Rattle.gptp_certificate_text.specs.declared.fault.CertificateFault.TheVariants.{Line, Order, OutOfMemory, Spelling}
+use Rattle.gptp_certificate_text.specs.declared.form.ParentWords.{ParentWords}
+use Rattle.gptp_certificate_text.specs.declared.form.SystemWords.{SystemWords}
+use Rattle.gptp_certificate_text.specs.declared.form.PortWords.{PortWords}
+use Rattle.gptp_certificate_text.specs.declared.form.Form.{Form}
+use Rattle.gptp_certificate_text.specs.declared.form.Form.TheVariants.{System, Port}
+use Rattle.gptp_certificate_text.specs.declared.entry.Entry.{Entry}
+use Rattle.gptp_certificate_text.specs.declared.entry.Entry.TheVariants as read
+use Rattle.gptp_certificate_text.specs.Certificate.{parent_of, port_line_of, role_of}
+use Rattle.gptp_certificate_text.specs.Entries as entries
+use Rattle.gptp_certificate_text.specs.CertificateText.{entry_text}
+use Rattle.gptp_graph.specs.Labelling as graphs
+use Rattle.gptp_certificate_text.specs.Forms as forms
+use Rattle.gptp_certificate_text.specs.Forms.{HasForm}
+
+-- the words of a parent, out of the text
+abbrev pub parent_words_of : ParentWords → forms.ParentWords
+parent_words_of words = record { own_port = words.own_port.now; clock = words.clock.now; port = words.port.now }
+
+-- likewise the words of a system line
+abbrev pub system_words_of : SystemWords → forms.SystemWords
+system_words_of words = record {
+  clock = words.clock.now;
+  root = words.root.now;
+  steps = words.steps.now;
+  parent = option_map parent_words_of words.parent;
+}
+
+-- and those of a port line
+abbrev pub port_words_of : PortWords → forms.PortWords
+port_words_of words = record {
+  clock = words.clock.now;
+  number = words.number.now;
+  role = role_of words.role;
+}
+
+-- a line by its words
+abbrev pub form_of : Form → forms.Form
+form_of (System words) = forms.SystemForm (system_words_of words)
+form_of (Port words) = forms.PortForm (port_words_of words)
+
+-- a line by what its words spell
+abbrev pub entry_of : Entry → entries.Entry
+entry_of (read.System clock root steps parent) = entries.SystemEntry clock root steps (option_map parent_of parent)
+entry_of (read.Port clock number role) = entries.PortEntry clock (port_line_of (number, role))
+
+-- the fault of a line by itself: it has no form, or is the line of no entry
+abbrev pub LineFails : List ℕ → CertificateFault → Type 0
+LineFails line fault =
+    ((fault ≡ Line) × (HasForm line → ⊥))
+    ⊎ ((fault ≡ Spelling) × HasForm line
+    × ((entry : entries.Entry) → entries.IsReadableEntry entry → line ≢ entry_text entry))
+
+-- the last of a list that begins with the entry
+abbrev pub last_of : entries.Entry → List entries.Entry → entries.Entry
+last_of entry [] = entry
+last_of entry (next ∷ rest) = last_of next rest
+
+-- the last line of a system
+abbrev pub last_entry : graphs.SystemLine → entries.Entry
+last_entry line = last_of (entries.system_entry line) (map (entries.PortEntry line.clock) line.ports)
+
+-- one line more, in order
+pub record Appends (before : List entries.Entry) (entry : entries.Entry) (after : List entries.Entry) : Type 0 where
+  pub is : after ≡ before ++ entry ∷ []
+  pub order : entries.StandInOrder after
+
+-- memory was refused, or the line can't stand after those before
+abbrev pub RefusesOrder : List entries.Entry → entries.Entry → CertificateFault → Type 0
+RefusesOrder before entry fault =
+    (fault ≡ OutOfMemory) ⊎ ((fault ≡ Order) × (entries.StandInOrder (before ++ entry ∷ []) → ⊥))
+
+-- the line is an entry's, which stands after those before
+pub record ReadsLine (before : List entries.Entry) (line : List ℕ) (after : List entries.Entry) : Type 0 where
+  pub entry : entries.Entry
+  pub readable : entries.IsReadableEntry entry
+  pub is : line ≡ entry_text entry
+  pub appends : Appends before entry after
+
+-- the line is an entry's, which can't stand after those before
+pub record IsOutOfPlace (before : List entries.Entry) (line : List ℕ) : Type 0 where
+  pub entry : entries.Entry
+  pub readable : entries.IsReadableEntry entry
+  pub is : line ≡ entry_text entry
+  pub order : entries.StandInOrder (before ++ entry ∷ []) → ⊥
+
+-- memory was refused, or the line has the fault
+abbrev pub RefusesLine : List entries.Entry → List ℕ → CertificateFault → Type 0
+RefusesLine before line fault =
+    (fault ≡ OutOfMemory) ⊎ (LineFails line fault ⊎ ((fault ≡ Order) × IsOutOfPlace before line))

@@ -1,0 +1,127 @@
+//! Single lines of a certificate.
+
+ghost use Rattle.std.specs.Prelude.{◌≡◌, ◌≢◌, ℕ, Option, Some, None, IfSome, IfNone, IfOk, IfErr, OnErr, option_map};
+ghost use Rattle.gptp_graph.specs.Labelling.{PortLine};
+ghost use Rattle.gptp_graph.specs.Parent.{ParentLink};
+ghost use Rattle.gptp_certificate_text.specs.Certificate.{parent_of};
+ghost use Rattle.gptp_certificate_text.specs.CertificateText as text;
+ghost use Rattle.gptp_certificate_text.specs.CertificateText.{entry_text, spelled};
+ghost use Rattle.gptp_certificate_text.specs.Entries as entries;
+ghost use Rattle.gptp_certificate_text.specs.Entries.{IsReadableEntry, IsReadableLink, IsReadableParent};
+ghost use Rattle.gptp_certificate_text.specs.Lines.{entry_of, form_of, parent_words_of, port_words_of, system_words_of, LineFails};
+
+use crate::fault::CertificateFault;
+use crate::form::{Form, ParentWords, PortWords, SystemWords, read_form};
+use crate::spelling::{clock, identity, number, port_number};
+use gptp_roles::Role;
+use gptp_vector::{ClockId, Identity, PortId};
+
+/// A line of a system without its ports, or of a port.
+#[derive(Debug, Clone, Copy)]
+pub(crate) enum Entry {
+    System {
+        clock: ClockId,
+        root: Identity,
+        steps: u16,
+        parent: Option<(u16, PortId)>,
+    },
+    Port {
+        clock: ClockId,
+        number: u16,
+        role: Role,
+    },
+}
+
+/// The parent that three words spell.
+fn link(words: ParentWords<'_>) -> Option<(u16, PortId)>
+    ensures readable { IfSome result (λ link. IsReadableLink (parent_of link)) }
+    ensures found { IfSome result (λ link. text.parent_words (parent_of link) ≡ parent_words_of words.entry) }
+    ensures absent { IfNone result ((link : ParentLink) → IsReadableLink link → text.parent_words link ≢ parent_words_of words.entry) }
+{
+    let own_port = port_number(words.own_port)?;
+    let clock = clock(words.clock)?;
+    let port = port_number(words.port)?;
+    Some((own_port, PortId { clock, port }))
+}
+
+/// The parent that three words spell, or none.
+fn parent(words: Option<ParentWords<'_>>) -> Option<Option<(u16, PortId)>>
+    ensures readable { IfSome result (λ parent. IsReadableParent (option_map parent_of parent)) }
+    ensures found { IfSome result (λ parent. option_map text.parent_words (option_map parent_of parent) ≡ option_map parent_words_of words.entry) }
+    ensures absent { IfNone result ((parent : Option ParentLink) → IsReadableParent parent → option_map text.parent_words parent ≢ option_map parent_words_of words.entry) }
+{
+    match words {
+        None => Some(None),
+        Some(words) => Some(Some(link(words)?)),
+    }
+}
+
+/// The line of a system that these words spell.
+fn system(words: SystemWords<'_>) -> Option<Entry>
+    ensures readable { IfSome result (λ entry. IsReadableEntry (entry_of entry)) }
+    ensures found { IfSome result (λ entry. spelled (entry_of entry) ≡ form_of (Form.System words.entry)) }
+    ensures absent { IfNone result ((clock root steps : ℕ) (parent : Option ParentLink) → IsReadableEntry (entries.SystemEntry clock root steps parent) → text.system_words clock root steps parent ≢ system_words_of words.entry) }
+{
+    let clock = clock(words.clock)?;
+    let root = identity(words.root)?;
+    let steps = number(words.steps)?;
+    let parent = parent(words.parent)?;
+    Some(Entry::System {
+        clock,
+        root,
+        steps,
+        parent,
+    })
+}
+
+/// The line of a port that these words spell.
+fn port(words: PortWords<'_>) -> Option<Entry>
+    ensures readable { IfSome result (λ entry. IsReadableEntry (entry_of entry)) }
+    ensures found { IfSome result (λ entry. spelled (entry_of entry) ≡ form_of (Form.Port words.entry)) }
+    ensures absent { IfNone result ((clock : ℕ) (port : PortLine) → IsReadableEntry (entries.PortEntry clock port) → text.port_words clock port ≢ port_words_of words.entry) }
+{
+    let clock = clock(words.clock)?;
+    let number = port_number(words.number)?;
+    Some(Entry::Port {
+        clock,
+        number,
+        role: words.role,
+    })
+}
+
+/// The line that the words of a form spell.
+fn spelled_entry(form: Form<'_>) -> Option<Entry>
+    ensures readable { IfSome result (λ entry. IsReadableEntry (entry_of entry)) }
+    ensures found { IfSome result (λ entry. spelled (entry_of entry) ≡ form_of form.entry) }
+    ensures absent { IfNone result ((entry : entries.Entry) → IsReadableEntry entry → spelled entry ≢ form_of form.entry) }
+{
+    match form {
+        Form::System(words) => system(words),
+        Form::Port(words) => port(words),
+    }
+}
+
+/// The line that the words of a form spell, or the fault Spelling.
+fn entry_of_form(form: Form<'_>) -> Result<Entry, CertificateFault>
+    ensures readable { IfOk result (λ entry. IsReadableEntry (entry_of entry)) }
+    ensures read { IfOk result (λ entry. spelled (entry_of entry) ≡ form_of form.entry) }
+    ensures fault { IfErr result (λ fault. fault ≡ CertificateFault.Spelling) }
+    ensures refused { OnErr result ((entry : entries.Entry) → IsReadableEntry entry → spelled entry ≢ form_of form.entry) }
+{
+    match spelled_entry(form) {
+        None => Err(CertificateFault::Spelling),
+        Some(entry) => Ok(entry),
+    }
+}
+
+/// Reads a line. The error is Line where it has no form, and Spelling where its words spell no entry.
+pub(crate) fn read_entry(line: &[u8]) -> Result<Entry, CertificateFault>
+    ensures readable { IfOk result (λ entry. IsReadableEntry (entry_of entry)) }
+    ensures read { IfOk result (λ entry. line.now ≡ entry_text (entry_of entry)) }
+    ensures refused { IfErr result (λ fault. LineFails line.now fault) }
+{
+    match read_form(line) {
+        None => Err(CertificateFault::Line),
+        Some(form) => entry_of_form(form),
+    }
+}

@@ -1,0 +1,72 @@
+//! Reading a certificate from its text.
+
+ghost use Rattle.std.specs.Prelude.{◌≡◌, ◌⊎◌, List, ℕ, ◌≢◌, ◌<◌, ◌++◌, ◌∷◌, length, IfOk, IfErr};
+ghost use Rattle.gptp_certificate_text.specs.Certificate.{lines_of};
+ghost use Rattle.gptp_certificate_text.specs.CertificateText.{certificate_text, end_text};
+ghost use Rattle.gptp_certificate_text.specs.Entries.{IsReadable, StandInOrder, entries_of};
+ghost use Rattle.gptp_certificate_text.specs.Lines.{ReadsLine};
+ghost use Rattle.gptp_certificate_text.specs.Words.{Lacks};
+ghost use Rattle.gptp_certificate_text.specs.Parsing.{Fails, RestFails};
+
+use crate::certificate::{Certificate, SystemLine};
+use crate::fault::CertificateFault;
+use crate::order::append_line;
+use crate::words::{after, cut};
+use std::alloc::Global;
+
+/// The line before the first line feed, and what stands after it.
+fn first_line(text: &[u8]) -> Result<(&[u8], &[u8]), CertificateFault>
+    ensures found { IfOk result (λ parts. text.now ≡ parts.0.now ++ 10 ∷ parts.1.now) }
+    ensures first { IfOk result (λ parts. Lacks 10 parts.0.now) }
+    ensures absent { IfErr result (λ fault. (fault ≡ CertificateFault.Line) × Lacks 10 text.now) }
+{
+    match cut(b'\n', text) {
+        None => Err(CertificateFault::Line),
+        Some(parts) => Ok(parts),
+    }
+}
+
+/// Reads the first line of the rest, and gives what stands after it.
+fn read_line<'a>(
+    alloc: Global,
+    lines: &mut Vec<SystemLine>,
+    rest: &'a [u8],
+) -> Result<&'a [u8], CertificateFault>
+    requires stand { StandInOrder (entries_of (lines_of lines.old.items)) }
+    requires goes_on { rest.now ≢ end_text }
+    ensures read { IfOk result (λ more. (line : List ℕ)
+        × ReadsLine (entries_of (lines_of lines.old.items)) line (entries_of (lines_of lines.new.items))
+        × (rest.now ≡ line ++ 10 ∷ more.now)) }
+    ensures refused { IfErr result (λ fault. (fault ≡ CertificateFault.OutOfMemory) ⊎ RestFails (entries_of (lines_of lines.old.items)) rest.now fault) }
+{
+    let (line, more) = first_line(rest)?;
+    match append_line(alloc, lines, line) {
+        Err(fault) => Err(fault),
+        Ok(()) => Ok(more),
+    }
+}
+
+/// The certificate that a text spells, as [`print`](crate::print) writes it (profile). The text is read line by line, and
+/// the first line that fails tells the fault:
+///
+/// - [`CertificateFault::Head`]: the text doesn't begin with the first line, whole
+/// - [`CertificateFault::Line`]: a line is missing or lacks its line feed, isn't one by its words, or stands behind `end`
+/// - [`CertificateFault::Spelling`]: a number or digits are spelled otherwise, or a number is out of its range: steps are
+///   0 to 65535, ports 1 to 65535
+/// - [`CertificateFault::Order`]: a clock or a port number doesn't rise, or a port has another clock than the system
+///   before it, or stands before any
+///
+/// [`CertificateFault::OutOfMemory`] can come at any point.
+pub fn parse(alloc: Global, text: &[u8]) -> Result<Certificate, CertificateFault>
+    ensures read { IfOk result (λ c. (text.now ≡ certificate_text c) × IsReadable c) }
+    ensures refused { IfErr result (λ fault. (fault ≡ CertificateFault.OutOfMemory) ⊎ Fails text.now fault) }
+{
+    let Some(mut rest) = after(b"gptp-certificate 1\n", text) else {
+        return Err(CertificateFault::Head);
+    };
+    let mut lines = Vec::new(alloc);
+    while rest != b"end\n".as_slice() {
+        rest = read_line(alloc, &mut lines, rest)?;
+    }
+    Ok(Certificate::of_lines(lines))
+}

@@ -1,0 +1,18 @@
+-- A link that fails no test can be added.
+use Rattle.std.proofs.Common.{rules}
+use Rattle.gptp_plan.proofs.network.Network.link_fault.Goals as goal
+
+pub returns-else-interval_of-wire-clause-fits : goal.returns-else-interval_of-wire-clause-fits
+returns-else-interval_of-wire-clause-fits c = λ _. record {
+  room = search rules;
+  limits = record {
+    number = c.requires;
+    fit = search rules;
+    prompt = search rules;
+    a = search rules;
+    b = search rules;
+    apart = search rules;
+  };
+  free_a = search rules;
+  free_b = search rules;
+}

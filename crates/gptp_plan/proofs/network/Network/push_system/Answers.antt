@@ -1,0 +1,11 @@
+-- A network with a system that can be added is a network.
+use Rattle.std.proofs.Common.{rules, subst, sym}
+use Rattle.gptp_plan.specs.Network.{CanAddSystem}
+use Rattle.gptp_plan.proofs.NetworkLemmas.{system_added}
+use Rattle.gptp_plan.proofs.network.Network.push_system.Goals as goal
+
+pub invariant_of-self-2 : goal.invariant_of-self-2
+invariant_of-self-2 c =
+    rw c.in_ok-push.ensures.items
+    (system_added _ c.args.member c.self.invariant
+    (subst (λ n. CanAddSystem n c.args.member) (sym c.self.view_is) c.requires) (search rules))

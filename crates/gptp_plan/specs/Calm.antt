@@ -1,0 +1,48 @@
+-- When a network comes to rest after its last change (profile).
+use Rattle.std.specs.Prelude.{◌≡◌, ℕ, true, List, [], ◌∷◌, Some, slice_get}
+use Rattle.std.specs.List.{All}
+use Rattle.gptp_roles.specs.Selection.{clock_of}
+use Rattle.gptp_pdelay.specs.GoodLink.{IsGoodLink}
+use Rattle.gptp_setup.specs.declared.setup.Params.{Params}
+use Rattle.gptp_plan.specs.Change.{system_after, link_after}
+use Rattle.gptp_plan.specs.Network.{NetworkState}
+use Rattle.gptp_plan.specs.declared.change.Timed.{Timed}
+use Rattle.gptp_plan.specs.declared.network.Member.{Member}
+use Rattle.gptp_plan.specs.declared.network.Wire.{Wire}
+
+-- the time of the last of these, or 0
+abbrev pub last_change : List Timed → ℕ
+last_change [] = 0
+last_change (t ∷ []) = t.at
+last_change (t ∷ (u ∷ us)) = last_change (u ∷ us)
+
+-- the system with this clock lives after the events
+pub record IsLive (systems : List Member) (events : List Timed) (name : ℕ) : Type 0 where
+  pub place : ℕ
+  pub system : Member
+  pub there : slice_get systems place ≡ Some system
+  pub clock : clock_of system.identity ≡ name
+  pub live : (system_after events system).live ≡ true
+
+-- the link is up and joins two live systems
+pub record IsUsed (systems : List Member) (events : List Timed) (w : Wire) : Type 0 where
+  pub up : w.up ≡ true
+  pub a : IsLive systems events w.a.clock
+  pub b : IsLive systems events w.b.clock
+
+-- the link loses nothing, and is short enough for the threshold
+pub record IsQuiet (turnaround threshold : ℕ) (w : Wire) : Type 0 where
+  pub lossless : w.bounds.loss ≡ 0
+  pub good : IsGoodLink w.bounds.max turnaround threshold
+
+-- where a link is up between two live systems after the events, it is quiet
+abbrev pub Rests : Params → List Member → List Timed → Wire → Type 0
+Rests p systems events w =
+    IsUsed systems events (link_after events w) → IsQuiet p.turnaround p.threshold (link_after events w)
+
+abbrev pub AllRest : Params → List Member → List Wire → List Timed → Type 0
+AllRest p systems links events = All (Rests p systems events) links
+
+-- A network is calm after these events where each link that then is up between two live systems is quiet.
+abbrev pub IsCalm : NetworkState → List Timed → Type 0
+IsCalm n events = AllRest n.params n.systems n.links events

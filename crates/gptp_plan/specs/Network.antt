@@ -1,0 +1,154 @@
+-- Networks: systems, and links that join two of their ports (profile).
+use Rattle.std.specs.Prelude.{◌≡◌, ◌≢◌, ◌<◌, ◌≤◌, ◌⊎◌, ℕ, ◌^◌, ℤ, Bool, not, ◌&&◌, ◌||◌, ◌==◌, nat_lt, nat_le, unsigned_abs, List, [], ◌∷◌, ◌++◌, length, Option, Some, slice_get}
+use Rattle.std.specs.List.{list_any}
+use Rattle.gptp_vector.specs.declared.port.PortId.{PortId}
+use Rattle.gptp_roles.specs.Selection.{clock_of}
+use Rattle.gptp_links.specs.Bounds.{Fit}
+use Rattle.gptp_links.specs.declared.bounds.Bounds.{Bounds}
+use Rattle.gptp_pdelay.specs.Clock.{IsDrift}
+use Rattle.gptp_setup.specs.Intervals.{interval_of}
+use Rattle.gptp_setup.specs.declared.setup.Params.{Params}
+use Rattle.gptp_plan.specs.Faults.{first_fault}
+use Rattle.gptp_plan.specs.Params.{is_between, KeepParams}
+use Rattle.gptp_plan.specs.declared.fault.NetworkFault.{NetworkFault}
+use Rattle.gptp_plan.specs.declared.fault.NetworkFault.TheVariants.{OutOfRange, DuplicateClock, SelfLink, PortTaken, NoSuchPort, DelayTooLong, TooMany}
+use Rattle.gptp_plan.specs.declared.network.Member.{Member}
+use Rattle.gptp_plan.specs.declared.network.Wire.{Wire}
+
+-- a network: what is the same for all systems, and its systems and links in the order in which they were added
+pub record NetworkState : Type 0 where
+  pub params : Params
+  pub systems : List Member
+  pub links : List Wire
+
+abbrev pub without_members : Params → NetworkState
+without_members params = record { params = params; systems = []; links = [] }
+
+-- a system of this identity, with so many ports, whose clock has this phase and drift
+abbrev pub member : ℕ → ℕ → ℕ → ℤ → Member
+member identity ports phase drift = record { identity = identity; ports = ports; phase = phase; drift = drift }
+
+-- the link with this number
+abbrev pub wire : ℕ → PortId → PortId → ℕ → ℕ → ℕ → Bool → Wire
+wire number a b least greatest loss up = record {
+  a = a;
+  b = b;
+  bounds = record { link = number; min = least; max = greatest; loss = loss };
+  up = up;
+}
+
+-- one more system or link, behind the others
+abbrev pub with_system : Member → NetworkState → NetworkState
+with_system m n = record { params = n.params; systems = n.systems ++ m ∷ []; links = n.links }
+
+abbrev pub with_link : Wire → NetworkState → NetworkState
+with_link w n = record { params = n.params; systems = n.systems; links = n.links ++ w ∷ [] }
+
+abbrev pub is_member_in_range : Member → Bool
+is_member_in_range m =
+    nat_le m.ports 16 && nat_le m.phase 1000000000000000000 && nat_le (unsigned_abs m.drift) 219902325
+
+-- a system has this clock
+abbrev pub has_clock : List Member → ℕ → Bool
+has_clock systems clock = list_any (λ m. clock_of m.identity == clock) systems
+
+-- the first test that one more system fails
+abbrev pub system_fault : NetworkState → Member → Option NetworkFault
+system_fault n m = first_fault (
+    (nat_le 512 (length n.systems), TooMany)
+    ∷ (not (is_member_in_range m), OutOfRange)
+    ∷ (has_clock n.systems (clock_of m.identity), DuplicateClock)
+    ∷ [])
+
+abbrev pub are_bounds_in_range : Bounds → Bool
+are_bounds_in_range b =
+    is_between 1 16000000000 b.min && is_between 1 16000000000 b.max && nat_le b.loss 1000 && nat_le b.min b.max
+
+abbrev pub is_wire_in_range : Wire → Bool
+is_wire_in_range w =
+    is_between 1 16 w.a.port && is_between 1 16 w.b.port && are_bounds_in_range w.bounds
+
+abbrev pub same_port : PortId → PortId → Bool
+same_port p q = (p.clock == q.clock) && (p.port == q.port)
+
+-- the system with the clock of this port has so many ports
+abbrev pub has_port : List Member → PortId → Bool
+has_port systems p = list_any (λ m. (clock_of m.identity == p.clock) && nat_le p.port m.ports) systems
+
+-- a link is at this port
+abbrev pub is_taken : List Wire → PortId → Bool
+is_taken links p = list_any (λ w. same_port w.a p || same_port w.b p) links
+
+-- the first test that one more link fails
+abbrev pub link_fault : NetworkState → Wire → Option NetworkFault
+link_fault n w = first_fault (
+    (nat_le 2048 (length n.links), TooMany)
+    ∷ (not (is_wire_in_range w), OutOfRange)
+    ∷ (w.a.clock == w.b.clock, SelfLink)
+    ∷ (not (has_port n.systems w.a && has_port n.systems w.b), NoSuchPort)
+    ∷ (is_taken n.links w.a || is_taken n.links w.b, PortTaken)
+    ∷ (nat_lt (interval_of n.params.announce) w.bounds.max, DelayTooLong)
+    ∷ [])
+
+-- a system is within the limits
+pub record IsMember (m : Member) : Type 0 where
+  pub ports : m.ports ≤ 16
+  pub phase : m.phase ≤ 10 ^ 18
+  pub drift : IsDrift m.drift
+
+-- the port is one of a system of the network; ports are numbered from 1
+pub record IsPort (systems : List Member) (p : PortId) : Type 0 where
+  pub place : ℕ
+  pub system : Member
+  pub there : slice_get systems place ≡ Some system
+  pub clock : clock_of system.identity ≡ p.clock
+  pub first : 1 ≤ p.port
+  pub last : p.port ≤ system.ports
+
+-- a link of the network: it joins ports of two systems, and each of its frames arrives within an announce interval
+pub record IsWire (n : NetworkState) (place : ℕ) (w : Wire) : Type 0 where
+  pub number : w.bounds.link ≡ place
+  pub fit : Fit w.bounds
+  pub prompt : w.bounds.max ≤ interval_of n.params.announce
+  pub a : IsPort n.systems w.a
+  pub b : IsPort n.systems w.b
+  pub apart : w.a.clock ≢ w.b.clock
+
+-- the link is at this port
+abbrev pub IsEnd : PortId → Wire → Type 0
+IsEnd p w = (w.a ≡ p) ⊎ (w.b ≡ p)
+
+-- no system has this clock
+abbrev pub IsFresh : List Member → ℕ → Type 0
+IsFresh systems clock = (i : ℕ) (m : Member) → slice_get systems i ≡ Some m → clock_of m.identity ≢ clock
+
+-- no link is at this port
+abbrev pub IsFree : List Wire → PortId → Type 0
+IsFree links p = (i : ℕ) (w : Wire) → slice_get links i ≡ Some w → IsEnd p w → ⊥
+
+-- such a system can be added: there is room, its values are within the limits, and no other system has its clock
+pub record CanAddSystem (n : NetworkState) (m : Member) : Type 0 where
+  pub room : length n.systems < 512
+  pub limits : IsMember m
+  pub fresh : IsFresh n.systems (clock_of m.identity)
+
+-- such a link can be added: there is room, it is a link of the network, and no other link is at its ports
+pub record CanAddLink (n : NetworkState) (w : Wire) : Type 0 where
+  pub room : length n.links < 2048
+  pub limits : IsWire n (length n.links) w
+  pub free_a : IsFree n.links w.a
+  pub free_b : IsFree n.links w.b
+
+-- What holds of every network: its values are within the limits, identities have fourteen octets, clocks differ, a link
+-- joins ports of two systems, and a port has one link at most.
+pub record IsNetwork (n : NetworkState) : Type 0 where
+  pub params : KeepParams n.params
+  pub few_systems : length n.systems ≤ 512
+  pub few_links : length n.links ≤ 2048
+  pub systems : (i : ℕ) (m : Member) → slice_get n.systems i ≡ Some m → IsMember m
+  pub identities : (i : ℕ) (m : Member) → slice_get n.systems i ≡ Some m → m.identity < 2 ^ 112
+  pub clocks : (i j : ℕ) (l m : Member) → slice_get n.systems i ≡ Some l → slice_get n.systems j ≡ Some m
+      → clock_of l.identity ≡ clock_of m.identity → i ≡ j
+  pub links : (i : ℕ) (w : Wire) → slice_get n.links i ≡ Some w → IsWire n i w
+  pub one_link : (i j : ℕ) (v w : Wire) (p : PortId) → slice_get n.links i ≡ Some v → slice_get n.links j ≡ Some w
+      → IsEnd p v → IsEnd p w → i ≡ j

@@ -1,0 +1,11 @@
+//! What systems are set up with: the parameters that are the same for all systems of a network, what one system has of
+//! its own, the names of its timers, and how long intervals of messages are (IEEE 802.1AS-2020, 10.7 and 11.5.2).
+#![tactic(auto)]
+
+mod interval;
+mod setup;
+mod timer;
+
+pub use interval::interval_of;
+pub use setup::{Params, Setup};
+pub use timer::Timer;
