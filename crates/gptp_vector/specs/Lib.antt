@@ -1,3 +1,2 @@
-pub mod Identity
 pub mod Vector
 pub mod Trace

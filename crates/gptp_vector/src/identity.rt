@@ -10,28 +10,19 @@ use std::marker::Model;
 /// seen as the number that they spell, below 2^112, and the lower is the better.
 #[derive(Clone, Copy, Debug)]
 pub struct Identity {
-    priority1: u8,
-    clock_class: u8,
-    clock_accuracy: u8,
-    offset_scaled_log_variance: u16,
-    priority2: u8,
-    clock: ClockId,
+    number: u128,
 }
 
 impl Model for Identity {
-    ghost use Rattle.std.specs.Prelude.{ℕ};
+    ghost use Rattle.std.specs.Prelude.{ℕ, ◌<◌, ◌^◌};
 
     ghost Value = { ℕ };
 
-    ghost use Rattle.gptp_vector.specs.Identity.{number_of, FieldsFit, fields_of, fields_of-number_of};
+    ghost view = { λ i. i.number };
 
-    ghost view = { number_of };
+    ghost invariant = { λ i. i.number < 2 ^ 112 };
 
-    ghost invariant = { FieldsFit };
-
-    ghost inverse = { fields_of };
-
-    ghost inverse_ok = { fields_of-number_of };
+    ghost inverse = { λ n. record { number = n } };
 }
 
 impl Identity {
@@ -43,12 +34,7 @@ impl Identity {
         ensures { result ≡ big_number 14 octets }
     {
         Identity {
-            priority1: octets[0],
-            clock_class: octets[1],
-            clock_accuracy: octets[2],
-            offset_scaled_log_variance: BigEndian::read_u16(&octets[3..]),
-            priority2: octets[5],
-            clock: ClockId::from(BigEndian::read_u64(&octets[6..])),
+            number: BigEndian::read_uint128(&octets, 14),
         }
     }
 
@@ -57,7 +43,7 @@ impl Identity {
         ensures { result ≡ big_bytes 14 self }
     {
         let mut octets = [0; 14];
-        BigEndian::write_uint128(&mut octets, self.number(), 14);
+        BigEndian::write_uint128(&mut octets, self.number, 14);
         octets
     }
 
@@ -65,7 +51,7 @@ impl Identity {
     pub fn clock(self) -> ClockId
         ensures { result ≡ self % 2 ^ 64 }
     {
-        self.clock
+        ClockId::from((self.number % (1 << 64)) as u64)
     }
 
     /// Whether the system can be a grandmaster: its priority1 is below 255 (IEEE 802.1AS-2020,
@@ -73,25 +59,16 @@ impl Identity {
     pub fn capable(self) -> bool
         ensures { IsTrue result ↔ (self / 2 ^ 104 < 255) }
     {
-        self.priority1 < 255
+        self.number >> 104 < 255
     }
 
     /// The same identity with another priority1.
     pub fn with_priority1(self, priority1: u8) -> Self
         ensures { result ≡ priority1 * 2 ^ 104 + self % 2 ^ 104 }
     {
-        Identity { priority1, ..self }
-    }
-
-    /// The number that the octets spell.
-    fn number(self) -> u128
-        ensures { result ≡ self }
-    {
-        let class = u128::from(self.priority1) * 256 + u128::from(self.clock_class);
-        let quality = (class * 256 + u128::from(self.clock_accuracy)) * 65536
-            + u128::from(self.offset_scaled_log_variance);
-        let rank = quality * 256 + u128::from(self.priority2);
-        rank * (1 << 64) + u128::from(u64::from(self.clock))
+        Identity {
+            number: u128::from(priority1) * (1 << 104) + self.number % (1 << 104),
+        }
     }
 }
 
@@ -104,7 +81,7 @@ impl PartialEq for Identity {
     ghost laws = { partial_equiv_from_equiv nat_eq_equiv };
 
     fn eq(&self, other: &Identity) -> bool {
-        self.number() == other.number()
+        self.number == other.number
     }
 }
 
@@ -144,6 +121,6 @@ impl Ord for Identity {
     ghost matches_eq = { Prim.search (comparing, rules) };
 
     fn cmp(&self, other: &Identity) -> Ordering {
-        self.number().cmp(&other.number())
+        self.number.cmp(&other.number)
     }
 }
