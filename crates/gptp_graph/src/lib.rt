@@ -8,8 +8,8 @@
 //! The definitions stand in `specs/`. Each function of this crate is a law: it does nothing, and its contract is a
 //! theorem about the definitions. Distances are bounded and fall by one step at a time toward the best; best,
 //! distance, parent, role and choice exist once each, and slave ports form a tree. The local tests pass exactly for
-//! the settled choice of a network in which all systems are near. The choice of four small networks is the one
-//! written out for each. Lemmas for the crates above are in the public modules of `proofs/`.
+//! the settled choice. The choice of four small networks is the one written out for each. Lemmas for the crates above
+//! are in the public modules of `proofs/`.
 #![tactic(auto)]
 
 mod distances;
