@@ -80,21 +80,21 @@ near_line g s best d wf live is_best is_distance below =
 far_line : (g : Snapshot) (s best : System) (d : ℕ) → IsBest g s.clock best → IsDistance g s.clock d
     → (d < 255 → ⊥) → (line : SystemLine) × IsSettledLineOf g s line
 far_line g s best d is_best is_distance above = (
-      record { clock = s.clock; root = best.identity; steps = d; far = true; parent = None; ports = [] },
-      record {
-        clock = refl;
-        ports = λ e. absurd cc;
-        bare = λ far. record { parent = refl; ports = refl };
-        settled = record {
-          root = (best, is_best, refl);
-          steps = is_distance;
-          near = λ e. absurd cc;
-          far = λ far. omega arith;
-          parent = λ e. absurd cc;
-          roles = λ port at. absurd at;
-        };
-      },
-    )
+  record { clock = s.clock; root = best.identity; steps = d; far = true; parent = None; ports = [] },
+  record {
+    clock = refl;
+    ports = λ e. absurd cc;
+    bare = λ far. record { parent = refl; ports = refl };
+    settled = record {
+      root = (best, is_best, refl);
+      steps = is_distance;
+      near = λ e. absurd cc;
+      far = λ far. omega arith;
+      parent = λ e. absurd cc;
+      roles = λ port at. absurd at;
+    };
+  },
+)
 
 -- so every system has one
 line_exists : (g : Snapshot) (s : System) → IsWellFormed g → In s g.systems

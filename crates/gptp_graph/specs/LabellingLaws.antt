@@ -26,4 +26,4 @@ abbrev pub PassesWhereNear : Type 0
 PassesWhereNear = (g : Snapshot)
     → IsWellFormed g
     → ((lines : List SystemLine) × PassesLocalTests g lines × PassesTooFar lines)
-        ↔ ((v : ℕ) → In v (clocks g) → IsNear g v)
+    ↔ ((v : ℕ) → In v (clocks g) → IsNear g v)
