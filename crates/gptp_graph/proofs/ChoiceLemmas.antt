@@ -1,6 +1,7 @@
 -- Every snapshot has one settled choice, up to the order of its lines.
-use Rattle.std.proofs.Common.{◌≡◌, ◌+◌, ℕ, zero, suc, List, [], ◌∷◌, map, Option, Some, None, refl, sym, ap, ap₂, subst, ◌∙◌, inl, inr}
+use Rattle.std.proofs.Common.{◌≡◌, ◌+◌, ◌<◌, ◌≤◌, ℕ, zero, suc, Bool, true, false, List, [], ◌∷◌, map, Option, Some, None, refl, sym, ap, ap₂, subst, ◌∙◌, inl, inr, arith}
 use Rattle.std.specs.List.{range_with_len}
+use native.Mathlib.Decide.{dec_lt}
 use Rattle.gptp_lists.specs.Members.{In}
 use Rattle.gptp_graph.specs.Order.{IsRising}
 use Rattle.gptp_graph.specs.Snapshot.{System, Snapshot, IsWellFormed, clocks, port_of}
@@ -8,7 +9,7 @@ use Rattle.gptp_graph.specs.Best.{IsBest}
 use Rattle.gptp_graph.specs.Distance.{IsDistance}
 use Rattle.gptp_graph.specs.Parent.{ParentLink}
 use Rattle.gptp_graph.specs.SettledRole.{IsSettledRole}
-use Rattle.gptp_graph.specs.Labelling.{PortLine, SystemLine, line_clocks, port_numbers, HasItsSystems}
+use Rattle.gptp_graph.specs.Labelling.{PortLine, SystemLine, line_clocks, port_numbers, IsBare, IsLineOf, HasItsSystems}
 use Rattle.gptp_graph.specs.SettledChoice.{IsParentIfAny, IsSettledLine, IsSettledChoice}
 use Rattle.gptp_graph.proofs.RisingLemmas.{Different-rising, IsArranged, arranged, same_rising}
 use Rattle.gptp_graph.proofs.SystemLemmas.{In-clocks, same_clock}
@@ -49,25 +50,63 @@ ports_exist g v k (suc n) wf here =
 -- the line states the settled choice of the system s
 record IsSettledLineOf (g : Snapshot) (s : System) (line : SystemLine) : Type 0 where
   clock : line.clock ≡ s.clock
-  ports : port_numbers line ≡ range_with_len 1 s.ports
+  ports : line.far ≡ false → port_numbers line ≡ range_with_len 1 s.ports
+  bare : line.far ≡ true → IsBare line
   settled : IsSettledLine g line
 
--- every system has such a line
+-- a system at a distance below 255 has such a line
+near_line : (g : Snapshot) (s best : System) (d : ℕ) → IsWellFormed g → In s g.systems → IsBest g s.clock best
+    → IsDistance g s.clock d → d < 255 → (line : SystemLine) × IsSettledLineOf g s line
+near_line g s best d wf live is_best is_distance below =
+    let (parent, is_parent) = parent_if_any g s.clock d wf is_distance in
+    let p = ports_exist g s.clock 1 s.ports wf (In-clocks g s live) in (
+      record { clock = s.clock; root = best.identity; steps = d; far = false; parent = parent; ports = p.ports },
+      record {
+        clock = refl;
+        ports = λ near. p.numbers;
+        bare = λ e. absurd cc;
+        settled = record {
+          root = (best, is_best, refl);
+          steps = is_distance;
+          near = λ near. below;
+          far = λ e. absurd cc;
+          parent = λ near. is_parent;
+          roles = p.roles;
+        };
+      },
+    )
+
+-- and one at a distance of 255 or more
+far_line : (g : Snapshot) (s best : System) (d : ℕ) → IsBest g s.clock best → IsDistance g s.clock d
+    → (d < 255 → ⊥) → (line : SystemLine) × IsSettledLineOf g s line
+far_line g s best d is_best is_distance above = (
+  record { clock = s.clock; root = best.identity; steps = d; far = true; parent = None; ports = [] },
+  record {
+    clock = refl;
+    ports = λ e. absurd cc;
+    bare = λ far. record { parent = refl; ports = refl };
+    settled = record {
+      root = (best, is_best, refl);
+      steps = is_distance;
+      near = λ e. absurd cc;
+      far = λ far. omega arith;
+      parent = λ e. absurd cc;
+      roles = λ port at. absurd at;
+    };
+  },
+)
+
+-- so every system has one
 line_exists : (g : Snapshot) (s : System) → IsWellFormed g → In s g.systems
     → (line : SystemLine) × IsSettledLineOf g s line
 line_exists g s wf live =
     let here = In-clocks g s live in
     let (best, is_best) = best_exists g s.clock wf here in
     let (d, is_distance) = distance_exists g s.clock wf here in
-    let (parent, is_parent) = parent_if_any g s.clock d wf is_distance in
-    let p = ports_exist g s.clock 1 s.ports wf here in (
-      record { clock = s.clock; root = best.identity; steps = d; parent = parent; ports = p.ports },
-      record {
-        clock = refl;
-        ports = p.numbers;
-        settled = record { root = (best, is_best, refl); steps = is_distance; parent = is_parent; roles = p.roles };
-      },
-    )
+    elim (dec_lt d 255) [
+      | yes below ↦ near_line g s best d wf live is_best is_distance below
+      | no above ↦ far_line g s best d is_best is_distance above
+    ]
 
 -- a line for each system of a list
 record HasLines (g : Snapshot) (systems : List System) : Type 0 where
@@ -122,10 +161,11 @@ choice_exists g wf = from_systems (arranged (λ (s : System). s.clock) g.systems
           no_other =
               λ line h. (let (s, at, of) = made.no_other line h in
               (s, record { live = is.no_other s at; stated = h; clock = of.clock }));
-          ports = λ s line of.
+          ports = λ s line of near.
               let (t, at, is_of) = made.no_other line of.stated in
               let same : t ≡ s = same_clock g t s wf (is.no_other t at) of.live (sym is_of.clock ∙ of.clock) in
-              subst (λ (u : System). port_numbers line ≡ range_with_len 1 u.ports) same is_of.ports;
+              subst (λ (u : System). port_numbers line ≡ range_with_len 1 u.ports) same (is_of.ports near);
+          bare = λ line h. (made.no_other line h).2.bare;
         }
 
 -- the parent, or none, is one
@@ -162,12 +202,31 @@ same_ports g v (p ∷ ps) (q ∷ qs) e h k =
     heads : p ≡ q
     heads i = record { number = number i; role = role i }
 
--- two settled lines of one clock with the same port numbers are one
-same_settled_line : (g : Snapshot) (one two : SystemLine) → IsWellFormed g → one.clock ≡ two.clock
-    → port_numbers one ≡ port_numbers two → IsSettledLine g one → IsSettledLine g two → one ≡ two
-same_settled_line g one two wf clock numbers h k =
-    λ i. record { clock = clock i; root = root i; steps = steps i; parent = parent i; ports = ports i }
+-- below 255 a line isn't far, and from there on it is
+same_far : (a b : Bool) (n : ℕ) → (a ≡ false → n < 255) → (a ≡ true → 255 ≤ n) → (b ≡ false → n < 255)
+    → (b ≡ true → 255 ≤ n) → a ≡ b
+same_far true true n a_near a_far b_near b_far = refl
+same_far false false n a_near a_far b_near b_far = refl
+same_far true false n a_near a_far b_near b_far =
+    absurd (let above = a_far refl in let below = b_near refl in omega arith)
+same_far false true n a_near a_far b_near b_far =
+    absurd (let below = a_near refl in let above = b_far refl in omega arith)
+
+-- two settled lines of one system are one
+same_settled_line : (g : Snapshot) (s : System) (one two : SystemLine) → IsWellFormed g → IsSettledLineOf g s one
+    → IsSettledLineOf g s two → one ≡ two
+same_settled_line g s one two wf one_of two_of =
+    λ i. record { clock = clock i; root = root i; steps = steps i; far = far i; parent = parent i; ports = ports i }
   where
+    h : IsSettledLine g one
+    h = one_of.settled
+
+    k : IsSettledLine g two
+    k = two_of.settled
+
+    clock : one.clock ≡ two.clock
+    clock = one_of.clock ∙ sym two_of.clock
+
     root : one.root ≡ two.root
     root =
         let (a, is_a, ra) = h.root in
@@ -180,16 +239,39 @@ same_settled_line g one two wf clock numbers h k =
         IsDistance-unique g two.clock one.steps two.steps wf
         (subst (λ v. IsDistance g v one.steps) clock h.steps) k.steps
 
+    far : one.far ≡ two.far
+    far =
+        same_far one.far two.far two.steps (λ e. subst (λ n. n < 255) steps (h.near e))
+        (λ e. subst (λ n. 255 ≤ n) steps (h.far e)) k.near k.far
+
     parent : one.parent ≡ two.parent
-    parent =
-        IsParentIfAny-unique g two.clock one.parent two.parent
-        (subst (λ v. IsParentIfAny g v one.parent) clock h.parent) k.parent
+    parent = by_far one.far refl
+      where
+        by_far : (is : Bool) → one.far ≡ is → one.parent ≡ two.parent
+        by_far true e = (one_of.bare e).parent ∙ sym (two_of.bare (sym far ∙ e)).parent
+        by_far false e =
+            IsParentIfAny-unique g two.clock one.parent two.parent
+            (subst (λ v. IsParentIfAny g v one.parent) clock (h.parent e)) (k.parent (sym far ∙ e))
 
     ports : one.ports ≡ two.ports
-    ports =
-        same_ports g two.clock one.ports two.ports numbers
-        (λ port i. subst (λ v. IsSettledRole g (port_of v port.number) port.role) clock
-        (h.roles port i)) k.roles
+    ports = by_far one.far refl
+      where
+        by_far : (is : Bool) → one.far ≡ is → one.ports ≡ two.ports
+        by_far true e = (one_of.bare e).ports ∙ sym (two_of.bare (sym far ∙ e)).ports
+        by_far false e =
+            same_ports g two.clock one.ports two.ports (one_of.ports e ∙ sym (two_of.ports (sym far ∙ e)))
+            (λ port i. subst (λ v. IsSettledRole g (port_of v port.number) port.role) clock
+            (h.roles port i)) k.roles
+
+-- each line of a settled choice is settled
+settled_line_of : (g : Snapshot) (lines : List SystemLine) → IsSettledChoice g lines → (s : System)
+    (line : SystemLine) → IsLineOf g lines s line → IsSettledLineOf g s line
+settled_line_of g lines h s line of = record {
+  clock = of.clock;
+  ports = h.systems.ports s line of;
+  bare = h.systems.bare line of.stated;
+  settled = h.settled line of.stated;
+}
 
 -- two settled choices have the same lines
 pub same_lines : (g : Snapshot) (xs ys : List SystemLine) → IsWellFormed g → IsSettledChoice g xs
@@ -197,11 +279,8 @@ pub same_lines : (g : Snapshot) (xs ys : List SystemLine) → IsWellFormed g →
 same_lines g xs ys wf h k line at =
     let (s, of) = h.systems.no_other line at in
     let (other, of_other) = k.systems.all s of.live in
-    let numbers : port_numbers line ≡ port_numbers other =
-    h.systems.ports s line of ∙ sym (k.systems.ports s other of_other) in
-    let same =
-    same_settled_line g line other wf (of.clock ∙ sym of_other.clock) numbers (h.settled line at)
-    (k.settled other of_other.stated) in
+    let same = same_settled_line g s line other wf (settled_line_of g xs h s line of)
+    (settled_line_of g ys k s other of_other) in
     subst (λ l. In l ys) (sym same) of_other.stated
 
 -- two settled choices by rising clock are one

@@ -15,6 +15,7 @@ pub mod CompleteLemmas
 pub mod RisingLemmas
 pub mod ChoiceLemmas
 pub mod NearLemmas
+pub mod MarkingLemmas
 pub mod TreeLemmas
 pub mod Sure
 pub mod SureTests

@@ -1,4 +1,4 @@
--- A labelling passes the local tests exactly where all systems are near.
+-- A labelling passes the local tests with nothing too far exactly where all systems are near.
 use Rattle.std.proofs.Common.{◌<◌, ℕ, List, subst}
 use Rattle.gptp_lists.specs.Members.{In}
 use Rattle.gptp_graph.specs.Snapshot.{Snapshot, IsWellFormed, clocks}
@@ -12,22 +12,23 @@ use Rattle.gptp_graph.proofs.SoundLemmas.{sound}
 use Rattle.gptp_graph.proofs.CompleteLemmas.{complete}
 use Rattle.gptp_graph.proofs.ChoiceLemmas.{choice_exists}
 
--- where lines pass, all systems are near
-pub near_where_passed : (g : Snapshot) → IsWellFormed g → ((lines : List SystemLine) × PassesLocalTests g lines)
+-- where lines pass with nothing too far, all systems are near
+pub near_where_passed : (g : Snapshot) → IsWellFormed g
+    → ((lines : List SystemLine) × PassesLocalTests g lines × PassesTooFar lines)
     → (v : ℕ) → In v (clocks g) → IsNear g v
-near_where_passed g wf (lines, h) v here =
+near_where_passed g wf (lines, h, not_far) v here =
     let l = line_of g lines v h.systems here in
     let d = ((sound g lines wf h).settled l.line l.stated).steps in
-    (l.line.steps, subst (λ w. IsDistance g w l.line.steps) l.clock d, h.too_far l.line l.stated)
+    (l.line.steps, subst (λ w. IsDistance g w l.line.steps) l.clock d, not_far l.line l.stated)
 
 -- where all systems are near, the settled choice passes
 pub passed_where_near : (g : Snapshot) → IsWellFormed g → ((v : ℕ) → In v (clocks g) → IsNear g v)
-    → (lines : List SystemLine) × PassesLocalTests g lines
+    → (lines : List SystemLine) × PassesLocalTests g lines × PassesTooFar lines
 passed_where_near g wf near = of_choice (choice_exists g wf).0 (choice_exists g wf).1
   where
     of_choice : (lines : List SystemLine) → IsSettledChoice g lines
-        → (lines : List SystemLine) × PassesLocalTests g lines
-    of_choice lines is = (lines, complete g lines wf is not_far)
+        → (lines : List SystemLine) × PassesLocalTests g lines × PassesTooFar lines
+    of_choice lines is = (lines, complete g lines wf is, not_far)
       where
         not_far : PassesTooFar lines
         not_far line stated =

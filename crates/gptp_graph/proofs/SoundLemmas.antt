@@ -1,5 +1,5 @@
 -- A labelling that passes the local tests is the settled choice.
-use Rattle.std.proofs.Common.{◌≡◌, ◌≤◌, ◌<◌, ◌+◌, ℕ, zero, suc, List, [], ◌∷◌, length, Option, Some, None, refl, sym, ap, subst, ◌∙◌, arith}
+use Rattle.std.proofs.Common.{◌≡◌, ◌≤◌, ◌<◌, ◌+◌, ℕ, zero, suc, Bool, true, false, List, [], ◌∷◌, length, Option, Some, None, refl, sym, ap, subst, ◌∙◌, arith}
 use Rattle.gptp_lists.specs.Members.{In}
 use Rattle.gptp_graph.specs.Snapshot.{System, Snapshot, IsWellFormed, Adjacent}
 use Rattle.gptp_graph.specs.Path.{Route, Reaches}
@@ -8,18 +8,19 @@ use Rattle.gptp_graph.specs.Distance.{IsDistance}
 use Rattle.gptp_graph.specs.Parent.{ParentLink}
 use Rattle.gptp_graph.specs.Labelling.{SystemLine}
 use Rattle.gptp_graph.specs.SettledChoice.{IsParentIfAny, IsSettledLine, IsSettledChoice}
-use Rattle.gptp_graph.specs.LocalTests.{PassesLocalTests}
+use Rattle.gptp_graph.specs.LocalTests.{StatesOneLess, PassesLocalTests}
 use Rattle.gptp_graph.proofs.LinkLemmas.{Adjacent-clock}
 use Rattle.gptp_graph.proofs.PathLemmas.{Route-reverse, path_of, Reaches-route}
 use Rattle.gptp_graph.proofs.SystemLemmas.{In-clocks}
 use Rattle.gptp_graph.proofs.ParentLemmas.{LeadsNearer-distance}
 use Rattle.gptp_graph.proofs.RoleLemmas.{RoleBy-map}
-use Rattle.gptp_graph.proofs.StatementLemmas.{line_of, line_clock, same_line, StateDistances, distance_of_stated, stated_of_distance, master_of_stated, stated_of_master, slave_of_stated, stated_of_slave}
+use Rattle.gptp_graph.proofs.StatementLemmas.{line_of, line_clock, same_line, near_with_port, StateDistances, distance_of_stated, stated_of_distance, master_of_stated, stated_of_master, slave_of_stated, stated_of_slave}
 
--- a line with no parent, with the same root, which a route of as many steps as are stated reaches
+-- a line that isn't far and has no parent, with the same root, which a route of as many steps as are stated reaches
 record HasTop (g : Snapshot) (lines : List SystemLine) (line : SystemLine) : Type 0 where
   top : SystemLine
   stated : In top lines
+  near : top.far ≡ false
   alone : top.parent ≡ None
   root : line.root ≡ top.root
   route : (us : List ℕ) × Route g line.clock top.clock us × (length us ≡ line.steps)
@@ -33,7 +34,15 @@ record HasNext (g : Snapshot) (lines : List SystemLine) (line : SystemLine) (n :
   root : line.root ≡ next.root
 
 module _ (g : Snapshot) (lines : List SystemLine) (wf : IsWellFormed g) (h : PassesLocalTests g lines) where
-  -- with steps 0 there is no parent
+  -- a line with steps 0 isn't far
+  near_at_zero : (line : SystemLine) → In line lines → line.steps ≡ 0 → line.far ≡ false
+  near_at_zero line stated e = by_far line.far refl
+    where
+      by_far : (far : Bool) → line.far ≡ far → line.far ≡ false
+      by_far false is = is
+      by_far true is = absurd (let more : 255 ≤ line.steps = h.steps.far line stated is in omega arith)
+
+  -- and has no parent
   alone_at_zero : (line : SystemLine) → In line lines → line.steps ≡ 0 → line.parent ≡ None
   alone_at_zero line stated e = by_parent line.parent refl
     where
@@ -41,29 +50,39 @@ module _ (g : Snapshot) (lines : List SystemLine) (wf : IsWellFormed g) (h : Pas
       by_parent None is = is
       by_parent (Some l) is = absurd (let more : 0 < line.steps = h.steps.some line l stated is in omega arith)
 
-  -- with more steps the parent is next
-  next_of : (n : ℕ) (line : SystemLine) → In line lines → line.steps ≡ suc n → HasNext g lines line n
-  next_of n line stated e = by_parent line.parent refl
-    where
-      by_parent : (o : Option ParentLink) → line.parent ≡ o → HasNext g lines line n
-      by_parent None is = absurd (let zero : line.steps ≡ 0 = h.steps.none line stated is in omega arith)
-      by_parent (Some l) is =
-          let (joins, (d, (up, up_stated, up_clock, up_steps), less)) = h.parent line l stated is in
-          let at : Adjacent g line.clock up.clock =
-          subst (Adjacent g line.clock) (sym up_clock) (l.own_port, l.port, joins) in
-          record {
-            next = up;
-            stated = up_stated;
-            steps = omega arith;
-            adjacent = at;
-            root = (h.link line up stated up_stated at).0;
-          }
+  -- a neighbour with one step less is next
+  next_over : (n : ℕ) (line : SystemLine) (w : ℕ) → In line lines → line.steps ≡ suc n → Adjacent g line.clock w
+      → StatesOneLess lines w line → HasNext g lines line n
+  next_over n line w stated e adjacent (d, (up, up_stated, up_clock, up_steps), less) =
+      let at : Adjacent g line.clock up.clock = subst (Adjacent g line.clock) (sym up_clock) adjacent in
+      record {
+        next = up;
+        stated = up_stated;
+        steps = omega arith;
+        adjacent = at;
+        root = (h.link line up stated up_stated at).0;
+      }
 
-  -- by its parents each system comes to one with none
+  -- with more steps the parent is next, and some neighbour where the line is far
+  next_of : (n : ℕ) (line : SystemLine) → In line lines → line.steps ≡ suc n → HasNext g lines line n
+  next_of n line stated e = by_far line.far refl
+    where
+      by_parent : (o : Option ParentLink) → line.far ≡ false → line.parent ≡ o → HasNext g lines line n
+      by_parent None near is = absurd (let zero : line.steps ≡ 0 = h.steps.none line stated near is in omega arith)
+      by_parent (Some l) near is =
+          let (joins, less) = h.parent.near line l stated is in
+          next_over n line l.clock stated e (l.own_port, l.port, joins) less
+
+      by_far : (far : Bool) → line.far ≡ far → HasNext g lines line n
+      by_far false is = by_parent line.parent is refl
+      by_far true is = let (w, at, less) = h.parent.far line stated is in next_over n line w stated e at less
+
+  -- so each system climbs to one that isn't far and has no parent
   climb : (n : ℕ) (line : SystemLine) → In line lines → line.steps ≡ n → HasTop g lines line
   climb zero line stated e = record {
     top = line;
     stated = stated;
+    near = near_at_zero line stated e;
     alone = alone_at_zero line stated e;
     root = refl;
     route = ([], refl, sym e);
@@ -75,6 +94,7 @@ module _ (g : Snapshot) (lines : List SystemLine) (wf : IsWellFormed g) (h : Pas
       record {
         top = t.top;
         stated = t.stated;
+        near = t.near;
         alone = t.alone;
         root = up.root ∙ t.root;
         route = (up.next.clock ∷ us, (up.adjacent, route), ap suc (long ∙ up.steps) ∙ sym e);
@@ -108,7 +128,7 @@ module _ (g : Snapshot) (lines : List SystemLine) (wf : IsWellFormed g) (h : Pas
       let (best, of) = h.systems.no_other t.top t.stated in
       let (us, up, long) = t.route in
       let to_best : Route g line.clock best.clock us = subst (λ v. Route g line.clock v us) of.clock up in
-      let root : line.root ≡ best.identity = t.root ∙ h.root best t.top of t.alone in
+      let root : line.root ≡ best.identity = t.root ∙ h.root best t.top of t.near t.alone in
       let down = Route-reverse g line.clock best.clock us to_best in
       let here = line_clock g lines line h.systems stated in
       record {
@@ -121,7 +141,7 @@ module _ (g : Snapshot) (lines : List SystemLine) (wf : IsWellFormed g) (h : Pas
         root = root;
         route = (down.0, down.1, down.2 ∙ long);
         least =
-            λ ts r. no_shorter t.top t.stated t.alone ts
+            λ ts r. no_shorter t.top t.stated t.near t.alone ts
             (subst (λ v. Route g v line.clock ts) (sym of.clock) r);
       }
     where
@@ -135,11 +155,11 @@ module _ (g : Snapshot) (lines : List SystemLine) (wf : IsWellFormed g) (h : Pas
           let below : other.root ≤ s.identity = h.identity s other of in
           omega arith
 
-      no_shorter : (top : SystemLine) → In top lines → top.parent ≡ None
+      no_shorter : (top : SystemLine) → In top lines → top.far ≡ false → top.parent ≡ None
           → (us : List ℕ) → Route g top.clock line.clock us → line.steps ≤ length us
-      no_shorter top top_stated alone us r =
+      no_shorter top top_stated near alone us r =
           let grown : line.steps ≤ top.steps + length us = (along us top line top_stated stated r).1 in
-          let zero : top.steps ≡ 0 = h.steps.none top top_stated alone in
+          let zero : top.steps ≡ 0 = h.steps.none top top_stated near alone in
           omega arith
 
   -- the stated steps are the distances
@@ -157,17 +177,17 @@ module _ (g : Snapshot) (lines : List SystemLine) (wf : IsWellFormed g) (h : Pas
       }
 
   -- the stated parents are the parents
-  stated_parents : (line : SystemLine) → In line lines → IsParentIfAny g line.clock line.parent
-  stated_parents line stated = by_parent line.parent refl
+  stated_parents : (line : SystemLine) → In line lines → line.far ≡ false → IsParentIfAny g line.clock line.parent
+  stated_parents line stated near = by_parent line.parent refl
     where
       by_parent : (o : Option ParentLink) → line.parent ≡ o → IsParentIfAny g line.clock o
       by_parent None is = λ l p.
-          let zero : line.steps ≡ 0 = h.steps.none line stated is in
+          let zero : line.steps ≡ 0 = h.steps.none line stated near is in
           let more : line.steps ≡ suc p.nearer.distance =
           LeadsNearer-distance g line.clock line.steps l wf (stated_distances line stated) p.nearer in
           absurd (omega arith)
       by_parent (Some l) is =
-          let (joins, (d, steps, less)) = h.parent line l stated is in
+          let (joins, (d, steps, less)) = h.parent.near line l stated is in
           record {
             nearer = record {
               joins = joins;
@@ -193,14 +213,15 @@ module _ (g : Snapshot) (lines : List SystemLine) (wf : IsWellFormed g) (h : Pas
       settled line stated = record {
         root = (let b = stated_best line stated in (b.best, b.is_best, b.root));
         steps = stated_distances line stated;
-        parent = parent;
-        roles = λ port at. RoleBy-map _ _ _ _ _ port.role
+        near = h.steps.near line stated;
+        far = h.steps.far line stated;
+        parent = stated_parents line stated;
+        roles = λ port at. let parent = stated_parents line stated
+            (near_with_port g lines line port h.systems stated at) in
+            RoleBy-map _ _ _ _ _ port.role
             (slave_of_stated g line port.number parent)
             (stated_of_slave g line port.number parent)
             (master_of_stated g lines line port.number stated_distances stated)
             (stated_of_master g lines line port.number wf h.systems stated_distances stated)
             (h.role line port stated at);
       }
-        where
-          parent : IsParentIfAny g line.clock line.parent
-          parent = stated_parents line stated

@@ -1,11 +1,11 @@
 -- Where the stated steps are the distances, what the lines state of ports is what holds of them.
-use Rattle.std.proofs.Common.{◌≡◌, ◌⊎◌, ◌<◌, ℕ, List, Option, Some, None, refl, sym, ap, subst, ◌∙◌}
+use Rattle.std.proofs.Common.{◌≡◌, ◌⊎◌, ◌<◌, ℕ, Bool, true, false, List, Option, Some, None, refl, sym, ap, subst, ◌∙◌}
 use Rattle.gptp_lists.specs.Members.{In}
 use Rattle.gptp_graph.specs.Snapshot.{Snapshot, IsWellFormed, clocks, port_of}
 use Rattle.gptp_graph.specs.Distance.{IsDistance}
 use Rattle.gptp_graph.specs.Parent.{ParentLink}
 use Rattle.gptp_graph.specs.SettledRole.{IsSlavePort, IsMasterPort}
-use Rattle.gptp_graph.specs.Labelling.{SystemLine, HasItsSystems}
+use Rattle.gptp_graph.specs.Labelling.{PortLine, SystemLine, HasItsSystems}
 use Rattle.gptp_graph.specs.SettledChoice.{IsParentIfAny}
 use Rattle.gptp_graph.specs.LocalTests.{StatesSteps, StatesSlave, StatesMaster}
 use Rattle.gptp_lists.proofs.MemberLemmas.{same_image}
@@ -38,6 +38,24 @@ line_clock g lines line h stated =
 pub same_line : (g : Snapshot) (lines : List SystemLine) (one two : SystemLine) → HasItsSystems g lines
     → In one lines → In two lines → one.clock ≡ two.clock → one ≡ two
 same_line g lines one two h a b e = same_image (λ (l : SystemLine). l.clock) one two lines h.different a b e
+
+-- a line with a parent isn't far
+pub near_with_parent : (g : Snapshot) (lines : List SystemLine) (line : SystemLine) (l : ParentLink)
+    → HasItsSystems g lines → In line lines → line.parent ≡ Some l → line.far ≡ false
+near_with_parent g lines line l h stated is = by_far line.far refl
+  where
+    by_far : (far : Bool) → line.far ≡ far → line.far ≡ false
+    by_far false e = e
+    by_far true e = let none : line.parent ≡ None = (h.bare line stated e).parent in absurd cc
+
+-- nor is one with a port
+pub near_with_port : (g : Snapshot) (lines : List SystemLine) (line : SystemLine) (port : PortLine)
+    → HasItsSystems g lines → In line lines → In port line.ports → line.far ≡ false
+near_with_port g lines line port h stated at = by_far line.far refl
+  where
+    by_far : (far : Bool) → line.far ≡ far → line.far ≡ false
+    by_far false e = e
+    by_far true e = absurd (subst (In port) (h.bare line stated e).ports at)
 
 -- all stated steps are distances
 abbrev pub StateDistances : Snapshot → List SystemLine → Type 0

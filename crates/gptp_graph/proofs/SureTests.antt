@@ -1,5 +1,5 @@
--- Tests that compute: whether a snapshot is a network's, and whether lines pass the local tests.
-use Rattle.std.proofs.Common.{◌≡◌, ◌≢◌, ◌⊎◌, ◌≤◌, ◌<◌, ◌+◌, ◌%◌, ◌^◌, ℕ, true, false, List, [], ◌∷◌, Option, Some, None, refl, sym, ap, ap₂, subst, ◌∙◌}
+-- Tests that compute: whether a snapshot is a network's, and whether lines, none of them far, pass the local tests.
+use Rattle.std.proofs.Common.{◌≡◌, ◌≢◌, ◌⊎◌, ◌≤◌, ◌<◌, ◌+◌, ◌%◌, ◌^◌, ℕ, Bool, true, false, List, [], ◌∷◌, Option, Some, None, refl, sym, ap, ap₂, subst, ◌∙◌}
 use Rattle.std.specs.List.{range_with_len}
 use native.Mathlib.Decide.{ℕ_discrete, dec_le, dec_lt}
 use Rattle.gptp_lists.specs.Members.{In, Different}
@@ -8,7 +8,7 @@ use Rattle.gptp_graph.specs.Snapshot.{System, PortIdentity, Snapshot, clocks, po
 use Rattle.gptp_graph.specs.Parent.{ParentLink, key, JoinsAt}
 use Rattle.gptp_graph.specs.SettledRole.{Role, Disabled, Master, Slave, Passive}
 use Rattle.gptp_graph.specs.Labelling.{PortLine, SystemLine, line_clocks, port_numbers, IsLineOf}
-use Rattle.gptp_graph.specs.LocalTests.{StatesSteps, StatesSlave, StatesMaster, HasStatedRole, PassesSystems, PassesTooFar, PassesRoot, PassesSteps, PassesParent, PassesLink, PassesIdentity, PassesTie, PassesRole, PassesLocalTests}
+use Rattle.gptp_graph.specs.LocalTests.{StatesSteps, StatesOneLess, StatesSlave, StatesMaster, HasStatedRole, PassesSystems, PassesRoot, PassesSteps, PassesParent, PassesLink, PassesIdentity, PassesTie, PassesRole, PassesLocalTests}
 use Rattle.gptp_graph.proofs.DecisionLemmas.{dec_both, dec_either}
 use Rattle.gptp_graph.proofs.OrderLemmas.{IsLower-dec}
 use Rattle.gptp_graph.proofs.LinkDecisions.{PortIdentity-dec}
@@ -88,11 +88,33 @@ module _ (g : Snapshot) (lines : List SystemLine) where
   if_parent None P t = (true, λ e l h. none_is_none l (sym h))
   if_parent (Some k) P t = ((t k).0, λ e l h. subst P (same_some k l h) ((t k).1 e))
 
+  -- no line is far
+  abbrev pub HasNoFar : Type 0
+  HasNoFar = (line : SystemLine) → In line lines → line.far ≡ false
+
+  -- so a far line has whatever is asked
+  pub none_is_far : {A : Type 0} → HasNoFar → (line : SystemLine) → In line lines → line.far ≡ true → A
+  none_is_far h line at e = absurd (let near = h line at in cc)
+
+  -- whether no line is far
+  abbrev pub sure_no_far : Sure HasNoFar
+  sure_no_far = for_all (λ line. line.far ≡ false) lines (λ line. is_false line.far)
+    where
+      is_false : (far : Bool) → Sure (far ≡ false)
+      is_false false = (true, λ e. refl)
+      is_false true = (false, failed)
+
   -- the systems are those of the snapshot
   abbrev pub sure_systems : Sure (PassesSystems g lines)
   sure_systems =
-      so (λ h. record { different = h.0; all = h.1.0; no_other = h.1.1.0; ports = h.1.1.1 })
-      (both (sure_different (line_clocks lines)) (both all (both no_other ports)))
+      so (λ ((different, all), ((no_other, ports), no_far)). record {
+        different = different;
+        all = all;
+        no_other = no_other;
+        ports = λ s line of near. ports s line of;
+        bare = λ line. none_is_far no_far line;
+      })
+      (both (both (sure_different (line_clocks lines)) all) (both (both no_other ports) sure_no_far))
     where
       all : Sure ((s : System) → In s g.systems → (line : SystemLine) × IsLineOf g lines s line)
       all =
@@ -116,33 +138,36 @@ module _ (g : Snapshot) (lines : List SystemLine) where
           for_lines_of (λ s line. port_numbers line ≡ range_with_len 1 s.ports)
           (λ s line. sure_same (port_numbers line) (range_with_len 1 s.ports))
 
-  -- all steps are below 255
-  abbrev pub sure_too_far : Sure (PassesTooFar lines)
-  sure_too_far = for_all (λ line. line.steps < 255) lines (λ line. decided (dec_lt line.steps 255))
-
   -- a system with no parent is its own root
   abbrev pub sure_root : Sure (PassesRoot g lines)
-  sure_root =
-      for_lines_of (λ s line. line.parent ≡ None → line.root ≡ s.identity)
-      (λ s line. if_none line.parent (line.root ≡ s.identity) (decided (ℕ_discrete line.root s.identity)))
+  sure_root = so (λ h s line of near e. h s line of e)
+      (for_lines_of (λ s line. line.parent ≡ None → line.root ≡ s.identity)
+      (λ s line. if_none line.parent (line.root ≡ s.identity) (decided (ℕ_discrete line.root s.identity))))
 
-  -- no parent is stated with steps 0 alone
+  -- no parent is stated with steps 0 alone, and all steps are below 255
   abbrev pub sure_steps_stated : Sure (PassesSteps lines)
   sure_steps_stated =
-      so (λ h. record { none = (λ line at e. (h line at).0 e); some = λ line l at e. (h line at).1 l e })
-      (for_all (λ line. (line.parent ≡ None → line.steps ≡ 0)
+      so (λ ((h, below), no_far). record {
+        none = λ line at near e. (h line at).0 e;
+        some = λ line l at e. (h line at).1 l e;
+        near = λ line at e. below line at;
+        far = λ line. none_is_far no_far line;
+      })
+      (both (both (for_all (λ line. (line.parent ≡ None → line.steps ≡ 0)
       × ((l : ParentLink) → line.parent ≡ Some l → 0 < line.steps)) lines
       (λ line. both (if_none line.parent (line.steps ≡ 0) (decided (ℕ_discrete line.steps 0)))
       (if_parent line.parent (λ l. 0 < line.steps) (λ l. decided (dec_lt 0 line.steps)))))
+      (for_all (λ line. line.steps < 255) lines (λ line. decided (dec_lt line.steps 255)))) sure_no_far)
 
   -- the parent is over a link, with steps one less
   abbrev pub sure_parent : Sure (PassesParent g lines)
-  sure_parent = so (λ h line l at e. h line at l e)
-      (for_all (λ line. (l : ParentLink) → line.parent ≡ Some l → IsUp line l) lines
-      (λ line. if_parent line.parent (IsUp line) (λ l. up line l)))
+  sure_parent =
+      so (λ (h, no_far). record { near = λ line l at e. h line at l e; far = λ line. none_is_far no_far line })
+      (both (for_all (λ line. (l : ParentLink) → line.parent ≡ Some l → IsUp line l) lines
+      (λ line. if_parent line.parent (IsUp line) (λ l. up line l))) sure_no_far)
     where
       IsUp : SystemLine → ParentLink → Type 0
-      IsUp line l = JoinsAt g line.clock l × ((d : ℕ) × StatesSteps lines l.clock d × (d + 1 ≡ line.steps))
+      IsUp line l = JoinsAt g line.clock l × StatesOneLess lines l.clock line
 
       up : (line : SystemLine) (l : ParentLink) → Sure (IsUp line l)
       up line l = both (sure_joins g (port_of line.clock l.own_port) (port_of l.clock l.port))
@@ -292,9 +317,8 @@ module _ (g : Snapshot) (lines : List SystemLine) where
 
   -- the lines pass the local tests
   abbrev pub sure_passes : Sure (PassesLocalTests g lines)
-  sure_passes = so (λ (((systems, too_far), (root, steps)), (((parent, link), (identity, tie)), role)). record {
+  sure_passes = so (λ ((systems, (root, steps)), (((parent, link), (identity, tie)), role)). record {
     systems = systems;
-    too_far = too_far;
     root = root;
     steps = steps;
     parent = parent;
@@ -303,5 +327,5 @@ module _ (g : Snapshot) (lines : List SystemLine) where
     tie = tie;
     role = role;
   })
-      (both (both (both sure_systems sure_too_far) (both sure_root sure_steps_stated))
+      (both (both sure_systems (both sure_root sure_steps_stated))
       (both (both (both sure_parent sure_link) (both sure_identity sure_tie)) sure_role))

@@ -1,5 +1,5 @@
 -- Four networks and their settled choices, clock by clock and port by port.
-use Rattle.std.specs.Prelude.{List, [], ◌∷◌, Some, None}
+use Rattle.std.specs.Prelude.{false, List, [], ◌∷◌, Some, None}
 use Rattle.gptp_graph.specs.Snapshot.{Snapshot, port_of, IsWellFormed}
 use Rattle.gptp_graph.specs.SettledRole.{Disabled, Master, Slave, Passive}
 use Rattle.gptp_graph.specs.Labelling.{SystemLine}
@@ -34,6 +34,7 @@ ring_lines =
       clock = 2;
       root = 0xf6f8fe436af80000000000000002;
       steps = 0;
+      far = false;
       parent = None;
       ports =
           record { number = 1; role = Disabled }
@@ -45,6 +46,7 @@ ring_lines =
       clock = 3;
       root = 0xf6f8fe436af80000000000000002;
       steps = 1;
+      far = false;
       parent = Some (record { own_port = 1; clock = 2; port = 2 });
       ports =
           record { number = 1; role = Slave }
@@ -55,6 +57,7 @@ ring_lines =
       clock = 4;
       root = 0xf6f8fe436af80000000000000002;
       steps = 1;
+      far = false;
       parent = Some (record { own_port = 1; clock = 2; port = 3 });
       ports =
           record { number = 1; role = Slave }
@@ -83,6 +86,7 @@ parallel_lines =
       clock = 1;
       root = 0xf6f8fe436af80000000000000001;
       steps = 0;
+      far = false;
       parent = None;
       ports =
           record { number = 1; role = Master }
@@ -93,6 +97,7 @@ parallel_lines =
       clock = 2;
       root = 0xf6f8fe436af80000000000000001;
       steps = 1;
+      far = false;
       parent = Some (record { own_port = 2; clock = 1; port = 1 });
       ports =
           record { number = 1; role = Passive }
@@ -123,6 +128,7 @@ triangle_lines =
       clock = 1;
       root = 0xf6f8fe436af80000000000000001;
       steps = 0;
+      far = false;
       parent = None;
       ports =
           record { number = 1; role = Master }
@@ -133,6 +139,7 @@ triangle_lines =
       clock = 2;
       root = 0xf6f8fe436af80000000000000001;
       steps = 1;
+      far = false;
       parent = Some (record { own_port = 1; clock = 1; port = 1 });
       ports =
           record { number = 1; role = Slave }
@@ -143,6 +150,7 @@ triangle_lines =
       clock = 3;
       root = 0xf6f8fe436af80000000000000001;
       steps = 1;
+      far = false;
       parent = Some (record { own_port = 1; clock = 1; port = 2 });
       ports =
           record { number = 1; role = Slave }
@@ -176,6 +184,7 @@ square_lines =
       clock = 1;
       root = 0x10f8fe436af80000000000000004;
       steps = 2;
+      far = false;
       parent = Some (record { own_port = 2; clock = 2; port = 2 });
       ports =
           record { number = 1; role = Passive }
@@ -186,6 +195,7 @@ square_lines =
       clock = 2;
       root = 0x10f8fe436af80000000000000004;
       steps = 1;
+      far = false;
       parent = Some (record { own_port = 1; clock = 4; port = 1 });
       ports =
           record { number = 1; role = Slave }
@@ -196,6 +206,7 @@ square_lines =
       clock = 3;
       root = 0x10f8fe436af80000000000000004;
       steps = 1;
+      far = false;
       parent = Some (record { own_port = 2; clock = 4; port = 2 });
       ports =
           record { number = 1; role = Master }
@@ -206,6 +217,7 @@ square_lines =
       clock = 4;
       root = 0x10f8fe436af80000000000000004;
       steps = 0;
+      far = false;
       parent = None;
       ports =
           record { number = 1; role = Master }

@@ -8,9 +8,11 @@ pub mod SettledRole
 pub mod Labelling
 pub mod SettledChoice
 pub mod LocalTests
+pub mod Marking
 pub mod Once
 pub mod DistanceLaws
 pub mod ExistenceLaws
 pub mod TreeLaws
 pub mod LabellingLaws
+pub mod MarkingLaws
 pub mod Examples
