@@ -1,5 +1,5 @@
 -- No path has more systems than have two neighbours, and two: all that stand inside it have.
-use Rattle.std.proofs.Common.{◌≡◌, ◌≢◌, ◌≤◌, ◌+◌, ◌==◌, ◌&&◌, ◌||◌, ℕ, suc, not, Bool, true, false, List, [], ◌∷◌, length, filter, refl, sym, ap, subst, ◌∙◌, inl, inr, arith}
+use Rattle.std.proofs.Common.{◌≡◌, ◌≢◌, ◌<◌, ◌≤◌, ◌+◌, ◌==◌, ◌&&◌, ◌||◌, ℕ, suc, not, Bool, true, false, List, [], ◌∷◌, length, filter, refl, sym, ap, subst, ◌∙◌, inl, inr, arith}
 use Rattle.std.specs.List.{list_any, count_by}
 use Rattle.std.proofs.lemmas.Bool.{and_from, and_parts, or_cases, or_left, or_right, eq-eqb, eqb-true, eqb-false, not-true}
 use Rattle.std.proofs.lemmas.List.Sums.{length-filter}
@@ -8,6 +8,7 @@ use Rattle.gptp_lists.specs.Members.{In, Different}
 use Rattle.gptp_lists.proofs.MemberLemmas.{pigeonhole}
 use Rattle.gptp_graph.specs.Snapshot.{Link, Snapshot, IsWellFormed, clocks, port_of, Adjacent}
 use Rattle.gptp_graph.specs.Path.{Route}
+use Rattle.gptp_graph.specs.Distance.{IsDistance}
 use Rattle.gptp_graph.specs.PathBound.{BoundsPaths, HasTwoNeighbours, are_joined, has_two_neighbours, with_two_neighbours, path_bound}
 use Rattle.gptp_graph.proofs.LinkLemmas.{Adjacent-sym, Adjacent-clock}
 use Rattle.gptp_graph.proofs.PathLemmas.{Route-clocks, path_bounded}
@@ -153,6 +154,12 @@ inside g v w (x ∷ []) r d u at = absurd at
 inside g v w (x ∷ (y ∷ ys)) (first, (next, rest)) (out, d) u (inl e) =
     subst (HasTwoNeighbours g) (sym e) (v, y, Adjacent-sym g v x first, next, λ same. out (inr (inl same)))
 inside g v w (x ∷ (y ∷ ys)) (first, rest) (out, d) u (inr at) = inside g x w (y ∷ ys) rest d u at
+
+-- a distance is the length of a path, and so below what bounds the systems of paths
+pub IsDistance-within : (g : Snapshot) (m v d : ℕ) → BoundsPaths g m → IsDistance g v d → d < m
+IsDistance-within g m v d bounded h =
+    let path = h.from_best.path in
+    subst (λ n. n < m) path.2 (bounded h.best.clock v path.0 path.1)
 
 -- so there are as many with two neighbours
 pub paths_within : (g : Snapshot) → IsWellFormed g → BoundsPaths g (path_bound g)

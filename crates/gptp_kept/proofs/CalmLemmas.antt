@@ -2,6 +2,7 @@
 use Rattle.std.proofs.Common.{◌≡◌, ◌≤◌, ◌<◌, ◌+◌, ℕ, suc, true, Some, slice_get, refl, sym, ap, subst, ◌∙◌, arith}
 use Rattle.gptp_lists.specs.Members.{In}
 use Rattle.gptp_graph.specs.Snapshot.{Joins, PortIdentity, System, port_of}
+use Rattle.gptp_graph.proofs.PathLemmas.{path_bounded}
 use Rattle.gptp_links.specs.declared.link.Direction.{Direction}
 use Rattle.gptp_links.specs.declared.link.Direction.TheVariants.{FromA, FromB}
 use Rattle.gptp_receipt.specs.declared.held.Held.{Held}
@@ -41,6 +42,7 @@ pub network : (p : Params) (start : ℕ) (w : WorldState) → IsSound w → AreB
     → IsNetwork (network_of p start w)
 network p start w sound between legible known = record {
   graph = stands_well w sound between legible;
+  paths = λ v u us path. path_bounded (snapshot_of w) v u us (stands_well w sound between legible) path;
   round = λ port linked. let short = delay_short p w known in omega arith;
 }
 

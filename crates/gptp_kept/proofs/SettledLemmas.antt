@@ -106,8 +106,8 @@ module _ (p : Params) (w : WorldState) (is : IsWorld p w) (quiet : IsQuietWorld 
   -- and before that all that is held has come over the links of the snapshot
   held_is_whole : HeldIsWhole (setting (settling_network p w)) (view w)
   held_is_whole =
-      held_whole says (setting (settling_network p w)) (view w) (is_network p w is).graph
-      (is_calm p w is quiet capable).facts (holds quiet).traces (omega (arith, late))
+      held_whole says (setting (settling_network p w)) (length (snapshot_of w).systems) (view w)
+      (is_network p w is).paths (is_calm p w is quiet capable).facts (holds quiet).traces (omega (arith, late))
 
   pub settles : Settled w
   settles place station here live near =
