@@ -1,5 +1,5 @@
 -- What a delivery and an expiry leave of the network that a world has.
-use Rattle.std.proofs.Common.{◌≡◌, ◌≢◌, ℕ, zero, suc, true, List, [], ◌∷◌, map, length, Option, Some, None, slice_get, slice_set, refl, sym, ap, subst, ◌∙◌}
+use Rattle.std.proofs.Common.{◌≡◌, ◌≢◌, ℕ, zero, suc, true, List, [], ◌∷◌, map, Option, Some, None, slice_get, slice_set, refl, sym, ap, subst, ◌∙◌}
 use Rattle.std.specs.Prelude.{if◌then◌else◌, ◌==◌, max}
 use Rattle.std.proofs.lemmas.Option.{same_Some}
 use Rattle.gptp_graph.specs.Snapshot.{PortIdentity, System}
@@ -130,10 +130,10 @@ module _ (w w' : WorldState) (k : KeepsNetwork w w') where
   pub same_snapshot : snapshot_of w' ≡ snapshot_of w
   same_snapshot = λ i. record { systems = k.systems i; links = links_kept i }
 
-  pub same_network : (p : Params) (start : ℕ) → network_of p start w' ≡ network_of p start w
-  same_network p start = λ i. record {
+  pub same_network : (p : Params) (m start : ℕ) → network_of p m start w' ≡ network_of p m start w
+  same_network p m start = λ i. record {
     graph = same_snapshot i;
-    reach = length (k.systems i);
+    reach = m;
     place = λ number. k.places number i;
     lane = λ port. lanes_kept port i;
     interval_of = λ port. interval_of p.announce;

@@ -1,5 +1,5 @@
 -- A calm world, and the network of the machine of gptp_settling that it then has.
-use Rattle.std.specs.Prelude.{◌≡◌, ◌≢◌, ◌≤◌, ◌==◌, ◌&&◌, ℕ, suc, max, Bool, true, if◌then◌else◌, List, [], ◌∷◌, length, Some, slice_get}
+use Rattle.std.specs.Prelude.{◌≡◌, ◌≢◌, ◌≤◌, ◌==◌, ◌&&◌, ℕ, suc, max, Bool, true, if◌then◌else◌, List, [], ◌∷◌, Some, slice_get}
 use Rattle.gptp_graph.specs.Snapshot.{IsLinked, PortIdentity, Snapshot, System}
 use Rattle.gptp_vector.specs.declared.port.PortId.{PortId}
 use Rattle.gptp_links.specs.declared.link.Direction.TheVariants.{FromA, FromB}
@@ -69,12 +69,12 @@ AreCapableFrom start w = start ≤ w.time → OfEachPort (λ itself h q. IsCapab
 
 -- ---- the network
 
--- The network that a world has, of which claims are made from this time on. No path has more systems than live, and all
--- ports have one announce interval.
-abbrev pub network_of : Params → ℕ → WorldState → Network
-network_of p start w = record {
+-- The network that a world has, no path of which has more than m systems, and of which claims are made from this time
+-- on. All ports have one announce interval.
+abbrev pub network_of : Params → ℕ → ℕ → WorldState → Network
+network_of p m start w = record {
   graph = snapshot_of w;
-  reach = length (live_systems w.stations);
+  reach = m;
   place = place_of w.stations;
   lane = lane_of w.net.channels;
   interval_of = λ port. interval_of p.announce;
