@@ -4,6 +4,7 @@ pub mod LinkDecisions
 pub mod OrderLemmas
 pub mod LinkLemmas
 pub mod PathLemmas
+pub mod PathBoundLemmas
 pub mod BestLemmas
 pub mod DistanceLemmas
 pub mod ExistenceLemmas

@@ -1,6 +1,7 @@
 pub mod Order
 pub mod Snapshot
 pub mod Path
+pub mod PathBound
 pub mod Best
 pub mod Distance
 pub mod Parent
@@ -11,8 +12,10 @@ pub mod LocalTests
 pub mod Marking
 pub mod Once
 pub mod DistanceLaws
+pub mod PathBoundLaws
 pub mod ExistenceLaws
 pub mod TreeLaws
 pub mod LabellingLaws
 pub mod MarkingLaws
 pub mod Examples
+pub mod Star

@@ -106,9 +106,9 @@ follows_seen station steady (inr k) =
       trace = k.path;
     })
 
-module _ (p : Params) (start : ℕ) (w : WorldState) (sound : IsSound w) (known : IsKnown p w) where
+module _ (p : Params) (m start : ℕ) (w : WorldState) (sound : IsSound w) (known : IsKnown p w) where
   abbrev k : Setting
-  k = setting (network_of p start w)
+  k = setting (network_of p m start w)
 
   -- what a port received is in time
   in_time : (place : ℕ) (station : Station) → slice_get w.stations place ≡ Some station → station.live ≡ true

@@ -130,9 +130,10 @@ module _ (w w' : WorldState) (k : KeepsNetwork w w') where
   pub same_snapshot : snapshot_of w' ≡ snapshot_of w
   same_snapshot = λ i. record { systems = k.systems i; links = links_kept i }
 
-  pub same_network : (p : Params) (start : ℕ) → network_of p start w' ≡ network_of p start w
-  same_network p start = λ i. record {
+  pub same_network : (p : Params) (m start : ℕ) → network_of p m start w' ≡ network_of p m start w
+  same_network p m start = λ i. record {
     graph = same_snapshot i;
+    reach = m;
     place = λ number. k.places number i;
     lane = λ port. lanes_kept port i;
     interval_of = λ port. interval_of p.announce;

@@ -2,6 +2,7 @@
 use Rattle.std.proofs.Common.{◌≡◌, ◌≤◌, ◌<◌, ◌+◌, ℕ, suc, true, Some, slice_get, refl, sym, ap, subst, ◌∙◌, arith}
 use Rattle.gptp_lists.specs.Members.{In}
 use Rattle.gptp_graph.specs.Snapshot.{Joins, PortIdentity, System, port_of}
+use Rattle.gptp_graph.specs.PathBound.{BoundsPaths}
 use Rattle.gptp_links.specs.declared.link.Direction.{Direction}
 use Rattle.gptp_links.specs.declared.link.Direction.TheVariants.{FromA, FromB}
 use Rattle.gptp_receipt.specs.declared.held.Held.{Held}
@@ -37,10 +38,11 @@ use Rattle.gptp_kept.proofs.WayLemmas.{IsWay, one_way, way_of}
 
 -- ---- the network
 
-pub network : (p : Params) (start : ℕ) (w : WorldState) → IsSound w → AreBetween w → IsLegible w → IsKnown p w
-    → IsNetwork (network_of p start w)
-network p start w sound between legible known = record {
+pub network : (p : Params) (m start : ℕ) (w : WorldState) → IsSound w → AreBetween w → IsLegible w → IsKnown p w
+    → BoundsPaths (snapshot_of w) m → IsNetwork (network_of p m start w)
+network p m start w sound between legible known bounded = record {
   graph = stands_well w sound between legible;
+  paths = bounded;
   round = λ port linked. let short = delay_short p w known in omega arith;
 }
 
@@ -64,11 +66,11 @@ same_direction FromB FromA same = sym same
 
 -- ---- the state
 
-module _ (p : Params) (start : ℕ) (w : WorldState) (sound : IsSound w) (legible : IsLegible w) (known : IsKnown p w)
-    (quiet : IsQuietWorld p w) (old : w.last_change + interval_of p.announce ≤ start)
+module _ (p : Params) (m start : ℕ) (w : WorldState) (sound : IsSound w) (legible : IsLegible w)
+    (known : IsKnown p w) (quiet : IsQuietWorld p w) (old : w.last_change + interval_of p.announce ≤ start)
     (capable : AreCapableFrom start w) where
   abbrev n : Network
-  n = network_of p start w
+  n = network_of p m start w
 
   -- ---- systems
 
@@ -195,7 +197,7 @@ module _ (p : Params) (start : ℕ) (w : WorldState) (sound : IsSound w) (legibl
 
   pub calm : Calm n (view w)
   calm = record {
-    facts = facts p start w sound known;
+    facts = facts p m start w sound known;
     stations = λ i seen there lives.
         let at = station_from w.stations i seen there in
         let live = ap (λ (x : SeenStation). x.live) (sym at.is) ∙ lives in

@@ -1,5 +1,7 @@
 -- The claim without its parameters: it begins, is kept, and says that a calm world settles.
 use Rattle.std.proofs.Common.{◌≡◌, ◌≤◌, ◌+◌, ℕ, Option, Some, length, slice_get, sym, subst, ◌∙◌, arith}
+use Rattle.gptp_graph.specs.PathBound.{BoundsPaths, path_bound}
+use Rattle.gptp_graph.proofs.PathBoundLemmas.{paths_within}
 use Rattle.gptp_links.specs.declared.bounds.Bounds.{Bounds}
 use Rattle.gptp_setup.specs.declared.setup.Params.{Params}
 use Rattle.gptp_plan.specs.declared.change.Act.{Act}
@@ -24,8 +26,9 @@ use Rattle.gptp_kept.specs.LegibleLaws.{SetsAnOctet}
 use Rattle.gptp_kept.specs.Standing.{snapshot_of}
 use Rattle.gptp_kept.specs.Holds.{IsWorld}
 use Rattle.gptp_kept.specs.Settled.{Settled}
-use Rattle.gptp_kept.proofs.SettledLemmas.{settles}
-use Rattle.gptp_kept.specs.CalmFor.{ArePortsSettled, IsCalmFor, capable_span}
+use Rattle.gptp_kept.proofs.SettledLemmas.{settles, settles_by_paths}
+use Rattle.gptp_kept.proofs.StandsLemmas.{stands_well}
+use Rattle.gptp_kept.specs.CalmFor.{ArePortsSettled, IsCalmFor, capable_span, span_over}
 use Rattle.gptp_kept.specs.Claimed.{Claimed, IsClaimed}
 use Rattle.gptp_kept.proofs.ClaimedCapableLemmas.{ports_settled}
 use Rattle.gptp_kept.proofs.ClaimLemmas.{claim_begins, claim_capable, claim_kept, claim_later}
@@ -92,8 +95,29 @@ claimed_settled w claimed calm place station here =
     settles calm.params w is.world calm.quiet (claim_capable calm.params w is) is.settling calm.late place station
     here
 
+-- and where no path of the snapshot has more than m systems, for the settling span of m
+pub settled_by_paths : (m : ℕ) (w : WorldState) → Claimed w → BoundsPaths (snapshot_of w) m
+    → IsCalmFor (span_over m) w → Settled w
+settled_by_paths m w claimed bounded calm place station here =
+    let is = set_alike w claimed calm.params calm.set place station here in
+    settles_by_paths calm.params w is.world calm.quiet (claim_capable calm.params w is) is.settling m bounded calm.late
+    place station here
+
+pub settled_by_neighbours : (w : WorldState) → Claimed w → IsCalmFor (span_over (path_bound (snapshot_of w))) w
+    → Settled w
+settled_by_neighbours w claimed =
+    let is = claimed.is.world in
+    settled_by_paths (path_bound (snapshot_of w)) w claimed
+    (paths_within (snapshot_of w) (stands_well w is.sound is.between is.legible))
+
 pub settled_capable : (w : WorldState) → IsCalmFor settling_span w → IsCalmFor capable_span w
 settled_capable w calm =
+    let passed = calm.late in
+    let sooner : w.last_change + capable_span calm.params (length (snapshot_of w).systems) ≤ w.time = omega arith in
+    record { params = calm.params; set = calm.set; quiet = calm.quiet; late = sooner }
+
+pub over_capable : (m : ℕ) (w : WorldState) → IsCalmFor (span_over m) w → IsCalmFor capable_span w
+over_capable m w calm =
     let passed = calm.late in
     let sooner : w.last_change + capable_span calm.params (length (snapshot_of w).systems) ≤ w.time = omega arith in
     record { params = calm.params; set = calm.set; quiet = calm.quiet; late = sooner }

@@ -1,6 +1,8 @@
 -- The claim begins by itself, and is kept.
 use Rattle.std.proofs.Common.{◌≡◌, ◌<◌, ◌≤◌, ◌+◌, ◌*◌, ℕ, List, Option, length, refl, sym, ap, subst, ◌∙◌, inl, inr, arith}
 use Rattle.std.specs.List.{range_with_len}
+use Rattle.gptp_graph.specs.PathBound.{BoundsPaths}
+use Rattle.gptp_graph.proofs.PathLemmas.{path_bounded}
 use Rattle.gptp_links.specs.declared.bounds.Bounds.{Bounds}
 use Rattle.gptp_links.specs.Fate.{Draw}
 use Rattle.gptp_setup.specs.declared.setup.Params.{Params}
@@ -21,7 +23,7 @@ use Rattle.gptp_acts.specs.World.{WorldState}
 use Rattle.gptp_settling.specs.Acts.{Steps}
 use Rattle.gptp_settling.specs.Calm.{Calm}
 use Rattle.gptp_settling.specs.Levels.{Invariant}
-use Rattle.gptp_settling.specs.Network.{IsNetwork}
+use Rattle.gptp_settling.specs.Network.{IsNetwork, Network}
 use Rattle.gptp_settling.proofs.LevelLemmas.{invariant_begins, invariant_kept}
 use Rattle.gptp_kept.specs.LegibleLaws.{SetsAnOctet}
 use Rattle.gptp_kept.specs.SeenLaws.{IsNoChange}
@@ -30,6 +32,8 @@ use Rattle.gptp_kept.proofs.SeenActLemmas.{acts_seen}
 use Rattle.gptp_kept.specs.Calm.{IsQuietWorld, network_of}
 use Rattle.gptp_kept.proofs.CalmLemmas.{calm, network}
 use Rattle.gptp_kept.proofs.CalmKeptLemmas.{KeepsNetwork, acts_keep, same_network, stays_quiet}
+use Rattle.gptp_kept.specs.Standing.{snapshot_of}
+use Rattle.gptp_kept.proofs.StandsLemmas.{stands_well}
 use Rattle.gptp_kept.specs.Holds.{BecomeCapable, Holds, IsWorld, settling_network, start_of}
 use Rattle.gptp_kept.proofs.OutlineLemmas.{change_is_last, starts_are_last}
 use Rattle.gptp_kept.proofs.SettledWorldLemmas.{done_stays, ready_stays, still_acts_stay}
@@ -37,21 +41,28 @@ use Rattle.gptp_kept.proofs.SettledWorldLemmas.{done_stays, ready_stays, still_a
 -- ---- one world
 
 -- its network is one of the machine
-pub is_network : (p : Params) (w : WorldState) → IsWorld p w → IsNetwork (settling_network p w)
-is_network p w is = network p (start_of p w) w is.sound is.between is.legible is.known
+pub is_network : (p : Params) (m : ℕ) (w : WorldState) → IsWorld p w → BoundsPaths (snapshot_of w) m
+    → IsNetwork (settling_network p m w)
+is_network p m w is = network p m (start_of p w) w is.sound is.between is.legible is.known
+
+-- of which no path has more systems than live
+pub systems_bound : (p : Params) (w : WorldState) → IsWorld p w
+    → BoundsPaths (snapshot_of w) (length (snapshot_of w).systems)
+systems_bound p w is v u us path =
+    path_bounded (snapshot_of w) v u us (stands_well w is.sound is.between is.legible) path
 
 -- and a quiet one is a calm state
-pub is_calm : (p : Params) (w : WorldState) → IsWorld p w → IsQuietWorld p w → BecomeCapable p w
-    → Calm (settling_network p w) (view w)
-is_calm p w is quiet capable =
+pub is_calm : (p : Params) (m : ℕ) (w : WorldState) → IsWorld p w → IsQuietWorld p w → BecomeCapable p w
+    → Calm (settling_network p m w) (view w)
+is_calm p m w is quiet capable =
     let passed : w.last_change + interval_of p.announce ≤ start_of p w = omega arith in
-    calm p (start_of p w) w is.sound is.legible is.known quiet passed (capable quiet)
+    calm p m (start_of p w) w is.sound is.legible is.known quiet passed (capable quiet)
 
 -- before the start nothing is claimed
 pub begins : (p : Params) (w : WorldState) → IsWorld p w → w.time < start_of p w → Holds p w
-begins p w is early quiet =
-    let state = is_calm p w is quiet (λ still begun. absurd (omega arith)) in
-    invariant_begins says (settling_network p w) (view w) state early
+begins p w is early m bounded quiet =
+    let state = is_calm p m w is quiet (λ still begun. absurd (omega arith)) in
+    invariant_begins says (settling_network p m w) (view w) state early
 
 -- nor where no time has passed since the last change
 fresh_begins : (p : Params) (w : WorldState) → AreParams p → w.last_change ≡ w.time → IsWorld p w → Holds p w
@@ -73,14 +84,16 @@ first_begins answers n fate fate_after w network k =
 
 -- a step of the machine keeps the claim, where the network and its links stay as they are
 step_keeps : (p : Params) (w w' : WorldState) → IsWorld p w → IsWorld p w' → BecomeCapable p w → BecomeCapable p w'
-    → settling_network p w' ≡ settling_network p w → (IsQuietWorld p w' → IsQuietWorld p w)
+    → ((m : ℕ) → settling_network p m w' ≡ settling_network p m w) → (IsQuietWorld p w' → IsQuietWorld p w)
     → Steps says (view w) (view w') → Holds p w → Holds p w'
-step_keeps p w w' is is' capable capable' same back step holds quiet =
-    let before = is_calm p w is (back quiet) capable in
-    let after = subst (λ n. Calm n (view w')) same (is_calm p w' is' quiet capable') in
-    subst (λ n. Invariant says n (view w')) (sym same)
-    (invariant_kept says (settling_network p w) (is_network p w is) (view w) (view w') before after step
-    (holds (back quiet)))
+step_keeps p w w' is is' capable capable' same back step holds m bounded quiet =
+    let bounds : BoundsPaths (snapshot_of w) m =
+    subst (λ (n : Network). BoundsPaths n.graph m) (same m) bounded in
+    let before = is_calm p m w is (back quiet) capable in
+    let after = subst (λ n. Calm n (view w')) (same m) (is_calm p m w' is' quiet capable') in
+    subst (λ n. Invariant says n (view w')) (sym (same m))
+    (invariant_kept says (settling_network p m w) (is_network p m w is bounds) (view w) (view w') before after step
+    (holds m bounds (back quiet)))
 
 -- what keeps a network is kept by the way back
 kept_back : (w w' : WorldState) → KeepsNetwork w w' → KeepsNetwork w' w
@@ -92,10 +105,11 @@ kept_back w w' k = record {
 }
 
 -- so a world has the same network from the same start
-same_settling : (p : Params) (w w' : WorldState) → KeepsNetwork w w' → settling_network p w' ≡ settling_network p w
-same_settling p w w' k =
-    ap (λ change. network_of p (change + (p.lost + 5) * interval_of p.announce) w') k.change
-    ∙ same_network w w' k p (start_of p w)
+same_settling : (p : Params) (w w' : WorldState) → KeepsNetwork w w' → (m : ℕ)
+    → settling_network p m w' ≡ settling_network p m w
+same_settling p w w' k m =
+    ap (λ change. network_of p m (change + (p.lost + 5) * interval_of p.announce) w') k.change
+    ∙ same_network w w' k p m (start_of p w)
 
 pub acts_hold : (p : Params) (act : Act) (w : WorldState) (draws : List Draw) (done : Done) (w' : WorldState)
     → IsNoChange act → Acts act w draws done w' → IsWorld p w → BecomeCapable p w → BecomeCapable p w' → Holds p w
@@ -109,7 +123,7 @@ acts_hold p act w draws done w' none k is capable capable' =
 pub later_holds : (p : Params) (w : WorldState) (time : ℕ) → w.time ≤ time → IsWorld p w → IsWorld p (at time w)
     → BecomeCapable p w → BecomeCapable p (at time w) → Holds p w → Holds p (at time w)
 later_holds p w time later is is' capable capable' =
-    step_keeps p w (at time w) is is' capable capable' refl (λ quiet. quiet)
+    step_keeps p w (at time w) is is' capable capable' (λ m. refl) (λ quiet. quiet)
     (inl (record { time = time; later = later; is = refl }))
 
 -- so the claim is kept from act to act

@@ -4,6 +4,7 @@ use Rattle.std.specs.Option.{option_map_or}
 use Rattle.std.specs.Prelude.{◌==◌}
 use Rattle.std.proofs.lemmas.Bool.{eq-eqb, eqb-true}
 use Rattle.std.proofs.lemmas.Option.{none-some, same_Some}
+use Rattle.gptp_graph.specs.PathBound.{BoundsPaths}
 use Rattle.gptp_graph.specs.Snapshot.{Snapshot, port_of}
 use Rattle.gptp_graph.specs.SettledRole.{Role, Disabled, Master, Slave, Passive, IsSettledRole}
 use Rattle.gptp_receipt.specs.declared.held.Held.{Held}
@@ -29,7 +30,7 @@ use Rattle.gptp_kept.specs.Calm.{IsQuietWorld}
 use Rattle.gptp_kept.specs.Standing.{snapshot_of}
 use Rattle.gptp_kept.specs.Holds.{BecomeCapable, Holds, IsWorld, settling_network}
 use Rattle.gptp_kept.specs.Settled.{Settled, role_of}
-use Rattle.gptp_kept.proofs.HoldsLemmas.{is_calm, is_network}
+use Rattle.gptp_kept.proofs.HoldsLemmas.{is_calm, is_network, systems_bound}
 use Rattle.gptp_kept.proofs.ParentLemmas.{parent_settled}
 
 -- ---- roles
@@ -98,30 +99,37 @@ module _ (g : Snapshot) (station : Station) (shown : AreShown station.system)
 -- ---- the world
 
 module _ (p : Params) (w : WorldState) (is : IsWorld p w) (quiet : IsQuietWorld p w) (capable : BecomeCapable p w)
-    (holds : Holds p w) (late : w.last_change + settling_span p (length (snapshot_of w).systems) ≤ w.time) where
+    (holds : Holds p w) (m : ℕ) (bounded : BoundsPaths (snapshot_of w) m)
+    (late : w.last_change + settling_span p m ≤ w.time) where
   -- the machine has settled by then
-  settled_by : settled_from (settling_network p w) ≤ w.time
+  settled_by : settled_from (settling_network p m w) ≤ w.time
   settled_by = omega (arith, late)
 
   -- and before that all that is held has come over the links of the snapshot
-  held_is_whole : HeldIsWhole (setting (settling_network p w)) (view w)
+  held_is_whole : HeldIsWhole (setting (settling_network p m w)) (view w)
   held_is_whole =
-      held_whole says (setting (settling_network p w)) (view w) (is_network p w is).graph
-      (is_calm p w is quiet capable).facts (holds quiet).traces (omega (arith, late))
+      held_whole says (setting (settling_network p m w)) m (view w) bounded (is_calm p m w is quiet capable).facts
+      (holds m bounded quiet).traces (omega (arith, late))
 
-  pub settles : Settled w
-  settles place station here live near =
+  pub settles_by_paths : Settled w
+  settles_by_paths place station here live near =
       let there = station_there w.stations place station here in
-      let state = is_calm p w is quiet capable in
-      let (follows, roles) = network_settles says (settling_network p w) (view w) place (station_view station)
-      (is_network p w is) state (holds quiet) there live near settled_by in
+      let state = is_calm p m w is quiet capable in
+      let (follows, roles) = network_settles says (settling_network p m w) (view w) place (station_view station)
+      (is_network p m w is bounded) state (holds m bounded quiet) there live near settled_by in
       let rest = (state.stations place (station_view station) there live).at_rest in
       let shown = (is.sound.on_time.stations place station here).steady.shown in
       record {
         root = follows.root;
         steps = follows.steps;
         slave = follows.slave;
-        parent = parent_settled (snapshot_of w) station (is_network p w is).graph rest.vector rest.chosen
+        parent = parent_settled (snapshot_of w) station (is_network p m w is bounded).graph rest.vector rest.chosen
             (λ i r. held_is_whole place (station_view station) i r there live) follows.slave;
         roles = roles_settled (snapshot_of w) station shown roles;
       }
+
+-- so it settles by the number of live systems
+pub settles : (p : Params) (w : WorldState) → IsWorld p w → IsQuietWorld p w → BecomeCapable p w → Holds p w
+    → w.last_change + settling_span p (length (snapshot_of w).systems) ≤ w.time → Settled w
+settles p w is quiet capable holds =
+    settles_by_paths p w is quiet capable holds (length (snapshot_of w).systems) (systems_bound p w is)

@@ -1,6 +1,7 @@
 -- What the calls of a world show is capable and settled in time.
 use Rattle.std.proofs.Common.{◌≡◌, ◌≢◌, ◌↔◌, ℕ, zero, suc, Bool, true, false, Option, Some, slice_get, refl, sym, subst, ◌∙◌, arith}
 use Rattle.gptp_graph.specs.Distance.{IsNear}
+use Rattle.gptp_graph.specs.SettledRole.{IsSettledRole}
 use Rattle.gptp_graph.specs.Snapshot.{IsLinked, port_of}
 use Rattle.gptp_pdelay.specs.Peer.{is_capable}
 use Rattle.gptp_receipt.specs.declared.held.Held.{Held}
@@ -13,16 +14,15 @@ use Rattle.gptp_system.specs.State.{SystemState, clock, held_at, is_capable_at}
 use Rattle.gptp_system.specs.Steps.{IsPortOf}
 use Rattle.gptp_acts.specs.declared.station.Station.{Station}
 use Rattle.gptp_acts.specs.Acts.{AtSystem}
-use Rattle.gptp_plan.specs.SettlingTime.{settling_span}
 use Rattle.gptp_acts.specs.Views.{Follows, HasRole, ShowsLive}
 use Rattle.gptp_acts.specs.World.{WorldState}
 use Rattle.gptp_lists.proofs.PlaceLemmas.{member_there}
 use Rattle.gptp_kept.specs.Standing.{snapshot_of}
-use Rattle.gptp_kept.specs.Settled.{IsSettledSystem}
+use Rattle.gptp_kept.specs.Settled.{IsSettledSystem, Settled, role_of}
 use Rattle.gptp_kept.specs.CalmFor.{IsCalmFor, IsPortSettled, capable_span}
 use Rattle.gptp_kept.specs.Claimed.{Claimed}
-use Rattle.gptp_kept.specs.Shown.{AreCapable, FollowsInTime, IsCapableInTime, IsEnabledInTime, PlaysInTime}
-use Rattle.gptp_kept.proofs.ClaimedLemmas.{claimed_capable, claimed_settled}
+use Rattle.gptp_kept.specs.Shown.{AreCapable, FollowsByPaths, FollowsInTime, IsCapableInTime, IsEnabledInTime, IsSettledFor, PlaysByPaths, PlaysInTime}
+use Rattle.gptp_kept.proofs.ClaimedLemmas.{claimed_capable, claimed_settled, settled_by_paths}
 
 -- ---- capability
 
@@ -106,25 +106,44 @@ enabled_shown number port w role claimed at calm =
 
 -- ---- the choice
 
--- the near system with this clock has settled
-system_settled : (number : ℕ) (w : WorldState) (place : ℕ) (station : Station) → Claimed w
-    → slice_get w.stations place ≡ Some station → station.live ≡ true → clock station.system ≡ number
-    → IsCalmFor settling_span w → IsNear (snapshot_of w) number
-    → IsSettledSystem (snapshot_of w) station.system
-system_settled number w place station claimed here live named calm near =
-    claimed_settled w claimed calm place station here live (subst (IsNear (snapshot_of w)) (sym named) near)
+-- what a settled world shows of a near system
+module _ (number : ℕ) (w : WorldState) (settled : Settled w) (near : IsNear (snapshot_of w) number) where
+  system_settled : (place : ℕ) (station : Station) → slice_get w.stations place ≡ Some station → station.live ≡ true
+      → clock station.system ≡ number → IsSettledSystem (snapshot_of w) station.system
+  system_settled place station here live named =
+      settled place station here live (subst (IsNear (snapshot_of w)) (sym named) near)
 
+  settled_choice : (root steps : ℕ) (slave : Option ℕ) → AtSystem number w (Follows root steps slave)
+      → IsSettledFor (snapshot_of w) number root steps slave
+  settled_choice root steps slave at =
+      let is = system_settled at.place at.station at.is.here at.so.live at.is.named in
+      rw (at.so.root_is, at.so.steps_are, at.so.slave_is, sym at.is.named)
+      (record { best = is.root; distance = is.steps; parent = is.slave })
+
+  settled_role : (port : ℕ) (role : Role) → AtSystem number w (HasRole port role)
+      → IsSettledRole (snapshot_of w) (port_of number port) (role_of role)
+  settled_role port role at =
+      let is = system_settled at.place at.station at.is.here at.so.live at.is.named in
+      rw (at.so.role_is, sym at.is.named) (is.roles port at.so.port_of)
+
+-- by the number of live systems
 pub choice_shown : (number root steps : ℕ) (slave : Option ℕ) (w : WorldState) → Claimed w
     → AtSystem number w (Follows root steps slave) → FollowsInTime number w root steps slave
 choice_shown number root steps slave w claimed at calm near =
-    let named = at.is.named in
-    let is = system_settled number w at.place at.station claimed at.is.here at.so.live named calm near in
-    rw (at.so.root_is, at.so.steps_are, at.so.slave_is, sym named)
-    (record { best = is.root; distance = is.steps; parent = is.slave })
+    settled_choice number w (claimed_settled w claimed calm) near root steps slave at
 
 pub role_shown : (number port : ℕ) (w : WorldState) (role : Role) → Claimed w → AtSystem number w (HasRole port role)
     → PlaysInTime number port w role
 role_shown number port w role claimed at calm near =
-    let named = at.is.named in
-    let is = system_settled number w at.place at.station claimed at.is.here at.so.live named calm near in
-    rw (at.so.role_is, sym named) (is.roles port at.so.port_of)
+    settled_role number w (claimed_settled w claimed calm) near port role at
+
+-- by what bounds the systems of a path
+pub choice_by_paths : (number root steps : ℕ) (slave : Option ℕ) (w : WorldState) → Claimed w
+    → AtSystem number w (Follows root steps slave) → FollowsByPaths number w root steps slave
+choice_by_paths number root steps slave w claimed at m bounded calm near =
+    settled_choice number w (settled_by_paths m w claimed bounded calm) near root steps slave at
+
+pub role_by_paths : (number port : ℕ) (w : WorldState) (role : Role) → Claimed w
+    → AtSystem number w (HasRole port role) → PlaysByPaths number port w role
+role_by_paths number port w role claimed at m bounded calm near =
+    settled_role number w (settled_by_paths m w claimed bounded calm) near port role at

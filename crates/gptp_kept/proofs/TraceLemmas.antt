@@ -38,21 +38,24 @@ use Rattle.gptp_kept.proofs.PlaceLemmas.{port_there, station_there}
 use Rattle.gptp_kept.specs.Calm.{IsQuietWorld}
 use Rattle.gptp_kept.specs.Standing.{snapshot_of}
 use Rattle.gptp_kept.specs.Holds.{settling_network, start_of}
-use Rattle.gptp_kept.proofs.HoldsLemmas.{is_calm}
+use Rattle.gptp_kept.proofs.HoldsLemmas.{is_calm, systems_bound}
 use Rattle.gptp_kept.specs.Claimed.{Claimed, IsClaimed}
 use Rattle.gptp_kept.specs.Traces.{AreHeldCleanInTime, IsCleanInTime, IsFrameClean, IsHeardClean, IsHeldClean, IsTraceClean, announced, turn_of}
 use Rattle.gptp_kept.proofs.ClaimedLemmas.{set_alike}
 use Rattle.gptp_kept.proofs.ClaimLemmas.{claim_capable}
 
 module _ (p : Params) (w : WorldState) (is : IsClaimed p w) (quiet : IsQuietWorld p w) where
-  abbrev k : Setting
-  k = setting (settling_network p w)
+  abbrev live_count : ℕ
+  live_count = length (snapshot_of w).systems
 
-  state : Calm (settling_network p w) (view w)
-  state = is_calm p w is.world quiet (claim_capable p w is)
+  abbrev k : Setting
+  k = setting (settling_network p live_count w)
+
+  state : Calm (settling_network p live_count w) (view w)
+  state = is_calm p live_count w is.world quiet (claim_capable p w is)
 
   traces : TracesAreClean says k (view w)
-  traces = (is.settling quiet).traces
+  traces = (is.settling live_count (systems_bound p w is.world) quiet).traces
 
   -- ---- one live system
 

@@ -69,10 +69,12 @@ AreCapableFrom start w = start ≤ w.time → OfEachPort (λ itself h q. IsCapab
 
 -- ---- the network
 
--- The network that a world has, of which claims are made from this time on. All ports have one announce interval.
-abbrev pub network_of : Params → ℕ → WorldState → Network
-network_of p start w = record {
+-- The network that a world has, no path of which has more than m systems, and of which claims are made from this time
+-- on. All ports have one announce interval.
+abbrev pub network_of : Params → ℕ → ℕ → WorldState → Network
+network_of p m start w = record {
   graph = snapshot_of w;
+  reach = m;
   place = place_of w.stations;
   lane = lane_of w.net.channels;
   interval_of = λ port. interval_of p.announce;

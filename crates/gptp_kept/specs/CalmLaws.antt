@@ -1,5 +1,6 @@
 -- Laws on calm worlds: they are calm states of the machine of gptp_settling.
 use Rattle.std.specs.Prelude.{◌≡◌, ◌≤◌, ◌+◌, ℕ, List}
+use Rattle.gptp_graph.specs.PathBound.{BoundsPaths}
 use Rattle.gptp_links.specs.Fate.{Draw}
 use Rattle.gptp_setup.specs.declared.setup.Params.{Params}
 use Rattle.gptp_setup.specs.Intervals.{interval_of}
@@ -15,43 +16,43 @@ use Rattle.gptp_kept.specs.Known.{IsKnown}
 use Rattle.gptp_kept.specs.Legible.{IsLegible}
 use Rattle.gptp_kept.specs.SeenLaws.{IsNoChange}
 use Rattle.gptp_kept.specs.View.{view}
-use Rattle.gptp_kept.specs.Standing.{AreBetween}
+use Rattle.gptp_kept.specs.Standing.{AreBetween, snapshot_of}
 use Rattle.gptp_kept.specs.Calm.{AreCapableFrom, IsQuietWorld, network_of}
 
 -- ---- a calm state
 
 -- what the machine knows of each state is so of every sound and known world, calm or not
 abbrev pub HasFacts : Type 0
-HasFacts = (p : Params) (start : ℕ) (w : WorldState)
+HasFacts = (p : Params) (m start : ℕ) (w : WorldState)
     → IsSound w → IsKnown p w
-    → Facts (setting (network_of p start w)) (view w)
+    → Facts (setting (network_of p m start w)) (view w)
 
--- a sound, legible and known world has a network of the machine
+-- a sound, legible and known world has a network of the machine, for each number that bounds the systems of its paths
 abbrev pub HasNetwork : Type 0
-HasNetwork = (p : Params) (start : ℕ) (w : WorldState)
-    → IsSound w → AreBetween w → IsLegible w → IsKnown p w
-    → IsNetwork (network_of p start w)
+HasNetwork = (p : Params) (m start : ℕ) (w : WorldState)
+    → IsSound w → AreBetween w → IsLegible w → IsKnown p w → BoundsPaths (snapshot_of w) m
+    → IsNetwork (network_of p m start w)
 
 -- Such a world is a calm state where it is quiet, an announce interval passes from the last change to the start, and
 -- from the start its ports are disabled exactly where no link of the snapshot is at them.
 abbrev pub IsCalmState : Type 0
-IsCalmState = (p : Params) (start : ℕ) (w : WorldState)
+IsCalmState = (p : Params) (m start : ℕ) (w : WorldState)
     → IsSound w → IsLegible w → IsKnown p w → IsQuietWorld p w
     → w.last_change + interval_of p.announce ≤ start → AreCapableFrom start w
-    → Calm (network_of p start w) (view w)
+    → Calm (network_of p m start w) (view w)
 
 -- ---- it stays so
 
 -- an act that changes nothing of the network leaves it, and so does time that passes
 abbrev pub ActsKeepNetwork : Type 0
-ActsKeepNetwork = (p : Params) (start : ℕ) (act : Act) (w : WorldState) (draws : List Draw) (done : Done)
+ActsKeepNetwork = (p : Params) (m start : ℕ) (act : Act) (w : WorldState) (draws : List Draw) (done : Done)
     (w' : WorldState)
     → IsNoChange act → Acts act w draws done w'
-    → network_of p start w' ≡ network_of p start w
+    → network_of p m start w' ≡ network_of p m start w
 
 abbrev pub TimeKeepsNetwork : Type 0
-TimeKeepsNetwork = (p : Params) (start : ℕ) (w : WorldState) (time : ℕ)
-    → network_of p start (at time w) ≡ network_of p start w
+TimeKeepsNetwork = (p : Params) (m start : ℕ) (w : WorldState) (time : ℕ)
+    → network_of p m start (at time w) ≡ network_of p m start w
 
 -- they leave it quiet
 abbrev pub ActsStayQuiet : Type 0

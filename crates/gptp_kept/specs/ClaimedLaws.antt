@@ -1,5 +1,6 @@
 -- Laws on what every world of a network keeps.
 use Rattle.std.specs.Prelude.{◌≤◌, ℕ, Option}
+use Rattle.gptp_graph.specs.PathBound.{BoundsPaths, path_bound}
 use Rattle.gptp_links.specs.declared.bounds.Bounds.{Bounds}
 use Rattle.gptp_setup.specs.declared.setup.Params.{Params}
 use Rattle.gptp_plan.specs.declared.change.Timed.{Timed}
@@ -18,7 +19,8 @@ use Rattle.gptp_acts.specs.Prompt.{IsPromptIn}
 use Rattle.gptp_kept.specs.LegibleLaws.{SetsAnOctet}
 use Rattle.gptp_kept.specs.Holds.{BecomeCapable}
 use Rattle.gptp_kept.specs.Settled.{Settled}
-use Rattle.gptp_kept.specs.CalmFor.{ArePortsSettled, IsCalmFor, capable_span}
+use Rattle.gptp_kept.specs.Standing.{snapshot_of}
+use Rattle.gptp_kept.specs.CalmFor.{ArePortsSettled, IsCalmFor, capable_span, span_over}
 use Rattle.gptp_kept.specs.Claimed.{Claimed, IsClaimed}
 
 -- ---- with the parameters of the network
@@ -78,6 +80,21 @@ ClaimedCapable = (w : WorldState) → Claimed w → IsCalmFor capable_span w →
 abbrev pub ClaimedSettled : Type 0
 ClaimedSettled = (w : WorldState) → Claimed w → IsCalmFor settling_span w → Settled w
 
+-- so it has where it has been for the settling span of m systems, and no path of its snapshot has more
+abbrev pub ClaimedSettledByPaths : Type 0
+ClaimedSettledByPaths = (m : ℕ) (w : WorldState)
+    → Claimed w → BoundsPaths (snapshot_of w) m → IsCalmFor (span_over m) w
+    → Settled w
+
+-- which is so of the number that is read off the links: two, and those that have two neighbours
+abbrev pub ClaimedSettledByNeighbours : Type 0
+ClaimedSettledByNeighbours = (w : WorldState)
+    → Claimed w → IsCalmFor (span_over (path_bound (snapshot_of w))) w
+    → Settled w
+
 -- by then its ports have too
 abbrev pub SettledIsCapable : Type 0
 SettledIsCapable = (w : WorldState) → IsCalmFor settling_span w → IsCalmFor capable_span w
+
+abbrev pub SettledIsCapableByPaths : Type 0
+SettledIsCapableByPaths = (m : ℕ) (w : WorldState) → IsCalmFor (span_over m) w → IsCalmFor capable_span w

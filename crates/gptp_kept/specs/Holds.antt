@@ -1,5 +1,6 @@
 -- What is claimed of a world between two changes of its network.
 use Rattle.std.specs.Prelude.{◌+◌, ◌*◌, ℕ}
+use Rattle.gptp_graph.specs.PathBound.{BoundsPaths}
 use Rattle.gptp_setup.specs.declared.setup.Params.{Params}
 use Rattle.gptp_setup.specs.Intervals.{interval_of}
 use Rattle.gptp_acts.specs.Sound.{IsSound}
@@ -10,7 +11,7 @@ use Rattle.gptp_kept.specs.Known.{IsKnown}
 use Rattle.gptp_kept.specs.Legible.{IsLegible}
 use Rattle.gptp_kept.specs.View.{says, view}
 use Rattle.gptp_kept.specs.Calm.{AreCapableFrom, IsQuietWorld, network_of}
-use Rattle.gptp_kept.specs.Standing.{AreBetween}
+use Rattle.gptp_kept.specs.Standing.{AreBetween, snapshot_of}
 
 -- a world of a network with these parameters, at any time
 pub record IsWorld (p : Params) (w : WorldState) : Type 0 where
@@ -27,10 +28,12 @@ start_of p w = w.last_change + (p.lost + 5) * interval_of p.announce
 abbrev pub BecomeCapable : Params → WorldState → Type 0
 BecomeCapable p w = IsQuietWorld p w → AreCapableFrom (start_of p w) w
 
--- the network of the machine of gptp_settling that the world then has
-abbrev pub settling_network : Params → WorldState → Network
-settling_network p w = network_of p (start_of p w) w
+-- the network of the machine of gptp_settling that the world then has, where no path has more than m systems
+abbrev pub settling_network : Params → ℕ → WorldState → Network
+settling_network p m w = network_of p m (start_of p w) w
 
--- where the links are quiet, the invariant of that machine holds of what it sees of the world
+-- where the links are quiet, the invariant of that machine holds of what it sees of the world, for each number that
+-- bounds how many systems a path has
 abbrev pub Holds : Params → WorldState → Type 0
-Holds p w = IsQuietWorld p w → Invariant says (settling_network p w) (view w)
+Holds p w = (m : ℕ) → BoundsPaths (snapshot_of w) m → IsQuietWorld p w
+    → Invariant says (settling_network p m w) (view w)

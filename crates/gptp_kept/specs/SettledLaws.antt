@@ -1,5 +1,6 @@
 -- Laws on worlds that settle.
 use Rattle.std.specs.Prelude.{◌<◌, ◌≤◌, ◌+◌, ℕ, List, length, Option}
+use Rattle.gptp_graph.specs.PathBound.{BoundsPaths}
 use Rattle.gptp_links.specs.declared.bounds.Bounds.{Bounds}
 use Rattle.gptp_links.specs.Fate.{Draw}
 use Rattle.gptp_setup.specs.declared.setup.Params.{Params}
@@ -89,7 +90,15 @@ HoldsDone {F} answers = (p : Params) (timed : Timed) (fate fate_after : F) (w w'
 
 -- ---- the world settles
 
--- a quiet world of which it holds has settled once the span of its live systems has passed from the last change
+-- A quiet world of which it holds, and no path of which has more than m systems, has settled once the span of m systems
+-- has passed from the last change.
+abbrev pub HoldsSettledByPaths : Type 0
+HoldsSettledByPaths = (p : Params) (m : ℕ) (w : WorldState)
+    → IsWorld p w → IsQuietWorld p w → BecomeCapable p w → Holds p w → BoundsPaths (snapshot_of w) m
+    → w.last_change + settling_span p m ≤ w.time
+    → Settled w
+
+-- so it has once the span of its live systems has
 abbrev pub HoldsSettled : Type 0
 HoldsSettled = (p : Params) (w : WorldState)
     → IsWorld p w → IsQuietWorld p w → BecomeCapable p w → Holds p w

@@ -1,6 +1,7 @@
 -- What the calls of a world show once it has been calm for long enough.
 use Rattle.std.specs.Prelude.{◌≡◌, ◌≢◌, ◌↔◌, ℕ, true, Option}
 use Rattle.gptp_graph.specs.Distance.{IsDistance, IsNear}
+use Rattle.gptp_graph.specs.PathBound.{BoundsPaths}
 use Rattle.gptp_graph.specs.SettledChoice.{IsBestIdentity}
 use Rattle.gptp_graph.specs.SettledRole.{IsSettledRole}
 use Rattle.gptp_graph.specs.Snapshot.{IsLinked, Snapshot, port_of}
@@ -13,7 +14,7 @@ use Rattle.gptp_acts.specs.World.{WorldState}
 use Rattle.gptp_settling.specs.Settled.{IsSlaveOf}
 use Rattle.gptp_kept.specs.Standing.{snapshot_of}
 use Rattle.gptp_kept.specs.Settled.{role_of}
-use Rattle.gptp_kept.specs.CalmFor.{IsCalmFor, capable_span}
+use Rattle.gptp_kept.specs.CalmFor.{IsCalmFor, capable_span, span_over}
 
 -- ---- capability
 
@@ -43,8 +44,19 @@ abbrev pub FollowsInTime : ℕ → WorldState → ℕ → ℕ → Option ℕ →
 FollowsInTime number w root steps slave =
     IsCalmFor settling_span w → IsNear (snapshot_of w) number → IsSettledFor (snapshot_of w) number root steps slave
 
+-- so it is once the world has been calm for the settling span of m systems, where no path of its snapshot has more
+abbrev pub FollowsByPaths : ℕ → WorldState → ℕ → ℕ → Option ℕ → Type 0
+FollowsByPaths number w root steps slave = (m : ℕ)
+    → BoundsPaths (snapshot_of w) m → IsCalmFor (span_over m) w → IsNear (snapshot_of w) number
+    → IsSettledFor (snapshot_of w) number root steps slave
+
 -- and by then each of its ports has its settled role
 abbrev pub PlaysInTime : ℕ → ℕ → WorldState → Role → Type 0
 PlaysInTime number port w role =
     IsCalmFor settling_span w → IsNear (snapshot_of w) number
+    → IsSettledRole (snapshot_of w) (port_of number port) (role_of role)
+
+abbrev pub PlaysByPaths : ℕ → ℕ → WorldState → Role → Type 0
+PlaysByPaths number port w role = (m : ℕ)
+    → BoundsPaths (snapshot_of w) m → IsCalmFor (span_over m) w → IsNear (snapshot_of w) number
     → IsSettledRole (snapshot_of w) (port_of number port) (role_of role)

@@ -6,7 +6,7 @@ use Rattle.gptp_acts.specs.Acts.{AtSystem}
 use Rattle.gptp_acts.specs.Views.{Follows, HasRole, ShowsLive}
 use Rattle.gptp_acts.specs.World.{WorldState}
 use Rattle.gptp_kept.specs.Claimed.{Claimed}
-use Rattle.gptp_kept.specs.Shown.{FollowsInTime, IsCapableInTime, IsEnabledInTime, PlaysInTime}
+use Rattle.gptp_kept.specs.Shown.{FollowsByPaths, FollowsInTime, IsCapableInTime, IsEnabledInTime, PlaysByPaths, PlaysInTime}
 
 -- a live system that is shown has its ports capable in time
 abbrev pub SystemsAreCapable : Type 0
@@ -31,3 +31,14 @@ abbrev pub RolesSettle : Type 0
 RolesSettle = (number port : ℕ) (w : WorldState) (role : Role)
     → Claimed w → AtSystem number w (HasRole port role)
     → PlaysInTime number port w role
+
+-- both are so sooner where paths are shorter than there are systems
+abbrev pub SystemsSettleByPaths : Type 0
+SystemsSettleByPaths = (number root steps : ℕ) (slave : Option ℕ) (w : WorldState)
+    → Claimed w → AtSystem number w (Follows root steps slave)
+    → FollowsByPaths number w root steps slave
+
+abbrev pub RolesSettleByPaths : Type 0
+RolesSettleByPaths = (number port : ℕ) (w : WorldState) (role : Role)
+    → Claimed w → AtSystem number w (HasRole port role)
+    → PlaysByPaths number port w role

@@ -2,8 +2,10 @@
 
 ghost use Rattle.gptp_kept.specs.ClaimedLaws.{ClaimBegins, ClaimIsCapable, ClaimKept, ClaimLater};
 ghost use Rattle.gptp_kept.specs.ClaimedLaws.{ClaimedBegins, ClaimedKept, ClaimedLater};
-ghost use Rattle.gptp_kept.specs.ClaimedLaws.{ClaimedCapable, ClaimedSettled, SettledIsCapable};
+ghost use Rattle.gptp_kept.specs.ClaimedLaws.{ClaimedCapable, SettledIsCapable, SettledIsCapableByPaths};
+ghost use Rattle.gptp_kept.specs.ClaimedLaws.{ClaimedSettled, ClaimedSettledByPaths, ClaimedSettledByNeighbours};
 ghost use Rattle.gptp_kept.specs.ShownLaws.{RolesAreEnabled, RolesSettle, SystemsAreCapable, SystemsSettle};
+ghost use Rattle.gptp_kept.specs.ShownLaws.{RolesSettleByPaths, SystemsSettleByPaths};
 ghost use Rattle.gptp_kept.specs.TraceLaws.{FramesBecomeClean, HeldBecomesClean, TracesBecomeClean};
 
 use gptp_links::Fate;
@@ -34,17 +36,22 @@ pub fn claimed_is_kept<F: Fate>()
 
 /// Where a world of which it holds has been calm for L + 5 announce intervals, L being how many requests may be lost,
 /// each port of a live system is capable exactly where a link of the snapshot is at it, and Disabled exactly where it
-/// isn't. It has been for as long where it has been for the settling span of its live systems.
+/// isn't. It has been for as long where it has been for the settling span of its live systems, or of however many.
 pub fn ports_settle()
     ensures ports { ClaimedCapable }
     ensures sooner { SettledIsCapable }
+    ensures by_paths { SettledIsCapableByPaths }
 {}
 
 /// Where such a world has been calm for the settling span of its live systems, it has settled: each near live system
 /// has the identity of its component's best as its root and its distance as its steps, it follows its parent over its
-/// slave port, and each of its ports has its settled role.
+/// slave port, and each of its ports has its settled role. So it has where it has been calm for the settling span of m
+/// systems, and no path of its snapshot has more; and so for the number that gptp_graph reads off the links, two and
+/// those that have two neighbours.
 pub fn worlds_settle()
-    ensures { ClaimedSettled }
+    ensures systems { ClaimedSettled }
+    ensures by_paths { ClaimedSettledByPaths }
+    ensures neighbours { ClaimedSettledByNeighbours }
 {}
 
 /// What the calls of such a world show is capable and settled in time.
@@ -53,6 +60,8 @@ pub fn calls_show_it()
     ensures enabled { RolesAreEnabled }
     ensures choice { SystemsSettle }
     ensures roles { RolesSettle }
+    ensures choice_by_paths { SystemsSettleByPaths }
+    ensures roles_by_paths { RolesSettleByPaths }
 {}
 
 /// Traces in such a world become clean: those that systems announce, those that their ports hold, and those of frames

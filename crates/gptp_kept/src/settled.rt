@@ -2,7 +2,7 @@
 
 ghost use Rattle.gptp_kept.specs.SettledLaws.{ActsStayWorlds, DoneStaysWorld, TimeStaysWorld};
 ghost use Rattle.gptp_kept.specs.SettledLaws.{HoldsAtFirst, HoldsBegins, HoldsChanged};
-ghost use Rattle.gptp_kept.specs.SettledLaws.{HoldsDone, HoldsKept, HoldsLater, HoldsSettled};
+ghost use Rattle.gptp_kept.specs.SettledLaws.{HoldsDone, HoldsKept, HoldsLater, HoldsSettled, HoldsSettledByPaths};
 
 use gptp_links::Fate;
 
@@ -33,7 +33,9 @@ pub fn claim_is_kept<F: Fate>()
 
 /// Where the claim holds of a quiet world, and the settling span of its live systems has passed from the last change,
 /// the world has settled: each near live system has the identity of its component's best as its root and its distance
-/// as its steps, it follows its parent over its slave port, and each of its ports has its settled role.
+/// as its steps, it follows its parent over its slave port, and each of its ports has its settled role. So it has once
+/// the span of m systems has passed, where no path of the snapshot has more than m.
 pub fn worlds_settle()
-    ensures { HoldsSettled }
+    ensures systems { HoldsSettled }
+    ensures by_paths { HoldsSettledByPaths }
 {}

@@ -1,9 +1,11 @@
 -- Traces become clean: each step keeps how clean they are by when they were sent, and in the end all that is held is
 -- wholly clean.
-use Rattle.std.proofs.Common.{◌≡◌, ◌⊎◌, ◌≤◌, ◌<◌, ◌+◌, ◌*◌, ◌++◌, ℕ, zero, suc, true, List, [], ◌∷◌, Some, length, slice_get, reverse, refl, sym, ap, subst, ◌∙◌, inl, inr, arith}
+use Rattle.std.proofs.Common.{◌≡◌, ◌⊎◌, ◌≤◌, ◌<◌, ◌+◌, ◌*◌, ◌++◌, ℕ, zero, suc, true, List, [], ◌∷◌, Some, slice_get, reverse, refl, sym, ap, subst, ◌∙◌, inl, inr, arith}
 use Rattle.gptp_lists.specs.Members.{In}
-use Rattle.gptp_graph.specs.Snapshot.{System, PortIdentity, IsWellFormed, clocks, port_of, Joins, Adjacent}
+use Rattle.gptp_graph.specs.Snapshot.{PortIdentity, clocks, port_of, Joins, Adjacent}
+use Rattle.gptp_graph.specs.PathBound.{BoundsPaths}
 use Rattle.gptp_graph.proofs.LinkLemmas.{Joins-sym}
+use Rattle.gptp_graph.proofs.PathLemmas.{IsPath-self}
 use Rattle.gptp_graph.proofs.SystemLemmas.{In-clocks}
 use Rattle.gptp_lists.proofs.MemberLemmas.{In-parts}
 use Rattle.gptp_settling.specs.Frame.{Announce, Says, Frame, Lane, Send}
@@ -225,11 +227,11 @@ module _ (says : Says) (k : Setting) where
         absurd (omega arith);
   }
 
-  -- as many turns after the start as there are systems, all that is held is wholly clean
-  pub held_whole : (w : State) → IsWellFormed k.graph → Facts k w → TracesAreClean says k w
-      → k.start + length k.graph.systems * turn k ≤ w.time → HeldIsWhole k w
-  held_whole w wf facts clean late i s place r at live holds =
-      go (length k.graph.systems) refl late
+  -- as many turns after the start as a path may have systems, all that is held is wholly clean
+  pub held_whole : (m : ℕ) (w : State) → BoundsPaths k.graph m → Facts k w → TracesAreClean says k w
+      → k.start + m * turn k ≤ w.time → HeldIsWhole k w
+  held_whole m w bounded facts clean late i s place r at live holds =
+      go m bounded late
     where
       is : IsStation k w.time s
       is = facts.stations i s at live
@@ -240,14 +242,12 @@ module _ (says : Says) (k : Setting) where
       here : In s.clock (clocks k.graph)
       here = known_clock k w.time s is
 
-      go : (count : ℕ) → length k.graph.systems ≡ count → k.start + count * turn k ≤ w.time
+      go : (count : ℕ) → BoundsPaths k.graph count → k.start + count * turn k ≤ w.time
           → CameWhole k.graph s.clock (suc place) r
-      go zero e late' = absurd (no_system k.graph.systems e is.known)
-        where
-          no_system : (xs : List System) → length xs ≡ 0 → In (system_of s) xs → ⊥
-          no_system [] e h = h
-          no_system (x ∷ xs) e h = absurd (omega arith)
-      go (suc m) e late' = whole (clean.stations i s at live place r m holds (since in_time))
+      go zero bounded late' =
+          let alone : 0 < 0 = bounded s.clock s.clock [] (IsPath-self k.graph s.clock here) in
+          absurd (omega arith)
+      go (suc m) bounded late' = whole (clean.stations i s at live place r m holds (since in_time))
         where
           since : IsInTime k w.time s.clock r → Late k m r.at
           since t =
@@ -261,8 +261,7 @@ module _ (says : Says) (k : Setting) where
             joins = came.joins;
             source = came.good.source;
             whole = elim came.good.clean [
-              | inl c ↦ absurd (not_all_clean k.graph s.clock came.from.clock r.said.path wf
-                  (subst (λ n. Clean k.graph n came.from.clock r.said.path) (sym e) c) here
+              | inl c ↦ absurd (not_all_clean k.graph (suc m) s.clock came.from.clock r.said.path bounded c here
                   (joined_back k came.from s.clock (suc place) came.joins) in_time.no_loop)
               | inr h ↦ h
             ];

@@ -7,6 +7,7 @@ use Rattle.gptp_graph.specs.Snapshot.{System, PortIdentity, port_of, Joins, IsLi
 use Rattle.gptp_graph.proofs.DecisionLemmas.{dec_both, dec_either}
 use Rattle.gptp_graph.proofs.OrderLemmas.{IsLower-dec, IsLower-irrefl}
 use Rattle.gptp_graph.proofs.LinkDecisions.{PortIdentity-dec}
+use Rattle.gptp_graph.proofs.PathLemmas.{path_bounded}
 use Rattle.gptp_graph.proofs.SureTests.{sure_well_formed}
 use Rattle.gptp_settling.specs.Frame.{Frame, Lane}
 use Rattle.gptp_settling.specs.Station.{Reception, Disabled, Aged, Mine, Received, Port, Station, HoldsAt}
@@ -46,7 +47,11 @@ unfolding ℕ_discrete dec_le dec_lt dec_both dec_either IsLower-dec PortIdentit
 well_formed = (sure_well_formed network.graph).1 refl
 
 pub is_network : IsNetwork network
-is_network = record { graph = well_formed; round = λ p linked. omega arith }
+is_network = record {
+  graph = well_formed;
+  paths = λ v w us path. path_bounded network.graph v w us well_formed path;
+  round = λ p linked. omega arith;
+}
 
 -- a master port received nothing, and isn't disabled or aged
 pub mine_received : {A : Type 0} (root steps : ℕ) (r : Reception) → Mine root steps ≡ Received r → A

@@ -151,12 +151,12 @@ module _ (says : Says) (n : Network) (net : IsNetwork n) (w : State) (calm : Cal
 module _ (says : Says) (n : Network) (net : IsNetwork n) where
   -- once all that is held is wholly clean it stays so
   pub whole_from : (w : State) → Calm n w → Invariant says n w → clean_from n ≤ w.time → HeldIsWhole (setting n) w
-  whole_from w calm invariant late = held_whole says (setting n) w net.graph calm.facts invariant.traces late
+  whole_from w calm invariant late = held_whole says (setting n) n.reach w net.paths calm.facts invariant.traces late
 
   module _ (w w' : State) (calm : Calm n w) (calm' : Calm n w') (step : Steps says w w')
       (invariant : Invariant says n w) (traces' : TracesAreClean says (setting n) w') where
     whole' : clean_from n ≤ w'.time → HeldIsWhole (setting n) w'
-    whole' late = held_whole says (setting n) w' net.graph calm'.facts traces' late
+    whole' late = held_whole says (setting n) n.reach w' net.paths calm'.facts traces' late
 
     -- one level is kept, where those below it are
     level_kept : (d : ℕ) → ((e : ℕ) → e < d → LevelSettles says n e w') → LevelSettles says n d w'

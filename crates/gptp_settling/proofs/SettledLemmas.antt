@@ -1,5 +1,5 @@
 -- Networks settle: each near system follows the best over its parent, and its ports have their settled roles.
-use Rattle.std.proofs.Common.{◌≡◌, ◌≢◌, ◌⊎◌, ◌≤◌, ◌<◌, ◌*◌, ℕ, zero, suc, true, [], ◌∷◌, Option, Some, None, length, slice_get, refl, sym, ap, subst, ◌∙◌, inl, inr, arith}
+use Rattle.std.proofs.Common.{◌≡◌, ◌≢◌, ◌⊎◌, ◌≤◌, ◌<◌, ◌*◌, ℕ, zero, suc, true, [], ◌∷◌, Option, Some, None, slice_get, refl, sym, ap, subst, ◌∙◌, inl, inr, arith}
 use native.Mathlib.Decide.{ℕ_discrete, dec_lt}
 use native.Mathlib.Nat.{mul-le-mul_right}
 use Rattle.gptp_graph.specs.Order.{IsLower}
@@ -11,7 +11,8 @@ use Rattle.gptp_graph.specs.SettledRole as role
 use Rattle.gptp_graph.proofs.LinkLemmas.{Joins-sym, Joins-clock, Adjacent-sym, Adjacent-clock}
 use Rattle.gptp_graph.proofs.LinkDecisions.{IsLinked-dec}
 use Rattle.gptp_graph.proofs.BestLemmas.{IsBest-neighbour}
-use Rattle.gptp_graph.proofs.DistanceLemmas.{IsDistance-unique, IsDistance-neighbour, IsDistance-bounded}
+use Rattle.gptp_graph.proofs.DistanceLemmas.{IsDistance-unique, IsDistance-neighbour}
+use Rattle.gptp_graph.proofs.PathBoundLemmas.{IsDistance-within}
 use Rattle.gptp_graph.proofs.ExistenceLemmas.{distance_exists}
 use Rattle.gptp_graph.proofs.ParentLemmas.{LeadsNearer-distance, IsParent-unique, no_parent_at_zero}
 use Rattle.gptp_settling.specs.Frame.{Says}
@@ -358,7 +359,6 @@ network_settles says n w i s net calm invariant at live (d, here, near) late =
   where
     by_then : since n (suc d) ≤ w.time
     by_then =
-        let bounded : d < length n.graph.systems = IsDistance-bounded n.graph s.clock d net.graph here in
-        let grows : since n (suc d) ≤ since n (length n.graph.systems) =
-        since_grows n (suc d) (length n.graph.systems) bounded in
+        let bounded : d < n.reach = IsDistance-within n.graph n.reach s.clock d net.paths here in
+        let grows : since n (suc d) ≤ since n n.reach = since_grows n (suc d) n.reach bounded in
         omega arith

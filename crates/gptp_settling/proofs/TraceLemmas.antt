@@ -2,10 +2,11 @@
 use Rattle.std.proofs.Common.{◌≡◌, ◌≤◌, ◌<◌, ◌++◌, ℕ, zero, suc, take, drop, List, [], ◌∷◌, length, refl, reverse, sym, ap, subst, ◌∙◌, arith}
 use Rattle.std.proofs.lemmas.List.{reverse-reverse, take-append-le, length-take-le, take-append-drop}
 use Rattle.gptp_lists.specs.Members.{In, Different}
-use Rattle.gptp_graph.specs.Snapshot.{System, Snapshot, IsWellFormed, clocks, Adjacent}
+use Rattle.gptp_graph.specs.Snapshot.{System, Snapshot, clocks, Adjacent}
 use Rattle.gptp_graph.specs.Path.{Route, IsPath}
+use Rattle.gptp_graph.specs.PathBound.{BoundsPaths}
 use Rattle.gptp_graph.proofs.SystemLemmas.{In-clocks}
-use Rattle.gptp_graph.proofs.PathLemmas.{IsPath-self, path_bounded}
+use Rattle.gptp_graph.proofs.PathLemmas.{IsPath-self}
 use Rattle.gptp_lists.proofs.MemberLemmas.{In-left, In-take}
 use Rattle.gptp_settling.specs.Frame.{Announce}
 use Rattle.gptp_settling.specs.Clean.{Clean, Whole}
@@ -82,13 +83,13 @@ whole_on g v u a b h here joined out root steps path = record {
     not_on k =
         out (subst (In v) (reverse-reverse a.path) (In-reverse v (reverse a.path) (subst (In v) (sym h.is) k)))
 
--- as many clean members as there are systems, and one more system joined to them, would be too many
-pub not_all_clean : (g : Snapshot) (v u : ℕ) (trace : List ℕ) → IsWellFormed g → Clean g (length g.systems) u trace
+-- as many clean members as a path may have, and one more system joined to them, would be too many
+pub not_all_clean : (g : Snapshot) (m v u : ℕ) (trace : List ℕ) → BoundsPaths g m → Clean g m u trace
     → In v (clocks g) → Adjacent g v u → (In v trace → ⊥) → ⊥
-not_all_clean g v u trace wf h here joined out =
+not_all_clean g m v u trace bounded h here joined out =
     let way = way_on g v u h.end h.others h.way here joined (not_behind v trace (u ∷ h.others) h.older h.is out) in
-    let fits : length (u ∷ h.others) < length g.systems = path_bounded g v h.end (u ∷ h.others) wf way in
-    let long : length g.systems ≤ suc (length h.others) = h.long in
+    let fits : length (u ∷ h.others) < m = bounded v h.end (u ∷ h.others) way in
+    let long : m ≤ suc (length h.others) = h.long in
     absurd (omega arith)
 
 -- the front of a route ends somewhere

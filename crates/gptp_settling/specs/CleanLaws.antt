@@ -1,7 +1,8 @@
 -- Laws on traces: they become clean.
 use Rattle.std.specs.Prelude.{◌≡◌, ◌<◌, ◌≤◌, ◌+◌, ◌*◌, ℕ, suc, true, List, ◌∷◌, ◌↔◌, Some, length, take, reverse, slice_get}
-use Rattle.gptp_graph.specs.Snapshot.{Snapshot, IsWellFormed}
+use Rattle.gptp_graph.specs.Snapshot.{Snapshot}
 use Rattle.gptp_graph.specs.Path.{IsPath}
+use Rattle.gptp_graph.specs.PathBound.{BoundsPaths}
 use Rattle.gptp_settling.specs.Frame.{Says}
 use Rattle.gptp_settling.specs.Station.{Reception, Station, State, HoldsAt}
 use Rattle.gptp_settling.specs.Acts.{Steps}
@@ -27,11 +28,11 @@ HeldIsWhole k w = (i : ℕ) (s : Station) (place : ℕ) (r : Reception)
     → slice_get w.stations i ≡ Some s → s.live ≡ true → HoldsAt s place r
     → CameWhole k.graph s.clock (suc place) r
 
--- once as many turns as there are live systems have passed from the start, everything received is wholly clean
+-- where no path has more than m systems, everything received is wholly clean once m turns have passed from the start
 abbrev pub HeldBecomesWhole : Says → Type 0
-HeldBecomesWhole says = (k : Setting) (w : State)
-    → IsWellFormed k.graph → Facts k w → TracesAreClean says k w
-    → k.start + length k.graph.systems * turn k ≤ w.time
+HeldBecomesWhole says = (k : Setting) (m : ℕ) (w : State)
+    → BoundsPaths k.graph m → Facts k w → TracesAreClean says k w
+    → k.start + m * turn k ≤ w.time
     → HeldIsWhole k w
 
 -- the last m + 1 members of the trace, read backwards, are a path of the snapshot that begins at u

@@ -23,6 +23,7 @@ network = record {
         ∷ [];
     links = record { a = port_of 1 1; b = port_of 2 1 } ∷ [];
   };
+  reach = 2;
   place = pred;
   lane = λ p. pred p.clock;
   interval_of = λ p. 4;

@@ -1,14 +1,17 @@
 -- A network whose last change is past, and the times from which claims are made.
-use Rattle.std.specs.Prelude.{◌≤◌, ◌+◌, ◌*◌, ℕ, suc, length}
+use Rattle.std.specs.Prelude.{◌≤◌, ◌+◌, ◌*◌, ℕ, suc}
 use Rattle.gptp_graph.specs.Snapshot.{System, PortIdentity, Snapshot, port_of, IsLinked, IsWellFormed}
+use Rattle.gptp_graph.specs.PathBound.{BoundsPaths}
 use Rattle.gptp_settling.specs.Facts.{Setting, turn}
 use Rattle.gptp_settling.specs.Stage.{Wiring}
 
--- The live systems and their links; at which place a system stands, by its clock, and a lane, by the port that it leads
--- from; the announce interval of each port and the largest of them; the largest delay of a link; the announce receipt
--- timeout, in intervals; and when every port on a link is capable and all others are disabled.
+-- The live systems and their links; how many systems a path of them has at most; at which place a system stands, by its
+-- clock, and a lane, by the port that it leads from; the announce interval of each port and the largest of them; the
+-- largest delay of a link; the announce receipt timeout, in intervals; and when every port on a link is capable and all
+-- others are disabled.
 pub record Network : Type 0 where
   pub graph : Snapshot
+  pub reach : ℕ
   pub place : ℕ → ℕ
   pub lane : PortIdentity → ℕ
   pub interval_of : PortIdentity → ℕ
@@ -17,10 +20,11 @@ pub record Network : Type 0 where
   pub timeout : ℕ
   pub start : ℕ
 
--- The snapshot is a network's, and from an Announce to the arrival of the next over a link it takes no longer than two
--- of the largest intervals.
+-- The snapshot is a network's, no path of it has more systems than is said, and from an Announce to the arrival of the
+-- next over a link it takes no longer than two of the largest intervals.
 pub record IsNetwork (n : Network) : Type 0 where
   pub graph : IsWellFormed n.graph
+  pub paths : BoundsPaths n.graph n.reach
   pub round : (p : PortIdentity) → IsLinked n.graph p → n.interval_of p + n.most ≤ n.interval + n.interval
 
 -- what is received stays for the receipt timeout at most
@@ -29,18 +33,18 @@ setting n = record { graph = n.graph; start = n.start; interval = n.interval; sp
 
 -- when all that is held is wholly clean
 abbrev pub clean_from : Network → ℕ
-clean_from n = n.start + length n.graph.systems * turn (setting n)
+clean_from n = n.start + n.reach * turn (setting n)
 
 -- when the systems at distance d have settled: two intervals for each step
 abbrev pub since : Network → ℕ → ℕ
 since n d = clean_from n + 2 * d * n.interval
 
 -- When all near systems and their ports have settled. Of the last intervals two are for each step, of which a distance
--- has fewer than there are systems, and two for the ports that end as passive.
+-- has fewer than a path may have systems, and two for the ports that end as passive.
 abbrev pub settled_from : Network → ℕ
 settled_from n = n.start
-    + length n.graph.systems * ((n.timeout + 1) * n.interval)
-    + 2 * length n.graph.systems * n.interval
+    + n.reach * ((n.timeout + 1) * n.interval)
+    + 2 * n.reach * n.interval
 
 -- the link from port p + 1 of system v, at distance d from its best, to port q + 1 of system u
 abbrev pub wiring : Network → ℕ → System → ℕ → ℕ → ℕ → ℕ → Wiring

@@ -9,10 +9,11 @@
 //! The definitions stand in `specs/`. Each function of this crate is a law: it does nothing, and its contract is a
 //! theorem about the definitions. From when every port on a link of the snapshot is capable, traces become clean: a
 //! system goes on what it received a turn ago at most, and adds one member that is right, so that after as many turns
-//! as there are live systems no other member is left. Then the choice settles, system by system in order of distance:
-//! two announce intervals after one has settled, those that its links lead to hold what it announces, and it is
-//! repeated before it ages. In the words of `gptp_graph` each near system then follows the best of its component over
-//! its parent, and each of its ports has its settled role. An example run shows that the laws are of something.
+//! as a path of the snapshot may have systems no other member is left. Then the choice settles, system by system in
+//! order of distance: two announce intervals after one has settled, those that its links lead to hold what it
+//! announces, and it is repeated before it ages. In the words of `gptp_graph` each near system then follows the best of
+//! its component over its parent, and each of its ports has its settled role. An example run shows that the laws are of
+//! something.
 //!
 //! Lemmas for the crates above, over any relation of octets and Announces, are in the public modules of `proofs/`.
 #![tactic(auto)]

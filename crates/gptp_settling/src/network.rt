@@ -25,9 +25,10 @@ pub fn ports_settle<C: Coding>()
     ensures { PortsSettle C.says }
 {}
 
-/// In a network of n live systems, announce receipt timeout k and largest announce interval I, every near system
-/// follows the best of its component over its parent, and all its ports have their settled roles, at every time from
-/// n·(k+1)·I + 2·n·I after the start on: at that very moment too, whether or not what is due then has happened.
+/// In a network of which no path has more than m systems, with announce receipt timeout k and largest announce interval
+/// I, every near system follows the best of its component over its parent, and all its ports have their settled roles,
+/// at every time from m·(k+1)·I + 2·m·I after the start on: at that very moment too, whether or not what is due then
+/// has happened. How many systems live is such an m, and so is the bound that gptp_graph reads off the links.
 pub fn network_settles<C: Coding>()
     ensures { NetworkSettles C.says }
 {}

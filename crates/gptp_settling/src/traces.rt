@@ -17,9 +17,9 @@ pub fn traces_stay_clean<C: Coding>()
     ensures kept { CleanIsKept C.says }
 {}
 
-/// Once as many turns as there are live systems have passed from the start, a turn being the longest span for which
-/// anything received stays and an announce interval, all that live systems hold is wholly clean: it came over the
-/// port's link, and its trace is a path of the snapshot from the announced root, of the announced length.
+/// Where no path of the snapshot has more than m systems, all that live systems hold is wholly clean once m turns have
+/// passed from the start, a turn being the longest span for which anything received stays and an announce interval: it
+/// came over the port's link, and its trace is a path of the snapshot from the announced root, of the announced length.
 pub fn traces_become_clean<C: Coding>()
     ensures { HeldBecomesWhole C.says }
 {}

@@ -4,10 +4,10 @@ use Rattle.gptp_kept.proofs.calm.network_is_kept.Goals as goal
 
 pub returns-clause-acts : goal.returns-clause-acts
 returns-clause-acts c =
-    λ p start act w draws done w' none k. same_network w w' (acts_keep act w draws done w' none k) p start
+    λ p m start act w draws done w' none k. same_network w w' (acts_keep act w draws done w' none k) p m start
 
 pub returns-clause-time : goal.returns-clause-time
-returns-clause-time c = λ p start w time. refl
+returns-clause-time c = λ p m start w time. refl
 
 pub returns-clause-quiet : goal.returns-clause-quiet
 returns-clause-quiet c =

@@ -1,5 +1,11 @@
-use Rattle.gptp_kept.proofs.ClaimedLemmas.{claimed_settled}
+use Rattle.gptp_kept.proofs.ClaimedLemmas.{claimed_settled, settled_by_neighbours, settled_by_paths}
 use Rattle.gptp_kept.proofs.claimed.worlds_settle.Goals as goal
 
-pub returns : goal.returns
-returns c = claimed_settled
+pub returns-clause-systems : goal.returns-clause-systems
+returns-clause-systems c = claimed_settled
+
+pub returns-clause-by_paths : goal.returns-clause-by_paths
+returns-clause-by_paths c = settled_by_paths
+
+pub returns-clause-neighbours : goal.returns-clause-neighbours
+returns-clause-neighbours c = settled_by_neighbours

@@ -1,5 +1,9 @@
-use Rattle.gptp_kept.proofs.SettledLemmas.{settles}
+use Rattle.gptp_kept.proofs.SettledLemmas.{settles, settles_by_paths}
 use Rattle.gptp_kept.proofs.settled.worlds_settle.Goals as goal
 
-pub returns : goal.returns
-returns c = settles
+pub returns-clause-systems : goal.returns-clause-systems
+returns-clause-systems c = settles
+
+pub returns-clause-by_paths : goal.returns-clause-by_paths
+returns-clause-by_paths c =
+    λ p m w is quiet capable holds bounded. settles_by_paths p w is quiet capable holds m bounded
