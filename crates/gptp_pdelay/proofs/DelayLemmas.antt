@@ -108,11 +108,11 @@ at_least_zero : (m : ℤ) → (n : ℕ) × (int_max (pos 0) m ≡ pos n)
 at_least_zero m = (unsigned_abs (int_max (pos 0) m), omega (arith, ints, clamps))
 
 -- what the requester counts, brought to the rate r, is the product rounded down
-record IsScaled (y r : ℕ) (s : ℤ) : Type 0 where
-  reached : (unit *ℤ s) ≤ℤ pos (r * y)
-  passed : pos (r * y) <ℤ (unit *ℤ s +ℤ unit)
+pub record IsScaled (y r : ℕ) (s : ℤ) : Type 0 where
+  pub reached : (unit *ℤ s) ≤ℤ pos (r * y)
+  pub passed : pos (r * y) <ℤ (unit *ℤ s +ℤ unit)
 
-scaled_is : (q : ℤ) (y r : ℕ) → q ≡ pos r -ℤ unit → IsScaled y r (scaled_by q (pos y))
+pub scaled_is : (q : ℤ) (y r : ℕ) → q ≡ pos r -ℤ unit → IsScaled y r (scaled_by q (pos y))
 scaled_is q y r e =
     let i = rate_rounds_down.scaled q (pos y) in
     let f : unit +ℤ q ≡ pos r = omega (arith, ints, e) in

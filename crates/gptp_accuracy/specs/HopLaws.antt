@@ -1,0 +1,60 @@
+-- What one hop adds to the error of the time that is carried. Rates are in units of 2^-41, where 2^41 stands for 1, times
+-- of clocks in units of 2^-16 ns, and delays and residences in ns.
+use Rattle.std.specs.Prelude.{◌≡◌, ℕ, ◌+◌, ◌*◌, ◌^◌, ◌<◌, ◌≤◌}
+use Rattle.gptp_scaled.specs.Counts.{IsClockRate, IsCounted}
+
+-- a rate is within e of that of the root's clock against this clock: 2^41 root / clock
+pub record IsRateWithin (e root clock rate : ℕ) : Type 0 where
+  pub low : 2 ^ 41 * root ≤ (rate + e) * clock
+  pub high : rate * clock ≤ 2 ^ 41 * root + e * clock
+
+-- what comes to a hop: the rate that a Follow_Up carries is a number of 32 bits, the rate of the neighbour within 200
+-- parts in a million, and the rate behind the hop is that of their sum
+pub record AreRates (before neighbour after : ℕ) : Type 0 where
+  pub before_low : 2 ^ 41 ≤ before + 2 ^ 31
+  pub before_high : before ≤ 2 ^ 41 + 2 ^ 31
+  pub neighbour_low : 2 ^ 41 ≤ neighbour + 439804651
+  pub neighbour_high : neighbour ≤ 2 ^ 41 + 439804651
+  pub after_is : after + 2 ^ 41 ≡ before + neighbour
+
+-- The mean link delay, in units of 2^-16 ns by the neighbour's clock, is at most what that counts in the greatest delay,
+-- and the rounding and the 1525th part of what `IsDelayWithin` of gptp_pdelay says.
+abbrev pub IsDelayBelow : ℕ → ℕ → ℕ → ℕ → Type 0
+IsDelayBelow most turnaround up delay =
+    1525 * 2 ^ 41 * delay ≤ 1525 * 65536 * most * up + 2 ^ 41 * (6100 + 2 * most + turnaround)
+
+-- and it is at least what that counts in the least delay, less the same
+abbrev pub IsDelayAbove : ℕ → ℕ → ℕ → ℕ → ℕ → Type 0
+IsDelayAbove least most turnaround up delay =
+    1525 * 65536 * least * up ≤ 2 ^ 41 * (1525 * delay + 6100 + 2 * most + turnaround)
+
+-- The link time by the own clock, which is the delay divided by the neighbour's rate and rounded down, at the rate behind
+-- the hop: the neighbour's rate cancels out, and so it needs the rate from above alone. It isn't above what the root's
+-- clock counts in the greatest delay, but for e / 33550000 of that delay in units, where e is the error of the rate from
+-- above, for (20 most + turnaround) / 1500 units and for 5 units of rounding.
+abbrev pub LinkTimeIsBelow : Type 0
+LinkTimeIsBelow = (most turnaround root up e delay before neighbour after time : ℕ) → IsClockRate root →
+    IsClockRate up → IsRateWithin e root up before → AreRates before neighbour after →
+    time * neighbour ≤ delay * 2 ^ 41 → IsDelayBelow most turnaround up delay →
+    50325000000 * time * after ≤
+    50325000000 * 65536 * most * root + 2 ^ 41 * (1500 * e * most + 33550000 * (20 * most + turnaround + 7530))
+
+-- It isn't below what the root's clock counts in the least delay, but for the same.
+abbrev pub LinkTimeIsAbove : Type 0
+LinkTimeIsAbove = (least most turnaround root up e delay before neighbour after time : ℕ) → least ≤ most →
+    IsClockRate root → IsClockRate up → IsRateWithin e root up before → AreRates before neighbour after →
+    delay * 2 ^ 41 < (time + 1) * neighbour → IsDelayBelow most turnaround up delay →
+    IsDelayAbove least most turnaround up delay →
+    50325000000 * 65536 * least * root ≤
+    50325000000 * time * after + 2 ^ 41 * (1500 * e * most + 33550000 * (20 * most + turnaround + 7530))
+
+-- What the own clock counts while a bridge keeps a Sync, at the rate behind the hop, isn't above what the root's clock
+-- counts, but for the error e of that rate times the stay and for the rounding of one count.
+abbrev pub StayIsBelow : Type 0
+StayIsBelow = (stay root own e rate count : ℕ) → IsRateWithin e root own rate → IsCounted own stay count →
+    2 ^ 41 * count * rate ≤ 65536 * stay * (2 ^ 41 * root + e * own) + 2 ^ 41 * rate
+
+-- It isn't below it, but for the same.
+abbrev pub StayIsAbove : Type 0
+StayIsAbove = (stay root own e rate count : ℕ) → IsRateWithin e root own rate → IsCounted own stay count →
+    65536 * stay * 2 ^ 41 * root ≤ 2 ^ 41 * (count + 1) * rate + 65536 * stay * e * own
