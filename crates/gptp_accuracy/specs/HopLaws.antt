@@ -1,7 +1,14 @@
 -- What one hop adds to the error of the time that is carried. Rates are in units of 2^-41, where 2^41 stands for 1, times
 -- of clocks in units of 2^-16 ns, and delays and residences in ns.
-use Rattle.std.specs.Prelude.{◌≡◌, ℕ, ◌+◌, ◌*◌, ◌^◌, ◌<◌, ◌≤◌}
-use Rattle.gptp_scaled.specs.Counts.{IsClockRate, IsCounted}
+use Rattle.std.specs.Prelude.{◌≡◌, ℕ, ◌+◌, ◌-◌, ◌*◌, ◌^◌, ◌<◌, ◌≤◌, ℤ, pos, ◌+ℤ◌, ◌-ℤ◌, ◌*ℤ◌}
+use Rattle.gptp_scaled.specs.Rate.{FitsRate, IsNeighborRate, unit}
+use Rattle.gptp_scaled.specs.Stamp.{scaled_of}
+use Rattle.gptp_scaled.specs.Counts.{AreWithin, IsClockRate, IsCounted}
+use Rattle.gptp_pdelay.specs.Measured.{IsDelayWithin}
+use Rattle.gptp_correction.specs.declared.correction.Hop.{Hop}
+use Rattle.gptp_correction.specs.declared.sync_in.SyncInfo.{SyncInfo}
+use Rattle.gptp_correction.specs.Correction.{relayed, received}
+use Rattle.gptp_accuracy.specs.TimeError.{hop_error}
 
 -- a rate is within e of that of the root's clock against this clock: 2^41 root / clock
 pub record IsRateWithin (e root clock rate : ℕ) : Type 0 where
@@ -58,3 +65,45 @@ StayIsBelow = (stay root own e rate count : ℕ) → IsRateWithin e root own rat
 abbrev pub StayIsAbove : Type 0
 StayIsAbove = (stay root own e rate count : ℕ) → IsRateWithin e root own rate → IsCounted own stay count →
     65536 * stay * 2 ^ 41 * root ≤ 2 ^ 41 * (count + 1) * rate + 65536 * stay * e * own
+
+-- What is known of a hop over a link, where the rates of the root's clock and of the neighbour's are these: the rate from
+-- above is within `above` of the true one and has 32 bits, and the mean link delay lies where it is measured.
+pub record IsOverLink (least most turnaround root up above : ℕ) (rate neighbour delay : ℤ) : Type 0 where
+  pub order : least ≤ most
+  pub root_rate : IsClockRate root
+  pub up_rate : IsClockRate up
+  pub before : ℕ
+  pub before_is : unit +ℤ rate ≡ pos before
+  pub within : IsRateWithin above root up before
+  pub fits : FitsRate rate
+  pub near : IsNeighborRate neighbour
+  pub measured : IsDelayWithin least most turnaround up delay
+
+-- the rate behind a hop is within `behind` of that of the root's clock against the own one
+pub record IsRateBehind (root own behind : ℕ) (rate : ℤ) : Type 0 where
+  pub after : ℕ
+  pub after_is : unit +ℤ rate ≡ pos after
+  pub within : IsRateWithin behind root own after
+
+-- A bridge that keeps a Sync for a stay adds to the correction what passes on the root's clock from egress to egress:
+-- within the link's part of the time error, and within the error of the rate from above times the greatest delay and
+-- that of the rate behind the hop times the stay, both over 33550000 ns a unit.
+abbrev pub HopKeeps : Type 0
+HopKeeps = (least most turnaround root up own above behind delay stay count passed : ℕ) (s : SyncInfo) (h : Hop) →
+    IsOverLink least most turnaround root up above s.rate h.neighbour h.delay →
+    IsRateBehind root own behind (s.rate +ℤ h.neighbour) → IsClockRate own → least ≤ delay → delay ≤ most →
+    IsCounted own stay count → h.egress -ℤ h.ingress ≡ pos count → IsCounted root (delay + stay) passed →
+    AreWithin (33550000 * hop_error (most - least) most turnaround + above * most + behind * stay)
+    (pos 33550000 *ℤ ((relayed s h).correction -ℤ s.correction)) (pos (33550000 * passed))
+
+-- What a system computes from a Sync and its Follow_Up is the root's time when the Sync came. With what its own clock
+-- counts from there to the Follow_Up, at most the jitter later, it is the root's time then: within the link's part of
+-- the time error, and within the error of the rate from above times the greatest delay.
+abbrev pub OffsetIsWithin : Type 0
+OffsetIsWithin = (least most turnaround root up own above delay wait count passed : ℕ) (s : SyncInfo)
+    (link_delay neighbour : ℤ) → IsOverLink least most turnaround root up above s.rate neighbour link_delay →
+    IsClockRate own → least ≤ delay → delay ≤ most → wait ≤ most - least → IsCounted own wait count →
+    IsCounted root (delay + wait) passed →
+    AreWithin (33550000 * hop_error (most - least) most turnaround + above * most)
+    (pos 33550000 *ℤ (received s link_delay neighbour -ℤ (scaled_of s.origin +ℤ s.correction) +ℤ pos count))
+    (pos (33550000 * passed))

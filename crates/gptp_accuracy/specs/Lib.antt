@@ -1,1 +1,2 @@
+pub mod TimeError
 pub mod HopLaws
