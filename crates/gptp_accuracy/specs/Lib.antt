@@ -1,2 +1,3 @@
 pub mod TimeError
 pub mod HopLaws
+pub mod WayLaws

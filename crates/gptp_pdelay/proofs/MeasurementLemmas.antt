@@ -58,9 +58,9 @@ pub clock_counts : ClockCounts
 clock_counts = record { rate = rate_is; counts = counts }
 
 -- what passes on a clock from one moment to a later one
-between : (phase : ℕ) (drift : ℤ) (from to : ℕ) → IsDrift drift → from ≤ to →
+pub counts_between : (phase : ℕ) (drift : ℤ) (from to : ℕ) → IsDrift drift → from ≤ to →
     Counts (clock_rate drift) (to - from) (local_clock phase drift to -ℤ local_clock phase drift from)
-between phase drift from to d h =
+counts_between phase drift from to d h =
     let e : from + (to - from) ≡ to = omega (arith, h) in rw e at (counts phase drift from (to - from) d)
 
 pub measurement_is_within : MeasurementIsWithin
@@ -87,11 +87,11 @@ measurement_is_within least most turnaround interval m phase phase' drift drift'
       arrivals_is = omega (arith, a.ended, second.there_long, second.home_long);
       sendings_is = omega (arith, a.ended, second.there_long, second.home_long, first.home_long);
     } in
-    let e3 = between phase' drift' (a.earlier.heard + turnaround) (a.later.heard + turnaround) d'
+    let e3 = counts_between phase' drift' (a.earlier.heard + turnaround) (a.later.heard + turnaround) d'
     (omega (arith, a.ended, second.there_long, first.home_long)) in
-    let e4 = between phase drift a.earlier.came a.later.came d (omega (arith, a.ended, second.there_long, second.home_long)) in
-    let y = between phase drift a.later.asked a.later.came d (omega (arith, second.there_long, second.home_long)) in
-    let z = between phase' drift' a.later.heard (a.later.heard + turnaround) d' (omega arith) in
+    let e4 = counts_between phase drift a.earlier.came a.later.came d (omega (arith, a.ended, second.there_long, second.home_long)) in
+    let y = counts_between phase drift a.later.asked a.later.came d (omega (arith, second.there_long, second.home_long)) in
+    let z = counts_between phase' drift' a.later.heard (a.later.heard + turnaround) d' (omega arith) in
     let turned : answer ≡ turnaround = omega arith in
     let theirs = rate_is drift' d' in
     let mine = rate_is drift d in

@@ -78,11 +78,11 @@ rate_is_within jitter span span' up own e3 e4 m theirs mine near p two room =
     (omega (arith, room)) i j in
     record { low = omega (arith, ints, low); high = omega (arith, ints, high) }
 
--- the rate of two counts is their quotient less 1, kept within the limit
-pub rate_of_counts : (e3 e4 f : ℕ) → 0 < e4 → IsQuotient (e3 * 2199023255552) e4 f →
-    rate_of (pos e3) (pos e4) ≡ clamped (pos f -ℤ unit)
-rate_of_counts e3 zero f p i = absurd (omega (arith, p))
-rate_of_counts e3 (suc n) f p i =
+-- what a count gains on another, by the other, is their quotient less 1
+pub gain_is : (e3 e4 f : ℕ) → 0 < e4 → IsQuotient (e3 * 2199023255552) e4 f →
+    floor_div ((pos e3 -ℤ pos e4) *ℤ unit) (pos e4) ≡ pos f -ℤ unit
+gain_is e3 zero f p i = absurd (omega (arith, p))
+gain_is e3 (suc n) f p i =
     let d = distribute (pos (suc n)) (pos f) (neg_ℤ unit) in
     let d' = distribute (pos (suc n)) (pos f +ℤ neg_ℤ unit) (pos 1) in
     let q : IsFloor ((pos e3 -ℤ pos (suc n)) *ℤ unit) (pos (suc n)) (pos f +ℤ neg_ℤ unit) =
@@ -92,8 +92,15 @@ rate_of_counts e3 (suc n) f p i =
     } in
     let e = floor_only ((pos e3 -ℤ pos (suc n)) *ℤ unit) (pos (suc n)) (pos f +ℤ neg_ℤ unit) (omega (arith, ints)) q in
     let g : pos f +ℤ neg_ℤ unit ≡ pos f -ℤ unit = omega (arith, ints) in
+    sym (sym g ∙ e)
+
+-- the rate of two counts is their quotient less 1, kept within the limit
+pub rate_of_counts : (e3 e4 f : ℕ) → 0 < e4 → IsQuotient (e3 * 2199023255552) e4 f →
+    rate_of (pos e3) (pos e4) ≡ clamped (pos f -ℤ unit)
+rate_of_counts e3 zero f p i = absurd (omega (arith, p))
+rate_of_counts e3 (suc n) f p i =
     let t : int_lt (pos 0) (pos (suc n)) ≡ true = search rules in
-    rw t (sym (ap clamped (sym g ∙ e)))
+    rw t (ap clamped (gain_is e3 (suc n) f p i))
 
 -- numbers that are within m stay so where both are kept within the limit
 clamps_keep : (m : ℕ) (x y : ℤ) → AreWithin m x y → AreWithin m (clamped x) (clamped y)
