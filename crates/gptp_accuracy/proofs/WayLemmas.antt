@@ -16,7 +16,7 @@ use Rattle.gptp_correction.specs.Carry.{added_at, carry_of, hop_at, link_at as l
 use Rattle.gptp_correction.proofs.CarryLemmas.{carry_of-last}
 use Rattle.gptp_accuracy.specs.TimeError.{Link, Way, clock_at, drift_at, hop_error, hop_error_at, jitter_at, link_at, rate_error_at, rates_error_at, steady_rate_at, time_error, time_error_at, total_below, unlike_at, wait_error_at}
 use Rattle.gptp_accuracy.specs.HopLaws.{IsOverLink, IsRateBehind, IsRateWithin}
-use Rattle.gptp_accuracy.specs.WayLaws.{CarryIsWithin, GoesOver, IsDocumented, OffsetOfWayIsWithin, shown_at}
+use Rattle.gptp_accuracy.specs.WayLaws.{CarryIsWithin, GoesOver, IsDocumented, OffsetOfWayIsWithin, TimeErrorGoesByHops, shown_at}
 use Rattle.gptp_accuracy.proofs.HopLemmas.{added_within, received_within}
 
 -- a quotient rounded up is enough
@@ -214,12 +214,25 @@ egress_within w hops phase sent came k g f (suc n) h =
     (shown_at w phase 0 (sent n)) (shown_at w phase 0 (sent (suc n))) passed.count
     (stay_grows w n stay (omega (arith, g.kept_short n h, kept))) passed.is before added
 
+-- the time error behind a link
+error_behind : (w : Way) (i : ℕ) →
+    time_error_at w (suc i) ≡ total_below (suc i) (hop_error_at w) + total_below i (wait_error_at w)
+error_behind w i =
+    let p : suc i - 1 ≡ i = omega arith in ap (λ n. total_below (suc i) (hop_error_at w) + total_below n (wait_error_at w)) p
+
+pub time_error_goes_by_hops : TimeErrorGoesByHops
+time_error_goes_by_hops =
+    record {
+      root = λ w. refl;
+      first = λ w. omega (arith, error_behind w 0);
+      next = λ w i. omega (arith, error_behind w (suc i), error_behind w i);
+    }
+
 -- the time error of a way that isn't empty
 time_error_is : (w : Way) (last : ℕ) → length w.links ≡ suc last →
     time_error w ≡ total_below (suc last) (hop_error_at w) + total_below last (wait_error_at w)
 time_error_is w last e =
-    let p : suc last - 1 ≡ last = omega arith in
-    ap (time_error_at w) e ∙ ap (λ n. total_below (suc last) (hop_error_at w) + total_below n (wait_error_at w)) p
+    ap (time_error_at w) e ∙ error_behind w last
 
 -- the time that was carried, and what the last clock counts from there to a moment, is the root's time then
 arrives : (w : Way) (hops : List Hop) (phase sent came : ℕ → ℕ) (last now : ℕ) → length hops ≡ suc last → IsDocumented w →

@@ -1,3 +1,4 @@
 pub mod TimeError
 pub mod HopLaws
 pub mod WayLaws
+pub mod Examples

@@ -5,7 +5,15 @@ use Rattle.gptp_pdelay.specs.Clock.{IsDrift, local_clock}
 use Rattle.gptp_pdelay.specs.Measured.{AreMeasured}
 use Rattle.gptp_correction.specs.declared.correction.Hop.{Hop}
 use Rattle.gptp_correction.specs.Carry.{carry_of, hop_at, neighbour_at, CarryFits}
-use Rattle.gptp_accuracy.specs.TimeError.{Way, drift_at, jitter_at, link_at, time_error}
+use Rattle.gptp_accuracy.specs.TimeError.{Way, drift_at, hop_error_at, jitter_at, link_at, time_error, time_error_at, wait_error_at}
+
+-- the time error from the root down: nothing at the root; one link; and a system behind a bridge adds to its parent's what
+-- its own link and the wait before that add
+pub record TimeErrorGoesByHops : Type 0 where
+  pub root : (w : Way) → time_error_at w 0 ≡ 0
+  pub first : (w : Way) → time_error_at w 1 ≡ hop_error_at w 0
+  pub next : (w : Way) (i : ℕ) →
+      time_error_at w (suc (suc i)) ≡ time_error_at w (suc i) + (hop_error_at w (suc i) + wait_error_at w i)
 
 -- what the clock so many links from the root shows at a time in ns, where the clocks begin with these phases
 abbrev pub shown_at : Way → (ℕ → ℕ) → ℕ → ℕ → ℤ

@@ -11,4 +11,5 @@
 //! error is worked out by hand. Lemmas for the crates above are in the public modules of `proofs/`.
 #![tactic(auto)]
 
+pub mod examples;
 pub mod laws;
