@@ -80,12 +80,16 @@ keeps_high : (least most turnaround root own above behind delay stay count passe
     50325000000 * time * after ≤
     50325000000 * 65536 * most * root + 2 ^ 41 * (1500 * above * most + 33550000 * (20 * most + turnaround + 7530)) →
     (pos 33550000 *ℤ added) ≤ℤ
-    (pos (33550000 * passed) +ℤ pos (33550000 * hop_error (most - least) most turnaround + above * most + behind * stay))
-keeps_high least most turnaround root own above behind delay stay count passed time after added r o low high small s w n c below =
+    (pos (33550000 * passed) +ℤ pos (33550000 * hop_error (most - least) most turnaround + above * most + behind *
+    stay))
+keeps_high least most turnaround root own above behind delay stay count passed time after added r o low high small s w
+    n c below =
     let a = stay_is_below stay root own behind after count w n in
-    let b : behind * stay * own ≤ behind * stay * 2199243157877 = mul-le-mul_left (behind * stay) (omega (arith, o.high)) in
+    let b : behind * stay * own ≤ behind * stay * 2199243157877 =
+    mul-le-mul_left (behind * stay) (omega (arith, o.high)) in
     let d : root * most ≤ root * (delay + (most - least)) = mul-le-mul_left root (omega (arith, low)) in
-    let f : (most - least) * root ≤ (most - least) * 2199243157877 = mul-le-mul_left (most - least) (omega (arith, r.high)) in
+    let f : (most - least) * root ≤ (most - least) * 2199243157877 =
+    mul-le-mul_left (most - least) (omega (arith, r.high)) in
     let g = part_is most turnaround in
     omega (arith, ints, s.reached, a, b, d, f, g, c.low, below, small)
 
@@ -98,11 +102,14 @@ keeps_low : (least most turnaround root own above behind delay stay count passed
     50325000000 * time * after + 2 ^ 41 * (1500 * above * most + 33550000 * (20 * most + turnaround + 7530)) →
     pos (33550000 * passed) ≤ℤ
     (pos 33550000 *ℤ added +ℤ pos (33550000 * hop_error (most - least) most turnaround + above * most + behind * stay))
-keeps_low least most turnaround root own above behind delay stay count passed time after added r o low high small s w n c atleast =
+keeps_low least most turnaround root own above behind delay stay count passed time after added r o low high small s w
+    n c atleast =
     let a = stay_is_above stay root own behind after count w n in
-    let b : behind * stay * own ≤ behind * stay * 2199243157877 = mul-le-mul_left (behind * stay) (omega (arith, o.high)) in
+    let b : behind * stay * own ≤ behind * stay * 2199243157877 =
+    mul-le-mul_left (behind * stay) (omega (arith, o.high)) in
     let d : root * delay ≤ root * (least + (most - least)) = mul-le-mul_left root (omega (arith, low, high)) in
-    let f : (most - least) * root ≤ (most - least) * 2199243157877 = mul-le-mul_left (most - least) (omega (arith, r.high)) in
+    let f : (most - least) * root ≤ (most - least) * 2199243157877 =
+    mul-le-mul_left (most - least) (omega (arith, r.high)) in
     let g = part_is most turnaround in
     omega (arith, ints, s.passed, a, b, d, f, g, c.high, atleast, small)
 
@@ -114,10 +121,12 @@ offset_high : (least most turnaround root own above delay wait count passed time
     50325000000 * 65536 * most * root + 2 ^ 41 * (1500 * above * most + 33550000 * (20 * most + turnaround + 7530)) →
     (pos 33550000 *ℤ (added +ℤ pos count)) ≤ℤ
     (pos (33550000 * passed) +ℤ pos (33550000 * hop_error (most - least) most turnaround + above * most))
-offset_high least most turnaround root own above delay wait count passed time after added r o low high soon small s n c below =
+offset_high least most turnaround root own above delay wait count passed time after added r o low high soon small s n
+    c below =
     let b : wait * own ≤ wait * (root + 439804650) = mul-le-mul_left wait (omega (arith, o.high, r.low)) in
     let d : root * most ≤ root * (delay + (most - least)) = mul-le-mul_left root (omega (arith, low)) in
-    let f : (most - least) * root ≤ (most - least) * 2199243157877 = mul-le-mul_left (most - least) (omega (arith, r.high)) in
+    let f : (most - least) * root ≤ (most - least) * 2199243157877 =
+    mul-le-mul_left (most - least) (omega (arith, r.high)) in
     let g = part_is most turnaround in
     omega (arith, ints, s.reached, b, d, f, g, n.high, c.low, below, small, soon)
 
@@ -129,10 +138,12 @@ offset_low : (least most turnaround root own above delay wait count passed time 
     50325000000 * time * after + 2 ^ 41 * (1500 * above * most + 33550000 * (20 * most + turnaround + 7530)) →
     pos (33550000 * passed) ≤ℤ
     (pos 33550000 *ℤ (added +ℤ pos count) +ℤ pos (33550000 * hop_error (most - least) most turnaround + above * most))
-offset_low least most turnaround root own above delay wait count passed time after added r o low high soon small s n c atleast =
+offset_low least most turnaround root own above delay wait count passed time after added r o low high soon small s n c
+    atleast =
     let b : wait * root ≤ wait * (own + 439804650) = mul-le-mul_left wait (omega (arith, o.low, r.high)) in
     let d : root * delay ≤ root * (least + (most - least)) = mul-le-mul_left root (omega (arith, low, high)) in
-    let f : (most - least) * root ≤ (most - least) * 2199243157877 = mul-le-mul_left (most - least) (omega (arith, r.high)) in
+    let f : (most - least) * root ≤ (most - least) * 2199243157877 =
+    mul-le-mul_left (most - least) (omega (arith, r.high)) in
     let g = part_is most turnaround in
     omega (arith, ints, s.passed, b, d, f, g, n.low, c.high, atleast, small, soon)
 
@@ -142,14 +153,16 @@ scaled_time : (rate : ℤ) (time : ℤ) (n after : ℕ) → time ≡ pos n → u
 scaled_time rate time n after e f = rw e (scaled_is rate n after (omega (arith, ints, f)))
 
 -- what a bridge adds
-pub added_within : (least most turnaround root up own above behind delay stay count passed : ℕ) (rate neighbour link_delay between : ℤ) →
+pub added_within : (least most turnaround root up own above behind delay stay count passed : ℕ)
+    (rate neighbour link_delay between : ℤ) →
     IsOverLink least most turnaround root up above rate neighbour link_delay →
     IsRateBehind root own behind (rate +ℤ neighbour) → IsClockRate own → least ≤ delay → delay ≤ most →
     IsCounted own stay count → between ≡ link_time link_delay neighbour +ℤ pos count →
     IsCounted root (delay + stay) passed →
     AreWithin (33550000 * hop_error (most - least) most turnaround + above * most + behind * stay)
     (pos 33550000 *ℤ scaled_by (rate +ℤ neighbour) between) (pos (33550000 * passed))
-added_within least most turnaround root up own above behind delay stay count passed rate neighbour link_delay between o b p low high n e c =
+added_within least most turnaround root up own above behind delay stay count passed rate neighbour link_delay between
+    o b p low high n e c =
     let t = timed least most turnaround root up above rate neighbour link_delay o in
     let same : t.after ≡ b.after = omega (arith, ints, t.after_is, b.after_is) in
     let total : between ≡ pos (t.time + count) = omega (arith, ints, e, t.time_is) in
@@ -157,38 +170,47 @@ added_within least most turnaround root up own above behind delay stay count pas
     let w : IsRateWithin behind root own t.after = rw same b.within in
     let added = scaled_by (rate +ℤ neighbour) between in
     record {
-      low = keeps_low least most turnaround root own above behind delay stay count passed t.time t.after added o.root_rate p
+      low = keeps_low least most turnaround root own above behind delay stay count passed t.time t.after added
+          o.root_rate p
           low high t.after_most s w n c t.atleast;
-      high = keeps_high least most turnaround root own above behind delay stay count passed t.time t.after added o.root_rate
+      high = keeps_high least most turnaround root own above behind delay stay count passed t.time t.after added
+          o.root_rate
           p low high t.after_most s w n c t.below;
     }
 
 -- what a slave adds
-pub received_within : (least most turnaround root up own above delay wait count passed : ℕ) (rate neighbour link_delay : ℤ) →
+pub received_within : (least most turnaround root up own above delay wait count passed : ℕ)
+    (rate neighbour link_delay : ℤ) →
     IsOverLink least most turnaround root up above rate neighbour link_delay → IsClockRate own → least ≤ delay →
     delay ≤ most → wait ≤ most - least → IsCounted own wait count → IsCounted root (delay + wait) passed →
     AreWithin (33550000 * hop_error (most - least) most turnaround + above * most)
     (pos 33550000 *ℤ (scaled_by (rate +ℤ neighbour) (link_time link_delay neighbour) +ℤ pos count))
     (pos (33550000 * passed))
-received_within least most turnaround root up own above delay wait count passed rate neighbour link_delay o p low high soon n c =
+received_within least most turnaround root up own above delay wait count passed rate neighbour link_delay o p low high
+    soon n c =
     let t = timed least most turnaround root up above rate neighbour link_delay o in
     let s = scaled_time (rate +ℤ neighbour) (link_time link_delay neighbour) t.time t.after t.time_is t.after_is in
     let added = scaled_by (rate +ℤ neighbour) (link_time link_delay neighbour) in
     record {
-      low = offset_low least most turnaround root own above delay wait count passed t.time t.after added o.root_rate p low
+      low = offset_low least most turnaround root own above delay wait count passed t.time t.after added o.root_rate p
+          low
           high soon t.after_most s n c t.atleast;
-      high = offset_high least most turnaround root own above delay wait count passed t.time t.after added o.root_rate p low
+      high = offset_high least most turnaround root own above delay wait count passed t.time t.after added o.root_rate
+          p low
           high soon t.after_most s n c t.below;
     }
 
 pub hop_keeps : HopKeeps
 hop_keeps least most turnaround root up own above behind delay stay count passed s h o b p low high n e c =
-    let w = added_within least most turnaround root up own above behind delay stay count passed s.rate h.neighbour h.delay
+    let w =
+    added_within least most turnaround root up own above behind delay stay count passed s.rate h.neighbour h.delay
     (passage h) o b p low high n (omega (arith, ints, e)) c in
     record { low = omega (arith, ints, w.low); high = omega (arith, ints, w.high) }
 
 pub offset_is_within : OffsetIsWithin
-offset_is_within least most turnaround root up own above delay wait count passed s link_delay neighbour o p low high soon n c =
-    let w = received_within least most turnaround root up own above delay wait count passed s.rate neighbour link_delay o p
+offset_is_within least most turnaround root up own above delay wait count passed s link_delay neighbour o p low high
+    soon n c =
+    let w =
+    received_within least most turnaround root up own above delay wait count passed s.rate neighbour link_delay o p
     low high soon n c in
     record { low = omega (arith, ints, w.low); high = omega (arith, ints, w.high) }

@@ -2,8 +2,9 @@ use Rattle.std.proofs.Common.{◌≡◌, ◌⊎◌, inl, inr, ℕ, ◌*◌, ◌+
 use Rattle.std.proofs.lemmas.Bool.{cases_lt}
 use Rattle.std.proofs.Math.Nat.{mul-le-mul_left}
 use Rattle.gptp_scaled.specs.Counts.{IsClockRate, IsCounted}
+use Rattle.gptp_pdelay.specs.Measured.{IsDelayAbove, IsDelayBelow}
 use Rattle.gptp_pdelay.proofs.MeanLemmas.{cancel_left}
-use Rattle.gptp_accuracy.specs.HopLaws.{IsRateWithin, AreRates, IsDelayBelow, IsDelayAbove, LinkTimeIsBelow, LinkTimeIsAbove, StayIsBelow, StayIsAbove}
+use Rattle.gptp_accuracy.specs.HopLaws.{IsRateWithin, AreRates, LinkTimeIsBelow, LinkTimeIsAbove, StayIsBelow, StayIsAbove}
 
 -- d is how far a rate is from 1
 abbrev IsApart : ℕ → ℕ → Type 0
@@ -62,7 +63,8 @@ delay_high : (most turnaround up e delay x : ℕ) → IsClockRate up → IsDelay
     1525 * 2199023255552 * (delay * x) ≤ 1525 * 65536 * 2199243157877 * (most * x)
     + 2199023255552 * 2147483648 * (6100 + 2 * most + turnaround)
 delay_high most turnaround up e delay x u below dev small =
-    let a : x * (1525 * 2199023255552 * delay) ≤ x * (1525 * 65536 * most * up + 2199023255552 * (6100 + 2 * most + turnaround)) =
+    let a : x * (1525 * 2199023255552 * delay)
+    ≤ x * (1525 * 65536 * most * up + 2199023255552 * (6100 + 2 * most + turnaround)) =
     mul-le-mul_left x below in
     let b : most * x * up ≤ most * x * 2199243157877 = mul-le-mul_left (most * x) (omega (arith, u.high)) in
     let c : most * x ≤ most * 2147483648 = mul-le-mul_left most small in
@@ -77,7 +79,8 @@ time_high delay before neighbour after time x y p small some time_is =
     let a : after * (time * neighbour) ≤ after * (delay * 2199023255552) = mul-le-mul_left after time_is in
     let b : delay * (2199023255552 * after) ≤ delay * (before * neighbour + x * y) = mul-le-mul_left delay p.high in
     let c : delay * x * (4999 * y) ≤ delay * x * neighbour = mul-le-mul_left (delay * x) small in
-    let d : neighbour * (4999 * time * after) ≤ neighbour * (4999 * delay * before + delay * x) = omega (arith, a, b, c) in
+    let d : neighbour * (4999 * time * after) ≤ neighbour * (4999 * delay * before + delay * x) =
+    omega (arith, a, b, c) in
     cancel_left neighbour _ _ some d
 
 time_low : (delay before neighbour after time x y : ℕ) → IsProduct before neighbour after x y →
@@ -93,7 +96,8 @@ time_low delay before neighbour after time x y p small some time_is =
     cancel_left neighbour _ _ some d
 
 -- a neighbour's rate is at least 4999 times as great as it is far from 1
-far_small : (before neighbour after y : ℕ) → AreRates before neighbour after → IsApart neighbour y → 4999 * y ≤ neighbour
+far_small : (before neighbour after y : ℕ) → AreRates before neighbour after → IsApart neighbour y → 4999 * y ≤
+    neighbour
 far_small before neighbour after y rates (inl h) = omega (arith, h, rates.neighbour_high)
 far_small before neighbour after y rates (inr h) = omega (arith, h, rates.neighbour_low)
 
@@ -110,7 +114,8 @@ rate_high : (most turnaround root up e delay before : ℕ) → IsClockRate up �
     + 2199023255552 * 2201170739200 * (6100 + 2 * most + turnaround)
 rate_high most turnaround root up e delay before u w small below =
     let a : before * (1525 * 2199023255552 * delay)
-    ≤ before * (1525 * 65536 * most * up + 2199023255552 * (6100 + 2 * most + turnaround)) = mul-le-mul_left before below in
+    ≤ before * (1525 * 65536 * most * up + 2199023255552 * (6100 + 2 * most + turnaround)) = mul-le-mul_left before
+    below in
     let b : most * (before * up) ≤ most * (2199023255552 * root + e * up) = mul-le-mul_left most w.high in
     let c : most * e * up ≤ most * e * 2199243157877 = mul-le-mul_left (most * e) (omega (arith, u.high)) in
     let d : most * before ≤ most * 2201170739200 = mul-le-mul_left most small in
@@ -152,7 +157,8 @@ link_time_is_below most turnaround root up e delay before neighbour after time r
         omega (arith, a, b, c, d, f)
 
 pub link_time_is_above : LinkTimeIsAbove
-link_time_is_above least most turnaround root up e delay before neighbour after time order r u within rates time_is below above =
+link_time_is_above least most turnaround root up e delay before neighbour after time order r u within rates time_is
+    below above =
     go (apart_of before) (apart_of neighbour)
   where
     go : (x : ℕ) × IsApart before x → (y : ℕ) × IsApart neighbour y →

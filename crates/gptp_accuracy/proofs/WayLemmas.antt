@@ -42,7 +42,8 @@ record AreNearer (n total : ℕ) (x y : ℤ) : Type 0 where
   low : (y +ℤ pos n) ≤ℤ (x +ℤ pos total)
   high : (x +ℤ pos n) ≤ℤ (y +ℤ pos total)
 
-rates_nearer : (w : Way) (hops : List Hop) (phase sent came : ℕ → ℕ) → IsDocumented w → GoesOver w hops phase sent came →
+rates_nearer : (w : Way) (hops : List Hop) (phase sent came : ℕ → ℕ) → IsDocumented w → GoesOver w hops phase sent
+    came →
     (n : ℕ) → n ≤ length hops → AreNearer n (total_below n (rate_error_at w)) (sum_below n (neighbour_at hops))
     (sum_below n (steady_rate_at w))
 rates_nearer w hops phase sent came k g zero h = record { low = omega (arith, ints); high = omega (arith, ints) }
@@ -86,12 +87,14 @@ rate_so_far w hops phase sent came k g zero h rate e =
 rate_so_far w hops phase sent came k g (suc n) h rate e =
     let root = clock_at w 0 in
     let own = clock_at w (suc n) in
-    let some : 0 < own = omega (arith, (clock_counts.rate (drift_at w (suc n)) (k.drifts (suc n) (omega (arith, h, g.as_long)))).low) in
+    let some : 0 < own =
+    omega (arith, (clock_counts.rate (drift_at w (suc n)) (k.drifts (suc n) (omega (arith, h, g.as_long)))).low) in
     let quotient = root * 2199023255552 / own in
     let q = quotient_is (root * 2199023255552) own some in
     let gain = gain_is root own quotient some q in
     let near = rates_nearer w hops phase sent came k g (suc n) h in
-    let unlike = size_is (sum_below (suc n) (steady_rate_at w) -ℤ floor_div ((pos root -ℤ pos own) *ℤ unit) (pos own)) in
+    let unlike =
+    size_is (sum_below (suc n) (steady_rate_at w) -ℤ floor_div ((pos root -ℤ pos own) *ℤ unit) (pos own)) in
     rate_near root own rate quotient (rates_error_at w n) q
     (omega (arith, ints, e, gain, near.high, unlike.high)) (omega (arith, ints, e, gain, near.low, unlike.low))
 
@@ -141,7 +144,12 @@ rate_behind : (w : Way) (hops : List Hop) (phase sent came : ℕ → ℕ) (origi
 rate_behind w hops phase sent came origin k g f n h =
     let fits = rate_fits hops origin f (suc n) h in
     let (rate, e) = natural (unit +ℤ sum_below (suc n) (neighbour_at hops)) (omega (arith, ints, fits)) in
-    record { after = rate; after_is = e; within = rate_so_far w hops phase sent came k g (suc n) (omega (arith, h)) rate e }
+    record {
+      after = rate;
+      after_is = e;
+      within = rate_so_far w hops phase sent came k g (suc n) (omega (arith, h))
+          rate e;
+    }
 
 -- the error of the time at the egress to the link at a place, in parts of 33550000 to a unit
 abbrev error_sent : Way → ℕ → ℕ
@@ -155,7 +163,9 @@ wait_is : (w : Way) (i : ℕ) →
     rates_error_at w i * (w.residence + jitter_at w i) + rates_error_at w i * (link_at w (suc i)).most ≤
     33550000 * wait_error_at w i
 wait_is w i =
-    let c = ceil_reaches ((w.residence + jitter_at w i + (link_at w (suc i)).most) * rates_error_at w i) 33550000 (omega arith) in
+    let c =
+    ceil_reaches ((w.residence + jitter_at w i + (link_at w (suc i)).most) * rates_error_at w i) 33550000
+    (omega arith) in
     omega (arith, c)
 
 -- the error at the end of a link
@@ -170,7 +180,8 @@ stay_grows : (w : Way) (n stay : ℕ) → stay ≤ w.residence + jitter_at w n �
     error_sent w n + (33550000 * hop_error_at w n + error_before w n * (link_at w n).most + rates_error_at w n * stay) ≤
     error_sent w (suc n)
 stay_grows w n stay h =
-    let a : rates_error_at w n * stay ≤ rates_error_at w n * (w.residence + jitter_at w n) = mul-le-mul_left (rates_error_at w n) h in
+    let a : rates_error_at w n * stay ≤ rates_error_at w n * (w.residence + jitter_at w n) =
+    mul-le-mul_left (rates_error_at w n) h in
     omega (arith, a, link_grows w n)
 
 -- errors add up
@@ -182,7 +193,8 @@ adds m n total origin sum added before after passed h e a b =
     record { low = omega (arith, ints, h, e, a.low, b.low); high = omega (arith, ints, h, e, a.high, b.high) }
 
 -- the time at each egress is within its error of the root's clock
-egress_within : (w : Way) (hops : List Hop) (phase sent came : ℕ → ℕ) → IsDocumented w → GoesOver w hops phase sent came →
+egress_within : (w : Way) (hops : List Hop) (phase sent came : ℕ → ℕ) → IsDocumented w → GoesOver w hops phase sent
+    came →
     let origin = shown_at w phase 0 (sent 0) in CarryFits origin hops → (n : ℕ) → n < length hops →
     AreWithin (error_sent w n) (pos 33550000 *ℤ (origin +ℤ sum_below n (added_at hops)))
     (pos 33550000 *ℤ shown_at w phase 0 (sent n))
@@ -204,11 +216,13 @@ egress_within w hops phase sent came k g f (suc n) h =
     let parts : sent (suc n) - sent n ≡ delay + stay = omega (arith, long, kept) in
     let time : residence_at hops n ≡ pos count.count =
     omega (arith, ints, g.ingress n h, g.egress n h, count.is) in
-    let added = added_within l.least l.most w.turnaround (clock_at w 0) (clock_at w n) (clock_at w (suc n)) (error_before w n)
+    let added =
+    added_within l.least l.most w.turnaround (clock_at w 0) (clock_at w n) (clock_at w (suc n)) (error_before w n)
     (rates_error_at w n) delay stay count.count passed.count (sum_below n (neighbour_at hops)) (neighbour_at hops n)
     (hop_at hops n).delay (link_time_at hops n +ℤ residence_at hops n)
     (over_link w hops phase sent came origin k g f n near)
-    (rate_behind w hops phase sent came origin k g f n h) own (omega (arith, long)) (omega (arith, g.carried_short n near))
+    (rate_behind w hops phase sent came origin k g f n h) own (omega (arith, long))
+    (omega (arith, g.carried_short n near))
     count.counted (ap (λ t. link_time_at hops n +ℤ t) time) (rw parts at passed.counted) in
     adds (error_sent w n) _ (error_sent w (suc n)) origin (sum_below n (added_at hops)) (added_at hops n)
     (shown_at w phase 0 (sent n)) (shown_at w phase 0 (sent (suc n))) passed.count
@@ -218,7 +232,8 @@ egress_within w hops phase sent came k g f (suc n) h =
 error_behind : (w : Way) (i : ℕ) →
     time_error_at w (suc i) ≡ total_below (suc i) (hop_error_at w) + total_below i (wait_error_at w)
 error_behind w i =
-    let p : suc i - 1 ≡ i = omega arith in ap (λ n. total_below (suc i) (hop_error_at w) + total_below n (wait_error_at w)) p
+    let p : suc i - 1 ≡ i =
+    omega arith in ap (λ n. total_below (suc i) (hop_error_at w) + total_below n (wait_error_at w)) p
 
 pub time_error_goes_by_hops : TimeErrorGoesByHops
 time_error_goes_by_hops =
@@ -235,11 +250,14 @@ time_error_is w last e =
     ap (time_error_at w) e ∙ error_behind w last
 
 -- the time that was carried, and what the last clock counts from there to a moment, is the root's time then
-arrives : (w : Way) (hops : List Hop) (phase sent came : ℕ → ℕ) (last now : ℕ) → length hops ≡ suc last → IsDocumented w →
-    GoesOver w hops phase sent came → let origin = shown_at w phase 0 (sent 0) in CarryFits origin hops → came last ≤ now →
+arrives : (w : Way) (hops : List Hop) (phase sent came : ℕ → ℕ) (last now : ℕ) → length hops ≡ suc last → IsDocumented
+    w →
+    GoesOver w hops phase sent came → let origin = shown_at w phase 0 (sent 0) in CarryFits origin hops → came last ≤
+    now →
     now ≤ came last + jitter_at w last →
     AreWithin (33550000 * time_error w)
-    (pos 33550000 *ℤ (carry_of origin hops +ℤ (shown_at w phase (suc last) now -ℤ shown_at w phase (suc last) (came last))))
+    (pos 33550000 *ℤ (carry_of origin hops +ℤ
+    (shown_at w phase (suc last) now -ℤ shown_at w phase (suc last) (came last))))
     (pos 33550000 *ℤ shown_at w phase 0 now)
 arrives w hops phase sent came last now e k g f later soon =
     let origin = shown_at w phase 0 (sent 0) in
@@ -251,10 +269,12 @@ arrives w hops phase sent came last now e k g f later soon =
     let long = g.carried_long last near in
     let drifts = k.drifts (suc last) (omega (arith, e, g.as_long)) in
     let count = counts_between (phase (suc last)) (drift_at w (suc last)) (came last) now drifts later in
-    let passed = counts_between (phase 0) (drift_at w 0) (sent last) now (k.drifts 0 (omega arith)) (omega (arith, long, later)) in
+    let passed =
+    counts_between (phase 0) (drift_at w 0) (sent last) now (k.drifts 0 (omega arith)) (omega (arith, long, later)) in
     let parts : now - sent last ≡ delay + wait = omega (arith, long, later) in
     let within = received_within l.least l.most w.turnaround (clock_at w 0) (clock_at w last) (clock_at w (suc last))
-    (error_before w last) delay wait count.count passed.count (sum_below last (neighbour_at hops)) (neighbour_at hops last)
+    (error_before w last) delay wait count.count passed.count (sum_below last (neighbour_at hops))
+    (neighbour_at hops last)
     (hop_at hops last).delay (over_link w hops phase sent came origin k g f last near)
     (clock_counts.rate (drift_at w (suc last)) drifts) (omega (arith, long)) (omega (arith, g.carried_short last near))
     (omega (arith, soon)) count.counted (rw parts at passed.counted) in
@@ -264,7 +284,11 @@ arrives w hops phase sent came last now e k g f later soon =
     (received +ℤ pos count.count) (shown_at w phase 0 (sent last)) (shown_at w phase 0 now) passed.count
     (omega (arith, total, link_grows w last)) passed.is before within in
     let whole = carry_of-last origin hops last e in
-    record { low = omega (arith, ints, sum.low, whole, count.is); high = omega (arith, ints, sum.high, whole, count.is) }
+    record {
+      low = omega (arith, ints, sum.low, whole, count.is);
+      high = omega
+          (arith, ints, sum.high, whole, count.is);
+    }
 
 -- over the whole way
 pub carry_is_within : CarryIsWithin

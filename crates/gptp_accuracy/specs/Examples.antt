@@ -29,8 +29,12 @@ plain_way = way (pos 0) (link 500 500 (pos 0) ∷ []) 1000
 abbrev pub ring_way : Way
 ring_way = way (pos 0) (link 390 410 (pos 0) ∷ link 390 410 (pos 0) ∷ link 390 410 (pos 0) ∷ []) 1000
 
--- A root that is as fast as a clock may be, over a bridge that is as slow, and which keeps a Sync for 10 ms. The neighbour
--- rate of the first link ought to be 439848634 and is 439804651, the limit: unlike by 43983. With the 4 of rounding the
--- bridge costs 10000500 * 43987 / 33550000, rounded up, which is 13112; each link costs 19.
+-- its first two links
+abbrev pub two_links_way : Way
+two_links_way = way (pos 0) (link 390 410 (pos 0) ∷ link 390 410 (pos 0) ∷ []) 1000
+
+-- A root that is as fast as a clock may be, over a bridge that is as slow, and which keeps a Sync for 10 ms. The
+-- neighbour rate of the first link ought to be 439848634 and is 439804651, the limit: unlike by 43983. With the 4 of
+-- rounding the bridge costs 10000500 * 43987 / 33550000, rounded up, which is 13112; each link costs 19.
 abbrev pub limit_way : Way
 limit_way = way (pos 219902325) (link 500 500 (neg_ℤ (pos 219902325)) ∷ link 500 500 (pos 219902325) ∷ []) 10000000

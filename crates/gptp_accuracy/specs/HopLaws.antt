@@ -1,10 +1,10 @@
--- What one hop adds to the error of the time that is carried. Rates are in units of 2^-41, where 2^41 stands for 1, times
--- of clocks in units of 2^-16 ns, and delays and residences in ns.
+-- What one hop adds to the error of the time that is carried. Rates are in units of 2^-41, where 2^41 stands for 1,
+-- times of clocks in units of 2^-16 ns, and delays and residences in ns.
 use Rattle.std.specs.Prelude.{◌≡◌, ℕ, ◌+◌, ◌-◌, ◌*◌, ◌^◌, ◌<◌, ◌≤◌, ℤ, pos, ◌+ℤ◌, ◌-ℤ◌, ◌*ℤ◌}
 use Rattle.gptp_scaled.specs.Rate.{FitsRate, IsNeighborRate, unit}
 use Rattle.gptp_scaled.specs.Stamp.{scaled_of}
 use Rattle.gptp_scaled.specs.Counts.{AreWithin, IsClockRate, IsCounted}
-use Rattle.gptp_pdelay.specs.Measured.{IsDelayWithin}
+use Rattle.gptp_pdelay.specs.Measured.{IsDelayAbove, IsDelayBelow, IsDelayWithin}
 use Rattle.gptp_correction.specs.declared.correction.Hop.{Hop}
 use Rattle.gptp_correction.specs.declared.sync_in.SyncInfo.{SyncInfo}
 use Rattle.gptp_correction.specs.Correction.{relayed, received}
@@ -24,21 +24,10 @@ pub record AreRates (before neighbour after : ℕ) : Type 0 where
   pub neighbour_high : neighbour ≤ 2 ^ 41 + 439804651
   pub after_is : after + 2 ^ 41 ≡ before + neighbour
 
--- The mean link delay, in units of 2^-16 ns by the neighbour's clock, is at most what that counts in the greatest delay,
--- and the rounding and the 1525th part of what `IsDelayWithin` of gptp_pdelay says.
-abbrev pub IsDelayBelow : ℕ → ℕ → ℕ → ℕ → Type 0
-IsDelayBelow most turnaround up delay =
-    1525 * 2 ^ 41 * delay ≤ 1525 * 65536 * most * up + 2 ^ 41 * (6100 + 2 * most + turnaround)
-
--- and it is at least what that counts in the least delay, less the same
-abbrev pub IsDelayAbove : ℕ → ℕ → ℕ → ℕ → ℕ → Type 0
-IsDelayAbove least most turnaround up delay =
-    1525 * 65536 * least * up ≤ 2 ^ 41 * (1525 * delay + 6100 + 2 * most + turnaround)
-
--- The link time by the own clock, which is the delay divided by the neighbour's rate and rounded down, at the rate behind
--- the hop: the neighbour's rate cancels out, and so it needs the rate from above alone. It isn't above what the root's
--- clock counts in the greatest delay, but for e / 33550000 of that delay in units, where e is the error of the rate from
--- above, for (20 most + turnaround) / 1500 units and for 5 units of rounding.
+-- The link time by the own clock, which is the delay divided by the neighbour's rate and rounded down, at the rate
+-- behind the hop: the neighbour's rate cancels out, and so it needs the rate from above alone. It isn't above what
+-- the root's clock counts in the greatest delay, but for e / 33550000 of that delay in units, where e is the error of
+-- the rate from above, for (20 most + turnaround) / 1500 units and for 5 units of rounding.
 abbrev pub LinkTimeIsBelow : Type 0
 LinkTimeIsBelow = (most turnaround root up e delay before neighbour after time : ℕ) → IsClockRate root →
     IsClockRate up → IsRateWithin e root up before → AreRates before neighbour after →
@@ -66,8 +55,8 @@ abbrev pub StayIsAbove : Type 0
 StayIsAbove = (stay root own e rate count : ℕ) → IsRateWithin e root own rate → IsCounted own stay count →
     65536 * stay * 2 ^ 41 * root ≤ 2 ^ 41 * (count + 1) * rate + 65536 * stay * e * own
 
--- What is known of a hop over a link, where the rates of the root's clock and of the neighbour's are these: the rate from
--- above is within `above` of the true one and has 32 bits, and the mean link delay lies where it is measured.
+-- What is known of a hop over a link, where the rates of the root's clock and of the neighbour's are these: the rate
+-- from above is within `above` of the true one and has 32 bits, and the mean link delay lies where it is measured.
 pub record IsOverLink (least most turnaround root up above : ℕ) (rate neighbour delay : ℤ) : Type 0 where
   pub order : least ≤ most
   pub root_rate : IsClockRate root

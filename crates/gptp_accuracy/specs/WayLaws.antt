@@ -7,8 +7,8 @@ use Rattle.gptp_correction.specs.declared.correction.Hop.{Hop}
 use Rattle.gptp_correction.specs.Carry.{carry_of, hop_at, neighbour_at, CarryFits}
 use Rattle.gptp_accuracy.specs.TimeError.{Way, drift_at, hop_error_at, jitter_at, link_at, time_error, time_error_at, wait_error_at}
 
--- the time error from the root down: nothing at the root; one link; and a system behind a bridge adds to its parent's what
--- its own link and the wait before that add
+-- the time error from the root down: nothing at the root; one link; and a system behind a bridge adds to its parent's
+-- what its own link and the wait before that add
 pub record TimeErrorGoesByHops : Type 0 where
   pub root : (w : Way) → time_error_at w 0 ≡ 0
   pub first : (w : Way) → time_error_at w 1 ≡ hop_error_at w 0
@@ -26,10 +26,10 @@ pub record IsDocumented (w : Way) : Type 0 where
   pub waits : 1 ≤ w.turnaround
   pub drifts : (i : ℕ) → i ≤ length w.links → IsDrift (drift_at w i)
 
--- A Sync goes over the way: it is sent over the link at each place at one time, `sent`, and comes at another, `came`, in
--- ns. It is on each link between the least and the greatest delay. A bridge sends it on one residence after its Follow_Up,
--- which comes at most the jitter later than it. The hops say when, by the own clock of each, and what each port has
--- measured of its link.
+-- A Sync goes over the way: it is sent over the link at each place at one time, `sent`, and comes at another, `came`,
+-- in ns. It is on each link between the least and the greatest delay. A bridge sends it on one residence after its
+-- Follow_Up, which comes at most the jitter later than it. The hops say when, by the own clock of each, and what each
+-- port has measured of its link.
 pub record GoesOver (w : Way) (hops : List Hop) (phase sent came : ℕ → ℕ) : Type 0 where
   pub as_long : length hops ≡ length w.links
   pub carried_long : (i : ℕ) → i < length hops → sent i + (link_at w i).least ≤ came i
@@ -49,9 +49,9 @@ CarryIsWithin = (w : Way) (hops : List Hop) (phase sent came : ℕ → ℕ) (las
     IsDocumented w → GoesOver w hops phase sent came → CarryFits (shown_at w phase 0 (sent 0)) hops →
     AreWithin (time_error w) (carry_of (shown_at w phase 0 (sent 0)) hops) (shown_at w phase 0 (came last))
 
--- At the Follow_Up, which comes at most the jitter of the last link later, the offset of the last system, which is its
--- clock as the Sync came less the time that was carried, is within the time error of what its clock shows then less what
--- the root's does.
+-- At the Follow_Up, which comes at most the jitter of the last link later, the offset of the last system, which is
+-- its clock as the Sync came less the time that was carried, is within the time error of what its clock shows then
+-- less what the root's does.
 abbrev pub OffsetOfWayIsWithin : Type 0
 OffsetOfWayIsWithin = (w : Way) (hops : List Hop) (phase sent came : ℕ → ℕ) (last now : ℕ) → length hops ≡ suc last →
     IsDocumented w → GoesOver w hops phase sent came → CarryFits (shown_at w phase 0 (sent 0)) hops → came last ≤ now →

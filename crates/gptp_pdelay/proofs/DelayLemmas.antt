@@ -1,16 +1,15 @@
-use Rattle.std.proofs.Common.{◌≡◌, ◌⊎◌, inl, inr, ℕ, zero, suc, ◌*◌, ◌+◌, ◌-◌, ◌/◌, ◌<◌, ◌≤◌, ◌^◌, ℤ, pos, negsuc, ◌+ℤ◌, ◌-ℤ◌, ◌*ℤ◌, ◌≤ℤ◌, ◌<ℤ◌, unsigned_abs, ap, ◌∙◌, sym, refl, arith}
+use Rattle.std.proofs.Common.{◌≡◌, ◌⊎◌, inl, inr, ℕ, zero, suc, ◌*◌, ◌+◌, ◌/◌, ◌<◌, ◌≤◌, ◌^◌, ℤ, pos, ◌+ℤ◌, ◌-ℤ◌, ◌*ℤ◌, ◌≤ℤ◌, ◌<ℤ◌, unsigned_abs, ap, ◌∙◌, refl, arith}
 use Rattle.std.proofs.lemmas.Bool.{cases_lt}
 use Rattle.std.proofs.lemmas.Int.{ints, clamps}
 use Rattle.std.specs.Int.{int_max}
 use Rattle.std.proofs.Math.Nat.{mul-le-mul_left}
-use Rattle.gptp_scaled.specs.Floor.{IsFloor, floor_div}
-use Rattle.gptp_scaled.specs.Rate.{unit, limit, clamped, scaled_by, rate_of}
+use Rattle.gptp_scaled.specs.Floor.{floor_div}
+use Rattle.gptp_scaled.specs.Rate.{unit, clamped, scaled_by, rate_of}
 use Rattle.gptp_scaled.specs.Counts.{IsClockRate, IsCounted}
 use Rattle.gptp_scaled.proofs.FloorLemmas.{floor_is}
 use Rattle.gptp_scaled.proofs.LawProofs.{rate_rounds_down}
 use Rattle.gptp_scaled.proofs.CountLemmas.{IsQuotient, quotient_is, rate_of_counts}
-use Rattle.gptp_pdelay.specs.Exchange.{mean_delay}
-use Rattle.gptp_pdelay.specs.Measured.{IsSpan, IsDelayWithin, DelayIsWithin}
+use Rattle.gptp_pdelay.specs.Measured.{IsSpan, DelayIsWithin}
 use Rattle.gptp_pdelay.proofs.MeanLemmas.{mean_low, mean_high, mean_is_below, mean_is_above}
 
 -- r is the number within the limit that is nearest to f, where both stand for a ratio
@@ -25,28 +24,38 @@ kept_at : (f : ℕ) → (r : ℕ) × IsKept f r
 kept_at f = low (cases_lt f 2198583450901)
   where
     high : 2198583450901 ≤ f → (f < 2199463060203) ⊎ (2199463060203 ≤ f) → (r : ℕ) × IsKept f r
-    high l (inl h) = (f, record {
-      is = omega (arith, ints, clamps);
-      low = inl (omega arith);
-      high = inl (omega arith);
-      least = l;
-      most = omega (arith, h);
-    })
-    high l (inr h) = (2199463060203, record {
-      is = omega (arith, ints, clamps);
-      low = inr refl;
-      high = inl h;
-      least = omega arith;
-      most = omega arith;
-    })
+    high l (inl h) = (
+      f,
+      record {
+        is = omega (arith, ints, clamps);
+        low = inl (omega arith);
+        high = inl (omega arith);
+        least = l;
+        most = omega (arith, h);
+      },
+    )
+    high l (inr h) = (
+      2199463060203,
+      record {
+        is = omega (arith, ints, clamps);
+        low = inr refl;
+        high = inl h;
+        least = omega arith;
+        most = omega arith;
+      },
+    )
+
     low : (f < 2198583450901) ⊎ (2198583450901 ≤ f) → (r : ℕ) × IsKept f r
-    low (inl h) = (2198583450901, record {
-      is = omega (arith, ints, clamps);
-      low = inl (omega (arith, h));
-      high = inr refl;
-      least = omega arith;
-      most = omega arith;
-    })
+    low (inl h) = (
+      2198583450901,
+      record {
+        is = omega (arith, ints, clamps);
+        low = inl (omega (arith, h));
+        high = inr refl;
+        least = omega arith;
+        most = omega arith;
+      },
+    )
     low (inr h) = high h (cases_lt f 2199463060203)
 
 -- a count over so many spans of 2^25 ns is that of the rate itself
@@ -58,21 +67,25 @@ whole_low : (least most turnaround whole arrivals sendings : ℕ) → IsSpan lea
     turnaround + 2 * least ≤ whole
 whole_low least most turnaround whole arrivals sendings s = omega (arith, s.whole_is, s.there_long, s.home_long)
 
-whole_high : (least most turnaround whole arrivals sendings : ℕ) → IsSpan least most turnaround whole arrivals sendings →
+whole_high : (least most turnaround whole arrivals sendings : ℕ) → IsSpan least most turnaround whole arrivals
+    sendings →
     whole ≤ turnaround + 2 * most
 whole_high least most turnaround whole arrivals sendings s = omega (arith, s.whole_is, s.there_short, s.home_short)
 
--- by the kept ratio the mean lies below, where it is that of the measured rate or above it, since then it is that of the
--- true rate at most
+-- by the kept ratio the mean lies below, where it is that of the measured rate or above it, since then it is that of
+-- the true rate at most
 kept_below : (least most turnaround whole arrivals sendings up own e3 e4 y f r : ℕ) → IsClockRate up → IsClockRate own →
     1 ≤ turnaround → IsSpan least most turnaround whole arrivals sendings → IsCounted up sendings e3 →
     IsCounted own arrivals e4 → IsCounted own whole y → IsQuotient (e3 * 2199023255552) e4 f →
     (r ≤ f) ⊎ (r ≡ 2198583450901) → r * y ≤ 65536 * (turnaround + 2 * most) * up + 2199023255552 + 2 * r
-kept_below least most turnaround whole arrivals sendings up own e3 e4 y f r theirs mine some s far near counted q (inl h) =
+kept_below least most turnaround whole arrivals sendings up own e3 e4 y f r theirs mine some s far near counted q
+    (inl h) =
     let a : e4 * r ≤ e4 * f = mul-le-mul_left e4 h in
-    mean_is_below most turnaround whole arrivals sendings up own e3 e4 y r far near counted (mean_high least _ _ _ _ _ s)
+    mean_is_below most turnaround whole arrivals sendings up own e3 e4 y r far near counted
+    (mean_high least _ _ _ _ _ s)
     (omega (arith, s.arrivals_is)) (omega (arith, s.arrivals_is, s.whole_is, some)) (omega (arith, a, q.reached))
-kept_below least most turnaround whole arrivals sendings up own e3 e4 y f r theirs mine some s far near counted q (inr h) =
+kept_below least most turnaround whole arrivals sendings up own e3 e4 y f r theirs mine some s far near counted q
+    (inr h) =
     let long = whole_high least most turnaround whole arrivals sendings s in
     let a : whole * whole ≤ whole * (turnaround + 2 * most) = mul-le-mul_left whole long in
     let b : whole * (2198583450901 * own) ≤ whole * (2199023255552 * up) =
@@ -88,12 +101,14 @@ kept_above : (least most turnaround whole arrivals sendings up own e3 e4 y f r :
     IsCounted own arrivals e4 → IsCounted own whole y → IsQuotient (e3 * 2199023255552) e4 f →
     (f ≤ r) ⊎ (r ≡ 2199463060203) →
     65536 * (turnaround + 2 * least) * up ≤ (r + 43986) * (y + 2) + 2199023255552
-kept_above least most turnaround whole arrivals sendings up own e3 e4 y f r theirs mine some s far near counted q (inl h) =
+kept_above least most turnaround whole arrivals sendings up own e3 e4 y f r theirs mine some s far near counted q
+    (inl h) =
     let a : e4 * f ≤ e4 * r = mul-le-mul_left e4 h in
     mean_is_above least turnaround whole arrivals sendings up own e3 e4 y (r + 43986) far near counted
     (mean_low _ most _ _ _ _ s)
     (omega (arith, s.arrivals_is)) (omega (arith, s.arrivals_is, s.whole_is, some)) (omega (arith, a, q.passed))
-kept_above least most turnaround whole arrivals sendings up own e3 e4 y f r theirs mine some s far near counted q (inr h) =
+kept_above least most turnaround whole arrivals sendings up own e3 e4 y f r theirs mine some s far near counted q
+    (inr h) =
     let long = whole_low least most turnaround whole arrivals sendings s in
     let a : whole * (turnaround + 2 * least) ≤ whole * whole = mul-le-mul_left whole long in
     let b : whole * (2199023255552 * up) ≤ whole * (2199463104189 * own) =
@@ -154,7 +169,8 @@ above_least least most turnaround whole up own y z r n s scaled half limited clo
 
 -- the delay lies between
 pub delay_is_within : DelayIsWithin
-delay_is_within least most turnaround whole arrivals sendings up own e3 e4 y z theirs mine some s far near counted answered =
+delay_is_within least most turnaround whole arrivals sendings up own e3 e4 y z theirs mine some s far near counted
+    answered =
     let p : 0 < e4 = counts_some own arrivals e4 near mine (omega (arith, s.arrivals_is, s.whole_is, some)) in
     let f = e3 * 2 ^ 41 / e4 in
     let q = quotient_is (e3 * 2 ^ 41) e4 p in
@@ -174,11 +190,13 @@ delay_is_within least most turnaround whole arrivals sendings up own e3 e4 y z t
       is = e;
       low = above_least least most turnaround whole up own y z r n time scaled half kept.most (omega (arith, mine.high))
           long counted (omega (arith, answered.high)) above;
-      high = below_most most turnaround up y z r n time scaled half kept.most (omega (arith, answered.low)) below half.high;
+      high = below_most most turnaround up y z r n time scaled half kept.most (omega (arith, answered.low)) below
+          half.high;
     }
   where
     counts_some : (own arrivals e4 : ℕ) → IsCounted own arrivals e4 → IsClockRate own → 1 ≤ arrivals → 0 < e4
     counts_some own arrivals zero near mine some =
-        let h : arrivals * 2199023255552 ≤ arrivals * (own + 219902325) = mul-le-mul_left arrivals (omega (arith, mine.low)) in
+        let h : arrivals * 2199023255552 ≤ arrivals * (own + 219902325) =
+        mul-le-mul_left arrivals (omega (arith, mine.low)) in
         absurd (omega (arith, near.low))
     counts_some own arrivals (suc n) near mine some = omega arith

@@ -1,11 +1,10 @@
-use Rattle.std.proofs.Common.{◌≡◌, ℕ, ◌*◌, ◌+◌, ◌-◌, ◌<◌, ◌≤◌, ◌^◌, ℤ, pos, negsuc, ◌+ℤ◌, ◌-ℤ◌, ◌*ℤ◌, ◌≤ℤ◌, unsigned_abs, ap, ◌∙◌, sym, refl, arith}
+use Rattle.std.proofs.Common.{◌≡◌, ℕ, ◌*◌, ◌+◌, ◌-◌, ◌≤◌, ℤ, pos, negsuc, ◌+ℤ◌, ◌-ℤ◌, ◌*ℤ◌, ◌≤ℤ◌, unsigned_abs, ap, ◌∙◌, sym, refl, arith}
 use Rattle.std.proofs.lemmas.Int.{ints}
-use Rattle.gptp_scaled.specs.Floor.{floor_div}
 use Rattle.gptp_scaled.specs.Rate.{unit, rate_of}
-use Rattle.gptp_scaled.specs.Counts.{AreWithin, DifferBy, IsClockRate, IsCounted}
+use Rattle.gptp_scaled.specs.Counts.{DifferBy, IsClockRate}
 use Rattle.gptp_scaled.proofs.FloorLemmas.{floor_is}
 use Rattle.gptp_pdelay.specs.Clock.{IsDrift, local_clock}
-use Rattle.gptp_pdelay.specs.Measured.{ClockCounts, Counts, clock_rate, IsSpan, IsDelayWithin, AreMeasured, IsMeasuredWithin, MeasurementIsWithin}
+use Rattle.gptp_pdelay.specs.Measured.{ClockCounts, Counts, clock_rate, IsSpan, MeasurementIsWithin}
 use Rattle.gptp_pdelay.specs.Exchange.{mean_delay}
 use Rattle.gptp_scaled.proofs.ProductLemmas.{distribute}
 use Rattle.gptp_scaled.proofs.CountLemmas.{measured_within}
@@ -64,7 +63,8 @@ counts_between phase drift from to d h =
     let e : from + (to - from) ≡ to = omega (arith, h) in rw e at (counts phase drift from (to - from) d)
 
 pub measurement_is_within : MeasurementIsWithin
-measurement_is_within least most turnaround interval m phase phase' drift drift' rate delay d d' order some long enough a =
+measurement_is_within least most turnaround interval m phase phase' drift drift' rate delay d d' order some long
+    enough a =
     let first = a.earlier_carried in
     let second = a.later_carried in
     let whole = a.later.came - a.later.asked in
@@ -89,8 +89,11 @@ measurement_is_within least most turnaround interval m phase phase' drift drift'
     } in
     let e3 = counts_between phase' drift' (a.earlier.heard + turnaround) (a.later.heard + turnaround) d'
     (omega (arith, a.ended, second.there_long, first.home_long)) in
-    let e4 = counts_between phase drift a.earlier.came a.later.came d (omega (arith, a.ended, second.there_long, second.home_long)) in
-    let y = counts_between phase drift a.later.asked a.later.came d (omega (arith, second.there_long, second.home_long)) in
+    let e4 =
+    counts_between phase drift a.earlier.came a.later.came d
+    (omega (arith, a.ended, second.there_long, second.home_long)) in
+    let y =
+    counts_between phase drift a.later.asked a.later.came d (omega (arith, second.there_long, second.home_long)) in
     let z = counts_between phase' drift' a.later.heard (a.later.heard + turnaround) d' (omega arith) in
     let turned : answer ≡ turnaround = omega arith in
     let theirs = rate_is drift' d' in
@@ -101,7 +104,8 @@ measurement_is_within least most turnaround interval m phase phase' drift drift'
       low = omega (arith, s.sendings_is, s.before_short, s.home_long, order);
       high = omega (arith, s.sendings_is, s.before_long, s.home_short, order);
     } in
-    let apart : interval ≤ arrivals + 2 * (most - least) = omega (arith, order, a.apart, a.ended, first.there_short, first.home_short, second.there_long, second.home_long) in
+    let apart : interval ≤ arrivals + 2 * (most - least) =
+    omega (arith, order, a.apart, a.ended, first.there_short, first.home_short, second.there_long, second.home_long) in
     let near = measured_within (most - least) interval sendings arrivals (clock_rate drift') (clock_rate drift) e3.count
     e4.count m theirs mine e3.counted e4.counted spans long apart enough in
     let within = delay_is_within least most turnaround whole arrivals sendings (clock_rate drift') (clock_rate drift)
@@ -112,6 +116,7 @@ measurement_is_within least most turnaround interval m phase phase' drift drift'
   where
     same_rate : {a b c d : ℤ} → a ≡ b → c ≡ d → rate_of a c ≡ rate_of b d
     same_rate {b = b} {c = c} e f = ap (λ v. rate_of v c) e ∙ ap (rate_of b) f
+
     same_delay : {q r a b c d : ℤ} → q ≡ r → a ≡ b → c ≡ d → mean_delay q a c ≡ mean_delay r b d
     same_delay {r = r} {a = a} {b = b} {c = c} p e f =
         ap (λ v. mean_delay v a c) p ∙ ap (λ v. mean_delay r v c) e ∙ ap (mean_delay r b) f

@@ -65,13 +65,23 @@ MeanIsAbove = (least turnaround whole arrivals sendings up own e3 e4 y r : ℕ) 
     whole ≤ arrivals → 0 < arrivals → 2 ^ 41 * e3 ≤ r * e4 →
     65536 * (turnaround + 2 * least) * up ≤ r * (y + 2) + 2 ^ 41
 
--- A delay in 2^-16 ns lies between what a clock of the rate `up` counts in the least and in the greatest delay, within
--- four units and the 1525th part of the nanoseconds that an exchange takes at most.
+-- A delay in 2^-16 ns isn't above what a clock of the rate `up` counts in the greatest delay, but for four units and the
+-- 1525th part of the nanoseconds that an exchange takes at most.
+abbrev pub IsDelayBelow : ℕ → ℕ → ℕ → ℕ → Type 0
+IsDelayBelow most turnaround up delay =
+    1525 * 2 ^ 41 * delay ≤ 1525 * 65536 * most * up + 2 ^ 41 * (6100 + 2 * most + turnaround)
+
+-- It isn't below what that counts in the least delay, but for the same.
+abbrev pub IsDelayAbove : ℕ → ℕ → ℕ → ℕ → ℕ → Type 0
+IsDelayAbove least most turnaround up delay =
+    1525 * 65536 * least * up ≤ 2 ^ 41 * (1525 * delay + 6100 + 2 * most + turnaround)
+
+-- both, of a delay that isn't negative
 pub record IsDelayWithin (least most turnaround up : ℕ) (delay : ℤ) : Type 0 where
   pub value : ℕ
   pub is : delay ≡ pos value
-  pub low : 1525 * 65536 * least * up ≤ 2 ^ 41 * (1525 * value + 6100 + 2 * most + turnaround)
-  pub high : 1525 * 2 ^ 41 * value ≤ 1525 * 65536 * most * up + 2 ^ 41 * (6100 + 2 * most + turnaround)
+  pub low : IsDelayAbove least most turnaround up value
+  pub high : IsDelayBelow most turnaround up value
 
 -- The mean link delay of an exchange, with the neighbour rate that is measured by it and the one before, lies there
 -- whatever the turnaround: the error of the rate costs nothing, since rate and delay are of one exchange. The 1525th

@@ -1,10 +1,10 @@
-use Rattle.std.proofs.Common.{Bool, true, false, int_lt, if◌then◌else◌, rules, ◌≡◌, ◌⊎◌, inl, inr, ℕ, zero, suc, ◌*◌, ◌+◌, ◌/◌, ◌%◌, ◌<◌, ◌≤◌, ◌^◌, ℤ, pos, neg_ℤ, ◌+ℤ◌, ◌-ℤ◌, ◌*ℤ◌, ◌≤ℤ◌, ◌<ℤ◌, ap, ◌∙◌, sym, refl, arith}
+use Rattle.std.proofs.Common.{Bool, true, false, int_lt, if◌then◌else◌, rules, ◌≡◌, ◌⊎◌, inl, inr, ℕ, zero, suc, ◌*◌, ◌+◌, ◌/◌, ◌%◌, ◌<◌, ◌≤◌, ◌^◌, ℤ, pos, neg_ℤ, ◌+ℤ◌, ◌-ℤ◌, ◌*ℤ◌, ap, ◌∙◌, sym, arith}
 use Rattle.std.proofs.lemmas.Bool.{cases_lt}
 use Rattle.std.proofs.lemmas.Int.{ints, clamps}
-use Rattle.std.proofs.lemmas.Nat.{div-add-mod', mod_below, mul-le}
+use Rattle.std.proofs.lemmas.Nat.{div-add-mod', mod_below}
 use Rattle.std.proofs.Math.Nat.{mul-le-mul_left}
 use Rattle.gptp_scaled.specs.Floor.{IsFloor, floor_div}
-use Rattle.gptp_scaled.specs.Rate.{IsNeighborRate, unit, limit, clamped, rate_of}
+use Rattle.gptp_scaled.specs.Rate.{IsNeighborRate, unit, clamped, rate_of}
 use Rattle.gptp_scaled.specs.Counts.{AreWithin, IsClockRate, IsCounted, DifferBy, RateIsWithin, MeasuredWithin}
 use Rattle.gptp_scaled.proofs.ProductLemmas.{distribute}
 use Rattle.gptp_scaled.proofs.FloorLemmas.{floor_only}
@@ -124,7 +124,8 @@ room_is jitter interval span' up own e4 m theirs mine counted long spans enough 
     let b : jitter * m ≤ jitter * 879609298 = mul-le-mul_left jitter (omega (arith, small)) in
     let c : 2200240781404 * jitter ≤ m * span' = omega arith in
     let d : own * (2200240781404 * jitter) ≤ own * (m * span') = mul-le-mul_left own c in
-    let e : m * (65536 * span' * own) ≤ m * (2199023255552 * (e4 + 1)) = mul-le-mul_left m (omega (arith, counted.low)) in
+    let e : m * (65536 * span' * own) ≤ m * (2199023255552 * (e4 + 1)) =
+    mul-le-mul_left m (omega (arith, counted.low)) in
     let f : jitter * 2199023255552 ≤ jitter * (own + 219902325) = mul-le-mul_left jitter (omega (arith, mine.low)) in
     let g : jitter * up ≤ jitter * (2199023255552 + 219902325) = mul-le-mul_left jitter (omega (arith, theirs.high)) in
     let h : span' * 2199023255552 ≤ span' * (own + 219902325) = mul-le-mul_left span' (omega (arith, mine.low)) in

@@ -32,7 +32,7 @@ RateIsWithin = (jitter span span' up own e3 e4 m : ℕ) → IsCounted up span e3
     DifferBy jitter span span' → 0 < own → up ≤ 2 * own → 65536 * jitter * up + 4 * 2 ^ 41 ≤ m * e4 →
     AreWithin m (pos (e3 * 2 ^ 41 / e4)) (pos (up * 2 ^ 41 / own))
 
--- So a neighbour rate that is measured, over spans that are by at most twice the jitter shorter than the interval of the
+-- A neighbour rate that is measured, over spans that are by at most twice the jitter shorter than the interval of the
 -- requests, is within m + 3 of that of the two clocks, where m is 2202000000000 jitter / interval at least. Both are
 -- kept within 200 parts in a million. An interval has 2^-4 s at least (profile).
 abbrev pub MeasuredWithin : Type 0
