@@ -17,7 +17,7 @@ gains n drift d =
     record { low = omega (arith, ints); high = omega (arith, ints) }
 
 -- a product with a sum of spans
-spans : (n m : ℕ) (z : ℤ) → pos (n + m) *ℤ z ≡ pos n *ℤ z +ℤ pos m *ℤ z
+pub spans : (n m : ℕ) (z : ℤ) → pos (n + m) *ℤ z ≡ pos n *ℤ z +ℤ pos m *ℤ z
 spans n m z = omega (arith, ints, distribute z (pos n) (pos m))
 
 -- what passes on a clock is what passes, and what its drift adds to it, within the rounding

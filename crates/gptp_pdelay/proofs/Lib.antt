@@ -2,3 +2,6 @@ pub mod ClockLemmas
 pub mod ExchangeLemmas
 pub mod GoodLinkLemmas
 pub mod CapabilityLemmas
+pub mod MeanLemmas
+pub mod DelayLemmas
+pub mod MeasurementLemmas

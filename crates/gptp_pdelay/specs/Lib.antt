@@ -5,3 +5,4 @@ pub mod Progress
 pub mod Peer
 pub mod PeerFields
 pub mod Capability
+pub mod Measured

@@ -5,6 +5,8 @@ ghost use Rattle.gptp_pdelay.specs.Capability.{CapabilityTurns, CapableByTwoExch
 ghost use Rattle.gptp_pdelay.specs.Clock.{ClockElapses, ClockShowsTime};
 ghost use Rattle.gptp_pdelay.specs.Exchange.{NeighborRateIsWithin};
 ghost use Rattle.gptp_pdelay.specs.GoodLink.{GoodLink, GoodLinkByElapsed, GoodLinkShowsNeighbor};
+ghost use Rattle.gptp_pdelay.specs.Measured.{ClockCounts, DelayIsWithin, MeanIsAbove, MeanIsBelow};
+ghost use Rattle.gptp_pdelay.specs.Measured.{MeasurementIsWithin, WeightedMean};
 
 /// A clock within its limit counts, in any span of time, what the slowest and the fastest allow, and less than one
 /// unit of rounding.
@@ -52,4 +54,41 @@ pub fn capability_turns()
 /// The requests that count as lost in a row are never more than are allowed.
 pub fn lost_stays_allowed()
     ensures { LostStaysAllowed }
+{}
+
+/// A clock within its limit counts, in any span of time, what its own rate makes of the span, within one unit of
+/// rounding.
+pub fn clock_counts()
+    ensures { ClockCounts }
+{}
+
+/// Two exchanges, one after the other, make a weighted mean of two sums of two delays: what passes on the requester's
+/// clock from request to response, brought to the responder's rate, is the turnaround and a time between twice the
+/// least and twice the greatest delay, whatever the turnaround and however far the exchanges lie apart.
+pub fn weighted_mean()
+    ensures { WeightedMean }
+{}
+
+/// By a rate that isn't above the measured one the mean isn't above two greatest delays, within rounding.
+pub fn mean_is_below()
+    ensures { MeanIsBelow }
+{}
+
+/// By a rate that isn't below the measured one the mean isn't below two least delays, within rounding.
+pub fn mean_is_above()
+    ensures { MeanIsAbove }
+{}
+
+/// The meanLinkDelay that is measured over a link lies between its least and its greatest delay, by the neighbour's
+/// clock, whatever the turnaround. Rounding adds four units of 2^-16 ns at most, and the limit of 200 parts in a million
+/// on a neighbour rate the 1525th part of the nanoseconds that an exchange takes.
+pub fn delay_is_within()
+    ensures { DelayIsWithin }
+{}
+
+/// What a port measures by two clean exchanges, one after the other, whatever the phases and drifts of both clocks: the
+/// neighborRateRatio is that of the two clocks within what the jitter is of the interval, and the meanLinkDelay lies
+/// between the least and the greatest delay of the link.
+pub fn measurement_is_within()
+    ensures { MeasurementIsWithin }
 {}

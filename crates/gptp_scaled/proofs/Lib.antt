@@ -3,3 +3,4 @@ pub mod FloorLemmas
 mod RateLemmas
 pub mod LawProofs
 mod MachineLemmas
+pub mod CountLemmas

@@ -4,4 +4,5 @@ pub mod Interval
 pub mod Stamp
 pub mod Rate
 pub mod Laws
+pub mod Counts
 pub mod StampError

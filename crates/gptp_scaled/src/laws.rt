@@ -1,5 +1,6 @@
-//! What follows from the definitions alone. Each function does nothing, and its contract is the law; `proofs/LawProofs.antt` has each law as a lemma for the crates above.
+//! What follows from the definitions alone. Each function does nothing, and its contract is the law; `LawProofs` and `CountLemmas` of `proofs/` have each law as a lemma for the crates above.
 
+ghost use Rattle.gptp_scaled.specs.Counts.{MeasuredWithin, RateIsWithin};
 ghost use Rattle.gptp_scaled.specs.Laws.{FloorIsExact, FloorIsMonotone, RateRoundsDown, RateZeroIsIdentity, RateIsMonotone, NeighborRateIsNear, SplitIsExact};
 
 /// The quotient rounded down is the one whole number f with d f <= x < d (f + 1), for d above 0.
@@ -42,4 +43,16 @@ pub fn neighbor_rate_is_near()
 #[tactic(auto, using(crate::proofs::LawProofs::split_is_exact))]
 pub fn split_is_exact()
     ensures { SplitIsExact }
+{}
+
+/// What two clocks count, over spans that differ by at most a jitter, gives the quotient of their rates, within what
+/// the jitter is of the span and four units of rounding.
+pub fn rate_is_within()
+    ensures { RateIsWithin }
+{}
+
+/// A neighborRateRatio that is measured by two exchanges is that of the two clocks, within what the jitter of the link
+/// is of the interval between two requests and four units of rounding.
+pub fn measured_within()
+    ensures { MeasuredWithin }
 {}

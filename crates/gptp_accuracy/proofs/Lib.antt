@@ -1,0 +1,4 @@
+pub mod LinkLemmas
+pub mod HopLemmas
+pub mod WayLemmas
+mod ExampleLemmas

@@ -1,0 +1,85 @@
+-- The time error: how far the time that a system computes may be from the root's, by the way from the root to it.
+use Rattle.std.specs.Prelude.{ℕ, zero, suc, ◌+◌, ◌-◌, ◌*◌, ◌/◌, ℤ, pos, ◌-ℤ◌, ◌*ℤ◌, unsigned_abs, List, length, get_or}
+use Rattle.gptp_scaled.specs.Floor.{floor_div}
+use Rattle.gptp_scaled.specs.Rate.{unit, rate_of}
+use Rattle.gptp_pdelay.specs.GoodLink.{ceil_div}
+use Rattle.gptp_pdelay.specs.Measured.{clock_rate}
+use Rattle.gptp_correction.specs.Sum.{sum_below}
+
+-- A link of the way: its least and its greatest delay, in ns, and the drift of the clock behind it, in units of 2^-41.
+pub record Link : Type 0 where
+  pub least : ℕ
+  pub most : ℕ
+  pub drift : ℤ
+
+-- The way to a system: the drift of the root's clock, and the links, the root's first; for all of them the interval
+-- between two requests, the turnaround and the residence, in ns.
+pub record Way : Type 0 where
+  pub drift : ℤ
+  pub links : List Link
+  pub interval : ℕ
+  pub turnaround : ℕ
+  pub residence : ℕ
+
+-- the link at a place, counted from 0; past the end one that takes no time
+abbrev pub link_at : Way → ℕ → Link
+link_at w i = get_or w.links i (record { least = 0; most = 0; drift = pos 0 })
+
+-- the drift of the clock so many links from the root
+abbrev pub drift_at : Way → ℕ → ℤ
+drift_at w zero = w.drift
+drift_at w (suc i) = (link_at w i).drift
+
+-- its rate, in units of 2^-41
+abbrev pub clock_at : Way → ℕ → ℕ
+clock_at w i = clock_rate (drift_at w i)
+
+-- f 0 + f 1 + .. + f (n - 1)
+abbrev pub total_below : ℕ → (ℕ → ℕ) → ℕ
+total_below zero f = 0
+total_below (suc n) f = total_below n f + f n
+
+-- a link's jitter: how much its delays differ, in ns
+abbrev pub jitter_at : Way → ℕ → ℕ
+jitter_at w i = (link_at w i).most - (link_at w i).least
+
+-- what the jitter makes of the neighbour rate that is measured on a link
+abbrev pub rate_error_at : Way → ℕ → ℕ
+rate_error_at w i = ceil_div (2202000000000 * jitter_at w i) w.interval + 4
+
+-- the neighbour rate that is measured there without jitter
+abbrev pub steady_rate_at : Way → ℕ → ℤ
+steady_rate_at w i = rate_of (pos (clock_at w i)) (pos (clock_at w (suc i)))
+
+-- how far the sum of these rates, up to the link at a place, misses the rate of the root's clock against the clock
+-- behind that link: rates are added where they ought to be multiplied
+abbrev pub unlike_at : Way → ℕ → ℕ
+unlike_at w i =
+    unsigned_abs (sum_below (suc i) (steady_rate_at w) -ℤ
+    floor_div ((pos (clock_at w 0) -ℤ pos (clock_at w (suc i))) *ℤ unit) (pos (clock_at w (suc i))))
+
+-- the error of the rate so far
+abbrev pub rates_error_at : Way → ℕ → ℕ
+rates_error_at w i = total_below (suc i) (rate_error_at w) + unlike_at w i
+
+-- what a link of this jitter and greatest delay adds: its jitter, and rounding
+abbrev pub hop_error : ℕ → ℕ → ℕ → ℕ
+hop_error jitter most turnaround = 65556 * jitter + (20 * most + turnaround) / 1500 + 12
+
+-- what the link at a place adds
+abbrev pub hop_error_at : Way → ℕ → ℕ
+hop_error_at w i = hop_error (jitter_at w i) (link_at w i).most w.turnaround
+
+-- what the bridge behind it adds, and the link behind that: the time that passes there, times the error of the rate
+abbrev pub wait_error_at : Way → ℕ → ℕ
+wait_error_at w i =
+    ceil_div ((w.residence + jitter_at w i + (link_at w (suc i)).most) * rates_error_at w i) 33550000
+
+-- The time error of a system so many links from the root, in units of 2^-16 ns: each link costs its jitter; each bridge
+-- costs its residence times the error of the rate so far, to which each link above adds its jitter over the interval.
+abbrev pub time_error_at : Way → ℕ → ℕ
+time_error_at w h = total_below h (hop_error_at w) + total_below (h - 1) (wait_error_at w)
+
+-- the time error at the end of the way; 0 at the root itself
+abbrev pub time_error : Way → ℕ
+time_error w = time_error_at w (length w.links)
