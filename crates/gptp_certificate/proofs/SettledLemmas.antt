@@ -58,12 +58,15 @@ same_role Master = refl
 same_role Slave = refl
 same_role Passive = refl
 
--- what a settled system says is a settled line
-settled_line : (g : Snapshot) (s : SystemState) → IsSettledSystem g s → IsSettledLine g (stated_line s)
-settled_line g s is = record {
+-- what a settled system says is a settled line, where its steps are below 255
+settled_line : (g : Snapshot) (s : SystemState) → IsSettledSystem g s → s.steps < 255
+    → IsSettledLine g (stated_line s)
+settled_line g s is below = record {
   root = is.root;
   steps = is.steps;
-  parent = subst (IsParentIfAny g (clock s)) (same_parent (parent s)) is.parent;
+  near = λ near. below;
+  far = λ e. absurd cc;
+  parent = λ near. subst (IsParentIfAny g (clock s)) (same_parent (parent s)) is.parent;
   roles = roles;
 }
   where
@@ -105,7 +108,8 @@ its_systems w lines own states = record {
   different = Different-rising (line_clocks lines) states.rising;
   all = all;
   no_other = no_other;
-  ports = ports;
+  ports = λ s line of near. ports s line of;
+  bare = λ line member e. (let near = ap (λ (l : SystemLine). l.far) (line_at w lines line states member).is in absurd cc);
 }
   where
     g : Snapshot
@@ -145,9 +149,9 @@ its_systems w lines own states = record {
         ∙ ap (λ (x : System). range_with_len 1 x.ports) (sym lives.is))
 
 -- they are the settled choice
-settled_choice : (w : WorldState) (lines : List SystemLine) → HaveOwnClocks w → Settled w → AreNear (snapshot_of w)
-    → States w lines → IsSettledChoice (snapshot_of w) lines
-settled_choice w lines own settled near states = record {
+settled_choice : (w : WorldState) (lines : List SystemLine) → IsWellFormed (snapshot_of w) → HaveOwnClocks w
+    → Settled w → AreNear (snapshot_of w) → States w lines → IsSettledChoice (snapshot_of w) lines
+settled_choice w lines well own settled near states = record {
   systems = its_systems w lines own states;
   settled = each;
 }
@@ -158,7 +162,10 @@ settled_choice w lines own settled near states = record {
         let s = at.station.system in
         let is_near = near (standing at.station) (live_there w.stations at.place at.station at.here at.live) in
         let is = settled at.place at.station at.here at.live is_near in
-        subst (IsSettledLine (snapshot_of w)) (sym at.is) (settled_line (snapshot_of w) s is)
+        let (d, distance, less) = is_near in
+        let same : s.steps ≡ d = IsDistance-unique (snapshot_of w) (clock s) s.steps d well is.steps distance in
+        subst (IsSettledLine (snapshot_of w)) (sym at.is)
+        (settled_line (snapshot_of w) s is (omega (arith, less, same)))
 
 -- and no steps are too many
 settled_near : (w : WorldState) (lines : List SystemLine) → IsWellFormed (snapshot_of w) → Settled w
@@ -183,6 +190,6 @@ right_in_time w lines claimed states calm near =
     let settled = claimed_settled w claimed calm in
     let well = stands_well w world.sound world.between world.legible in
     record {
-      choice = settled_choice w lines world.sound.wired.clocks settled near states;
+      choice = settled_choice w lines well world.sound.wired.clocks settled near states;
       near = settled_near w lines well settled near states;
     }

@@ -1,5 +1,5 @@
 -- What the systems of a world say (profile).
-use Rattle.std.specs.Prelude.{◌≡◌, ◌↔◌, ℕ, true, List, length, map}
+use Rattle.std.specs.Prelude.{◌≡◌, ◌↔◌, ℕ, true, false, List, length, map}
 use Rattle.std.specs.List.{range_with_len}
 use Rattle.std.specs.Option.{option_map}
 use Rattle.gptp_graph.specs.Labelling.{PortLine, SystemLine, line_clocks}
@@ -20,6 +20,7 @@ stated_line s = record {
   clock = clock s;
   root = s.root;
   steps = s.steps;
+  far = false;
   parent = option_map parent_of (parent s);
   ports = map (stated_port s) (range_with_len 1 (length s.ports));
 }

@@ -1,6 +1,6 @@
 -- The laws of the text: it is read in one way.
 use Rattle.std.proofs.Common.{◌≡◌, ◌≢◌, ℕ, ◌<◌, ◌≤◌, ◌^◌, List, [], ◌∷◌, ◌++◌, map, inl, inr, refl, sym, ap, subst, ◌∙◌, append_assoc, append-nil, arith}
-use Rattle.std.specs.Prelude.{◌⊎◌, Option, Some, None, decimal, get_or}
+use Rattle.std.specs.Prelude.{◌⊎◌, Bool, false, Option, Some, None, decimal, get_or}
 use Rattle.std.specs.List.{AllByRecursion}
 use Rattle.std.specs.Option.{option_map}
 use Rattle.std.proofs.lemmas.Fmt.{decimal_injective}
@@ -252,7 +252,7 @@ rest_in_order line lines order = record { clocks = order.clocks.1; ports = λ l 
 
 lines_follow : (lines : List SystemLine) (first : Entry)
     → ((clock : ℕ) → In clock (line_clocks lines) → clock_of first < clock)
-    → AreInOrder lines → IsReadable lines → FollowEach first (entries_of lines)
+    → AreInOrder lines → AllByRecursion IsReadableEntry (entries_of lines) → FollowEach first (entries_of lines)
 lines_follow [] first above order readable = tt
 lines_follow (line ∷ lines) first above order readable = (
   above line.clock (inl refl),
@@ -264,7 +264,8 @@ lines_follow (line ∷ lines) first above order readable = (
 )
 
 -- the lines of a certificate that can be read stand in order
-lines_stand : (lines : List SystemLine) → AreInOrder lines → IsReadable lines → StandInOrder (entries_of lines)
+lines_stand : (lines : List SystemLine) → AreInOrder lines → AllByRecursion IsReadableEntry (entries_of lines)
+    → StandInOrder (entries_of lines)
 lines_stand [] order readable = tt
 lines_stand (line ∷ lines) order readable =
     ports_follow (system_entry line) line.clock line.ports (entries_of lines) refl
@@ -288,8 +289,8 @@ pub no_certificate : (text : List ℕ) (fault : CertificateFault) (lines : List 
 no_certificate text fault lines (inl (e, lacks)) order readable is =
     lacks (entries_text (entries_of lines) ++ end_text) is
 no_certificate text fault lines (inr b) order readable is =
-    no_certificate_of text fault b (entries_of lines) (lines_stand lines order readable) readable
-    (fronts b.before (entries_of lines) b.rest end_text b.stand.readable readable
+    no_certificate_of text fault b (entries_of lines) (lines_stand lines order readable.entries) readable.entries
+    (fronts b.before (entries_of lines) b.rest end_text b.stand.readable readable.entries
     (behind_head b.before (entries_of lines) b.rest end_text (sym b.stand.split ∙ is)))
 
 one_fault_of : (text : List ℕ) (f g : CertificateFault) (a : FailsBehind text f) (b : FailsBehind text g)
@@ -325,32 +326,36 @@ same_ports c d (p ∷ ps) (q ∷ qs) xs ys e =
     let rest = same_ports c d ps qs xs ys others in
     (ap (λ l. l ∷ ps) first ∙ ap (λ ls. q ∷ ls) rest.0, rest.1)
 
-abbrev system_line : ℕ → ℕ → ℕ → Option ParentLink → List PortLine → SystemLine
-system_line clock root steps parent ports =
-    record { clock = clock; root = root; steps = steps; parent = parent; ports = ports }
+abbrev system_line : ℕ → ℕ → ℕ → Bool → Option ParentLink → List PortLine → SystemLine
+system_line clock root steps far parent ports =
+    record { clock = clock; root = root; steps = steps; far = far; parent = parent; ports = ports }
 
-same_system : (a b : SystemLine) → system_entry a ≡ system_entry b → a.ports ≡ b.ports → a ≡ b
-same_system a b e ports =
+same_system : (a b : SystemLine) → system_entry a ≡ system_entry b → a.ports ≡ b.ports → a.far ≡ b.far → a ≡ b
+same_system a b e ports far =
     let clock : a.clock ≡ b.clock = cc in
     let root : a.root ≡ b.root = cc in
     let steps : a.steps ≡ b.steps = cc in
     let parent : a.parent ≡ b.parent = cc in
-    ap (λ (x : ℕ). system_line x a.root a.steps a.parent a.ports) clock
-    ∙ ap (λ (x : ℕ). system_line b.clock x a.steps a.parent a.ports) root
-    ∙ ap (λ (x : ℕ). system_line b.clock b.root x a.parent a.ports) steps
-    ∙ ap (λ (x : Option ParentLink). system_line b.clock b.root b.steps x a.ports) parent
-    ∙ ap (λ (x : List PortLine). system_line b.clock b.root b.steps b.parent x) ports
+    ap (λ (x : ℕ). system_line x a.root a.steps a.far a.parent a.ports) clock
+    ∙ ap (λ (x : ℕ). system_line b.clock x a.steps a.far a.parent a.ports) root
+    ∙ ap (λ (x : ℕ). system_line b.clock b.root x a.far a.parent a.ports) steps
+    ∙ ap (λ (x : Bool). system_line b.clock b.root b.steps x a.parent a.ports) far
+    ∙ ap (λ (x : Option ParentLink). system_line b.clock b.root b.steps b.far x a.ports) parent
+    ∙ ap (λ (x : List PortLine). system_line b.clock b.root b.steps b.far b.parent x) ports
 
-same_lines : (xs ys : List SystemLine) → entries_of xs ≡ entries_of ys → xs ≡ ys
-same_lines [] [] e = refl
-same_lines [] (y ∷ ys) e = absurd cc
-same_lines (x ∷ xs) [] e = absurd cc
-same_lines (x ∷ xs) (y ∷ ys) e =
+same_lines : (xs ys : List SystemLine) → ((x : SystemLine) → In x xs → x.far ≡ false)
+    → ((y : SystemLine) → In y ys → y.far ≡ false) → entries_of xs ≡ entries_of ys → xs ≡ ys
+same_lines [] [] f g e = refl
+same_lines [] (y ∷ ys) f g e = absurd cc
+same_lines (x ∷ xs) [] f g e = absurd cc
+same_lines (x ∷ xs) (y ∷ ys) f g e =
     let first : system_entry x ≡ system_entry y = cc in
     let others : map (PortEntry x.clock) x.ports ++ entries_of xs
     ≡ map (PortEntry y.clock) y.ports ++ entries_of ys = cc in
     let rest = same_ports x.clock y.clock x.ports y.ports xs ys others in
-    ap (λ l. l ∷ xs) (same_system x y first rest.0) ∙ ap (λ ls. y ∷ ls) (same_lines xs ys rest.1)
+    let far = f x (inl refl) ∙ sym (g y (inl refl)) in
+    ap (λ l. l ∷ xs) (same_system x y first rest.0 far)
+    ∙ ap (λ ls. y ∷ ls) (same_lines xs ys (λ l i. f l (inr i)) (λ l i. g l (inr i)) rest.1)
 
 whole : (xs ys zs : List Entry) → ys ≡ xs ++ zs → end_text ≡ entries_text zs ++ end_text → xs ≡ ys
 whole xs ys [] goes rest = sym (goes ∙ append-nil xs)
@@ -365,6 +370,6 @@ pub one_certificate : (one other : List SystemLine) → IsReadable one → IsRea
     → certificate_text one ≡ certificate_text other
     → one ≡ other
 one_certificate one other f g e =
-    same_lines one other (whole_either (entries_of one) (entries_of other)
-    (fronts (entries_of one) (entries_of other) end_text end_text f g
+    same_lines one other f.near g.near (whole_either (entries_of one) (entries_of other)
+    (fronts (entries_of one) (entries_of other) end_text end_text f.entries g.entries
     (behind_head (entries_of one) (entries_of other) end_text end_text e)))

@@ -1,14 +1,19 @@
 -- Reading line by line: lines have no line feed in them, so the first line of a text is one.
 use Rattle.std.proofs.Common.{◌≡◌, ◌≢◌, ℕ, List, ◌∷◌, ◌++◌, inl, inr, refl, sym, ap, subst, ◌∙◌}
 use Rattle.std.specs.Prelude.{◌⊎◌, Option, Some, None, not, ◌==◌}
+use Rattle.std.specs.List.{AllByRecursion}
 use Rattle.std.proofs.lemmas.List.Folds.{list_all-append}
+use Rattle.gptp_graph.specs.Labelling as graphs
 use Rattle.gptp_graph.specs.SettledRole.{Role, Disabled, Master, Slave, Passive}
+use Rattle.gptp_lists.proofs.MemberLemmas.{from_map}
+use Rattle.gptp_certificate_text.specs.declared.certificate.SystemLine.{SystemLine}
 use Rattle.gptp_certificate_text.specs.declared.fault.CertificateFault.{CertificateFault}
 use Rattle.gptp_certificate_text.specs.declared.fault.CertificateFault.TheVariants.{OutOfMemory}
 use Rattle.gptp_certificate_text.specs.Words.{IsWord, Lacks}
 use Rattle.gptp_certificate_text.specs.Forms.{Form, SystemForm, PortForm, ParentWords, HasForm, HasParentWords, HasWords, form_text, parent_text, role_text}
 use Rattle.gptp_certificate_text.specs.CertificateText.{end_text, entry_text, spelled}
-use Rattle.gptp_certificate_text.specs.Entries.{Entry, IsReadableEntry}
+use Rattle.gptp_certificate_text.specs.Certificate.{line_of, lines_of}
+use Rattle.gptp_certificate_text.specs.Entries.{Entry, IsReadable, IsReadableEntry, entries_of}
 use Rattle.gptp_certificate_text.specs.Lines.{RefusesLine}
 use Rattle.gptp_certificate_text.specs.Parsing.{HasNoForm, RestFails}
 use Rattle.gptp_certificate_text.proofs.WordLemmas.{no_cut, one_cut, plain_lacks_feed}
@@ -72,3 +77,12 @@ rest_fails before rest line more fault goes_on first lacks (inr (inr (e, out))) 
       first = first ∙ ap (λ l. l ++ 10 ∷ more) out.is;
       order = out.order;
     }))
+
+-- lines that are read are readable
+pub lines_readable : (lines : List SystemLine) → AllByRecursion IsReadableEntry (entries_of (lines_of lines))
+    → IsReadable (lines_of lines)
+lines_readable lines all = record {
+  entries = all;
+  near = λ line member. let (read, at, is) = from_map line_of line lines member in
+      sym (ap (λ (l : graphs.SystemLine). l.far) is);
+}

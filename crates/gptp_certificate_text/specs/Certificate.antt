@@ -1,5 +1,5 @@
 -- Certificates as gptp_graph has them (profile).
-use Rattle.std.specs.Prelude.{ℕ, List, map}
+use Rattle.std.specs.Prelude.{ℕ, false, List, map}
 use Rattle.std.specs.Option.{option_map}
 use Rattle.gptp_graph.specs.Labelling.{PortLine, line_clocks, port_numbers}
 use Rattle.gptp_graph.specs.Labelling as graphs
@@ -30,6 +30,7 @@ line_of line = record {
   clock = line.clock;
   root = line.root;
   steps = line.steps;
+  far = false;
   parent = option_map parent_of line.parent;
   ports = map port_line_of line.ports.items;
 }

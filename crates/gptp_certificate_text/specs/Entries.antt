@@ -1,6 +1,7 @@
 -- The lines of a certificate, one by one, and their order (profile).
-use Rattle.std.specs.Prelude.{◌≡◌, ◌<◌, ◌≤◌, ◌^◌, ⊤, ℕ, List, [], ◌∷◌, Option, Some, None, map}
+use Rattle.std.specs.Prelude.{◌≡◌, ◌<◌, ◌≤◌, ◌^◌, ⊤, ℕ, false, List, [], ◌∷◌, Option, Some, None, map}
 use Rattle.std.specs.List.{flat_map, AllByRecursion}
+use Rattle.gptp_lists.specs.Members.{In}
 use Rattle.gptp_graph.specs.Labelling.{PortLine, SystemLine}
 use Rattle.gptp_graph.specs.Parent.{ParentLink}
 
@@ -43,9 +44,10 @@ IsReadableEntry (SystemEntry clock root steps parent) =
     (clock < 2 ^ 64) × (root < 2 ^ 112) × (steps ≤ 65535) × IsReadableParent parent
 IsReadableEntry (PortEntry clock port) = (clock < 2 ^ 64) × IsPortNumber port.number
 
--- a text can spell each line
-abbrev pub IsReadable : List SystemLine → Type 0
-IsReadable lines = AllByRecursion IsReadableEntry (entries_of lines)
+-- a text can spell each line, and none is far
+pub record IsReadable (lines : List SystemLine) : Type 0 where
+  pub entries : AllByRecursion IsReadableEntry (entries_of lines)
+  pub near : (line : SystemLine) → In line lines → line.far ≡ false
 
 -- the clock of the system that the line is about
 abbrev pub clock_of : Entry → ℕ

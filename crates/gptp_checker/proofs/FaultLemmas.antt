@@ -68,12 +68,11 @@ module _ (g : Snapshot) (lines : List SystemLine) where
       passes earlier (inl e) = subst IsAbsent (sym e) right
       passes earlier (inr k) = hold_before IsAbsent later_faults i h earlier k
 
-  -- where all are absent, all tests pass
+  -- where all are absent, all local tests pass
   all_absent : PassesSystems g lines → ((fault : Fault) → In fault later_faults → test_of fault g lines)
       → PassesLocalTests g lines
   all_absent right h = record {
     systems = right;
-    too_far = h TooFar (inl refl);
     root = h Root (inr (inl refl));
     steps = h Steps (inr (inr (inl refl)));
     parent = h Parent (inr (inr (inr (inl refl))));
@@ -87,12 +86,12 @@ module _ (g : Snapshot) (lines : List SystemLine) where
   pub settled : IsWellFormed g → PassesSystems g lines
       → ((fault : Fault) → In fault later_faults → test_of fault g lines)
       → IsSettledChoice g lines × PassesTooFar lines
-  settled wf right h = let all = all_absent right h in (sound g lines wf all, all.too_far)
+  settled wf right h = (sound g lines wf (all_absent right h), h TooFar (inl refl))
 
   -- the settled choice has no fault
   pub no_fault : (fault : Fault) → IsWellFormed g → IsSettledChoice g lines × PassesTooFar lines
       → test_of fault g lines
-  no_fault fault wf (is, near) = one fault (complete g lines wf is near)
+  no_fault fault wf (is, near) = one fault (complete g lines wf is)
     where
       one : (fault : Fault) → PassesLocalTests g lines → test_of fault g lines
       one Systems h = h.systems
@@ -103,4 +102,4 @@ module _ (g : Snapshot) (lines : List SystemLine) where
       one Identity h = h.identity
       one Tie h = h.tie
       one Role h = h.role
-      one TooFar h = h.too_far
+      one TooFar h = near

@@ -1,5 +1,5 @@
 -- A test of a certificate passes exactly where it passes for each line, port or link.
-use Rattle.std.proofs.Common.{Bool, IsTrue, ◌≡◌, ◌↔◌, ◌<◌, ◌≤◌, ◌+◌, ℕ, zero, suc, List, Option, Some, None, refl, sym, subst, inl, inr, arith}
+use Rattle.std.proofs.Common.{Bool, IsTrue, ◌≡◌, ◌↔◌, ◌<◌, ◌≤◌, ◌+◌, ℕ, zero, suc, false, List, Some, refl, sym, subst, inl, inr, arith}
 use Rattle.std.specs.List.{range_with_len}
 use Rattle.gptp_lists.specs.Members.{In}
 use Rattle.gptp_graph.specs.Snapshot.{Snapshot, PortIdentity, Link, port_of, Joins, Adjacent, IsWellFormed}
@@ -7,7 +7,8 @@ use Rattle.gptp_graph.specs.Parent.{ParentLink}
 use Rattle.gptp_graph.specs.Labelling.{PortLine, SystemLine, HasItsSystems}
 use Rattle.gptp_graph.specs.LocalTests.{PassesTooFar, PassesRoot, PassesSteps, PassesParent, PassesLink, PassesIdentity, PassesTie, PassesRole}
 use Rattle.gptp_lists.proofs.MemberLemmas.{from_map}
-use Rattle.gptp_checker.specs.LineTests.{FitsParent, IsNoLower, PassesLine, PassesEachLine, AgreeAcross, AgreeOver}
+use Rattle.gptp_graph.proofs.StatementLemmas.{near_with_parent}
+use Rattle.gptp_checker.specs.LineTests.{IsNoLower, PassesLine, PassesEachLine, AgreeAcross, AgreeOver}
 use Rattle.gptp_checker.specs.declared.line_test.LineTest.{LineTest}
 use Rattle.gptp_checker.specs.declared.line_test.LineTest.TheVariants.{TooFar, Root, Steps, Parent, Identity, Tie, Role}
 
@@ -18,24 +19,6 @@ In-range a (suc n) k low high = elim (native.Mathlib.Decide.ℕ_discrete k a) [
   | yes e ↦ inl e
   | no other ↦ inr (In-range (a + 1) n k (omega arith) (omega arith))
 ]
-
--- no parent is none that is stated
-none_is_none : {A : Type 0} (o : Option ParentLink) (l : ParentLink) → o ≡ None → o ≡ Some l → A
-none_is_none o l a b = absurd cc
-
--- steps fit a parent
-fits_of : (o : Option ParentLink) (steps : ℕ) → (o ≡ None → steps ≡ 0) → ((l : ParentLink) → o ≡ Some l → 0 < steps)
-    → FitsParent o steps
-fits_of None steps none some = none refl
-fits_of (Some l) steps none some = some l refl
-
-fits_none : (o : Option ParentLink) (steps : ℕ) → FitsParent o steps → o ≡ None → steps ≡ 0
-fits_none None steps h e = h
-fits_none (Some l) steps h e = none_is_none (Some l) l e refl
-
-fits_some : (o : Option ParentLink) (steps : ℕ) (l : ParentLink) → FitsParent o steps → o ≡ Some l → 0 < steps
-fits_some None steps l h e = none_is_none None l refl e
-fits_some (Some k) steps l h e = h
 
 -- the same test
 pub same_test : (one two : LineTest) (g : Snapshot) (lines : List SystemLine) (line : SystemLine) (b : Bool) → one ≡ two
@@ -55,16 +38,29 @@ module _ (g : Snapshot) (lines : List SystemLine) where
   pub steps_by_line : PassesEachLine Steps g lines ↔ PassesSteps lines
   steps_by_line = (
     (λ h. record {
-      none = λ line stated. fits_none line.parent line.steps (h line stated);
-      some = λ line l stated. fits_some line.parent line.steps l (h line stated);
+      none = λ line stated. (h line stated).none;
+      some = λ line l stated. (h line stated).some l;
+      near = λ line stated. (h line stated).near;
+      far = λ line stated. (h line stated).far;
     }),
-    (λ h line stated. fits_of line.parent line.steps (h.none line stated) (λ l. h.some line l stated)),
+    (λ h line stated. record {
+      none = h.none line stated;
+      some = λ l. h.some line l stated;
+      near = h.near line stated;
+      far = h.far line stated;
+    }),
   )
 
   pub parent_by_line : PassesEachLine Parent g lines ↔ PassesParent g lines
   parent_by_line = (
-    (λ h line l stated e. let f = h line stated l e in (f.joins, f.less)),
-    (λ h line stated l e. let f = h line l stated e in record { joins = f.0; less = f.1 }),
+    (λ h. record {
+      near = λ line l stated e. let f = (h line stated).near l e in (f.joins, f.less);
+      far = λ line stated. (h line stated).far;
+    }),
+    (λ h line stated. record {
+      near = λ l e. let f = h.near line l stated e in record { joins = f.0; less = f.1 };
+      far = h.far line stated;
+    }),
   )
 
   pub identity_by_line : PassesEachLine Identity g lines ↔ PassesIdentity g lines
@@ -76,13 +72,13 @@ module _ (g : Snapshot) (lines : List SystemLine) where
   pub role_by_line : PassesEachLine Role g lines ↔ PassesRole g lines
   role_by_line = ((λ h line port stated. h line stated port), (λ h line stated port. h line port stated))
 
-  -- a link of a line's system is at one of the line's ports
+  -- a link of a line's system is at one of the line's ports, where it isn't far
   port_of_link : IsWellFormed g → HasItsSystems g lines → (line : SystemLine) (n : ℕ) (other : PortIdentity)
-      → In line lines → Joins g (port_of line.clock n) other
+      → In line lines → line.far ≡ false → Joins g (port_of line.clock n) other
       → (port : PortLine) × In port line.ports × (port.number ≡ n)
-  port_of_link wf has line n other stated joins =
+  port_of_link wf has line n other stated near joins =
       let (s, live, end) = wf.ends (port_of line.clock n) other joins in
-      let numbers = has.ports s line (record { live = live; stated = stated; clock = sym end.clock }) in
+      let numbers = has.ports s line (record { live = live; stated = stated; clock = sym end.clock }) near in
       let first : 1 ≤ n = end.first in
       let last : n ≤ s.ports = end.last in
       from_map (λ (p : PortLine). p.number) n line.ports
@@ -94,7 +90,8 @@ module _ (g : Snapshot) (lines : List SystemLine) where
       forward : PassesEachLine Tie g lines → PassesTie g lines
       forward h line l other d stated parent joins there less lower =
           let end = port_of other.clock other.port in
-          let (port, listed, e) = port_of_link wf has line other.own_port end stated joins in
+          let near = near_with_parent g lines line l has stated parent in
+          let (port, listed, e) = port_of_link wf has line other.own_port end stated near joins in
           subst (λ n. IsNoLower g lines line l n) e (h line stated l parent port listed) end d joins there less lower
 
       back : PassesTie g lines → PassesEachLine Tie g lines

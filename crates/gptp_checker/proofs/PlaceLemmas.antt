@@ -1,12 +1,12 @@
 -- Systems and lines place by place: where both stand by rising clock, each line is at the place of its system.
-use Rattle.std.proofs.Common.{◌≡◌, ◌<◌, ℕ, zero, suc, List, [], ◌∷◌, length, map, Some, slice_get, refl, sym, ap, subst, ◌∙◌, inl, inr, arith}
+use Rattle.std.proofs.Common.{◌≡◌, ◌<◌, ℕ, zero, suc, true, false, List, [], ◌∷◌, length, map, Some, slice_get, refl, sym, ap, subst, ◌∙◌, inl, inr, arith}
 use Rattle.std.proofs.lemmas.List.{map-id}
 use Rattle.std.proofs.lemmas.Option.{slice_get_within}
 use Rattle.std.specs.List.{range_with_len}
 use Rattle.gptp_lists.specs.Members.{In}
 use Rattle.gptp_graph.specs.Order.{IsRising}
 use Rattle.gptp_graph.specs.Snapshot.{System, Snapshot, clocks}
-use Rattle.gptp_graph.specs.Labelling.{SystemLine, line_clocks, port_numbers, HasItsSystems}
+use Rattle.gptp_graph.specs.Labelling.{SystemLine, line_clocks, port_numbers, IsBare, HasItsSystems}
 use Rattle.gptp_lists.proofs.MemberLemmas.{In-map, from_map, same_image, In-slice_get, slice_get-In}
 use Rattle.gptp_graph.proofs.RisingLemmas.{Different-rising, same_rising}
 use Rattle.gptp_graph.proofs.StatementLemmas.{line_clock, line_of}
@@ -96,9 +96,10 @@ systems_pass g lines rising h = record {
   no_other = λ line stated. let r = owner g.systems lines h line stated in
       (r.0, record { live = r.1; stated = stated; clock = r.2.clock });
   ports = λ s line of. let r = found g.systems lines h s of.live in
-      subst (λ l. port_numbers l ≡ range_with_len 1 s.ports)
+      subst (λ l. l.far ≡ false → port_numbers l ≡ range_with_len 1 s.ports)
       (same_image (λ (l : SystemLine). l.clock) r.0 line lines (Different-rising (line_clocks lines) rising) r.1
       of.stated (r.2.clock ∙ sym of.clock)) r.2.ports;
+  bare = λ line stated. (owner g.systems lines h line stated).2.bare;
 }
 
 -- two rising lists of numbers with the same members are one
@@ -111,16 +112,17 @@ same_numbers xs ys h k to back =
 by_clocks : (systems : List System) (lines : List SystemLine)
     → map (λ (s : System). s.clock) systems ≡ line_clocks lines
     → ((s : System) (line : SystemLine) → In s systems → In line lines → line.clock ≡ s.clock
-    → port_numbers line ≡ range_with_len 1 s.ports)
+    → line.far ≡ false → port_numbers line ≡ range_with_len 1 s.ports)
+    → ((line : SystemLine) → In line lines → line.far ≡ true → IsBare line)
     → AreLinesFor systems lines
-by_clocks [] [] e h = tt
-by_clocks [] (line ∷ lines) e h = absurd cc
-by_clocks (s ∷ systems) [] e h = absurd cc
-by_clocks (s ∷ systems) (line ∷ lines) e h =
+by_clocks [] [] e h far = tt
+by_clocks [] (line ∷ lines) e h far = absurd cc
+by_clocks (s ∷ systems) [] e h far = absurd cc
+by_clocks (s ∷ systems) (line ∷ lines) e h far =
     let same : line.clock ≡ s.clock = cc in
     let rest : map (λ (t : System). t.clock) systems ≡ line_clocks lines = cc in (
-      record { clock = same; ports = h s line (inl refl) (inl refl) same },
-      by_clocks systems lines rest (λ t l a b. h t l (inr a) (inr b)),
+      record { clock = same; ports = h s line (inl refl) (inl refl) same; bare = far line (inl refl) },
+      by_clocks systems lines rest (λ t l a b. h t l (inr a) (inr b)) (λ l i. far l (inr i)),
     )
 
 -- lines by rising clock that pass the test are those of the systems, one by one
@@ -133,7 +135,7 @@ lines_of_passed g lines rising lines_rising h =
     subst (λ w. In w (line_clocks lines)) l.clock (In-map (λ (x : SystemLine). x.clock) l.line lines l.stated))
     (λ v k. let (line, stated, e) = from_map (λ (x : SystemLine). x.clock) v lines k in
     subst (λ w. In w (clocks g)) e (line_clock g lines line h stated)))
-    (λ s line live stated e. h.ports s line (record { live = live; stated = stated; clock = e }))
+    (λ s line live stated e. h.ports s line (record { live = live; stated = stated; clock = e })) h.bare
 
 -- what both in rising order have where the test passes
 module _ (g : Snapshot) (lines : List SystemLine) (rising : IsRising (clocks g))

@@ -13,7 +13,7 @@ use Rattle.gptp_graph.proofs.SystemLemmas.{system_of}
 use Rattle.gptp_graph.proofs.StatementLemmas.{same_line}
 use Rattle.gptp_graph.proofs.Sure.{and_true}
 use Rattle.gptp_checker.specs.Places.{IsLineAt, IsSystemAt}
-use Rattle.gptp_checker.specs.LineTests.{Follows, HasLowRoot, HasOwnRoot, IsNearer, IsNoLower, AgreeAcross, AgreeOver}
+use Rattle.gptp_checker.specs.LineTests.{Follows, FollowsNearer, HasLowRoot, HasOwnRoot, IsNearer, IsNoLower, AgreeAcross, AgreeOver}
 
 -- this is the identity of the clock, if it has one
 abbrev pub OnlyIdentity : Snapshot → ℕ → Option ℕ → Type 0
@@ -96,13 +96,13 @@ has_identity g v h only = let s = system_at_clock g v h in let e = only s.0 s.1 
 
 -- a root by the identity of its clock
 pub own_root_by : (g : Snapshot) (line : SystemLine) (n : ℕ) (b : Bool) → In line.clock (clocks g)
-    → OnlyIdentity g line.clock (Some n) → line.parent ≡ None → (IsTrue b ↔ (line.root ≡ n))
+    → OnlyIdentity g line.clock (Some n) → line.far ≡ false → line.parent ≡ None → (IsTrue b ↔ (line.root ≡ n))
     → IsTrue b ↔ HasOwnRoot g line
-own_root_by g line n b h only none test = (
-  (λ t s at e. test.0 t ∙ same_number n s.identity (only s at)),
+own_root_by g line n b h only near none test = (
+  (λ t s at e f. test.0 t ∙ same_number n s.identity (only s at)),
   (λ own.
       let s = system_at_clock g line.clock h in
-      test.1 (own s.0 s.1 none ∙ sym (same_number n s.0.identity (only s.0 s.1)))),
+      test.1 (own s.0 s.1 near none ∙ sym (same_number n s.0.identity (only s.0 s.1)))),
 )
 
 -- a root that isn't above the identity of its clock
@@ -121,6 +121,15 @@ pub follows_by : (g : Snapshot) (lines : List SystemLine) (v steps d : ℕ) (l :
 follows_by g lines v steps d l b joins there only test = (
   (λ t. record { joins = joins; less = (d, there, test.0 t) }),
   (λ f. let (k, at, less) = f.less in test.1 (ap (λ n. n + 1) (same_number d k (only k at)) ∙ less)),
+)
+
+-- the parent that is stated, of a system that isn't far
+pub follows_nearer : (g : Snapshot) (lines : List SystemLine) (line : SystemLine) (b : Bool) → line.far ≡ false
+    → (IsTrue b ↔ ((l : ParentLink) → line.parent ≡ Some l → Follows g lines line.clock line.steps l))
+    → IsTrue b ↔ FollowsNearer g lines line
+follows_nearer g lines line b near test = (
+  (λ t. record { near = test.0 t; far = λ far. absurd cc }),
+  (λ f. test.1 f.near),
 )
 
 -- a parent of which nothing is stated

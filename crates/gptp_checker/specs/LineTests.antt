@@ -1,30 +1,37 @@
 -- The local tests line by line, port by port and link by link (profile): a test of a certificate passes where it passes
 -- for each.
-use Rattle.std.specs.Prelude.{◌≡◌, ◌⊎◌, ◌+◌, ◌<◌, ◌≤◌, ℕ, List, [], ◌∷◌, Option, Some, None}
+use Rattle.std.specs.Prelude.{◌≡◌, ◌⊎◌, ◌+◌, ◌<◌, ◌≤◌, ℕ, true, false, List, [], ◌∷◌, Some, None}
 use Rattle.gptp_lists.specs.Members.{In}
 use Rattle.gptp_graph.specs.Order.{IsLower}
-use Rattle.gptp_graph.specs.Snapshot.{System, Snapshot, PortIdentity, port_of, Joins}
+use Rattle.gptp_graph.specs.Snapshot.{System, Snapshot, PortIdentity, port_of, Joins, Adjacent}
 use Rattle.gptp_graph.specs.Parent.{ParentLink, key, JoinsAt}
 use Rattle.gptp_graph.specs.Labelling.{PortLine, SystemLine}
-use Rattle.gptp_graph.specs.LocalTests.{StatesSteps, HasStatedRole}
+use Rattle.gptp_graph.specs.LocalTests.{StatesSteps, StatesOneLess, HasStatedRole}
 use Rattle.gptp_checker.specs.Places.{IsLineAt, IsSystemAt}
 use Rattle.gptp_checker.specs.declared.line_test.LineTest.{LineTest}
 use Rattle.gptp_checker.specs.declared.line_test.LineTest.TheVariants.{TooFar, Root, Steps, Parent, Identity, Tie, Role}
 
--- with no parent, the root is the system's own identity
+-- with no parent, the root is the system's own identity, where it isn't far
 abbrev pub HasOwnRoot : Snapshot → SystemLine → Type 0
 HasOwnRoot g line = (s : System)
-    → IsSystemAt g.systems line.clock s → line.parent ≡ None → line.root ≡ s.identity
+    → IsSystemAt g.systems line.clock s → line.far ≡ false → line.parent ≡ None → line.root ≡ s.identity
 
--- with no parent steps are 0, and with one they are more
-abbrev pub FitsParent : Option ParentLink → ℕ → Type 0
-FitsParent None steps = steps ≡ 0
-FitsParent (Some l) steps = 0 < steps
+-- with no parent steps are 0, with one they are more, and they are below 255; of a far system they are 255 or more
+pub record FitsSteps (line : SystemLine) : Type 0 where
+  pub none : line.far ≡ false → line.parent ≡ None → line.steps ≡ 0
+  pub some : (l : ParentLink) → line.parent ≡ Some l → 0 < line.steps
+  pub near : line.far ≡ false → line.steps < 255
+  pub far : line.far ≡ true → 255 ≤ line.steps
 
 -- a link joins the own port to the parent's port, and the parent's steps are one less
 pub record Follows (g : Snapshot) (lines : List SystemLine) (clock steps : ℕ) (l : ParentLink) : Type 0 where
   pub joins : JoinsAt g clock l
   pub less : (d : ℕ) × StatesSteps lines l.clock d × (d + 1 ≡ steps)
+
+-- a parent is followed, and a far system has a link to one that states one step less
+pub record FollowsNearer (g : Snapshot) (lines : List SystemLine) (line : SystemLine) : Type 0 where
+  pub near : (l : ParentLink) → line.parent ≡ Some l → Follows g lines line.clock line.steps l
+  pub far : line.far ≡ true → (w : ℕ) × Adjacent g line.clock w × StatesOneLess lines w line
 
 -- the root isn't above the system's identity
 abbrev pub HasLowRoot : Snapshot → SystemLine → Type 0
@@ -50,8 +57,8 @@ pub record IsNearer (lines : List SystemLine) (line : SystemLine) (other : ℕ) 
 abbrev pub PassesLine : LineTest → Snapshot → List SystemLine → SystemLine → Type 0
 PassesLine TooFar g lines line = line.steps < 255
 PassesLine Root g lines line = HasOwnRoot g line
-PassesLine Steps g lines line = FitsParent line.parent line.steps
-PassesLine Parent g lines line = (l : ParentLink) → line.parent ≡ Some l → Follows g lines line.clock line.steps l
+PassesLine Steps g lines line = FitsSteps line
+PassesLine Parent g lines line = FollowsNearer g lines line
 PassesLine Identity g lines line = HasLowRoot g line
 PassesLine Tie g lines line = (l : ParentLink) → line.parent ≡ Some l → AreNoLower g lines line l
 PassesLine Role g lines line = (port : PortLine) → In port line.ports

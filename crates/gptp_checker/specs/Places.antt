@@ -1,9 +1,9 @@
 -- The systems of a snapshot and the lines of a certificate place by place: both stand by rising clock.
-use Rattle.std.specs.Prelude.{◌≡◌, ℕ, List, Some, map, slice_get}
+use Rattle.std.specs.Prelude.{◌≡◌, ℕ, true, false, List, Some, map, slice_get}
 use Rattle.std.specs.List.{range_with_len}
 use Rattle.gptp_lists.specs.Members.{In}
 use Rattle.gptp_graph.specs.Snapshot.{System}
-use Rattle.gptp_graph.specs.Labelling.{PortLine, SystemLine, port_numbers}
+use Rattle.gptp_graph.specs.Labelling.{PortLine, SystemLine, IsBare, port_numbers}
 use Rattle.gptp_certificate_text.specs.Certificate.{port_line_of}
 use Rattle.gptp_roles.specs.declared.role.Role.{Role}
 
@@ -11,10 +11,11 @@ use Rattle.gptp_roles.specs.declared.role.Role.{Role}
 abbrev pub numbers_of : List (ℕ × Role) → List ℕ
 numbers_of ports = map (λ (port : PortLine). port.number) (map port_line_of ports)
 
--- the line has the clock of the system, and its ports are all the system's
+-- the line has the clock of the system, and its ports are all the system's, or none where it is far
 pub record IsLineFor (s : System) (line : SystemLine) : Type 0 where
   pub clock : line.clock ≡ s.clock
-  pub ports : port_numbers line ≡ range_with_len 1 s.ports
+  pub ports : line.far ≡ false → port_numbers line ≡ range_with_len 1 s.ports
+  pub bare : line.far ≡ true → IsBare line
 
 -- at this place stands a system, and its line
 pub record AgreeAt (systems : List System) (lines : List SystemLine) (place : ℕ) : Type 0 where

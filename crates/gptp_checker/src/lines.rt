@@ -6,7 +6,7 @@ ghost use Rattle.gptp_graph.specs.LocalTests.{PassesSystems};
 ghost use Rattle.gptp_graph.specs.Labelling as graphs;
 ghost use Rattle.gptp_lists.specs.Members.{In};
 ghost use Rattle.gptp_graph.specs.Snapshot.{clocks};
-ghost use Rattle.gptp_checker.specs.LineTests.{FitsParent, Follows, HasLowRoot, HasOwnRoot, PassesEachLine, PassesLine};
+ghost use Rattle.gptp_checker.specs.LineTests.{FitsSteps, Follows, HasLowRoot, HasOwnRoot, PassesEachLine, PassesLine};
 ghost use Rattle.gptp_checker.specs.declared.line_test.LineTest.TheVariants as tests;
 
 use crate::line_test::LineTest;
@@ -41,12 +41,12 @@ fn has_low_root(snapshot: &Snapshot, line: &SystemLine) -> bool
     }
 }
 
-/// Whether the steps of a line are 0 exactly where it has no parent.
-fn fits_parent(line: &SystemLine) -> bool
-    ensures { IsTrue result ↔ FitsParent (line_of line.now).parent line.now.steps }
+/// Whether the steps of a line are 0 exactly where it has no parent, and few enough to follow one.
+fn fits_steps(line: &SystemLine) -> bool
+    ensures { IsTrue result ↔ FitsSteps (line_of line.now) }
 {
     match line.parent {
-        Some(_) => line.steps > 0,
+        Some(_) => line.steps > 0 && line.steps < 255,
         None => line.steps == 0,
     }
 }
@@ -101,7 +101,7 @@ fn passes(snapshot: &Snapshot, certificate: &Certificate, line: &SystemLine, tes
     match test {
         LineTest::TooFar => line.steps < 255,
         LineTest::Root => has_own_root(snapshot, line),
-        LineTest::Steps => fits_parent(line),
+        LineTest::Steps => fits_steps(line),
         LineTest::Parent => follows_parent(snapshot, certificate, line),
         LineTest::Identity => has_low_root(snapshot, line),
         LineTest::Tie => follows_lowest(snapshot, certificate, line),

@@ -13,8 +13,8 @@ pub record PortLine : Type 0 where
   pub role : Role
 
 -- a system line with the port lines after it: the root is a systemIdentity, the steps are the stepsRemoved. A far
--- line is that of a system 255 or more steps from its best: no neighbour of it announces that best with fewer steps
--- than 255, so that it has no parent and no settled roles.
+-- line is that of a system 255 or more steps from its best: such a system announces nothing that is qualified
+-- (IEEE 802.1AS-2020, 10.3.11.2.1), and of it neither parent nor roles are stated.
 pub record SystemLine : Type 0 where
   pub clock : ℕ
   pub root : ℕ

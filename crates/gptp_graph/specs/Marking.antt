@@ -17,7 +17,7 @@ pub record IsStatedBeside (g : Snapshot) (all : List Statement) (one other : Sta
   pub reached : Reaches g one.clock other.clock
 
 -- the system is far: its steps are 255 or more, or a lower root than its own is stated in its component. A settled
--- system leaves a lower root to others only where no neighbour has it over fewer than 254 steps, since what is
+-- system leaves a lower root to others only where no neighbour has it over fewer than 255 steps, since what is
 -- announced with 255 isn't qualified (IEEE 802.1AS-2020, 10.3.11.2.1).
 abbrev pub IsFar : Snapshot → List Statement → Statement → Type 0
 IsFar g all one =

@@ -131,7 +131,9 @@ settled_line : (g h : Snapshot) → AreAlike g h → (line : SystemLine) → IsS
 settled_line g h a line is = record {
   root = (is.root.0, best g h a line.clock is.root.0 is.root.1, is.root.2);
   steps = distance g h a line.clock line.steps is.steps;
-  parent = parent_if_any g h a line.clock line.parent is.parent;
+  near = is.near;
+  far = is.far;
+  parent = λ near. parent_if_any g h a line.clock line.parent (is.parent near);
   roles = λ port member. role g h a (port_of line.clock port.number) port.role (is.roles port member);
 }
 
@@ -147,6 +149,7 @@ its_systems g h a lines has =
       all = λ s member. (let (line, of) = has.all s (among h g back s member) in (line, line_of g h a lines s line of));
       no_other = λ line stated. (let (s, of) = has.no_other line stated in (s, line_of g h a lines s line of));
       ports = λ s line of. has.ports s line (line_of h g back lines s line of);
+      bare = has.bare;
     }
 
 pub same_choice : (g h : Snapshot) (lines : List SystemLine) → AreAlike g h → IsRight g lines → IsRight h lines
