@@ -4,7 +4,7 @@ use Rattle.std.specs.List.{range_with_len}
 use Rattle.gptp_links.specs.declared.bounds.Bounds.{Bounds}
 use Rattle.gptp_links.specs.Fate.{Draw}
 use Rattle.gptp_setup.specs.declared.setup.Params.{Params}
-use Rattle.gptp_setup.specs.Intervals.{interval_of}
+use Rattle.gptp_setup.specs.Intervals.{interval_of, largest_interval}
 use Rattle.gptp_setup.proofs.IntervalLemmas.{interval_positive}
 use Rattle.gptp_plan.specs.declared.change.Act.TheVariants.{Change as Changing}
 use Rattle.gptp_plan.specs.declared.change.Change.{Change}
@@ -32,9 +32,9 @@ use Rattle.gptp_kept.specs.Watch.{Watches}
 
 -- the limits of the network leave an exchange over the link its time
 enough : (p : Params) (w : WorldState) → KeepParams p → IsWorld p w → (at : LinkPlace) → (l : IsLinkOf at w)
-    → IsGood (setting at w l) (w.last_change + interval_of p.announce) (w.last_change + 2 * interval_of p.announce)
+    → IsGood (setting at w l) (w.last_change + largest_interval p) (w.last_change + 2 * largest_interval p)
 enough p w params is at l =
-    timing_is_enough (setting at w l) l.asking.station.setup.params.threshold w.last_change (interval_of p.announce)
+    timing_is_enough (setting at w l) l.asking.station.setup.params.threshold w.last_change (largest_interval p)
     l.good short period
   where
     asking : l.asking.station.setup.params ≡ p
@@ -47,26 +47,26 @@ enough p w params is at l =
         < interval_of l.asking.station.setup.params.pdelay
     short = rw (asking, answering) params.answered
 
-    period : interval_of l.asking.station.setup.params.pdelay ≤ interval_of p.announce
+    period : interval_of l.asking.station.setup.params.pdelay ≤ largest_interval p
     period = rw asking params.requests
 
 -- where no time has passed since the last change, each good link in use is watched
 fresh_watches : (p : Params) (w : WorldState) → KeepParams p → w.last_change ≡ w.time → IsWorld p w → IsMeasured w
     → Watches p w
 fresh_watches p w params now is measured at stands =
-    watch_begins at (w.last_change + interval_of p.announce) (w.last_change + 2 * interval_of p.announce) w l is.sound
+    watch_begins at (w.last_change + largest_interval p) (w.last_change + 2 * largest_interval p) w l is.sound
     measured gone past before (enough p w params is at l)
   where
     l : IsLinkOf at w
     l = links_seen at w is.sound measured stands
 
-    gone : IsGoneBy (w.last_change + interval_of p.announce) at w l
+    gone : IsGoneBy (w.last_change + largest_interval p) at w l
     gone direction f member = let near = is.known.near at.link direction l.channel f l.here member in omega arith
 
-    past : w.time ≤ w.last_change + interval_of p.announce
+    past : w.time ≤ w.last_change + largest_interval p
     past = omega arith
 
-    before : w.time < w.last_change + 2 * interval_of p.announce
+    before : w.time < w.last_change + 2 * largest_interval p
     before = let positive = interval_positive p.announce params.ranges.params.announce in omega arith
 
 -- ---- after a change, and at first

@@ -10,7 +10,8 @@ use Rattle.gptp_graph.specs.Order.{IsLower}
 use Rattle.gptp_vector.specs.declared.vector.Vector.{Vector}
 use Rattle.gptp_vector.specs.Vector.{lower, master_of, parts, path_of, system_of}
 use Rattle.gptp_receipt.specs.declared.held.Held.{Held}
-use Rattle.gptp_receipt.specs.Held.{Reception, received}
+use Rattle.gptp_receipt.specs.declared.held.Reception.{Reception}
+use Rattle.gptp_receipt.specs.Held.{received}
 use Rattle.gptp_roles.specs.Choice.{IsIn, path_vectors, slave_port}
 use Rattle.gptp_roles.proofs.ChoiceLemmas.{from_port}
 use Rattle.gptp_system.specs.Facts.{AreHeld, AreShown, IsAtRest}

@@ -9,7 +9,7 @@ use Rattle.gptp_links.specs.declared.link.Direction.TheVariants.{FromA, FromB}
 use Rattle.gptp_links.specs.Queue.{Frame}
 use Rattle.gptp_setup.specs.declared.setup.Params.{Params}
 use Rattle.gptp_system.specs.Follows.{FollowsItself, FollowsPort}
-use Rattle.gptp_setup.specs.Intervals.{interval_of}
+use Rattle.gptp_setup.specs.Intervals.{largest_interval, longest_span}
 use Rattle.gptp_system.specs.State.{clock}
 use Rattle.gptp_acts.specs.Ahead.{IsSteady}
 use Rattle.gptp_acts.specs.declared.station.Station.{Station}
@@ -125,7 +125,7 @@ module _ (p : Params) (m start : ℕ) (w : WorldState) (sound : IsSound w) (know
       (record {
         came = within.least;
         stays = subst (λ n. w.time ≤ at.reception.at + n) (sym span) within.most;
-        short = subst (λ n. n ≤ p.timeout * interval_of p.announce) (sym span) (omega arith);
+        short = subst (λ n. n ≤ longest_span p) (sym span) (omega arith);
         no_loop = λ member.
             (steady.held i at.held at.stands at.reception at.got).no_loop (in_contains (clock s) _ member);
       })
@@ -149,7 +149,7 @@ module _ (p : Params) (m start : ℕ) (w : WorldState) (sound : IsSound w) (know
         subst (IsStation k w.time) (sym at.is) (station_seen i at.station at.here live);
     near = λ j lane seen there member.
         let at = frame_from w j lane seen there member in
-        subst (λ (f : SeenFrame). f.due ≤ w.time + interval_of p.announce) (sym at.is)
+        subst (λ (f : SeenFrame). f.due ≤ w.time + largest_interval p) (sym at.is)
         (known.near at.link at.direction at.channel at.frame at.here at.among);
     linked = linked w sound;
   }

@@ -10,7 +10,7 @@ use Rattle.gptp_system.specs.declared.answer.Answer.{Answer}
 use Rattle.gptp_setup.specs.declared.setup.Params.{Params}
 use Rattle.gptp_setup.specs.declared.timer.Timer.{Timer}
 use Rattle.gptp_system.specs.Input.{Input, Frame as FrameHeard, Priority, Expires as TimerExpires}
-use Rattle.gptp_setup.specs.Intervals.{interval_of}
+use Rattle.gptp_setup.specs.Intervals.{announce_interval, largest_interval}
 use Rattle.gptp_system.specs.State.{clock}
 use Rattle.gptp_system.proofs.StepLemmas.{steps_steady}
 use Rattle.gptp_plan.specs.declared.change.Act.{Act}
@@ -136,8 +136,8 @@ module _ (w w' : WorldState) (k : KeepsNetwork w w') where
     reach = m;
     place = λ number. k.places number i;
     lane = λ port. lanes_kept port i;
-    interval_of = λ port. interval_of p.announce;
-    interval = interval_of p.announce;
+    interval_of = λ port. announce_interval p;
+    interval = largest_interval p;
     most = delay_kept i;
     timeout = p.timeout;
     start = start;

@@ -8,7 +8,7 @@ use Rattle.gptp_links.specs.declared.link.Direction.TheVariants.{FromA, FromB}
 use Rattle.gptp_receipt.specs.declared.held.Held.{Held}
 use Rattle.gptp_system.specs.declared.port.Port.{Port}
 use Rattle.gptp_setup.specs.declared.setup.Params.{Params}
-use Rattle.gptp_setup.specs.Intervals.{AreParams, interval_of}
+use Rattle.gptp_setup.specs.Intervals.{AreParams, announce_interval, largest_interval}
 use Rattle.gptp_system.specs.State.{clock, is_mine}
 use Rattle.gptp_acts.specs.declared.station.Station.{Station}
 use Rattle.gptp_acts.specs.Sound.{IsSound}
@@ -67,7 +67,7 @@ same_direction FromB FromA same = sym same
 -- ---- the state
 
 module _ (p : Params) (m start : ℕ) (w : WorldState) (sound : IsSound w) (legible : IsLegible w)
-    (known : IsKnown p w) (quiet : IsQuietWorld p w) (old : w.last_change + interval_of p.announce ≤ start)
+    (known : IsKnown p w) (quiet : IsQuietWorld p w) (old : w.last_change + largest_interval p ≤ start)
     (capable : AreCapableFrom start w) where
   abbrev n : Network
   n = network_of p m start w
@@ -85,14 +85,14 @@ module _ (p : Params) (m start : ℕ) (w : WorldState) (sound : IsSound w) (legi
     itself = port_of (clock station.system) (suc i)
 
     -- what it received stays longer than an announce interval and the greatest delay
-    stays : (r : SeenReception) → held_view span h ≡ Received r → interval_of p.announce + n.most < r.span
+    stays : (r : SeenReception) → held_view span h ≡ Received r → announce_interval p + n.most < r.span
     stays r holds =
         let params = subst AreParams (known.set place station here).setup
         (sound.on_time.stations place station here).setup in
         let back = received_back span h r holds in
         let is = ap (λ (x : SeenReception). x.span) back.2
         ∙ span_is p station (known.set place station here) i q there in
-        subst (λ t. interval_of p.announce + n.most < t) (sym is) (receipts_stay p w params known)
+        subst (λ t. announce_interval p + n.most < t) (sym is) (receipts_stay p w params known)
 
     port_seen : IsCalmPort n w.time itself (port_view station.system.params h q)
     port_seen = record {
@@ -189,7 +189,7 @@ module _ (p : Params) (m start : ℕ) (w : WorldState) (sound : IsSound w) (legi
       at.here (way.from ∙ ap (λ (z : Lane). z.from) at.lane_is) in
       let short = subst (λ (c : Channel). c.bounds.max ≤ n.most) one.same_channel
       (delay_of_used (live_systems w.stations) w.net.channels way.link way.channel way.here way.used) in
-      let passed : w.last_change + interval_of p.announce ≤ w.time = omega arith in
+      let passed : w.last_change + largest_interval p ≤ w.time = omega arith in
       let soon = (frames_fresh p w sound known passed at.link at.direction at.channel at.frame at.here at.among).most in
       subst (λ (x : SeenFrame). x.due ≤ w.time + n.most) (sym at.is) (omega arith)
 

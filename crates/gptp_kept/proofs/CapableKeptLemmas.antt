@@ -8,7 +8,7 @@ use Rattle.gptp_links.specs.declared.link.Direction.{Direction}
 use Rattle.gptp_links.specs.declared.link.Direction.TheVariants.{FromA, FromB}
 use Rattle.gptp_links.specs.Fate.{Draw}
 use Rattle.gptp_setup.specs.declared.setup.Params.{Params}
-use Rattle.gptp_setup.specs.Intervals.{interval_of}
+use Rattle.gptp_setup.specs.Intervals.{largest_interval}
 use Rattle.gptp_system.specs.State.{clock}
 use Rattle.gptp_plan.specs.declared.change.Act.{Act}
 use Rattle.gptp_plan.specs.declared.change.Act.TheVariants.{Deliver, Expire, Change as Changing}
@@ -121,7 +121,7 @@ pub acts_watch : (p : Params) (act : Act) (w : WorldState) (draws : List Draw) (
 acts_watch p act w draws done w' none k is watches at stands =
     let keeps = acts_keep act w draws done w' none k in
     let is' = still_acts_stay p act w draws done w' none k is in
-    let interval = interval_of p.announce in
+    let interval = largest_interval p in
     let before = watches at (stood p w w' is is' keeps at stands) in
     subst (λ change. IsWatched (change + interval) (change + 2 * interval) at w') (sym keeps.change)
     (watch_kept at (w.last_change + interval) (w.last_change + 2 * interval) act w w' draws done is.sound
@@ -130,7 +130,7 @@ acts_watch p act w draws done w' none k is watches at stands =
 pub later_watches : (p : Params) (w : WorldState) (time : ℕ) → w.time ≤ time → NothingBefore time w.net.pending
     → IsWorld p w → Watches p w → Watches p (at_time time w)
 later_watches p w time later first is watches at stands =
-    let interval = interval_of p.announce in
+    let interval = largest_interval p in
     watch_goes_on at (w.last_change + interval) (w.last_change + 2 * interval) time w is.sound later first
     (watches at (record {
       channel = stands.channel;

@@ -7,7 +7,7 @@ use Rattle.gptp_pdelay.specs.Peer.{is_capable}
 use Rattle.gptp_receipt.specs.declared.held.Held.{Held}
 use Rattle.gptp_system.specs.declared.port.Port.{Port}
 use Rattle.gptp_setup.specs.declared.setup.Params.{Params}
-use Rattle.gptp_setup.specs.Intervals.{interval_of}
+use Rattle.gptp_setup.specs.Intervals.{interval_of, largest_interval}
 use Rattle.gptp_system.specs.State.{clock, number, own}
 use Rattle.gptp_acts.specs.declared.station.Station.{Station}
 use Rattle.gptp_plan.specs.Params.{KeepParams}
@@ -105,9 +105,9 @@ module _ (p : Params) (w : WorldState) (params : KeepParams p) (is : IsWorld p w
       let l = watches at (way_stands (suc i) to joins way) in
       let asking = l.link.asking in
       let set = (is.known.set place asking.station asking.here).setup in
-      let period : interval_of asking.station.setup.params.pdelay ≤ interval_of p.announce =
+      let period : interval_of asking.station.setup.params.pdelay ≤ largest_interval p =
       rw set params.requests in
-      let past : w.last_change + (asking.station.setup.params.lost + 5) * interval_of p.announce ≤ w.time =
+      let past : w.last_change + (asking.station.setup.params.lost + 5) * largest_interval p ≤ w.time =
       rw set late in
       let same_station = same_there w.stations place asking.station station asking.here here in
       let same_channel = same_there w.net.channels way.link l.link.channel way.channel l.link.here way.here in
@@ -120,7 +120,7 @@ module _ (p : Params) (w : WorldState) (params : KeepParams p) (is : IsWorld p w
       ∙ there in
       let state = some_same asking.state q found in
       ap (λ (x : Port). is_capable x.peer) (sym state)
-      ∙ watched_capable at w.last_change (interval_of p.announce) w l period past
+      ∙ watched_capable at w.last_change (largest_interval p) w l period past
 
   port_capable : (i : ℕ) (h : Held) (q : Port) → slice_get station.system.held i ≡ Some h
       → slice_get station.system.ports i ≡ Some q

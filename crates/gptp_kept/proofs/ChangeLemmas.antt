@@ -11,7 +11,7 @@ use Rattle.gptp_system.specs.declared.port.Port.{Port}
 use Rattle.gptp_setup.specs.declared.setup.Params.{Params}
 use Rattle.gptp_setup.specs.declared.setup.Setup.{Setup}
 use Rattle.gptp_system.specs.Input.{Input, IsTimely, PortUp, PortDown, Priority}
-use Rattle.gptp_setup.specs.Intervals.{interval_of}
+use Rattle.gptp_setup.specs.Intervals.{announce_interval}
 use Rattle.gptp_system.specs.Start.{new_port, new_ports, started}
 use Rattle.gptp_system.specs.State.{SystemState}
 use Rattle.gptp_system.specs.Steps.{IsPortOf}
@@ -219,7 +219,7 @@ comes_up_kept p false place channel w draws w' here wired kept k =
 
 -- At the time of the last change the frames in flight are due within an announce interval, whatever the bounds become.
 bounds_kept : (p : Params) (bounds : Bounds) (place : ℕ) (channel : Channel) (w : WorldState)
-    → slice_get w.net.channels place ≡ Some channel → w.last_change ≡ w.time → bounds.max ≤ interval_of p.announce
+    → slice_get w.net.channels place ≡ Some channel → w.last_change ≡ w.time → bounds.max ≤ announce_interval p
     → IsKept p w → IsKept p (record w { net = with_bounds bounds place channel w.net })
 bounds_kept p bounds place channel w here now prompt kept = record {
   change = kept.change;

@@ -4,7 +4,7 @@ use Rattle.std.specs.Prelude.{if◌then◌else◌, max}
 use Rattle.std.proofs.lemmas.Option.{none-some, same_Some}
 use Rattle.gptp_graph.specs.Snapshot.{System}
 use Rattle.gptp_setup.specs.declared.setup.Params.{Params}
-use Rattle.gptp_setup.specs.Intervals.{AreParams, interval_of}
+use Rattle.gptp_setup.specs.Intervals.{AreParams, announce_interval, receipt_span}
 use Rattle.gptp_setup.proofs.IntervalLemmas.{interval_positive}
 use Rattle.gptp_acts.specs.World.{Channel, WorldState}
 use Rattle.gptp_kept.specs.Known.{IsKnown}
@@ -46,17 +46,17 @@ delay_of_used systems (first ∷ channels) (suc link) channel here used =
 
 -- so it is at most an announce interval
 pub delay_short : (p : Params) (w : WorldState) → IsKnown p w
-    → greatest_delay (live_systems w.stations) w.net.channels ≤ interval_of p.announce
-delay_short p w known = delay_within (live_systems w.stations) w.net.channels (interval_of p.announce) known.prompt
+    → greatest_delay (live_systems w.stations) w.net.channels ≤ announce_interval p
+delay_short p w known = delay_within (live_systems w.stations) w.net.channels (announce_interval p) known.prompt
 
 -- and what is received stays longer than an announce interval and that delay
 pub receipts_stay : (p : Params) (w : WorldState) → AreParams p → IsKnown p w
-    → interval_of p.announce + greatest_delay (live_systems w.stations) w.net.channels
-    < p.timeout * interval_of p.announce
+    → announce_interval p + greatest_delay (live_systems w.stations) w.net.channels
+    < receipt_span p
 receipts_stay p w params known =
     let short = delay_short p w known in
     let positive = interval_positive p.announce params.announce in
-    let same : interval_of p.announce ≤ interval_of p.announce = omega arith in
-    let long : 3 * interval_of p.announce ≤ p.timeout * interval_of p.announce =
+    let same : announce_interval p ≤ announce_interval p = omega arith in
+    let long : 3 * announce_interval p ≤ receipt_span p =
     mul-le-mul params.timeout-least same in
     omega arith

@@ -5,12 +5,13 @@ use Rattle.gptp_lists.specs.Members.{In}
 use Rattle.gptp_links.specs.Queue.{Frame}
 use Rattle.gptp_receipt.specs.declared.held.Held.{Held}
 use Rattle.gptp_receipt.specs.declared.held.Held.TheVariants as helds
-use Rattle.gptp_receipt.specs.Held.{Reception, received}
+use Rattle.gptp_receipt.specs.declared.held.Reception.{Reception}
+use Rattle.gptp_receipt.specs.Held.{received}
 use Rattle.gptp_pdelay.specs.Peer.{is_capable}
 use Rattle.gptp_system.specs.declared.port.Port.{Port}
 use Rattle.gptp_setup.specs.declared.setup.Params.{Params}
 use Rattle.gptp_setup.specs.declared.timer.Timer.TheVariants as timers
-use Rattle.gptp_setup.specs.Intervals.{AreParams, interval_of}
+use Rattle.gptp_setup.specs.Intervals.{AreParams, announce_interval, interval_of, largest_interval, longest_span, receipt_span}
 use Rattle.gptp_system.specs.Measures.{part_of}
 use Rattle.gptp_system.specs.State.{SystemState, age_due, announce_due, due, is_mine, span_of}
 use Rattle.gptp_system.specs.Steps.{IsUp}
@@ -55,7 +56,7 @@ frames_not_late w sound link direction channel f here among =
     among
 
 pub frames_fresh : (p : Params) (w : WorldState) → IsSound w → IsKnown p w
-    → w.last_change + interval_of p.announce ≤ w.time
+    → w.last_change + largest_interval p ≤ w.time
     → OfEachFrame (λ channel f. IsWithin w.time channel.bounds.max f.due) w
 frames_fresh p w sound known passed link direction channel f here among = record {
   least = frames_not_late w sound link direction channel f here among;
@@ -68,7 +69,7 @@ frames_fresh p w sound known passed link direction channel f here among = record
 announces_then : (q : Port) (h : Held) → is_mine h ≡ true → announce_due q h ≡ Some q.announce
 announces_then q helds.Disabled mine = absurd cc
 announces_then q helds.Aged mine = absurd cc
-announces_then q (helds.Received vector path at) mine = absurd cc
+announces_then q (helds.Received r) mine = absurd cc
 announces_then q (helds.Mine root steps) mine = refl
 
 -- when the timers of the port at a place run out
@@ -113,7 +114,7 @@ port_known p now station i h q set stands there late soon = record {
     log : q.log_interval ≡ p.announce
     log = set.logs i q there
 
-    stays : (r : Reception) → received h ≡ Some r → now ≤ r.at + p.timeout * interval_of p.announce
+    stays : (r : Reception) → received h ≡ Some r → now ≤ r.at + longest_span p
     stays r got =
         let ages : age_due s.params q h ≡ Some (r.at + span_of s.params q) = rw got refl in
         let least = late (timers.Age (suc i)) (r.at + span_of s.params q) (age_is s i h q stands there ∙ ages) in
@@ -130,12 +131,12 @@ ports_known p w sound known place station here live i h q stands there =
 -- three announce intervals are longer than one and a delay
 pub receipts_outlast : (p : Params) (w : WorldState) → AreParams p → IsKnown p w → (link : ℕ) (channel : Channel)
     → slice_get w.net.channels link ≡ Some channel
-    → interval_of p.announce + channel.bounds.max < p.timeout * interval_of p.announce
+    → announce_interval p + channel.bounds.max < receipt_span p
 receipts_outlast p w params known link channel here =
     let prompt = known.prompt link channel here in
     let positive = interval_positive p.announce params.announce in
-    let same : interval_of p.announce ≤ interval_of p.announce = omega arith in
-    let long : 3 * interval_of p.announce ≤ p.timeout * interval_of p.announce =
+    let same : announce_interval p ≤ announce_interval p = omega arith in
+    let long : 3 * announce_interval p ≤ receipt_span p =
     mul-le-mul params.timeout-least same in
     omega arith
 

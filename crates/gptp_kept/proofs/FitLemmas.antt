@@ -8,7 +8,8 @@ use Rattle.gptp_lists.specs.Members.{In}
 use Rattle.gptp_lists.proofs.MemberLemmas.{In-parts}
 use Rattle.gptp_messages.specs.declared.announce.AnnounceView.{AnnounceView}
 use Rattle.gptp_receipt.specs.declared.held.Held.{Held}
-use Rattle.gptp_receipt.specs.Held.{Reception, received}
+use Rattle.gptp_receipt.specs.declared.held.Reception.{Reception}
+use Rattle.gptp_receipt.specs.Held.{received}
 use Rattle.gptp_system.specs.declared.port.Port.{Port}
 use Rattle.gptp_system.specs.declared.sending.Sending.{Sending}
 use Rattle.gptp_system.specs.Facts.{AreHeld, AreShown, IsAtRest}

@@ -6,7 +6,7 @@ use Rattle.gptp_graph.proofs.PathLemmas.{path_bounded}
 use Rattle.gptp_links.specs.declared.bounds.Bounds.{Bounds}
 use Rattle.gptp_links.specs.Fate.{Draw}
 use Rattle.gptp_setup.specs.declared.setup.Params.{Params}
-use Rattle.gptp_setup.specs.Intervals.{AreParams, interval_of}
+use Rattle.gptp_setup.specs.Intervals.{AreParams, largest_interval}
 use Rattle.gptp_setup.proofs.IntervalLemmas.{interval_positive}
 use Rattle.gptp_plan.specs.declared.change.Act.{Act}
 use Rattle.gptp_plan.specs.declared.change.Act.TheVariants.{Deliver, Expire, Change as Changing}
@@ -19,6 +19,7 @@ use Rattle.gptp_acts.specs.Course.{Begun, WasDone}
 use Rattle.gptp_acts.specs.Initial.{initial}
 use Rattle.gptp_plan.specs.Network.{IsNetwork as IsSimulated, NetworkState}
 use Rattle.gptp_plan.specs.Prompt.{IsPromptAct}
+use Rattle.gptp_plan.specs.SettlingTime.{capability_span}
 use Rattle.gptp_acts.specs.World.{WorldState}
 use Rattle.gptp_settling.specs.Acts.{Steps}
 use Rattle.gptp_settling.specs.Calm.{Calm}
@@ -55,7 +56,7 @@ systems_bound p w is v u us path =
 pub is_calm : (p : Params) (m : ℕ) (w : WorldState) → IsWorld p w → IsQuietWorld p w → BecomeCapable p w
     → Calm (settling_network p m w) (view w)
 is_calm p m w is quiet capable =
-    let passed : w.last_change + interval_of p.announce ≤ start_of p w = omega arith in
+    let passed : w.last_change + largest_interval p ≤ start_of p w = omega arith in
     calm p m (start_of p w) w is.sound is.legible is.known quiet passed (capable quiet)
 
 -- before the start nothing is claimed
@@ -108,7 +109,7 @@ kept_back w w' k = record {
 same_settling : (p : Params) (w w' : WorldState) → KeepsNetwork w w' → (m : ℕ)
     → settling_network p m w' ≡ settling_network p m w
 same_settling p w w' k m =
-    ap (λ change. network_of p m (change + (p.lost + 5) * interval_of p.announce) w') k.change
+    ap (λ change. network_of p m (change + capability_span p) w') k.change
     ∙ same_network w w' k p m (start_of p w)
 
 pub acts_hold : (p : Params) (act : Act) (w : WorldState) (draws : List Draw) (done : Done) (w' : WorldState)

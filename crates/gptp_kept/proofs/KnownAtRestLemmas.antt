@@ -7,7 +7,8 @@ use Rattle.gptp_vector.specs.declared.vector.Vector.{Vector}
 use Rattle.gptp_vector.specs.Vector.{lower, master_of}
 use Rattle.gptp_receipt.specs.declared.held.Held.{Held}
 use Rattle.gptp_receipt.specs.declared.held.Held.TheVariants.{Disabled, Aged, Mine, Received}
-use Rattle.gptp_receipt.specs.Held.{Reception, received}
+use Rattle.gptp_receipt.specs.declared.held.Reception.{Reception}
+use Rattle.gptp_receipt.specs.Held.{received}
 use Rattle.gptp_roles.specs.Choice.{slave_port}
 use Rattle.gptp_roles.specs.Role.{held_after}
 use Rattle.gptp_system.specs.Facts.{AreHeld, IsAtRest}
@@ -27,7 +28,7 @@ module _ (v : Vector) (c i : ℕ) where
   not_aged Disabled stays aged = absurd cc
   not_aged Aged stays aged = absurd cc
   not_aged (Mine root steps) stays aged = absurd cc
-  not_aged (Received vector path at) stays aged = absurd cc
+  not_aged (Received r) stays aged = absurd cc
 
   mine_is : (root steps : ℕ) → Mine root steps ≡ held_after v c (suc i) (Mine root steps)
       → (root ≡ v.root) × (steps ≡ v.steps)
@@ -47,17 +48,17 @@ module _ (v : Vector) (c i : ℕ) where
   received_stays Disabled r stays got = absurd (none-some r got)
   received_stays Aged r stays got = absurd (none-some r got)
   received_stays (Mine root steps) r stays got = absurd (none-some r got)
-  received_stays (Received vector path at) r stays got =
-      subst (λ (x : Reception). (slave_port v ≡ Some (suc i)) ⊎ IsPassive x.vector)
-      (same_Some _ r got) (by (v.receiver == suc i) (lower (master_of v.root v.steps c (suc i)) vector) refl refl)
+  received_stays (Received x) r stays got =
+      subst (λ (y : Reception). (slave_port v ≡ Some (suc i)) ⊎ IsPassive y.vector)
+      (same_Some x r got) (by (v.receiver == suc i) (lower (master_of v.root v.steps c (suc i)) x.vector) refl refl)
     where
       by : (slave less : Bool) → (v.receiver == suc i) ≡ slave
-          → lower (master_of v.root v.steps c (suc i)) vector ≡ less
-          → (slave_port v ≡ Some (suc i)) ⊎ IsPassive vector
+          → lower (master_of v.root v.steps c (suc i)) x.vector ≡ less
+          → (slave_port v ≡ Some (suc i)) ⊎ IsPassive x.vector
       by true less is _ = inl (slave_is (grind (arith, nat_tests)))
       by false false other is = inr is
       by false true other is =
-          let mine : Received vector path at ≡ Mine v.root v.steps = rw (other, is) at stays in absurd cc
+          let mine : Received x ≡ Mine v.root v.steps = rw (other, is) at stays in absurd cc
 
 -- ---- systems at rest
 

@@ -8,7 +8,7 @@ use Rattle.gptp_system.specs.declared.port.Port.{Port}
 use Rattle.gptp_setup.specs.declared.setup.Params.{Params}
 use Rattle.gptp_system.specs.Facts.{Keeps}
 use Rattle.gptp_system.specs.Input.{Input, IsTimely}
-use Rattle.gptp_setup.specs.Intervals.{AreParams, interval_of}
+use Rattle.gptp_setup.specs.Intervals.{AreParams, largest_interval}
 use Rattle.gptp_system.specs.State.{SystemState}
 use Rattle.gptp_system.specs.Times.{IsInTime}
 use Rattle.gptp_system.proofs.InTimeLemmas.{stays_in_time}
@@ -44,10 +44,10 @@ AreKeptStations p now stations =
 -- the limits for frames: an announce interval from now; and the greatest delay from now, or an announce interval after
 -- the last change
 abbrev pub near_limit : Params → ℕ → Bounds → ℕ
-near_limit p now bounds = now + interval_of p.announce
+near_limit p now bounds = now + largest_interval p
 
 abbrev pub fresh_limit : Params → ℕ → ℕ → Bounds → ℕ
-fresh_limit p now last_change bounds = max (now + bounds.max) (last_change + interval_of p.announce)
+fresh_limit p now last_change bounds = max (now + bounds.max) (last_change + largest_interval p)
 
 pub record IsKept (p : Params) (w : WorldState) : Type 0 where
   pub change : w.last_change ≤ w.time

@@ -12,7 +12,8 @@ use Rattle.gptp_receipt.specs.declared.held.Held.{Held}
 use Rattle.gptp_receipt.specs.declared.held.Held.TheVariants as helds
 use Rattle.gptp_receipt.specs.declared.held.Heard.{Heard}
 use Rattle.gptp_receipt.specs.declared.held.Heard.TheVariants.{Superior, Repeated, Inferior}
-use Rattle.gptp_receipt.specs.Held.{Reception, against_received, comparison, held_after, holding, message_vector, received, reception, same_source, superior_if}
+use Rattle.gptp_receipt.specs.declared.held.Reception.{Reception}
+use Rattle.gptp_receipt.specs.Held.{against_received, comparison, held_after, message_vector, received, reception, same_source, superior_if}
 use Rattle.gptp_receipt.specs.Qualification.{Qualified}
 use Rattle.gptp_system.specs.Announcing.{is_taken}
 use Rattle.gptp_system.specs.Touch.{Touch, Hear, Tick, Grow, Enable, Disable, Other, HeardAs, Mid}
@@ -105,17 +106,14 @@ module _ (c n span : ℕ) (a : AnnounceView) where
   taken_replaces helds.Aged at taken = tt
   taken_replaces (helds.Mine root steps) at taken =
       lower_parts heard (master_of root steps c n) (sym (taken_if (lower heard (master_of root steps c n))) ∙ taken)
-  taken_replaces (helds.Received vector path time) at taken =
-      by (either_true (same_source vector heard) (lower heard vector) (sym (taken_received vector heard) ∙ taken))
+  taken_replaces (helds.Received r) at taken =
+      by (either_true (same_source r.vector heard) (lower heard r.vector) (sym (taken_received r.vector heard) ∙ taken))
     where
-      r : Reception
-      r = record { vector = vector; path = path; at = time }
-
-      by : (same_source vector heard ≡ true) ⊎ (lower heard vector ≡ true)
-          → Replaces c n (said a) (held_view span (helds.Received vector path time))
-      by (inl same) = inl (sources_same vector heard same)
+      by : (same_source r.vector heard ≡ true) ⊎ (lower heard r.vector ≡ true)
+          → Replaces c n (said a) (held_view span (helds.Received r))
+      by (inl same) = inl (sources_same r.vector heard same)
       by (inr better) =
-          inr (subst (IsLower (parts heard)) (parts_of n span r (at r refl)) (lower_parts heard vector better))
+          inr (subst (IsLower (parts heard)) (parts_of n span r (at r refl)) (lower_parts heard r.vector better))
 
   replaces_taken : (h : Held) → ReceivedAt n h → Replaces c n (said a) (held_view span h)
       → is_taken (comparison h own a) ≡ true
@@ -123,23 +121,20 @@ module _ (c n span : ℕ) (a : AnnounceView) where
   replaces_taken helds.Aged at replaces = refl
   replaces_taken (helds.Mine root steps) at is =
       taken_if (lower heard (master_of root steps c n)) ∙ parts_lower heard (master_of root steps c n) is
-  replaces_taken (helds.Received vector path time) at is = taken_received vector heard ∙ by is
+  replaces_taken (helds.Received r) at is = taken_received r.vector heard ∙ by is
     where
-      r : Reception
-      r = record { vector = vector; path = path; at = time }
-
-      by : Replaces c n (said a) (held_view span (helds.Received vector path time))
-          → (same_source vector heard || lower heard vector) ≡ true
+      by : Replaces c n (said a) (held_view span (helds.Received r))
+          → (same_source r.vector heard || lower heard r.vector) ≡ true
       by (inl same) =
-          or_first (same_source vector heard) (lower heard vector) (same_sources vector heard same)
+          or_first (same_source r.vector heard) (lower heard r.vector) (same_sources r.vector heard same)
       by (inr lower_is) =
-          or_second (same_source vector heard) (lower heard vector)
-          (parts_lower heard vector (subst (IsLower (parts heard)) (sym (parts_of n span r (at r refl))) lower_is))
+          or_second (same_source r.vector heard) (lower heard r.vector)
+          (parts_lower heard r.vector (subst (IsLower (parts heard)) (sym (parts_of n span r (at r refl))) lower_is))
 
   -- ---- what is heard
 
   after_taken : (verdict : Heard) (h : Held) (r : Reception) → is_taken verdict ≡ true
-      → held_after verdict h r ≡ holding r
+      → held_after verdict h r ≡ helds.Received r
   after_taken Superior h r e = refl
   after_taken Repeated h r e = refl
   after_taken Inferior h r e = absurd cc
@@ -178,7 +173,7 @@ pub seen_on : (span : ℕ) (h : Held) → h ≢ helds.Disabled → held_view spa
 seen_on span helds.Disabled on = λ e. on refl
 seen_on span helds.Aged on = λ e. absurd cc
 seen_on span (helds.Mine root steps) on = λ e. absurd cc
-seen_on span (helds.Received vector path at) on = λ e. absurd cc
+seen_on span (helds.Received r) on = λ e. absurd cc
 
 -- what a port holds after a touch
 pub mid_seen : (c n span now : ℕ) (touch : Touch) (h mid : Held) → ReceivedAt n h → Mid c n touch now h mid

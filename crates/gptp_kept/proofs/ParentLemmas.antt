@@ -6,7 +6,8 @@ use Rattle.gptp_graph.specs.SettledChoice.{IsParentIfAny}
 use Rattle.gptp_graph.specs.Snapshot.{IsWellFormed, Joins, Snapshot, port_of}
 use Rattle.gptp_graph.proofs.LinkLemmas.{Joins-sym}
 use Rattle.gptp_receipt.specs.declared.held.Held.{Held}
-use Rattle.gptp_receipt.specs.Held.{Reception, received}
+use Rattle.gptp_receipt.specs.declared.held.Reception.{Reception}
+use Rattle.gptp_receipt.specs.Held.{received}
 use Rattle.gptp_system.specs.State.{SystemState, clock, parent}
 use Rattle.gptp_acts.specs.declared.station.Station.{Station}
 use Rattle.gptp_settling.specs.AtRest.{ChoosesItself, ChoosesPort}

@@ -3,11 +3,12 @@ use Rattle.std.proofs.Common.{◌≡◌, ◌*◌, ℕ, suc, Bool, List, [], ◌�
 use Rattle.std.proofs.lemmas.Option.{none-some, same_Some, slice_get_within}
 use Rattle.gptp_receipt.specs.declared.held.Held.{Held}
 use Rattle.gptp_receipt.specs.declared.held.Held.TheVariants as helds
-use Rattle.gptp_receipt.specs.Held.{Reception, received}
+use Rattle.gptp_receipt.specs.declared.held.Reception.{Reception}
+use Rattle.gptp_receipt.specs.Held.{received}
 use Rattle.gptp_system.specs.declared.port.Port.{Port}
 use Rattle.gptp_setup.specs.declared.setup.Params.{Params}
 use Rattle.gptp_system.specs.Facts.{AreShown}
-use Rattle.gptp_setup.specs.Intervals.{interval_of}
+use Rattle.gptp_setup.specs.Intervals.{announce_interval, interval_of, receipt_span}
 use Rattle.gptp_system.specs.State.{SystemState}
 use Rattle.gptp_acts.specs.declared.station.Station.{Station}
 use Rattle.gptp_lists.proofs.PlaceLemmas.{member_there}
@@ -26,20 +27,20 @@ pub received_seen : (span : ℕ) (h : Held) (r : Reception) → received h ≡ S
 received_seen span helds.Disabled r got = absurd (none-some r got)
 received_seen span helds.Aged r got = absurd (none-some r got)
 received_seen span (helds.Mine root steps) r got = absurd (none-some r got)
-received_seen span (helds.Received vector path at) r got =
-    ap (λ x. Received (reception_view span x)) (same_Some _ r got)
+received_seen span (helds.Received x) r got =
+    ap (λ x. Received (reception_view span x)) (same_Some x r got)
 
 pub mine_back : (span : ℕ) (h : Held) (root steps : ℕ) → held_view span h ≡ Mine root steps → h ≡ helds.Mine root steps
 mine_back span helds.Disabled root steps same = absurd cc
 mine_back span helds.Aged root steps same = absurd cc
 mine_back span (helds.Mine r t) root steps same = cc
-mine_back span (helds.Received vector path at) root steps same = absurd cc
+mine_back span (helds.Received r) root steps same = absurd cc
 
 pub aged_back : (span : ℕ) (h : Held) → held_view span h ≡ Aged → h ≡ helds.Aged
 aged_back span helds.Disabled same = absurd cc
 aged_back span helds.Aged same = refl
 aged_back span (helds.Mine root steps) same = absurd cc
-aged_back span (helds.Received vector path at) same = absurd cc
+aged_back span (helds.Received r) same = absurd cc
 
 -- ---- ports
 
@@ -107,12 +108,12 @@ held_from live s i seen (q, there, holds) =
 
 -- its ports announce at the network's interval, and what they receive stays for the network's timeout
 pub interval_is : (p : Params) (station : Station) → IsSetTo p station → (i : ℕ) (q : Port)
-    → slice_get station.system.ports i ≡ Some q → interval_of q.log_interval ≡ interval_of p.announce
+    → slice_get station.system.ports i ≡ Some q → interval_of q.log_interval ≡ announce_interval p
 interval_is p station set i q there = ap interval_of (set.logs i q there)
 
 pub span_is : (p : Params) (station : Station) → IsSetTo p station → (i : ℕ) (q : Port)
     → slice_get station.system.ports i ≡ Some q
-    → span_at station.system.params q ≡ p.timeout * interval_of p.announce
+    → span_at station.system.params q ≡ receipt_span p
 span_is p station set i q there =
     let log = set.logs i q there in
     let params = set.system in

@@ -11,7 +11,8 @@ use Rattle.gptp_receipt.specs.declared.held.Held.{Held}
 use Rattle.gptp_receipt.specs.declared.held.Held.TheVariants as helds
 use Rattle.gptp_receipt.specs.declared.held.Heard.{Heard}
 use Rattle.gptp_receipt.specs.declared.held.Heard.TheVariants.{Superior, Repeated, Inferior}
-use Rattle.gptp_receipt.specs.Held.{Reception, comparison, held_after, received, reception}
+use Rattle.gptp_receipt.specs.declared.held.Reception.{Reception}
+use Rattle.gptp_receipt.specs.Held.{comparison, held_after, received, reception}
 use Rattle.gptp_system.specs.declared.port.Port.{Port}
 use Rattle.gptp_system.specs.declared.sending.Sending.{Sending}
 use Rattle.gptp_setup.specs.declared.setup.Params.{Params}
@@ -77,9 +78,7 @@ pub received_back : (span : ℕ) (h : Held) (x : SeenReception) → held_view sp
 received_back span helds.Disabled x e = absurd cc
 received_back span helds.Aged x e = absurd cc
 received_back span (helds.Mine root steps) x e = absurd cc
-received_back span (helds.Received vector path at) x e =
-    let r : Reception = record { vector = vector; path = path; at = at } in
-    (r, refl, sym (received_injective (reception_view span r) x e))
+received_back span (helds.Received r) x e = (r, refl, sym (received_injective (reception_view span r) x e))
 
 seen_kept : (span : ℕ) (h : Held) → IsKept h → SeenIsKept (held_view span h)
 seen_kept span helds.Disabled kept = tt
@@ -87,7 +86,7 @@ seen_kept span helds.Aged (inl off) = absurd cc
 seen_kept span helds.Aged (inr (r, is)) = none-some r is
 seen_kept span (helds.Mine root steps) (inl off) = absurd cc
 seen_kept span (helds.Mine root steps) (inr (r, is)) = none-some r is
-seen_kept span (helds.Received vector path at) kept = tt
+seen_kept span (helds.Received r) kept = tt
 
 -- each Announce that is sent says something
 abbrev pub AreRead : SystemState → List Sending → Type 0

@@ -66,10 +66,10 @@ plays_own slave n span (helds.Mine root steps) Disabled same = absurd cc
 plays_own slave n span (helds.Mine root steps) Master plays = refl
 plays_own slave n span (helds.Mine root steps) Slave (is, (r, same)) = absurd cc
 plays_own slave n span (helds.Mine root steps) Passive (is, (r, same)) = absurd cc
-plays_own slave n span (helds.Received vector path at) Disabled same = absurd cc
-plays_own slave n span (helds.Received vector path at) Master (root, steps, same) = absurd cc
-plays_own slave n span (helds.Received vector path at) Slave (is, (r, same)) = let e = slave_is slave n is in rw e refl
-plays_own slave n span (helds.Received vector path at) Passive (is, (r, same)) =
+plays_own slave n span (helds.Received x) Disabled same = absurd cc
+plays_own slave n span (helds.Received x) Master (root, steps, same) = absurd cc
+plays_own slave n span (helds.Received x) Slave (is, (r, same)) = let e = slave_is slave n is in rw e refl
+plays_own slave n span (helds.Received x) Passive (is, (r, same)) =
     let e = slave_is_not slave n is in rw e refl
 
 -- So a port that is seen with its settled role has it. The port at place i has the number i + 1.

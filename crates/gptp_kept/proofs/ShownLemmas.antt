@@ -31,8 +31,8 @@ role_disabled : (is_slave : Bool) (h : Held) → role_by is_slave h ≡ roles.Di
 role_disabled is_slave helds.Disabled same = refl
 role_disabled is_slave helds.Aged same = absurd cc
 role_disabled is_slave (helds.Mine root steps) same = absurd cc
-role_disabled true (helds.Received vector path at) same = absurd cc
-role_disabled false (helds.Received vector path at) same = absurd cc
+role_disabled true (helds.Received r) same = absurd cc
+role_disabled false (helds.Received r) same = absurd cc
 
 held_disabled : (is_slave : Bool) (h : Held) → h ≡ helds.Disabled → role_by is_slave h ≡ roles.Disabled
 held_disabled is_slave h same = rw same refl

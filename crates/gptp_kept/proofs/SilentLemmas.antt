@@ -4,7 +4,7 @@ use Rattle.std.proofs.lemmas.Option.{none-some}
 use Rattle.gptp_vector.specs.declared.port.PortId.{PortId}
 use Rattle.gptp_pdelay.specs.Peer.{is_capable}
 use Rattle.gptp_setup.specs.declared.setup.Params.{Params}
-use Rattle.gptp_setup.specs.Intervals.{AreParams, interval_of}
+use Rattle.gptp_setup.specs.Intervals.{AreParams, interval_of, largest_interval}
 use Rattle.gptp_system.specs.State.{number}
 use Rattle.gptp_setup.proofs.IntervalLemmas.{interval_positive}
 use Rattle.gptp_acts.specs.World.{WorldState, sender}
@@ -29,7 +29,7 @@ end_lost p place port w known e = go port.port e.there
 
 pub silence_begins : SilenceBegins
 silence_begins at p w sound known l changed =
-    let gone = w.last_change + interval_of p.announce in
+    let gone = w.last_change + largest_interval p in
     let lost = end_lost p at.asking (sender at.direction l.channel) w known l.asking in
     let allowed = l.asking.measures.allowed in
     let timers = timers_known at p w l sound known in
@@ -72,16 +72,16 @@ become_incapable at p change w sound known short l past = go (is_capable l.link.
         subst AreParams (known.set at.asking l.link.asking.station l.link.asking.here).system
         (sound.on_time.stations at.asking l.link.asking.station l.link.asking.here).steady.params
 
-    short_here : (setting at w l.link).period ≤ interval_of p.announce
-    short_here = subst (λ (x : Params). interval_of x.pdelay ≤ interval_of p.announce) (sym set_to) short
+    short_here : (setting at w l.link).period ≤ largest_interval p
+    short_here = subst (λ (x : Params). interval_of x.pdelay ≤ largest_interval p) (sym set_to) short
 
-    past_here : change + ((setting at w l.link).allowed + 5) * interval_of p.announce ≤ w.time
+    past_here : change + ((setting at w l.link).allowed + 5) * largest_interval p ≤ w.time
     past_here =
-        subst (λ (x : Params). change + (x.lost + 5) * interval_of p.announce ≤ w.time) (sym set_to) past
+        subst (λ (x : Params). change + (x.lost + 5) * largest_interval p ≤ w.time) (sym set_to) past
 
     go : (b : Bool) → is_capable l.link.asking.state.peer ≡ b → is_capable l.link.asking.state.peer ≡ false
     go true capable =
-        absurd (silence_settles (setting at w l.link) change (interval_of p.announce) (view at w l.link)
+        absurd (silence_settles (setting at w l.link) change (largest_interval p) (view at w l.link)
         (omega (arith, interval_positive p.announce params.announce)) short_here
         (timers_known at p w l.link sound known) l.inv past_here capable)
     go false other = other

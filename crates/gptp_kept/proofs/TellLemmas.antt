@@ -1,5 +1,5 @@
 -- What a system sends says its own Announces, and nothing else.
-use Rattle.std.proofs.Common.{◌≡◌, ◌≤◌, ◌<◌, ◌^◌, ℕ, suc, pos, Bool, List, length, refl, sym, ap, subst, ◌∙◌, arith}
+use Rattle.std.proofs.Common.{◌≡◌, ◌≤◌, ◌<◌, ◌^◌, ℕ, suc, Bool, List, length, refl, sym, ap, subst, ◌∙◌, arith}
 use Rattle.std.proofs.lemmas.Option.{slice_get_within}
 use Rattle.gptp_lists.specs.Members.{In}
 use Rattle.gptp_graph.specs.Snapshot.{port_of}
@@ -14,7 +14,7 @@ use Rattle.gptp_system.specs.declared.sending.Body.TheVariants as bodies
 use Rattle.gptp_system.specs.declared.sending.Sending.{Sending}
 use Rattle.gptp_system.specs.Facts.{AreShown}
 use Rattle.gptp_system.specs.Reacts.{IsAnnounce, IsOwnAnnounce}
-use Rattle.gptp_system.specs.Sends.{announcement}
+use Rattle.gptp_system.specs.Sends.{announce_body, announcement}
 use Rattle.gptp_system.specs.State.{SystemState, clock, own, trace}
 use Rattle.gptp_system.proofs.TypeLemmas.{type_is}
 use Rattle.gptp_acts.specs.Sends.{message_of, written}
@@ -67,8 +67,7 @@ module _ (s : SystemState) (fits : TellsWhatFits s) (few : length s.ports ≤ 16
       (λ (z : Sending). (m : AnnounceView) × Reads (written s z) (messages.Announce m)
       × (said m ≡ own_announce s z.port))
       (sym k.is)
-      (announce_reads y.head
-      (record { utc_offset = pos 37; root = s.root; steps = s.steps; time_source = 0xA0 }) (trace s)
+      (announce_reads y.head (announce_body s.root s.steps) (trace s)
       (record { clock = clock_fits s; port = omega arith })
       (record {
         utc_offset = record { sfits = omega arith };

@@ -12,7 +12,8 @@ use Rattle.gptp_links.specs.Fate.{Draw}
 use Rattle.gptp_links.specs.Queue.{Frame, frame}
 use Rattle.gptp_receipt.specs.declared.held.Held.{Held}
 use Rattle.gptp_receipt.specs.declared.held.Held.TheVariants as helds
-use Rattle.gptp_receipt.specs.Held.{Reception, received}
+use Rattle.gptp_receipt.specs.declared.held.Reception.{Reception}
+use Rattle.gptp_receipt.specs.Held.{received}
 use Rattle.gptp_setup.specs.declared.setup.Params.{Params}
 use Rattle.gptp_system.specs.State.{SystemState, clock, held_at}
 use Rattle.gptp_plan.specs.declared.change.Act.{Act}
@@ -86,16 +87,15 @@ module _ (p : Params) (w : WorldState) (is : IsClaimed p w) (quiet : IsQuietWorl
         came helds.Disabled there none = absurd (none-some r none)
         came helds.Aged there none = absurd (none-some r none)
         came (helds.Mine root steps) there none = absurd (none-some r none)
-        came (helds.Received vector path at) there some =
-            let one : Reception = record { vector = vector; path = path; at = at } in
-            let same : one ≡ r = same_Some one r some in
+        came (helds.Received x) there some =
+            let same : x ≡ r = same_Some x r some in
             let places = (is.world.sound.on_time.stations place station here).steady.shown.places in
-            let within : suc i ≤ length s.held = slice_get_within s.held i (helds.Received vector path at) there in
+            let within : suc i ≤ length s.held = slice_get_within s.held i (helds.Received x) there in
             let (q, port) = member_there s.ports i (rw places at within) in
-            let seen = port_there s.params s.held s.ports i (helds.Received vector path at) q there port in
-            let hit = clean i (reception_view (span_at s.params q) one) c
-            (port_view s.params (helds.Received vector path at) q, seen, refl)
-            (subst (λ (x : Reception). Late k c x.at) (sym same) late) in
+            let seen = port_there s.params s.held s.ports i (helds.Received x) q there port in
+            let hit = clean i (reception_view (span_at s.params q) x) c
+            (port_view s.params (helds.Received x) q, seen, refl)
+            (subst (λ (y : Reception). Late k c y.at) (sym same) late) in
             subst (IsHeldClean (snapshot_of w) (suc c) (clock s) (suc i)) same
             (record { from = hit.from; joins = hit.joins; good = hit.good })
 

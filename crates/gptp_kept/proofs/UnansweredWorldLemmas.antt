@@ -3,7 +3,7 @@ use Rattle.std.proofs.Common.{◌≡◌, ◌+◌, sym, ap, subst, ◌∙◌}
 use Rattle.std.proofs.lemmas.Option.{same_Some}
 use Rattle.gptp_pdelay.specs.Peer.{is_capable}
 use Rattle.gptp_system.specs.declared.port.Port.{Port}
-use Rattle.gptp_setup.specs.Intervals.{interval_of}
+use Rattle.gptp_setup.specs.Intervals.{largest_interval}
 use Rattle.gptp_system.specs.State.{number}
 use Rattle.gptp_acts.specs.World.{sender}
 use Rattle.gptp_lists.proofs.MappedLemmas.{same_there}
@@ -19,13 +19,13 @@ silent_at_first p w sound measured known changed at s =
 
 pub acts_leave_silent : ActsLeaveSilent
 acts_leave_silent p act w w' draws done sound measured known calm acts all at s =
-    subst (λ t. IsSilent (t + interval_of p.announce) at w') (sym (acts_before act w w' draws done calm acts).change)
-    (silence_kept at (w.last_change + interval_of p.announce) p act w w' draws done sound measured known calm acts
+    subst (λ t. IsSilent (t + largest_interval p) at w') (sym (acts_before act w w' draws done calm acts).change)
+    (silence_kept at (w.last_change + largest_interval p) p act w w' draws done sound measured known calm acts
     (all at (none_anew at act w w' draws done calm acts s)))
 
 pub silent_later : AreSilentLater
 silent_later p time w all at s =
-    silence_goes_on at (w.last_change + interval_of p.announce) time w (all at (stood_earlier at time w s))
+    silence_goes_on at (w.last_change + largest_interval p) time w (all at (stood_earlier at time w s))
 
 -- the port of the station that stands there is the one that the machine sees
 pub silent_incapable : SilentPortsBecomeIncapable

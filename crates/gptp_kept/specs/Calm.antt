@@ -7,7 +7,7 @@ use Rattle.gptp_pdelay.specs.GoodLink.{IsGoodLink}
 use Rattle.gptp_receipt.specs.declared.held.Held.{Held}
 use Rattle.gptp_receipt.specs.declared.held.Held.TheVariants.{Disabled}
 use Rattle.gptp_setup.specs.declared.setup.Params.{Params}
-use Rattle.gptp_setup.specs.Intervals.{interval_of}
+use Rattle.gptp_setup.specs.Intervals.{announce_interval, largest_interval}
 use Rattle.gptp_system.specs.State.{clock}
 use Rattle.gptp_acts.specs.declared.station.Station.{Station}
 use Rattle.gptp_acts.specs.World.{Channel, WorldState}
@@ -77,8 +77,8 @@ network_of p m start w = record {
   reach = m;
   place = place_of w.stations;
   lane = lane_of w.net.channels;
-  interval_of = λ port. interval_of p.announce;
-  interval = interval_of p.announce;
+  interval_of = λ port. announce_interval p;
+  interval = largest_interval p;
   most = greatest_delay (live_systems w.stations) w.net.channels;
   timeout = p.timeout;
   start = start;

@@ -8,7 +8,7 @@ use Rattle.gptp_receipt.specs.declared.held.Held.TheVariants.{Disabled}
 use Rattle.gptp_system.specs.declared.port.Port.{Port}
 use Rattle.gptp_setup.specs.declared.setup.Params.{Params}
 use Rattle.gptp_setup.specs.Intervals.{interval_of}
-use Rattle.gptp_plan.specs.SettlingTime.{settling_span}
+use Rattle.gptp_plan.specs.SettlingTime.{capability_span, settling_span}
 use Rattle.gptp_acts.specs.World.{WorldState}
 use Rattle.gptp_kept.specs.Due.{OfEachPort}
 use Rattle.gptp_kept.specs.Known.{AreSet}
@@ -26,7 +26,7 @@ pub record IsCalmFor (span : Params → ℕ → ℕ) (w : WorldState) : Type 0 w
 
 -- by when every port is capable that will be, and no other is, however many systems live
 abbrev pub capable_span : Params → ℕ → ℕ
-capable_span p n = (p.lost + 5) * interval_of p.announce
+capable_span p n = capability_span p
 
 -- the settling span of m systems, however many live
 abbrev pub span_over : ℕ → Params → ℕ → ℕ

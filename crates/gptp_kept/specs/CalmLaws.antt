@@ -3,7 +3,7 @@ use Rattle.std.specs.Prelude.{◌≡◌, ◌≤◌, ◌+◌, ℕ, List}
 use Rattle.gptp_graph.specs.PathBound.{BoundsPaths}
 use Rattle.gptp_links.specs.Fate.{Draw}
 use Rattle.gptp_setup.specs.declared.setup.Params.{Params}
-use Rattle.gptp_setup.specs.Intervals.{interval_of}
+use Rattle.gptp_setup.specs.Intervals.{largest_interval}
 use Rattle.gptp_plan.specs.declared.change.Act.{Act}
 use Rattle.gptp_acts.specs.declared.done.Done.{Done}
 use Rattle.gptp_acts.specs.Acts.{Acts, at}
@@ -38,7 +38,7 @@ HasNetwork = (p : Params) (m start : ℕ) (w : WorldState)
 abbrev pub IsCalmState : Type 0
 IsCalmState = (p : Params) (m start : ℕ) (w : WorldState)
     → IsSound w → IsLegible w → IsKnown p w → IsQuietWorld p w
-    → w.last_change + interval_of p.announce ≤ start → AreCapableFrom start w
+    → w.last_change + largest_interval p ≤ start → AreCapableFrom start w
     → Calm (network_of p m start w) (view w)
 
 -- ---- it stays so

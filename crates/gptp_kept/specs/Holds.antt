@@ -3,6 +3,7 @@ use Rattle.std.specs.Prelude.{◌+◌, ◌*◌, ℕ}
 use Rattle.gptp_graph.specs.PathBound.{BoundsPaths}
 use Rattle.gptp_setup.specs.declared.setup.Params.{Params}
 use Rattle.gptp_setup.specs.Intervals.{interval_of}
+use Rattle.gptp_plan.specs.SettlingTime.{capability_span}
 use Rattle.gptp_acts.specs.Sound.{IsSound}
 use Rattle.gptp_acts.specs.World.{WorldState}
 use Rattle.gptp_settling.specs.Levels.{Invariant}
@@ -22,7 +23,7 @@ pub record IsWorld (p : Params) (w : WorldState) : Type 0 where
 
 -- from when every port is capable that will be
 abbrev pub start_of : Params → WorldState → ℕ
-start_of p w = w.last_change + (p.lost + 5) * interval_of p.announce
+start_of p w = w.last_change + capability_span p
 
 -- it is so of the ports of live systems, where the links are quiet
 abbrev pub BecomeCapable : Params → WorldState → Type 0

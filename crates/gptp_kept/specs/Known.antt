@@ -5,7 +5,7 @@ use Rattle.gptp_links.specs.declared.link.Direction.{Direction}
 use Rattle.gptp_links.specs.Queue.{Frame}
 use Rattle.gptp_system.specs.declared.port.Port.{Port}
 use Rattle.gptp_setup.specs.declared.setup.Params.{Params}
-use Rattle.gptp_setup.specs.Intervals.{interval_of}
+use Rattle.gptp_setup.specs.Intervals.{announce_interval, largest_interval}
 use Rattle.gptp_system.specs.Times.{IsInTime}
 use Rattle.gptp_acts.specs.declared.station.Station.{Station}
 use Rattle.gptp_acts.specs.World.{Channel, WorldState, queue}
@@ -25,7 +25,7 @@ AreSet p w = (place : ℕ) (station : Station) → slice_get w.stations place �
 -- no link has a delay above an announce interval
 abbrev pub ArePrompt : Params → WorldState → Type 0
 ArePrompt p w = (link : ℕ) (channel : Channel) → slice_get w.net.channels link ≡ Some channel
-    → channel.bounds.max ≤ interval_of p.announce
+    → channel.bounds.max ≤ announce_interval p
 
 -- the timers of each live system run out within their intervals
 abbrev pub AreInTime : WorldState → Type 0
@@ -39,14 +39,14 @@ OfEachFrame So w = (link : ℕ) (direction : Direction) (channel : Channel) (f :
 
 -- each frame in flight arrives within an announce interval
 abbrev pub AreNear : Params → WorldState → Type 0
-AreNear p w = OfEachFrame (λ channel f. f.due ≤ w.time + interval_of p.announce) w
+AreNear p w = OfEachFrame (λ channel f. f.due ≤ w.time + largest_interval p) w
 
 -- Since the last change: each frame in flight arrives within the greatest delay of its link, or by an announce interval
 -- after that change, since it doesn't overtake one that was in flight then.
 pub record AreFresh (p : Params) (w : WorldState) : Type 0 where
   pub change : w.last_change ≤ w.time
   pub frames : OfEachFrame (λ channel f.
-      f.due ≤ max (w.time + channel.bounds.max) (w.last_change + interval_of p.announce)) w
+      f.due ≤ max (w.time + channel.bounds.max) (w.last_change + largest_interval p)) w
 
 -- what is known of a world of a network with these parameters
 pub record IsKnown (p : Params) (w : WorldState) : Type 0 where

@@ -6,7 +6,7 @@ use Rattle.gptp_receipt.specs.declared.held.Held.{Held}
 use Rattle.gptp_receipt.specs.declared.held.Held.TheVariants.{Disabled}
 use Rattle.gptp_setup.specs.declared.setup.Params.{Params}
 use Rattle.gptp_system.specs.Follows.{FollowsItself, FollowsPort}
-use Rattle.gptp_setup.specs.Intervals.{AreParams, interval_of}
+use Rattle.gptp_setup.specs.Intervals.{AreParams, announce_interval, largest_interval, receipt_span}
 use Rattle.gptp_plan.specs.declared.change.Act.{Act}
 use Rattle.gptp_plan.specs.declared.change.Timed.{Timed}
 use Rattle.gptp_acts.specs.declared.done.Done.{Done}
@@ -66,7 +66,7 @@ abbrev pub ReceiptsOutlast : Type 0
 ReceiptsOutlast = (p : Params) (w : WorldState)
     → AreParams p → IsKnown p w
     → (link : ℕ) (channel : Channel) → slice_get w.net.channels link ≡ Some channel
-    → interval_of p.announce + channel.bounds.max < p.timeout * interval_of p.announce
+    → announce_interval p + channel.bounds.max < receipt_span p
 
 -- the ports of every sound world hold what their systems chose
 abbrev pub PortsAtRest : Type 0
@@ -97,5 +97,5 @@ FramesNotLate = (w : WorldState)
 -- and once an announce interval has passed since the last change, each arrives within the greatest delay of its link
 abbrev pub FramesFresh : Type 0
 FramesFresh = (p : Params) (w : WorldState)
-    → IsSound w → IsKnown p w → w.last_change + interval_of p.announce ≤ w.time
+    → IsSound w → IsKnown p w → w.last_change + largest_interval p ≤ w.time
     → OfEachFrame (λ channel f. IsWithin w.time channel.bounds.max f.due) w

@@ -2,12 +2,13 @@
 use Rattle.std.specs.Prelude.{◌≡◌, ◌⊎◌, ◌≤◌, ◌+◌, ◌*◌, ℕ, ⊤, suc, length, Some}
 use Rattle.gptp_lists.specs.Members.{In}
 use Rattle.gptp_graph.specs.Snapshot.{Joins, PortIdentity, Snapshot, clocks, port_of}
-use Rattle.gptp_receipt.specs.Held.{Reception, received}
+use Rattle.gptp_receipt.specs.declared.held.Reception.{Reception}
+use Rattle.gptp_receipt.specs.Held.{received}
 use Rattle.gptp_messages.specs.declared.announce.AnnounceView.{AnnounceView}
 use Rattle.gptp_messages.specs.declared.message.Message.TheVariants as messages
 use Rattle.gptp_messages.specs.Grammar.{Reads}
 use Rattle.gptp_setup.specs.declared.setup.Params.{Params}
-use Rattle.gptp_setup.specs.Intervals.{interval_of}
+use Rattle.gptp_setup.specs.Intervals.{largest_interval, longest_span}
 use Rattle.gptp_system.specs.State.{SystemState, clock, held_at, trace}
 use Rattle.gptp_acts.specs.declared.done.Done.{Done}
 use Rattle.gptp_acts.specs.declared.done.Done.TheVariants.{Quiet, Heard}
@@ -21,7 +22,7 @@ use Rattle.gptp_kept.specs.CalmFor.{IsCalmFor, capable_span}
 -- A turn is the longest time from when an Announce is sent to when a system last sends on what it took from it: what is
 -- received stays for k announce intervals, and an Announce is under way for one at most.
 abbrev pub turn_of : Params → ℕ
-turn_of p = p.timeout * interval_of p.announce + interval_of p.announce
+turn_of p = longest_span p + largest_interval p
 
 -- so many turns after ports have become capable
 abbrev pub turns_span : ℕ → Params → ℕ → ℕ
@@ -34,7 +35,7 @@ IsCalmWorld = IsCalmFor (λ p n. 0)
 -- what arrived at this time was sent so many turns after ports have become capable
 abbrev pub WasSentAfter : ℕ → ℕ → (w : WorldState) → IsCalmWorld w → Type 0
 WasSentAfter c time w calm =
-    w.last_change + turns_span c calm.params (length (snapshot_of w).systems) + interval_of calm.params.announce ≤ time
+    w.last_change + turns_span c calm.params (length (snapshot_of w).systems) + largest_interval calm.params ≤ time
 
 -- ---- what a system announces
 

@@ -8,7 +8,7 @@ use Rattle.gptp_system.specs.declared.port.Port.{Port}
 use Rattle.gptp_setup.specs.declared.setup.Params.{Params}
 use Rattle.gptp_setup.specs.declared.timer.Timer.{Timer}
 use Rattle.gptp_setup.specs.declared.timer.Timer.TheVariants as timers
-use Rattle.gptp_setup.specs.Intervals.{interval_of}
+use Rattle.gptp_setup.specs.Intervals.{interval_of, largest_interval}
 use Rattle.gptp_system.specs.State.{number}
 use Rattle.gptp_plan.specs.declared.change.Act.{Act}
 use Rattle.gptp_plan.specs.declared.change.Act.TheVariants.{Change as Changing}
@@ -16,6 +16,7 @@ use Rattle.gptp_plan.specs.declared.change.Change.{Change}
 use Rattle.gptp_acts.specs.declared.done.Done.{Done}
 use Rattle.gptp_acts.specs.Act.{Delivers, Expires}
 use Rattle.gptp_acts.specs.Acts.{Acts, at as at_time}
+use Rattle.gptp_plan.specs.SettlingTime.{capability_span}
 use Rattle.gptp_acts.specs.Sound.{IsSound}
 use Rattle.gptp_acts.specs.World.{WorldState, sender}
 use Rattle.gptp_measuring.specs.Silence.{ActsInVain, AsksInVain, HearsOld, PassesInVain, TimerFacts}
@@ -85,7 +86,7 @@ AskersHear = (at : LinkPlace) (gone : ℕ) (octets : List ℕ) (w w' : WorldStat
 abbrev pub SilenceBegins : Type 0
 SilenceBegins = (at : LinkPlace) (p : Params) (w : WorldState)
     → IsSound w → IsKnown p w → IsUnansweredAt at w → w.last_change ≡ w.time
-    → IsSilent (w.last_change + interval_of p.announce) at w
+    → IsSilent (w.last_change + largest_interval p) at w
 
 -- every act but a change leaves the port unanswered
 abbrev pub SilenceIsKept : Type 0
@@ -104,9 +105,9 @@ SilenceGoesOn = (at : LinkPlace) (gone time : ℕ) (w : WorldState) → IsSilent
 -- may be lost
 abbrev pub PortsBecomeIncapable : Type 0
 PortsBecomeIncapable = (at : LinkPlace) (p : Params) (change : ℕ) (w : WorldState)
-    → IsSound w → IsKnown p w → interval_of p.pdelay ≤ interval_of p.announce
-    → (l : IsSilent (change + interval_of p.announce) at w)
-    → change + (p.lost + 5) * interval_of p.announce ≤ w.time
+    → IsSound w → IsKnown p w → interval_of p.pdelay ≤ largest_interval p
+    → (l : IsSilent (change + largest_interval p) at w)
+    → change + capability_span p ≤ w.time
     → is_capable l.link.asking.state.peer ≡ false
 
 -- ---- wherever all stands so
@@ -136,8 +137,8 @@ AreSilentLater = (p : Params) (time : ℕ) (w : WorldState) → AreSilent p w �
 -- and L + 5 announce intervals after the last change none of them is capable
 abbrev pub SilentPortsBecomeIncapable : Type 0
 SilentPortsBecomeIncapable = (p : Params) (w : WorldState)
-    → IsSound w → IsKnown p w → interval_of p.pdelay ≤ interval_of p.announce → AreSilent p w
-    → w.last_change + (p.lost + 5) * interval_of p.announce ≤ w.time
+    → IsSound w → IsKnown p w → interval_of p.pdelay ≤ largest_interval p → AreSilent p w
+    → w.last_change + capability_span p ≤ w.time
     → (at : LinkPlace) (s : StandsUnanswered at w) (q : Port)
     → number s.asking.station.system.ports (sender at.direction s.channel).port ≡ Some q
     → is_capable q.peer ≡ false

@@ -10,7 +10,7 @@ use Rattle.gptp_links.specs.declared.link.Direction.TheVariants.{FromA, FromB}
 use Rattle.gptp_links.specs.Queue.{Frame}
 use Rattle.gptp_receipt.specs.declared.held.Held.{Held}
 use Rattle.gptp_receipt.specs.declared.held.Held.TheVariants as helds
-use Rattle.gptp_receipt.specs.Held.{Reception}
+use Rattle.gptp_receipt.specs.declared.held.Reception.{Reception}
 use Rattle.gptp_system.specs.declared.port.Port.{Port}
 use Rattle.gptp_system.specs.declared.sending.Sending.{Sending}
 use Rattle.gptp_setup.specs.declared.setup.Params.{Params}
@@ -64,8 +64,7 @@ abbrev pub held_view : ℕ → Held → SeenHeld
 held_view span helds.Disabled = Disabled
 held_view span helds.Aged = Aged
 held_view span (helds.Mine root steps) = Mine root steps
-held_view span (helds.Received vector path at) =
-    Received (reception_view span (record { vector = vector; path = path; at = at }))
+held_view span (helds.Received r) = Received (reception_view span r)
 
 -- a port, with what it holds
 abbrev pub port_view : Params → Held → Port → SeenPort

@@ -6,7 +6,7 @@ use Rattle.gptp_receipt.specs.declared.held.Held.{Held}
 use Rattle.gptp_receipt.specs.declared.held.Held.TheVariants.{Disabled}
 use Rattle.gptp_system.specs.declared.port.Port.{Port}
 use Rattle.gptp_setup.specs.declared.setup.Params.{Params}
-use Rattle.gptp_setup.specs.Intervals.{interval_of}
+use Rattle.gptp_setup.specs.Intervals.{largest_interval}
 use Rattle.gptp_acts.specs.World.{WorldState}
 use Rattle.gptp_kept.specs.Due.{OfEachPort}
 use Rattle.gptp_kept.specs.Measured.{StandsAt}
@@ -19,7 +19,7 @@ use Rattle.gptp_kept.specs.Standing.{snapshot_of}
 -- old frames are gone an announce interval after the last change, and exchanges from two on find nothing old.
 abbrev pub Watches : Params → WorldState → Type 0
 Watches p w = (at : LinkPlace) → StandsAt at w
-    → IsWatched (w.last_change + interval_of p.announce) (w.last_change + 2 * interval_of p.announce) at w
+    → IsWatched (w.last_change + largest_interval p) (w.last_change + 2 * largest_interval p) at w
 
 -- a port that holds this is capable, and so it isn't Disabled
 pub record IsCapablePort (h : Held) (q : Port) : Type 0 where

@@ -2,7 +2,7 @@
 use Rattle.std.specs.Prelude.{◌≡◌, ◌≤◌, ⊤, true, ℕ, codes, not, nat_lt, if◌then◌else◌, bytes_eq, List, [], ◌∷◌, ◌++◌, Option, None, Result, Ok, Err}
 use Rattle.std.specs.List.{AllByRecursion}
 use Rattle.toml.specs.Data.{Data, Members, as_table}
-use Rattle.gptp_setup.specs.Intervals.{interval_of}
+use Rattle.gptp_setup.specs.Intervals.{announce_interval}
 use Rattle.gptp_plan.specs.Calm.{last_change}
 use Rattle.gptp_plan.specs.Faults.{first_fault}
 use Rattle.gptp_plan.specs.Network.{NetworkState, has_clock, is_taken}
@@ -90,7 +90,7 @@ change_fault n (changes.LinkUp name port) = link_fault_at n name port
 change_fault n (changes.LinkSet name port least greatest loss) = first_fault (
     (nat_lt greatest least, networks.OutOfRange)
     ∷ (not (is_taken n.links (port_id name port)), networks.NoSuchPort)
-    ∷ (nat_lt (interval_of n.params.announce) greatest, networks.DelayTooLong)
+    ∷ (nat_lt (announce_interval n.params) greatest, networks.DelayTooLong)
     ∷ [])
 change_fault n (changes.Fail name) = system_fault_at n name
 change_fault n (changes.Recover name) = system_fault_at n name
@@ -122,7 +122,7 @@ events_of t n = do
 pub record AreBounds (n : NetworkState) (least greatest loss : ℕ) : Type 0 where
   pub positive : 1 ≤ least
   pub ordered : least ≤ greatest
-  pub prompt : greatest ≤ interval_of n.params.announce
+  pub prompt : greatest ≤ announce_interval n.params
   pub share : loss ≤ 1000
 
 -- the ranges of a change's bounds

@@ -6,7 +6,7 @@ use Rattle.gptp_roles.specs.Selection.{clock_of}
 use Rattle.gptp_links.specs.Bounds.{Fit}
 use Rattle.gptp_links.specs.declared.bounds.Bounds.{Bounds}
 use Rattle.gptp_pdelay.specs.Clock.{IsDrift}
-use Rattle.gptp_setup.specs.Intervals.{interval_of}
+use Rattle.gptp_setup.specs.Intervals.{announce_interval}
 use Rattle.gptp_setup.specs.declared.setup.Params.{Params}
 use Rattle.gptp_plan.specs.Faults.{first_fault}
 use Rattle.gptp_plan.specs.Params.{is_between, KeepParams}
@@ -87,7 +87,7 @@ link_fault n w = first_fault (
     ∷ (w.a.clock == w.b.clock, SelfLink)
     ∷ (not (has_port n.systems w.a && has_port n.systems w.b), NoSuchPort)
     ∷ (is_taken n.links w.a || is_taken n.links w.b, PortTaken)
-    ∷ (nat_lt (interval_of n.params.announce) w.bounds.max, DelayTooLong)
+    ∷ (nat_lt (announce_interval n.params) w.bounds.max, DelayTooLong)
     ∷ [])
 
 -- a system is within the limits
@@ -109,7 +109,7 @@ pub record IsPort (systems : List Member) (p : PortId) : Type 0 where
 pub record IsWire (n : NetworkState) (place : ℕ) (w : Wire) : Type 0 where
   pub number : w.bounds.link ≡ place
   pub fit : Fit w.bounds
-  pub prompt : w.bounds.max ≤ interval_of n.params.announce
+  pub prompt : w.bounds.max ≤ announce_interval n.params
   pub a : IsPort n.systems w.a
   pub b : IsPort n.systems w.b
   pub apart : w.a.clock ≢ w.b.clock

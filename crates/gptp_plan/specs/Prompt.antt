@@ -1,7 +1,7 @@
 -- Acts after which every frame still arrives within an announce interval.
 use Rattle.std.specs.Prelude.{◌≡◌, ◌≤◌, ⊤, ℕ, List, Some, slice_get}
 use Rattle.gptp_setup.specs.declared.setup.Params.{Params}
-use Rattle.gptp_setup.specs.Intervals.{interval_of}
+use Rattle.gptp_setup.specs.Intervals.{announce_interval}
 use Rattle.gptp_plan.specs.declared.change.Act.{Act}
 use Rattle.gptp_plan.specs.declared.change.Act.TheVariants.{Change as Changing}
 use Rattle.gptp_plan.specs.declared.change.Change.TheVariants.{LinkSet}
@@ -9,7 +9,7 @@ use Rattle.gptp_plan.specs.declared.change.Timed.{Timed}
 
 -- a link is set to no delay above an announce interval
 abbrev pub IsPromptAct : Params → Act → Type 0
-IsPromptAct p (Changing (LinkSet number port least greatest loss)) = greatest ≤ interval_of p.announce
+IsPromptAct p (Changing (LinkSet number port least greatest loss)) = greatest ≤ announce_interval p
 IsPromptAct p act = ⊤
 
 -- so it is in each act of a list

@@ -9,7 +9,7 @@ ghost use Rattle.gptp_links.specs.Bounds.{Fit};
 ghost use Rattle.gptp_plan.specs.Calm.{IsCalm};
 ghost use Rattle.gptp_plan.specs.Change.{joined_after, live_after};
 ghost use Rattle.gptp_plan.specs.SettlingTime.{live_systems, settling_span};
-ghost use Rattle.gptp_setup.specs.Intervals.{interval_of};
+ghost use Rattle.gptp_setup.specs.Intervals.{announce_interval, interval_of};
 
 use crate::calm::{is_calm, joined_after, live_after, live_systems, settling_span};
 use crate::change::Timed;
@@ -207,7 +207,7 @@ impl Network {
 
     /// The announce interval, in ns.
     pub fn announce_interval(&self) -> u64
-        ensures { result ≡ interval_of self.now.params.announce }
+        ensures { result ≡ announce_interval self.now.params }
     {
         interval_of(self.params.announce)
     }

@@ -1,5 +1,5 @@
 -- What a port holds, and what hearing and time do to it (profile, for IEEE 802.1AS-2020, 10.3.10 to 10.3.12).
-use Rattle.std.specs.Prelude.{◌≡◌, ◌≢◌, ℕ, ◌+◌, ◌<◌, ◌≤◌, ◌==◌, ◌&&◌, Bool, false, nat_le, if◌then◌else◌, List, length, Contains, Option, Some, None}
+use Rattle.std.specs.Prelude.{◌≡◌, ◌≢◌, ℕ, ◌+◌, ◌<◌, ◌≤◌, ◌==◌, ◌&&◌, Bool, false, nat_le, if◌then◌else◌, length, Contains, Option, Some, None}
 use Rattle.std.specs.Option.{ForSome, option_map_or}
 use Rattle.gptp_vector.specs.declared.port.PortId.{PortId}
 use Rattle.gptp_vector.specs.declared.vector.Vector.{Vector}
@@ -7,25 +7,16 @@ use Rattle.gptp_vector.specs.Vector.{lower, master_of}
 use Rattle.gptp_messages.specs.declared.announce.AnnounceView.{AnnounceView}
 use Rattle.gptp_receipt.specs.declared.held.Held.{Held}
 use Rattle.gptp_receipt.specs.declared.held.Held.TheVariants.{Disabled, Aged, Mine, Received}
+use Rattle.gptp_receipt.specs.declared.held.Reception.{Reception}
 use Rattle.gptp_receipt.specs.declared.held.Heard.{Heard}
 use Rattle.gptp_receipt.specs.declared.held.Heard.TheVariants.{Superior, Repeated, Inferior}
 
--- what a port received: the message vector, the path sequence, and when
-pub record Reception : Type 0 where
-  pub vector : Vector
-  pub path : List ℕ
-  pub at : ℕ
-
--- What a port received, where it holds that. This and `holding` alone know the parts of the variant.
+-- what a port received, where it holds that
 abbrev pub received : Held → Option Reception
 received Disabled = None
 received Aged = None
 received (Mine root steps) = None
-received (Received vector path at) = Some (record { vector = vector; path = path; at = at })
-
--- the held state of a port that received this
-abbrev pub holding : Reception → Held
-holding r = Received r.vector r.path r.at
+received (Received r) = Some r
 
 -- the message vector of an Announce that is heard on a port of this number (IEEE 802.1AS-2020, 10.3.5)
 abbrev pub message_vector : AnnounceView → ℕ → Vector
@@ -65,8 +56,8 @@ comparison held own a = comparison_of held own (message_vector a own.port)
 
 -- Superior and Repeated replace all that is held, Inferior changes nothing
 abbrev pub held_after : Heard → Held → Reception → Held
-held_after Superior before r = holding r
-held_after Repeated before r = holding r
+held_after Superior before r = Received r
+held_after Repeated before r = Received r
 held_after Inferior before r = before
 
 -- what is received is too old once `span` has passed since its receipt

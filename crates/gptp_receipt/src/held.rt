@@ -18,16 +18,20 @@ pub enum Held {
     /// Nothing: it heard nothing, or what it heard is too old.
     Aged,
     /// What it announces itself: root and steps of its master vector.
-    Mine {
-        root: Identity,
-        steps: u16,
-    },
-    /// What it heard: the message vector, the path sequence, and when that was, in ns.
-    Received {
-        vector: Vector,
-        path: Trace,
-        at: u64,
-    },
+    Mine { root: Identity, steps: u16 },
+    /// What it heard.
+    Received(Reception),
+}
+
+/// What a port received.
+#[derive(Debug, Drop)]
+pub struct Reception {
+    /// The message vector.
+    pub vector: Vector,
+    /// The path sequence.
+    pub path: Trace,
+    /// When that was, in ns.
+    pub at: u64,
 }
 
 /// What a qualified Announce is to a port.
@@ -64,11 +68,11 @@ impl Held {
                 root: *root,
                 steps: *steps,
             },
-            Held::Received { vector, path, at } => Held::Received {
-                vector: *vector,
-                path: path.copy(),
-                at: *at,
-            },
+            Held::Received(reception) => Held::Received(Reception {
+                vector: reception.vector,
+                path: reception.path.copy(),
+                at: reception.at,
+            }),
         }
     }
 }
@@ -115,11 +119,11 @@ fn compare(held: &Held, own: PortId, vector: &Vector) -> Heard
             &Vector::master(*root, *steps, own.clock, own.port),
             vector,
         ),
-        Held::Received { vector: known, .. } => {
-            if known.source == vector.source {
+        Held::Received(known) => {
+            if known.vector.source == vector.source {
                 Heard::Repeated
             } else {
-                against(known, vector)
+                against(&known.vector, vector)
             }
         }
     }
@@ -139,26 +143,22 @@ fn against(known: &Vector, vector: &Vector) -> Heard
 /// Puts what was heard in place of what the port holds.
 fn store(held: &mut Held, vector: Vector, path: &PathView<'_>, now: u64)
     requires { length path.now ≤ 255 }
-    ensures { held.new ≡ Held.Received vector path.now now }
+    ensures { held.new ≡ Held.Received (record { vector = vector; path = path.now; at = now }) }
 {
     match held {
-        Held::Received {
-            vector: known,
-            path: trace,
-            at,
-        } => {
-            *known = vector;
-            path.copy_to(trace).unwrap();
-            *at = now;
+        Held::Received(known) => {
+            known.vector = vector;
+            path.copy_to(&mut known.path).unwrap();
+            known.at = now;
         }
         _ => {
             let mut trace = Trace::empty();
             path.copy_to(&mut trace).unwrap();
-            *held = Held::Received {
+            *held = Held::Received(Reception {
                 vector,
                 path: trace,
                 at: now,
-            };
+            });
         }
     }
 }
@@ -170,7 +170,7 @@ pub fn due(held: &Held, span: u64) -> Option<u64>
     ensures { result ≡ option_map (λ r. r.at + span) (received held.now) }
 {
     match held {
-        Held::Received { at, .. } => Some(at + span),
+        Held::Received(reception) => Some(reception.at + span),
         _ => None,
     }
 }

@@ -13,5 +13,5 @@
 mod held;
 mod qualification;
 
-pub use held::{Heard, Held, age, due, hear};
+pub use held::{Heard, Held, Reception, age, due, hear};
 pub use qualification::{Why, qualify};

@@ -7,7 +7,8 @@ use Rattle.gptp_vector.specs.declared.vector.Vector.{Vector}
 use Rattle.gptp_vector.specs.Vector.{lower, path_of, system_of}
 use Rattle.gptp_vector.proofs.VectorLemmas.{lower-same, lower_chain, lower_one_way, neither_lower}
 use Rattle.gptp_receipt.specs.declared.held.Held.{Held}
-use Rattle.gptp_receipt.specs.Held.{Reception, received}
+use Rattle.gptp_receipt.specs.declared.held.Reception.{Reception}
+use Rattle.gptp_receipt.specs.Held.{received}
 use Rattle.gptp_roles.specs.Choice.{ArePlaced, IsChosen, IsIn, IsLeast, IsPlaced, path_vectors, with_held}
 
 -- a vector alone is the least

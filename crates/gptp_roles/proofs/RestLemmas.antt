@@ -5,7 +5,8 @@ use Rattle.std.specs.Option.{ForSome, option_map_or}
 use Rattle.gptp_vector.specs.declared.vector.Vector.{Vector}
 use Rattle.gptp_vector.specs.Vector.{lower, path_of, system_of}
 use Rattle.gptp_receipt.specs.declared.held.Held.{Held}
-use Rattle.gptp_receipt.specs.Held.{Reception, received}
+use Rattle.gptp_receipt.specs.declared.held.Reception.{Reception}
+use Rattle.gptp_receipt.specs.Held.{received}
 use Rattle.gptp_roles.specs.Choice.{ArePlaced, IsChosen, IsIn, IsPlaced, path_vectors}
 use Rattle.gptp_roles.specs.Role.{each_from, each_port, held_after, is_fresh, is_master, role_of}
 use Rattle.gptp_roles.specs.Selection.{IsAtRest, clock_of}

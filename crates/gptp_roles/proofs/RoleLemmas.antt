@@ -7,7 +7,8 @@ use Rattle.gptp_vector.specs.declared.vector.Vector.{Vector}
 use Rattle.gptp_vector.specs.Vector.{lower, master_of}
 use Rattle.gptp_receipt.specs.declared.held.Held.{Held}
 use Rattle.gptp_receipt.specs.declared.held.Held.TheVariants as helds
-use Rattle.gptp_receipt.specs.Held.{Reception, received}
+use Rattle.gptp_receipt.specs.declared.held.Reception.{Reception}
+use Rattle.gptp_receipt.specs.Held.{received}
 use Rattle.gptp_roles.specs.declared.role.Role.{Role}
 use Rattle.gptp_roles.specs.declared.role.Role.TheVariants.{Disabled, Master, Slave, Passive}
 use Rattle.gptp_roles.specs.Role.{held_after, is_fresh, is_master, is_slave, role_of, role_of_received}
@@ -83,9 +84,9 @@ pub is_slave-other : (v : Vector) (clock port : ℕ) (h : Held) → (v.receiver 
 is_slave-other v clock port helds.Disabled elsewhere = refl
 is_slave-other v clock port helds.Aged elsewhere = refl
 is_slave-other v clock port (helds.Mine root steps) elsewhere = refl
-is_slave-other v clock port (helds.Received known path at) elsewhere =
+is_slave-other v clock port (helds.Received r) elsewhere =
     let there : (v.receiver == port) ≡ false = grind (arith, nat_tests) in
-    rw there (by_order (lower (master_of v.root v.steps clock port) known))
+    rw there (by_order (lower (master_of v.root v.steps clock port) r.vector))
   where
     by_order : (b : Bool) → is_slave (if b then Master else Passive) ≡ false
     by_order true = refl

@@ -2,7 +2,8 @@
 use Rattle.std.specs.Prelude.{◌≡◌, ℕ, ◌-◌, ◌≤◌, List, [], ◌∷◌, ◌++◌, length, Option, Some, None, slice_get}
 use Rattle.std.specs.Option.{option_and_then, option_map_or}
 use Rattle.gptp_receipt.specs.declared.held.Held.{Held}
-use Rattle.gptp_receipt.specs.Held.{Reception, received}
+use Rattle.gptp_receipt.specs.declared.held.Reception.{Reception}
+use Rattle.gptp_receipt.specs.Held.{received}
 
 -- what the port with this number received
 abbrev pub received_at : List Held → ℕ → Option Reception

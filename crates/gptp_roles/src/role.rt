@@ -45,11 +45,11 @@ fn role_at(held: &Held, port: u16, chosen: &Vector, clock: ClockId) -> Role
     match held {
         Held::Disabled => Role::Disabled,
         Held::Aged | Held::Mine { .. } => Role::Master,
-        Held::Received { vector, .. } => {
+        Held::Received(reception) => {
             if chosen.receiver == port {
                 Role::Slave
             } else if Vector::master(chosen.root, chosen.steps, clock, port)
-                .compare(vector)
+                .compare(&reception.vector)
                 .is_lt()
             {
                 Role::Master

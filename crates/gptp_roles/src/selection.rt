@@ -84,8 +84,8 @@ fn with_port(best: Vector, held: &Held) -> Vector
     ensures { result ≡ with_held best held.now }
 {
     match held {
-        Held::Received { vector, .. } => {
-            let path = vector.path();
+        Held::Received(reception) => {
+            let path = reception.vector.path();
             if path.compare(&best).is_lt() {
                 path
             } else {

@@ -47,7 +47,7 @@ fn path_of(held: &Held) -> Trace
     ensures { result ≡ path_received (received held.now) }
 {
     match held {
-        Held::Received { path, .. } => path.copy(),
+        Held::Received(reception) => reception.path.copy(),
         _ => Trace::empty(),
     }
 }

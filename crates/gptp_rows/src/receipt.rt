@@ -2,7 +2,7 @@
 
 use crate::frames::read;
 use crate::same::{same, same_at};
-use gptp_receipt::{Heard, Held, Why, age, due, hear, qualify};
+use gptp_receipt::{Heard, Held, Reception, Why, age, due, hear, qualify};
 use gptp_samples::{FIRST_ANNOUNCE, frame, identity, port, trace};
 use gptp_vector::{ClockId, Full, Identity, PortId, Trace, Vector};
 use std::process::Abort;
@@ -18,17 +18,12 @@ fn own() -> PortId {
 
 /// What the port holds, with its path as numbers of clocks.
 fn assert_received(rt: &impl Abort, held: &Held, want: Vector, path: &Trace, received: u64) {
-    let Held::Received {
-        vector,
-        path: known,
-        at,
-    } = held
-    else {
+    let Held::Received(reception) = held else {
         panic!(rt; "nothing received: {held:?}");
     };
-    same(rt, *vector, want);
-    same(rt, known.as_slice(), path.as_slice());
-    same(rt, *at, received);
+    same(rt, reception.vector, want);
+    same(rt, reception.path.as_slice(), path.as_slice());
+    same(rt, reception.at, received);
 }
 
 /// What an Announce in a frame is to the port.
@@ -41,16 +36,16 @@ fn heard(rt: &impl Abort, held: &mut Held, frame: &[u8], now: u64) -> Heard {
 
 /// When what the port holds is too old.
 fn end_of(rt: &impl Abort, held: &Held) -> Option<u64> {
-    if let Held::Received { at, .. } = held {
-        assert!(rt; *at <= 1_000_000_000_000_000);
+    if let Held::Received(reception) = held {
+        assert!(rt; reception.at <= 1_000_000_000_000_000);
     }
     due(held, SPAN)
 }
 
 /// Whether what the port holds is dropped as too old.
 fn drops(rt: &impl Abort, held: &mut Held, now: u64) -> bool {
-    if let Held::Received { at, .. } = held {
-        assert!(rt; *at <= 1_000_000_000_000_000);
+    if let Held::Received(reception) = held {
+        assert!(rt; reception.at <= 1_000_000_000_000_000);
     }
     age(held, SPAN, now)
 }
@@ -167,7 +162,7 @@ fn what_is_not_received_has_no_age(rt: HostRuntime) {
     for mut held in [Held::Disabled, Held::Aged, mine] {
         same(&rt, end_of(&rt, &held), None);
         assert!(rt; !drops(&rt, &mut held, u64::MAX));
-        assert!(rt; !matches!(held, Held::Received { .. }));
+        assert!(rt; !matches!(held, Held::Received(_)));
     }
 }
 
@@ -289,11 +284,11 @@ fn copies_hold_the_same(rt: HostRuntime) -> Result<(), Fail> {
     assert!(rt; matches!(Held::Disabled.copy(), Held::Disabled));
     assert!(rt; matches!(Held::Aged.copy(), Held::Aged));
     assert!(rt; is_mine(&Held::Mine { root, steps: 3 }.copy(), root, 3));
-    let received = Held::Received {
+    let received = Held::Received(Reception {
         vector: vector(root, 1, 2),
         path: trace(&[1, 2])?,
         at: 8,
-    };
+    });
     assert_received(
         &rt,
         &received.copy(),

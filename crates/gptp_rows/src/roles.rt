@@ -6,7 +6,7 @@ ghost use Rattle.gptp_receipt.specs.Held.{received};
 ghost use Rattle.gptp_roles.specs.Choice.{IsPlaced};
 
 use crate::same::same;
-use gptp_receipt::Held;
+use gptp_receipt::{Held, Reception};
 use gptp_roles::{
     Role, chosen_vector_is_one, one_slave_port, select, selection_is_at_rest, trace_of,
 };
@@ -21,7 +21,7 @@ fn heard(receiver: u16, root: Identity, steps: u16, source: (u64, u16)) -> Held
     requires { steps < 255 }
     ensures { ForSome (received result) (IsPlaced receiver) }
 {
-    Held::Received {
+    Held::Received(Reception {
         vector: Vector {
             root,
             steps,
@@ -30,7 +30,7 @@ fn heard(receiver: u16, root: Identity, steps: u16, source: (u64, u16)) -> Held
         },
         path: path_of(source.0),
         at: 0,
-    }
+    })
 }
 
 /// The trace of one clock.
@@ -74,8 +74,8 @@ fn the_nearer_neighbour_is_followed(rt: HostRuntime) -> Result<(), Fail> {
         [false, false, true].as_slice(),
     );
     assert_mine(&rt, &held[2], root, 1);
-    assert!(rt; matches!(held[0], Held::Received { .. }));
-    assert!(rt; matches!(held[1], Held::Received { .. }));
+    assert!(rt; matches!(held[0], Held::Received(_)));
+    assert!(rt; matches!(held[1], Held::Received(_)));
     let trace = trace_of(ClockId::from(3), &held, &selected);
     same(
         &rt,

@@ -12,6 +12,22 @@ pub record IsLog (log : ℤ) : Type 0 where
   pub low : neg_ℤ (pos 4) ≤ℤ log
   pub high : log ≤ℤ pos 4
 
+-- what each port of a network announces at, in ns (10.7.2.2)
+abbrev pub announce_interval : Params → ℕ
+announce_interval p = interval_of p.announce
+
+-- the largest announce interval of the ports of a network, in ns: all have the same (profile)
+abbrev pub largest_interval : Params → ℕ
+largest_interval p = interval_of p.announce
+
+-- how long what a port receives stays there, in ns: announceReceiptTimeout times its announce interval (10.7.3.2)
+abbrev pub receipt_span : Params → ℕ
+receipt_span p = p.timeout * announce_interval p
+
+-- the longest of these spans in a network, in ns
+abbrev pub longest_span : Params → ℕ
+longest_span p = p.timeout * largest_interval p
+
 -- the range of each parameter of a network (profile)
 pub record AreParams (p : Params) : Type 0 where
   pub announce : IsLog p.announce

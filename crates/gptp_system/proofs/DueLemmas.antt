@@ -52,7 +52,7 @@ same_announce : (q q' : Port) (h : Held) → q'.announce ≡ q.announce → anno
 same_announce q q' helds.Disabled same = refl
 same_announce q q' helds.Aged same = refl
 same_announce q q' (helds.Mine root steps) same = rw same refl
-same_announce q q' (helds.Received vector path at) same = refl
+same_announce q q' (helds.Received r) same = refl
 
 same_age : (params : Params) (q q' : Port) (h : Held) → q'.log_interval ≡ q.log_interval
     → age_due params q' h ≡ age_due params q h

@@ -35,8 +35,7 @@ not_master_kept : (v : Vector) (c n : ℕ) (h : Held) → is_master (role_of v c
 not_master_kept v c n helds.Disabled other = inl refl
 not_master_kept v c n helds.Aged other = absurd cc
 not_master_kept v c n (helds.Mine root steps) other = absurd cc
-not_master_kept v c n (helds.Received vector path at) other =
-    inr (record { vector = vector; path = path; at = at }, refl)
+not_master_kept v c n (helds.Received r) other = inr (r, refl)
 
 master_on : (v : Vector) (c n : ℕ) (h : Held) → is_master (role_of v c n h) ≡ true → h ≢ helds.Disabled
 master_on v c n h master e = absurd (disabled (ap (λ x. is_master (role_of v c n x)) (sym e) ∙ master))
@@ -48,7 +47,7 @@ master_on v c n h master e = absurd (disabled (ap (λ x. is_master (role_of v c 
 already_mine : (v : Vector) (h : Held) → announces_already v h ≡ true → h ≡ helds.Mine v.root v.steps
 already_mine v helds.Disabled is = absurd cc
 already_mine v helds.Aged is = absurd cc
-already_mine v (helds.Received vector path at) is = absurd cc
+already_mine v (helds.Received r) is = absurd cc
 already_mine v (helds.Mine root steps) is = go (root == v.root) (steps == v.steps) refl refl is
   where
     go : (a b : Bool) → (root == v.root) ≡ a → (steps == v.steps) ≡ b → (a && b) ≡ true

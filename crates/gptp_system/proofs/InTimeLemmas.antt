@@ -9,7 +9,8 @@ use Rattle.gptp_receipt.specs.declared.held.Held.{Held}
 use Rattle.gptp_receipt.specs.declared.held.Held.TheVariants as helds
 use Rattle.gptp_receipt.specs.declared.held.Heard.{Heard}
 use Rattle.gptp_receipt.specs.declared.held.Heard.TheVariants as heards
-use Rattle.gptp_receipt.specs.Held.{Reception, comparison, held_after, holding, received, reception}
+use Rattle.gptp_receipt.specs.declared.held.Reception.{Reception}
+use Rattle.gptp_receipt.specs.Held.{comparison, held_after, received, reception}
 use Rattle.gptp_pdelay.specs.Peer.{PeerState, after_interval, reset_peer}
 use Rattle.gptp_system.specs.declared.answer.Answer.{Answer}
 use Rattle.gptp_system.specs.declared.port.Port.{Port}
@@ -34,7 +35,8 @@ use Rattle.gptp_system.proofs.TimeLemmas.{steps_run_on}
 -- what it held, nothing that was received or is Mine, or what it received now
 abbrev pub IsMid : ℕ → Held → Held → Type 0
 IsMid now h mid =
-    (mid ≡ h) ⊎ (((received mid ≡ None) × (is_mine mid ≡ false)) ⊎ ((r : Reception) × (mid ≡ holding r) × (r.at ≡ now)))
+    (mid ≡ h) ⊎ (((received mid ≡ None) × (is_mine mid ≡ false))
+    ⊎ ((r : Reception) × (mid ≡ helds.Received r) × (r.at ≡ now)))
 
 neither : (now : ℕ) (h mid g : Held) → received g ≡ None → is_mine g ≡ false → mid ≡ g → IsMid now h mid
 neither now h mid g none other is = inr (inl (ap received is ∙ none, ap is_mine is ∙ other))
@@ -60,14 +62,14 @@ mid_is c n (Disable p) now h mid (inl (here, is)) = neither now h mid helds.Disa
 mid_is c n (Disable p) now h mid (inr (elsewhere, is)) = inl is
 mid_is c n Other now h mid is = inl is
 
-holding_other : (r : Reception) → is_mine (holding r) ≡ false
-holding_other r = refl
+heard_other : (r : Reception) → is_mine (helds.Received r) ≡ false
+heard_other r = refl
 
 -- a port that is Mine after the touch was so before
 pub mid_mine : (now : ℕ) (h mid : Held) → IsMid now h mid → is_mine mid ≡ true → mid ≡ h
 mid_mine now h mid (inl same) mine = same
 mid_mine now h mid (inr (inl (none, other))) mine = absurd (let both = sym other ∙ mine in cc)
-mid_mine now h mid (inr (inr (r, is, at))) mine = absurd (let both = sym (ap is_mine is ∙ holding_other r) ∙ mine in cc)
+mid_mine now h mid (inr (inr (r, is, at))) mine = absurd (let both = sym (ap is_mine is ∙ heard_other r) ∙ mine in cc)
 
 -- what a port has received after the touch it had received, or received now
 pub mid_received : (now : ℕ) (h mid : Held) (r : Reception) → IsMid now h mid → received mid ≡ Some r
@@ -80,7 +82,7 @@ mid_received now h mid r (inr (inr (x, is, at))) got =
 pub kept_other : (h : Held) → IsKept h → is_mine h ≡ false
 kept_other helds.Disabled k = refl
 kept_other helds.Aged k = refl
-kept_other (helds.Received vector path at) k = refl
+kept_other (helds.Received r) k = refl
 kept_other (helds.Mine root steps) (inl off) = absurd cc
 kept_other (helds.Mine root steps) (inr (r, got)) = absurd (none-some r got)
 

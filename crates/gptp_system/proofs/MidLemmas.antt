@@ -137,10 +137,10 @@ aged_mids p now t s is past = go (number s.ports p) refl is
     grown q helds.Disabled e = absurd (none-some t e)
     grown q helds.Aged e = absurd (none-some t e)
     grown q (helds.Mine root steps) e = absurd (none-some t e)
-    grown q (helds.Received vector path at) e =
-        let moment : at + span_of s.params q ≡ t = same_Some (at + span_of s.params q) t e in
-        let late : nat_le (at + span_of s.params q) now ≡ true =
-        le-leb (at + span_of s.params q) now (subst (λ x. x ≤ now) (sym moment) past) in
+    grown q (helds.Received r) e =
+        let moment : r.at + span_of s.params q ≡ t = same_Some (r.at + span_of s.params q) t e in
+        let late : nat_le (r.at + span_of s.params q) now ≡ true =
+        le-leb (r.at + span_of s.params q) now (subst (λ x. x ≤ now) (sym moment) past) in
         rw late refl
 
     go : (o : Option Port) → number s.ports p ≡ o → option_and_then (λ q. age_due s.params q (held_at s p)) o ≡ Some t

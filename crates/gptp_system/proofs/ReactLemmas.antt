@@ -179,7 +179,7 @@ mine_held : (q : Port) (h : Held) (t : ℕ) → announce_due q h ≡ Some t
 mine_held q helds.Disabled t is = absurd (none-some t is)
 mine_held q helds.Aged t is = absurd (none-some t is)
 mine_held q (helds.Mine root steps) t is = (root, steps, refl)
-mine_held q (helds.Received vector path at) t is = absurd (none-some t is)
+mine_held q (helds.Received r) t is = absurd (none-some t is)
 
 held_there : (o : Option Held) (root steps : ℕ) → option_map_or (λ h. h) o helds.Disabled ≡ helds.Mine root steps
     → o ≡ Some (helds.Mine root steps)

@@ -9,7 +9,8 @@ use Rattle.gptp_vector.specs.declared.port.PortId.{PortId}
 use Rattle.gptp_messages.specs.declared.announce.AnnounceView.{AnnounceView}
 use Rattle.gptp_receipt.specs.declared.held.Heard.{Heard}
 use Rattle.gptp_receipt.specs.declared.held.Heard.TheVariants as heards
-use Rattle.gptp_receipt.specs.Held.{Reception, received, reception, comparison, aged, is_due}
+use Rattle.gptp_receipt.specs.declared.held.Reception.{Reception}
+use Rattle.gptp_receipt.specs.Held.{received, reception, comparison, aged, is_due}
 use Rattle.gptp_receipt.specs.Held.{held_after as heard_after}
 use Rattle.gptp_receipt.specs.Qualification.{Qualified}
 use Rattle.gptp_roles.specs.Choice.{ArePlaced, IsPlaced}

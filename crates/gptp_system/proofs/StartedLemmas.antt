@@ -9,7 +9,8 @@ use Rattle.gptp_messages.specs.declared.message.Message.{Message}
 use Rattle.gptp_messages.specs.declared.message.Message.TheVariants as messages
 use Rattle.gptp_receipt.specs.declared.held.Held.{Held}
 use Rattle.gptp_receipt.specs.declared.held.Held.TheVariants as helds
-use Rattle.gptp_receipt.specs.Held.{Reception, received}
+use Rattle.gptp_receipt.specs.declared.held.Reception.{Reception}
+use Rattle.gptp_receipt.specs.Held.{received}
 use Rattle.gptp_pdelay.specs.Peer.{PeerState, after_interval, reset_peer}
 use Rattle.gptp_system.specs.declared.answer.Answer.{Answer}
 use Rattle.gptp_system.specs.declared.port.Port.{Port}
@@ -117,7 +118,7 @@ held_stands hs i h is on = go (slice_get hs i) is
 pub mine_due : (q : Port) (h : Held) (u : ℕ) → announce_due q h ≡ Some u → (is_mine h ≡ true) × (q.announce ≡ u)
 mine_due q helds.Disabled u e = absurd (none-some u e)
 mine_due q helds.Aged u e = absurd (none-some u e)
-mine_due q (helds.Received vector path at) u e = absurd (none-some u e)
+mine_due q (helds.Received r) u e = absurd (none-some u e)
 mine_due q (helds.Mine root steps) u e = (refl, same_Some q.announce u e)
 
 -- the Announce timer and the Age timer of one port, by what it holds
@@ -144,7 +145,7 @@ port_runs s s' touch now sends i h' q' kept kept_long logs r t = (announces, age
     due_mine : (q : Port) (h : Held) (u : ℕ) → is_mine h ≡ true → q.announce ≡ u → announce_due q h ≡ Some u
     due_mine q helds.Disabled u e is = absurd cc
     due_mine q helds.Aged u e is = absurd cc
-    due_mine q (helds.Received vector path at) u e is = absurd cc
+    due_mine q (helds.Received r) u e is = absurd cc
     due_mine q (helds.Mine root steps) u e is = ap (λ x. Some x) is
 
     announces : announce_due q' h' ≡ Some t → (due (timers.Announce (suc i)) s ≡ Some t) ⊎ (now < t)

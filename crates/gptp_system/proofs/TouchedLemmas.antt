@@ -9,7 +9,8 @@ use Rattle.gptp_receipt.specs.declared.held.Held.{Held}
 use Rattle.gptp_receipt.specs.declared.held.Held.TheVariants as helds
 use Rattle.gptp_receipt.specs.declared.held.Heard.{Heard}
 use Rattle.gptp_receipt.specs.declared.held.Heard.TheVariants as heards
-use Rattle.gptp_receipt.specs.Held.{CameTo, HoldsFor, Reception, aged, comparison, held_after, is_due, reception}
+use Rattle.gptp_receipt.specs.declared.held.Reception.{Reception}
+use Rattle.gptp_receipt.specs.Held.{CameTo, HoldsFor, aged, comparison, held_after, is_due, reception}
 use Rattle.gptp_receipt.specs.Qualification.{Qualified}
 use Rattle.gptp_pdelay.specs.Peer.{PeerState, is_capable}
 use Rattle.gptp_system.specs.declared.port.Port.{Port}
@@ -104,8 +105,8 @@ holds_touches p g s came off on = record {
 
 -- ---- a qualified Announce
 
-holding_on : (r : Reception) → helds.Received r.vector r.path r.at ≡ helds.Disabled → ⊥
-holding_on r e = cc
+received_on : (r : Reception) → helds.Received r ≡ helds.Disabled → ⊥
+received_on r e = cc
 
 heard_came : (own : PortId) (heard : Heard) (h : Held) (r : Reception) → CameTo own r → HoldsFor own h
     → HoldsFor own (held_after heard h r)
@@ -114,8 +115,8 @@ heard_came own heards.Repeated h r came before = λ x is. subst (CameTo own) (sa
 heard_came own heards.Inferior h r came before = before
 
 heard_on : (heard : Heard) (h : Held) (r : Reception) → h ≢ helds.Disabled → held_after heard h r ≢ helds.Disabled
-heard_on heards.Superior h r on = holding_on r
-heard_on heards.Repeated h r on = holding_on r
+heard_on heards.Superior h r on = received_on r
+heard_on heards.Repeated h r on = received_on r
 heard_on heards.Inferior h r on = on
 
 qualified_came : (a : AnnounceView) (own : PortId) (now : ℕ) → Qualified a own.clock → CameTo own (reception a own now)

@@ -8,7 +8,8 @@ use Rattle.gptp_receipt.specs.declared.held.Heard.{Heard}
 use Rattle.gptp_receipt.specs.declared.held.Heard.TheVariants as heards
 use Rattle.gptp_receipt.specs.declared.qualification.Why.{Why}
 use Rattle.gptp_receipt.specs.declared.qualification.Why.TheVariants as whys
-use Rattle.gptp_receipt.specs.Held.{Reception, aged, comparison, held_after, message_vector, received, reception}
+use Rattle.gptp_receipt.specs.declared.held.Reception.{Reception}
+use Rattle.gptp_receipt.specs.Held.{aged, comparison, held_after, message_vector, received, reception}
 use Rattle.gptp_receipt.specs.Qualification.{Qualified, FirstFailure}
 use Rattle.gptp_system.specs.declared.answer.Answer.{Answer}
 use Rattle.gptp_system.specs.declared.answer.Answer.TheVariants as answers

@@ -1,7 +1,8 @@
 -- What a system at rest follows: itself, or what its Slave port received (IEEE 802.1AS-2020, 10.3.5 and 10.3.9.23).
 use Rattle.std.specs.Prelude.{◌≡◌, ◌+◌, ◌++◌, ℕ, suc, [], ◌∷◌, Some, None, slice_get}
 use Rattle.gptp_receipt.specs.declared.held.Held.{Held}
-use Rattle.gptp_receipt.specs.Held.{Reception, received}
+use Rattle.gptp_receipt.specs.declared.held.Reception.{Reception}
+use Rattle.gptp_receipt.specs.Held.{received}
 use Rattle.gptp_system.specs.State.{SystemState, clock, trace}
 
 -- its own root

@@ -3,6 +3,7 @@ use Rattle.std.specs.Prelude.{ℕ, ◌+◌, ◌%◌, ℤ, pos, Bool, true, false
 use Rattle.std.specs.Prelude.{nat_le}
 use Rattle.gptp_vector.specs.declared.port.PortId.{PortId}
 use Rattle.gptp_scaled.specs.Stamp.{Timestamp}
+use Rattle.gptp_messages.specs.declared.announce.AnnounceBody.{AnnounceBody}
 use Rattle.gptp_messages.specs.declared.head.Head.{Head}
 use Rattle.gptp_pdelay.specs.declared.answer.Answer.{Answer}
 use Rattle.gptp_system.specs.declared.port.Port.{Port}
@@ -23,13 +24,17 @@ head_from source sequence correction log_interval two_step = record {
 abbrev pub next_sequence : ℕ → ℕ
 next_sequence n = (n + 1) % 65536
 
--- the Announce of a port, with the root and the steps that the system has chosen; currentUtcOffset is 37, and
--- timeSource INTERNAL_OSCILLATOR (10.6.3; the values are of the profile)
+-- what an Announce says: the root and the steps that the system has chosen; currentUtcOffset is 37, and timeSource
+-- INTERNAL_OSCILLATOR (10.6.3; the values are of the profile)
+abbrev pub announce_body : ℕ → ℕ → AnnounceBody
+announce_body root steps = record { utc_offset = pos 37; root = root; steps = steps; time_source = 0xA0 }
+
+-- the Announce of a port
 abbrev pub announcement : PortId → ℕ → ℕ → Port → Sending
 announcement own root steps q = record {
   port = own.port;
   head = head_from own q.announces (pos 0) q.log_interval false;
-  body = bodies.Announce (record { utc_offset = pos 37; root = root; steps = steps; time_source = 0xA0 });
+  body = bodies.Announce (announce_body root steps);
 }
 
 -- the Pdelay_Req of a port (11.4.5)

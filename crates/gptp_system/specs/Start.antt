@@ -62,7 +62,7 @@ abbrev pub role_by : Bool → Held → Role
 role_by is_slave helds.Disabled = roles.Disabled
 role_by is_slave helds.Aged = roles.Master
 role_by is_slave (helds.Mine root steps) = roles.Master
-role_by is_slave (helds.Received vector path at) = role_of_received is_slave
+role_by is_slave (helds.Received r) = role_of_received is_slave
 
 -- the role of a port of a system at rest (10.3.6)
 abbrev pub role_at : SystemState → ℕ → Role

@@ -6,7 +6,8 @@ use Rattle.gptp_vector.specs.declared.port.PortId.{PortId}
 use Rattle.gptp_messages.specs.declared.head.Head.{Head}
 use Rattle.gptp_messages.specs.declared.follow_up.FollowUp.{FollowUp}
 use Rattle.gptp_receipt.specs.declared.held.Held.{Held}
-use Rattle.gptp_receipt.specs.Held.{Reception, received}
+use Rattle.gptp_receipt.specs.declared.held.Reception.{Reception}
+use Rattle.gptp_receipt.specs.Held.{received}
 use Rattle.gptp_scaled.specs.ScaledNs.{FitsScaled}
 use Rattle.gptp_scaled.specs.Stamp.{Timestamp, IsSplit, scaled_of}
 use Rattle.gptp_pdelay.specs.Peer.{delay_of, rate_of_peer}

@@ -60,8 +60,8 @@ fn says_again(held: &Held, own: PortId, announce: &AnnounceView<'_>) -> bool
     ensures { IsTrue result ↔ SaysAgain held.now own announce.now }
 {
     match held {
-        Held::Received { vector, .. } => {
-            *vector
+        Held::Received(last) => {
+            last.vector
                 == Vector {
                     root: announce.body.root,
                     steps: announce.body.steps,

@@ -171,7 +171,7 @@ fn came_from(source: PortId, held: &Held) -> bool
     ensures { result ≡ came_from source held.now }
 {
     match held {
-        Held::Received { vector, .. } => vector.source == source,
+        Held::Received(reception) => reception.vector.source == source,
         _ => false,
     }
 }

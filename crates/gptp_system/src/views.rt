@@ -23,7 +23,7 @@ fn role_by(is_slave: bool, held: &Held) -> Role
     match held {
         Held::Disabled => Role::Disabled,
         Held::Aged | Held::Mine { .. } => Role::Master,
-        Held::Received { .. } => match is_slave {
+        Held::Received(_) => match is_slave {
             true => Role::Slave,
             false => Role::Passive,
         },
@@ -80,7 +80,7 @@ fn source_of(held: &Held) -> Option<PortId>
     ensures { result ≡ source_of held.now }
 {
     match held {
-        Held::Received { vector, .. } => Some(vector.source),
+        Held::Received(reception) => Some(reception.vector.source),
         Held::Disabled | Held::Aged | Held::Mine { .. } => None,
     }
 }

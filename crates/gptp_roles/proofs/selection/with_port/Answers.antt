@@ -4,5 +4,5 @@ use Rattle.gptp_roles.proofs.selection.with_port.Goals as goal
 
 pub path-path-requires : goal.path-path-requires
 path-path-requires c =
-    let near : c.in-Received.vector.steps < 255 = c.requires _ (ap received c.in-Received.is) in
+    let near : c.in-Received.reception.vector.steps < 255 = c.requires _ (ap received c.in-Received.is) in
     omega arith
