@@ -17,9 +17,9 @@ Arguments = argparse.Namespace
 Call = Callable[[Arguments], int | None]
 
 
-def main() -> int:
+def main(words: list[str]) -> int:
     """Does what the command line says: 0 done, 1 refused, 2 usage (by argparse), 3 a package is missing."""
-    arguments = _parser().parse_args()
+    arguments = _parser().parse_args(words)
     try:
         return arguments.call(arguments) or 0
     except Refused as why:
@@ -58,7 +58,7 @@ def _draw(arguments: Arguments) -> None:
     octets = documents.read_file(arguments.doc)
     at, stands = standing.of_run(_asked(arguments, octets, "run", *_options(arguments)))
     document = documents.parse(octets, arguments.doc)
-    dot = drawing.graph(document, stands, document.links_up(at), f"at {at} ns")
+    dot = drawing.graph(document, stands, document.links_up(at), f"at {standing.in_seconds(at)} s")
     _write(arguments, drawing.svg(dot) if (arguments.o or "").endswith(".svg") else dot)
 
 

@@ -8,6 +8,7 @@ from . import drawing, plots, strips
 from .documents import Document
 from .faults import Faults
 from .pictures import inline
+from .standing import in_seconds
 from .texts import Line
 from .timelines import Stretch
 
@@ -56,11 +57,6 @@ def _text(text: str) -> str:
     return f'<td class="text">{escape(text)}</td>'
 
 
-def _seconds(at: int) -> str:
-    """A time in s, exactly."""
-    return f"{at // 10**9}.{at % 10**9:09}".rstrip("0").rstrip(".")
-
-
 def _scaled(value: int | Decimal | None, unit: int) -> str:
     """A number of ns in a unit of so many ns, with three decimals."""
     return _NONE if value is None else f"{value / unit:,.3f}"
@@ -96,8 +92,8 @@ def _stretches(document: Document, stretches: Iterable[Stretch]) -> str:
 def _stretch_row(document: Document, stretch: Stretch) -> list[str]:
     line = stretch.measures
     return [
-        _number(_seconds(stretch.begin)),
-        _number(_seconds(stretch.end)),
+        _number(in_seconds(stretch.begin)),
+        _number(in_seconds(stretch.end)),
         _text(_words(document, stretch.events)),
         *(_ms(line[name]) for name in ("choice", "roles", "offsets", "bound")),
         _measure(document, line, "holdover", 10**6),
@@ -108,8 +104,8 @@ def _stretch_row(document: Document, stretch: Stretch) -> list[str]:
 
 def _stretch(document: Document, stretch: Stretch, colour: dict[str, str]) -> str:
     """A stretch: the strips, what accuracy is promised, and the tree at its end."""
-    title = f"From {_seconds(stretch.begin)} s: {_words(document, stretch.events) or 'the start'}"
-    tree = drawing.graph(document, stretch.ended, document.links_up(stretch.begin), f"at {_seconds(stretch.end)} s")
+    title = f"From {in_seconds(stretch.begin)} s: {_words(document, stretch.events) or 'the start'}"
+    tree = drawing.graph(document, stretch.ended, document.links_up(stretch.begin), f"at {in_seconds(stretch.end)} s")
     parts = [f"<h3>{escape(title)}</h3>", strips.strips(document, stretch, colour)]
     if stretch.accuracy:
         head = ("system", "greatest error ns", "bound ns", "from s")
@@ -120,7 +116,7 @@ def _stretch(document: Document, stretch: Stretch, colour: dict[str, str]) -> st
 def _accuracy_row(document: Document, line: Line) -> list[str]:
     error = _NONE if line["error"] is None else str(line["error"])
     return [_text(document.name(line["clock"])), _number(error), _number(str(line["bound"])),
-            _number(_seconds(line["from"]))]
+            _number(in_seconds(line["from"]))]
 
 
 def _errors(document: Document, stretches: Iterable[Stretch]) -> str:

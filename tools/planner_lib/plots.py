@@ -4,6 +4,7 @@ from typing import Iterable, Sequence
 
 from .documents import Document
 from .pictures import draw
+from .standing import in_seconds
 from .timelines import Sample
 
 _HEAD = """\
@@ -28,12 +29,8 @@ def errors(document: Document, samples: Sequence[Sample]) -> bytes | None:
 
 def _block(place: int, clock: str, samples: Iterable[Sample]) -> str:
     """A system's errors as a block of data: seconds and ns."""
-    points = [f"{_seconds(sample.at)} {sample.error}\n" for sample in samples if sample.clock == clock]
+    points = [f"{in_seconds(sample.at)} {sample.error}\n" for sample in samples if sample.clock == clock]
     return f"$c{place} << END\n{''.join(points)}END\n"
-
-
-def _seconds(at: int) -> str:
-    return f"{at // 10**9}.{at % 10**9:09}"
 
 
 def _quoted(text: str) -> str:

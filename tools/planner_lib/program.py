@@ -11,10 +11,8 @@ _TOP = Path(__file__).resolve().parents[2]
 
 
 @cache
-def _program() -> str:
-    """The program's path. The launcher proves and builds it first where that is to be done, and says so."""
-    if named := os.environ.get("GPTP_SIM"):
-        return named
+def _built() -> str:
+    """The repository's program. The launcher proves and builds it first where that is to be done, and says so."""
     launcher = _TOP / "gptp_sim"
     ended = subprocess.run([launcher, "compare"], stdin=subprocess.DEVNULL, stdout=subprocess.DEVNULL, check=False)
     if ended.returncode != 0:
@@ -24,10 +22,11 @@ def _program() -> str:
 
 def ask(words: list[str], document: bytes, source: str) -> list[str]:
     """The lines that the program writes for a document. A refusal is told with the name of the document's file."""
+    program = os.environ.get("GPTP_SIM") or _built()
     try:
-        ended = subprocess.run([_program(), *words], input=document, capture_output=True, check=False)
+        ended = subprocess.run([program, *words], input=document, capture_output=True, check=False)
     except OSError as why:
-        raise Refused(f"{_program()}: {why.strerror}") from why
+        raise Refused(f"{program}: {why.strerror}") from why
     told = ended.stderr.decode(errors="replace").strip().partition("\n")[0]
     lines = ended.stdout.decode("ascii", errors="replace").splitlines()
     if ended.returncode == 1 and lines and lines[0].startswith("refused "):
