@@ -5,6 +5,7 @@ import re
 import sys
 import tomllib
 from dataclasses import dataclass, field
+from functools import cached_property
 from pathlib import Path
 from typing import Any
 
@@ -85,9 +86,13 @@ class Document:
     network: dict[str, int] = field(default_factory=dict)
     comment: str = ""
 
+    @cached_property
+    def _names(self) -> dict[str, str]:
+        return {system.clock: system.name for system in self.systems if system.name}
+
     def name(self, clock: str) -> str:
         """What a system is called: its name, else its clock."""
-        return next((system.name for system in self.systems if system.clock == clock and system.name), clock)
+        return self._names.get(clock, clock)
 
     def named(self, word: str) -> str | None:
         """The clock of the system of that name or clock."""
