@@ -1,6 +1,7 @@
 """The command line of `tools/planner`."""
 
 import argparse
+import os
 import re
 import sys
 from pathlib import Path
@@ -28,6 +29,9 @@ def main(words: list[str]) -> int:
     except MissingPackage as why:
         print(f"planner: {why}", file=sys.stderr)
         return 3
+    except BrokenPipeError:
+        os.dup2(os.open(os.devnull, os.O_WRONLY), sys.stdout.fileno())  # else Python complains as it ends
+        return 1
     except OSError as why:
         print(f"planner: {why.filename or 'standard output'}: {why.strerror}", file=sys.stderr)
         return 1
@@ -86,6 +90,7 @@ def _plot(arguments: Arguments) -> None:
 
 
 def _clock(document: Document, word: str, source: str) -> str:
+    """The clock of a system that is called by its clock or its name."""
     clock = document.named(word)
     if clock is None:
         raise Refused(f"{source}: there is no system {word}")

@@ -1,14 +1,12 @@
 """Networks from GraphML, as NetworkX and yEd write it."""
 
 import xml.etree.ElementTree as xml
-from typing import Callable, Iterator, TypeVar
+from typing import Iterator
 
 from .documents import read_file
 from .plans import Cable, Node
-from .refusal import Refused
+from .refusal import Refused, told_at
 from .tables import cable, node
-
-T = TypeVar("T")
 
 
 def read(path: str) -> tuple[list[Node], list[Cable]]:
@@ -21,23 +19,19 @@ def read(path: str) -> tuple[list[Node], list[Cable]]:
     except xml.ParseError as why:
         raise Refused(f"{path}: isn't XML: {why}") from why
     attributes = {key.get("id", ""): key.get("attr.name", "") for key in _all(top, "key")}
-    nodes, names = [], {}
+    nodes: list[Node] = []
+    cables: list[Cable] = []
+    names: dict[str, str] = {}
     for element in _all(top, "node"):
-        if not list(_all(element, "graph")):
-            data = _data(element, attributes)
-            name = data.get("name") or _label(element) or element.get("id", "")
-            names[element.get("id")] = name
-            nodes.append(_told(path, name, lambda: node(name, data)))
-    cables = [_told(path, "an edge", lambda: _cable(element, names, attributes)) for element in _all(top, "edge")]
+        if next(_all(element, "graph"), None) is None:
+            data, identity = _data(element, attributes), element.get("id", "")
+            names[identity] = data.get("name") or _label(element) or identity
+            with told_at(f"{path}: {names[identity]}"):
+                nodes.append(node(names[identity], data))
+    for element in _all(top, "edge"):
+        with told_at(f"{path}: an edge"):
+            cables.append(_cable(element, names, attributes))
     return nodes, cables
-
-
-def _told(path: str, what: str, make: Callable[[], T]) -> T:
-    """What is made; what is refused is told with its place."""
-    try:
-        return make()
-    except Refused as why:
-        raise Refused(f"{path}: {what}: {why}") from why
 
 
 def _all(element: xml.Element, tag: str) -> Iterator[xml.Element]:
@@ -56,11 +50,12 @@ def _label(element: xml.Element) -> str:
     return next((" ".join((label.text or "").split()) for label in _all(element, "NodeLabel")), "")
 
 
-def _cable(element: xml.Element, names: dict[str | None, str], attributes: dict[str, str]) -> Cable:
+def _cable(element: xml.Element, names: dict[str, str], attributes: dict[str, str]) -> Cable:
     """A link of an edge; its ports are attributes, or those of GraphML."""
     ends: dict[str, str] = {}
     for end, tag, port in (("a", "source", "sourceport"), ("b", "target", "targetport")):
-        if element.get(tag) not in names:
-            raise Refused(f"its {tag} {element.get(tag)} is no node")
-        ends |= {end: names[element.get(tag)], f"{end}_port": element.get(port, "")}
+        identity = element.get(tag, "")
+        if identity not in names:
+            raise Refused(f"its {tag} {identity} is no node")
+        ends |= {end: names[identity], f"{end}_port": element.get(port, "")}
     return cable(ends | {key: word for key, word in _data(element, attributes).items() if key not in ("a", "b")})

@@ -8,7 +8,7 @@ from typing import Callable, Iterator, Mapping, TypeVar
 
 from .documents import RANGES, read_text
 from .plans import Cable, Node, clock_of, in_range
-from .refusal import Refused
+from .refusal import Refused, told_at
 
 # what light and signals take for a metre, in ns: in fibre 4.9, in twisted pairs 4.8 to 5.6
 NS_A_METRE = {"copper": 5, "fibre": 5}
@@ -88,10 +88,8 @@ def _each(path: str, columns: tuple[str, ...], required: tuple[str, ...], member
     """The members of a table, each of its row; what is refused is told with the line."""
     members = []
     for number, row in _rows(path, columns, required):
-        try:
+        with told_at(f"{path}: line {number}"):
             members.append(member(row))
-        except Refused as why:
-            raise Refused(f"{path}: line {number}: {why}") from why
     return members
 
 
