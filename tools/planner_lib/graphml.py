@@ -1,0 +1,61 @@
+"""Networks from GraphML, as NetworkX and yEd write it."""
+
+import xml.etree.ElementTree as xml
+from typing import Iterator
+
+from .documents import read_file
+from .plans import Cable, Node
+from .refusal import Refused, told_at
+from .tables import cable, node
+
+
+def read(path: str) -> tuple[list[Node], list[Cable]]:
+    """The network of a file. Attributes that are called as the columns of tables are read, others passed over.
+
+    A system is called by its attribute `name`, else by its label (yEd), else by its id. Groups of yEd aren't systems.
+    """
+    try:
+        top = xml.fromstring(read_file(path))
+    except xml.ParseError as why:
+        raise Refused(f"{path}: isn't XML: {why}") from why
+    attributes = {key.get("id", ""): key.get("attr.name", "") for key in _all(top, "key")}
+    nodes: list[Node] = []
+    cables: list[Cable] = []
+    names: dict[str, str] = {}
+    for element in _all(top, "node"):
+        if next(_all(element, "graph"), None) is None:
+            data, identity = _data(element, attributes), element.get("id", "")
+            names[identity] = data.get("name") or _label(element) or identity
+            with told_at(f"{path}: {names[identity]}"):
+                nodes.append(node(names[identity], data))
+    for element in _all(top, "edge"):
+        with told_at(f"{path}: an edge"):
+            cables.append(_cable(element, names, attributes))
+    return nodes, cables
+
+
+def _all(element: xml.Element, tag: str) -> Iterator[xml.Element]:
+    """The elements below one that have a tag, of whatever namespace."""
+    return (below for below in element.iter() if below is not element and below.tag.rpartition("}")[2] == tag)
+
+
+def _data(element: xml.Element, attributes: dict[str, str]) -> dict[str, str]:
+    """An element's own attributes by name."""
+    own = [child for child in element if child.tag.rpartition("}")[2] == "data"]
+    return {attributes.get(child.get("key", ""), ""): (child.text or "").strip() for child in own}
+
+
+def _label(element: xml.Element) -> str:
+    """The first label that yEd shows in a box, its lines as one."""
+    return next((" ".join((label.text or "").split()) for label in _all(element, "NodeLabel")), "")
+
+
+def _cable(element: xml.Element, names: dict[str, str], attributes: dict[str, str]) -> Cable:
+    """A link of an edge; its ports are attributes, or those of GraphML."""
+    ends: dict[str, str] = {}
+    for end, tag, port in (("a", "source", "sourceport"), ("b", "target", "targetport")):
+        identity = element.get(tag, "")
+        if identity not in names:
+            raise Refused(f"its {tag} {identity} is no node")
+        ends |= {end: names[identity], f"{end}_port": element.get(port, "")}
+    return cable(ends | {key: word for key, word in _data(element, attributes).items() if key not in ("a", "b")})

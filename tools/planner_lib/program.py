@@ -1,0 +1,38 @@
+"""The program that is asked: the launcher at the top of the repository, or what GPTP_SIM names."""
+
+import os
+import subprocess
+from functools import cache
+from pathlib import Path
+
+from .refusal import Refused
+
+_TOP = Path(__file__).resolve().parents[2]
+
+
+@cache
+def _built() -> str:
+    """The repository's program. The launcher proves and builds it first where that is to be done, and says so."""
+    launcher = _TOP / "gptp_sim"
+    ended = subprocess.run([launcher, "compare"], stdin=subprocess.DEVNULL, stdout=subprocess.DEVNULL, check=False)
+    if ended.returncode != 0:
+        raise Refused(f"{launcher}: ends with {ended.returncode}")
+    return str(_TOP / "crates/gptp_sim/out/gptp_sim")
+
+
+def ask(words: list[str], document: bytes, source: str) -> list[str]:
+    """The lines that the program writes for a document. A refusal is told with the name of the document's file."""
+    program = os.environ.get("GPTP_SIM") or _built()
+    try:
+        ended = subprocess.run([program, *words], input=document, capture_output=True, check=False)
+    except OSError as why:
+        raise Refused(f"{program}: {why.strerror}") from why
+    told = ended.stderr.decode(errors="replace").strip().partition("\n")[0]
+    lines = ended.stdout.decode("ascii", errors="replace").splitlines()
+    if ended.returncode == 1 and lines and lines[0].startswith("refused "):
+        raise Refused(f"{source}: {lines[0]}")
+    if ended.returncode == 2:
+        raise Refused(f"gptp_sim doesn't read `{' '.join(words)}`: {told}")
+    if ended.returncode not in (0, 1):
+        raise Refused(f"gptp_sim {words[0]} ends with {ended.returncode}: {told}")
+    return lines
