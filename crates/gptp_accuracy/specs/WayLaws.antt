@@ -1,5 +1,5 @@
 -- How exact the time is that is carried over a whole way.
-use Rattle.std.specs.Prelude.{◌≡◌, ℕ, suc, ◌+◌, ◌-◌, ◌*◌, ◌<◌, ◌≤◌, ℤ, pos, ◌-ℤ◌, List, length}
+use Rattle.std.specs.Prelude.{◌≡◌, ℕ, suc, ◌+◌, ◌<◌, ◌≤◌, ℤ, ◌-ℤ◌, List, length}
 use Rattle.gptp_scaled.specs.Counts.{AreWithin}
 use Rattle.gptp_pdelay.specs.Clock.{IsDrift, local_clock}
 use Rattle.gptp_pdelay.specs.Measured.{AreMeasured}
