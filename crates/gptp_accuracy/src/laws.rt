@@ -2,12 +2,8 @@
 
 ghost use Rattle.gptp_accuracy.specs.HopLaws.{HopKeeps, LinkTimeIsAbove, LinkTimeIsBelow};
 ghost use Rattle.gptp_accuracy.specs.HopLaws.{OffsetIsWithin, StayIsAbove, StayIsBelow};
-ghost use Rattle.gptp_accuracy.specs.WayLaws.{
-  CarryIsWithin,
-  OffsetOfWayIsWithin,
-  ParentsErrorStays,
-  TimeErrorGoesByHops,
-};
+ghost use Rattle.gptp_accuracy.specs.WayLaws.{CarryIsWithin, OffsetOfWayIsWithin};
+ghost use Rattle.gptp_accuracy.specs.WayLaws.{ParentsErrorStays, TimeErrorGoesByHops};
 
 /// The time that a Sync was on a link, at the root's rate, isn't above what the root's clock counts in the greatest
 /// delay, but for the error of the rate from above and the rounding.
