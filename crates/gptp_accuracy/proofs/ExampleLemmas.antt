@@ -1,12 +1,12 @@
-use Rattle.std.proofs.Common.{◌≡◌, ℕ, zero, suc, ◌+◌, ◌-◌, ◌<◌, ◌≤◌, ℤ, pos, ◌-ℤ◌, List, length, refl, rules, arith}
+use Rattle.std.proofs.Common.{◌≡◌, ℕ, zero, suc, ◌+◌, ◌<◌, ◌≤◌, refl, rules, arith}
 use Rattle.std.proofs.lemmas.Int.{ints}
 use Rattle.gptp_pdelay.specs.Clock.{IsDrift}
 use Rattle.gptp_pdelay.specs.Measured.{AreMeasured, IsCarried, Moments}
-use Rattle.gptp_correction.specs.Carry.{hop_at, neighbour_at, BridgeFitsAt, CarryFits, SlaveFitsAt}
+use Rattle.gptp_correction.specs.Carry.{hop_at, neighbour_at, BridgeFitsAt, SlaveFitsAt}
 use Rattle.gptp_accuracy.specs.TimeError.{drift_at, jitter_at, link_at}
 use Rattle.gptp_accuracy.specs.Examples.{two_links_way}
 use Rattle.gptp_accuracy.specs.ExampleSync.{GoesOverTwoLinks, came, phases, sent, two_hops}
-use Rattle.gptp_accuracy.specs.WayLaws.{GoesOver, IsDocumented, shown_at}
+use Rattle.gptp_accuracy.specs.WayLaws.{shown_at}
 
 drifts : (i : ℕ) → i ≤ 2 → IsDrift (drift_at two_links_way i)
 drifts zero h = record { low = omega (arith, ints); high = omega (arith, ints) }

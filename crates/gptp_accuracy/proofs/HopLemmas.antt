@@ -1,15 +1,12 @@
-use Rattle.std.proofs.Common.{◌≡◌, ◌⊎◌, inl, inr, ℕ, zero, suc, ◌*◌, ◌+◌, ◌-◌, ◌/◌, ◌%◌, ◌<◌, ◌≤◌, ◌^◌, ℤ, pos, negsuc, ◌+ℤ◌, ◌-ℤ◌, ◌*ℤ◌, ◌≤ℤ◌, ◌<ℤ◌, ap, ◌∙◌, sym, refl, arith}
+use Rattle.std.proofs.Common.{◌≡◌, ℕ, ◌*◌, ◌+◌, ◌-◌, ◌/◌, ◌≤◌, ◌^◌, ℤ, pos, negsuc, ◌+ℤ◌, ◌*ℤ◌, ◌≤ℤ◌, ap, ◌∙◌, refl, arith}
 use Rattle.std.proofs.lemmas.Int.{ints}
-use Rattle.std.proofs.lemmas.Nat.{div-add-mod', mod_below}
 use Rattle.std.proofs.Math.Nat.{mul-le-mul_left}
 use Rattle.gptp_scaled.specs.Floor.{floor_div}
-use Rattle.gptp_scaled.specs.Rate.{IsNeighborRate, FitsRate, unit, unscaled_by, scaled_by}
+use Rattle.gptp_scaled.specs.Rate.{unit, scaled_by}
 use Rattle.gptp_scaled.specs.Counts.{AreWithin, IsClockRate, IsCounted}
-use Rattle.gptp_scaled.proofs.CountLemmas.{IsQuotient, quotient_is}
+use Rattle.gptp_scaled.proofs.CountLemmas.{quotient_is}
 use Rattle.gptp_pdelay.proofs.DelayLemmas.{IsScaled, scaled_is}
-use Rattle.gptp_correction.specs.declared.correction.Hop.{Hop}
-use Rattle.gptp_correction.specs.declared.sync_in.SyncInfo.{SyncInfo}
-use Rattle.gptp_correction.specs.Correction.{passage, link_time, relayed, received}
+use Rattle.gptp_correction.specs.Correction.{passage, link_time}
 use Rattle.gptp_accuracy.specs.TimeError.{hop_error}
 use Rattle.gptp_accuracy.specs.HopLaws.{IsRateWithin, AreRates, IsOverLink, IsRateBehind, HopKeeps, OffsetIsWithin}
 use Rattle.gptp_accuracy.proofs.LinkLemmas.{link_time_is_below, link_time_is_above, stay_is_below, stay_is_above}

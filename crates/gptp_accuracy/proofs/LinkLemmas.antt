@@ -1,7 +1,7 @@
 use Rattle.std.proofs.Common.{◌≡◌, ◌⊎◌, inl, inr, ℕ, ◌*◌, ◌+◌, ◌-◌, ◌<◌, ◌≤◌, ◌^◌, ap, arith}
 use Rattle.std.proofs.lemmas.Bool.{cases_lt}
 use Rattle.std.proofs.Math.Nat.{mul-le-mul_left}
-use Rattle.gptp_scaled.specs.Counts.{IsClockRate, IsCounted}
+use Rattle.gptp_scaled.specs.Counts.{IsClockRate}
 use Rattle.gptp_pdelay.specs.Measured.{IsDelayAbove, IsDelayBelow}
 use Rattle.gptp_pdelay.proofs.MeanLemmas.{cancel_left}
 use Rattle.gptp_accuracy.specs.HopLaws.{IsRateWithin, AreRates, LinkTimeIsBelow, LinkTimeIsAbove, StayIsBelow, StayIsAbove}

@@ -1,20 +1,18 @@
-use Rattle.std.proofs.Common.{◌≡◌, ◌⊎◌, inl, inr, ℕ, zero, suc, ◌*◌, ◌+◌, ◌-◌, ◌/◌, ◌<◌, ◌≤◌, ◌^◌, ℤ, pos, negsuc, ◌+ℤ◌, ◌-ℤ◌, ◌*ℤ◌, ◌≤ℤ◌, ◌<ℤ◌, unsigned_abs, List, length, ap, ◌∙◌, sym, refl, arith}
+use Rattle.std.proofs.Common.{◌≡◌, ℕ, zero, suc, ◌*◌, ◌+◌, ◌-◌, ◌/◌, ◌<◌, ◌≤◌, ℤ, pos, negsuc, ◌+ℤ◌, ◌-ℤ◌, ◌*ℤ◌, ◌≤ℤ◌, unsigned_abs, List, length, ap, ◌∙◌, sym, refl, arith}
 use Rattle.std.proofs.lemmas.Int.{ints}
 use Rattle.std.proofs.Math.Nat.{mul-le-mul_left}
 use Rattle.gptp_scaled.specs.Floor.{floor_div}
-use Rattle.gptp_scaled.specs.Rate.{FitsRate, IsNeighborRate, unit, rate_of, scaled_by}
-use Rattle.gptp_scaled.specs.Counts.{AreWithin, IsClockRate, IsCounted}
+use Rattle.gptp_scaled.specs.Rate.{FitsRate, IsNeighborRate, unit, scaled_by}
+use Rattle.gptp_scaled.specs.Counts.{AreWithin}
 use Rattle.gptp_scaled.proofs.CountLemmas.{IsQuotient, quotient_is, gain_is, rate_is_bounded}
-use Rattle.gptp_pdelay.specs.Clock.{IsDrift, local_clock}
 use Rattle.gptp_pdelay.specs.GoodLink.{ceil_div}
-use Rattle.gptp_pdelay.specs.Measured.{AreMeasured, Counts, IsMeasuredWithin, IsDelayWithin, clock_rate}
+use Rattle.gptp_pdelay.specs.Measured.{AreMeasured, IsMeasuredWithin}
 use Rattle.gptp_pdelay.proofs.MeasurementLemmas.{clock_counts, counts_between, measurement_is_within}
 use Rattle.gptp_correction.specs.declared.correction.Hop.{Hop}
 use Rattle.gptp_correction.specs.Sum.{sum_below}
-use Rattle.gptp_correction.specs.Correction.{link_time}
 use Rattle.gptp_correction.specs.Carry.{added_at, carry_of, hop_at, link_at as link_time_at, neighbour_at, rate_at, residence_at, CarryFits}
 use Rattle.gptp_correction.proofs.CarryLemmas.{carry_of-last}
-use Rattle.gptp_accuracy.specs.TimeError.{Link, Way, clock_at, drift_at, hop_error, hop_error_at, jitter_at, link_at, rate_error_at, rates_error_at, steady_rate_at, time_error, time_error_at, total_below, unlike_at, wait_error_at}
+use Rattle.gptp_accuracy.specs.TimeError.{Way, clock_at, drift_at, hop_error_at, jitter_at, link_at, rate_error_at, rates_error_at, steady_rate_at, time_error, time_error_at, total_below, wait_error_at}
 use Rattle.gptp_accuracy.specs.HopLaws.{IsOverLink, IsRateBehind, IsRateWithin}
 use Rattle.gptp_accuracy.specs.WayLaws.{CarryIsWithin, GoesOver, IsDocumented, OffsetOfWayIsWithin, TimeErrorGoesByHops, shown_at}
 use Rattle.gptp_accuracy.proofs.HopLemmas.{added_within, received_within}

@@ -1,13 +1,13 @@
 -- A Sync over two links of the ring, number by number.
-use Rattle.std.specs.Prelude.{◌≡◌, ℕ, zero, suc, ◌+◌, ℤ, pos, List, [], ◌∷◌}
+use Rattle.std.specs.Prelude.{◌≡◌, ℕ, zero, suc, ◌+◌, pos, List, [], ◌∷◌}
 use Rattle.gptp_correction.specs.declared.correction.Hop.{Hop}
 use Rattle.gptp_correction.specs.Carry.{carry_of, CarryFits}
-use Rattle.gptp_accuracy.specs.TimeError.{Way, time_error}
+use Rattle.gptp_accuracy.specs.TimeError.{time_error}
 use Rattle.gptp_accuracy.specs.Examples.{two_links_way}
 use Rattle.gptp_accuracy.specs.WayLaws.{GoesOver, IsDocumented, shown_at}
 
--- The Sync is sent at 2 s and is 390 ns, the least delay, on each link. Its Follow_Up comes to the bridge 20 ns behind it,
--- and the bridge sends on 1,000 ns later.
+-- The Sync is sent at 2 s and is 390 ns, the least delay, on each link. Its Follow_Up comes to the bridge 20 ns
+-- behind it, and the bridge sends on 1,000 ns later.
 abbrev pub sent : ℕ → ℕ
 sent zero = 2000000000
 sent (suc i) = 2000001410
@@ -16,8 +16,8 @@ abbrev pub came : ℕ → ℕ
 came zero = 2000000390
 came (suc i) = 2000001800
 
--- On each link the last request took 410 ns and its response 390 ns, 1 s after a request that took 390 ns and a response
--- that took 410 ns: so the neighbour seems to be fast by 20 ns in a second, and the delay to be 400 ns.
+-- On each link the last request took 410 ns and its response 390 ns, 1 s after a request that took 390 ns and a
+-- response that took 410 ns: so the neighbour seems to be fast by 20 ns in a second, and the delay to be 400 ns.
 abbrev pub two_hops : List Hop
 two_hops =
     record { delay = pos 26214401; neighbour = pos 43980; ingress = pos 131072025559040; egress = pos 131072092405760 }
@@ -28,8 +28,8 @@ two_hops =
 abbrev pub phases : ℕ → ℕ
 phases i = 0
 
--- The premises of the law are met, and the time that is carried is 1310722 units past the root's clock, 20 ns: each link
--- seems to be 10 ns longer than it was. The time error of the way is 2622278 units.
+-- The premises of the law are met, and the time that is carried is 1310722 units past the root's clock, 20 ns: each
+-- link seems to be 10 ns longer than it was. The time error of the way is 2622278 units.
 pub record GoesOverTwoLinks : Type 0 where
   pub documented : IsDocumented two_links_way
   pub goes : GoesOver two_links_way two_hops phases sent came

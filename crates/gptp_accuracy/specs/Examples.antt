@@ -33,6 +33,13 @@ ring_way = way (pos 0) (link 390 410 (pos 0) ∷ link 390 410 (pos 0) ∷ link 3
 abbrev pub two_links_way : Way
 two_links_way = way (pos 0) (link 390 410 (pos 0) ∷ link 390 410 (pos 0) ∷ []) 1000
 
+-- Three links of jitter 0, 20 and 500 ns and a residence of 10 ms. The links cost 19, 1311138 and 65556 * 500 + 22. At
+-- the first bridge the rate is right within 4, and it costs 10000410 * 4 / 33550000, rounded up, which is 2; at the
+-- second within 4 + 44044, and it costs 10000720 * 44048 / 33550000, which is 13131. What the jitter of the last link
+-- makes of its rate costs nothing.
+abbrev pub unequal_way : Way
+unequal_way = way (pos 0) (link 500 500 (pos 0) ∷ link 390 410 (pos 0) ∷ link 200 700 (pos 0) ∷ []) 10000000
+
 -- A root that is as fast as a clock may be, over a bridge that is as slow, and which keeps a Sync for 10 ms. The
 -- neighbour rate of the first link ought to be 439848634 and is 439804651, the limit: unlike by 43983. With the 4 of
 -- rounding the bridge costs 10000500 * 43987 / 33550000, rounded up, which is 13112; each link costs 19.

@@ -2,7 +2,8 @@
 
 ghost use Rattle.gptp_accuracy.specs.HopLaws.{HopKeeps, LinkTimeIsAbove, LinkTimeIsBelow};
 ghost use Rattle.gptp_accuracy.specs.HopLaws.{OffsetIsWithin, StayIsAbove, StayIsBelow};
-ghost use Rattle.gptp_accuracy.specs.WayLaws.{CarryIsWithin, OffsetOfWayIsWithin, TimeErrorGoesByHops};
+ghost use Rattle.gptp_accuracy.specs.WayLaws.{CarryIsWithin, OffsetOfWayIsWithin};
+ghost use Rattle.gptp_accuracy.specs.WayLaws.{ParentsErrorStays, TimeErrorGoesByHops};
 
 /// The time that a Sync was on a link, at the root's rate, isn't above what the root's clock counts in the greatest
 /// delay, but for the error of the rate from above and the rounding.
@@ -41,6 +42,11 @@ pub fn offset_is_within()
 /// The time error of a system is that of its parent, what its own link adds, and what the parent's wait adds.
 pub fn time_error_goes_by_hops()
     ensures { TimeErrorGoesByHops }
+{}
+
+/// Where a way goes on behind its last system, the time errors of the systems on it stay as they are.
+pub fn parents_error_stays()
+    ensures { ParentsErrorStays }
 {}
 
 /// The time that is carried over a whole way, from the root over any number of bridges, is within the time error of

@@ -65,8 +65,8 @@ MeanIsAbove = (least turnaround whole arrivals sendings up own e3 e4 y r : ℕ) 
     whole ≤ arrivals → 0 < arrivals → 2 ^ 41 * e3 ≤ r * e4 →
     65536 * (turnaround + 2 * least) * up ≤ r * (y + 2) + 2 ^ 41
 
--- A delay in 2^-16 ns isn't above what a clock of the rate `up` counts in the greatest delay, but for four units and the
--- 1525th part of the nanoseconds that an exchange takes at most.
+-- A delay in 2^-16 ns isn't above what a clock of the rate `up` counts in the greatest delay, but for four units and
+-- the 1525th part of the nanoseconds that an exchange takes at most.
 abbrev pub IsDelayBelow : ℕ → ℕ → ℕ → ℕ → Type 0
 IsDelayBelow most turnaround up delay =
     1525 * 2 ^ 41 * delay ≤ 1525 * 65536 * most * up + 2 ^ 41 * (6100 + 2 * most + turnaround)

@@ -80,8 +80,8 @@ pub fn mean_is_above()
 {}
 
 /// The meanLinkDelay that is measured over a link lies between its least and its greatest delay, by the neighbour's
-/// clock, whatever the turnaround. Rounding adds four units of 2^-16 ns at most, and the limit of 200 parts in a million
-/// on a neighbour rate the 1525th part of the nanoseconds that an exchange takes.
+/// clock, whatever the turnaround. Rounding adds four units of 2^-16 ns at most, and the limit of 200 parts in a
+/// million on a neighbour rate the 1525th part of the nanoseconds that an exchange takes.
 pub fn delay_is_within()
     ensures { DelayIsWithin }
 {}
