@@ -2,6 +2,7 @@
 
 from .documents import Document, End, Link
 from .pictures import draw
+from .refusal import Refused
 from .standing import PortStanding, Standing, SystemStanding
 
 _DOWN = "style=dotted, color=red, fontcolor=red"
@@ -9,6 +10,8 @@ _DOWN = "style=dotted, color=red, fontcolor=red"
 
 def graph(document: Document, standing: Standing, up: list[bool], title: str) -> str:
     """The network in DOT: a box a system, by rising clock, and an edge a link, in the order of the document."""
+    if standing.keys() != {system.clock for system in document.systems}:
+        raise Refused("the program tells of other systems than the document")
     lines = [
         "digraph network {",
         f"  label={_quoted(title)}; labelloc=t; fontname=Helvetica;",

@@ -44,9 +44,10 @@ def strips(document: Document, stretch: Stretch, colour: Mapping[str, str]) -> s
 
 
 def legend(document: Document, colour: Mapping[str, str]) -> str:
-    """Which colour is which root."""
-    return " ".join(f'<span class="root"><i style="background:{shade}"></i>{escape(document.name(root[12:]))}</span>'
-                    for root, shade in colour.items())
+    """Which colour is which root: its name and its priority1."""
+    names = {root: f"{escape(document.name(root[12:]))}, priority1 {int(root[:2], 16)}" for root in colour}
+    return " ".join(f'<span class="root"><i style="background:{colour[root]}"></i>{name}</span>'
+                    for root, name in names.items())
 
 
 def _pieces(stretch: Stretch, clock: str) -> Iterator[Piece]:
