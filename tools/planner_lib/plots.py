@@ -8,6 +8,7 @@ from .standing import in_seconds
 from .timelines import Sample
 
 _HEAD = """\
+set encoding utf8
 set terminal svg size 900,420 dynamic noenhanced font "Helvetica,11" name "errors"
 set xlabel "time in s"
 set ylabel "error in ns"
