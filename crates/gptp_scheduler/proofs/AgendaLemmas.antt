@@ -1,252 +1,282 @@
--- What is due in order says what the least entry is, and how it goes on holding the entries.
-use Rattle.std.proofs.Common.{◌≡◌, ℕ, ◌+◌, ◌<◌, Bool, true, false, List, [], ◌∷◌, ◌++◌, length, get_or, refl, sym, ap, ◌∙◌, arith, inl, inr, ◌⊎◌}
-use Rattle.std.proofs.Common.{Option, Some, None, ◌==◌, if◌then◌else◌}
-use Prim.Native.Nat.{zero, suc}
+-- What an agenda lists, and how it goes on being one.
+use Rattle.std.proofs.Common.{◌≡◌, ◌≢◌, ℕ, ◌+◌, ◌^◌, ◌<◌, ◌≤◌, nat_lt, Bool, true, false, List, [], ◌∷◌, ◌++◌, length, Option, Some, None, ◌⊎◌, if◌then◌else◌, refl, sym, ap, ◌∙◌, subst, inl, inr, arith}
+use Rattle.std.proofs.lemmas.Bool.{cases_eq, cases_lt}
 use Rattle.std.proofs.lemmas.Bool.Decides.{nat_tests}
-use Rattle.std.proofs.lemmas.List.Elements.{All-cons, All-contains, All-nil, All-tail, Contains-append_cases, Contains-append_right, Contains-get_or}
-use Rattle.std.proofs.lemmas.List.Sorted.{All-permutation, Contains-permutation, IsPermutation-to_front, IsPermutation-trans}
-use Rattle.std.specs.List.{Contains}
-use Rattle.std.specs.List.Sorted.{IsPermutation}
-use Rattle.std.specs.Option.{is_some, option_map}
-use Rattle.std.specs.Ordering.{is_lt}
-use Rattle.gptp_scheduler.specs.Pending.{Entry, entry, entry_at, without, IsFirst, IsNoEarlier, NothingDue}
-use Rattle.gptp_scheduler.specs.Order.{due_at, earlier, the_lesser, time_at, IsNoLater, IsLeast, IsLeastOf, IsThere, WasPut, Holds, IsFirstThere, IsSwept}
-use Rattle.gptp_scheduler.specs.declared.order.Due.{Due}
-use Rattle.gptp_scheduler.proofs.EntryLemmas.{absent, at-own, at-push_other, at-push_same, at-unused, at-without_other, at-without_same, number-at, rise-push, rise-without, none_is_no_time}
-use Rattle.gptp_scheduler.proofs.OrderLemmas.{front_least, held, least_of_both}
+use Rattle.std.proofs.lemmas.Option.{none-some, same_Some}
+use Rattle.std.specs.List.{All}
+use Rattle.std.specs.Option.{option_map}
+use Rattle.gptp_scheduler.specs.Pending.{Entry, entry, entry_at, without, IsFirst, IsNoEarlier, NothingDue, RiseFrom}
+use Rattle.gptp_scheduler.specs.Numbers.{Least, Greatest}
+use Rattle.gptp_scheduler.specs.Slots.{SameEnds}
+use Rattle.gptp_scheduler.specs.Chain.{ends_at, no_ends, numbers_in, IsHint, entry_of, leads, placed, placed_at, held, time_in, time_of, AreChained, StandsIn}
+use Rattle.gptp_scheduler.specs.Wheel.{first_of, AreBelow, Earliest, IsEarliest, IsWheel, Puts, Takes}
+use Rattle.gptp_scheduler.specs.Filed.{filed_at, listed, lives, living, IsAgenda, IsIn}
+use Rattle.gptp_scheduler.specs.declared.filed.Filed.{Filed}
+use Rattle.gptp_scheduler.specs.declared.key.Key.{Key}
+use Rattle.gptp_scheduler.specs.declared.key.Node.{Node}
+use Rattle.gptp_scheduler.specs.declared.slots.Ends.{Ends}
+use Rattle.std.proofs.lemmas.List.{get_or_past}
+use Rattle.gptp_scheduler.proofs.ChainLemmas.{number-stands}
+use Rattle.gptp_scheduler.proofs.WheelLemmas.{held-is, held-node, held-placed, place-within}
+use Rattle.gptp_scheduler.proofs.FiledLemmas.{below-next, entry-found, filed-put, filed-taken, listed-all, listed-put, listed-rise, listed-taken}
 
-among_one : (d e : Due) → Contains (d ∷ []) e → e ≡ d
-among_one d e (zero, within, is) = sym is
-among_one d e (suc k, within, is) = absurd (omega (arith, within))
+less_than : (a b : ℕ) → nat_lt a b ≡ true → a < b
+less_than a b test = grind (arith, nat_tests)
 
-module _ {T : Type 0} (es : List (Entry T)) where
-  there : (n t : ℕ) → time_at es n ≡ Some t → is_some (entry_at es n) ≡ true
-  there n t found = by (entry_at es n) found where
-    by : (o : Option (Entry T)) → option_map (λ (e : Entry T). e.time) o ≡ Some t → is_some o ≡ true
-    by None found = absurd (none_is_no_time t found)
-    by (Some e) found = refl
+no_less : (a b : ℕ) → nat_lt a b ≡ false → b ≤ a
+no_less a b test = grind (arith, nat_tests)
 
-  -- what was put and is there still is due when it was put for
-  pub is_there : (next : ℕ) (d : Due) → WasPut es next d → held es d ≡ true → IsThere es d
-  is_there next d put held = by (entry_at es d.number) refl held where
-    by : (o : Option (Entry T)) → entry_at es d.number ≡ o → is_some o ≡ true → IsThere es d
-    by None is held = absurd (grind (arith, held))
-    by (Some e) is held =
-        let found : time_at es d.number ≡ Some e.time = ap (option_map (λ (x : Entry T). x.time)) is in
-        found ∙ ap Some (put.time e.time found)
+module _ {T : Type 0} where
+  living-own : (e : Entry T) → living e.number (Some e) ≡ Some e
+  living-own e = grind (arith, nat_tests)
 
-  -- ---- the first
+  living-is : (n : ℕ) (e : Entry T) → e.number ≡ n → living n (Some e) ≡ Some e
+  living-is n e same = grind (arith, nat_tests)
 
-  module _ (dues : List Due) (next : ℕ) (holds : Holds es dues next) where
-    module _ (d : Due) (least : IsLeast dues d) where
-      earliest : (i : ℕ) (e : Entry T) → i < length es → IsNoEarlier d.time d.number (get_or es i e)
-      earliest i e within =
-          let x = get_or es i e in
-          let found : time_at es x.number ≡ Some x.time =
-          ap (option_map (λ (y : Entry T). y.time)) (at-own 0 es next i e holds.rising within) in
-          let after = All-contains (IsNoLater d) dues (due_at x.time x.number) least.least
-          (holds.complete x.time x.number found) in
-          record { not_before = after.by_time; by_number = λ same. after.by_number (sym same) }
+  living-dead : (n : ℕ) (e : Entry T) → e.number ≢ n → living n (Some e) ≡ None
+  living-dead n e differs = grind (arith, nat_tests)
 
-      pub nothing_due : (now : ℕ) → now < d.time → NothingDue es now
-      nothing_due now late = λ i e within. let first = (earliest i e within).not_before in omega (arith, first, late)
+  lives-number : (n : ℕ) (e : Entry T) → lives n (Some e) ≡ true → e.number ≡ n
+  lives-number n e is = grind (arith, nat_tests)
 
-      pub first_is : IsThere es d → IsFirst es d.time d.number
-      first_is is = record { member = is; least = earliest }
+  -- what stands at a key has the number, where that lives
+  pub lives-held : (n : ℕ) (o : Option (Entry T)) (e : Entry T) → o ≡ Some e → lives n o ≡ true → e.number ≡ n
+  lives-held n o e is living = lives-number n e (sym (ap (lives n) is) ∙ living)
 
-    pub no_entry : dues ≡ [] → es ≡ []
-    no_entry none = by es (λ i e within.
-        holds.complete (get_or es i e).time (get_or es i e).number
-        (ap (option_map (λ (y : Entry T). y.time)) (at-own 0 es next i e holds.rising within))) where
-          by : (xs : List (Entry T))
-              → ((i : ℕ) (e : Entry T) → i < length xs
-              → Contains dues (due_at (get_or xs i e).time (get_or xs i e).number))
-              → xs ≡ []
-          by [] among = refl
-          by (e ∷ xs) among =
-              let at : Contains [] (due_at e.time e.number) = rw none at (among 0 e (omega arith)) in
-              absurd (omega (arith, at.1))
+  pub lives-some : (n : ℕ) (o : Option (Entry T)) → lives n o ≡ true → (e : Entry T) × (o ≡ Some e)
+  lives-some n None is = absurd (cc)
+  lives-some n (Some e) is = (e, refl)
 
-    pub nothing_at_all : dues ≡ [] → (now : ℕ) → NothingDue es now
-    nothing_at_all none now = rw (no_entry none) (λ i e within. absurd (omega (arith, within)))
+  pub lives-not : (n : ℕ) (o : Option (Entry T)) → lives n o ≡ false → living n o ≡ None
+  lives-not n None is = refl
+  lives-not n (Some e) is = grind (arith, nat_tests)
 
-  -- what is taken is the entry of the first
-  pub taken_is : (d : Due) → IsThere es d → (t : ℕ) (item : T)
-      → option_map {U = ℕ × T} (λ (e : Entry T). (e.time, e.item)) (entry_at es d.number) ≡ Some (t, item)
-      → entry_at es d.number ≡ Some (entry d.time d.number item)
-  taken_is d is t item taken = by (entry_at es d.number) (number-at es d.number) is taken where
-    by : (o : Option (Entry T))
-        → option_map (λ (e : Entry T). e.number) o ≡ option_map (λ (e : Entry T). d.number) o
-        → option_map (λ (e : Entry T). e.time) o ≡ Some d.time
-        → option_map {U = ℕ × T} (λ (e : Entry T). (e.time, e.item)) o ≡ Some (t, item)
-        → o ≡ Some (entry d.time d.number item)
-    by None numbers times parts = absurd (none_is_no_time d.time times)
-    by (Some e) numbers times parts =
-        let number : e.number ≡ d.number = cc in let time : e.time ≡ d.time = cc in
-        let both : ◌≡◌ {A = ℕ × T} (e.time, e.item) (t, item) = cc in
-        let item_is : e.item ≡ item = ap (λ (p : ℕ × T). p.1) both in
-        ap (λ (x : ℕ). Some (entry x e.number e.item)) time
-        ∙ ap (λ (x : ℕ). Some (entry d.time x e.item)) number
-        ∙ ap (λ (x : T). Some (entry d.time d.number x)) item_is
+  -- ---- what is there
 
-  -- ---- with one entry more
+  module _ (nodes : ℕ → Option (Node T)) (base next : ℕ) (ends : List Ends) (fs : List Filed) (first : Option Key)
+      (agenda : IsAgenda nodes base next ends fs first) where
+    -- an entry is found under its number
+    pub entry-there : (k : ℕ) (e : Entry T) → held nodes k ≡ Some e → entry_at (listed nodes fs) e.number ≡ Some e
+    entry-there k e is =
+        entry-found nodes 0 fs next e.number k agenda.filed.rising (agenda.filed.filed k e is)
+        ∙ ap (living e.number) is ∙ living-own e
 
-  module _ (dues larger : List Due) (next time : ℕ) (item : T) (holds : Holds es dues next)
-      (same : IsPermutation (due_at time next ∷ dues) larger) where
-    abbrev now : List (Entry T)
-    now = es ++ entry time next item ∷ []
+    -- what stands at the key that a number was filed with
+    pub entry-filed : (n key : ℕ) → IsIn (filed_at n key) fs → entry_at (listed nodes fs) n ≡ living n (held nodes key)
+    entry-filed n key at = entry-found nodes 0 fs next n key agenda.filed.rising at
 
-    time-other : (n : ℕ) → (n ≡ next → ⊥) → time_at now n ≡ time_at es n
-    time-other n other = ap (option_map (λ (e : Entry T). e.time)) (at-push_other es (entry time next item) n other)
+    pub entry-filed-node : (n key : ℕ) (e : Node T) → IsIn (filed_at n key) fs → nodes key ≡ Some e → e.number ≡ n
+        → entry_at (listed nodes fs) n ≡ Some (entry_of (placed e))
+    entry-filed-node n key e at is same =
+        entry-filed n key at ∙ ap (λ o. living n (option_map entry_of (option_map placed o))) is
+        ∙ living-is n (entry_of (placed e)) same
 
-    time-new : time_at now next ≡ Some time
-    time-new = ap (option_map (λ (e : Entry T). e.time))
-        (at-push_same es (entry time next item) (at-unused 0 es next next holds.rising (omega arith)))
+    pub entry-filed-other : (n key : ℕ) (e : Node T) → IsIn (filed_at n key) fs → nodes key ≡ Some e → e.number ≢ n
+        → entry_at (listed nodes fs) n ≡ None
+    entry-filed-other n key e at is differs =
+        entry-filed n key at ∙ ap (λ o. living n (option_map entry_of (option_map placed o))) is
+        ∙ living-dead n (entry_of (placed e)) differs
 
-    put-new : WasPut now (next + 1) (due_at time next)
-    put-new = record {
-      given = omega arith;
-      time = λ t found. let times : Some time ≡ Some t = sym time-new ∙ found in cc;
-    }
+    pub entry-filed-gone : (n key : ℕ) → IsIn (filed_at n key) fs → nodes key ≡ None → entry_at (listed nodes fs) n ≡ None
+    entry-filed-gone n key at is =
+        entry-filed n key at ∙ ap (λ o. living n (option_map entry_of (option_map placed o))) is
 
-    put-kept : (d : Due) → WasPut es next d → WasPut now (next + 1) d
-    put-kept d put = record {
-      given = let less = put.given in omega (arith, less);
-      time = λ t found.
-          let other = time-other d.number (λ is. let less = put.given in omega (arith, less, is)) in
-          put.time t (sym other ∙ found);
-    }
-
-    complete-now : (t n : ℕ) → time_at now n ≡ Some t → Contains (due_at time next ∷ dues) (due_at t n)
-    complete-now t n found = by (n == next) refl where
-      by : (last : Bool) → (n == next) ≡ last → Contains (due_at time next ∷ dues) (due_at t n)
-      by true h =
-          let is : n ≡ next = grind (arith, nat_tests, h) in
-          let times : Some time ≡ Some t = sym time-new ∙ sym (ap (λ (m : ℕ). time_at now m) is) ∙ found in
-          let at : time ≡ t = cc in
-          (0, omega arith, ap (λ (x : ℕ). due_at x next) at ∙ ap (λ (m : ℕ). due_at t m) (sym is))
-      by false h =
-          let other : n ≡ next → ⊥ = λ is. grind (arith, nat_tests, h, is) in
-          Contains-append_right (due_at time next ∷ []) dues (due_at t n)
-          (holds.complete t n (sym (time-other n other) ∙ found))
-
-    pub holds-put : Holds now larger (next + 1)
-    holds-put = record {
-      put = All-permutation (WasPut now (next + 1)) (due_at time next ∷ dues) larger same
-          (All-cons (WasPut now (next + 1)) (due_at time next) dues put-new
-          (λ i d within. put-kept (get_or dues i d) (holds.put i d within)));
-      complete = λ t n found. Contains-permutation _ larger (due_at t n) same (complete-now t n found);
-      rising = rise-push 0 es (entry time next item) holds.rising;
-    }
-
-    -- the first is the new one, or the one before
-    abbrev new : Due
-    new = due_at time next
-
-    moved : (d : Due) → IsLeast (dues ++ new ∷ []) d → IsLeast larger d
-    moved d least =
-        let all = IsPermutation-trans _ _ _ (IsPermutation-to_front dues new) same in record {
-          member = Contains-permutation _ larger d all least.member;
-          least = All-permutation (IsNoLater d) _ larger all least.least;
+    pub first-is : (key : ℕ) (e : Entry T) → IsEarliest nodes key → held nodes key ≡ Some e
+        → IsFirst (listed nodes fs) e.time e.number
+    first-is key e least is =
+        let same : least.entry ≡ e = same_Some least.entry e (sym least.at_key ∙ is) in record {
+          member = ap (option_map (λ (x : Entry T). x.time)) (entry-there key e is);
+          least = subst (λ (x : Entry T). All (IsNoEarlier x.time x.number) (listed nodes fs)) same
+              (listed-all nodes (IsNoEarlier least.entry.time least.entry.number) (λ k d at. least.least k d at) fs);
         }
 
-    alone : IsLeast (new ∷ []) new
-    alone = front_least new [] (All-nil (IsNoLater new), tt)
+    pub first-node : (key : ℕ) (e : Node T) → IsEarliest nodes key → nodes key ≡ Some e
+        → IsFirst (listed nodes fs) e.time e.number
+    first-node key e least is = first-is key (entry_of (placed e)) least (held-is nodes key (placed e) (held-node nodes key e is))
 
-    kept-there : (d : Due) → Contains dues d → IsThere es d → IsThere now d
-    kept-there d among is =
-        let less = (All-contains (WasPut es next) dues d holds.put among).given in
-        time-other d.number (λ same. omega (arith, less, same)) ∙ is
+    pub not-due : (key : ℕ) (now : ℕ) → IsEarliest nodes key → now < time_of nodes key → NothingDue (listed nodes fs) now
+    not-due key now least late =
+        let one = held-placed nodes key least.entry least.at_key in
+        let time : time_of nodes key ≡ least.entry.time = ap time_in one.1 ∙ sym (ap (λ x. x.time) one.2) in
+        listed-all nodes (λ (e : Entry T). now < e.time)
+        (λ k d at. let first = (least.least k d at).not_before in omega arith) fs
 
-    pub first-put : (first : Option Due) → IsFirstThere es dues first
-        → IsFirstThere now larger (the_lesser first (Some new))
-    first-put None none = (moved new (least_of_both dues (new ∷ []) None (Some new) none alone), time-new)
-    first-put (Some d) is = by (is_lt (earlier new d)) refl where
-      both : IsLeastOf (dues ++ new ∷ []) (if is_lt (earlier new d) then Some new else Some d)
-      both = least_of_both dues (new ∷ []) (Some d) (Some new) is.0 alone
+    pub time-due : (key : ℕ) (e : Entry T) → held nodes key ≡ Some e → time_of nodes key ≡ e.time
+    time-due key e is = let one = held-placed nodes key e is in ap time_in one.1 ∙ sym (ap (λ x. x.time) one.2)
 
-      by : (t : Bool) → is_lt (earlier new d) ≡ t → IsFirstThere now larger (if t then Some new else Some d)
-      by true h = (moved new (rw h at both), time-new)
-      by false h = (moved d (rw h at both), kept-there d is.0.member is.1)
+    pub nothing-due : (now : ℕ) → Earliest nodes None → NothingDue (listed nodes fs) now
+    nothing-due now none = listed-all nodes (λ (e : Entry T). now < e.time) (λ k d at. absurd (none-some d (sym (none k) ∙ at))) fs
 
-  -- ---- with one entry less
+    pub rise : RiseFrom 0 (listed nodes fs) next
+    rise = listed-rise nodes 0 fs next agenda.filed.rising
 
-  module _ (dues : List Due) (next number : ℕ) (holds : Holds es dues next) where
-    abbrev left : List (Entry T)
-    left = without number es
+    pub unique-held : (j k : ℕ) (d b : Entry T) → held nodes j ≡ Some d → held nodes k ≡ Some b → d.number ≡ b.number → j ≡ k
+    unique-held j k d b at there same =
+        let one = held-placed nodes j d at in let other = held-placed nodes k b there in
+        agenda.wheel.chained.unique j k one.0 other.0 one.1 other.1
+        (sym (ap (λ x. x.number) one.2) ∙ same ∙ ap (λ x. x.number) other.2)
 
-    found-before : (n t : ℕ) → time_at left n ≡ Some t → time_at es n ≡ Some t
-    found-before n t found = by (n == number) refl where
-      by : (gone : Bool) → (n == number) ≡ gone → time_at es n ≡ Some t
-      by true h =
-          let is : n ≡ number = grind (arith, nat_tests, h) in
-          let none : time_at left n ≡ None = ap (time_at left) is
-          ∙ ap (option_map (λ (e : Entry T). e.time)) (at-without_same es number) in
-          absurd (none_is_no_time t (sym none ∙ found))
-      by false h =
-          sym (ap (option_map (λ (e : Entry T). e.time))
-          (at-without_other es number n (λ is. grind (arith, nat_tests, h, is)))) ∙ found
+    -- all numbers are below the next
+    pub all-below : AreBelow nodes next
+    all-below k p at =
+        let up = below-next 0 fs next (filed_at p.number k) agenda.filed.rising
+        (agenda.filed.filed k (entry_of p) (held-is nodes k p at)) in up.1
 
-    pub holds-without : Holds left dues next
-    holds-without = record {
-      put = λ i d within. let put = holds.put i d within in record {
-        given = put.given;
-        time = λ t found. put.time t (found-before (get_or dues i d).number t found);
+    pub stands-held : (key : ℕ) (e : Entry T) → held nodes key ≡ Some e → StandsIn nodes ends key
+    stands-held key e is =
+        let one = held-placed nodes key e is in
+        let made = agenda.wheel.made key one.0 one.1 in
+        let within = place-within base one.0.time one.0.slot (agenda.wheel.places key one.0 one.1) in
+        (one.0, one.1, omega arith)
+
+    -- all chains are made, where there were fewer
+    pub agenda-grown : (now : List Ends) → length now ≤ 2049 → SameEnds ends now → length ends ≤ length now
+        → IsAgenda nodes base next now fs first
+    agenda-grown now few same grows = record {
+      wheel = record {
+        chained = record {
+          few = few;
+          first = λ slot w. elim (cases_lt slot (length ends)) [
+            | inl within ↦ subst (λ (x : Ends). Least (numbers_in nodes slot) 0 x.first) (sym (same slot))
+                (chained.first slot within)
+            | inr past ↦ subst (λ (x : Ends). Least (numbers_in nodes slot) 0 x.first) (sym (added slot past))
+                (λ k n at. absurd (nothing slot past (omega arith) k n at))
+          ];
+          last = λ slot w. elim (cases_lt slot (length ends)) [
+            | inl within ↦ subst (λ (x : Ends). Greatest (numbers_in nodes slot) (2 ^ 64) x.last) (sym (same slot))
+                (chained.last slot within)
+            | inr past ↦ subst (λ (x : Ends). Greatest (numbers_in nodes slot) (2 ^ 64) x.last) (sym (added slot past))
+                (λ k n at. absurd (nothing slot past (omega arith) k n at))
+          ];
+          hint = λ slot w. elim (cases_lt slot (length ends)) [
+            | inl within ↦ subst (λ (x : Ends). IsHint nodes slot x.least) (sym (same slot)) (chained.hint slot within)
+            | inr past ↦ subst (λ (x : Ends). IsHint nodes slot x.least) (sym (added slot past)) tt
+          ];
+          after = λ k e at w.
+              let made = agenda.wheel.made k (placed e) (held-node nodes k e at) in chained.after k e at (omega arith);
+          before = λ k e at w.
+              let made = agenda.wheel.made k (placed e) (held-node nodes k e at) in chained.before k e at (omega arith);
+          unique = chained.unique;
+          small = chained.small;
+        };
+        made = λ k p at. let made = agenda.wheel.made k p at in omega arith;
+        places = agenda.wheel.places;
       };
-      complete = λ t n found. holds.complete t n (found-before n t found);
-      rising = rise-without 0 es next number holds.rising;
-    }
+      filed = agenda.filed;
+      first = agenda.first;
+    } where
+      chained : AreChained nodes ends
+      chained = agenda.wheel.chained
 
-  -- nothing was taken out
-  pub unremoved : (number : ℕ) → None ≡ option_map {U = ℕ × T} (λ (e : Entry T). (e.time, e.item)) (entry_at es number)
-      → without number es ≡ es
-  unremoved number none = absent es number (by (entry_at es number) none) where
-    by : (o : Option (Entry T)) → None ≡ option_map {U = ℕ × T} (λ (e : Entry T). (e.time, e.item)) o → o ≡ None
-    by None none = refl
-    by (Some e) none = absurd (grind (arith, none))
+      added : (slot : ℕ) → length ends ≤ slot → ends_at now slot ≡ no_ends
+      added slot past = same slot ∙ get_or_past ends slot no_ends past
 
-  -- ---- without what was taken out
+      nothing : (slot : ℕ) → length ends ≤ slot → slot < 2049 → (k n : ℕ) → numbers_in nodes slot k ≡ Some n → ⊥
+      nothing slot past small k n at =
+          let one = number-stands slot n (placed_at nodes k) at in
+          let made = agenda.wheel.made k one.0 one.1 in omega arith
 
-  pub holds-taken : (dues smaller : List Due) (next : ℕ) (d : Due) → Holds es dues next
-      → IsPermutation dues (d ∷ smaller) → held es d ≡ false → Holds es smaller next
-  holds-taken dues smaller next d holds same gone = record {
-    put = All-tail (WasPut es next) d smaller (All-permutation (WasPut es next) dues (d ∷ smaller) same holds.put);
-    complete = λ t n found. by t n found (Contains-append_cases (d ∷ []) smaller (due_at t n)
-        (Contains-permutation dues (d ∷ smaller) (due_at t n) same (holds.complete t n found)));
-    rising = holds.rising;
-  } where
-    by : (t n : ℕ) → time_at es n ≡ Some t → Contains (d ∷ []) (due_at t n) ⊎ Contains smaller (due_at t n)
-        → Contains smaller (due_at t n)
-    by t n found (inl top) =
-        let is = ap (λ (x : Due). x.number) (among_one d (due_at t n) top) in
-        let is_held = there n t found in absurd (grind (arith, is, is_held, gone))
-    by t n found (inr other) = other
+    -- ---- one is taken
 
-  module _ (dues after : List Due) (next : ℕ) (holds : Holds es dues next) (swept : IsSwept es dues after) where
-    pub holds-swept : Holds es after next
-    holds-swept = record {
-      put = λ i d within. All-contains (WasPut es next) dues (get_or after i d) holds.put
-          (swept.from (get_or after i d) (Contains-get_or after i d within));
-      complete = λ t n found. swept.kept (due_at t n) (there n t found) (holds.complete t n found);
-      rising = holds.rising;
-    }
+    module _ (new : ℕ → Option (Node T)) (after : ℕ) (now : List Ends) (key : ℕ) (e : Entry T) (takes : Takes nodes new key e)
+        (wheel : IsWheel new after now) (link : Option Key) (least : Earliest new link) where
+      pub agenda-taken : IsAgenda new after next now fs link
+      agenda-taken = record {
+        wheel = wheel;
+        filed = filed-taken nodes new key e takes next unique-held fs agenda.filed;
+        first = least;
+      }
 
-    -- the first is there, so that it is kept
-    pub first-swept : (first : Option Due) → IsFirstThere es dues first → IsFirstThere es after first
-    first-swept None none = by after swept.from where
-      by : (xs : List Due) → ((d : Due) → Contains xs d → Contains dues d) → xs ≡ []
-      by [] from = refl
-      by (d ∷ xs) from =
-          let among : Contains [] d = rw none at (from d (0, omega arith, refl)) in absurd (omega (arith, among.1))
-    first-swept (Some d) is = (
-      record {
-        member = swept.kept d (there d.number d.time is.1) is.0.member;
-        least = λ i e within. All-contains (IsNoLater d) dues (get_or after i e) is.0.least
-            (swept.from (get_or after i e) (Contains-get_or after i e within));
-      },
-      is.1,
-    )
+      pub taken-listed : listed new fs ≡ without e.number (listed nodes fs)
+      taken-listed = listed-taken nodes new key e takes next unique-held 0 fs agenda.filed.rising
 
-    pub least_of_first : (first : Option Due) → IsFirstThere es dues first → IsLeastOf dues first
-    least_of_first None none = none
-    least_of_first (Some d) is = is.0
+    -- where another was taken, the least stays
+    pub first-stays : (new : ℕ → Option (Node T)) (key : ℕ) (e : Entry T) → Takes nodes new key e → leads first key ≡ false
+        → Earliest new first
+    first-stays new key e takes apart = by first agenda.first apart where
+      by : (link : Option Key) → Earliest nodes link → leads link key ≡ false → Earliest new link
+      by None none apart = λ k. elim (cases_eq k key) [
+        | inl same ↦ ap (held new) same ∙ takes.gone
+        | inr differs ↦ takes.others k differs ∙ none k
+      ]
+      by (Some link) least apart = record {
+        entry = least.entry;
+        at_key = takes.others link.place (λ same. grind (arith, nat_tests, apart, same)) ∙ least.at_key;
+        least = λ k d is.
+            least.least k d (sym (takes.others k (λ same. none-some d (sym takes.gone ∙ ap (held new) (sym same) ∙ is))) ∙ is);
+      }
+
+    -- ---- one is put
+
+    module _ (new : ℕ → Option (Node T)) (now : List Ends) (key : Key) (time : ℕ) (item : T)
+        (puts : Puts nodes new key.place (entry time next item)) (wheel : IsWheel new base now) where
+      abbrev e : Entry T
+      e = entry time next item
+
+      pub put-listed : listed new (fs ++ filed_at next key.place ∷ []) ≡ listed nodes fs ++ e ∷ []
+      put-listed = listed-put nodes new key.place e puts 0 fs agenda.filed.rising
+
+      came : (k : ℕ) (d : Entry T) → held new k ≡ Some d → ((k ≡ key.place) × (d ≡ e)) ⊎ (held nodes k ≡ Some d)
+      came k d is = elim (cases_eq k key.place) [
+        | inl same ↦ inl (same, same_Some d e (sym is ∙ ap (held new) same ∙ puts.put))
+        | inr differs ↦ inr (sym (puts.others k differs) ∙ is)
+      ]
+
+      time-new : time_of new key.place ≡ time
+      time-new =
+          let one = held-placed new key.place e puts.put in ap time_in one.1 ∙ sym (ap (λ x. x.time) one.2)
+
+      first-new : ((k : ℕ) (d : Entry T) → held nodes k ≡ Some d → time < d.time) → IsEarliest new key.place
+      first-new above = record {
+        entry = e;
+        at_key = puts.put;
+        least = λ k d is. elim (came k d is) [
+          | inl one ↦ subst (λ (x : Entry T). IsNoEarlier time next x) (sym one.1)
+              (record { not_before = omega arith; by_number = λ same. omega arith })
+          | inr was ↦ let less = above k d was in record {
+            not_before = omega arith;
+            by_number = λ same. absurd (omega (arith, less, same));
+          }
+        ];
+      }
+
+      pub first-put : (link : Option Key) → Earliest nodes link → IsEarliest new (first_of new link key).place
+      first-put None none = first-new (λ k d is. absurd (none-some d (sym (none k) ∙ is)))
+      first-put (Some link) least = by (nat_lt (time_of new key.place) (time_of new link.place)) refl where
+        apart : link.place ≢ key.place
+        apart same = none-some least.entry (sym puts.free ∙ ap (held nodes) (sym same) ∙ least.at_key)
+
+        at_link : held new link.place ≡ Some least.entry
+        at_link = puts.others link.place apart ∙ least.at_key
+
+        time-link : time_of new link.place ≡ least.entry.time
+        time-link =
+            let one = held-placed new link.place least.entry at_link in ap time_in one.1 ∙ sym (ap (λ x. x.time) one.2)
+
+        by : (t : Bool) → nat_lt (time_of new key.place) (time_of new link.place) ≡ t
+            → IsEarliest new (if t then key else link).place
+        by true t = first-new (λ k d is.
+            let less = less_than _ _ t in let first = (least.least k d is).not_before in
+            omega (arith, less, time-new, time-link, first))
+        by false t =
+            let more = no_less _ _ t in record {
+              entry = least.entry;
+              at_key = at_link;
+              least = λ k d is. elim (came k d is) [
+                | inl one ↦ subst (λ (x : Entry T). IsNoEarlier least.entry.time least.entry.number x) (sym one.1)
+                    (record {
+                      not_before = omega (arith, more, time-new, time-link);
+                      by_number = λ same.
+                          let up = below-next 0 fs next (filed_at least.entry.number link.place) agenda.filed.rising
+                          (agenda.filed.filed link.place least.entry least.at_key) in omega (arith, up.1);
+                    })
+                | inr was ↦ least.least k d was
+              ];
+            }
+
+      pub agenda-put : IsAgenda new base (next + 1) now (fs ++ filed_at next key.place ∷ []) (Some (first_of new first key))
+      agenda-put = record {
+        wheel = wheel;
+        filed = filed-put nodes new key.place e puts fs agenda.filed;
+        first = first-put first agenda.first;
+      }

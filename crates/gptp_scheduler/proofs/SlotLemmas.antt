@@ -1,172 +1,137 @@
--- What stands in slots, by number.
-use Rattle.std.proofs.Common.{◌≡◌, ℕ, ◌+◌, ◌-◌, ◌<◌, ◌≤◌, Bool, true, false, nat_lt, List, [], ◌∷◌, ◌++◌, length, get_or, set, refl, sym, ap, ◌∙◌, arith, subst}
-use Rattle.std.specs.Prelude.{Option, Some, None}
-use Prim.Native.Nat.{zero, suc}
-use Rattle.std.proofs.lemmas.Bool.Decides.{nat_tests}
-use Rattle.std.proofs.lemmas.List.{append_assoc}
-use Rattle.std.specs.Option.{option_map}
-use Rattle.gptp_scheduler.specs.Pending.{Entry, entry, entry_at, without}
-use Rattle.gptp_scheduler.proofs.EntryLemmas.{absent, without-head, without-other_head}
-use Rattle.gptp_scheduler.specs.Slots.{entries_from, held}
-use Rattle.gptp_scheduler.specs.declared.slots.Slot.{Slot}
+-- How the bits of the slots follow their chains.
+use Rattle.std.proofs.Common.{◌≡◌, ◌≢◌, ℕ, ◌+◌, ◌*◌, ◌/◌, ◌%◌, ◌^◌, ◌<◌, ◌≤◌, List, [], length, get_or, set, replicate, None, IsSome, bit_and, bit_or, w64, refl, sym, ap, ◌∙◌, inl, inr, arith, length-set, get_or-set_same, get_or-set_other}
+use Rattle.std.specs.Int.{bit_at, bit_not, trailing_zeros}
+use Rattle.std.proofs.lemmas.Bool.{cases_eq, cases_lt}
+use Rattle.std.proofs.lemmas.List.{get_or-replicate, get_or_past}
+use Rattle.std.proofs.lemmas.Nat.Bits.{bit_at-zero, bit_at-trailing_zeros, bit_at_set_same, bit_at_set_other, bit_at_clear_same, bit_at_clear_other}
+use Rattle.gptp_scheduler.specs.Chain.{ends_at, no_ends}
+use Rattle.gptp_scheduler.specs.Slots.{slot_bit, AreFilled, SameEnds}
+use Rattle.gptp_scheduler.specs.declared.slots.Ends.{Ends}
 
-module _ {T : Type 0} where
-  -- a slot past the last, where nothing stands
-  abbrev pub no_slot : Slot T
-  no_slot = record { time = 0; item = None }
+pub filled-same : (filled : List ℕ) (ends new : List Ends) → SameEnds ends new → AreFilled filled ends
+    → AreFilled filled new
+filled-same filled ends new same sound = record {
+  words = sound.words;
+  clear = λ slot small bit. ap (λ e. e.first) (same slot) ∙ sound.clear slot small bit;
+  set = λ slot small bit. rw (same slot) (sound.set slot small bit);
+}
 
-  abbrev pub emptied : Slot T → Slot T
-  emptied s = record s { item = None }
+pub filled-none : AreFilled (replicate 32 0) []
+filled-none = record {
+  words = refl;
+  clear = λ slot small bit. refl;
+  set = λ slot small bit.
+      absurd (omega (
+        arith,
+        sym bit ∙ ap (λ n. bit_at n (slot % 64)) (get_or-replicate 32 (slot / 64) 0 0 (omega arith))
+            ∙ bit_at-zero (slot % 64),
+      ));
+}
 
-  -- ---- one slot
+-- chains that were added have no entry
+pub resized : (ends new : List Ends) (len : ℕ) → length ends ≤ len
+    → ((k : ℕ) (d : Ends) → k < len → k < length ends → get_or new k d ≡ get_or ends k d)
+    → ((k : ℕ) (d : Ends) → length ends ≤ k → k < len → get_or new k d ≡ no_ends)
+    → length new ≡ len → SameEnds ends new
+resized ends new len h kept added is slot = elim (cases_lt slot (length ends)) [
+  | inl within ↦ kept slot no_ends (omega arith) within
+  | inr past ↦ elim (cases_lt slot len) [
+    | inl here ↦ added slot no_ends past here ∙ sym (get_or_past ends slot no_ends past)
+    | inr out ↦ get_or_past new slot no_ends (omega (arith, is)) ∙ sym (get_or_past ends slot no_ends past)
+  ]
+]
 
-  -- another number is found beyond it
-  held-other : (time k n : ℕ) (item : Option T) (es : List (Entry T)) → (n ≡ k → ⊥)
-      → entry_at (held time k item ++ es) n ≡ entry_at es n
-  held-other time k n None es other = refl
-  held-other time k n (Some item) es other = grind (arith, nat_tests)
+module _ (ends : List Ends) (slot : ℕ) (new : Ends) where
+  pub ends-set_same : slot < length ends → ends_at (set ends slot new) slot ≡ new
+  ends-set_same within = get_or-set_same ends slot new no_ends within
 
-  -- its own number is found in it, where it isn't found beyond it
-  held-own : (time k : ℕ) (item : Option T) (es : List (Entry T)) → entry_at es k ≡ None
-      → entry_at (held time k item ++ es) k ≡ option_map (λ (x : T). entry time k x) item
-  held-own time k None es none = none
-  held-own time k (Some item) es none = grind (arith, nat_tests)
+  pub ends-set_other : (other : ℕ) → other ≢ slot → ends_at (set ends slot new) other ≡ ends_at ends other
+  ends-set_other other differs = get_or-set_other ends slot other new no_ends differs
 
-  -- what stands in it is taken out by its number
-  held-without_own : (time k : ℕ) (item : Option T) (es : List (Entry T)) → entry_at es k ≡ None
-      → without k (held time k item ++ es) ≡ es
-  held-without_own time k None es none = absent es k none
-  held-without_own time k (Some item) es none = without-head (entry time k item) es k refl none
+module _ (filled : List ℕ) (slot word : ℕ) (within : slot / 64 < length filled) where
+  bit-set_same : slot_bit (set filled (slot / 64) word) slot ≡ bit_at word (slot % 64)
+  bit-set_same = ap (λ n. bit_at n (slot % 64)) (get_or-set_same filled (slot / 64) word 0 within)
 
-  -- and stays where another is taken out
-  held-without_other : (time k n : ℕ) (item : Option T) (es : List (Entry T)) → (k ≡ n → ⊥)
-      → without n (held time k item ++ es) ≡ held time k item ++ without n es
-  held-without_other time k n None es other = refl
-  held-without_other time k n (Some item) es other = without-other_head (entry time k item) es n other
+  -- a word that keeps its other bits keeps the bit of each other slot
+  bit-set_other : ((i : ℕ) → i < 64 → i ≢ slot % 64 → bit_at word i ≡ bit_at (get_or filled (slot / 64) 0) i)
+      → (other : ℕ) → other ≢ slot → slot_bit (set filled (slot / 64) word) other ≡ slot_bit filled other
+  bit-set_other kept other differs =
+      elim (cases_eq (other / 64) (slot / 64)) [
+        | inl same ↦ rw (same, get_or-set_same filled (slot / 64) word 0 within)
+            (kept (other % 64) (omega arith) (λ index. differs (omega arith)))
+        | inr apart ↦ ap (λ n. bit_at n (other % 64)) (get_or-set_other filled (slot / 64) (other / 64) word 0 apart)
+      ]
 
-  -- ---- slots
-
-  pub entries-push : (k : ℕ) (slots : List (Slot T)) (s : Slot T)
-      → entries_from k (slots ++ s ∷ []) ≡ entries_from k slots ++ held s.time (k + length slots) s.item
-  entries-push k [] s =
-      let e : k ≡ k + 0 = omega arith in
-      nothing_behind (held s.time k s.item) ∙ ap (λ (n : ℕ). held s.time n s.item) e
-    where
-      nothing_behind : (es : List (Entry T)) → es ++ [] ≡ es
-      nothing_behind [] = refl
-      nothing_behind (x ∷ es) = ap (λ (ys : List (Entry T)). x ∷ ys) (nothing_behind es)
-  entries-push k (x ∷ slots) s =
-      let e : k + 1 + length slots ≡ k + suc (length slots) = omega arith in
-      ap (λ (es : List (Entry T)). held x.time k x.item ++ es)
-      (entries-push (k + 1) slots s ∙ ap (λ (n : ℕ). entries_from (k + 1) slots ++ held s.time n s.item) e)
-      ∙ sym (append_assoc (held x.time k x.item) (entries_from (k + 1) slots)
-      (held s.time (k + suc (length slots)) s.item))
-
-  -- a number below those of the slots is nowhere
-  pub at-below : (k : ℕ) (slots : List (Slot T)) (n : ℕ) → n < k → entry_at (entries_from k slots) n ≡ None
-  at-below k [] n low = refl
-  at-below k (s ∷ slots) n low =
-      held-other s.time k n s.item (entries_from (k + 1) slots) (λ same. omega (arith, same))
-      ∙ at-below (k + 1) slots n (omega arith)
-
-  -- so is one beyond them
-  pub at-beyond : (k : ℕ) (slots : List (Slot T)) (n : ℕ) → k + length slots ≤ n
-      → entry_at (entries_from k slots) n ≡ None
-  at-beyond k [] n high = refl
-  at-beyond k (s ∷ slots) n high =
-      held-other s.time k n s.item (entries_from (k + 1) slots) (λ same. omega (arith, same))
-      ∙ at-beyond (k + 1) slots n (omega arith)
-
-  -- the entry of a number whose slot this is
-  abbrev pub entry_in : ℕ → Slot T → Option (Entry T)
-  entry_in n s = option_map (λ (x : T). entry s.time n x) s.item
-
-  -- what a slot holds is the entry of its number
-  pub at-slot : (k : ℕ) (slots : List (Slot T)) (i : ℕ)
-      → entry_at (entries_from k slots) (k + i) ≡ entry_in (k + i) (get_or slots i no_slot)
-  at-slot k [] i = refl
-  at-slot k (s ∷ slots) zero =
-      let e : k + 0 ≡ k = omega arith in
-      rw e (held-own s.time k s.item (entries_from (k + 1) slots) (at-below (k + 1) slots k (omega arith)))
-  at-slot k (s ∷ slots) (suc i) =
-      let e : k + suc i ≡ k + 1 + i = omega arith in
-      rw e (held-other s.time k (k + 1 + i) s.item (entries_from (k + 1) slots) (λ same. omega (arith, same))
-      ∙ at-slot (k + 1) slots i)
-
-  -- an emptied slot takes its entry away
-  pub entries-empty : (k : ℕ) (slots : List (Slot T)) (i : ℕ)
-      → entries_from k (set slots i (emptied (get_or slots i no_slot))) ≡ without (k + i) (entries_from k slots)
-  entries-empty k [] i = refl
-  entries-empty k (s ∷ slots) zero =
-      let e : k + 0 ≡ k = omega arith in
-      rw e (sym (held-without_own s.time k s.item (entries_from (k + 1) slots)
-      (at-below (k + 1) slots k (omega arith))))
-  entries-empty k (s ∷ slots) (suc i) =
-      let e : k + suc i ≡ k + 1 + i = omega arith in
-      rw e (ap (λ (es : List (Entry T)). held s.time k s.item ++ es) (entries-empty (k + 1) slots i)
-      ∙ sym (held-without_other s.time k (k + 1 + i) s.item (entries_from (k + 1) slots) (λ same. omega (arith, same))))
-
-  -- so many empty slots were dropped from the front
-  pub record Dropped (count : ℕ) (before after : List (Slot T)) : Type 0 where
-    pub len : count + length after ≡ length before
-    pub entries : (first : ℕ) → entries_from (first + count) after ≡ entries_from first before
-
-  pub none_dropped : (slots : List (Slot T)) → Dropped 0 slots slots
-  none_dropped slots =
-      record { len = omega arith; entries = λ first. let e : first + 0 ≡ first = omega arith in rw e refl }
-
-  pub one_dropped : (count : ℕ) (before after rest : List (Slot T)) (s : Slot T) → Dropped count before after
-      → after ≡ s ∷ rest → s.item ≡ None → Dropped (count + 1) before rest
-  one_dropped count before after rest s so_far front empty =
-      let l : length after ≡ suc (length rest) = ap length front in
+module _ (filled : List ℕ) (ends : List Ends) (slot : ℕ) (new : Ends) (in_levels : slot < 2048)
+    (within : slot < length ends) (sound : AreFilled filled ends) where
+  pub filled-set : IsSome new.first
+      → AreFilled (set filled (slot / 64) (bit_or (get_or filled (slot / 64) 0) (1 * 2 ^ (slot % 64) % 2 ^ 64)))
+      (set ends slot new)
+  filled-set some =
+      let inside : slot / 64 < length filled = omega (arith, sound.words) in
+      let index : slot % 64 < 64 = omega arith in
+      let here = bit-set_same filled slot _ inside
+      ∙ bit_at_set_same w64 (get_or filled (slot / 64) 0) (slot % 64) index in
+      let others = bit-set_other filled slot _ inside
+      (λ i below differs. bit_at_set_other w64 (get_or filled (slot / 64) 0) (slot % 64) index i differs) in
       record {
-        len = omega (arith, so_far.len);
-        entries = λ first. let e : first + (count + 1) ≡ first + count + 1 = omega arith in
-            let gone : held s.time (first + count) s.item ≡ [] = ap (held s.time (first + count)) empty in
-            rw e (sym (ap (λ (es : List (Entry T)). es ++ entries_from (first + count + 1) rest) gone)
-            ∙ sym (ap (λ (xs : List (Slot T)). entries_from (first + count) xs) front) ∙ so_far.entries first);
+        words = length-set filled _ _ ∙ sound.words;
+        clear = λ other small bit.
+            elim (cases_eq other slot) [
+              | inl same ↦ absurd (omega (arith, here, rw same at bit))
+              | inr differs ↦ ap (λ e. e.first) (ends-set_other ends slot new other differs)
+                  ∙ sound.clear other small (sym (others other differs) ∙ bit)
+            ];
+        set = λ other small bit.
+            elim (cases_eq other slot) [
+              | inl same ↦ rw (same, ends-set_same ends slot new within) some
+              | inr differs ↦ rw (ends-set_other ends slot new other differs)
+                  (sound.set other small (sym (others other differs) ∙ bit))
+            ];
       }
 
-  -- the same by number
-  pub at-number : (first : ℕ) (slots : List (Slot T)) (n : ℕ) (slot : Slot T) → first ≤ n
-      → slot ≡ get_or slots (n - first) no_slot
-      → entry_at (entries_from first slots) n ≡ entry_in n slot
-  at-number first slots n slot h read =
-      let e : first + (n - first) ≡ n = omega arith in
-      let at : entry_at (entries_from first slots) n ≡ entry_in n (get_or slots (n - first) no_slot) =
-      subst (λ (m : ℕ). entry_at (entries_from first slots) m ≡ entry_in m (get_or slots (n - first) no_slot)) e
-      (at-slot first slots (n - first)) in
-      at ∙ ap (entry_in n) (sym read)
+  pub filled-clear : new.first ≡ None
+      → AreFilled (set filled (slot / 64) (bit_and (get_or filled (slot / 64) 0) (bit_not w64 (1 * 2 ^ (slot % 64) % 2 ^ 64))))
+      (set ends slot new)
+  filled-clear none =
+      let inside : slot / 64 < length filled = omega (arith, sound.words) in
+      let index : slot % 64 < 64 = omega arith in
+      let here = bit-set_same filled slot _ inside
+      ∙ bit_at_clear_same w64 (get_or filled (slot / 64) 0) (slot % 64) index in
+      let others = bit-set_other filled slot _ inside
+      (λ i below differs. bit_at_clear_other w64 (get_or filled (slot / 64) 0) (slot % 64) index i below differs) in
+      record {
+        words = length-set filled _ _ ∙ sound.words;
+        clear = λ other small bit.
+            elim (cases_eq other slot) [
+              | inl same ↦ ap (λ o. (ends_at (set ends slot new) o).first) same
+                  ∙ ap (λ e. e.first) (ends-set_same ends slot new within) ∙ none
+              | inr differs ↦ ap (λ e. e.first) (ends-set_other ends slot new other differs)
+                  ∙ sound.clear other small (sym (others other differs) ∙ bit)
+            ];
+        set = λ other small bit.
+            elim (cases_eq other slot) [
+              | inl same ↦ absurd (omega (arith, here, rw same at bit))
+              | inr differs ↦ rw (ends-set_other ends slot new other differs)
+                  (sound.set other small (sym (others other differs) ∙ bit))
+            ];
+      }
 
-  pub empty-number : (first : ℕ) (slots : List (Slot T)) (n : ℕ) → first ≤ n
-      → entries_from first (set slots (n - first) (emptied (get_or slots (n - first) no_slot)))
-      ≡ without n (entries_from first slots)
-  empty-number first slots n h =
-      let e : first + (n - first) ≡ n = omega arith in entries-empty first slots (n - first)
-      ∙ ap (λ (m : ℕ). without m (entries_from first slots)) e
+module _ (filled : List ℕ) (ends : List Ends) (sound : AreFilled filled ends) (word : ℕ) (below : word < 32) where
+  -- a word with no bit set has no entry
+  pub word-empty : get_or filled word 0 ≡ 0 → (slot : ℕ) → slot / 64 ≡ word → (ends_at ends slot).first ≡ None
+  word-empty clear slot at = sound.clear slot (omega arith) (rw (at, clear) (bit_at-zero (slot % 64)))
 
-  outside-step : (first : ℕ) (slots : List (Slot T)) (n : ℕ) → first ≤ n
-      → (n - first < length slots → false ≡ true) → (t : Bool) → nat_lt (n - first) (length slots) ≡ t
-      → entry_at (entries_from first slots) n ≡ None
-  outside-step first slots n h none true t =
-      let within : n - first < length slots = grind (arith, nat_tests) in let no : false ≡ true = none within in
-      absurd (grind (arith, no))
-  outside-step first slots n h none false t = at-beyond first slots n (grind (arith, nat_tests))
+  module _ (some : 0 < get_or filled word 0) (fits : get_or filled word 0 < 2 ^ 64) where
+    pub lowest-filled : IsSome (ends_at ends (word * 64 + trailing_zeros w64 (get_or filled word 0))).first
+    lowest-filled =
+        let bits = get_or filled word 0 in
+        let lowest = bit_at-trailing_zeros w64 bits some fits in
+        let at : (word * 64 + trailing_zeros w64 bits) / 64 ≡ word = omega (arith, lowest.0) in
+        let index : (word * 64 + trailing_zeros w64 bits) % 64 ≡ trailing_zeros w64 bits = omega (arith, lowest.0) in
+        sound.set _ (omega (arith, lowest.0)) (rw (at, index) lowest.1)
 
-  -- a number stands nowhere where its slot is none of the slots
-  pub at-outside : (first : ℕ) (slots : List (Slot T)) (n : ℕ) → first ≤ n
-      → (n - first < length slots → false ≡ true) → entry_at (entries_from first slots) n ≡ None
-  at-outside first slots n h none = outside-step first slots n h none (nat_lt (n - first) (length slots)) refl
-
-  -- a slot's item is that of its entry
-  pub item_is : (item : Option T) (time n : ℕ)
-      → item ≡ option_map {U = T} (λ (e : Entry T). e.item) (option_map (λ (x : T). entry time n x) item)
-  item_is None time n = refl
-  item_is (Some x) time n = refl
-
-  -- so are its time and its item
-  pub taken_is : (item : Option T) (time n : ℕ)
-      → option_map {U = ℕ × T} (λ (x : T). (time, x)) item
-      ≡ option_map {U = ℕ × T} (λ (e : Entry T). (e.time, e.item)) (option_map (λ (x : T). entry time n x) item)
-  taken_is None time n = refl
-  taken_is (Some x) time n = refl
+    pub below-lowest : (slot : ℕ) → slot / 64 ≡ word → slot < word * 64 + trailing_zeros w64 (get_or filled word 0)
+        → (ends_at ends slot).first ≡ None
+    below-lowest slot at before =
+        sound.clear slot (omega arith) (rw at ((bit_at-trailing_zeros w64 _ some fits).2 (slot % 64) (omega arith)))

@@ -1,15 +1,19 @@
--- The entries of an agenda by number.
-use Rattle.std.specs.Prelude.{ℕ, ◌+◌, List, [], ◌∷◌, ◌++◌, Option, Some, None}
-use Rattle.gptp_scheduler.specs.Pending.{Entry, entry}
-use Rattle.gptp_scheduler.specs.declared.slots.Slot.{Slot}
+-- Which slots have an entry.
+use Rattle.std.specs.Prelude.{◌≡◌, ℕ, ◌/◌, ◌%◌, ◌<◌, List, length, slice_index, None, IsSome}
+use Rattle.std.specs.Int.{bit_at}
+use Rattle.gptp_scheduler.specs.Chain.{ends_at}
+use Rattle.gptp_scheduler.specs.declared.slots.Ends.{Ends}
 
-module _ {T : Type 0} where
-  -- what is to be done then under this number, if anything is
-  abbrev pub held : ℕ → ℕ → Option T → List (Entry T)
-  held time number None = []
-  held time number (Some item) = entry time number item ∷ []
+-- the bit of a slot
+abbrev pub slot_bit : List ℕ → ℕ → ℕ
+slot_bit filled slot = bit_at (slice_index filled (slot / 64)) (slot % 64)
 
-  -- what stands in these slots, where the first slot has this number
-  abbrev pub entries_from : ℕ → List (Slot T) → List (Entry T)
-  entries_from number [] = []
-  entries_from number (slot ∷ rest) = held slot.time number slot.item ++ entries_from (number + 1) rest
+-- the bit of a slot of the eight levels is set exactly where its chain has a first
+pub record AreFilled (filled : List ℕ) (ends : List Ends) : Type 0 where
+  pub words : length filled ≡ 32
+  pub clear : (slot : ℕ) → slot < 2048 → slot_bit filled slot ≡ 0 → (ends_at ends slot).first ≡ None
+  pub set : (slot : ℕ) → slot < 2048 → slot_bit filled slot ≡ 1 → IsSome (ends_at ends slot).first
+
+-- each chain is as it was
+abbrev pub SameEnds : List Ends → List Ends → Type 0
+SameEnds old new = (slot : ℕ) → ends_at new slot ≡ ends_at old slot

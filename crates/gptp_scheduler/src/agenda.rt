@@ -1,34 +1,41 @@
 //! An agenda of what is to be done.
 
-ghost use Rattle.std.specs.Prelude.{◌≡◌, ℕ, ◌+◌, ◌^◌, ◌<◌, ◌≤◌, [], ◌∷◌, ◌++◌, Option, IsOk, OnOk, OnErr, IfOk, IfSome, IfNone, Some, option_copied};
+ghost use Rattle.std.specs.Prelude.{◌≡◌, ℕ, ◌+◌, ◌^◌, ◌<◌, ◌≤◌, [], ◌∷◌, ◌++◌, IsOk, OnOk, OnErr, IfOk, IfSome, IfNone, option_copied, Some, is_some};
 ghost use Rattle.std.specs.Option.{option_map};
-ghost use Rattle.gptp_scheduler.specs.Pending.{entry, entry_at, without, IsFirst, NothingDue, RiseFrom};
-ghost use Rattle.gptp_scheduler.specs.Order.{Holds, IsFirstThere, IsLeastOf};
-ghost use Rattle.gptp_scheduler.specs.declared.order.Due.{Due};
+ghost use Rattle.slab.specs.Slab.{get};
+ghost use Rattle.gptp_scheduler.specs.Pending.{entry, entry_at, Entry, without, IsFirst, NothingDue, RiseFrom};
+ghost use Rattle.gptp_scheduler.specs.Places.{IsPlace};
 
-use crate::order::{Beside, Due, Queue, lesser};
+use crate::chains::time_at;
+use crate::filed::{self, Filed, find, is_live};
+use crate::key::{Key, Node};
 use crate::slots::Slots;
+use crate::wheel::{earlier_of, earliest, earliest_left, put, take, take_earliest};
+use slab::Slab;
 use std::alloc::{AllocError, Global};
-use std::cmp::Reverse;
-use std::collections::BinaryHeap;
 use std::marker::Model;
-
-/// Most of what is put is due later than the last of its kind: so runs come first, and a heap takes what fits in none.
-type Order = Beside<Beside<Beside<Beside<BinaryHeap<Reverse<Due>>>>>>;
 
 /// What is to be done, each entry at a time of its own, in ns. An entry gets a number when it is put,
 /// rising from 0. The least entry is the first of least time.
 ///
 /// It is seen as the number of the next entry, the list of the entries in order of putting, and how many
 /// more can be put without being refused.
+///
+/// It is a timing wheel: eight levels of 256 slots, one octet of the time each, hold the entries as chains.
 #[derive(Drop)]
 pub struct Agenda<T> {
-    // The times and numbers of all entries, and of some that were cancelled.
-    order: Order,
-    // The least of them, which wasn't.
-    first: Option<Due>,
-    entries: Slots<T>,
-    // Both have room for so many more, or for more than that: whether there is room for a put is one comparison.
+    // The greatest time taken so far.
+    base: u64,
+    // The number of the next entry.
+    next: u64,
+    nodes: Slab<Node<T>>,
+    slots: Slots,
+    // Where the entry of each number stands, by rising number, and where some stood that are gone.
+    filed: Vec<Filed>,
+    // The least entry.
+    first: Option<Key>,
+    // The slab and the vector have room for so many more, or for more than that, and all chains are made where that is
+    // above 0: whether there is room for a put is one comparison.
     spare: usize,
 }
 
@@ -39,15 +46,15 @@ impl<T> Model for Agenda<T> {
 
     ghost coded = { pending_code T.code };
 
-    ghost use Rattle.gptp_scheduler.specs.Order.{Holds, HasSpare, IsFirstThere};
+    ghost use Rattle.std.specs.Prelude.{vec_capacity, vec_len};
+    ghost use Rattle.slab.specs.Slab.{get};
+    ghost use Rattle.gptp_scheduler.specs.Filed.{listed, HasSpare, IsAgenda};
 
-    ghost view = { λ a. record { next = a.entries.next; entries = a.entries.entries; room = a.spare } };
+    ghost view = { λ a. record { next = a.next; entries = listed (get a.nodes) a.filed.items; room = a.spare } };
 
     ghost invariant = { λ a.
-        Holds a.entries.entries (⟦<Order as Queue>⟧.dues a.order) a.entries.next
-        × ⟦<Order as Queue>⟧.ordered a.order
-        × IsFirstThere a.entries.entries (⟦<Order as Queue>⟧.dues a.order) a.first
-        × HasSpare a.spare a.entries.room a.entries.next (⟦<Order as Queue>⟧.room a.order) };
+        IsAgenda (get a.nodes) a.base a.next a.slots a.filed.items a.first
+        × HasSpare a.spare a.next (vec_len a.filed) (vec_capacity a.filed) a.nodes a.slots };
 }
 
 impl<T: Drop> Agenda<T> {
@@ -57,15 +64,12 @@ impl<T: Drop> Agenda<T> {
         ensures entries { result.entries ≡ [] }
     {
         Agenda {
-            order: Beside::new(
-                alloc,
-                Beside::new(
-                    alloc,
-                    Beside::new(alloc, Beside::new(alloc, BinaryHeap::new(alloc))),
-                ),
-            ),
+            base: 0,
+            next: 0,
+            nodes: Slab::new(alloc),
+            slots: Slots::new(alloc),
+            filed: Vec::new(alloc),
             first: None,
-            entries: Slots::new(alloc),
             spare: 0,
         }
     }
@@ -81,9 +85,16 @@ impl<T: Drop> Agenda<T> {
         ensures succeeds { additional ≤ self.old.room → IsOk result }
     {
         if self.spare < additional {
-            self.entries.reserve(additional)?;
-            self.order.reserve(additional, &self.entries)?;
-            self.spare = self.order.room().min(self.entries.room());
+            let numbers = u64::MAX - self.next;
+            if numbers < additional as u64 {
+                return Err(AllocError);
+            }
+            self.slots.grow()?;
+            self.nodes.reserve(additional)?;
+            filed::reserve(&mut self.filed, additional, &self.nodes)?;
+            let nodes = self.nodes.capacity() - self.nodes.len();
+            let filed = self.filed.capacity() - self.filed.len();
+            self.spare = nodes.min(filed).min(numbers as usize);
         }
         Ok(())
     }
@@ -100,11 +111,18 @@ impl<T: Drop> Agenda<T> {
         ensures succeeds { 0 < self.old.room → IsOk result }
     {
         self.reserve(1)?;
-        let number = self.entries.next_number();
-        let due = Due { time, number };
-        self.order.put(due);
-        self.entries.push(time, item);
-        self.first = lesser(self.first, Some(due));
+        let number = self.next;
+        let key = put(
+            &mut self.nodes,
+            &mut self.slots,
+            self.base,
+            time,
+            number,
+            item,
+        );
+        self.filed.push_reserved(Filed { number, key });
+        self.first = Some(earlier_of(&self.nodes, self.first, key));
+        self.next += 1;
         self.spare -= 1;
         Ok(number)
     }
@@ -114,15 +132,21 @@ impl<T: Drop> Agenda<T> {
         ensures first { IfSome result (λ due. IsFirst self.now.entries due.0 due.1) }
         ensures empty { IfNone result (self.now.entries ≡ []) }
     {
-        let due = self.first?;
-        Some((due.time, due.number))
+        let node = self.nodes.get(self.first?.place)?;
+        Some((node.time, node.number))
     }
 
     /// The item of the entry of a number, wherever it stands, if it is there. Takes no memory.
     pub fn item(&self, number: u64) -> Option<&T>
         ensures { option_copied result ≡ option_map (λ e. e.item) (entry_at self.now.entries number) }
     {
-        self.entries.item(number)
+        let key = find(&self.filed, number)?;
+        let node = self.nodes.get(key.place)?;
+        if node.number == number {
+            Some(&node.item)
+        } else {
+            None
+        }
     }
 
     /// Takes the least entry out, where it is due: its time, its number and its item.
@@ -136,13 +160,13 @@ impl<T: Drop> Agenda<T> {
         ensures next { self.new.next ≡ self.old.next }
         ensures room { self.old.room ≤ self.new.room }
     {
-        let due = self.first?;
-        if now < due.time {
+        let key = self.first?;
+        if now < time_at(&self.nodes, key) {
             return None;
         }
-        let (_, item) = self.entries.remove(due.number).unwrap();
-        uncover(&mut self.first, &mut self.order, &self.entries);
-        Some((due.time, due.number, item))
+        let node = take_earliest(&mut self.nodes, &mut self.slots, &mut self.base, key);
+        self.first = earliest(&self.nodes, &mut self.slots);
+        Some((node.time, node.number, node.item))
     }
 
     /// Takes the entry of a number out, wherever it stands, and answers its item, if it is there.
@@ -152,34 +176,33 @@ impl<T: Drop> Agenda<T> {
         ensures next { self.new.next ≡ self.old.next }
         ensures room { self.old.room ≤ self.new.room }
     {
-        let (_, item) = self.entries.remove(number)?;
-        uncover(&mut self.first, &mut self.order, &self.entries);
-        Some(item)
+        let key = find(&self.filed, number)?;
+        if !is_live(&self.nodes, Filed { number, key }) {
+            return None;
+        }
+        let node = take(&mut self.nodes, &mut self.slots, key);
+        self.first = earliest_left(&self.nodes, &mut self.slots, self.first, key);
+        Some(node.item)
     }
 
     /// Numbers rise in order of putting, from 0 on, and all lie below the next.
     pub fn numbers_rise(&self)
         ensures { RiseFrom 0 self.now.entries self.now.next }
     {
-        let _ = &self.order;
+        let _ = &self.filed;
     }
-}
 
-/// Drops what was cancelled from the front, so that the first is there.
-fn uncover<T, Q: Queue>(first: &mut Option<Due>, order: &mut Q, entries: &Slots<T>)
-    requires holds { Holds entries.now.entries (Q.dues order.old) entries.now.next }
-    requires ordered { Q.ordered order.old }
-    requires least { IsLeastOf (Q.dues order.old) first.old }
-    ensures holds { Holds entries.now.entries (Q.dues order.new) entries.now.next }
-    ensures ordered { Q.ordered order.new }
-    ensures first { IsFirstThere entries.now.entries (Q.dues order.new) first.new }
-    ensures room { Q.room order.old ≤ Q.room order.new }
-{
-    while let Some(due) = *first {
-        if entries.holds(due.number) {
-            break;
+    /// The slot at which the entry of a number stands.
+    pub(crate) fn slot(&self, number: u64) -> Option<usize>
+        ensures there { is_some result ≡ is_some (entry_at self.now.entries number) }
+        ensures stands { IfSome result (λ slot. (e : Entry T) → entry_at self.now.entries number ≡ Some e → (base : ℕ) × IsPlace base e.time slot) }
+    {
+        let key = find(&self.filed, number)?;
+        let node = self.nodes.get(key.place)?;
+        if node.number == number {
+            Some(node.slot)
+        } else {
+            None
         }
-        order.take(due);
-        *first = order.first();
     }
 }

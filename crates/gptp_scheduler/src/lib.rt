@@ -7,7 +7,13 @@
 #![tactic(auto)]
 
 mod agenda;
-mod order;
+mod chains;
+mod filed;
+mod key;
+mod laws;
+mod places;
 mod slots;
+mod wheel;
 
 pub use agenda::Agenda;
+pub use laws::place;

@@ -1,167 +1,119 @@
-//! The entries of an agenda by number.
+//! The ends of all chains, and which slots have an entry. Its bits follow those of the wheel of the `futures` crate.
 
-ghost use Rattle.std.specs.Prelude.{◌≡◌, ℕ, ◌+◌, ◌-◌, ◌^◌, ◌<◌, ◌≤◌, [], ◌∷◌, ◌++◌, length, slice_index_or, slice_set, IsOk, OnOk, OnErr, Some, None, option_copied};
-ghost use Rattle.std.specs.VecDeque.{deque_len, deque_capacity};
-ghost use Rattle.std.specs.Option.{is_some, option_map};
-ghost use Rattle.gptp_scheduler.specs.Pending.{entry, entry_at, without};
-ghost use Rattle.gptp_scheduler.specs.Slots.{entries_from};
+ghost use Rattle.std.specs.Prelude.{◌≡◌, ℕ, ◌≤◌, ◌<◌, [], length, OnOk, OnErr, IfSome, IfNone, IsSome, None, slice_set};
+ghost use Rattle.gptp_scheduler.specs.Chain.{ends_at};
+ghost use Rattle.gptp_scheduler.specs.Slots.{SameEnds};
 
+use crate::key::Key;
 use std::alloc::{AllocError, Global};
-use std::collections::VecDeque;
 use std::marker::Model;
 
-/// What stands at a number: a time, in ns, and what is to be done then, or nothing any more.
+/// How many slots the eight levels have. The slot of this number is the chain of what was put below the base.
+pub(crate) const LEVELS_END: usize = 2048;
+
+/// The first and the last entry of a chain, and its least where that is known.
+#[derive(Clone, Copy)]
+pub(crate) struct Ends {
+    pub(crate) first: Option<Key>,
+    pub(crate) last: Option<Key>,
+    pub(crate) least: Option<Key>,
+}
+
+const NO_ENDS: Ends = Ends {
+    first: None,
+    last: None,
+    least: None,
+};
+
+/// The ends of 2,049 chains, or of none before the first growth.
 #[derive(Drop)]
-pub(crate) struct Slot<T> {
-    time: u64,
-    item: Option<T>,
+pub(crate) struct Slots {
+    // Bit `slot % 64` of the word `slot / 64` says whether a slot of the levels has an entry.
+    filled: [u64; 32],
+    ends: Vec<Ends>,
 }
 
-/// The entries from the oldest that is still there on, a slot for each number. It is seen as an
-/// agenda.
-#[derive(Drop)]
-pub(crate) struct Slots<T> {
-    first: u64,
-    slots: VecDeque<Slot<T>>,
+impl Model for Slots {
+    ghost use Rattle.std.specs.Prelude.{List};
+    ghost use Rattle.gptp_scheduler.specs.Slots.{AreFilled};
+    ghost use Rattle.gptp_scheduler.specs.declared.slots.Ends.{Ends};
+
+    ghost Value = { List Ends };
+
+    ghost view = { λ s. s.ends.items };
+
+    ghost invariant = { λ s. AreFilled s.filled s.ends.items };
 }
 
-impl<T> Model for Slots<T> {
-    ghost use Rattle.std.specs.Prelude.{◌+◌, ◌-◌, ◌^◌, ◌<◌, length};
-    ghost use Rattle.std.specs.Prelude.{min};
-    ghost use Rattle.std.specs.VecDeque.{deque_len, deque_capacity};
-    ghost use Rattle.gptp_scheduler.specs.Pending.{Pending, pending_code};
-
-    ghost Value = { Pending T };
-
-    ghost coded = { pending_code T.code };
-
-    ghost use Rattle.gptp_scheduler.specs.Slots.{entries_from};
-
-    ghost view = { λ s. record {
-      next = s.first + length s.slots.items;
-      entries = entries_from s.first s.slots.items;
-      room = min (deque_capacity s.slots - deque_len s.slots) (2 ^ 64 - 1 - (s.first + length s.slots.items));
-    } };
-
-    ghost invariant = { λ s. s.first + length s.slots.items < 2 ^ 64 };
-}
-
-impl<T> Slots<T> {
-    /// No entry, and number 0 next. Takes no memory.
+impl Slots {
+    /// No chains. Takes no memory.
     pub fn new(alloc: Global) -> Self
-        ensures next { result.next ≡ 0 }
-        ensures entries { result.entries ≡ [] }
+        ensures { result ≡ [] }
     {
         Slots {
-            first: 0,
-            slots: VecDeque::new(alloc),
+            filled: [0; 32],
+            ends: Vec::new(alloc),
         }
     }
 
-    /// The number of the next entry.
-    pub fn next_number(&self) -> u64
-        ensures { result ≡ self.now.next }
+    /// How many chains there are.
+    pub fn len(&self) -> usize
+        ensures { result ≡ length self.now }
     {
-        self.first + self.slots.len() as u64
+        self.ends.len()
     }
 
-    /// Makes room for so many more entries. Refused where there is no memory or no number for them.
-    pub fn reserve(&mut self, additional: usize) -> Result<(), AllocError>
-        ensures kept { self.new ≡ record self.old { room = self.new.room } }
-        ensures room { self.old.room ≤ self.new.room }
-        ensures ok { OnOk result (additional ≤ self.new.room) }
-        ensures numbers { OnOk result (self.old.next + additional < 2 ^ 64) }
-        ensures succeeds { additional ≤ self.old.room → IsOk result }
+    /// Makes all 2,049 chains, where there are fewer.
+    pub fn grow(&mut self) -> Result<(), AllocError>
+        requires few { length self.old ≤ 2049 }
+        ensures made { OnOk result (length self.new ≡ 2049) }
+        ensures few { length self.new ≤ 2049 }
+        ensures same { SameEnds self.old self.new }
+        ensures grows { length self.old ≤ length self.new }
     {
-        if u64::MAX - self.next_number() < additional as u64 {
-            return Err(AllocError);
+        self.ends.resize(LEVELS_END + 1, NO_ENDS)?;
+        Ok(())
+    }
+
+    /// The ends of the chain of a slot.
+    pub fn get(&self, slot: usize) -> Ends
+        ensures { result ≡ ends_at self.now slot }
+    {
+        match self.ends.get(slot) {
+            Some(ends) => *ends,
+            None => NO_ENDS,
         }
-        self.slots.reserve(additional)
     }
 
-    /// How many more entries there is room for, and numbers.
-    pub fn room(&self) -> usize
-        ensures room { result ≡ self.now.room }
-        ensures numbers { self.now.next + result < 2 ^ 64 }
+    /// Gives the chain of a slot other ends.
+    pub fn set(&mut self, slot: usize, ends: Ends)
+        requires { slot < length self.old }
+        ensures { self.new ≡ slice_set self.old slot ends }
     {
-        let slots = (self.slots.capacity() - self.slots.len()) as u64;
-        let numbers = u64::MAX - self.next_number();
-        slots.min(numbers) as usize
-    }
-
-    /// Puts an entry under the next number.
-    pub fn push(&mut self, time: u64, item: T)
-        requires { 0 < self.old.room }
-        ensures next { self.new.next ≡ self.old.next + 1 }
-        ensures entries { self.new.entries ≡ self.old.entries ++ entry time self.old.next item ∷ [] }
-        ensures room { self.old.room ≤ self.new.room + 1 }
-    {
-        self.slots.push_back_reserved(Slot {
-            time,
-            item: Some(item),
-        });
-    }
-
-    /// The item of the entry of a number, where it is there.
-    pub fn item(&self, number: u64) -> Option<&T>
-        ensures { option_copied result ≡ option_map (λ e. e.item) (entry_at self.now.entries number) }
-    {
-        if number < self.first {
-            return None;
+        self.ends[slot] = ends;
+        if slot < LEVELS_END {
+            let bit = 1 << (slot % 64);
+            if ends.first.is_some() {
+                self.filled[slot / 64] |= bit;
+            } else {
+                self.filled[slot / 64] &= !bit;
+            }
         }
-        let slot = self.slots.get((number - self.first) as usize)?;
-        slot.item.as_ref()
     }
 
-    /// Whether the entry of a number is there.
-    pub fn holds(&self, number: u64) -> bool
-        ensures { result ≡ is_some (entry_at self.now.entries number) }
+    /// The first slot of the levels that has an entry.
+    pub fn first_filled(&self) -> Option<usize>
+        ensures slot { IfSome result (λ slot. slot < LEVELS_END) }
+        ensures filled { IfSome result (λ slot. IsSome (ends_at self.now slot).first) }
+        ensures first { IfSome result (λ slot. (other : ℕ) → other < slot → (ends_at self.now other).first ≡ None) }
+        ensures empty { IfNone result ((slot : ℕ) → slot < LEVELS_END → (ends_at self.now slot).first ≡ None) }
     {
-        self.item(number).is_some()
-    }
-
-    /// Takes the entry of a number out, its time and its item, where it is there.
-    pub fn remove(&mut self, number: u64) -> Option<(u64, T)>
-    where
-        T: Drop,
-        ensures taken { result ≡ option_map (λ e. (e.time, e.item)) (entry_at self.old.entries number) }
-        ensures next { self.new.next ≡ self.old.next }
-        ensures entries { self.new.entries ≡ without number self.old.entries }
-        ensures room { self.old.room ≤ self.new.room }
-    {
-        if number < self.first || self.next_number() <= number {
-            return None;
+        for word in 0..32 {
+            let filled = self.filled[word];
+            if filled != 0 {
+                return Some(word * 64 + filled.trailing_zeros() as usize);
+            }
         }
-        let entry = empty_slot(&mut self.slots[(number - self.first) as usize]);
-        self.first += drop_empty(&mut self.slots);
-        entry
+        None
     }
-}
-
-/// Empties a slot, and answers what stood there.
-fn empty_slot<T>(slot: &mut Slot<T>) -> Option<(u64, T)>
-    ensures taken { result ≡ option_map (λ item. (slot.old.time, item)) slot.old.item }
-    ensures emptied { slot.new ≡ record slot.old { item = None } }
-{
-    match slot.item.take() {
-        Some(item) => Some((slot.time, item)),
-        None => None,
-    }
-}
-
-/// Drops the empty slots before the oldest entry, and answers how many there were.
-fn drop_empty<T: Drop>(slots: &mut VecDeque<Slot<T>>) -> u64
-    ensures entries { (first : ℕ) → entries_from (first + result) slots.new.items ≡ entries_from first slots.old.items }
-    ensures len { result + length slots.new.items ≡ length slots.old.items }
-    ensures capacity { deque_capacity slots.new ≡ deque_capacity slots.old }
-{
-    let mut dropped = 0;
-    while let Some(slot) = slots.front() {
-        if slot.item.is_some() {
-            break;
-        }
-        slots.pop_front();
-        dropped += 1;
-    }
-    dropped
 }

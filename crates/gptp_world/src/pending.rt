@@ -6,6 +6,7 @@ ghost use Rattle.gptp_acts.specs.Item.{timer_port};
 ghost use Rattle.gptp_acts.specs.Pending.{arrival_room, listed, put, set_due, times, without, without_first, HasArrivalRoom, IsKnown, IsNext, KeepsArrivalRoom, KeepsOtherRoom};
 ghost use Rattle.gptp_acts.specs.declared.item.Item.TheVariants.{Expiry, Arrival};
 ghost use Rattle.gptp_links.specs.declared.link.Direction.TheVariants.{FromA, FromB};
+ghost use Rattle.gptp_scheduler.specs.Pending.{without as without_number};
 
 use crate::filed::{Filed, Running, arrival_place, timer_place};
 use gptp_acts::Item;
@@ -14,6 +15,22 @@ use gptp_scheduler::Agenda;
 use gptp_system::Timer;
 use std::alloc::{AllocError, Global};
 use std::marker::Model;
+
+/// Takes the entry of a number out of an agenda; the least of all by its time, so that the agenda goes on from there.
+fn take_out(agenda: &mut Agenda<Item>, number: u64)
+    ensures taken { agenda.new.entries ≡ without_number number agenda.old.entries }
+    ensures next { agenda.new.next ≡ agenda.old.next }
+    ensures room { agenda.old.room ≤ agenda.new.room }
+{
+    match agenda.next() {
+        Some((time, least)) if least == number => {
+            agenda.take_due(time);
+        }
+        _ => {
+            agenda.cancel(number);
+        }
+    }
+}
 
 /// What is pending in a world: timers of its systems, each at most once, and arrivals over its links. Systems and links
 /// are named by their places, from 0, and ports by their numbers, up to 16.
@@ -156,7 +173,7 @@ impl Pending {
         let filed = timer_place(place, timer);
         match self.filed.timer(filed) {
             Some(running) => {
-                self.agenda.cancel(running.number);
+                take_out(&mut self.agenda, running.number);
                 self.filed.set_timer(filed, None);
             }
             None => {}
@@ -198,7 +215,7 @@ impl Pending {
         self.agenda.numbers_rise();
         match self.filed.pop(arrival_place(link, direction)) {
             Some(number) => {
-                self.agenda.cancel(number);
+                take_out(&mut self.agenda, number);
                 true
             }
             None => false,

@@ -1,16 +1,19 @@
-use Rattle.gptp_scheduler.proofs.AgendaLemmas.{first_is, no_entry}
+use Rattle.std.proofs.Common.{◌≡◌, Some, sym}
+use Rattle.slab.specs.Slab.{get}
+use Rattle.gptp_scheduler.proofs.AgendaLemmas.{first-node}
+use Rattle.gptp_scheduler.proofs.FiledLemmas.{listed-none}
 use Rattle.gptp_scheduler.proofs.agenda.Agenda.next.Goals as goal
 
-pub returns-in_err-due-clause-empty : goal.returns-in_err-due-clause-empty
-returns-in_err-due-clause-empty g c =
-    let inside = c.self.inside in
-    let none = rw c.in_err-due.was at c.self.invariant.2 in
+pub returns-in_err-self-clause-empty : goal.returns-in_err-self-clause-empty
+returns-in_err-self-clause-empty g c =
+    let none = rw c.in_err-self.was at c.self.invariant.0.first in
     rw (c.from_residual.ensures, ← c.self.view_is)
-    (no_entry inside.entries.entries _ inside.entries.next c.self.invariant.0 none)
+    (listed-none (get c.self.inside.nodes) none c.self.inside.filed.items)
 
 pub returns-clause-first : goal.returns-clause-first
 returns-clause-first g c =
-    let inside = c.self.inside in
-    let first = rw c.in_ok-due.was at c.self.invariant.2 in
+    let least = rw c.in_ok-self.was at c.self.invariant.0.first in
+    let there : get c.self.inside.nodes c.in_ok-self.field-0.place ≡ Some c.in_ok-node.node.now = sym c.in_ok-node.ensures in
     rw (← c.self.view_is)
-    (first_is inside.entries.entries _ inside.entries.next c.self.invariant.0 c.in_ok-due.due first.0 first.1)
+    (first-node (get c.self.inside.nodes) c.self.inside.base c.self.inside.next c.self.inside.slots c.self.inside.filed.items
+    c.self.inside.first c.self.invariant.0 c.in_ok-self.field-0.place c.in_ok-node.node.now least there)

@@ -8,7 +8,7 @@ invariant_of-self c =
     let p = c.self.inside in
     let known = rw (← c.self.view_is) at c.requires in
     let runs = sym (rw c.timer_place-filed.ensures at c.timer.ensures) ∙ c.in-Some.is in
-    rw (c.set_timer.ensures, c.timer_place-filed.ensures, c.cancel.ensures.taken)
+    rw (c.set_timer.ensures, c.timer_place-filed.ensures, c.take_out.ensures.taken)
     (filed-stopped p.systems p.links p.filed p.agenda.entries c.self.invariant c.args.place c.args.timer known
     c.in-Some.running
     runs p.agenda.next c.numbers_rise.ensures)
@@ -18,7 +18,7 @@ returns-in-Some-clause-kept c =
     let p = c.self.inside in
     let known = rw (← c.self.view_is) at c.requires in
     let runs = sym (rw c.timer_place-filed.ensures at c.timer.ensures) ∙ c.in-Some.is in
-    rw (← c.self.view_is, c.set_timer.ensures, c.cancel.ensures.taken)
+    rw (← c.self.view_is, c.set_timer.ensures, c.take_out.ensures.taken)
     (same_state _ _ refl refl
     (plain-stopped p.systems p.links p.filed p.agenda.entries c.self.invariant c.args.place c.args.timer known
     c.in-Some.running

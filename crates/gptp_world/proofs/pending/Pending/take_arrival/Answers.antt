@@ -13,7 +13,7 @@ invariant_of-self c =
     let known = rw (← c.self.view_is) at c.requires in
     let first = front_is (queue_at (arrival_place c.args.link c.args.direction) p.filed) c.in-Some.number
     (sym c.in-Some.is ∙ rw c.arrival_place.ensures at c.pop.ensures.number) in
-    rw (c.pop.ensures.rest, c.arrival_place.ensures, c.cancel.ensures.taken)
+    rw (c.pop.ensures.rest, c.arrival_place.ensures, c.take_out.ensures.taken)
     (filed-taken p.systems p.links p.filed p.agenda.entries c.self.invariant c.args.link c.args.direction known
     c.in-Some.number first.0 first.1
     p.agenda.next c.numbers_rise.ensures)
@@ -24,7 +24,7 @@ returns-in-Some-clause-kept c =
     let known = rw (← c.self.view_is) at c.requires in
     let first = front_is (queue_at (arrival_place c.args.link c.args.direction) p.filed) c.in-Some.number
     (sym c.in-Some.is ∙ rw c.arrival_place.ensures at c.pop.ensures.number) in
-    rw (← c.self.view_is, c.cancel.ensures.taken)
+    rw (← c.self.view_is, c.take_out.ensures.taken)
     (same_state _ _ refl refl
     (plain-taken p.systems p.links p.filed p.agenda.entries c.self.invariant c.args.link c.args.direction known
     c.in-Some.number first.0 first.1
@@ -48,7 +48,7 @@ returns-in-Some-clause-one c = λ _.
     let known = rw (← c.self.view_is) at c.requires in
     let first = front_is (queue_at (arrival_place c.args.link c.args.direction) p.filed) c.in-Some.number
     (sym c.in-Some.is ∙ rw c.arrival_place.ensures at c.pop.ensures.number) in
-    rw (← c.self.view_is, c.cancel.ensures.taken)
+    rw (← c.self.view_is, c.take_out.ensures.taken)
     (shrinks-taken p.systems p.links p.filed p.agenda.entries c.self.invariant c.args.link c.args.direction known
     c.in-Some.number first.0 first.1
     p.agenda.next c.numbers_rise.ensures)
