@@ -1,7 +1,8 @@
 //! What an agenda holds, and in which order it gives it back.
 
 use crate::same::same_at;
-use gptp_scheduler::Agenda;
+use crate::sorted_list::{SortedList, draw};
+use gptp_scheduler::{Agenda, place};
 use std::alloc::Global;
 use std::process::Abort;
 use std::test::Fail;
@@ -19,6 +20,8 @@ enum Step {
     Next(Option<(u64, u64)>),
     /// The least entry is taken if it is due at a time: its time, number and item.
     Takes(u64, Option<(u64, u64, char)>),
+    /// The level and the slot at which the entry of a number stands.
+    Stands(u64, Option<(u8, u8)>),
 }
 
 /// One step of an agenda.
@@ -29,6 +32,7 @@ fn take(rt: &impl Abort, agenda: &mut Agenda<char>, step: &Step) -> Result<(), F
         Step::Cancels(number, want) => same_at(rt, step, agenda.cancel(number), want),
         Step::Next(want) => same_at(rt, step, agenda.next(), want),
         Step::Takes(now, want) => same_at(rt, step, agenda.take_due(now), want),
+        Step::Stands(number, want) => same_at(rt, step, place(agenda, number), want),
     }
     Ok(())
 }
@@ -67,9 +71,14 @@ fn what_is_put_in_the_past_comes_first(rt: HostRuntime) -> Result<(), Fail> {
     let steps = [
         Step::Puts(300, 'a', 0),
         Step::Puts(70_000, 'b', 1),
+        // 300 is 1 and 44 in octets, 70,000 is 1, 17 and 112
+        Step::Stands(0, Some((6, 1))),
+        Step::Stands(1, Some((5, 1))),
         Step::Takes(300, Some((300, 0, 'a'))),
+        Step::Stands(0, None),
         Step::Puts(5, 'c', 2),
         Step::Next(Some((5, 2))),
+        Step::Stands(2, Some((8, 0))),
         Step::Takes(70_000, Some((5, 2, 'c'))),
         Step::Takes(70_000, Some((70_000, 1, 'b'))),
         Step::Cancels(1, None),
@@ -124,6 +133,8 @@ fn the_last_moment_is_a_time_too(rt: HostRuntime) -> Result<(), Fail> {
     let steps = [
         Step::Puts(u64::MAX, 'a', 0),
         Step::Puts(0, 'b', 1),
+        Step::Stands(0, Some((0, 255))),
+        Step::Stands(1, Some((7, 0))),
         Step::Next(Some((0, 1))),
         Step::Cancels(1, Some('b')),
         Step::Next(Some((u64::MAX, 0))),
@@ -155,4 +166,58 @@ fn room_is_made_or_refused(rt: HostRuntime) -> Result<(), Fail> {
         take(&rt, &mut agenda, &Step::Takes(1_000, Some(least)))?;
     }
     take(&rt, &mut agenda, &Step::Takes(u64::MAX, None))
+}
+
+/// A time some way after another, or before it: the ways end at all octets.
+fn time_near(now: u64, state: &mut u64) -> u64 {
+    let way = draw(state);
+    match draw(state) % 8 {
+        0 => now / 2,
+        1 => now,
+        2 | 3 => now.saturating_add(way % 300),
+        4 | 5 => now.saturating_add(way % 100_000),
+        6 => now.saturating_add(way % 5_000_000_000),
+        _ => now.saturating_add(way % 1_000_000_000_000),
+    }
+}
+
+/// One call that looks drawn, of an agenda and of a sorted list: both answer the same.
+fn call_both(
+    rt: &impl Abort,
+    agenda: &mut Agenda<u64>,
+    list: &mut SortedList,
+    state: &mut u64,
+    now: &mut u64,
+) -> Result<(), Fail> {
+    let kind = draw(state) % 8;
+    if kind < 4 {
+        let time = time_near(*now, state);
+        let item = draw(state);
+        let want = list.put(time, item)?;
+        same_at(rt, &time, agenda.put(time, item)?, want);
+    } else if kind < 5 {
+        let number = draw(state) % list.next_number().max(1);
+        same_at(rt, &number, agenda.cancel(number), list.cancel(number));
+    } else {
+        let time = time_near(*now, state);
+        let taken = list.take_due(time);
+        same_at(rt, &time, agenda.take_due(time), taken);
+        if let Some((time, _, _)) = taken {
+            *now = time.max(*now);
+        }
+    }
+    same_at(rt, &kind, agenda.next(), list.first());
+    Ok(())
+}
+
+#[test]
+fn ten_thousand_calls_are_answered_as_by_a_sorted_list(rt: HostRuntime) -> Result<(), Fail> {
+    let mut agenda = Agenda::new(rt.alloc());
+    let mut list = SortedList::new(rt.alloc());
+    let mut state = 40;
+    let mut now = 0;
+    for _ in 0..10_000 {
+        call_both(&rt, &mut agenda, &mut list, &mut state, &mut now)?;
+    }
+    Ok(())
 }
