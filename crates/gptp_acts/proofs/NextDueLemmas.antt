@@ -10,6 +10,7 @@ use Rattle.gptp_setup.specs.declared.timer.Timer.{Timer}
 use Rattle.gptp_setup.specs.declared.timer.Timer.TheVariants as timers
 use Rattle.gptp_system.specs.State.{SystemState, age_due, announce_due, due, held_at, number}
 use Rattle.gptp_system.specs.Steps.{IsPortOf, IsTimerOf}
+use Rattle.gptp_system.proofs.TimelyLemmas.{due_timer}
 use Rattle.gptp_acts.specs.declared.item.Item.TheVariants.{Expiry, Arrival}
 use Rattle.gptp_acts.specs.declared.station.Station.{Station}
 use Rattle.gptp_acts.specs.Pending.{IsNext}
@@ -19,28 +20,6 @@ use Rattle.gptp_acts.proofs.AgreeLemmas.{arriving, dues, running}
 use Rattle.gptp_acts.proofs.MomentLemmas.{next-due, next-first}
 
 -- ---- a timer
-
-number_within : (s : SystemState) (p : ℕ) (q : Port) → number s.ports p ≡ Some q → IsPortOf s p
-number_within s zero q here = absurd (none-some q here)
-number_within s (suc i) q here =
-    let within = slice_get_within s.ports i q here in record { least = omega arith; most = omega arith }
-
-port_due : (runs : Port → Option ℕ) (s : SystemState) (p time : ℕ) → option_and_then runs (number s.ports p) ≡ Some time
-    → IsPortOf s p
-port_due runs s p time is = by (number s.ports p) refl
-  where
-    by : (here : Option Port) → number s.ports p ≡ here → IsPortOf s p
-    by None none = let never : None ≡ Some time = rw none at is in absurd (none-some time never)
-    by (Some q) here = number_within s p q here
-
--- a timer that runs is one of the system
-pub due_timer : (timer : Timer) (s : SystemState) (time : ℕ) → due timer s ≡ Some time → IsTimerOf s timer
-due_timer (timers.Announce p) s time is = port_due (λ q. announce_due q (held_at s p)) s p time is
-due_timer (timers.Age p) s time is = port_due (λ q. age_due s.params q (held_at s p)) s p time is
-due_timer (timers.Pdelay p) s time is = port_due (λ (q : Port). q.pdelay) s p time is
-due_timer (timers.Respond p) s time is = port_due (λ (q : Port). q.respond) s p time is
-due_timer timers.Sync s time is = tt
-due_timer timers.Relay s time is = tt
 
 -- a timer of a live system is due
 pub record RunsOut (place : ℕ) (timer : Timer) (time : ℕ) (w : WorldState) : Type 0 where

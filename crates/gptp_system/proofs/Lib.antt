@@ -32,5 +32,5 @@ pub mod WithinLemmas
 pub mod CounterLemmas
 pub mod CalmLemmas
 pub mod ReachLemmas
-pub mod UnturnedLemmas
+pub mod LeavesLemmas
 pub mod SpanLemmas

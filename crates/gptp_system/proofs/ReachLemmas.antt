@@ -298,7 +298,7 @@ relays_if (Some info) now s s' sends (inr k) =
 
 -- ---- frames
 
-hears_message : (p : ℕ) (m : Message) (now : ℕ) (s s' : SystemState) (sends : List Sending) (answer : Answer)
+pub hears_message : (p : ℕ) (m : Message) (now : ℕ) (s s' : SystemState) (sends : List Sending) (answer : Answer)
     → HearsMessage p m now s s' sends answer
     → Goes (type_reach (type_number m)) (is_touched_by (type_number m) p) s s' sends
 hears_message p (messages.Sync head) now s s' sends answer k =

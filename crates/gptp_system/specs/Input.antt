@@ -1,6 +1,8 @@
 -- What a system can be given, and what one step makes of it.
 use Rattle.std.specs.Prelude.{ℕ, ⊤, List}
 use Rattle.gptp_system.specs.declared.answer.Answer.{Answer}
+use Rattle.gptp_system.specs.declared.input.Input.{Input as Lent}
+use Rattle.gptp_system.specs.declared.input.Input.TheVariants as lent
 use Rattle.gptp_system.specs.declared.sending.Sending.{Sending}
 use Rattle.gptp_setup.specs.declared.timer.Timer.{Timer}
 use Rattle.gptp_system.specs.State.{SystemState}
@@ -14,6 +16,14 @@ pub data Input : Type 0 where
   Frame : (port : ℕ) → (octets : List ℕ) → Input
   Expires : (timer : Timer) → Input
   Priority : (value : ℕ) → Input
+
+-- the input that a system is lent
+abbrev pub given : Lent → Input
+given (lent.PortUp p) = PortUp p
+given (lent.PortDown p) = PortDown p
+given (lent.Frame p octets) = Frame p octets.now
+given (lent.Expires timer) = Expires timer
+given (lent.Priority value) = Priority value
 
 -- One step: the input makes the one state the other, and this is sent. A frame is answered; the other inputs have no
 -- answer, and this leaves it free.

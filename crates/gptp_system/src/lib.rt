@@ -20,10 +20,13 @@ mod start;
 mod state;
 mod syncing;
 mod system;
+mod touched;
 mod views;
 
 pub use answer::Answer;
 pub use gptp_setup::{Params, Setup, Timer};
+pub use input::{Input, Stepped};
 pub use reach::Reach;
 pub use sending::{Body, Outbox, Sending};
 pub use system::System;
+pub use touched::Touched;

@@ -185,8 +185,10 @@ impl State {
     ghost use Rattle.std.specs.Prelude.{◌≡◌, ◌≤◌, ◌<◌, length, []};
     ghost use Rattle.arrayvec.specs.ArrayVec.{array_vec_len};
     ghost use Rattle.gptp_setup.specs.Intervals.{IsMoment};
-    ghost use Rattle.gptp_system.specs.Measuring.{ComesUp, GoesDown, PdelayExpires, RespondExpires, Responds, HearsRequest, HearsResponse, HearsResponseFollowUp, SettlesIf, asks, request_of};
+    ghost use Rattle.gptp_system.specs.Measuring.{ComesUp, GoesDown, PdelayExpires, RespondExpires, Responds, HearsRequest, HearsResponse, HearsResponseFollowUp, SettlesIf, asks, is_turned, request_of};
+    ghost use Rattle.gptp_system.specs.Reach.{stops_at};
     ghost use Rattle.gptp_system.specs.Ready.{IsReady, state_of};
+    ghost use Rattle.gptp_system.specs.State.{number};
     ghost use Rattle.gptp_system.specs.Sends.{with_send};
 
     /// What a port holds follows from whether it is asCapable, and selection follows, where that has changed.
@@ -264,19 +266,21 @@ impl State {
     }
 
     /// The Pdelay timer of a port runs out: a request that is still open is lost, and the port asks again (IEEE
-    /// 802.1AS-2020, 11.2.19).
-    pub(crate) fn on_pdelay_timer(&mut self, port: u8, now: u64, outbox: &mut Outbox)
+    /// 802.1AS-2020, 11.2.19). Whether the port stopped being asCapable by that.
+    pub(crate) fn on_pdelay_timer(&mut self, port: u8, now: u64, outbox: &mut Outbox) -> bool
         requires ready { IsReady (state_of self.old) }
         requires moment { IsMoment now }
         requires least { 1 ≤ port }
         requires most { port ≤ length (state_of self.old).ports }
         requires empty { outbox.old.items ≡ [] }
         ensures step { PdelayExpires port now (state_of self.old) (state_of self.new) outbox.new.items }
+        ensures stops { result ≡ stops_at port (state_of self.old) }
         ensures ready { IsReady (state_of self.new) }
     {
         let changed = end_interval(&mut self.ports[usize::from(port) - 1]);
         self.settle(port, changed, now, outbox);
         self.send_request(port, now, outbox);
+        changed
     }
 
     /// The two responses to what a port owes: when the request came, and when they go.
@@ -345,24 +349,26 @@ impl State {
     }
 
     /// A port hears a Pdelay_Resp_Follow_Up: the one that its recorded response waits for completes the exchange (IEEE
-    /// 802.1AS-2020, 11.2.19). What the port holds follows, and selection, where it becomes asCapable or stops being so.
+    /// 802.1AS-2020, 11.2.19). What the port holds follows, and selection, where it becomes asCapable or stops being so:
+    /// whether it does, and what became of the message.
     pub(crate) fn hear_response_follow_up(
         &mut self,
         port: u8,
         message: &PdelayRespFollowUp,
         now: u64,
         outbox: &mut Outbox,
-    ) -> Answer
+    ) -> (bool, Answer)
         requires ready { IsReady (state_of self.old) }
         requires moment { IsMoment now }
         requires least { 1 ≤ port }
         requires most { port ≤ length (state_of self.old).ports }
         requires empty { outbox.old.items ≡ [] }
-        ensures step { HearsResponseFollowUp port message.now now (state_of self.old) (state_of self.new) outbox.new.items result }
+        ensures step { HearsResponseFollowUp port message.now now (state_of self.old) (state_of self.new) outbox.new.items result.1 }
+        ensures turned { result.0 ≡ is_turned (after_follow_up message.now) (number (state_of self.old).ports port) }
         ensures ready { IsReady (state_of self.new) }
     {
         let (changed, answer) = follow_up(&mut self.ports[usize::from(port) - 1], message);
         self.settle(port, changed, now, outbox);
-        answer
+        (changed, answer)
     }
 }

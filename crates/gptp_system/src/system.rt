@@ -1,6 +1,7 @@
 //! One gPTP system, as it is seen from outside.
 
 use crate::answer::Answer;
+use crate::input::{Input, Stepped};
 use crate::reach::{Reach, frame_reach};
 use crate::sending::Outbox;
 use crate::state::State;
@@ -34,6 +35,7 @@ impl System {
     ghost use Rattle.std.specs.Prelude.{◌≡◌, ◌≤◌, [], length};
     ghost use Rattle.gptp_pdelay.specs.Clock.{IsDrift};
     ghost use Rattle.gptp_system.specs.Announcing.{ChangesPriority};
+    ghost use Rattle.gptp_system.specs.Input.{given, IsTimely, Steps};
     ghost use Rattle.gptp_setup.specs.Intervals.{AreParams, IsMoment};
     ghost use Rattle.gptp_system.specs.Measuring.{ComesUp, GoesDown};
     ghost use Rattle.std.specs.Option.{option_and_then};
@@ -42,6 +44,7 @@ impl System {
     ghost use Rattle.gptp_system.specs.Start.{role_at, started};
     ghost use Rattle.gptp_system.specs.State.{due, is_capable_at, local_time, number, parent, trace};
     ghost use Rattle.gptp_system.specs.Steps.{Expires, HearsFrame, IsDue, IsPortOf, IsTimerOf, IsUp};
+    ghost use Rattle.gptp_system.specs.Touched.{Touches};
 
     /// A system as it starts at `now`, in ns: its own root, with all ports Disabled until their links come up. The setup
     /// keeps its limits.
@@ -67,14 +70,28 @@ impl System {
         }
     }
 
-    /// A port hears a frame whose link is up, at `now`: what became of it. The outbox is empty at entry of this and of every other call.
+    /// The system is given an input at `now`, in ns: what became of it, and which timers the step can have set or
+    /// stopped. A port is one of the system; a frame comes where the link is up, and a timer expires when it is due. The
+    /// outbox is empty at entry of this and of every other call, and holds what the step sends.
+    pub fn step(&mut self, input: Input<'_>, now: u64, outbox: &mut Outbox) -> Stepped
+        requires moment { IsMoment now }
+        requires timely { IsTimely self.old now (given input) }
+        requires empty { outbox.old.items ≡ [] }
+        ensures steps { Steps (given input.entry) now self.old self.new outbox.new.items result.answer }
+        ensures touches { Touches (given input.entry) result.touched self.old self.new }
+    {
+        self.state.step(input, now, outbox)
+    }
+
+    /// A port hears a frame whose link is up, at `now`: what became of it.
     pub fn on_frame(&mut self, port: u8, frame: &[u8], now: u64, outbox: &mut Outbox) -> Answer
         requires moment { IsMoment now }
         requires up { IsUp self.old port }
         requires empty { outbox.old.items ≡ [] }
         ensures { HearsFrame port frame.now now self.old self.new outbox.new.items result }
     {
-        self.state.on_frame(port, frame, now, outbox)
+        let octets = frame;
+        self.step(Input::Frame { port, octets }, now, outbox).answer
     }
 
     /// A timer that is due runs out.
@@ -84,7 +101,7 @@ impl System {
         requires empty { outbox.old.items ≡ [] }
         ensures { Expires timer now self.old self.new outbox.new.items }
     {
-        self.state.on_timer(timer, now, outbox);
+        self.step(Input::Expires(timer), now, outbox);
     }
 
     /// The link of a port comes up: the port measures it from the beginning, and asks at once.
@@ -94,7 +111,7 @@ impl System {
         requires empty { outbox.old.items ≡ [] }
         ensures { ComesUp port now self.old self.new outbox.new.items }
     {
-        self.state.port_up(port, now, outbox);
+        self.step(Input::PortUp(port), now, outbox);
     }
 
     /// The link of a port goes down: its timers stop, and it takes no part.
@@ -104,7 +121,7 @@ impl System {
         requires empty { outbox.old.items ≡ [] }
         ensures { GoesDown port now self.old self.new outbox.new.items }
     {
-        self.state.port_down(port, now, outbox);
+        self.step(Input::PortDown(port), now, outbox);
     }
 
     /// The priority1 of the system changes (IEEE 802.1AS-2020, 8.6.2.1).
@@ -113,7 +130,7 @@ impl System {
         requires empty { outbox.old.items ≡ [] }
         ensures { ChangesPriority priority1 now self.old self.new outbox.new.items }
     {
-        self.state.set_priority(priority1, now, outbox);
+        self.step(Input::Priority(priority1), now, outbox);
     }
 
     /// The root that the system follows, how many steps away that is, and the number of the Slave port, if it has one.

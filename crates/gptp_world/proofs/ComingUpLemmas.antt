@@ -157,12 +157,11 @@ pub one_came : {F : Type 0} (answers : Bounds → ℕ → F → Option ℕ → F
     (stage stage' : Stage)
     (station : Station) → slice_get stage.stations.items place ≡ Some station
     → is_up_at (world_of stage).net.channels (clock station.system) port ≡ true
-    → Called answers place (PortUp port) fate fate_after stage stage'
+    → (answer : Answer) → Called answers place (PortUp port) answer fate fate_after stage stage'
     → CameUp answers place (port ∷ []) fate fate_after stage stage'
-one_came answers place port fate fate_after stage stage' station here up called =
-    let one = called.called in
+one_came answers place port fate fate_after stage stage' station here up answer one =
     let calls : CallsAll place (PortUp port ∷ []) (world_of stage) one.draws (world_of stage') =
-    (one.draws, [], world_of stage', called.answer, sym (append-nil one.draws), one.calls, (refl, refl)) in
+    (one.draws, [], world_of stage', answer, sym (append-nil one.draws), one.calls, (refl, refl)) in
     record { station = station; here = here; draws = one.draws; drawn = one.drawn; calls = rw up calls }
 
 pub none_up : {F : Type 0} (answers : Bounds → ℕ → F → Option ℕ → F → Type 0) (place port : ℕ) (fate : F)

@@ -2,6 +2,7 @@
 use Rattle.std.proofs.Common.{◌≡◌, ◌≤◌, ℕ, length, Option, subst, arith}
 use Rattle.std.proofs.lemmas.Option.{slice_get_within}
 use Rattle.gptp_links.specs.declared.bounds.Bounds.{Bounds}
+use Rattle.gptp_system.specs.declared.answer.Answer.{Answer}
 use Rattle.gptp_setup.specs.declared.timer.Timer.{Timer}
 use Rattle.gptp_setup.specs.declared.timer.Timer.TheVariants as timers
 use Rattle.gptp_system.specs.Input.{Expires as TimerExpires}
@@ -45,20 +46,19 @@ pub expired : {F : Type 0} (answers : Bounds → ℕ → F → Option ℕ → F 
     (stage : Stage) (net : Between) (stage' : Stage) → IsTimerDue place timer stage.now (world_of stage)
     → between net
     ≡ record (between stage.net) { pending = without_first (Expiry place timer) (between stage.net).pending }
-    → Called answers place (TimerExpires timer) fate fate_after (record stage { net = net }) stage'
+    → (answer : Answer) → Called answers place (TimerExpires timer) answer fate fate_after (record stage { net = net }) stage'
     → Expired answers place timer fate fate_after stage stage'
-expired answers place timer fate fate_after stage net stage' due taken told =
-    let called = told.called in
+expired answers place timer fate fate_after stage net stage' due taken answer called =
     record {
       draws = called.draws;
       drawn = called.drawn;
       expires = record {
         station = due.station;
-        answer = told.answer;
+        answer = answer;
         here = due.here;
         now_due = due.due;
         calls = subst
-            (λ n. Calls place (TimerExpires timer) (record (world_of stage) { net = n }) called.draws told.answer
+            (λ n. Calls place (TimerExpires timer) (record (world_of stage) { net = n }) called.draws answer
             (world_of stage'))
             taken called.calls;
       };

@@ -20,7 +20,6 @@ pub mod FiledLemmas
 pub mod SlotLemmas
 pub mod QueueLemmas
 pub mod TimingLemmas
-pub mod TouchedLemmas
 pub mod ArrivingLemmas
 pub mod ChangingLemmas
 pub mod DirectoryLemmas

@@ -10,7 +10,7 @@ use Rattle.gptp_system.specs.declared.answer.Answer.{Answer}
 use Rattle.gptp_system.specs.declared.reach.Reach.{Reach}
 use Rattle.gptp_system.specs.declared.reach.Reach.TheVariants as reaches
 use Rattle.gptp_system.specs.declared.sending.Sending.{Sending}
-use Rattle.gptp_system.specs.Input.{Input, Steps, PortUp, PortDown, Frame, Expires, Priority}
+use Rattle.gptp_system.specs.Input.{Input, IsTimely, Steps, PortUp, PortDown, Frame, Expires, Priority}
 use Rattle.gptp_system.specs.Reach.{sends_at, IsWithin}
 use Rattle.gptp_system.specs.State.{SystemState, clock}
 use Rattle.gptp_vector.specs.declared.port.PortId.{PortId}
@@ -28,8 +28,9 @@ use Rattle.gptp_setup.specs.declared.timer.Timer.{Timer}
 use Rattle.gptp_setup.specs.declared.timer.Timer.TheVariants as timers
 use Rattle.gptp_system.specs.Steps.{IsTimerOf}
 use Rattle.gptp_system.proofs.ReachLemmas.{steps_reach}
+use Rattle.gptp_system.proofs.TimelyLemmas.{timely_timer}
 use Rattle.gptp_world.specs.declared.stage.Stage.{Stage}
-use Rattle.gptp_world.specs.Stage.{clock_at, for_left, CalledWith, CallUses, CarriesOut, HasRoomToCall, HasRoomToGive, HasRoomWithin, HasStepped, IsGivenAt, IsLiveAt, IsOf, IsStage}
+use Rattle.gptp_world.specs.Stage.{clock_at, for_left, Called, CallUses, CarriesOut, HasRoomToCall, HasRoomToGive, HasRoomWithin, HasStepped, IsLiveAt, IsStage, IsTimelyAt}
 use Rattle.gptp_acts.specs.World.{timers_from}
 use Rattle.gptp_world.proofs.NeedLemmas.{covered, nothing_with, uses_less, Covers}
 use Rattle.gptp_acts.proofs.SteadyLemmas.{same_clock, same_ports}
@@ -152,13 +153,13 @@ frame_reaches true p at = absurd cc
 frame_reaches false p at = absurd cc
 
 -- an input that reaches one port alone is given to a system that has a port
-has_port : (input : Input) (s : SystemState) → IsOf s input → (p : ℕ) → reach input s ≡ reaches.Port p
+has_port : (input : Input) (s : SystemState) (now : ℕ) → IsTimely s now input → (p : ℕ) → reach input s ≡ reaches.Port p
     → 1 ≤ length s.ports
-has_port (PortUp q) s is p at = let least = is.least in let most = is.most in omega arith
-has_port (PortDown q) s is p at = absurd cc
-has_port (Frame q octets) s is p at = absurd (frame_reaches (may_select (message_type octets)) p at)
-has_port (Expires timer) s is p at = timer_has_port timer s is p at
-has_port (Priority value) s is p at = absurd cc
+has_port (PortUp q) s now is p at = let least = is.least in let most = is.most in omega arith
+has_port (PortDown q) s now is p at = absurd cc
+has_port (Frame q octets) s now is p at = absurd (frame_reaches (may_select (message_type octets)) p at)
+has_port (Expires timer) s now is p at = timer_has_port timer s (timely_timer timer s now is) p at
+has_port (Priority value) s now is p at = absurd cc
 
 -- what a call leaves that reaches so far needs no more than such a call can
 pub call_covers : (r : Reach) (s s' : SystemState) (sends : List Sending) → length s'.ports ≡ length s.ports
@@ -231,19 +232,16 @@ stepped stage stage' place input answer one after live value steps stations net 
 -- what it left can be carried out
 pub carries : (stage stage' : Stage) (place : ℕ) (input : Input) (answer : Answer) → IsStage stage
     → HasRoomToGive input place stage
-    → HasStepped place input answer stage stage' → (station : Station)
-    → slice_get stage.stations.items place ≡ Some station
-    → IsOf station.system input → CarriesOut place stage'
-carries stage stage' place input answer is room step station here of =
+    → HasStepped place input answer stage stage' → IsTimelyAt input place stage → CarriesOut place stage'
+carries stage stage' place input answer is room step timely =
     let old = step.station in let after = step.after in let sends = stage'.outbox.items in
     let new = in_state after old in
     let steps = step.steps in let stations = step.stations in let net = step.net in let now = step.now in
     let ports = same_ports input stage.now old.system after sends answer steps in
     let clocks = same_clock input stage.now old.system after sends answer steps in
-    let one : station ≡ old = same_Some station old (sym here ∙ step.here) in
     let few = within_few (reach input old.system) (length old.system.ports) sends
     (steps_reach input stage.now old.system after sends answer steps).within
-    (has_port input old.system (subst (λ (s : Station). IsOf s.system input) one of)) in
+    (has_port input old.system stage.now (timely old step.here)) in
     let r = reach input old.system in let made = room old step.here in
     let same : made.station ≡ old = same_Some made.station old (sym made.here ∙ step.here) in
     let has : HasRoom (for_reach r old.system) stage.net =
@@ -306,7 +304,7 @@ pub called : {F : Type 0} (answers : Bounds → ℕ → F → Option ℕ → F �
     → SentAll answers left.now step.after left.outbox.items fate fate_after
     (all_timers place (in_state step.after step.station) (between left.net)) (between stage'.net)
     → stage'.stations ≡ left.stations → stage'.now ≡ left.now → stage'.last_change ≡ left.last_change
-    → CalledWith answers place input answer fate fate_after stage stage'
+    → Called answers place input answer fate fate_after stage stage'
 called answers fate fate_after stage left stage' place input answer step sent stations now last =
     let list = step.stations in let net = step.net in let moment = step.now in let change = step.last_change in
     record {
@@ -328,11 +326,11 @@ called answers fate fate_after stage left stage' place input answer step sent st
 -- it used no more room than a call can
 pub call_uses : (stage left : Stage) (net : Between) (place : ℕ) (input : Input) (answer : Answer)
     → HasStepped place input answer stage left
-    → IsGivenAt place input stage
+    → IsTimelyAt input place stage
     → ((station : Station) → slice_get left.stations.items place ≡ Some station
     → Uses (for_left station.system left.outbox.items) left.net net)
     → CallUses place stage net
-call_uses stage left net place input answer step given uses = λ station here.
+call_uses stage left net place input answer step timely uses = λ station here.
     let old = step.station in let after = step.after in let sends = left.outbox.items in
     let new = in_state after old in
     let ports = same_ports input stage.now old.system after sends answer step.steps in
@@ -340,7 +338,7 @@ call_uses stage left net place input answer step given uses = λ station here.
     let one : station ≡ old = same_Some station old (sym here ∙ step.here) in
     let few = within_few (reach input old.system) (length old.system.ports) sends
     (steps_reach input stage.now old.system after sends answer step.steps).within
-    (has_port input old.system (given old step.here)) in
+    (has_port input old.system stage.now (timely old step.here)) in
     let now_here : slice_get left.stations.items place ≡ Some new =
     ap (λ xs. slice_get xs place) step.stations ∙ get-set_same stage.stations.items place old new step.here in
     let between = step.net in

@@ -4,6 +4,7 @@ use Rattle.std.specs.List.{filter, range_with_len}
 use Rattle.std.proofs.lemmas.Option.{same_Some, slice_get_within}
 use Rattle.gptp_links.specs.declared.bounds.Bounds.{Bounds}
 use Rattle.gptp_roles.specs.Selection.{clock_of}
+use Rattle.gptp_system.specs.declared.answer.Answer.{Answer}
 use Rattle.gptp_system.specs.Input.{PortUp, Priority}
 use Rattle.gptp_system.specs.State.{clock}
 use Rattle.gptp_system.proofs.ReadyLemmas.{length-new_ports}
@@ -211,17 +212,17 @@ prepared_world stage left place new by =
 pub told : {F : Type 0} (answers : Bounds → ℕ → F → Option ℕ → F → Type 0) (fate fate_after : F)
     (stage left stage' : Stage)
     (place value : ℕ) (station : Station) → slice_get stage.stations.items place ≡ Some station
-    → Replaces place (with_setup value station) stage left → Called answers place (Priority value) fate fate_after left
-    stage'
+    → Replaces place (with_setup value station) stage left → (answer : Answer)
+    → Called answers place (Priority value) answer fate fate_after left stage'
     → Prioritized answers place value fate fate_after stage stage'
-told answers fate fate_after stage left stage' place value station here by called =
+told answers fate fate_after stage left stage' place value station here by answer called =
     let world = prepared_world stage left place (with_setup value station) by in
     record {
       station = station;
       here = here;
-      draws = called.called.draws;
-      drawn = called.called.drawn;
-      calls = inl (called.answer, rw (← world) called.called.calls);
+      draws = called.draws;
+      drawn = called.drawn;
+      calls = inl (answer, rw (← world) called.calls);
     }
 
 -- one that has failed isn't told

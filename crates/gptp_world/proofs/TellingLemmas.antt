@@ -1,12 +1,14 @@
 -- The ends of a link are told of a change of it, one after the other.
-use Rattle.std.proofs.Common.{◌≡◌, ◌≢◌, ℕ, ◌≤◌, List, [], ◌++◌, false, map, Option, Some, slice_get, slice_index_or, refl, ap, sym, subst, ◌∙◌, inl, inr, arith}
+use Rattle.std.proofs.Common.{◌≡◌, ◌≢◌, ℕ, ◌≤◌, List, [], ◌++◌, Bool, true, false, map, Option, Some, slice_get, slice_index_or, refl, ap, sym, subst, ◌∙◌, inl, inr, arith}
 use Rattle.std.proofs.lemmas.Option.{same_Some}
 use Rattle.gptp_links.specs.declared.bounds.Bounds.{Bounds}
 use Rattle.gptp_links.specs.declared.link.Direction.{Direction}
 use Rattle.gptp_links.specs.declared.link.Direction.TheVariants.{FromA, FromB}
 use Rattle.gptp_links.specs.Fate.{Draw, Draws}
 use Rattle.gptp_links.proofs.DrawLemmas as draws
-use Rattle.gptp_system.specs.Input.{Input}
+use Rattle.gptp_system.specs.declared.answer.Answer.{Answer}
+use Rattle.gptp_system.specs.Input.{Input, IsTimely}
+use Rattle.gptp_system.specs.Steps.{IsPortOf}
 use Rattle.gptp_system.specs.State.{clock}
 use Rattle.gptp_vector.specs.declared.port.PortId.{PortId}
 use Rattle.gptp_world.specs.declared.cable.Cable.{Cable}
@@ -21,8 +23,9 @@ use Rattle.gptp_world.specs.Directory.{end_of, start_of, DirectoryState, IsDirec
 use Rattle.gptp_world.specs.Net.{IsNet}
 use Rattle.gptp_acts.specs.World.{port_id}
 use Rattle.gptp_world.specs.Room.{both, for_call, nothing, HasRoom, Need, Uses}
-use Rattle.gptp_world.specs.Stage.{clock_at, world_of, CallUses, HasRoomToCall, HasRoomToCallBoth, IsPortAt, IsStage}
-use Rattle.gptp_world.specs.Telling.{AreEndsOf, HasRoomAtEnds, IsEndAt, Told}
+use Rattle.gptp_world.specs.Stage.{clock_at, world_of, Called, CallUses, HasRoomToCall, HasRoomToCallBoth, IsPortAt, IsStage, IsTimelyAt}
+use Rattle.gptp_world.specs.Telling.{link_input, AreEndsOf, HasRoomAtEnds, IsEndAt, Told}
+use Rattle.gptp_world.specs.Timing.{AreSetFor}
 use Rattle.gptp_acts.specs.World.{Channel, Net, WorldState}
 use Rattle.gptp_world.proofs.NeedLemmas.{covered, left_of}
 use Rattle.gptp_world.proofs.NetLemmas.{from_map, lane_of, MadeOf}
@@ -172,6 +175,31 @@ can_tell stage net link a b is directory ends has uses =
     }
 
 -- ---- one end
+
+-- it can be told that its link comes up, or goes down
+pub link_timely : (up : Bool) (place port : ℕ) (stage : Stage) → IsPortAt place port stage
+    → IsTimelyAt (link_input up port) place stage
+link_timely up place port stage own station here = by up
+  where
+    port_of : IsPortOf station.system port
+    port_of =
+        subst (λ (x : Station). IsPortOf x.system port) (same_Some own.station station (sym own.here ∙ here))
+        own.port_of
+
+    by : (up : Bool) → IsTimely station.system stage.now (link_input up port)
+    by true = port_of
+    by false = port_of
+
+pub link_set : (up : Bool) (place port : ℕ) (stage : Stage) → AreSetFor (link_input up port) place stage
+link_set true place port stage station here timer off = absurd cc
+link_set false place port stage station here timer off = absurd cc
+
+pub one_told : {F : Type 0} (answers : Bounds → ℕ → F → Option ℕ → F → Type 0) (place : ℕ) (input : Input)
+    (answer : Answer) (fate fate_after : F) (stage stage' : Stage)
+    → Called answers place input answer fate fate_after stage stage'
+    → Told answers place input fate fate_after stage stage'
+one_told answers place input answer fate fate_after stage stage' called =
+    record { draws = called.draws; drawn = called.drawn; calls = inl (answer, called.calls) }
 
 -- a system that has failed isn't told
 pub not_told : {F : Type 0} (answers : Bounds → ℕ → F → Option ℕ → F → Type 0) (place : ℕ) (input : Input) (fate : F)

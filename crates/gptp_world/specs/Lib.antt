@@ -11,4 +11,4 @@ pub mod Scene
 pub mod Stage
 pub mod Starting
 pub mod Telling
-pub mod Touched
+pub mod Timing

@@ -7,10 +7,10 @@ use Rattle.gptp_system.specs.declared.reach.Reach.{Reach}
 use Rattle.gptp_system.specs.declared.reach.Reach.TheVariants as reaches
 use Rattle.gptp_system.specs.declared.sending.Sending.{Sending}
 use Rattle.gptp_setup.specs.declared.timer.Timer.{Timer}
-use Rattle.gptp_system.specs.Input.{Input, Steps, PortUp, PortDown, Frame, Expires, Priority}
+use Rattle.gptp_system.specs.Input.{Input, IsTimely, Steps}
 use Rattle.gptp_system.specs.Reach.{reach}
-use Rattle.gptp_system.specs.State.{SystemState, clock, due}
-use Rattle.gptp_system.specs.Steps.{IsPortOf, IsTimerOf, IsUp}
+use Rattle.gptp_system.specs.State.{SystemState, clock}
+use Rattle.gptp_system.specs.Steps.{IsPortOf, IsTimerOf}
 use Rattle.gptp_world.specs.declared.cable.Lane.{Lane}
 use Rattle.gptp_acts.specs.declared.item.Item.{Item}
 use Rattle.gptp_acts.specs.declared.item.Item.TheVariants.{Expiry, Arrival}
@@ -63,13 +63,6 @@ pub record HasTimerAt (place : ℕ) (timer : Timer) (stage : Stage) : Type 0 whe
   pub here : slice_get stage.stations.items place ≡ Some station
   pub timer_of : IsTimerOf station.system timer
 
--- a timer of the system at a place is due now
-pub record IsDueAt (place : ℕ) (timer : Timer) (stage : Stage) : Type 0 where
-  pub station : Station
-  pub here : slice_get stage.stations.items place ≡ Some station
-  pub timer_of : IsTimerOf station.system timer
-  pub due_now : due timer station.system ≡ Some stage.now
-
 -- there is room for whatever a call of the system at a place can leave, where it reaches so far
 pub record HasRoomWithin (r : Reach) (place : ℕ) (stage : Stage) : Type 0 where
   pub station : Station
@@ -99,11 +92,10 @@ pub record IsPortAt (place port : ℕ) (stage : Stage) : Type 0 where
   pub here : slice_get stage.stations.items place ≡ Some station
   pub port_of : IsPortOf station.system port
 
--- the link of a port of the system at a place is up
-pub record IsUpAt (place port : ℕ) (stage : Stage) : Type 0 where
-  pub station : Station
-  pub here : slice_get stage.stations.items place ≡ Some station
-  pub up : IsUp station.system port
+-- the system at a place can be given this input now
+abbrev pub IsTimelyAt : Input → ℕ → Stage → Type 0
+IsTimelyAt input place stage = (station : Station) → slice_get stage.stations.items place ≡ Some station
+    → IsTimely station.system stage.now input
 
 -- The live system at a place took a step, and what it sends stands in the outbox. Nothing else has changed.
 pub record HasStepped (place : ℕ) (input : Input) (answer : Answer) (stage stage_after : Stage) : Type 0 where
@@ -137,33 +129,14 @@ abbrev pub CallUses : ℕ → Stage → Between → Type 0
 CallUses place stage net = (station : Station) → slice_get stage.stations.items place ≡ Some station
     → Uses (for_call station.system) stage.net net
 
--- the port whose link an input brings up, or whose timer it is, is one of the system
-abbrev pub IsOf : SystemState → Input → Type 0
-IsOf s (PortUp p) = IsPortOf s p
-IsOf s (PortDown p) = ⊤
-IsOf s (Frame p octets) = ⊤
-IsOf s (Expires timer) = IsTimerOf s timer
-IsOf s (Priority value) = ⊤
-
-abbrev pub IsGivenAt : ℕ → Input → Stage → Type 0
-IsGivenAt place input stage =
-    (station : Station) → slice_get stage.stations.items place ≡ Some station → IsOf station.system input
-
 -- A live system was called and answered so, and what it left was carried out: the fate drew once for each send that a
 -- link carries.
-pub record CalledWith {F : Type 0} (answers : Bounds → ℕ → F → Option ℕ → F → Type 0) (place : ℕ) (input : Input)
+pub record Called {F : Type 0} (answers : Bounds → ℕ → F → Option ℕ → F → Type 0) (place : ℕ) (input : Input)
     (answer : Answer)
     (fate fate_after : F) (stage stage_after : Stage) : Type 0 where
   pub draws : List Draw
   pub drawn : Draws answers fate draws fate_after
   pub calls : Calls place input (world_of stage) draws answer (world_of stage_after)
-
--- the same with an input that has no answer
-pub record Called {F : Type 0} (answers : Bounds → ℕ → F → Option ℕ → F → Type 0) (place : ℕ) (input : Input)
-    (fate fate_after : F)
-    (stage stage_after : Stage) : Type 0 where
-  pub answer : Answer
-  pub called : CalledWith answers place input answer fate fate_after stage stage_after
 
 -- the system of an item that is a timer is there
 abbrev pub IsPlacedItem : Item → Stage → Type 0

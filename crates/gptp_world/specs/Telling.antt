@@ -1,8 +1,8 @@
 -- A link of a world that goes down or comes up, whose ends are told.
-use Rattle.std.specs.Prelude.{◌≡◌, ◌≢◌, ℕ, true, false, List, Option, Some, slice_get}
+use Rattle.std.specs.Prelude.{◌≡◌, ◌≢◌, ℕ, Bool, true, false, List, Option, Some, slice_get}
 use Rattle.gptp_links.specs.declared.bounds.Bounds.{Bounds}
 use Rattle.gptp_links.specs.Fate.{Draw, Draws}
-use Rattle.gptp_system.specs.Input.{Input}
+use Rattle.gptp_system.specs.Input.{Input, PortUp, PortDown}
 use Rattle.gptp_vector.specs.declared.port.PortId.{PortId}
 use Rattle.gptp_world.specs.declared.stage.Stage.{Stage}
 use Rattle.gptp_world.specs.declared.telling.End.{End}
@@ -34,6 +34,11 @@ pub record HasRoomAtEnds (link : ℕ) (stage : Stage) : Type 0 where
   pub room : HasRoomToCallBoth a.place b.place stage
 
 -- ---- what they are told
+
+-- of a link that comes up, or goes down
+abbrev pub link_input : Bool → ℕ → Input
+link_input true p = PortUp p
+link_input false p = PortDown p
 
 -- A live system was given an input, and what its call left was carried out; one that has failed was not.
 pub record Told {F : Type 0} (answers : Bounds → ℕ → F → Option ℕ → F → Type 0) (place : ℕ) (input : Input)

@@ -5,7 +5,7 @@ ghost use Rattle.std.specs.Prelude.{◌≡◌, ◌≤◌};
 use crate::cable::Lane;
 use crate::stage::Stage;
 use gptp_links::Fate;
-use gptp_system::{Answer, Reach};
+use gptp_system::{Answer, Input, Reach};
 use gptp_vector::PortId;
 use std::alloc::AllocError;
 
@@ -33,7 +33,7 @@ impl Stage {
     ghost use Rattle.gptp_world.specs.Net.{IsFrameDue, IsOldest};
     ghost use Rattle.gptp_world.specs.Stage.{world_of, HasRoomToGive, IsStage};
     ghost use Rattle.gptp_world.specs.Delivering.{Delivered, HasRoomToHear, HeardAt, IsHeardAt, MayHear};
-    ghost use Rattle.gptp_world.specs.Touched.{none, AreSetAt};
+    ghost use Rattle.gptp_world.specs.Timing.{AreSetFor};
 
     /// The system at a place hears a frame at a port, unless it has failed.
     fn hear_if_live<F: Fate>(
@@ -46,13 +46,20 @@ impl Stage {
         requires stage { IsStage self.old }
         requires place { place < length self.old.stations.items }
         requires heard { IsHeardAt place port self.old }
-        requires set { AreSetAt none place self.old }
+        requires set { AreSetFor (Frame port frame.now) place self.old }
         requires room { HasRoomToGive (Frame port frame.now) place self.old }
         ensures stage { IsStage self.new }
         ensures heard { HeardAt F.answers place port frame.now result fate.old fate.new self.old self.new }
     {
         match self.stations[place].live {
-            true => Some(self.hear(place, port, frame, fate)),
+            true => Some(self.give(
+                place,
+                Input::Frame {
+                    port,
+                    octets: frame,
+                },
+                fate,
+            )),
             false => None,
         }
     }

@@ -3,7 +3,7 @@
 use crate::net::Net;
 use crate::stage::Stage;
 use gptp_links::Fate;
-use gptp_system::Timer;
+use gptp_system::{Input, Timer};
 use std::alloc::AllocError;
 
 impl Net {
@@ -43,7 +43,7 @@ impl Stage {
         ensures expired { Expired F.answers place timer fate.old fate.new self.old self.new }
     {
         self.net.take_timer(place, timer);
-        self.expire(place, timer, fate);
+        self.give(place, Input::Expires(timer), fate);
     }
 
     /// Makes room for whatever the system at a place can leave when a timer of it expires. Refused where there is no memory

@@ -28,7 +28,6 @@ mod stage;
 mod starting;
 mod telling;
 mod timing;
-mod touched;
 mod views;
 mod world;
 

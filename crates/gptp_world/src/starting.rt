@@ -2,7 +2,7 @@
 
 use crate::stage::Stage;
 use gptp_links::Fate;
-use gptp_system::System;
+use gptp_system::{Input, System};
 
 impl Stage {
     ghost use Rattle.std.specs.Prelude.{◌≡◌, ◌≤◌, ◌<◌, ◌^◌, [], ◌∷◌, Some, false, length, slice_get};
@@ -32,7 +32,7 @@ impl Stage {
         ensures came { CameUp F.answers place (port ∷ []) fate.old fate.new self.old self.new }
     {
         if self.net.up_lane(place, port).is_some() {
-            self.port_up(place, port, fate);
+            self.give(place, Input::PortUp(port), fate);
         }
     }
 
@@ -119,7 +119,7 @@ impl Stage {
     {
         self.prepare_priority1(place, value);
         if self.stations[place].live {
-            self.set_priority(place, value, fate);
+            self.give(place, Input::Priority(value), fate);
         }
     }
 }

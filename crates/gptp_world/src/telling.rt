@@ -2,12 +2,14 @@
 
 ghost use Rattle.std.specs.Prelude.{◌≡◌, ◌<◌, length, Some, slice_get};
 ghost use Rattle.gptp_world.specs.Directory.{end_of, Join};
-ghost use Rattle.gptp_world.specs.Telling.{AreEndsOf, IsEndAt};
+ghost use Rattle.gptp_system.specs.Input.{given};
+ghost use Rattle.gptp_world.specs.Telling.{link_input, AreEndsOf, IsEndAt};
 
 use crate::cable::Lane;
 use crate::directory::Directory;
 use crate::stage::Stage;
 use gptp_links::{Direction, Fate};
+use gptp_system::Input;
 use std::alloc::AllocError;
 
 /// An end of a link: a port of the system at a place.
@@ -52,37 +54,32 @@ fn ends_of(directory: &Directory, link: usize) -> (End, End)
     (a, b)
 }
 
+/// What a system is told at a port whose link comes up, or goes down.
+fn link_input<'a>(port: u8, up: bool) -> Input<'a>
+    ensures { given result ≡ link_input up port }
+{
+    match up {
+        true => Input::PortUp(port),
+        false => Input::PortDown(port),
+    }
+}
+
 impl Stage {
     ghost use Rattle.std.specs.Prelude.{◌≡◌, ◌<◌, length, OnOk};
-    ghost use Rattle.gptp_system.specs.Input.{PortUp, PortDown};
     ghost use Rattle.gptp_world.specs.Stage.{world_of, CallUses, HasRoomToCall, IsPortAt, IsStage};
-    ghost use Rattle.gptp_world.specs.Telling.{ComeUp, GoneDown, HasRoomAtEnds, Told};
+    ghost use Rattle.gptp_world.specs.Telling.{link_input, ComeUp, GoneDown, HasRoomAtEnds, Told};
 
-    /// The link of a port of the system at a place goes down; a system that has failed isn't told.
-    fn tell_down<F: Fate>(&mut self, place: usize, port: u8, fate: &mut F)
+    /// The system at a place is told that the link of a port comes up, or goes down; one that has failed isn't.
+    fn tell<F: Fate>(&mut self, place: usize, port: u8, up: bool, fate: &mut F)
         requires stage { IsStage self.old }
         requires port { IsPortAt place port self.old }
         requires room { HasRoomToCall place self.old }
         ensures stage { IsStage self.new }
-        ensures told { Told F.answers place (PortDown port) fate.old fate.new self.old self.new }
+        ensures told { Told F.answers place (link_input up port) fate.old fate.new self.old self.new }
         ensures uses { CallUses place self.old self.new.net }
     {
         if self.stations[place].live {
-            self.port_down(place, port, fate);
-        }
-    }
-
-    /// The link of a port of the system at a place comes up; a system that has failed isn't told.
-    fn tell_up<F: Fate>(&mut self, place: usize, port: u8, fate: &mut F)
-        requires stage { IsStage self.old }
-        requires port { IsPortAt place port self.old }
-        requires room { HasRoomToCall place self.old }
-        ensures stage { IsStage self.new }
-        ensures told { Told F.answers place (PortUp port) fate.old fate.new self.old self.new }
-        ensures uses { CallUses place self.old self.new.net }
-    {
-        if self.stations[place].live {
-            self.port_up(place, port, fate);
+            self.give(place, link_input(port, up), fate);
         }
     }
 
@@ -98,8 +95,8 @@ impl Stage {
         self.net.directory.well_formed();
         let (a, b) = ends_of(&self.net.directory, link);
         self.net.take_down(link);
-        self.tell_down(a.place, a.port, fate);
-        self.tell_down(b.place, b.port, fate);
+        self.tell(a.place, a.port, false, fate);
+        self.tell(b.place, b.port, false, fate);
     }
 
     /// The link at a place, which is down, comes up, and then its ends are told, its end a first.
@@ -113,8 +110,8 @@ impl Stage {
         self.net.directory.well_formed();
         let (a, b) = ends_of(&self.net.directory, link);
         self.net.bring_up(link);
-        self.tell_up(a.place, a.port, fate);
-        self.tell_up(b.place, b.port, fate);
+        self.tell(a.place, a.port, true, fate);
+        self.tell(b.place, b.port, true, fate);
     }
 
     /// Makes room for one call of each of the systems at the ends of a link. Refused where there is no memory for it. The

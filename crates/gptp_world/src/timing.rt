@@ -1,9 +1,8 @@
 //! What is pending of a system's timers.
 
 use crate::net::Net;
-use crate::touched::Touched;
 use gptp_acts::Station;
-use gptp_system::Timer;
+use gptp_system::{Timer, Touched};
 
 impl Net {
     ghost use Rattle.std.specs.Prelude.{◌≡◌, ◌≤◌, ◌<◌, ◌+◌, ◌*◌, ◌∷◌, [], length};
@@ -12,7 +11,8 @@ impl Net {
     ghost use Rattle.gptp_acts.specs.Item.{timer_port};
     ghost use Rattle.gptp_acts.specs.Act.{set_timers};
     ghost use Rattle.gptp_world.specs.Net.{OnlyEntries};
-    ghost use Rattle.gptp_world.specs.Touched.{holds, selected_from, AreSetBut, IsTouchedOf};
+    ghost use Rattle.gptp_system.specs.Touched.{holds, IsTouchedOf};
+    ghost use Rattle.gptp_world.specs.Timing.{selected_from, AreSetBut};
     ghost use Rattle.gptp_acts.specs.World.{timers_from};
 
     /// A timer of the system at a place is pending when it is due, and isn't where it doesn't run.

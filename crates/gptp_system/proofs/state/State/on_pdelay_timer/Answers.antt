@@ -1,7 +1,9 @@
-use Rattle.std.proofs.Common.{◌≤◌, ◌-◌, ℕ, length, ap, ◌∙◌, arith}
+use Rattle.std.proofs.Common.{◌≤◌, ◌-◌, ℕ, length, sym, ap, ◌∙◌, arith}
 use Rattle.gptp_pdelay.specs.Peer.{after_interval}
+use Rattle.gptp_system.specs.Measuring.{is_turned}
 use Rattle.gptp_system.specs.Ready.{state_of}
 use Rattle.gptp_system.proofs.MeasuringLemmas.{has_turned, interval_keeps, stepped_places, stepped_ready}
+use Rattle.gptp_system.proofs.WrittenLemmas.{number_at}
 use Rattle.gptp_system.proofs.state.State.on_pdelay_timer.Goals as goal
 
 pub settle-requires-clause-ready : goal.settle-requires-clause-ready
@@ -33,3 +35,10 @@ returns-clause-step c =
       state = c.send_request.ensures.state;
       sends_are = c.send_request.ensures.sends;
     }
+
+pub returns-clause-stops : goal.returns-clause-stops
+returns-clause-stops c =
+    let place = ap (λ (n : ℕ). n - 1) c.from.ensures in
+    let at = number_at c.args.self.now.ports.items c.args.port _ _ c.index-deref_mut-from.result c.requires.least
+    c.requires.most c.deref_mut.ensures.value place in
+    c.end_interval-changed.ensures.changed ∙ sym (ap (is_turned after_interval) at)

@@ -1,7 +1,7 @@
 use Rattle.std.proofs.Common.{◌≡◌, ◌+◌, ◌-◌, ◌*◌, ◌≤◌, length, drop}
 use Rattle.gptp_acts.specs.Act.{set_timers}
 use Rattle.gptp_world.specs.Net.{OnlyEntries}
-use Rattle.gptp_world.specs.Touched.{selected_from}
+use Rattle.gptp_world.specs.Timing.{selected_from}
 use Rattle.gptp_world.proofs.net.Net.set_selected.Given as goal
 
 -- those of the ports so far are set, and those that are left make the same of it as all of what there was

@@ -8,7 +8,7 @@ use Rattle.gptp_world.specs.Net.{between, IsOldest}
 use Rattle.gptp_world.proofs.DeliveringLemmas.{oldest_taken}
 use Rattle.gptp_world.proofs.EndLemmas.{end_placed, end_same, known_join, place_within, station_at}
 use Rattle.gptp_world.proofs.StageLemmas.{net_replaced, room_kept}
-use Rattle.gptp_world.proofs.TouchedLemmas.{set_for_frame}
+use Rattle.gptp_world.proofs.TimingLemmas.{set_for_frame}
 use Rattle.gptp_world.proofs.stage.Stage.deliver.Goals as goal
 
 pub narrowed-requires : goal.narrowed-requires

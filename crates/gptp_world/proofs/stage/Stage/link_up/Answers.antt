@@ -1,43 +1,44 @@
-use Rattle.gptp_system.specs.Input.{PortUp}
+use Rattle.std.proofs.Common.{true}
 use Rattle.gptp_acts.specs.Changing.{brought_up}
 use Rattle.gptp_world.specs.Net.{between}
+use Rattle.gptp_world.specs.Telling.{link_input}
 use Rattle.gptp_world.proofs.TellingLemmas.{both_told, can_tell, can_tell_second, net_changes, room_first}
 use Rattle.gptp_world.proofs.stage.Stage.link_up.Goals as goal
 
-pub tell_up-requires-clause-stage : goal.tell_up-requires-clause-stage
-tell_up-requires-clause-stage g c =
+pub tell-requires-clause-stage : goal.tell-requires-clause-stage
+tell-requires-clause-stage g c =
     net_changes c.args.self.now c.bring_up.new.self c.requires.stage c.bring_up.ensures.net c.bring_up.ensures.uses
 
-pub tell_up-requires-clause-port : goal.tell_up-requires-clause-port
-tell_up-requires-clause-port g c =
+pub tell-requires-clause-port : goal.tell-requires-clause-port
+tell-requires-clause-port g c =
     let can = can_tell c.args.self.now c.bring_up.new.self c.args.link _ _ c.requires.stage c.well_formed-2.ensures
     c.ends_of.ensures c.requires.room c.bring_up.ensures.uses in can.port_a
 
-pub tell_up-requires-clause-room : goal.tell_up-requires-clause-room
-tell_up-requires-clause-room g c =
+pub tell-requires-clause-room : goal.tell-requires-clause-room
+tell-requires-clause-room g c =
     let can = can_tell c.args.self.now c.bring_up.new.self c.args.link _ _ c.requires.stage c.well_formed-2.ensures
     c.ends_of.ensures c.requires.room c.bring_up.ensures.uses in room_first _ _ _ can.room
 
-pub tell_up-requires-2-clause-port : goal.tell_up-requires-2-clause-port
-tell_up-requires-2-clause-port g c =
+pub tell-requires-2-clause-port : goal.tell-requires-2-clause-port
+tell-requires-2-clause-port g c =
     let can = can_tell c.args.self.now c.bring_up.new.self c.args.link _ _ c.requires.stage c.well_formed-2.ensures
     c.ends_of.ensures c.requires.room c.bring_up.ensures.uses in
-    let second = can_tell_second _ _ _ _ _ _ _ c.tell_up.new.self can
-    c.tell_up.ensures.told c.tell_up.ensures.uses in second.port
+    let second = can_tell_second _ _ _ _ _ _ _ c.tell.new.self can
+    c.tell.ensures.told c.tell.ensures.uses in second.port
 
-pub tell_up-requires-2-clause-room : goal.tell_up-requires-2-clause-room
-tell_up-requires-2-clause-room g c =
+pub tell-requires-2-clause-room : goal.tell-requires-2-clause-room
+tell-requires-2-clause-room g c =
     let can = can_tell c.args.self.now c.bring_up.new.self c.args.link _ _ c.requires.stage c.well_formed-2.ensures
     c.ends_of.ensures c.requires.room c.bring_up.ensures.uses in
-    let second = can_tell_second _ _ _ _ _ _ _ c.tell_up.new.self can
-    c.tell_up.ensures.told c.tell_up.ensures.uses in second.room
+    let second = can_tell_second _ _ _ _ _ _ _ c.tell.new.self can
+    c.tell.ensures.told c.tell.ensures.uses in second.room
 
 pub returns-clause-up : goal.returns-clause-up
 returns-clause-up g c =
     let can = can_tell c.args.self.now c.bring_up.new.self c.args.link _ _ c.requires.stage c.well_formed-2.ensures
     c.ends_of.ensures c.requires.room c.bring_up.ensures.uses in
-    let told = both_told g.F.Fate.answers PortUp
+    let told = both_told g.F.Fate.answers (link_input true)
     (λ channel. brought_up c.args.link channel (between c.args.self.now.net)) c.args.link _ _ _ _ _ c.args.self.now
-    c.bring_up.new.self _ _ c.requires.stage c.ends_of.ensures can c.bring_up.ensures.up c.tell_up.ensures.told
-    c.tell_up-2.ensures.told in
+    c.bring_up.new.self _ _ c.requires.stage c.ends_of.ensures can c.bring_up.ensures.up c.tell.ensures.told
+    c.tell-2.ensures.told in
     record { channel = told.channel; here = told.here; draws = told.draws; drawn = told.drawn; up = told.tells }

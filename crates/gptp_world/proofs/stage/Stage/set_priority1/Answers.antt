@@ -1,8 +1,10 @@
 use Rattle.std.proofs.Common.{◌≡◌, false, refl, ap, sym, ◌∙◌}
 use Rattle.std.proofs.lemmas.Option.{slice_get_within}
+use Rattle.gptp_system.specs.Input.{Priority}
 use Rattle.gptp_acts.specs.declared.station.Station.{Station}
 use Rattle.gptp_acts.specs.Changing.{with_setup}
 use Rattle.gptp_lists.proofs.PlaceLemmas.{read}
+use Rattle.gptp_world.proofs.StageLemmas.{gives}
 use Rattle.gptp_world.proofs.StartingLemmas.{prepared_room, replaced_stage, stands_there, told, untold}
 use Rattle.gptp_world.proofs.stage.Stage.set_priority1.Goals as goal
 
@@ -13,31 +15,38 @@ index-requires g c =
     rw count (slice_get_within left.stations.items c.args.place new
     (stands_there c.args.self.now left c.args.place old new here (c.prepare_priority1.ensures old here)))
 
-pub set_priority-requires-clause-stage : goal.set_priority-requires-clause-stage
-set_priority-requires-clause-stage g c =
+pub give-requires-clause-stage : goal.give-requires-clause-stage
+give-requires-clause-stage g c =
     let old = c.requires.room.station in let here = c.requires.room.here in
     replaced_stage c.args.self.now _ c.args.place old (with_setup c.args.value old) c.requires.stage here refl refl
     (c.prepare_priority1.ensures old here)
 
-pub set_priority-requires-clause-live : goal.set_priority-requires-clause-live
-set_priority-requires-clause-live g c =
+pub give-requires-clause-live : goal.give-requires-clause-live
+give-requires-clause-live g c =
     let old = c.requires.room.station in let here = c.requires.room.here in let left = c.prepare_priority1.new.self in
     let new = with_setup c.args.value old in
     let there = stands_there c.args.self.now left c.args.place old new here (c.prepare_priority1.ensures old here) in
     let is : c.index.result.now ≡ new = c.index.ensures ∙ read left.stations.items c.args.place new _ there in
     record { station = new; here = there; live = ap (λ (s : Station). s.live) (sym is) ∙ c.if-index.true }
 
-pub set_priority-requires-clause-room : goal.set_priority-requires-clause-room
-set_priority-requires-clause-room g c =
+pub give-requires-clause-room : goal.give-requires-clause-room
+give-requires-clause-room g c =
     let old = c.requires.room.station in let here = c.requires.room.here in
-    prepared_room c.args.self.now _ c.args.place c.args.value c.requires.room (c.prepare_priority1.ensures old here)
+    gives (Priority c.args.value) c.args.place _
+    (prepared_room c.args.self.now _ c.args.place c.args.value c.requires.room (c.prepare_priority1.ensures old here))
+
+pub give-requires-clause-timely : goal.give-requires-clause-timely
+give-requires-clause-timely g c = λ station here. tt
+
+pub give-requires-clause-set : goal.give-requires-clause-set
+give-requires-clause-set g c = λ station here timer off. absurd cc
 
 pub returns-then-index-clause-prioritized : goal.returns-then-index-clause-prioritized
 returns-then-index-clause-prioritized g c =
     let old = c.requires.room.station in let here = c.requires.room.here in
-    told g.F.Fate.answers c.args.fate.now c.set_priority.new.fate c.args.self.now c.prepare_priority1.new.self
-    c.set_priority.new.self
-    c.args.place c.args.value old here (c.prepare_priority1.ensures old here) c.set_priority.ensures.called
+    told g.F.Fate.answers c.args.fate.now c.give.new.fate c.args.self.now c.prepare_priority1.new.self
+    c.give.new.self
+    c.args.place c.args.value old here (c.prepare_priority1.ensures old here) c.give.result c.give.ensures.called
 
 pub returns-else-index-clause-stage : goal.returns-else-index-clause-stage
 returns-else-index-clause-stage g c =

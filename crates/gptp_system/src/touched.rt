@@ -1,0 +1,50 @@
+//! The timers that a step of a system sets or stops.
+
+ghost use Rattle.std.specs.Prelude.{◌≡◌};
+ghost use Rattle.gptp_system.specs.Touched.{asking_touches, selected_if, takes_place};
+
+use crate::answer::Answer;
+use gptp_setup::Timer;
+
+/// The timers of a system that a step can have set or stopped. All others are due when they were.
+#[derive(Clone, Copy, Debug, PartialEq, Eq, Hash)]
+pub enum Touched {
+    /// None.
+    Nothing,
+    /// This one alone.
+    One(Timer),
+    /// Those that selection can change: the Announce and the Age timer of every port, and the Relay timer.
+    Selected,
+    /// Any.
+    All,
+}
+
+/// Those that selection can change, where the system may have selected.
+pub(crate) fn selected_if(selects: bool) -> Touched
+    ensures { result ≡ selected_if selects }
+{
+    match selects {
+        true => Touched::Selected,
+        false => Touched::Nothing,
+    }
+}
+
+/// Those of a port that asks its neighbour, and may have stopped being asCapable before that.
+pub(crate) fn asking_touches(stops: bool, port: u8) -> Touched
+    ensures { result ≡ asking_touches stops port }
+{
+    match stops {
+        true => Touched::All,
+        false => Touched::One(Timer::Pdelay(port)),
+    }
+}
+
+/// Whether an Announce that is answered so took the place of what the port held.
+pub(crate) fn takes_place(answer: Answer) -> bool
+    ensures { result ≡ takes_place answer }
+{
+    match answer {
+        Answer::Superior | Answer::Repeated => true,
+        _ => false,
+    }
+}

@@ -1,0 +1,41 @@
+-- What is pending of a system's timers, of which a step touches few.
+use Rattle.std.specs.Prelude.{◌≡◌, ℕ, ◌+◌, Bool, false, List, [], ◌∷◌, Some, slice_get}
+use Rattle.gptp_system.specs.declared.port.Port.{Port}
+use Rattle.gptp_setup.specs.declared.timer.Timer.{Timer}
+use Rattle.gptp_setup.specs.declared.timer.Timer.TheVariants as timers
+use Rattle.gptp_system.specs.declared.touched.Touched.{Touched}
+use Rattle.gptp_system.specs.Input.{Input}
+use Rattle.gptp_system.specs.Touched.{holds, is_always_touched, IsTouchedOf}
+use Rattle.gptp_acts.specs.declared.item.Item.TheVariants.{Expiry}
+use Rattle.gptp_world.specs.declared.stage.Stage.{Stage}
+use Rattle.gptp_acts.specs.declared.station.Station.{Station}
+use Rattle.gptp_acts.specs.Pending.{Entry, listed, times}
+use Rattle.gptp_acts.specs.World.{station_due}
+
+-- those that selection can change, of ports the first of which has this number: in the order in which they are put
+abbrev pub selected_from : ℕ → List Port → List Timer
+selected_from p [] = timers.Relay ∷ []
+selected_from p (q ∷ qs) = timers.Announce p ∷ timers.Age p ∷ selected_from (p + 1) qs
+
+-- ---- what is pending of the others
+
+-- each timer of a station is pending when it is due, those aside that may be otherwise
+abbrev pub AreSetBut : (Timer → Bool) → ℕ → Station → List Entry → Type 0
+AreSetBut otherwise place station es =
+    (timer : Timer) → otherwise timer ≡ false → times (Expiry place timer) es ≡ listed (station_due timer station)
+
+-- so is each of the system at a place
+abbrev pub AreSetAt : (Timer → Bool) → ℕ → Stage → Type 0
+AreSetAt otherwise place stage = (station : Station) → slice_get stage.stations.items place ≡ Some station
+    → AreSetBut otherwise place station stage.net.pending.entries
+
+-- so it is before a step by this input, but for the timers that count as touched in any case
+abbrev pub AreSetFor : Input → ℕ → Stage → Type 0
+AreSetFor input place stage = AreSetAt (is_always_touched input) place stage
+
+-- A step of the system at a place touched these, which are its own; all its other timers are pending when they are due.
+pub record HasTouched (touched : Touched) (place : ℕ) (stage : Stage) : Type 0 where
+  pub station : Station
+  pub here : slice_get stage.stations.items place ≡ Some station
+  pub own : IsTouchedOf station.system touched
+  pub set : AreSetBut (holds touched) place station stage.net.pending.entries
