@@ -3,3 +3,4 @@ pub mod MemberLemmas
 pub mod SearchLemmas
 pub mod SnapshotLemmas
 pub mod TakingLemmas
+pub mod PathBoundLemmas

@@ -5,9 +5,9 @@ use Rattle.std.specs.List.Sorted.{IsNonDecreasingBy, IsPartitionPoint, IsPermuta
 use Rattle.std.specs.Option.{is_some, option_and_then}
 use Rattle.std.specs.Ordering.{nat_cmp}
 use Rattle.std.proofs.lemmas.Bool.Decides.{nat_tests}
-use Rattle.std.proofs.lemmas.List.{append-nil, map-append, take_more}
+use Rattle.std.proofs.lemmas.List.{append-nil, length-map, map-append, take_more}
 use Rattle.std.proofs.lemmas.List.Elements.{filter-append, filter_map-append}
-use Rattle.std.proofs.lemmas.List.Sorted.{IsNonDecreasingBy-from_sort, IsPermutation-map, IsPermutation-sym}
+use Rattle.std.proofs.lemmas.List.Sorted.{IsNonDecreasingBy-from_sort, IsPermutation-map, IsPermutation-sym, length_permutation}
 use Rattle.std.proofs.lemmas.Map.Keys.{IsDistinct-IsPermutation}
 use Rattle.std.proofs.lemmas.Option.{cond_some, get_or_from_slice_get, none-some, same_Some, slice_get-get_or, slice_get_within}
 use Rattle.gptp_lists.specs.Members.{In, Different}
@@ -142,6 +142,16 @@ module _ (members : List Member) (events : List Timed) (systems : List LiveSyste
       octets_behind [] h s (inr none) = absurd none
       octets_behind (t ∷ ss) h s (inl e) = h s (inl e)
       octets_behind (t ∷ ss) h s (inr member) = octets_behind ss (λ u k. h u (inr k)) s member
+
+-- no more live than there are
+live_within : (ms : List Member) (events : List Timed) → length (live_systems ms events) ≤ length ms
+live_within [] events = omega arith
+live_within (m ∷ ms) events = by (live_within ms events) (live_after events m) refl
+  where
+    by : length (live_systems ms events) ≤ length ms → (o : Option (ℕ × ℕ)) → live_after events m ≡ o
+        → length (live_systems (m ∷ ms) events) ≤ length (m ∷ ms)
+    by rest None none = rw none (omega arith)
+    by rest (Some pair) some = rw some (omega arith)
 
 -- ---- systems by rising clock
 
@@ -344,6 +354,9 @@ module _ (n : NetworkState) (events : List Timed) (systems : List LiveSystem) (l
   pub tables : (ends : List LinkEnd) → IsNetwork n → AreEnds (seen_links links) ends → AreTables systems links ends
   tables ends network of_links = record {
     network = stands_well n network events (seen systems links) stands octets;
+    few = let all = network.few_systems in let some = live_within n.systems events in
+        let moved = length_permutation (live_systems n.systems events) (seen_systems systems) are.are in
+        omega (arith, length-map systems (λ (s : LiveSystem). system_of (s.identity, s.ports)));
     rising = are.rising;
     ends_are = of_links;
   }

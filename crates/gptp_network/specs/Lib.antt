@@ -8,3 +8,4 @@ pub mod Events
 pub mod Document
 pub mod Snapshot
 pub mod SnapshotTables
+pub mod PathBound

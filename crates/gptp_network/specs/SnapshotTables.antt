@@ -1,5 +1,5 @@
 -- How a snapshot is kept: its systems and links, and both ends of each link by rising port (profile).
-use Rattle.std.specs.Prelude.{◌≡◌, ◌↔◌, ◌⊎◌, ◌<◌, ◌^◌, ℕ, List, [], ◌∷◌, map, Some, slice_get}
+use Rattle.std.specs.Prelude.{◌≡◌, ◌↔◌, ◌⊎◌, ◌<◌, ◌≤◌, ◌^◌, ℕ, List, [], ◌∷◌, length, map, Some, slice_get}
 use Rattle.std.specs.declared.cmp.Ordering.{Ordering}
 use Rattle.std.specs.List.Sorted.{IsPermutation, IsSortedByKey}
 use Rattle.std.specs.Ordering.{nat_cmp, ordering_then}
@@ -70,5 +70,6 @@ pub record AreEnds (links : List Link) (ends : List LinkEnd) : Type 0 where
 -- what a snapshot keeps
 pub record AreTables (systems : List LiveSystem) (links : List UsedLink) (ends : List LinkEnd) : Type 0 where
   pub network : IsWellFormed (seen systems links)
+  pub few : length systems ≤ 512
   pub rising : RisesByClock systems
   pub ends_are : AreEnds (seen_links links) ends

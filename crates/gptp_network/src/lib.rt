@@ -12,6 +12,7 @@ mod fault;
 mod links;
 mod members;
 mod params;
+mod path_bound;
 mod snapshot;
 mod systems;
 mod taking;

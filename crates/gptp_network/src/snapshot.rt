@@ -54,7 +54,7 @@ impl Model for Snapshot {
 }
 
 impl Snapshot {
-    ghost use Rattle.std.specs.Prelude.{◌≡◌, length, option_map, slice_get, IfNone, IfOk, IfSome};
+    ghost use Rattle.std.specs.Prelude.{◌≡◌, ◌≤◌, length, option_map, slice_get, IfNone, IfOk, IfSome};
     ghost use Rattle.gptp_graph.specs.Order.{IsRising};
     ghost use Rattle.gptp_graph.specs.Snapshot.{IsLinked, IsWellFormed, Joins, clocks};
     ghost use Rattle.gptp_network.specs.Snapshot.{StandsAfter, link_of, port_identity, system_of};
@@ -126,10 +126,11 @@ impl Snapshot {
     }
 
     /// Clocks rise, each system's identity holds its clock, and a link joins ports of two of the systems, at which no other
-    /// link is.
+    /// link is. There are 512 systems at most.
     pub fn well_formed(&self)
         ensures network { IsWellFormed self.now }
         ensures rising { IsRising (clocks self.now) }
+        ensures few { length self.now.systems ≤ 512 }
     {
         let _ = &self.systems;
     }

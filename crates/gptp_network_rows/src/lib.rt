@@ -13,6 +13,8 @@ mod document;
 #[cfg(test)]
 mod far;
 #[cfg(test)]
+mod paths;
+#[cfg(test)]
 mod refused;
 #[cfg(test)]
 mod ring;

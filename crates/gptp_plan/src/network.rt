@@ -242,6 +242,17 @@ impl Network {
         settling_span(&self.params, live_systems(&self.systems, events))
     }
 
+    /// How long a network with these parameters takes at most to settle where no path over its live systems and the links
+    /// between them has more than so many systems, in ns: k + 3 announce intervals for each, and L + 5 more, with
+    /// announce receipt timeout k and L lost responses allowed.
+    pub fn settling_span_over(&self, systems: usize) -> u64
+        requires { systems ≤ 512 }
+        ensures span { result ≡ settling_span self.now.params systems }
+        ensures bound { result ≤ 160000000000000 }
+    {
+        settling_span(&self.params, systems as u64)
+    }
+
     /// Every network is within its limits, its clocks differ, its links join ports of two systems, and a port has one link
     /// at most.
     pub fn well_formed(&self)

@@ -23,7 +23,7 @@ impl Scene {
     ghost use Rattle.gptp_acts.specs.Sound.{IsSound};
     ghost use Rattle.gptp_acts.specs.Views.{Follows, HasPort, HasRole, IsLiveSystem, IsNextAct, ShowsLive, rising_clocks};
     ghost use Rattle.gptp_kept.specs.Claimed.{Claimed};
-    ghost use Rattle.gptp_kept.specs.Shown.{FollowsInTime, IsCapableInTime, IsEnabledInTime, PlaysInTime};
+    ghost use Rattle.gptp_kept.specs.Shown.{FollowsByPaths, FollowsInTime, IsCapableInTime, IsEnabledInTime, PlaysByPaths, PlaysInTime};
     ghost use Rattle.gptp_kept.specs.Traces.{AreHeldCleanInTime, IsCleanInTime};
 
     /// The time, in ns.
@@ -115,6 +115,7 @@ impl Scene {
         ensures some { IfSome result (λ f. AtSystem clock self.now (Follows f.0 f.1 f.2)) }
         ensures none { IfNone result (AtSystem clock self.now IsLiveSystem → ⊥) }
         ensures settled { IfSome result (λ f. FollowsInTime clock self.now f.0 f.1 f.2) }
+        ensures by_paths { IfSome result (λ f. FollowsByPaths clock self.now f.0 f.1 f.2) }
     {
         self.well_formed();
         match self.live_system(clock) {
@@ -138,6 +139,7 @@ impl Scene {
         ensures none { IfNone result (AtSystem clock self.now (HasPort port) → ⊥) }
         ensures enabled { IfSome result (λ role. IsEnabledInTime clock port self.now role) }
         ensures settled { IfSome result (λ role. PlaysInTime clock port self.now role) }
+        ensures by_paths { IfSome result (λ role. PlaysByPaths clock port self.now role) }
     {
         self.well_formed();
         match self.live_system(clock) {

@@ -27,7 +27,7 @@ impl<F: Fate + Drop> World<F> {
     ghost use Rattle.gptp_acts.specs.Course.{Begun, WasDone};
     ghost use Rattle.gptp_acts.specs.Sound.{IsSound};
     ghost use Rattle.gptp_kept.specs.Claimed.{Claimed};
-    ghost use Rattle.gptp_kept.specs.Shown.{FollowsInTime, IsCapableInTime, IsEnabledInTime, PlaysInTime};
+    ghost use Rattle.gptp_kept.specs.Shown.{FollowsByPaths, FollowsInTime, IsCapableInTime, IsEnabledInTime, PlaysByPaths, PlaysInTime};
     ghost use Rattle.gptp_kept.specs.Traces.{AreHeldCleanInTime, IsCleanInTime, IsHeardClean};
     ghost use Rattle.gptp_acts.specs.Views.{Follows, HasPort, HasRole, IsLiveSystem, IsNextAct, ShowsLive, rising_clocks};
 
@@ -183,11 +183,13 @@ impl<F: Fate + Drop> World<F> {
     ///
     /// Once the world has been calm for (k+3)n + L + 5 announce intervals since the last change, with n systems that live,
     /// these are the identity of the best system of its component, the least number of steps to that, and the own port of
-    /// the parent, where the system is near: fewer than 255 steps away. The best has no Slave port.
+    /// the parent, where the system is near: fewer than 255 steps away. The best has no Slave port. So they are after
+    /// (k+3)m + L + 5 intervals already, where no path over live systems and the links between them has more than m.
     pub fn follows(&self, clock: ClockId) -> Option<(Identity, u16, Option<u8>)>
         ensures some { IfSome result (λ f. AtSystem clock self.now.scene (Follows f.0 f.1 f.2)) }
         ensures none { IfNone result (AtSystem clock self.now.scene IsLiveSystem → ⊥) }
         ensures settled { IfSome result (λ f. FollowsInTime clock self.now.scene f.0 f.1 f.2) }
+        ensures by_paths { IfSome result (λ f. FollowsByPaths clock self.now.scene f.0 f.1 f.2) }
     {
         self.scene.follows(clock)
     }
@@ -197,12 +199,14 @@ impl<F: Fate + Drop> World<F> {
     ///
     /// Once the world has been calm for L + 5 announce intervals since the last change, the port is Disabled exactly where no
     /// link that is up leads from it to a live system; and once it has been for (k+3)n + L + 5, each port of a near system
-    /// has the role that the tree of fewest steps to the best gives it.
+    /// has the role that the tree of fewest steps to the best gives it. So it has after (k+3)m + L + 5 already, where no
+    /// path has more than m systems.
     pub fn role(&self, clock: ClockId, port: u16) -> Option<Role>
         ensures some { IfSome result (λ role. AtSystem clock self.now.scene (HasRole port role)) }
         ensures none { IfNone result (AtSystem clock self.now.scene (HasPort port) → ⊥) }
         ensures enabled { IfSome result (λ role. IsEnabledInTime clock port self.now.scene role) }
         ensures settled { IfSome result (λ role. PlaysInTime clock port self.now.scene role) }
+        ensures by_paths { IfSome result (λ role. PlaysByPaths clock port self.now.scene role) }
     {
         self.scene.role(clock, port)
     }
