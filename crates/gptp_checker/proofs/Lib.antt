@@ -4,3 +4,4 @@ pub mod PortLemmas
 pub mod StatedLemmas
 pub mod LineTestLemmas
 pub mod FaultLemmas
+pub mod LawLemmas

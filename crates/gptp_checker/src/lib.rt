@@ -7,6 +7,7 @@
 
 mod acceptance;
 mod fault;
+pub mod laws;
 mod line_test;
 mod lines;
 mod links;

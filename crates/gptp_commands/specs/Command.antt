@@ -1,10 +1,10 @@
 -- Command lines that are read: what the parser is told, and the words that it takes then.
-use Rattle.std.specs.Prelude.{◌≡◌, ◌≢◌, ◌⊎◌, ◌<◌, ◌≤◌, ◌^◌, ⊤, IfSome, ℕ, Bool, true, false, pos, List, [], ◌∷◌, Option, Some, None, drop, codes, string_bytes}
+use Rattle.std.specs.Prelude.{◌≡◌, ◌≢◌, ◌⊎◌, ◌<◌, ◌≤◌, ◌^◌, ⊤, IfSome, ℕ, Bool, true, false, List, [], ◌∷◌, Option, Some, None, drop, codes, string_bytes}
 use Rattle.std.specs.Str.Parse.{IsNumeral, digits_value, without_leading_plus}
 use Rattle.clap.specs.Words.{App, Row, Rule, first_of, new_app, new_rule, one_of, subcommand_name_of, subcommand_of, subcommand_rows_of, with_rule, with_subcommand}
 use Rattle.clap.specs.Lexer.{strip_byte}
 use Rattle.clap.specs.declared.builder.action.ArgAction.TheVariants.{Set, SetTrue}
-use Rattle.clap.specs.declared.builder.value_parser.ValueParser.TheVariants.{Signed, Unsigned}
+use Rattle.clap.specs.declared.builder.value_parser.ValueParser.TheVariants.{Unsigned}
 use Rattle.clap.specs.declared.parser.matches.ArgMatches.{ArgMatches}
 use Rattle.clap.specs.Simple.{on_top}
 use Rattle.gptp_commands.specs.declared.command.CheckOptions.{CheckOptions}
@@ -30,7 +30,7 @@ seed_rule = record (new_rule (codes "seed")) {
   action = Some Set;
   value_names = 1;
   defaults = codes "1" ∷ [];
-  parser = Some (Signed (pos 0) (pos 4294967295));
+  parser = Some (Unsigned 0 4294967295);
 }
 
 -- `--frames`

@@ -31,6 +31,9 @@ const NOT_READ: u8 = 2;
 /// The latest time that `--until` may give, in ns.
 const MOST_UNTIL: u64 = 1_000_000_000_000_000;
 
+/// The highest seed that `--seed` may give.
+const MOST_SEED: u64 = 4_294_967_295;
+
 /// What help says of the input of `compare`.
 const COMPARE_HELP: &str = "\
 Input: standard input, of at most 1 MiB (1,048,576 octets). Each line has two Announce messages in
@@ -44,12 +47,15 @@ Input: standard input, a document in TOML of at most 32 MiB (33,554,432 octets),
   [[system]]
   clock = '00a0deFFFE000001'
   ports = 1
+The document comes by '<': its name as a word of the command line is an error.
+Times are in ns, and offset and delay in 2^-16 ns: divide them by 65536.
 Example: gptp_sim run --until 5000000000 --seed 7 < examples/vehicle.toml";
 
 /// What help says of the inputs of `check`.
 const CHECK_HELP: &str = "\
 Input: standard input, a document in TOML of at most 32 MiB (33,554,432 octets), and FILE, a
 certificate of at most 1 MiB (1,048,576 octets), such as 'run --certificate' writes.
+The document comes by '<', the certificate by its name.
 Example: gptp_sim check certificate.txt < examples/vehicle.toml";
 
 /// What is asked of `check`.
@@ -165,7 +171,7 @@ fn seed_option<'a>(alloc: Global) -> Arg<'a>
         .long("seed")
         .action(ArgAction::Set)
         .value_name("N")
-        .value_parser(clap::value_parser!(u32))
+        .value_parser(clap::value_parser!(u64).range(0..=4_294_967_295))
         .default_value("1")
         .help("The seed of delays and losses")
 }
@@ -214,7 +220,7 @@ fn played_grammar<'a>(alloc: Global) -> Result<Command<'a>, AllocError>
         .after_help(RUN_HELP)
         .arg(until_option(
             alloc,
-            "When the run ends, in ns; by default when the network has settled",
+            "When the run ends, in ns; by default the time by which a calm network has settled",
         ))?
         .arg(seed_option(alloc))
 }
@@ -276,11 +282,14 @@ fn until_in(matches: &ArgMatches) -> Option<u64>
         .filter(|until| *until <= MOST_UNTIL)
 }
 
-/// The seed that the command line gives, or its default.
-fn seed_in(matches: &ArgMatches) -> u32
+/// The seed that the command line gives, or its default. The parser lets no number through that is above the most.
+fn seed_in(matches: &ArgMatches) -> u64
     ensures { IsSeed (one_text (found_of matches.now) (codes "seed")) result }
 {
-    matches.get_one::<u32>("seed").unwrap_or(1)
+    matches
+        .get_one::<u64>("seed")
+        .filter(|seed| *seed <= MOST_SEED)
+        .unwrap_or(1)
 }
 
 /// What is asked of `run`.
@@ -289,7 +298,7 @@ fn options_in(matches: &ArgMatches) -> RunOptions
 {
     RunOptions {
         until: until_in(matches),
-        seed: u64::from(seed_in(matches)),
+        seed: seed_in(matches),
         frames: matches.get_flag("frames"),
         certificate: matches.get_flag("certificate"),
     }
@@ -341,7 +350,7 @@ fn read_command_line<R: Env + AllocGlobal>(rt: &R) -> Result<Order, CommandLineE
 
 /// Checks the certificate in a file against a document.
 ///
-/// Read also where the file can't be opened, and then nothing is written.
+/// Read also where the document can't be read or the file can't be opened, and then nothing is written.
 fn check_file<R: Files + AllocGlobal, S: Source, K: Sink>(
     rt: &R,
     document: &mut S,
@@ -350,6 +359,8 @@ fn check_file<R: Files + AllocGlobal, S: Source, K: Sink>(
 ) -> Result<Status, SimError>
     requires { IsEndInRange options.now.until }
 {
+    // No octet is asked for. It fails where standard input is closed, whose descriptor the file would get.
+    document.read(&mut [])?;
     let Ok(file) = fs::open(rt, options.file.as_str()) else {
         return Err(SimError::Read);
     };

@@ -4,3 +4,4 @@ pub mod SearchLemmas
 pub mod SnapshotLemmas
 pub mod TakingLemmas
 pub mod PathBoundLemmas
+pub mod LawLemmas

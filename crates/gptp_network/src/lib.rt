@@ -9,6 +9,7 @@
 mod document;
 mod events;
 mod fault;
+pub mod laws;
 mod links;
 mod members;
 mod params;

@@ -7,7 +7,7 @@ use gptp_links::{Direction, ListFate, PcgFate};
 use gptp_network::Document;
 use gptp_system::Timer;
 use gptp_vector::ClockId;
-use gptp_world::{Act, Refused, Timed, World};
+use gptp_world::{Act, Done, Refused, Timed, World};
 use std::alloc::Global;
 use std::test::Fail;
 
@@ -36,6 +36,12 @@ const ARRIVAL: Act = Act::Deliver {
     link: 0,
     direction: Direction::FromA,
 };
+
+/// The first request of port 1 of clock 1, in its 54 octets (IEEE 802.1AS-2020, 11.4.5).
+const REQUEST: [u8; 54] = [
+    0x12, 0x12, 0, 0x36, 0, 0, 0, 8, 0, 0, 0, 0, 0, 0, 0, 0, 0, 0, 0, 0, 0, 0, 0, 0, 0, 0, 0, 1, 0,
+    1, 0, 0, 0, 0, 0, 0, 0, 0, 0, 0, 0, 0, 0, 0, 0, 0, 0, 0, 0, 0, 0, 0, 0, 0,
+];
 
 /// A frame from its end b arrives.
 const ARRIVAL_FROM_B: Act = Act::Deliver {
@@ -136,6 +142,19 @@ fn timed(at: u64, act: Act) -> Timed
     Timed { at, act }
 }
 
+/// Whether an act told that port 1 of clock 2 heard that request.
+fn tells_request(done: &Done) -> bool {
+    match done {
+        Done::Heard {
+            clock: hearer,
+            port,
+            frame,
+            ..
+        } => *hearer == clock(2) && *port == 1 && frame.as_slice() == REQUEST.as_slice(),
+        Done::Quiet => false,
+    }
+}
+
 #[test]
 fn an_act_is_refused_by_the_first_test(rt: HostRuntime) -> Result<(), Fail> {
     let mut world = begun(rt.alloc(), TWO)?;
@@ -151,7 +170,8 @@ fn an_act_is_refused_by_the_first_test(rt: HostRuntime) -> Result<(), Fail> {
     );
     same(&rt, world.act(timed(0, STRAY)).err(), Some(Refused::NoSuch));
     same(&rt, world.now(), 0);
-    same(&rt, world.act(timed(500, ARRIVAL)).err(), None);
+    let done = world.act(timed(500, ARRIVAL))?;
+    same(&rt, tells_request(&done), true);
     same(&rt, world.now(), 500);
     same(&rt, world.advance(1_000), Ok(()));
     same(

@@ -8,7 +8,7 @@ returns c =
     let found = found_of c.args.matches.now in
     record {
       until = until_of_rows found (codes "until") c.until_in.result c.until_in.ensures;
-      seed = rw c.from.ensures (seed_of_rows found (codes "seed") c.seed_in.result c.seed_in.ensures);
+      seed = seed_of_rows found (codes "seed") c.seed_in.result c.seed_in.ensures;
       frames = flag_of_rows found (codes "frames") c.get_flag.result c.get_flag.ensures.value c.get_flag.ensures.other;
       certificate =
           flag_of_rows found (codes "certificate") c.get_flag-2.result c.get_flag-2.ensures.value

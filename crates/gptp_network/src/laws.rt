@@ -1,0 +1,28 @@
+//! What documents promise beyond single calls.
+
+ghost use Rattle.std.specs.Prelude.{◌≡◌, ℕ, List};
+ghost use Rattle.gptp_graph.specs.Snapshot.{Snapshot};
+ghost use Rattle.gptp_network.specs.Document.{DocumentState, Fails, Means};
+ghost use Rattle.gptp_network.specs.Snapshot.{IsSnapshot};
+ghost use Rattle.gptp_network.specs.declared.fault.DocumentFault.{DocumentFault};
+
+/// A text means one document at most.
+pub fn a_text_means_one_document()
+    ensures { (text : List ℕ) (one other : DocumentState) → Means text one → Means text other → one ≡ other }
+{}
+
+/// A text that fails means no document.
+pub fn a_text_that_fails_means_no_document()
+    ensures { (text : List ℕ) (d : DocumentState) (fault : DocumentFault) → Means text d → Fails text fault → ⊥ }
+{}
+
+/// A text fails in one way at most.
+pub fn a_text_fails_in_one_way()
+    ensures { (text : List ℕ) (first second : DocumentFault) → Fails text first → Fails text second → first ≡ second }
+{}
+
+/// A document has one snapshot at a time.
+pub fn a_document_has_one_snapshot()
+    ensures { (d : DocumentState) (at : ℕ) (one other : Snapshot)
+        → IsSnapshot d at one → IsSnapshot d at other → one ≡ other }
+{}
