@@ -1,8 +1,7 @@
 -- What is claimed of a world between two changes of its network.
-use Rattle.std.specs.Prelude.{◌+◌, ◌*◌, ℕ}
+use Rattle.std.specs.Prelude.{◌+◌, ℕ}
 use Rattle.gptp_graph.specs.PathBound.{BoundsPaths}
 use Rattle.gptp_setup.specs.declared.setup.Params.{Params}
-use Rattle.gptp_setup.specs.Intervals.{interval_of}
 use Rattle.gptp_plan.specs.SettlingTime.{capability_span}
 use Rattle.gptp_acts.specs.Sound.{IsSound}
 use Rattle.gptp_acts.specs.World.{WorldState}
