@@ -6,6 +6,7 @@ pub mod LinesLemmas
 pub mod LimitedLemmas
 pub mod CompareLemmas
 pub mod LawLemmas
+pub mod VerdictLemmas
 pub mod CommandLemmas
 pub mod OptionLemmas
 pub mod CheckLemmas

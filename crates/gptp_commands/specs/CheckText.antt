@@ -3,7 +3,7 @@ use Rattle.std.specs.Prelude.{◌≡◌, ◌⊎◌, ℕ, List, [], ◌∷◌, �
 use Rattle.gptp_graph.specs.Labelling.{SystemLine}
 use Rattle.gptp_graph.specs.LocalTests.{PassesTooFar}
 use Rattle.gptp_graph.specs.SettledChoice.{IsSettledChoice}
-use Rattle.gptp_graph.specs.Snapshot.{Snapshot}
+use Rattle.gptp_graph.specs.Snapshot.{IsWellFormed, Snapshot}
 use Rattle.gptp_network.specs.declared.fault.DocumentFault.{DocumentFault}
 use Rattle.gptp_network.specs.declared.fault.DocumentFault.TheVariants.{TooMany}
 use Rattle.gptp_network.specs.Document.{DocumentState, Fails as FailsDocument, Means}
@@ -11,6 +11,7 @@ use Rattle.gptp_network.specs.Snapshot.{IsSnapshot}
 use Rattle.gptp_plan.specs.Calm.{last_change}
 use Rattle.gptp_certificate_text.specs.declared.fault.CertificateFault.{CertificateFault}
 use Rattle.gptp_certificate_text.specs.declared.fault.CertificateFault.TheVariants.{Line}
+use Rattle.gptp_certificate_text.specs.Certificate.{AreInOrder}
 use Rattle.gptp_certificate_text.specs.Faults as certificates
 use Rattle.gptp_certificate_text.specs.CertificateText.{certificate_text}
 use Rattle.gptp_certificate_text.specs.Entries.{IsReadable}
@@ -42,19 +43,19 @@ Judges g lines output status =
     ⊎ ((fault : Fault) × IsFirstFault g lines fault
     × Says (codes "not accepted " ++ fault_text fault) Refused output status)
 
--- it is judged for the network as it stands at that time
+-- it is judged for the network as it stands at that time, which is well-formed as every document's is
 abbrev pub JudgesAt : DocumentState → Option ℕ → List SystemLine → List (List ℕ) → Status → Type 0
 JudgesAt d until lines output status =
-    (g : Snapshot) × IsSnapshot d (moment_of until d) g × Judges g lines output status
+    (g : Snapshot) × IsSnapshot d (moment_of until d) g × IsWellFormed g × Judges g lines output status
 
 -- a certificate that is refused
 abbrev pub RefusesCertificate : CertificateFault → List (List ℕ) → Status → Type 0
 RefusesCertificate fault = Says (codes "certificate refused " ++ certificates.fault_text fault) Refused
 
--- a text is a certificate, which is judged, or fails a test
+-- a text is a certificate with its lines in order, which is judged, or fails a test
 abbrev pub AnswersCertificate : DocumentState → Option ℕ → List ℕ → List (List ℕ) → Status → Type 0
 AnswersCertificate d until input output status =
-    ((lines : List SystemLine) × (input ≡ certificate_text lines) × IsReadable lines
+    ((lines : List SystemLine) × (input ≡ certificate_text lines) × IsReadable lines × AreInOrder lines
     × JudgesAt d until lines output status)
     ⊎ ((fault : CertificateFault) × Fails input fault × RefusesCertificate fault output status)
 

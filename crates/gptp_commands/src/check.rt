@@ -91,6 +91,7 @@ fn judge_at(
 {
     let at = moment_of(document, until);
     let snapshot = document.snapshot(alloc, at)?;
+    snapshot.well_formed();
     judge(alloc, &snapshot, certificate)
 }
 
@@ -105,7 +106,10 @@ fn answer_certificate(
     ensures memory { IfErr result (λ e. e ≡ SimError.Memory) }
 {
     match parse(alloc, input) {
-        Ok(certificate) => judge_at(alloc, document, until, &certificate),
+        Ok(certificate) => {
+            certificate.well_formed();
+            judge_at(alloc, document, until, &certificate)
+        }
         Err(CertificateFault::OutOfMemory) => Err(SimError::Memory),
         Err(fault) => refuse_certificate(alloc, fault),
     }
