@@ -36,20 +36,11 @@ impl fmt::Display for ParentDigits {
     }
 }
 
-/// Appends the line of a system without its ports, or of a far system.
+/// Appends the line of a system without its ports.
 fn write_head(text: &mut String, line: &SystemLine) -> Result<(), AllocError>
     ensures { OnOk result (string_bytes text.new
         ≡ string_bytes text.old ++ (entry_text (system_entry (line_of line.now)) ++ 10 ∷ [])) }
 {
-    if line.far {
-        return writeln!(
-            text,
-            "system {} far {} root {}",
-            ClockDigits(line.clock),
-            line.steps,
-            IdentityDigits(line.root)
-        );
-    }
     writeln!(
         text,
         "system {} root {} steps {} parent {}",
@@ -106,26 +97,21 @@ fn write_systems(text: &mut String, lines: &[SystemLine]) -> Result<(), AllocErr
 }
 
 /// Appends the text of the lines of a certificate.
-fn write_lines(text: &mut String, version: u8, lines: &[SystemLine]) -> Result<(), AllocError>
+fn write_lines(text: &mut String, lines: &[SystemLine]) -> Result<(), AllocError>
     ensures { OnOk result (string_bytes text.new
-        ≡ string_bytes text.old ++ certificate_text version (lines_of lines.now)) }
+        ≡ string_bytes text.old ++ certificate_text (lines_of lines.now)) }
 {
-    writeln!(text, "gptp-certificate {version}")?;
+    writeln!(text, "gptp-certificate 1")?;
     write_systems(text, lines)?;
     writeln!(text, "end")
 }
 
 /// Appends the text of a certificate. The only error is that memory ran out; nothing is appended then.
 pub fn print(certificate: &Certificate, text: &mut Vec<u8>) -> Result<(), AllocError>
-    ensures written { OnOk result
-        (text.new.items ≡ text.old.items ++ certificate_text certificate.now.version certificate.now.lines) }
+    ensures written { OnOk result (text.new.items ≡ text.old.items ++ certificate_text certificate.now) }
     ensures refused { OnErr result (text.new.items ≡ text.old.items) }
 {
     let mut lines = String::new(*text.allocator());
-    write_lines(
-        &mut lines,
-        certificate.version,
-        certificate.lines.as_slice(),
-    )?;
+    write_lines(&mut lines, certificate.lines.as_slice())?;
     text.extend_from_slice(lines.as_bytes())
 }

@@ -27,9 +27,9 @@ pub(crate) fn line_of<'a>(
     certificate: &'a Certificate,
     clock: ClockId,
 ) -> Option<&'a SystemLine>
-    requires { PassesSystems snapshot.now certificate.now.lines }
-    ensures some { IfSome result (λ line. IsLineAt certificate.now.lines clock (line_of line.now)) }
-    ensures none { IfNone result ((line : graphs.SystemLine) → IsLineAt certificate.now.lines clock line → ⊥) }
+    requires { PassesSystems snapshot.now certificate.now }
+    ensures some { IfSome result (λ line. IsLineAt certificate.now clock (line_of line.now)) }
+    ensures none { IfNone result ((line : graphs.SystemLine) → IsLineAt certificate.now clock line → ⊥) }
 {
     snapshot.well_formed();
     certificate.well_formed();
@@ -42,9 +42,9 @@ pub(crate) fn steps_of(
     certificate: &Certificate,
     clock: ClockId,
 ) -> Option<u16>
-    requires { PassesSystems snapshot.now certificate.now.lines }
-    ensures some { IfSome result (StatesSteps certificate.now.lines clock) }
-    ensures only { (d : ℕ) → StatesSteps certificate.now.lines clock d → result ≡ Some d }
+    requires { PassesSystems snapshot.now certificate.now }
+    ensures some { IfSome result (StatesSteps certificate.now clock) }
+    ensures only { (d : ℕ) → StatesSteps certificate.now clock d → result ≡ Some d }
 {
     Some(line_of(snapshot, certificate, clock)?.steps)
 }
