@@ -46,7 +46,8 @@ pub expired : {F : Type 0} (answers : Bounds → ℕ → F → Option ℕ → F 
     (stage : Stage) (net : Between) (stage' : Stage) → IsTimerDue place timer stage.now (world_of stage)
     → between net
     ≡ record (between stage.net) { pending = without_first (Expiry place timer) (between stage.net).pending }
-    → (answer : Answer) → Called answers place (TimerExpires timer) answer fate fate_after (record stage { net = net }) stage'
+    → (answer : Answer)
+    → Called answers place (TimerExpires timer) answer fate fate_after (record stage { net = net }) stage'
     → Expired answers place timer fate fate_after stage stage'
 expired answers place timer fate fate_after stage net stage' due taken answer called =
     record {

@@ -1,5 +1,5 @@
--- What is pending of a system's timers: a step touches few of them, and each other is pending when it is due, before the
--- step and after it. So to set those that are touched makes the same of what is pending as to set all.
+-- What is pending of a system's timers: a step touches few of them, and each other is pending when it is due, before
+-- the step and after it. To set those that are touched makes the same of what is pending as to set all.
 use Rattle.std.proofs.Common.{◌≡◌, ℕ, zero, suc, ◌+◌, ◌<◌, Bool, true, false, drop, List, [], ◌∷◌, length, Option, refl, sym, ap, subst, ◌∙◌, inl, inr, arith}
 use Rattle.std.specs.List.{AllByRecursion, filter}
 use Rattle.std.proofs.lemmas.Bool.Decides.{nat_tests}

@@ -14,7 +14,8 @@ step-answer-requires-clause-timely g c =
 
 pub carry_out-requires-clause-carries : goal.carry_out-requires-clause-carries
 carry_out-requires-clause-carries g c =
-    carries c.args.self.now _ c.args.place (given c.args.input) c.step-answer.result.answer c.requires.stage c.requires.room
+    carries c.args.self.now _ c.args.place (given c.args.input) c.step-answer.result.answer c.requires.stage
+    c.requires.room
     (stepped c.args.self.now _ c.args.place (given c.args.input) c.step-answer.result.answer c.index_mut.result.now
     c.step-answer.new.self c.requires.live c.index_mut.ensures.value c.step-answer.ensures.steps refl refl refl refl)
     c.requires.timely
@@ -22,7 +23,8 @@ carry_out-requires-clause-carries g c =
 pub carry_out-requires-clause-touched : goal.carry_out-requires-clause-touched
 unfolding stepped
 carry_out-requires-clause-touched g c =
-    has_touched c.args.self.now _ c.args.place (given c.args.input) c.step-answer.result.answer c.step-answer.result.touched
+    has_touched c.args.self.now _ c.args.place (given c.args.input) c.step-answer.result.answer
+    c.step-answer.result.touched
     (stepped c.args.self.now _ c.args.place (given c.args.input) c.step-answer.result.answer c.index_mut.result.now
     c.step-answer.new.self c.requires.live c.index_mut.ensures.value c.step-answer.ensures.steps refl refl refl refl)
     c.requires.set c.step-answer.ensures.touches
