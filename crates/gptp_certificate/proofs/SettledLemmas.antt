@@ -109,7 +109,8 @@ its_systems w lines own states = record {
   all = all;
   no_other = no_other;
   ports = λ s line of near. ports s line of;
-  bare = λ line member e. (let near = ap (λ (l : SystemLine). l.far) (line_at w lines line states member).is in absurd cc);
+  bare = λ line member e.
+      let near = ap (λ (l : SystemLine). l.far) (line_at w lines line states member).is in absurd cc;
 }
   where
     g : Snapshot

@@ -16,15 +16,10 @@ use Rattle.gptp_scheduler.specs.declared.key.Key.{Key}
 use Rattle.gptp_scheduler.specs.declared.key.Node.{Node}
 use Rattle.gptp_scheduler.specs.declared.slots.Ends.{Ends}
 use Rattle.std.proofs.lemmas.List.{get_or_past}
+use Rattle.gptp_scheduler.proofs.NumberLemmas.{less_than, no_less}
 use Rattle.gptp_scheduler.proofs.ChainLemmas.{number-stands}
 use Rattle.gptp_scheduler.proofs.WheelLemmas.{held-is, held-node, held-placed, place-within}
 use Rattle.gptp_scheduler.proofs.FiledLemmas.{below-next, entry-found, filed-put, filed-taken, listed-all, listed-put, listed-rise, listed-taken}
-
-less_than : (a b : ℕ) → nat_lt a b ≡ true → a < b
-less_than a b test = grind (arith, nat_tests)
-
-no_less : (a b : ℕ) → nat_lt a b ≡ false → b ≤ a
-no_less a b test = grind (arith, nat_tests)
 
 module _ {T : Type 0} where
   living-own : (e : Entry T) → living e.number (Some e) ≡ Some e
@@ -77,7 +72,8 @@ module _ {T : Type 0} where
         entry-filed n key at ∙ ap (λ o. living n (option_map entry_of (option_map placed o))) is
         ∙ living-dead n (entry_of (placed e)) differs
 
-    pub entry-filed-gone : (n key : ℕ) → IsIn (filed_at n key) fs → nodes key ≡ None → entry_at (listed nodes fs) n ≡ None
+    pub entry-filed-gone : (n key : ℕ) → IsIn (filed_at n key) fs → nodes key ≡ None
+        → entry_at (listed nodes fs) n ≡ None
     entry-filed-gone n key at is =
         entry-filed n key at ∙ ap (λ o. living n (option_map entry_of (option_map placed o))) is
 
@@ -92,9 +88,11 @@ module _ {T : Type 0} where
 
     pub first-node : (key : ℕ) (e : Node T) → IsEarliest nodes key → nodes key ≡ Some e
         → IsFirst (listed nodes fs) e.time e.number
-    first-node key e least is = first-is key (entry_of (placed e)) least (held-is nodes key (placed e) (held-node nodes key e is))
+    first-node key e least is = first-is key (entry_of (placed e)) least
+        (held-is nodes key (placed e) (held-node nodes key e is))
 
-    pub not-due : (key : ℕ) (now : ℕ) → IsEarliest nodes key → now < time_of nodes key → NothingDue (listed nodes fs) now
+    pub not-due : (key : ℕ) (now : ℕ) → IsEarliest nodes key → now < time_of nodes key
+        → NothingDue (listed nodes fs) now
     not-due key now least late =
         let one = held-placed nodes key least.entry least.at_key in
         let time : time_of nodes key ≡ least.entry.time = ap time_in one.1 ∙ sym (ap (λ x. x.time) one.2) in
@@ -105,12 +103,14 @@ module _ {T : Type 0} where
     time-due key e is = let one = held-placed nodes key e is in ap time_in one.1 ∙ sym (ap (λ x. x.time) one.2)
 
     pub nothing-due : (now : ℕ) → Earliest nodes None → NothingDue (listed nodes fs) now
-    nothing-due now none = listed-all nodes (λ (e : Entry T). now < e.time) (λ k d at. absurd (none-some d (sym (none k) ∙ at))) fs
+    nothing-due now none = listed-all nodes (λ (e : Entry T). now < e.time)
+        (λ k d at. absurd (none-some d (sym (none k) ∙ at))) fs
 
     pub rise : RiseFrom 0 (listed nodes fs) next
     rise = listed-rise nodes 0 fs next agenda.filed.rising
 
-    pub unique-held : (j k : ℕ) (d b : Entry T) → held nodes j ≡ Some d → held nodes k ≡ Some b → d.number ≡ b.number → j ≡ k
+    pub unique-held : (j k : ℕ) (d b : Entry T) → held nodes j ≡ Some d → held nodes k ≡ Some b → d.number ≡ b.number
+        → j ≡ k
     unique-held j k d b at there same =
         let one = held-placed nodes j d at in let other = held-placed nodes k b there in
         agenda.wheel.chained.unique j k one.0 other.0 one.1 other.1
@@ -178,7 +178,8 @@ module _ {T : Type 0} where
 
     -- ---- one is taken
 
-    module _ (new : ℕ → Option (Node T)) (after : ℕ) (now : List Ends) (key : ℕ) (e : Entry T) (takes : Takes nodes new key e)
+    module _ (new : ℕ → Option (Node T)) (after : ℕ) (now : List Ends) (key : ℕ) (e : Entry T)
+        (takes : Takes nodes new key e)
         (wheel : IsWheel new after now) (link : Option Key) (least : Earliest new link) where
       pub agenda-taken : IsAgenda new after next now fs link
       agenda-taken = record {
@@ -191,7 +192,8 @@ module _ {T : Type 0} where
       taken-listed = listed-taken nodes new key e takes next unique-held 0 fs agenda.filed.rising
 
     -- where another was taken, the least stays
-    pub first-stays : (new : ℕ → Option (Node T)) (key : ℕ) (e : Entry T) → Takes nodes new key e → leads first key ≡ false
+    pub first-stays : (new : ℕ → Option (Node T)) (key : ℕ) (e : Entry T) → Takes nodes new key e
+        → leads first key ≡ false
         → Earliest new first
     first-stays new key e takes apart = by first agenda.first apart where
       by : (link : Option Key) → Earliest nodes link → leads link key ≡ false → Earliest new link
@@ -203,7 +205,8 @@ module _ {T : Type 0} where
         entry = least.entry;
         at_key = takes.others link.place (λ same. grind (arith, nat_tests, apart, same)) ∙ least.at_key;
         least = λ k d is.
-            least.least k d (sym (takes.others k (λ same. none-some d (sym takes.gone ∙ ap (held new) (sym same) ∙ is))) ∙ is);
+            least.least k d (sym (takes.others k
+            (λ same. none-some d (sym takes.gone ∙ ap (held new) (sym same) ∙ is))) ∙ is);
       }
 
     -- ---- one is put
@@ -274,7 +277,8 @@ module _ {T : Type 0} where
               ];
             }
 
-      pub agenda-put : IsAgenda new base (next + 1) now (fs ++ filed_at next key.place ∷ []) (Some (first_of new first key))
+      pub agenda-put : IsAgenda new base (next + 1) now (fs ++ filed_at next key.place ∷ [])
+          (Some (first_of new first key))
       agenda-put = record {
         wheel = wheel;
         filed = filed-put nodes new key.place e puts fs agenda.filed;

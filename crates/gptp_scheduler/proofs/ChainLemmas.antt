@@ -11,19 +11,7 @@ use Rattle.gptp_scheduler.specs.declared.key.Key.{Key}
 use Rattle.gptp_scheduler.specs.declared.key.Node.{Node}
 use Rattle.gptp_scheduler.specs.declared.slots.Ends.{Ends}
 use Rattle.gptp_scheduler.proofs.SlotLemmas.{ends-set_same, ends-set_other}
-use Rattle.gptp_scheduler.proofs.NumberLemmas.{Goes, Comes, least-same, greatest-same, adjacent, adjacent-first, adjacent-last, least-bypassed, greatest-bypassed, least-filled, least-behind, greatest-last, greatest-before, greatest-kept}
-
-tested : (a b : ℕ) → (a == b) ≡ true → a ≡ b
-tested a b same = grind (arith, nat_tests)
-
-differ : (a b : ℕ) → (a == b) ≡ false → a ≢ b
-differ a b test same = grind (arith, nat_tests)
-
-less_than : (a b : ℕ) → nat_lt a b ≡ true → a < b
-less_than a b test = grind (arith, nat_tests)
-
-no_less : (a b : ℕ) → nat_lt a b ≡ false → b ≤ a
-no_less a b test = grind (arith, nat_tests)
+use Rattle.gptp_scheduler.proofs.NumberLemmas.{tested, differ, less_than, no_less, Goes, Comes, least-same, greatest-same, adjacent, adjacent-first, adjacent-last, least-bypassed, greatest-bypassed, least-filled, least-behind, greatest-last, greatest-before, greatest-kept}
 
 not_true : (b : Bool) → (b ≡ true → ⊥) → b ≡ false
 not_true b never = by b never where
@@ -107,7 +95,8 @@ module _ {T : Type 0} where
     by (Some e) false = refl
 
   place-placed : (slot : ℕ) (before after : Option Key) (o : Option (Node T))
-      → option_map placed (option_map (with_place slot before after) o) ≡ option_map (in_slot slot) (option_map placed o)
+      → option_map placed (option_map (with_place slot before after) o) ≡ option_map (in_slot slot)
+          (option_map placed o)
   place-placed slot before after None = refl
   place-placed slot before after (Some e) = refl
 
@@ -149,7 +138,8 @@ module _ {T : Type 0} where
 
     -- ---- in a slot that the entry neither left nor came to
 
-    module _ (p : Placed T) (at : placed_at nodes key ≡ Some p) (other : ℕ) (left : p.slot ≢ other) (came : slot ≢ other) where
+    module _ (p : Placed T) (at : placed_at nodes key ≡ Some p) (other : ℕ) (left : p.slot ≢ other)
+        (came : slot ≢ other) where
       pub numbers-elsewhere : (k : ℕ) → numbers_in new other k ≡ numbers_in nodes other k
       numbers-elsewhere k = elim (cases_eq k key) [
         | inr differs ↦ ap (number_in other) (moves.others k differs)
@@ -188,7 +178,8 @@ module _ {T : Type 0} where
           → IsHint nodes other link → IsHint new other link
       hint-elsewhere p at left None h = tt
       hint-elsewhere p at left (Some link) h = least-left link.place (λ same.
-          left (ap (λ x. x.slot) (same_Some p h.entry (sym at ∙ ap (placed_at nodes) (sym same) ∙ h.at_key)) ∙ h.in_it)) h
+          left (ap (λ x. x.slot) (same_Some p h.entry (sym at ∙ ap (placed_at nodes) (sym same) ∙ h.at_key))
+          ∙ h.in_it)) h
 
       pub hint-without : (link : Option Key) → IsHint nodes other link → IsHint new other (bypass key None link)
       hint-without link h = by (leads link key) refl where
@@ -262,13 +253,15 @@ module _ {T : Type 0} where
       goes : Goes f g key e.number
       goes = record {
         was = number-here e.slot key e is refl;
-        gone = ap (number_in e.slot) (moves-unlinked.moved ∙ ap (λ o. option_map (in_slot OUT) (option_map placed o)) is)
+        gone = ap (number_in e.slot)
+            (moves-unlinked.moved ∙ ap (λ o. option_map (in_slot OUT) (option_map placed o)) is)
             ∙ number-other e.slot (in_slot OUT (placed e)) is_in;
         others = λ k differs. ap (number_in e.slot) (moves-unlinked.others k differs);
         unique = unique-in e.slot;
       }
 
-      elsewhere : (slot : ℕ) → slot < length ends → slot ≢ e.slot → (k : ℕ) → numbers_in new slot k ≡ numbers_in nodes slot k
+      elsewhere : (slot : ℕ) → slot < length ends → slot ≢ e.slot → (k : ℕ)
+          → numbers_in new slot k ≡ numbers_in nodes slot k
       elsewhere slot w differs =
           numbers-elsewhere nodes new key OUT moves-unlinked (placed e) (ap (option_map placed) is) slot
           (λ same. differs (sym same)) (λ same. let few = chained.few in omega arith)
@@ -314,7 +307,8 @@ module _ {T : Type 0} where
             (subst (λ (x : Ends). Greatest g (2 ^ 64) x.last) (sym here) at)
         | inr differs ↦
             subst (λ (x : Ends). Greatest (numbers_in new slot) (2 ^ 64) x.last) (sym (there slot differs))
-            (greatest-same (numbers_in nodes slot) (numbers_in new slot) (elsewhere slot (in_range slot w) differs) (2 ^ 64)
+            (greatest-same (numbers_in nodes slot) (numbers_in new slot) (elsewhere slot (in_range slot w) differs)
+            (2 ^ 64)
             (ends_at ends slot).last (chained.last slot (in_range slot w)))
       ]
 
@@ -343,7 +337,8 @@ module _ {T : Type 0} where
           let first = after-some e.before e.after k (nodes k) second.0 (sym (joined k) ∙ second.1) in (
             first.0,
             first.1,
-            second.2 ∙ ap (λ (y : Node T). record y { before = if leads e.after k then e.before else y.before }) first.2,
+            second.2 ∙ ap (λ (y : Node T). record y { before = if leads e.after k then e.before else y.before })
+            first.2,
           )
 
       not_key : (k : ℕ) (d : Node T) → new k ≡ Some d → d.slot < length left → k ≢ key
@@ -378,7 +373,8 @@ module _ {T : Type 0} where
                 let own = subst (λ (s : ℕ). Least (numbers_in nodes s) (o.number + 1) o.after) same old in
                 let adj = adjacent f (unique-in e.slot) key e.number (goes.was) k o.number
                 (number-here e.slot k o was.1 same) o.after e.before own own_before in
-                subst (λ (s : ℕ). Least (numbers_in new s) (o.number + 1) (if leads e.before k then e.after else o.after))
+                subst (λ (s : ℕ). Least (numbers_in new s) (o.number + 1)
+                (if leads e.before k then e.after else o.after))
                 (sym same)
                 (subst (λ (b : Bool). Least g (o.number + 1) (if b then e.after else o.after)) adj
                 (least-bypassed f g key e.number goes e.after (o.number + 1) o.after own_after own))
@@ -474,7 +470,8 @@ module _ {T : Type 0} where
         above = next.above;
       }
 
-      beside : (other : ℕ) → other < length ends → other ≢ slot → (k : ℕ) → numbers_in new other k ≡ numbers_in nodes other k
+      beside : (other : ℕ) → other < length ends → other ≢ slot → (k : ℕ)
+          → numbers_in new other k ≡ numbers_in nodes other k
       beside other w differs =
           numbers-elsewhere nodes new key.place slot moves-pushed next.entry next.at_key other (outside other w)
           (λ same. differs (sym same))
@@ -490,7 +487,8 @@ module _ {T : Type 0} where
         | inl same ↦
             subst (λ (s : ℕ). Least (numbers_in new s) 0 (ends_at more s).first) (sym same)
             (subst (λ (x : Ends). Least now 0 x.first) (sym own)
-            (least-filled before now key.place number comes 0 end.first key refl (omega arith) (chained.first slot within)))
+            (least-filled before now key.place number comes 0 end.first key refl (omega arith)
+            (chained.first slot within)))
         | inr differs ↦
             subst (λ (x : Ends). Least (numbers_in new other) 0 x.first) (sym (rest other differs))
             (least-same (numbers_in nodes other) (numbers_in new other) (beside other (in_reach other w) differs) 0
@@ -587,13 +585,15 @@ module _ {T : Type 0} where
             (hint-first end.least end.first (chained.hint slot within) (chained.first slot within)))
         | inr differs ↦
             subst (λ (x : Ends). IsHint new other x.least) (sym (rest other differs))
-            (hint-elsewhere nodes new key.place slot moves-pushed other (λ same. differs (sym same)) next.entry next.at_key
+            (hint-elsewhere nodes new key.place slot moves-pushed other (λ same. differs (sym same)) next.entry
+            next.at_key
             (outside other (in_reach other w)) (ends_at ends other).least (chained.hint other (in_reach other w)))
       ]
 
       -- the links of what was there
       linked-more : (k : ℕ) → k ≢ key.place → (d : Node T) → new k ≡ Some d
-          → (o : Node T) × (nodes k ≡ Some o) × (d ≡ record o { after = if leads end.last k then Some key else o.after })
+          → (o : Node T) × (nodes k ≡ Some o) ×
+              (d ≡ record o { after = if leads end.last k then Some key else o.after })
       linked-more k differs d at =
           after-some end.last (Some key) k (nodes k) d (sym (joined k) ∙ sym (others k differs) ∙ at)
 
@@ -640,9 +640,11 @@ module _ {T : Type 0} where
                   let adj = adjacent-last before (unique-in slot) k o.number (number-here slot k o was.1 same) (2 ^ 64)
                   (small-in slot) end.last o.after (chained.last slot within) here in
                   let below = below_new k o was.1 same in
-                  let filled = least-filled before now key.place number comes (o.number + 1) o.after key refl (omega arith)
+                  let filled = least-filled before now key.place number comes (o.number + 1) o.after key refl
+                  (omega arith)
                   here in
-                  subst (λ (s : ℕ). Least (numbers_in new s) (o.number + 1) (if leads end.last k then Some key else o.after))
+                  subst (λ (s : ℕ). Least (numbers_in new s) (o.number + 1)
+                  (if leads end.last k then Some key else o.after))
                   (sym same)
                   (subst (λ (l : Option Key). Least now (o.number + 1) l)
                   (sym (ap (λ (b : Bool). if b then Some key else o.after) adj ∙ fill-end o.after key)) filled)

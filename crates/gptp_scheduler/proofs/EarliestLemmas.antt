@@ -13,16 +13,11 @@ use Rattle.gptp_scheduler.specs.Wheel.{first_of, link_behind, rank, Earliest, Is
 use Rattle.gptp_scheduler.specs.declared.key.Key.{Key}
 use Rattle.gptp_scheduler.specs.declared.key.Node.{Node}
 use Rattle.gptp_scheduler.specs.declared.slots.Ends.{Ends}
+use Rattle.gptp_scheduler.proofs.NumberLemmas.{less_than, no_less}
 use Rattle.gptp_scheduler.proofs.ChainLemmas.{number-stands, number-own}
 use Rattle.gptp_scheduler.proofs.SlotLemmas.{ends-set_same, ends-set_other}
 use Rattle.gptp_scheduler.proofs.PlaceLemmas.{earlier-slot, same-time, place-in-levels, place-below}
 use Rattle.gptp_scheduler.proofs.WheelLemmas.{first-stands, held-is, held-placed, none-in, place-within, rank-at, rank-falls}
-
-less_than : (a b : ℕ) → nat_lt a b ≡ true → a < b
-less_than a b test = grind (arith, nat_tests)
-
-no_less : (a b : ℕ) → nat_lt a b ≡ false → b ≤ a
-no_less a b test = grind (arith, nat_tests)
 
 pub not-some : (link : Option Key) → is_some link ≡ false → link ≡ None
 not-some None is = refl
@@ -105,7 +100,8 @@ module _ {T : Type 0} where
         in_it = here.2;
         below = omega arith;
         least = λ k q at in_it below.
-            subst (λ (x : Placed T). IsNoEarlier p.time p.number (entry_of x)) (sym (newly k q at in_it below (h k q at in_it)))
+            subst (λ (x : Placed T). IsNoEarlier p.time p.number (entry_of x))
+            (sym (newly k q at in_it below (h k q at in_it)))
             (no-earlier-itself p);
       }
       so-far (Some one) h = by (nat_lt (time_of nodes key.place) (time_of nodes one.place)) refl where
@@ -118,7 +114,8 @@ module _ {T : Type 0} where
         by : (t : Bool) → nat_lt (time_of nodes key.place) (time_of nodes one.place) ≡ t
             → IsLeastBelow nodes slot (p.number + 1) (if t then key else one).place
         by true t =
-            let less : p.time < h.entry.time = let is = less_than _ _ t in omega (arith, is, time-key, time-one) in record {
+            let less : p.time < h.entry.time = let is = less_than _ _ t in omega (arith, is, time-key, time-one) in
+            record {
               entry = p;
               at_key = here.1;
               in_it = here.2;
@@ -165,7 +162,8 @@ module _ {T : Type 0} where
 
     pub search-end : (least : Option Key) → Searched nodes slot least None → LeastIn nodes slot least
     search-end None searched = λ k p at in_it.
-        let from = searched.so_far k p at in_it in let less = searched.rest k p.number (number_is k p at in_it) in omega arith
+        let from = searched.so_far k p at in_it in let less = searched.rest k p.number (number_is k p at in_it) in
+        omega arith
     search-end (Some key) searched = record {
       entry = searched.so_far.entry;
       at_key = searched.so_far.at_key;
@@ -188,7 +186,8 @@ module _ {T : Type 0} where
             (sym (ends-set_other ends slot _ other differs)) (chained.first other (range other w))
       ];
       last = λ other w. elim (cases_eq other slot) [
-        | inl same ↦ subst (λ (l : Option Key). Greatest (numbers_in nodes other) (2 ^ 64) l) (sym (last-known other same))
+        | inl same ↦ subst (λ (l : Option Key). Greatest (numbers_in nodes other) (2 ^ 64) l)
+            (sym (last-known other same))
             (chained.last other (range other w))
         | inr differs ↦ subst (λ (x : Ends). Greatest (numbers_in nodes other) (2 ^ 64) x.last)
             (sym (ends-set_other ends slot _ other differs)) (chained.last other (range other w))
@@ -287,9 +286,11 @@ module _ {T : Type 0} where
           let made = wheel.made k q at in
           let levels = place-in-levels base q.time q.slot (wheel.places k q at) (not_below k q at) in
           let own = place-in-levels base h.entry.time slot
-          (subst (λ s. IsPlace base h.entry.time s) h.in_it (wheel.places key.place h.entry h.at_key)) (λ is. omega arith) in
+          (subst (λ s. IsPlace base h.entry.time s) h.in_it (wheel.places key.place h.entry h.at_key))
+          (λ is. omega arith) in
           elim (cases_lt q.slot slot) [
-            | inl under ↦ absurd (none-in nodes ends wheel.chained q.slot (omega arith) (empty q.slot under) k q at refl)
+            | inl under ↦ absurd (none-in nodes ends wheel.chained q.slot (omega arith) (empty q.slot under) k q at
+                refl)
             | inr above ↦ earlier-slot base h.entry.time q.time slot q.slot own levels (omega arith)
           ])
 
@@ -310,7 +311,8 @@ module _ {T : Type 0} where
       least-first slot low within (Some key) is =
           let one = first-stands nodes ends wheel.chained slot within key is in
           let own = place-in-levels base one.0.time slot
-          (subst (λ s. IsPlace base one.0.time s) one.2 (wheel.places key.place one.0 one.1)) (λ at. omega arith) in record {
+          (subst (λ s. IsPlace base one.0.time s) one.2 (wheel.places key.place one.0 one.1)) (λ at. omega arith) in
+          record {
             entry = one.0;
             at_key = one.1;
             in_it = one.2;

@@ -25,7 +25,8 @@ rises-from : (low : ℕ) (fs : List Filed) (next i : ℕ) (d : Filed) → Rises 
 rises-from low [] next i d rises h = absurd (omega arith)
 rises-from low (f ∷ fs) next zero d rises h = rises.0
 rises-from low (f ∷ fs) next (suc i) d rises h =
-    let from : low ≤ f.number = rises.0 in let up = rises-from (f.number + 1) fs next i d rises.1 (omega arith) in omega arith
+    let from : low ≤ f.number = rises.0 in let up = rises-from (f.number + 1) fs next i d rises.1 (omega arith) in
+    omega arith
 
 pub rises-order : (low : ℕ) (fs : List Filed) (next i j : ℕ) (d : Filed) → Rises low fs next → i ≤ j → j < length fs
     → (get_or fs i d).number ≤ (get_or fs j d).number
@@ -97,7 +98,8 @@ not-filed fs next number place rises below from differs key at =
       at-least : (a b : ℕ) → nat_lt a b ≡ false → b ≤ a
       at-least a b more = grind (arith, nat_tests)
 
-pub is-filed : (number : ℕ) (f : Filed) (fs : List Filed) → f.number ≡ number → IsIn f fs → IsIn (filed_at number f.key.place) fs
+pub is-filed : (number : ℕ) (f : Filed) (fs : List Filed) → f.number ≡ number → IsIn f fs
+    → IsIn (filed_at number f.key.place) fs
 is-filed number f fs same at = subst (λ n. IsIn (filed_at n f.key.place) fs) same at
 
 -- ---- what is listed
@@ -197,7 +199,8 @@ module _ {T : Type 0} where
     listed-none none (f ∷ fs) =
         ap (λ o. live f.number o ++ listed nodes fs) (none f.key.place) ∙ listed-none none fs
 
-    rise-weaken : (less : ℕ) (es : List (Entry T)) (low next : ℕ) → less ≤ low → RiseFrom low es next → RiseFrom less es next
+    rise-weaken : (less : ℕ) (es : List (Entry T)) (low next : ℕ) → less ≤ low → RiseFrom low es next
+        → RiseFrom less es next
     rise-weaken less [] low next h up = omega arith
     rise-weaken less (e ∷ es) low next h up = let from : low ≤ e.number = up.0 in (omega arith, up.1)
 
@@ -240,7 +243,8 @@ module _ {T : Type 0} where
     listed-swept (f ∷ fs) =
         swept-step f (held nodes f.key.place) fs (filter kept fs) refl (listed-swept fs)
 
-    rises-step : (low next : ℕ) (f : Filed) (fs : List Filed) → low ≤ f.number → Rises (f.number + 1) fs next → (t : Bool)
+    rises-step : (low next : ℕ) (f : Filed) (fs : List Filed) → low ≤ f.number → Rises (f.number + 1) fs next
+        → (t : Bool)
         → Rises low (if t then f ∷ fs else fs) next
     rises-step low next f fs from rest true = (from, rest)
     rises-step low next f fs from rest false = rises-weaken (f.number + 1) fs next low (omega arith) rest
@@ -273,7 +277,8 @@ module _ {T : Type 0} where
     -- ---- an entry more
 
     module _ (key : ℕ) (e : Entry T) (puts : Puts old new key e) where
-      live-put : (f : Filed) → f.number ≢ e.number → live f.number (held new f.key.place) ≡ live f.number (held old f.key.place)
+      live-put : (f : Filed) → f.number ≢ e.number
+          → live f.number (held new f.key.place) ≡ live f.number (held old f.key.place)
       live-put f differs = elim (cases_eq f.key.place key) [
         | inl same ↦
             ap (λ k. live f.number (held new k)) same ∙ ap (live f.number) puts.put
@@ -319,7 +324,8 @@ module _ {T : Type 0} where
     -- ---- an entry less
 
     module _ (key : ℕ) (e : Entry T) (takes : Takes old new key e) (next : ℕ)
-        (unique : (j k : ℕ) (d b : Entry T) → held old j ≡ Some d → held old k ≡ Some b → d.number ≡ b.number → j ≡ k) where
+        (unique : (j k : ℕ) (d b : Entry T) → held old j ≡ Some d → held old k ≡ Some b → d.number ≡ b.number → j ≡ k)
+        where
       live-taken : (f : Filed) (es : List (Entry T)) → (f.number ≡ e.number → entry_at es e.number ≡ None)
           → live f.number (held new f.key.place) ++ without e.number es
           ≡ without e.number (live f.number (held old f.key.place) ++ es)

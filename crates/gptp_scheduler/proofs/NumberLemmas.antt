@@ -1,5 +1,5 @@
 -- What becomes of links by number where one entry goes, and where one comes above all others.
-use Rattle.std.proofs.Common.{◌≡◌, ◌≢◌, ℕ, ◌+◌, ◌<◌, ◌≤◌, ◌==◌, Bool, true, false, Option, Some, None, ◌⊎◌, if◌then◌else◌, refl, sym, ap, ◌∙◌, inl, inr, arith}
+use Rattle.std.proofs.Common.{◌≡◌, ◌≢◌, ℕ, ◌+◌, ◌<◌, ◌≤◌, ◌==◌, nat_lt, Bool, true, false, Option, Some, None, ◌⊎◌, if◌then◌else◌, refl, sym, ap, ◌∙◌, inl, inr, arith}
 use Rattle.std.proofs.lemmas.Bool.{cases_eq, cases_lt}
 use Rattle.std.proofs.lemmas.Bool.Decides.{nat_tests}
 use Rattle.std.proofs.lemmas.Option.{none-some, same_Some}
@@ -15,11 +15,17 @@ both_tests false false f g = refl
 test : (a b : ℕ) → a ≡ b → (a == b) ≡ true
 test a b same = grind (arith, nat_tests)
 
-tested : (a b : ℕ) → (a == b) ≡ true → a ≡ b
+pub tested : (a b : ℕ) → (a == b) ≡ true → a ≡ b
 tested a b same = grind (arith, nat_tests)
 
-differ : (a b : ℕ) → (a == b) ≡ false → a ≢ b
+pub differ : (a b : ℕ) → (a == b) ≡ false → a ≢ b
 differ a b test same = grind (arith, nat_tests)
+
+pub less_than : (a b : ℕ) → nat_lt a b ≡ true → a < b
+less_than a b test = grind (arith, nat_tests)
+
+pub no_less : (a b : ℕ) → nat_lt a b ≡ false → b ≤ a
+no_less a b test = grind (arith, nat_tests)
 
 -- the entry of one number is gone, and no number stands twice
 pub record Goes (f g : ℕ → Option ℕ) (key number : ℕ) : Type 0 where
@@ -172,7 +178,8 @@ module _ (f g : ℕ → Option ℕ) (key number : ℕ) (goes : Goes f g key numb
     least-beyond (Some o) after = record {
       number = after.number;
       at = goes.others o.place (λ same.
-          let is = its_number o.place after.number after.at (sym same) in let up = after.from in omega arith) ∙ after.at;
+          let is = its_number o.place after.number after.at (sym same) in let up = after.from in omega arith)
+          ∙ after.at;
       from = let up = after.from in omega arith;
       least = λ k n is above.
           let was = left k n is in
@@ -277,7 +284,8 @@ module _ (f g : ℕ → Option ℕ) (key number : ℕ) (comes : Comes f g key nu
     number = number;
     at = ap g at ∙ comes.came;
     below = below;
-    greatest = λ k n is under. elim (arrived k n is) [ inl one ↦ omega (arith, one.1) | inr was ↦ omega (arith, was.1) ];
+    greatest = λ k n is under. elim (arrived k n is)
+        [ inl one ↦ omega (arith, one.1) | inr was ↦ omega (arith, was.1) ];
   }
 
   pub greatest-before : (high : ℕ) (last : Option Key) → ((k n : ℕ) → f k ≡ Some n → n < high) → Greatest f high last

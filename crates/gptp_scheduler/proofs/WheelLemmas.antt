@@ -118,10 +118,12 @@ module _ {T : Type 0} where
       few = chained.few;
       first = λ slot w. least-same (numbers_in old slot) (numbers_in new slot) (numbers-put slot (range slot w)) 0
           (ends_at ends slot).first (chained.first slot w);
-      last = λ slot w. greatest-same (numbers_in old slot) (numbers_in new slot) (numbers-put slot (range slot w)) (2 ^ 64)
+      last = λ slot w. greatest-same (numbers_in old slot) (numbers_in new slot) (numbers-put slot (range slot w))
+          (2 ^ 64)
           (ends_at ends slot).last (chained.last slot w);
       hint = λ slot w. hint-put slot (range slot w) (ends_at ends slot).least (chained.hint slot w);
-      after = λ k d at w. least-same (numbers_in old d.slot) (numbers_in new d.slot) (numbers-put d.slot (range d.slot w))
+      after = λ k d at w. least-same (numbers_in old d.slot) (numbers_in new d.slot)
+          (numbers-put d.slot (range d.slot w))
           (d.number + 1) d.after (chained.after k d (stood-before k d at w) w);
       before = λ k d at w. greatest-same (numbers_in old d.slot) (numbers_in new d.slot)
           (numbers-put d.slot (range d.slot w)) d.number d.before (chained.before k d (stood-before k d at w) w);
@@ -187,7 +189,8 @@ module _ {T : Type 0} where
       (others : (k : ℕ) → k ≢ key → new k ≡ mid k) (len : length now ≡ length ends) where
     left : (k : ℕ) (p : Placed T) → placed_at new k ≡ Some p → (k ≢ key) × (placed_at mid k ≡ Some p)
     left k p at = elim (cases_eq k key) [
-      | inl same ↦ absurd (none-some p (sym (ap (λ j. option_map placed (new j)) same ∙ ap (option_map placed) gone) ∙ at))
+      | inl same ↦ absurd (none-some p
+          (sym (ap (λ j. option_map placed (new j)) same ∙ ap (option_map placed) gone) ∙ at))
       | inr differs ↦ (differs, sym (ap (option_map placed) (others k differs)) ∙ at)
     ]
 
@@ -324,11 +327,13 @@ module _ {T : Type 0} where
           let one = number-stands to n (placed_at mid k) at in
           elim (cases_eq k key.place) [
             | inl same ↦ absurd (
-                let slots = ap (λ x. x.slot) (same_Some one.0 (in_slot OUT p) (sym one.1 ∙ ap (placed_at mid) same ∙ mid-key)) in
+                let slots = ap (λ x. x.slot)
+                (same_Some one.0 (in_slot OUT p) (sym one.1 ∙ ap (placed_at mid) same ∙ mid-key)) in
                 let less = lower in let within = lowering.within in omega (arith, one.2, slots))
             | inr differs ↦
                 let under : one.0.slot < slot = let less = lower in omega (arith, one.2) in
-                let less = lowering.ordered k key.place one.0 p (sym (gone.others k differs) ∙ one.1) stands.1 under stands.2 in
+                let less = lowering.ordered k key.place one.0 p (sym (gone.others k differs) ∙ one.1) stands.1 under
+                stands.2 in
                 omega (arith, less, one.3)
           ];
     }
@@ -383,10 +388,12 @@ module _ {T : Type 0} where
       pub same-lowered : SameEntries nodes new
       same-lowered k = same-moved mid new key.place to came k ∙ same-moved nodes mid key.place OUT gone k
 
-      pub rank-lowered : rank (numbers_in new slot) (ends_at now slot).first < rank (numbers_in nodes slot) (ends_at ends slot).first
+      pub rank-lowered : rank (numbers_in new slot) (ends_at now slot).first < rank (numbers_in nodes slot)
+          (ends_at ends slot).first
       rank-lowered =
           let within = lowering.within in let made = lowering.made in
-          let is_at : numbers_in nodes slot key.place ≡ Some p.number = ap (number_in slot) stands.1 ∙ number-own slot p stands.2 in
+          let is_at : numbers_in nodes slot key.place ≡ Some p.number = ap (number_in slot) stands.1
+          ∙ number-own slot p stands.2 in
           let small = lowering.chained.small key.place p stands.1 in
           let falls = rank-falls (numbers_in new slot) 0 (ends_at now slot).first p.number small
           (last.first slot (omega arith))
@@ -408,7 +415,8 @@ module _ {T : Type 0} where
 
   -- ---- the least was taken
 
-  module _ (nodes : ℕ → Option (Node T)) (base time slot : ℕ) (ends : List Ends) (left : IsLeft nodes base time slot ends)
+  module _ (nodes : ℕ → Option (Node T)) (base time slot : ℕ) (ends : List Ends)
+      (left : IsLeft nodes base time slot ends)
       (levels : slot < 2048) where
     its_place : IsInLevels base time slot
     its_place = place-in-levels base time slot left.place (omega arith)
@@ -475,7 +483,8 @@ module _ {T : Type 0} where
       made = let made = wheel.made key (placed e) (held-node nodes key e is) in omega arith;
       place = wheel.places key (placed e) (held-node nodes key e is);
       first = λ k p at.
-          let differs : k ≢ key = λ same. none-some (entry_of p) (sym takes.gone ∙ ap (held new) (sym same) ∙ held-is new k p at) in
+          let differs : k ≢ key = λ same. none-some (entry_of p)
+          (sym takes.gone ∙ ap (held new) (sym same) ∙ held-is new k p at) in
           let least = first.least k (entry_of p) (sym (takes.others k differs) ∙ held-is new k p at) in
           let time_is : e.time ≡ first.entry.time = ap (λ x. x.time) (same_Some (entry_of (placed e)) first.entry
           (sym (held-is nodes key (placed e) (held-node nodes key e is)) ∙ first.at_key)) in

@@ -1,4 +1,5 @@
-//! In which slot a time stands. Its levels follow those of the wheel of the `futures` crate, with eight bits in place of six.
+//! In which slot a time stands. The levels follow those of the wheel of the `futures` crate, with eight bits in place
+//! of six.
 
 ghost use Rattle.std.specs.Prelude.{◌≤◌};
 ghost use Rattle.gptp_scheduler.specs.Places.{IsPlace};

@@ -25,7 +25,8 @@ returns-clause-wheel g c =
     wheel-put (get c.args.nodes.now) (get c.insert_reserved-place.new.self) c.args.slots.now
     c.insert_reserved-place.result c.requires.wheel.chained _ in_slab.was_vacant in_slab.updates.changed
     in_slab.updates.others refl c.requires.above c.ranges.number.fits c.args.base c.slot_of.result
-    (get c.push_back.new.nodes) c.push_back.new.slots c.requires.wheel c.requires.made pushed.len c.slot_of.ensures.place
+    (get c.push_back.new.nodes) c.push_back.new.slots c.requires.wheel c.requires.made pushed.len
+    c.slot_of.ensures.place
     pushed.chained pushed.moved
 
 pub returns-clause-puts : goal.returns-clause-puts
@@ -35,5 +36,6 @@ returns-clause-puts g c =
     puts-put (get c.args.nodes.now) (get c.insert_reserved-place.new.self) c.args.slots.now
     c.insert_reserved-place.result c.requires.wheel.chained _ in_slab.was_vacant in_slab.updates.changed
     in_slab.updates.others refl c.requires.above c.ranges.number.fits c.args.base c.slot_of.result
-    (get c.push_back.new.nodes) c.push_back.new.slots c.requires.wheel c.requires.made pushed.len c.slot_of.ensures.place
+    (get c.push_back.new.nodes) c.push_back.new.slots c.requires.wheel c.requires.made pushed.len
+    c.slot_of.ensures.place
     pushed.chained pushed.moved

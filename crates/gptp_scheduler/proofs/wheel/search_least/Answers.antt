@@ -4,7 +4,8 @@ use Rattle.gptp_scheduler.proofs.wheel.search_least.Goals as goal
 
 pub loop-next-init : goal.loop-next-init
 loop-next-init g c =
-    rw c.get-next.ensures (search-start (get c.args.nodes.now) c.args.slots.now c.requires.chained c.args.slot c.requires.slot)
+    rw c.get-next.ensures
+    (search-start (get c.args.nodes.now) c.args.slots.now c.requires.chained c.args.slot c.requires.slot)
 
 pub loop-next-preserved : goal.loop-next-preserved
 loop-next-preserved g c =

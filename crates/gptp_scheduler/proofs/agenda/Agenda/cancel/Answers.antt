@@ -22,7 +22,8 @@ returns-in_err-key-clause-taken g c =
 pub returns-then-not-is_live-clause-item : goal.returns-then-not-is_live-clause-item
 returns-then-not-is_live-clause-item g c =
     let found = rw c.deref.ensures.value at c.in_ok-key.ensures.found in
-    let none = entry-filed (get c.self.inside.nodes) c.self.inside.base c.self.inside.next c.self.inside.slots c.self.inside.filed.items
+    let none = entry-filed (get c.self.inside.nodes) c.self.inside.base c.self.inside.next c.self.inside.slots
+    c.self.inside.filed.items
     c.self.inside.first c.self.invariant.0 c.args.number c.in_ok-key.key.place found
     ∙ lives-not c.args.number _ (sym c.is_live.ensures ∙ c.if-not-is_live.true) in
     rw (← c.self.view_is, none) refl
@@ -30,7 +31,8 @@ returns-then-not-is_live-clause-item g c =
 pub returns-then-not-is_live-clause-taken : goal.returns-then-not-is_live-clause-taken
 returns-then-not-is_live-clause-taken g c =
     let found = rw c.deref.ensures.value at c.in_ok-key.ensures.found in
-    let none = entry-filed (get c.self.inside.nodes) c.self.inside.base c.self.inside.next c.self.inside.slots c.self.inside.filed.items
+    let none = entry-filed (get c.self.inside.nodes) c.self.inside.base c.self.inside.next c.self.inside.slots
+    c.self.inside.filed.items
     c.self.inside.first c.self.invariant.0 c.args.number c.in_ok-key.key.place found
     ∙ lives-not c.args.number _ (sym c.is_live.ensures ∙ c.if-not-is_live.true) in
     rw (← c.self.view_is) (sym (absent (listed (get c.self.inside.nodes) c.self.inside.filed.items) c.args.number none))
@@ -38,7 +40,8 @@ returns-then-not-is_live-clause-taken g c =
 pub take-node-requires-clause-stands : goal.take-node-requires-clause-stands
 take-node-requires-clause-stands g c =
     let one = lives-some c.args.number _ (sym c.is_live.ensures ∙ c.if-not-is_live.false) in
-    stands-held (get c.self.inside.nodes) c.self.inside.base c.self.inside.next c.self.inside.slots c.self.inside.filed.items
+    stands-held (get c.self.inside.nodes) c.self.inside.base c.self.inside.next c.self.inside.slots
+    c.self.inside.filed.items
     c.self.inside.first c.self.invariant.0 c.in_ok-key.key.place one.0 one.1
 
 pub earliest_left-self-inside-requires-clause-wheel : goal.earliest_left-self-inside-requires-clause-wheel
@@ -47,16 +50,20 @@ earliest_left-self-inside-requires-clause-wheel g c =
 
 pub earliest_left-self-inside-requires-clause-first : goal.earliest_left-self-inside-requires-clause-first
 earliest_left-self-inside-requires-clause-first g c apart =
-    first-stays (get c.self.inside.nodes) c.self.inside.base c.self.inside.next c.self.inside.slots c.self.inside.filed.items
-    c.self.inside.first c.self.invariant.0 (get c.take-node.new.nodes) c.in_ok-key.key.place _ c.take-node.ensures.takes apart
+    first-stays (get c.self.inside.nodes) c.self.inside.base c.self.inside.next c.self.inside.slots
+    c.self.inside.filed.items
+    c.self.inside.first c.self.invariant.0 (get c.take-node.new.nodes) c.in_ok-key.key.place _
+    c.take-node.ensures.takes apart
 
 pub invariant_of-self : goal.invariant_of-self
 invariant_of-self g c =
     let spare = c.self.invariant.1 in
     let in_slab = spare.in_slab in let made = spare.made in
     let taken = c.take-node.ensures in let chains = c.earliest_left-self-inside.ensures.chains in (
-      agenda-taken (get c.self.inside.nodes) c.self.inside.base c.self.inside.next c.self.inside.slots c.self.inside.filed.items
-          c.self.inside.first c.self.invariant.0 (get c.take-node.new.nodes) c.self.inside.base c.earliest_left-self-inside.new.slots
+      agenda-taken (get c.self.inside.nodes) c.self.inside.base c.self.inside.next c.self.inside.slots
+      c.self.inside.filed.items
+          c.self.inside.first c.self.invariant.0 (get c.take-node.new.nodes) c.self.inside.base
+          c.earliest_left-self-inside.new.slots
           c.in_ok-key.key.place _ c.take-node.ensures.takes
           (c.earliest_left-self-inside.ensures.wheel c.self.inside.base
           (c.take-node.ensures.wheel c.self.inside.base c.self.invariant.0.wheel))
@@ -75,7 +82,8 @@ returns-clause-item g c =
     let was = c.take-node.ensures.takes.was in
     let number = lives-held c.args.number _ e was (sym c.is_live.ensures ∙ c.if-not-is_live.false) in
     let one = subst (λ n. entry_at (listed (get c.self.inside.nodes) c.self.inside.filed.items) n ≡ Some e) number
-    (entry-there (get c.self.inside.nodes) c.self.inside.base c.self.inside.next c.self.inside.slots c.self.inside.filed.items
+    (entry-there (get c.self.inside.nodes) c.self.inside.base c.self.inside.next c.self.inside.slots
+    c.self.inside.filed.items
     c.self.inside.first c.self.invariant.0 c.in_ok-key.key.place e was) in
     rw (← c.self.view_is, one) refl
 
@@ -85,8 +93,10 @@ returns-clause-taken g c =
     let was = c.take-node.ensures.takes.was in
     let number = lives-held c.args.number _ e was (sym c.is_live.ensures ∙ c.if-not-is_live.false) in
     rw (← c.self.view_is)
-    (taken-listed (get c.self.inside.nodes) c.self.inside.base c.self.inside.next c.self.inside.slots c.self.inside.filed.items
-    c.self.inside.first c.self.invariant.0 (get c.take-node.new.nodes) c.self.inside.base c.earliest_left-self-inside.new.slots
+    (taken-listed (get c.self.inside.nodes) c.self.inside.base c.self.inside.next c.self.inside.slots
+    c.self.inside.filed.items
+    c.self.inside.first c.self.invariant.0 (get c.take-node.new.nodes) c.self.inside.base
+    c.earliest_left-self-inside.new.slots
     c.in_ok-key.key.place e c.take-node.ensures.takes
     (c.earliest_left-self-inside.ensures.wheel c.self.inside.base
     (c.take-node.ensures.wheel c.self.inside.base c.self.invariant.0.wheel))

@@ -13,7 +13,9 @@ returns-in_err-self-clause-empty g c =
 pub returns-clause-first : goal.returns-clause-first
 returns-clause-first g c =
     let least = rw c.in_ok-self.was at c.self.invariant.0.first in
-    let there : get c.self.inside.nodes c.in_ok-self.field-0.place ≡ Some c.in_ok-node.node.now = sym c.in_ok-node.ensures in
+    let there : get c.self.inside.nodes c.in_ok-self.field-0.place ≡ Some c.in_ok-node.node.now = sym
+    c.in_ok-node.ensures in
     rw (← c.self.view_is)
-    (first-node (get c.self.inside.nodes) c.self.inside.base c.self.inside.next c.self.inside.slots c.self.inside.filed.items
+    (first-node (get c.self.inside.nodes) c.self.inside.base c.self.inside.next c.self.inside.slots
+    c.self.inside.filed.items
     c.self.inside.first c.self.invariant.0 c.in_ok-self.field-0.place c.in_ok-node.node.now least there)

@@ -5,7 +5,8 @@ use Rattle.gptp_scheduler.proofs.AgendaLemmas.{agenda-put, all-below, put-listed
 use Rattle.gptp_scheduler.proofs.agenda.Agenda.put.Goals as goal
 
 pub put-key-requires-clause-above : goal.put-key-requires-clause-above
-put-key-requires-clause-above g c = all-below (get c.self.inside.nodes) c.self.inside.base c.self.inside.next c.self.inside.slots c.self.inside.filed.items
+put-key-requires-clause-above g c = all-below (get c.self.inside.nodes) c.self.inside.base c.self.inside.next
+    c.self.inside.slots c.self.inside.filed.items
     c.self.inside.first c.self.invariant.0
 
 pub put-key-requires-clause-made : goal.put-key-requires-clause-made
@@ -25,8 +26,10 @@ invariant_of-self g c =
     let made = spare.made one in
     let in_put = c.put-key.ensures in let pushed = c.push_reserved.ensures in
     rw (c.push_reserved.ensures.items, c.earlier_of.ensures) (
-      agenda-put (get c.self.inside.nodes) c.self.inside.base c.self.inside.next c.self.inside.slots c.self.inside.filed.items
-          c.self.inside.first c.self.invariant.0 (get c.put-key.new.nodes) c.put-key.new.slots c.put-key.result c.args.time c.args.item
+      agenda-put (get c.self.inside.nodes) c.self.inside.base c.self.inside.next c.self.inside.slots
+      c.self.inside.filed.items
+          c.self.inside.first c.self.invariant.0 (get c.put-key.new.nodes) c.put-key.new.slots c.put-key.result
+          c.args.time c.args.item
           c.put-key.ensures.puts c.put-key.ensures.wheel,
       record {
         in_slab = omega (arith, one, in_slab, in_put.len, in_put.capacity);
@@ -43,6 +46,8 @@ returns-clause-entries g c =
     ap (λ v. v.entries) same in
     let next : c.self.inside.next ≡ c.args.self.now.next = ap (λ v. v.next) same in
     rw (c.push_reserved.ensures.items, ← entries, ← next)
-    (put-listed (get c.self.inside.nodes) c.self.inside.base c.self.inside.next c.self.inside.slots c.self.inside.filed.items
-    c.self.inside.first c.self.invariant.0 (get c.put-key.new.nodes) c.put-key.new.slots c.put-key.result c.args.time c.args.item
+    (put-listed (get c.self.inside.nodes) c.self.inside.base c.self.inside.next c.self.inside.slots
+    c.self.inside.filed.items
+    c.self.inside.first c.self.invariant.0 (get c.put-key.new.nodes) c.put-key.new.slots c.put-key.result c.args.time
+    c.args.item
     c.put-key.ensures.puts c.put-key.ensures.wheel)

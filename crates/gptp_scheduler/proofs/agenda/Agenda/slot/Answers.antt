@@ -18,7 +18,8 @@ pub returns-in_err-node-clause-there : goal.returns-in_err-node-clause-there
 returns-in_err-node-clause-there g c =
     let found = rw c.deref.ensures.value at c.in_ok-key.ensures.found in
     let gone : get c.self.inside.nodes c.in_ok-key.key.place ≡ None = sym c.in_err-node.ensures in
-    let none = entry-filed-gone (get c.self.inside.nodes) c.self.inside.base c.self.inside.next c.self.inside.slots c.self.inside.filed.items
+    let none = entry-filed-gone (get c.self.inside.nodes) c.self.inside.base c.self.inside.next c.self.inside.slots
+    c.self.inside.filed.items
     c.self.inside.first c.self.invariant.0 c.args.number c.in_ok-key.key.place found gone in
     rw (c.from_residual-in_err-node.ensures, ← c.self.view_is, none) refl
 
@@ -26,16 +27,20 @@ pub returns-then-node-number-clause-there : goal.returns-then-node-number-clause
 returns-then-node-number-clause-there g c =
     let found = rw c.deref.ensures.value at c.in_ok-key.ensures.found in
     let there : get c.self.inside.nodes c.in_ok-key.key.place ≡ Some c.in_ok-node.node.now = sym c.in_ok-node.ensures in
-    let one = entry-filed-node (get c.self.inside.nodes) c.self.inside.base c.self.inside.next c.self.inside.slots c.self.inside.filed.items
-    c.self.inside.first c.self.invariant.0 c.args.number c.in_ok-key.key.place c.in_ok-node.node.now found there c.if-node-number.true in
+    let one = entry-filed-node (get c.self.inside.nodes) c.self.inside.base c.self.inside.next c.self.inside.slots
+    c.self.inside.filed.items
+    c.self.inside.first c.self.invariant.0 c.args.number c.in_ok-key.key.place c.in_ok-node.node.now found there
+    c.if-node-number.true in
     rw (← c.self.view_is, one) refl
 
 pub returns-then-node-number-clause-stands : goal.returns-then-node-number-clause-stands
 returns-then-node-number-clause-stands g c e is =
     let found = rw c.deref.ensures.value at c.in_ok-key.ensures.found in
     let there : get c.self.inside.nodes c.in_ok-key.key.place ≡ Some c.in_ok-node.node.now = sym c.in_ok-node.ensures in
-    let one = entry-filed-node (get c.self.inside.nodes) c.self.inside.base c.self.inside.next c.self.inside.slots c.self.inside.filed.items
-    c.self.inside.first c.self.invariant.0 c.args.number c.in_ok-key.key.place c.in_ok-node.node.now found there c.if-node-number.true in
+    let one = entry-filed-node (get c.self.inside.nodes) c.self.inside.base c.self.inside.next c.self.inside.slots
+    c.self.inside.filed.items
+    c.self.inside.first c.self.invariant.0 c.args.number c.in_ok-key.key.place c.in_ok-node.node.now found there
+    c.if-node-number.true in
     let entries = rw (← c.self.view_is) at is in
     let time = ap (λ x. x.time) (same_Some (entry_of (placed c.in_ok-node.node.now)) e (sym one ∙ entries)) in (
       c.self.inside.base,
@@ -48,6 +53,8 @@ pub returns-else-node-number-clause-there : goal.returns-else-node-number-clause
 returns-else-node-number-clause-there g c =
     let found = rw c.deref.ensures.value at c.in_ok-key.ensures.found in
     let there : get c.self.inside.nodes c.in_ok-key.key.place ≡ Some c.in_ok-node.node.now = sym c.in_ok-node.ensures in
-    let none = entry-filed-other (get c.self.inside.nodes) c.self.inside.base c.self.inside.next c.self.inside.slots c.self.inside.filed.items
-    c.self.inside.first c.self.invariant.0 c.args.number c.in_ok-key.key.place c.in_ok-node.node.now found there c.if-node-number.false in
+    let none = entry-filed-other (get c.self.inside.nodes) c.self.inside.base c.self.inside.next c.self.inside.slots
+    c.self.inside.filed.items
+    c.self.inside.first c.self.invariant.0 c.args.number c.in_ok-key.key.place c.in_ok-node.node.now found there
+    c.if-node-number.false in
     rw (← c.self.view_is, none) refl

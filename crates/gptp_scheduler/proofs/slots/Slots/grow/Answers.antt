@@ -8,10 +8,12 @@ invariant_of-self-2 c =
     let few = rw (← c.self.view_is) at c.requires.few in
     let made = c.resize.ensures.by_index in
     filled-same c.self.inside.filled c.self.inside.ends.items c.resize.new.self.items
-    (resized c.self.inside.ends.items c.resize.new.self.items 2049 few (search rules) (search rules) (search rules)) c.self.invariant
+    (resized c.self.inside.ends.items c.resize.new.self.items 2049 few (search rules) (search rules) (search rules))
+    c.self.invariant
 
 pub returns-clause-same : goal.returns-clause-same
 returns-clause-same c =
     let few = rw (← c.self.view_is) at c.requires.few in
     let made = c.resize.ensures.by_index in
-    rw (← c.self.view_is) (resized c.self.inside.ends.items c.resize.new.self.items 2049 few (search rules) (search rules) (search rules))
+    rw (← c.self.view_is)
+    (resized c.self.inside.ends.items c.resize.new.self.items 2049 few (search rules) (search rules) (search rules))
