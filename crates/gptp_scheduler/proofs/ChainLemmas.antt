@@ -96,7 +96,7 @@ module _ {T : Type 0} where
 
   place-placed : (slot : ℕ) (before after : Option Key) (o : Option (Node T))
       → option_map placed (option_map (with_place slot before after) o) ≡ option_map (in_slot slot)
-          (option_map placed o)
+      (option_map placed o)
   place-placed slot before after None = refl
   place-placed slot before after (Some e) = refl
 
@@ -338,7 +338,7 @@ module _ {T : Type 0} where
             first.0,
             first.1,
             second.2 ∙ ap (λ (y : Node T). record y { before = if leads e.after k then e.before else y.before })
-            first.2,
+                first.2,
           )
 
       not_key : (k : ℕ) (d : Node T) → new k ≡ Some d → d.slot < length left → k ≢ key
@@ -593,7 +593,7 @@ module _ {T : Type 0} where
       -- the links of what was there
       linked-more : (k : ℕ) → k ≢ key.place → (d : Node T) → new k ≡ Some d
           → (o : Node T) × (nodes k ≡ Some o) ×
-              (d ≡ record o { after = if leads end.last k then Some key else o.after })
+          (d ≡ record o { after = if leads end.last k then Some key else o.after })
       linked-more k differs d at =
           after-some end.last (Some key) k (nodes k) d (sym (joined k) ∙ sym (others k differs) ∙ at)
 

@@ -325,48 +325,48 @@ module _ {T : Type 0} where
 
     module _ (key : ℕ) (e : Entry T) (takes : Takes old new key e) (next : ℕ)
         (unique : (j k : ℕ) (d b : Entry T) → held old j ≡ Some d → held old k ≡ Some b → d.number ≡ b.number → j ≡ k)
-        where
-      live-taken : (f : Filed) (es : List (Entry T)) → (f.number ≡ e.number → entry_at es e.number ≡ None)
-          → live f.number (held new f.key.place) ++ without e.number es
-          ≡ without e.number (live f.number (held old f.key.place) ++ es)
-      live-taken f es none = elim (cases_eq f.number e.number) [
-        | inr differs ↦ elim (cases_eq f.key.place key) [
-          | inl same ↦
-              ap (λ k. live f.number (held new k) ++ without e.number es) same
-              ∙ ap (λ o. live f.number o ++ without e.number es) takes.gone
-              ∙ sym (ap (λ xs. without e.number (xs ++ es)) (live-dead f.number e (λ is. differs (sym is))))
-              ∙ sym (ap (λ o. without e.number (live f.number o ++ es)) takes.was)
-              ∙ ap (λ k. without e.number (live f.number (held old k) ++ es)) (sym same)
-          | inr apart ↦
-              ap (λ o. live f.number o ++ without e.number es) (takes.others f.key.place apart)
-              ∙ sym (without-live f.number e.number (held old f.key.place) es differs)
-        ]
-        | inl is ↦
-            gone f is ∙ sym (ap (λ n. without e.number (live n (held old f.key.place) ++ es)) is
-            ∙ without-living e.number (held old f.key.place) es (none is))
-      ] where
-        dead : (f : Filed) → f.number ≡ e.number → (o : Option (Entry T)) → held new f.key.place ≡ o
-            → live f.number o ≡ []
-        dead f is None at = refl
-        dead f is (Some d) at = live-dead f.number d (λ same.
-            let apart : f.key.place ≢ key = λ k. none-some d (sym takes.gone ∙ ap (held new) (sym k) ∙ at) in
-            apart (unique f.key.place key d e (sym (takes.others f.key.place apart) ∙ at) takes.was (same ∙ is)))
+      where
+        live-taken : (f : Filed) (es : List (Entry T)) → (f.number ≡ e.number → entry_at es e.number ≡ None)
+            → live f.number (held new f.key.place) ++ without e.number es
+            ≡ without e.number (live f.number (held old f.key.place) ++ es)
+        live-taken f es none = elim (cases_eq f.number e.number) [
+          | inr differs ↦ elim (cases_eq f.key.place key) [
+            | inl same ↦
+                ap (λ k. live f.number (held new k) ++ without e.number es) same
+                ∙ ap (λ o. live f.number o ++ without e.number es) takes.gone
+                ∙ sym (ap (λ xs. without e.number (xs ++ es)) (live-dead f.number e (λ is. differs (sym is))))
+                ∙ sym (ap (λ o. without e.number (live f.number o ++ es)) takes.was)
+                ∙ ap (λ k. without e.number (live f.number (held old k) ++ es)) (sym same)
+            | inr apart ↦
+                ap (λ o. live f.number o ++ without e.number es) (takes.others f.key.place apart)
+                ∙ sym (without-live f.number e.number (held old f.key.place) es differs)
+          ]
+          | inl is ↦
+              gone f is ∙ sym (ap (λ n. without e.number (live n (held old f.key.place) ++ es)) is
+              ∙ without-living e.number (held old f.key.place) es (none is))
+        ] where
+          dead : (f : Filed) → f.number ≡ e.number → (o : Option (Entry T)) → held new f.key.place ≡ o
+              → live f.number o ≡ []
+          dead f is None at = refl
+          dead f is (Some d) at = live-dead f.number d (λ same.
+              let apart : f.key.place ≢ key = λ k. none-some d (sym takes.gone ∙ ap (held new) (sym k) ∙ at) in
+              apart (unique f.key.place key d e (sym (takes.others f.key.place apart) ∙ at) takes.was (same ∙ is)))
 
-        gone : (f : Filed) → f.number ≡ e.number
-            → live f.number (held new f.key.place) ++ without e.number es ≡ without e.number es
-        gone f is = ap (λ xs. xs ++ without e.number es) (dead f is (held new f.key.place) refl)
+          gone : (f : Filed) → f.number ≡ e.number
+              → live f.number (held new f.key.place) ++ without e.number es ≡ without e.number es
+          gone f is = ap (λ xs. xs ++ without e.number es) (dead f is (held new f.key.place) refl)
 
-      pub listed-taken : (low : ℕ) (fs : List Filed) → Rises low fs next
-          → listed new fs ≡ without e.number (listed old fs)
-      listed-taken low [] rises = refl
-      listed-taken low (f ∷ fs) rises =
-          ap (λ xs. live f.number (held new f.key.place) ++ xs) (listed-taken (f.number + 1) fs rises.1)
-          ∙ live-taken f (listed old fs) (λ is. entry-nowhere old fs e.number
-          (above-low old (f.number + 1) fs next e.number rises.1 (omega arith)))
+        pub listed-taken : (low : ℕ) (fs : List Filed) → Rises low fs next
+            → listed new fs ≡ without e.number (listed old fs)
+        listed-taken low [] rises = refl
+        listed-taken low (f ∷ fs) rises =
+            ap (λ xs. live f.number (held new f.key.place) ++ xs) (listed-taken (f.number + 1) fs rises.1)
+            ∙ live-taken f (listed old fs) (λ is. entry-nowhere old fs e.number
+            (above-low old (f.number + 1) fs next e.number rises.1 (omega arith)))
 
-      pub filed-taken : (fs : List Filed) → AreFiled old fs next → AreFiled new fs next
-      filed-taken fs filed = record {
-        rising = filed.rising;
-        filed = λ k d is. filed.filed k d (sym (takes.others k (λ same.
-            none-some d (sym takes.gone ∙ ap (held new) (sym same) ∙ is))) ∙ is);
-      }
+        pub filed-taken : (fs : List Filed) → AreFiled old fs next → AreFiled new fs next
+        filed-taken fs filed = record {
+          rising = filed.rising;
+          filed = λ k d is. filed.filed k d (sym (takes.others k (λ same.
+              none-some d (sym takes.gone ∙ ap (held new) (sym same) ∙ is))) ∙ is);
+        }

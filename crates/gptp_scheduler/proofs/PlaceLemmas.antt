@@ -10,8 +10,13 @@ use Rattle.gptp_scheduler.specs.Places.{tick, IsInLevels, IsPlace}
 same_from_xor : (a b : ℕ) → bit_xor a b ≡ 0 → a ≡ b
 same_from_xor a b none =
     same_from_bits a b
-    (λ i. omega (arith, sym (bit_at_xor a b i) ∙ ap (λ n. n / 2 ^ i % 2) none
-    ∙ bit_at-zero i, bit_at-lt a i, bit_at-lt b i))
+    (λ i. omega (
+      arith,
+      sym (bit_at_xor a b i) ∙ ap (λ n. n / 2 ^ i % 2) none
+          ∙ bit_at-zero i,
+      bit_at-lt a i,
+      bit_at-lt b i,
+    ))
 
 pub xor_pos : (a b : ℕ) → a ≢ b → 0 < bit_xor a b
 xor_pos a b differ =

@@ -92,7 +92,7 @@ module _ (filled : List ℕ) (ends : List Ends) (slot : ℕ) (new : Ends) (in_le
 
   pub filled-clear : new.first ≡ None
       → AreFilled (set filled (slot / 64)
-          (bit_and (get_or filled (slot / 64) 0) (bit_not w64 (1 * 2 ^ (slot % 64) % 2 ^ 64))))
+      (bit_and (get_or filled (slot / 64) 0) (bit_not w64 (1 * 2 ^ (slot % 64) % 2 ^ 64))))
       (set ends slot new)
   filled-clear none =
       let inside : slot / 64 < length filled = omega (arith, sound.words) in

@@ -61,7 +61,7 @@ invariant_of-self g c =
     let in_slab = spare.in_slab in let made = spare.made in
     let taken = c.take-node.ensures in let chains = c.earliest_left-self-inside.ensures.chains in (
       agenda-taken (get c.self.inside.nodes) c.self.inside.base c.self.inside.next c.self.inside.slots
-      c.self.inside.filed.items
+          c.self.inside.filed.items
           c.self.inside.first c.self.invariant.0 (get c.take-node.new.nodes) c.self.inside.base
           c.earliest_left-self-inside.new.slots
           c.in_ok-key.key.place _ c.take-node.ensures.takes

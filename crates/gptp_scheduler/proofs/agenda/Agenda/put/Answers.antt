@@ -27,7 +27,7 @@ invariant_of-self g c =
     let in_put = c.put-key.ensures in let pushed = c.push_reserved.ensures in
     rw (c.push_reserved.ensures.items, c.earlier_of.ensures) (
       agenda-put (get c.self.inside.nodes) c.self.inside.base c.self.inside.next c.self.inside.slots
-      c.self.inside.filed.items
+          c.self.inside.filed.items
           c.self.inside.first c.self.invariant.0 (get c.put-key.new.nodes) c.put-key.new.slots c.put-key.result
           c.args.time c.args.item
           c.put-key.ensures.puts c.put-key.ensures.wheel,

@@ -8,7 +8,7 @@ invariant_of-self g c =
     let spare = c.self.invariant.1 in
     let made = spare.made in let grows = c.grow.ensures.grows in (
       agenda-grown (get c.self.inside.nodes) c.self.inside.base c.self.inside.next c.self.inside.slots
-      c.self.inside.filed.items
+          c.self.inside.filed.items
           c.self.inside.first c.self.invariant.0 c.grow.new.self c.grow.ensures.few c.grow.ensures.same grows,
       record {
         in_slab = spare.in_slab;
@@ -25,7 +25,7 @@ invariant_of-self-in_err-reserve g c =
     let made = spare.made in let grows = c.grow.ensures.grows in
     rw c.reserve.ensures.rest_kept (
       agenda-grown (get c.self.inside.nodes) c.self.inside.base c.self.inside.next c.self.inside.slots
-      c.self.inside.filed.items
+          c.self.inside.filed.items
           c.self.inside.first c.self.invariant.0 c.grow.new.self c.grow.ensures.few c.grow.ensures.same grows,
       record {
         in_slab = omega arith;

@@ -35,7 +35,7 @@ invariant_of-self g c =
     let in_slab = spare.in_slab in let made = spare.made in
     let taken = c.take_earliest-node.ensures in let chains = c.earliest-self-inside.ensures.chains in (
       agenda-taken (get c.self.inside.nodes) c.self.inside.base c.self.inside.next c.self.inside.slots
-      c.self.inside.filed.items
+          c.self.inside.filed.items
           c.self.inside.first c.self.invariant.0 (get c.take_earliest-node.new.nodes) c.take_earliest-node.new.base
           c.earliest-self-inside.new.slots c.in_ok-key.key.place _ c.take_earliest-node.ensures.takes
           (c.earliest-self-inside.ensures.wheel c.take_earliest-node.new.base c.take_earliest-node.ensures.wheel)
