@@ -27,3 +27,4 @@ pub mod LaneLemmas
 pub mod SceneLemmas
 pub mod LaterLemmas
 pub mod ViewLemmas
+pub mod TakenLemmas
