@@ -9,34 +9,35 @@ use Rattle.gptp_accuracy.specs.TimeError.{Link, Way, clock_at, hop_error, hop_er
 use Rattle.gptp_accuracy.specs.WayLaws.{ParentsErrorStays, longer}
 
 -- sums of the same numbers are the same
-total_same : (n : ℕ) (f g : ℕ → ℕ) → ((i : ℕ) → i < n → f i ≡ g i) → total_below n f ≡ total_below n g
+pub total_same : (n : ℕ) (f g : ℕ → ℕ) → ((i : ℕ) → i < n → f i ≡ g i) → total_below n f ≡ total_below n g
 total_same zero f g h = refl
 total_same (suc n) f g h =
     let before = total_same n f g (λ i k. h i (omega (arith, k))) in
     let here = h n (omega arith) in
     omega (arith, before, here)
 
-sum_same : (n : ℕ) (f g : ℕ → ℤ) → ((i : ℕ) → i < n → f i ≡ g i) → sum_below n f ≡ sum_below n g
+pub sum_same : (n : ℕ) (f g : ℕ → ℤ) → ((i : ℕ) → i < n → f i ≡ g i) → sum_below n f ≡ sum_below n g
 sum_same zero f g h = refl
 sum_same (suc n) f g h =
     ap (λ z. z +ℤ f n) (sum_same n f g (λ i k. h i (omega (arith, k)))) ∙ ap (λ z. sum_below n g +ℤ z)
     (h n (omega arith))
 
 -- the links that a way had stay where they were
-link_same : (w : Way) (l : Link) (i : ℕ) → i < length w.links → link_at (longer w l) i ≡ link_at w i
+pub link_same : (w : Way) (l : Link) (i : ℕ) → i < length w.links → link_at (longer w l) i ≡ link_at w i
 link_same w l i h = get_or_append_left w.links (l ∷ []) (record { least = 0; most = 0; drift = pos 0 }) i h
 
 -- and so do the clocks behind them
-clock_same : (w : Way) (l : Link) (i : ℕ) → i ≤ length w.links → clock_at (longer w l) i ≡ clock_at w i
+pub clock_same : (w : Way) (l : Link) (i : ℕ) → i ≤ length w.links → clock_at (longer w l) i ≡ clock_at w i
 clock_same w l zero h = refl
 clock_same w l (suc i) h = ap (λ (k : Link). clock_rate k.drift) (link_same w l i h)
 
-steady_same : (w : Way) (l : Link) (i : ℕ) → i < length w.links → steady_rate_at (longer w l) i ≡ steady_rate_at w i
+pub steady_same : (w : Way) (l : Link) (i : ℕ) → i < length w.links → steady_rate_at (longer w l) i ≡ steady_rate_at w i
 steady_same w l i h =
     ap (λ a. rate_of (pos a) (pos (clock_at (longer w l) (suc i)))) (clock_same w l i (omega (arith, h)))
     ∙ ap (λ b. rate_of (pos (clock_at w i)) (pos b)) (clock_same w l (suc i) h)
 
-rate_error_same : (w : Way) (l : Link) (i : ℕ) → i < length w.links → rate_error_at (longer w l) i ≡ rate_error_at w i
+pub rate_error_same : (w : Way) (l : Link) (i : ℕ) → i < length w.links
+    → rate_error_at (longer w l) i ≡ rate_error_at w i
 rate_error_same w l i h =
     ap (λ (k : Link). ceil_div (2202000000000 * (k.most - k.least)) w.interval + 4) (link_same w l i h)
 
@@ -56,7 +57,7 @@ unlike_same w l i h =
         ap (λ v. unsigned_abs (v -ℤ floor_div ((pos (clock_at w 0) -ℤ pos a) *ℤ unit) (pos a))) e
         ∙ ap (λ v. unsigned_abs (t -ℤ floor_div ((pos (clock_at w 0) -ℤ pos v) *ℤ unit) (pos v))) f
 
-rates_same : (w : Way) (l : Link) (i : ℕ) → i < length w.links → rates_error_at (longer w l) i ≡ rates_error_at w i
+pub rates_same : (w : Way) (l : Link) (i : ℕ) → i < length w.links → rates_error_at (longer w l) i ≡ rates_error_at w i
 rates_same w l i h =
     let totals = total_same (suc i) (rate_error_at (longer w l)) (rate_error_at w)
     (λ j k. rate_error_same w l j (omega (arith, h, k))) in

@@ -114,7 +114,7 @@ entered_later now place direction channel octets (Some delay) net fit here lawfu
       due = due_by-put now time (Arrival place direction) net.pending later;
     }
 
-sent_later : (now : ℕ) (from : PortId) (octets : List ℕ) (draw : Draw) (net net' : Net) → AreFit net.channels
+pub sent_later : (now : ℕ) (from : PortId) (octets : List ℕ) (draw : Draw) (net net' : Net) → AreFit net.channels
     → SendsOne now from octets draw net net' → SendsLater now net net'
 sent_later now from octets draw net net' fit k =
     subst (SendsLater now net) (sym k.after)
@@ -152,7 +152,8 @@ module _ (place now : ℕ) (s s' : SystemState) (sends : List Sending) (answer :
       → ArePending place input s es → (timer : Timer) → input ≢ Expires timer → (t : ℕ) → due timer s' ≡ Some t
       → (times (Expiry place timer) es ≡ t ∷ []) ⊎ (now < t)
   other_ahead input timely k pending timer other t is =
-      by (started_later input now s s' sends answer steady.params steady.logs timely steady.shown steady.rest k timer t
+      by (started_later input now s s' sends answer steady.params steady.largest steady.logs timely steady.shown
+      steady.rest k timer t
       is)
     where
       by : (due timer s ≡ Some t) ⊎ (now < t) → (times (Expiry place timer) es ≡ t ∷ []) ⊎ (now < t)

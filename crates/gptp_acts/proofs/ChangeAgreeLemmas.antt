@@ -9,7 +9,7 @@ use Rattle.gptp_links.specs.Queue.{Frame}
 use Rattle.gptp_roles.specs.Selection.{clock_of}
 use Rattle.gptp_setup.specs.declared.timer.Timer.{Timer}
 use Rattle.gptp_system.specs.Input.{PortUp, PortDown}
-use Rattle.gptp_system.proofs.ReadyLemmas.{length-new_ports}
+use Rattle.gptp_system.proofs.StartLemmas.{length-new_ports}
 use Rattle.gptp_acts.specs.declared.item.Item.TheVariants.{Expiry, Arrival}
 use Rattle.gptp_acts.specs.declared.station.Station.{Station}
 use Rattle.gptp_acts.specs.Pending.{Entry, times, without, listed}
@@ -121,7 +121,8 @@ starts_agree place w draws w' has but starts =
     let new : Station = fresh w.time starts.station in
     let setup = starts.station.setup in
     let count : length new.system.ports ≡ length starts.station.system.ports =
-    length-new_ports (clock_of setup.identity) setup.params setup.ports ∙ sym (has starts.station starts.here) in
+    length-new_ports (clock_of setup.identity) setup.params 1 setup.intervals.items
+    ∙ sym (has starts.station starts.here) in
     calls_all_agree place (map PortUp (up_ports new w.net)) (replaced place new w) draws w'
     (replaced_agrees place w starts.station new starts.here count but) starts.calls
 

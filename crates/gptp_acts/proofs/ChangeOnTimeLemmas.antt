@@ -2,6 +2,7 @@
 use Rattle.std.proofs.Common.{◌≡◌, ℕ, suc, zero, ◌+◌, ◌≤◌, Bool, true, false, List, [], ◌∷◌, map, length, Some, slice_get, refl, sym, ap, subst, ◌∙◌, inl, inr, arith}
 use Rattle.std.specs.List.{AllByRecursion, filter, range_with_len}
 use Rattle.std.proofs.lemmas.Option.{none-some, same_Some}
+use Rattle.gptp_vector.specs.declared.port.PortId.{PortId}
 use Rattle.gptp_links.specs.declared.bounds.Bounds.{Bounds}
 use Rattle.gptp_links.specs.declared.link.Direction.TheVariants.{FromA, FromB}
 use Rattle.gptp_links.specs.Bounds.{Fit}
@@ -13,13 +14,15 @@ use Rattle.gptp_acts.specs.declared.item.Item.TheVariants.{Arrival}
 use Rattle.gptp_acts.specs.declared.station.Station.{Station}
 use Rattle.gptp_acts.specs.Act.{all_timers}
 use Rattle.gptp_acts.specs.Ahead.{HasPorts, IsOnTime, IsPortAmong, IsWorldOnTime}
-use Rattle.gptp_acts.specs.Changing.{CallsAll, CallsIfLive, ComesUpIf, FailsIf, GoesDownIf, RecoversIf, Starts, StartsAll, TellsEnds, brought_up, failed, fresh, is_up_at, lost, taken_down, up_ports, with_bounds, with_channel, with_setup, with_station}
+use Rattle.gptp_acts.specs.Changing.{CallsAll, CallsIfLive, ComesUpIf, FailsIf, GoesDownIf, Injects, RecoversIf, Starts, StartsAll, TellsEnds, brought_up, failed, fresh, is_up_at, lost, taken_down, up_ports, with_bounds, with_channel, with_setup, with_station}
 use Rattle.gptp_acts.specs.Pending.{without}
+use Rattle.gptp_acts.specs.Sound.{HaveTheirSetups}
 use Rattle.gptp_acts.specs.World.{Channel, WorldState, timers_from}
-use Rattle.gptp_acts.proofs.AheadLemmas.{calls_on_time, calls_ports, nothing_before-set_timers, relinked_fit}
+use Rattle.gptp_acts.proofs.AheadLemmas.{calls_on_time, calls_ports, nothing_before-set_timers, relinked_fit, sent_later}
 use Rattle.gptp_lists.proofs.MappedLemmas.{same_there}
 use Rattle.gptp_acts.proofs.MomentLemmas.{nothing_before-without}
 use Rattle.gptp_lists.proofs.PlaceLemmas.{get-set_all, get-set_same}
+use Rattle.gptp_acts.proofs.StayLemmas.{starts_stays, stays_setups}
 use Rattle.gptp_acts.proofs.SteadyLemmas.{started_none_late, started_steady}
 
 -- ---- calls one after another
@@ -104,9 +107,9 @@ all_filtered P test (p ∷ ps) all = by (test p) refl (all_filtered P test ps al
     by false b ih = rw b ih
 
 -- A system starts, or starts again.
-pub starts_on_time : (place : ℕ) (w : WorldState) (draws : List Draw) (w' : WorldState) → IsWorldOnTime w
-    → Starts place w draws w' → IsWorldOnTime w'
-starts_on_time place w draws w' on k =
+pub starts_on_time : (place : ℕ) (w : WorldState) (draws : List Draw) (w' : WorldState) → HaveTheirSetups w
+    → IsWorldOnTime w → Starts place w draws w' → IsWorldOnTime w'
+starts_on_time place w draws w' setups on k =
     calls_all_on_time place ports (up_ports new w.net) begun draws w' ready has
     (all_filtered (λ p. (1 ≤ p) × (p ≤ ports)) (λ p. is_up_at w.net.channels (clock new.system) p)
     (range_with_len 1 ports) (range_among ports 1 ports (omega arith) (omega arith)))
@@ -128,7 +131,7 @@ starts_on_time place w draws w' on k =
     ready = record {
       stations = get-set_all (IsOnTime w.time) w.stations place k.station new k.here (record {
         setup = setup.setup;
-        steady = started_steady k.station.setup w.time setup.setup;
+        steady = started_steady k.station.setup w.time setup.setup (setups place k.station k.here).intervals;
         timers = λ live. started_none_late k.station.setup w.time;
       }) on.stations;
       links = on.links;
@@ -141,16 +144,18 @@ starts_on_time place w draws w' on k =
         ap (λ (x : Station). length x.system.ports)
         (sym (same_Some new station (sym (get-set_same w.stations place k.station new k.here) ∙ there)))
 
-pub starts_all_on_time : (places : List ℕ) (w : WorldState) (draws : List Draw) (w' : WorldState) → IsWorldOnTime w
-    → StartsAll places w draws w' → IsWorldOnTime w'
-starts_all_on_time [] w draws w' on (none, is) = subst IsWorldOnTime (sym is) on
-starts_all_on_time (place ∷ places) w draws w' on (first, rest, between, is, k, more) =
-    starts_all_on_time places between rest w' (starts_on_time place w first between on k) more
+pub starts_all_on_time : (places : List ℕ) (w : WorldState) (draws : List Draw) (w' : WorldState) → HaveTheirSetups w
+    → IsWorldOnTime w → StartsAll places w draws w' → IsWorldOnTime w'
+starts_all_on_time [] w draws w' setups on (none, is) = subst IsWorldOnTime (sym is) on
+starts_all_on_time (place ∷ places) w draws w' setups on (first, rest, between, is, k, more) =
+    starts_all_on_time places between rest w'
+    (stays_setups w between (starts_stays place w first between setups k))
+    (starts_on_time place w first between setups on k) more
 
 pub recovers_on_time : (live : Bool) (place : ℕ) (w : WorldState) (draws : List Draw) (w' : WorldState)
-    → IsWorldOnTime w → RecoversIf live place w draws w' → IsWorldOnTime w'
-recovers_on_time true place w draws w' on (none, is) = subst IsWorldOnTime (sym is) on
-recovers_on_time false place w draws w' on k = starts_on_time place w draws w' on k
+    → HaveTheirSetups w → IsWorldOnTime w → RecoversIf live place w draws w' → IsWorldOnTime w'
+recovers_on_time true place w draws w' setups on (none, is) = subst IsWorldOnTime (sym is) on
+recovers_on_time false place w draws w' setups on k = starts_on_time place w draws w' setups on k
 
 -- ---- failures
 
@@ -231,3 +236,14 @@ module _ (place : ℕ) (channel : Channel) (w : WorldState) (here : slice_get w.
   comes_up_on_time false draws w' port_a port_b k =
       tells_on_time PortUp channel (record w { net = brought_up place channel w.net }) draws w' (λ s now p of. of)
       brought_up_on_time port_a port_b k
+
+-- Octets enter a link.
+pub injects_on_time : (from : PortId) (octets : List ℕ) (w : WorldState) (draws : List Draw) (w' : WorldState)
+    → IsWorldOnTime w → Injects from octets w draws w' → IsWorldOnTime w'
+injects_on_time from octets w draws w' on k =
+    let later = sent_later w.time from octets k.draw w.net k.net on.links k.sent in
+    subst IsWorldOnTime (sym k.is) (record {
+      stations = on.stations;
+      links = later.links;
+      pending = later.pending on.pending;
+    })

@@ -58,7 +58,7 @@ entered_flow place direction channel now octets (Some delay) w here up flow =
     (entered place direction channel now octets (Some delay) w.net) refl here
     (λ way. queue_flows direction way channel frames order (λ down. absurd cc) (flow place way channel here)) flow
 
-sends_one_flow : (now : ℕ) (from : PortId) (octets : List ℕ) (draw : Draw) (w : WorldState) (net' : Net)
+pub sends_one_flow : (now : ℕ) (from : PortId) (octets : List ℕ) (draw : Draw) (w : WorldState) (net' : Net)
     → AllFlow w → SendsOne now from octets draw w.net net' → AllFlow (record w { net = net' })
 sends_one_flow now from octets draw w net' flow one =
     subst (λ n. AllFlow (record w { net = n })) (sym one.after)

@@ -15,14 +15,14 @@ use Rattle.gptp_acts.specs.declared.station.Station.{Station}
 use Rattle.gptp_acts.specs.World.{Channel, Net, WorldState, sender, receiver}
 use Rattle.gptp_acts.specs.Act.{all_timers, in_state, Calls, Delivers, Expires, Hears, HasFailed}
 use Rattle.gptp_acts.specs.Agrees.{stopped}
-use Rattle.gptp_acts.specs.Changing.{brought_up, failed, fresh, lost, taken_down, up_ports, with_bounds, with_setup, with_station, CallsAll, CallsIfLive, ComesUpIf, FailsIf, GoesDownIf, RecoversIf, Starts, StartsAll, TellsEnds}
+use Rattle.gptp_acts.specs.Changing.{brought_up, failed, fresh, lost, taken_down, up_ports, with_bounds, with_setup, with_station, CallsAll, CallsIfLive, ComesUpIf, FailsIf, GoesDownIf, Injects, RecoversIf, Starts, StartsAll, TellsEnds}
 use Rattle.gptp_acts.specs.World.{port_id}
 use Rattle.gptp_acts.specs.Sound.{AreApart, AreLinked, HaveOwnClocks, HaveTheirSetups, JoinPorts}
 use Rattle.gptp_acts.proofs.AgreeLemmas.{replaced}
 use Rattle.gptp_lists.proofs.MappedLemmas.{same_there}
 use Rattle.gptp_lists.proofs.PlaceLemmas.{get-set_same, set_each}
 use Rattle.gptp_acts.proofs.SteadyLemmas.{same_clock}
-use Rattle.gptp_acts.proofs.StayLemmas.{begins_same, calls_if_live_stay, calls_stay, carry_same, refreshed_stays, sends_carry, set_carry, starts_stays, stays_clocks, stays_ports, stays_setups, takes_carry, tells_ends_carry, CarryTheSame, Stays}
+use Rattle.gptp_acts.proofs.StayLemmas.{begins_same, calls_if_live_stay, calls_stay, carry_same, refreshed_stays, sends_carry, sends_one_carry, set_carry, starts_stays, stays_clocks, stays_ports, stays_setups, takes_carry, tells_ends_carry, CarryTheSame, Stays}
 use Rattle.gptp_acts.proofs.UpLemmas.{brings_port, brought_ports, comes_up, is_down, stays_up}
 
 -- ---- all but some ports
@@ -401,6 +401,12 @@ pub with_bounds_linked : (bounds : Bounds) (place : ℕ) (channel : Channel) (w 
 with_bounds_linked bounds place channel w here linked =
     net_linked w (with_bounds bounds place channel w.net)
     (set_carry w.net.channels place channel (record channel { bounds = bounds }) here refl refl (λ up. up)) linked
+
+pub injects_linked : (from : PortId) (octets : List ℕ) (w : WorldState) (draws : List Draw) (w' : WorldState)
+    → AreLinked w → Injects from octets w draws w' → AreLinked w'
+injects_linked from octets w draws w' linked k =
+    subst AreLinked (sym k.is)
+    (net_linked w k.net (sends_one_carry w.time from octets k.draw w.net k.net k.sent) linked)
 
 -- ---- changes of a system
 

@@ -1,15 +1,12 @@
 -- Where what is pending agrees with the state, what is next is due by the state too.
-use Rattle.std.proofs.Common.{◌≡◌, ℕ, zero, suc, ◌≤◌, Bool, true, false, List, [], ◌∷◌, Option, Some, None, slice_get, refl, ap, ◌∙◌, arith}
+use Rattle.std.proofs.Common.{◌≡◌, ℕ, ◌≤◌, Bool, true, false, List, [], ◌∷◌, Option, Some, None, slice_get, refl, ap, ◌∙◌, arith}
 use Rattle.std.specs.List.{AllByRecursion}
-use Rattle.std.specs.Option.{option_and_then}
-use Rattle.std.proofs.lemmas.Option.{none-some, slice_get_within}
+use Rattle.std.proofs.lemmas.Option.{none-some}
 use Rattle.gptp_links.specs.declared.link.Direction.{Direction}
 use Rattle.gptp_links.specs.Queue.{Frame, AreDueInOrder}
-use Rattle.gptp_system.specs.declared.port.Port.{Port}
 use Rattle.gptp_setup.specs.declared.timer.Timer.{Timer}
-use Rattle.gptp_setup.specs.declared.timer.Timer.TheVariants as timers
-use Rattle.gptp_system.specs.State.{SystemState, age_due, announce_due, due, held_at, number}
-use Rattle.gptp_system.specs.Steps.{IsPortOf, IsTimerOf}
+use Rattle.gptp_system.specs.State.{due}
+use Rattle.gptp_system.specs.Steps.{IsTimerOf}
 use Rattle.gptp_system.proofs.TimelyLemmas.{due_timer}
 use Rattle.gptp_acts.specs.declared.item.Item.TheVariants.{Expiry, Arrival}
 use Rattle.gptp_acts.specs.declared.station.Station.{Station}

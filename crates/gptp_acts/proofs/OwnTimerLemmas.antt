@@ -102,7 +102,8 @@ has_timer (timers.Pdelay p) s = port_timer (timers.Pdelay p) (λ (q : Port). q.p
 has_timer (timers.Respond p) s = port_timer (timers.Respond p) (λ (q : Port). q.respond) s p (λ has. has.respond)
 has_timer (timers.Announce p) s =
     port_timer (timers.Announce p) (λ q. announce_due q (held_at s p)) s p (λ has. has.announce)
-has_timer (timers.Age p) s = port_timer (timers.Age p) (λ q. age_due s.params q (held_at s p)) s p (λ has. has.age)
+has_timer (timers.Age p) s =
+    port_timer (timers.Age p) (λ (q : Port). age_due s.params s.largest (held_at s p)) s p (λ has. has.age)
 has_timer timers.Sync s = inl (own_timers 1 s.ports).0
 has_timer timers.Relay s = inl (own_timers 1 s.ports).1
 

@@ -1,4 +1,4 @@
--- How many ports each system has: as many as its setup says, after every act.
+-- How many ports each system has: one for each interval of its setup, after every act.
 use Rattle.std.proofs.Common.{◌≡◌, ◌≢◌, ◌⊎◌, ℕ, List, [], ◌∷◌, map, length, Some, slice_get, slice_set, sym, ap, subst, ◌∙◌, inl, inr}
 use Rattle.std.proofs.lemmas.Option.{same_Some}
 use Rattle.gptp_links.specs.Fate.{Draw}
@@ -6,7 +6,7 @@ use Rattle.gptp_roles.specs.Selection.{clock_of}
 use Rattle.gptp_system.specs.declared.answer.Answer.{Answer}
 use Rattle.gptp_system.specs.Input.{Input, PortUp}
 use Rattle.gptp_system.proofs.FactLemmas.{keeps_length}
-use Rattle.gptp_system.proofs.ReadyLemmas.{length-new_ports}
+use Rattle.gptp_system.proofs.StartLemmas.{length-new_ports}
 use Rattle.gptp_system.proofs.StepLemmas.{steps_sound}
 use Rattle.gptp_acts.specs.declared.station.Station.{Station}
 use Rattle.gptp_acts.specs.World.{Net, WorldState}
@@ -17,11 +17,12 @@ use Rattle.gptp_lists.proofs.PlaceLemmas.{get-set_same, get-set_other, same_plac
 
 -- one system becomes another that has its ports
 pub station_has_ports : (place : ℕ) (w : WorldState) (old new : Station) (net : Net)
-    → slice_get w.stations place ≡ Some old → length new.system.ports ≡ new.setup.ports → HaveTheirPorts w
+    → slice_get w.stations place ≡ Some old → length new.system.ports ≡ length new.setup.intervals.items
+    → HaveTheirPorts w
     → HaveTheirPorts (record w { stations = slice_set w.stations place new; net = net })
 station_has_ports place w old new net here count have other station there = by (same_place other place)
   where
-    by : (other ≡ place) ⊎ (other ≢ place) → length station.system.ports ≡ station.setup.ports
+    by : (other ≡ place) ⊎ (other ≢ place) → length station.system.ports ≡ length station.setup.intervals.items
     by (inl same) =
         let now_here = get-set_same w.stations place old new here in
         let one : station ≡ new =
@@ -57,4 +58,4 @@ starts_have_ports place w draws w' have starts =
     let setup = starts.station.setup in
     calls_all_have_ports place (map PortUp (up_ports new w.net)) (record (with_station place new w) { net = net })
     draws w' (station_has_ports place w starts.station new net starts.here
-    (length-new_ports (clock_of setup.identity) setup.params setup.ports) have) starts.calls
+    (length-new_ports (clock_of setup.identity) setup.params 1 setup.intervals.items) have) starts.calls

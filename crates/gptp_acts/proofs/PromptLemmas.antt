@@ -1,18 +1,23 @@
--- No act changes the parameters of systems, so that what was prompt stays so.
-use Rattle.std.proofs.Common.{ℕ, List, length, Option, sym, ap, subst, ◌∙◌}
+-- No act changes the intervals of systems, so that what was prompt stays so.
+use Rattle.std.proofs.Common.{◌≤◌, ℕ, List, length, Option, sym, subst}
+use Rattle.std.proofs.Math.Nat.{le_trans}
 use Rattle.std.specs.List.{range_with_len}
+use Rattle.gptp_lists.specs.Members.{In}
 use Rattle.gptp_links.specs.declared.bounds.Bounds.{Bounds}
-use Rattle.gptp_setup.specs.declared.setup.Params.{Params}
+use Rattle.gptp_setup.specs.Intervals.{interval_of}
 use Rattle.gptp_plan.specs.declared.change.Act.{Act}
+use Rattle.gptp_plan.specs.declared.change.Act.TheVariants.{Deliver, Expire, Change as Changing}
+use Rattle.gptp_plan.specs.declared.change.Change.TheVariants.{LinkDown, LinkUp, LinkSet, Fail, Recover, Priority1, Inject}
 use Rattle.gptp_plan.specs.declared.change.Timed.{Timed}
 use Rattle.gptp_acts.specs.declared.item.Item.{Item}
 use Rattle.gptp_acts.specs.declared.item.Item.TheVariants.{Expiry, Arrival}
 use Rattle.gptp_acts.specs.declared.station.Station.{Station}
 use Rattle.gptp_acts.specs.Course.{Begun}
 use Rattle.gptp_acts.specs.Initial.{initial, station_of}
-use Rattle.gptp_plan.specs.Network.{NetworkState}
+use Rattle.gptp_plan.specs.Network.{NetworkState, pace_of, smallest_of}
 use Rattle.gptp_plan.specs.Prompt.{ArePromptActs, IsPromptAct}
-use Rattle.gptp_acts.specs.Prompt.{ArePromptIn, HaveParams, IsPromptIn}
+use Rattle.gptp_plan.proofs.LogLemmas.{In-flat_map, interval_least}
+use Rattle.gptp_acts.specs.Prompt.{ArePromptIn, IsPromptIn, NoneFaster}
 use Rattle.gptp_acts.specs.Sound.{HaveTheirSetups}
 use Rattle.gptp_acts.specs.Views.{IsActOf, IsNextAct}
 use Rattle.gptp_acts.specs.World.{WorldState}
@@ -21,49 +26,66 @@ use Rattle.gptp_acts.proofs.StayLemmas.{Stays, starts_all_stay}
 
 -- ---- what stays
 
-pub stays_params : (p : Params) (w w' : WorldState) → Stays w w' → HaveParams p w → HaveParams p w'
-stays_params p w w' stays have place new there =
+pub stays_none_faster : (least : ℕ) (w w' : WorldState) → Stays w w' → NoneFaster least w → NoneFaster least w'
+stays_none_faster least w w' stays none place new log there member =
     let was = stays.stations place new there in
-    was.same.params ∙ have place was.old was.here
+    none place was.old log was.here (subst (In log) was.same.intervals member)
 
 pub stays_prompt : (act : Act) (w w' : WorldState) → Stays w w' → IsPromptIn w act → IsPromptIn w' act
-stays_prompt act w w' stays prompt place new there =
+stays_prompt act w w' stays prompt place new log there member =
     let was = stays.stations place new there in
-    subst (λ p. IsPromptAct p act) (sym was.same.params) (prompt place was.old was.here)
+    prompt place was.old log was.here (subst (In log) was.same.intervals member)
 
 pub stay_prompt : (acts : List Timed) (w w' : WorldState) → Stays w w' → ArePromptIn w acts → ArePromptIn w' acts
 stay_prompt acts w w' stays prompt place timed here = stays_prompt timed.act w w' stays (prompt place timed here)
 
 -- ---- worlds of one network
 
--- what is prompt for the parameters of a network is so in its world
-pub params_prompt : (p : Params) (act : Act) (w : WorldState) → HaveParams p w → IsPromptAct p act → IsPromptIn w act
-params_prompt p act w have prompt place station here =
-    subst (λ (q : Params). IsPromptAct q act) (sym (have place station here)) prompt
+-- what is prompt for a time is so for a longer one
+pub prompt_longer : (most longer : ℕ) (act : Act) → most ≤ longer → IsPromptAct most act → IsPromptAct longer act
+prompt_longer most longer (Deliver link direction) less prompt = tt
+prompt_longer most longer (Expire number timer) less prompt = tt
+prompt_longer most longer (Changing (LinkDown number port)) less prompt = tt
+prompt_longer most longer (Changing (LinkUp number port)) less prompt = tt
+prompt_longer most longer (Changing (LinkSet number port least greatest loss)) less prompt = le_trans prompt less
+prompt_longer most longer (Changing (Fail number)) less prompt = tt
+prompt_longer most longer (Changing (Recover number)) less prompt = tt
+prompt_longer most longer (Changing (Priority1 number value)) less prompt = tt
+prompt_longer most longer (Changing (Inject number port octets)) less prompt = tt
 
-pub all_prompt : (p : Params) (acts : List Timed) (w : WorldState) → HaveParams p w → ArePromptActs p acts
+-- what is prompt for an interval below which no port announces is so in the world
+pub prompt_within : (least : ℕ) (act : Act) (w : WorldState) → NoneFaster least w → IsPromptAct least act
+    → IsPromptIn w act
+prompt_within least act w none prompt place station log here member =
+    prompt_longer least (interval_of log) act (none place station log here member) prompt
+
+pub all_prompt : (least : ℕ) (acts : List Timed) (w : WorldState) → NoneFaster least w → ArePromptActs least acts
     → ArePromptIn w acts
-all_prompt p acts w have prompt place timed here = params_prompt p timed.act w have (prompt place timed here)
+all_prompt least acts w none prompt place timed here = prompt_within least timed.act w none (prompt place timed here)
 
-initial_params : (n : NetworkState) → HaveParams n.params (initial n)
-initial_params n place station here =
-    let member = mapped (station_of n.params) n.systems place station here in
-    ap (λ (x : Station). x.setup.params) (sym member.2)
+initial_none_faster : (n : NetworkState) → NoneFaster (interval_of (smallest_of n)) (initial n)
+initial_none_faster n place station log here among =
+    let (member, there, is) = mapped (station_of (pace_of n)) n.systems place station here in
+    interval_least n log
+    (In-flat_map _ log n.systems place member there
+    (subst (λ (x : Station). In log x.setup.intervals.items) (sym is) among))
 
--- the systems of a world that begins have the parameters of its network
-pub begun_params : {F : Type 0} (answers : Bounds → ℕ → F → Option ℕ → F → Type 0) (n : NetworkState)
+-- no port of a world that begins announces at an interval below the smallest of its network
+pub begun_none_faster : {F : Type 0} (answers : Bounds → ℕ → F → Option ℕ → F → Type 0) (n : NetworkState)
     (fate fate_after : F) (w : WorldState) → HaveTheirSetups (initial n) → Begun answers n fate fate_after w
-    → HaveParams n.params w
-begun_params answers n fate fate_after w setups k =
-    stays_params n.params (initial n) w
-    (starts_all_stay (range_with_len 0 (length n.systems)) (initial n) k.draws w setups k.starts) (initial_params n)
+    → NoneFaster (interval_of (smallest_of n)) w
+begun_none_faster answers n fate fate_after w setups k =
+    stays_none_faster (interval_of (smallest_of n)) (initial n) w
+    (starts_all_stay (range_with_len 0 (length n.systems)) (initial n) k.draws w setups k.starts)
+    (initial_none_faster n)
 
 -- ---- what is next
 
 -- a delivery sets no bounds, and an expiry neither
-is_prompt : (p : Params) (item : Item) (act : Act) (w : WorldState) → IsActOf item w act → IsPromptAct p act
-is_prompt p (Arrival link direction) act w is = subst (IsPromptAct p) (sym is) tt
-is_prompt p (Expiry place timer) act w (station, here, is) = subst (IsPromptAct p) (sym is) tt
+is_prompt : (most : ℕ) (item : Item) (act : Act) (w : WorldState) → IsActOf item w act → IsPromptAct most act
+is_prompt most (Arrival link direction) act w is = subst (IsPromptAct most) (sym is) tt
+is_prompt most (Expiry place timer) act w (station, here, is) = subst (IsPromptAct most) (sym is) tt
 
 pub next_prompt : (w : WorldState) (timed : Timed) → IsNextAct w timed → IsPromptIn w timed.act
-next_prompt w timed next place station here = is_prompt station.setup.params next.item timed.act w next.act
+next_prompt w timed next place station log here member =
+    is_prompt (interval_of log) next.item timed.act w next.act

@@ -1,6 +1,7 @@
 -- Every act leaves a world sound, and an act at its moment leaves less to do then.
 use Rattle.std.proofs.Common.{◌≡◌, ℕ, ◌<◌, Bool, true, false, List, [], ◌∷◌, map, Option, Some, slice_get, refl, ap, sym, subst, ◌∙◌, inl, inr}
 use Rattle.std.specs.Option.{option_map_or}
+use Rattle.gptp_vector.specs.declared.port.PortId.{PortId}
 use Rattle.gptp_links.specs.declared.bounds.Bounds.{Bounds}
 use Rattle.gptp_links.specs.declared.link.Direction.{Direction}
 use Rattle.gptp_links.specs.declared.link.Direction.TheVariants.{FromA, FromB}
@@ -15,24 +16,24 @@ use Rattle.gptp_system.specs.Steps.{IsUp}
 use Rattle.gptp_plan.specs.declared.change.Act.{Act}
 use Rattle.gptp_plan.specs.declared.change.Act.TheVariants.{Deliver, Expire, Change as Changing}
 use Rattle.gptp_plan.specs.declared.change.Change.{Change}
-use Rattle.gptp_plan.specs.declared.change.Change.TheVariants.{LinkDown, LinkUp, LinkSet, Fail, Recover, Priority1}
+use Rattle.gptp_plan.specs.declared.change.Change.TheVariants.{LinkDown, LinkUp, LinkSet, Fail, Recover, Priority1, Inject}
 use Rattle.gptp_acts.specs.declared.done.Done.{Done}
 use Rattle.gptp_acts.specs.declared.item.Item.TheVariants.{Expiry, Arrival}
 use Rattle.gptp_acts.specs.declared.station.Station.{Station}
 use Rattle.gptp_acts.specs.Act.{Delivers, Expires}
 use Rattle.gptp_acts.specs.Acts.{set_to, Acts, Changes}
 use Rattle.gptp_plan.specs.Allowed.{IsFitAct}
-use Rattle.gptp_acts.specs.Agrees.{Agrees}
+use Rattle.gptp_acts.specs.Agrees.{Agrees, HaveTheirPorts}
 use Rattle.gptp_acts.specs.Ahead.{due_by, AllArePending, IsPortAmong}
-use Rattle.gptp_acts.specs.Changing.{with_bounds, with_setup, with_station, CallsIfLive, ComesUpIf, FailsIf, GoesDownIf, RecoversIf, StartsAll}
+use Rattle.gptp_acts.specs.Changing.{with_bounds, with_setup, with_station, CallsIfLive, ComesUpIf, FailsIf, GoesDownIf, InjectsIf, RecoversIf, StartsAll}
 use Rattle.gptp_acts.specs.Pending.{times, listed, NothingBefore}
 use Rattle.gptp_acts.specs.Sound.{IsSound, IsWired}
-use Rattle.gptp_acts.specs.World.{Channel, WorldState, queue, receiver, sender, station_due}
-use Rattle.gptp_acts.proofs.AgreeLemmas.{agrees_at, calls_if_live_agree, delivers_agree, expires_agree}
+use Rattle.gptp_acts.specs.World.{Channel, WorldState, port_id, queue, receiver, sender, station_due}
+use Rattle.gptp_acts.proofs.AgreeLemmas.{agrees_at, calls_if_live_agree, delivers_agree, expires_agree, sends_one_agrees}
 use Rattle.gptp_acts.proofs.ChangeAgreeLemmas.{comes_up_if_agree, fails_if_agree, goes_down_if_agree, recovers_if_agree, starts_all_agree, with_bounds_agrees, with_setup_agrees}
-use Rattle.gptp_acts.proofs.ChangeOnTimeLemmas.{calls_if_live_on_time, comes_up_on_time, fails_on_time, goes_down_on_time, recovers_on_time, reset_on_time, starts_all_on_time, with_bounds_on_time}
+use Rattle.gptp_acts.proofs.ChangeOnTimeLemmas.{calls_if_live_on_time, comes_up_on_time, fails_on_time, goes_down_on_time, injects_on_time, recovers_on_time, reset_on_time, starts_all_on_time, with_bounds_on_time}
 use Rattle.gptp_acts.proofs.OnTimeLemmas.{delivers_due_by, delivers_on_time, expires_due_by, expires_on_time, passes_on_time}
-use Rattle.gptp_acts.proofs.WiredLemmas.{bounds_wired, calls_wired, comes_up_wired, delivers_wired, expires_wired, fails_wired, goes_down_wired, recovers_wired, setup_wired, starts_all_wired, time_wired}
+use Rattle.gptp_acts.proofs.WiredLemmas.{bounds_wired, calls_wired, comes_up_wired, delivers_wired, expires_wired, fails_wired, goes_down_wired, injects_wired, recovers_wired, setup_wired, starts_all_wired, time_wired}
 
 -- ---- what is pending, place by place
 
@@ -161,13 +162,17 @@ fails_sound live place station w draws w' here is k = record {
   agrees = fails_if_agree live place station w draws w' here is.agrees k;
 }
 
+-- each system has a port for each interval of its setup
+have_ports : (w : WorldState) → IsWired w → HaveTheirPorts w
+have_ports w is place station here =
+    let its = is.setups place station here in its.ports ∙ sym its.intervals.many
+
 pub recovers_sound : (live : Bool) (place : ℕ) (w : WorldState) (draws : List Draw) (w' : WorldState) → IsSound w
     → RecoversIf live place w draws w' → IsSound w'
 recovers_sound live place w draws w' is k = record {
   wired = recovers_wired live place w draws w' is.wired k;
-  on_time = recovers_on_time live place w draws w' is.on_time k;
-  agrees = recovers_if_agree live place w draws w' (λ station here. (is.wired.setups place station here).ports)
-      is.agrees k;
+  on_time = recovers_on_time live place w draws w' is.wired.setups is.on_time k;
+  agrees = recovers_if_agree live place w draws w' (have_ports w is.wired place) is.agrees k;
 }
 
 -- a call that isn't of a link that goes down
@@ -192,6 +197,15 @@ prioritized_sound value place station w draws w' here is k =
           (with_setup_agrees value place station w here is.agrees) k;
     }
 
+injects_sound : (up : Bool) (from : PortId) (octets : List ℕ) (w : WorldState) (draws : List Draw) (w' : WorldState)
+    → IsSound w → InjectsIf up from octets w draws w' → IsSound w'
+injects_sound false from octets w draws w' is (none, same) = subst IsSound (sym same) is
+injects_sound true from octets w draws w' is k = record {
+  wired = injects_wired from octets w draws w' is.wired k;
+  on_time = injects_on_time from octets w draws w' is.on_time k;
+  agrees = subst Agrees (sym k.is) (sends_one_agrees w.time from octets k.draw w k.net is.agrees k.sent);
+}
+
 changes_sound : (c : Change) (w : WorldState) (draws : List Draw) (w' : WorldState) → IsSound w → IsFitAct (Changing c)
     → Changes c w draws w' → IsSound w'
 changes_sound (LinkDown number port) w draws w' is fit k =
@@ -207,6 +221,8 @@ changes_sound (Fail number) w draws w' is fit k =
 changes_sound (Recover number) w draws w' is fit k = recovers_sound k.station.live k.place w draws w' is k.so
 changes_sound (Priority1 number value) w draws w' is fit k =
     prioritized_sound value k.place k.station w draws w' k.is.here is k.so
+changes_sound (Inject number port octets) w draws w' is fit k =
+    injects_sound k.channel.up (port_id number port) octets w draws w' is k.so
 
 -- ---- all acts
 
@@ -225,7 +241,6 @@ pub starts_sound : (places : List ℕ) (w : WorldState) (draws : List Draw) (w' 
     → StartsAll places w draws w' → IsSound w'
 starts_sound places w draws w' is k = record {
   wired = starts_all_wired places w draws w' is.wired k;
-  on_time = starts_all_on_time places w draws w' is.on_time k;
-  agrees = starts_all_agree places w draws w' (λ place station here. (is.wired.setups place station here).ports)
-      is.agrees k;
+  on_time = starts_all_on_time places w draws w' is.wired.setups is.on_time k;
+  agrees = starts_all_agree places w draws w' (have_ports w is.wired) is.agrees k;
 }

@@ -12,23 +12,23 @@ use Rattle.gptp_system.specs.declared.sending.Sending.{Sending}
 use Rattle.gptp_setup.specs.declared.timer.Timer.{Timer}
 use Rattle.gptp_system.specs.Input.{Input, PortUp, PortDown, Priority, Frame as FrameHeard, Expires as TimerExpires}
 use Rattle.gptp_system.specs.Start.{started}
-use Rattle.gptp_system.specs.State.{SystemState, clock, own}
-use Rattle.gptp_system.proofs.ReadyLemmas.{length-new_ports}
+use Rattle.gptp_system.specs.State.{SystemState, clock}
+use Rattle.gptp_system.proofs.StartLemmas.{length-new_ports}
 use Rattle.gptp_system.proofs.TouchedLemmas.{priority_clock}
 use Rattle.gptp_plan.specs.declared.change.Act.{Act}
 use Rattle.gptp_plan.specs.declared.change.Act.TheVariants.{Deliver, Expire, Change as Changing}
 use Rattle.gptp_plan.specs.declared.change.Change.{Change}
-use Rattle.gptp_plan.specs.declared.change.Change.TheVariants.{LinkDown, LinkUp, LinkSet, Fail, Recover, Priority1}
+use Rattle.gptp_plan.specs.declared.change.Change.TheVariants.{LinkDown, LinkUp, LinkSet, Fail, Recover, Priority1, Inject}
 use Rattle.gptp_plan.specs.declared.change.Timed.{Timed}
 use Rattle.gptp_acts.specs.declared.done.Done.{Done}
 use Rattle.gptp_acts.specs.declared.station.Station.{Station}
-use Rattle.gptp_acts.specs.World.{Channel, Net, WorldState, sender, receiver}
+use Rattle.gptp_acts.specs.World.{Channel, Net, WorldState, port_id, sender, receiver}
 use Rattle.gptp_acts.specs.Sends.{SendsAll, SendsOne}
 use Rattle.gptp_acts.specs.Act.{all_timers, in_state, Calls, Delivers, Expires, Hears, Takes}
 use Rattle.gptp_acts.specs.Acts.{at, set_to, Acts, Changes}
 use Rattle.gptp_acts.specs.Advancing.{Advanced, Advances, Told}
 use Rattle.gptp_acts.specs.Agrees.{stopped}
-use Rattle.gptp_acts.specs.Changing.{brought_up, failed, fresh, lost, taken_down, up_ports, with_bounds, with_setup, with_station, CallsAll, CallsIfLive, ComesUpIf, FailsIf, GoesDownIf, RecoversIf, Starts, StartsAll, TellsEnds}
+use Rattle.gptp_acts.specs.Changing.{brought_up, failed, fresh, lost, taken_down, up_ports, with_bounds, with_setup, with_station, CallsAll, CallsIfLive, ComesUpIf, FailsIf, GoesDownIf, Injects, InjectsIf, RecoversIf, Starts, StartsAll, TellsEnds}
 use Rattle.gptp_acts.specs.Course.{WasDone}
 use Rattle.gptp_acts.specs.Sound.{AreApart, HaveOwnClocks, HaveTheirSetups, IsItsSetup, JoinPorts}
 use Rattle.gptp_acts.proofs.AgreeLemmas.{replaced}
@@ -167,12 +167,16 @@ tells_ends_carry input channel w draws w' tells =
 
 -- ---- what stays
 
--- a system has its clock, its ports and its parameters, and its setup is its own
+-- a system has its clock, its ports and their intervals, and its setup is its own
 pub record IsSameSystem (old new : Station) : Type 0 where
   pub named : clock new.system ≡ clock old.system
   pub count : length new.system.ports ≡ length old.system.ports
-  pub params : new.setup.params ≡ old.setup.params
+  pub intervals : new.setup.intervals.items ≡ old.setup.intervals.items
   pub its : IsItsSetup new
+
+itself : (station : Station) → IsItsSetup station → IsSameSystem station station
+itself station its =
+    record { named = refl; count = refl; intervals = refl; its = its }
 
 pub record IsAsBefore (stations : List Station) (place : ℕ) (new : Station) : Type 0 where
   pub old : Station
@@ -196,7 +200,7 @@ stays_on first second third f g = record {
         same = record {
           named = near.same.named ∙ far.same.named;
           count = near.same.count ∙ far.same.count;
-          params = near.same.params ∙ far.same.params;
+          intervals = near.same.intervals ∙ far.same.intervals;
           its = near.same.its;
         };
       };
@@ -211,7 +215,7 @@ net_stays w net setups joins = record {
       record {
         old = new;
         here = there;
-        same = record { named = refl; count = refl; params = refl; its = setups place new there };
+        same = itself new (setups place new there);
       };
   links = joins;
 }
@@ -230,7 +234,7 @@ station_stays place w old new net here same setups joins = record {
       record {
         old = x;
         here = there;
-        same = record { named = refl; count = refl; params = refl; its = setups other x there };
+        same = itself x (setups other x there);
       });
   links = joins;
 }
@@ -276,12 +280,13 @@ called_same input w place draws answer w' calls its =
     record {
       named = named;
       count = count;
-      params = refl;
+      intervals = refl;
       its = record {
         ports = count ∙ its.ports;
         few = its.few;
         phase = its.phase;
         drift = its.drift;
+        intervals = its.intervals;
         named = its.named ∙ sym named;
       };
     }
@@ -385,6 +390,19 @@ comes_up_stays false place channel w draws w' here setups comes =
     stays_on w at w' (brought_up_stays place channel w here setups)
     (tells_ends_stay PortUp channel at draws w' setups comes)
 
+-- what is in flight on a link is neither its ports nor a system
+pub injects_stay : (from : PortId) (octets : List ℕ) (w : WorldState) (draws : List Draw) (w' : WorldState)
+    → HaveTheirSetups w → Injects from octets w draws w' → Stays w w'
+injects_stay from octets w draws w' setups k =
+    subst (Stays w) (sym k.is)
+    (net_stays w k.net setups
+    (carry_join w.net.channels k.net.channels (sends_one_carry w.time from octets k.draw w.net k.net k.sent)))
+
+pub injects_if_stay : (up : Bool) (from : PortId) (octets : List ℕ) (w : WorldState) (draws : List Draw)
+    (w' : WorldState) → HaveTheirSetups w → InjectsIf up from octets w draws w' → Stays w w'
+injects_if_stay false from octets w draws w' setups k = subst (Stays w) (sym k.1) (same_stays w setups)
+injects_if_stay true from octets w draws w' setups k = injects_stay from octets w draws w' setups k
+
 -- ---- changes of a system
 
 pub failed_stays : (place : ℕ) (station : Station) (w : WorldState) → slice_get w.stations place ≡ Some station
@@ -396,8 +414,15 @@ failed_stays place station w here setups =
     (record {
       named = refl;
       count = refl;
-      params = refl;
-      its = record { ports = its.ports; few = its.few; phase = its.phase; drift = its.drift; named = its.named };
+      intervals = refl;
+      its = record {
+        ports = its.ports;
+        few = its.few;
+        phase = its.phase;
+        drift = its.drift;
+        intervals = its.intervals;
+        named = its.named;
+      };
     })
     setups (join_same w.net.channels)
 
@@ -418,12 +443,17 @@ with_setup_stays value place station w here setups =
     (record {
       named = refl;
       count = refl;
-      params = refl;
+      intervals = refl;
       its = record {
         ports = its.ports;
         few = its.few;
         phase = its.phase;
         drift = its.drift;
+        intervals = record {
+          many = its.intervals.many;
+          each = its.intervals.each;
+          largest = its.intervals.largest;
+        };
         named = priority_clock value (started station.setup 0) ∙ its.named;
       };
     })
@@ -435,12 +465,20 @@ with_setup_stays value place station w here setups =
 pub fresh_same : (now : ℕ) (station : Station) → IsItsSetup station → IsSameSystem station (fresh now station)
 fresh_same now station its =
     let setup = station.setup in
-    let ports = length-new_ports (clock_of setup.identity) setup.params setup.ports in
+    let ports : length (fresh now station).system.ports ≡ setup.ports =
+    length-new_ports (clock_of setup.identity) setup.params 1 setup.intervals.items ∙ its.intervals.many in
     record {
       named = its.named;
       count = ports ∙ sym its.ports;
-      params = refl;
-      its = record { ports = ports; few = its.few; phase = its.phase; drift = its.drift; named = refl };
+      intervals = refl;
+      its = record {
+        ports = ports;
+        few = its.few;
+        phase = its.phase;
+        drift = its.drift;
+        intervals = its.intervals;
+        named = refl;
+      };
     }
 
 pub refreshed_stays : (place : ℕ) (station : Station) (w : WorldState) → slice_get w.stations place ≡ Some station
@@ -491,6 +529,8 @@ changes_stay (Priority1 number value) w draws w' setups k =
     let stays = with_setup_stays value k.place k.station w k.is.here setups in
     stays_on w set w' stays
     (calls_if_live_stay k.place (Priority value) set draws w' (stays_setups w set stays) k.so)
+changes_stay (Inject number port octets) w draws w' setups k =
+    injects_if_stay k.channel.up (port_id number port) octets w draws w' setups k.so
 
 pub acts_stay : (act : Act) (w : WorldState) (draws : List Draw) (done : Done) (w' : WorldState) → HaveTheirSetups w
     → Acts act w draws done w' → Stays w w'

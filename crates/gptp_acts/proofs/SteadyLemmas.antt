@@ -6,7 +6,7 @@ use Rattle.gptp_system.specs.declared.sending.Sending.{Sending}
 use Rattle.gptp_setup.specs.declared.setup.Setup.{Setup}
 use Rattle.gptp_system.specs.Facts.{Keeps}
 use Rattle.gptp_system.specs.Input.{Input, IsTimely, Steps}
-use Rattle.gptp_setup.specs.Intervals.{AreParams, IsLog}
+use Rattle.gptp_setup.specs.Intervals.{AreIntervals, AreParams, IsLog}
 use Rattle.gptp_system.specs.Start.{started}
 use Rattle.gptp_system.specs.State.{SystemState, clock, due}
 use Rattle.gptp_system.proofs.FactLemmas.{keeps_length}
@@ -45,6 +45,7 @@ steps_steady input now s s' sends answer steady k =
     let sound = steps_sound input now s s' sends answer k in
     record {
       params = subst AreParams (sym sound.kept.params) steady.params;
+      largest = subst IsLog (sym sound.kept.largest) steady.largest;
       logs = logs_kept s s' sound.kept steady.logs;
       held = sound.held steady.held;
       rest = sound.rest steady.held steady.rest;
@@ -55,8 +56,8 @@ steps_steady input now s s' sends answer steady k =
 pub steps_none_late : (input : Input) (now : ℕ) (s s' : SystemState) (sends : List Sending) (answer : Answer)
     → IsSteady s → IsTimely s now input → Steps input now s s' sends answer → NoneLate now s → NoneLate now s'
 steps_none_late input now s s' sends answer steady timely k none timer t is =
-    by (started_later input now s s' sends answer steady.params steady.logs timely steady.shown steady.rest k timer t
-    is)
+    by (started_later input now s s' sends answer steady.params steady.largest steady.logs timely steady.shown
+    steady.rest k timer t is)
   where
     by : (due timer s ≡ Some t) ⊎ (now < t) → now ≤ t
     by (inl before) = none timer t before
@@ -65,13 +66,15 @@ steps_none_late input now s s' sends answer steady timely k none timer t is =
 -- ---- a start
 
 -- a system that starts is steady
-pub started_steady : (setup : Setup) (now : ℕ) → AreParams setup.params → IsSteady (started setup now)
-started_steady setup now params =
+pub started_steady : (setup : Setup) (now : ℕ) → AreParams setup.params → AreIntervals setup
+    → IsSteady (started setup now)
+started_steady setup now params intervals =
     let s = started setup now in
     let new = is_new setup now in
     record {
       params = params;
-      logs = starts_logs setup now params.announce;
+      largest = intervals.largest;
+      logs = starts_logs setup now intervals;
       held = new_held s new;
       rest = new_rest s new;
       shown = new_shown s new;

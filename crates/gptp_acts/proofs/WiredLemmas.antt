@@ -1,5 +1,6 @@
 -- The systems are their own and the links join them, and every act keeps it so.
-use Rattle.std.proofs.Common.{◌≡◌, ◌≢◌, ℕ, Bool, List, Option, Some, slice_get, refl}
+use Rattle.std.proofs.Common.{◌≡◌, ◌≢◌, ℕ, Bool, List, Option, Some, slice_get, refl, sym, subst}
+use Rattle.gptp_vector.specs.declared.port.PortId.{PortId}
 use Rattle.gptp_links.specs.declared.bounds.Bounds.{Bounds}
 use Rattle.gptp_links.specs.declared.link.Direction.{Direction}
 use Rattle.gptp_links.specs.Fate.{Draw}
@@ -9,11 +10,11 @@ use Rattle.gptp_system.specs.Input.{Input, PortDown}
 use Rattle.gptp_acts.specs.declared.station.Station.{Station}
 use Rattle.gptp_acts.specs.World.{Channel, WorldState}
 use Rattle.gptp_acts.specs.Act.{Calls, Delivers, Expires}
-use Rattle.gptp_acts.specs.Changing.{with_bounds, with_setup, with_station, ComesUpIf, FailsIf, GoesDownIf, RecoversIf, StartsAll}
+use Rattle.gptp_acts.specs.Changing.{with_bounds, with_setup, with_station, ComesUpIf, FailsIf, GoesDownIf, Injects, RecoversIf, StartsAll}
 use Rattle.gptp_acts.specs.Sound.{AllFlow, AreLinked, IsWired}
-use Rattle.gptp_acts.proofs.FlowLemmas.{calls_flow, comes_up_flow, delivers_flow, expires_flow, fails_flow, goes_down_flow, recovers_flow, starts_all_flow, with_bounds_flow}
-use Rattle.gptp_acts.proofs.LinkedLemmas.{calls_linked, comes_up_linked, delivers_linked, expires_linked, fails_linked, goes_down_linked, recovers_linked, starts_all_linked, with_bounds_linked, with_setup_linked}
-use Rattle.gptp_acts.proofs.StayLemmas.{calls_stay, comes_up_stays, delivers_stay, expires_stay, fails_stays, goes_down_stays, recovers_stays, starts_all_stay, stays_apart, stays_clocks, stays_ports, stays_setups, with_bounds_stays, with_setup_stays, Stays}
+use Rattle.gptp_acts.proofs.FlowLemmas.{calls_flow, comes_up_flow, delivers_flow, expires_flow, fails_flow, goes_down_flow, recovers_flow, sends_one_flow, starts_all_flow, with_bounds_flow}
+use Rattle.gptp_acts.proofs.LinkedLemmas.{calls_linked, comes_up_linked, delivers_linked, expires_linked, fails_linked, goes_down_linked, injects_linked, recovers_linked, starts_all_linked, with_bounds_linked, with_setup_linked}
+use Rattle.gptp_acts.proofs.StayLemmas.{calls_stay, comes_up_stays, delivers_stay, expires_stay, fails_stays, goes_down_stays, injects_stay, recovers_stays, starts_all_stay, stays_apart, stays_clocks, stays_ports, stays_setups, with_bounds_stays, with_setup_stays, Stays}
 
 -- what stays, with what flows and which ports measure
 stays_wired : (w w' : WorldState) → IsWired w → Stays w w' → AllFlow w' → AreLinked w' → IsWired w'
@@ -91,6 +92,13 @@ bounds_wired bounds place channel w here wired =
     (with_bounds_stays bounds place channel w here wired.setups)
     (with_bounds_flow bounds place channel w here wired.flow)
     (with_bounds_linked bounds place channel w here wired.linked)
+
+pub injects_wired : (from : PortId) (octets : List ℕ) (w : WorldState) (draws : List Draw) (w' : WorldState)
+    → IsWired w → Injects from octets w draws w' → IsWired w'
+injects_wired from octets w draws w' wired k =
+    stays_wired w w' wired (injects_stay from octets w draws w' wired.setups k)
+    (subst AllFlow (sym k.is) (sends_one_flow w.time from octets k.draw w k.net wired.flow k.sent))
+    (injects_linked from octets w draws w' wired.linked k)
 
 -- ---- changes of a system
 

@@ -12,14 +12,14 @@ use Rattle.gptp_vector.specs.declared.port.PortId.{PortId}
 use Rattle.gptp_plan.specs.declared.change.Act.{Act}
 use Rattle.gptp_plan.specs.declared.change.Act.TheVariants.{Deliver, Expire, Change as Changing}
 use Rattle.gptp_plan.specs.declared.change.Change.{Change}
-use Rattle.gptp_plan.specs.declared.change.Change.TheVariants.{LinkDown, LinkUp, LinkSet, Fail, Recover, Priority1}
+use Rattle.gptp_plan.specs.declared.change.Change.TheVariants.{LinkDown, LinkUp, LinkSet, Fail, Recover, Priority1, Inject}
 use Rattle.gptp_acts.specs.declared.done.Done.{Done}
 use Rattle.gptp_acts.specs.declared.done.Done.TheVariants.{Quiet, Heard}
 use Rattle.gptp_acts.specs.declared.done.Refused.{Refused}
 use Rattle.gptp_acts.specs.declared.done.Refused.TheVariants.{InThePast, Untimely, NoSuch, NotDue, OutOfMemory}
 use Rattle.gptp_acts.specs.declared.station.Station.{Station}
 use Rattle.gptp_acts.specs.Act.{Delivers, Expires}
-use Rattle.gptp_acts.specs.Changing.{with_bounds, with_setup, with_station, CallsIfLive, ComesUpIf, FailsIf, GoesDownIf, IsChannel, IsStation, RecoversIf}
+use Rattle.gptp_acts.specs.Changing.{with_bounds, with_setup, with_station, CallsIfLive, ComesUpIf, FailsIf, GoesDownIf, InjectsIf, IsChannel, IsStation, RecoversIf}
 use Rattle.gptp_acts.specs.World.{port_id}
 use Rattle.gptp_acts.specs.Pending.{Entry, NothingBefore}
 use Rattle.gptp_acts.specs.World.{Channel, Net, WorldState, queue, receiver, station_due}
@@ -60,6 +60,7 @@ IsThereToChange (LinkSet number port min max loss) w = AtLink (port_id number po
 IsThereToChange (Fail number) w = AtSystem number w AnySystem
 IsThereToChange (Recover number) w = AtSystem number w AnySystem
 IsThereToChange (Priority1 number value) w = AtSystem number w AnySystem
+IsThereToChange (Inject number port octets) w = AtLink (port_id number port) w.net AnyLink
 
 -- there is what an act is about: the link, the system with that timer, or what is changed
 abbrev pub IsThere : Act → WorldState → Type 0
@@ -127,6 +128,8 @@ Changes (Fail number) w draws w' = AtSystem number w (λ place station. FailsIf 
 Changes (Recover number) w draws w' = AtSystem number w (λ place station. RecoversIf station.live place w draws w')
 Changes (Priority1 number value) w draws w' = AtSystem number w (λ place station.
     CallsIfLive place (Priority value) (with_station place (with_setup value station) w) draws w')
+Changes (Inject number port octets) w draws w' = AtLink (port_id number port) w.net (λ place channel.
+    InjectsIf channel.up (port_id number port) octets w draws w')
 
 -- the port that a frame reached, what was answered there, and the frame
 abbrev pub Tells : PortId → Option Answer → List ℕ → Done → Type 0

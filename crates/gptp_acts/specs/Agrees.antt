@@ -47,10 +47,10 @@ stopped place timer w =
 
 -- ---- numbers of ports
 
--- the system at a place has as many ports as its setup says
+-- the system at a place has a port for each interval of its setup
 abbrev pub HasItsPorts : ℕ → WorldState → Type 0
 HasItsPorts place w = (station : Station) → slice_get w.stations place ≡ Some station
-    → length station.system.ports ≡ station.setup.ports
+    → length station.system.ports ≡ length station.setup.intervals.items
 
 -- so has every system
 abbrev pub HaveTheirPorts : WorldState → Type 0

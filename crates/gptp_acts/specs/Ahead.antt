@@ -22,6 +22,7 @@ due_by time es = length (filter (λ (e : Entry). nat_le e.time time) es)
 -- what is true of every system of a world: its step's laws ask for it
 pub record IsSteady (s : SystemState) : Type 0 where
   pub params : AreParams s.params
+  pub largest : IsLog s.largest
   pub logs : (i : ℕ) (q : Port) → slice_get s.ports i ≡ Some q → IsLog q.log_interval
   pub held : AreHeld s
   pub rest : IsAtRest s

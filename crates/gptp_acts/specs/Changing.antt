@@ -12,6 +12,7 @@ use Rattle.gptp_system.specs.State.{clock}
 use Rattle.gptp_acts.specs.declared.item.Item.TheVariants.{Arrival}
 use Rattle.gptp_acts.specs.declared.station.Station.{Station}
 use Rattle.gptp_acts.specs.Pending.{without}
+use Rattle.gptp_acts.specs.Sends.{SendsOne}
 use Rattle.gptp_acts.specs.World.{Channel, Net, WorldState}
 use Rattle.gptp_acts.specs.Act.{all_timers, Calls, HasFailed}
 
@@ -155,3 +156,17 @@ RecoversIf false place w draws w' = Starts place w draws w'
 abbrev pub with_setup : ℕ → Station → Station
 with_setup value station =
     record station { setup = record station.setup { identity = value * 2 ^ 104 + station.setup.identity % 2 ^ 104 } }
+
+-- Octets enter the link at a port, which is up, as if the system of the port had sent them: with one draw of the fate.
+-- Whether that system lives isn't asked.
+pub record Injects (from : PortId) (octets : List ℕ) (w : WorldState) (draws : List Draw) (w' : WorldState) :
+    Type 0 where
+  pub draw : Draw
+  pub net : Net
+  pub drawn_once : draws ≡ draw ∷ []
+  pub sent : SendsOne w.time from octets draw w.net net
+  pub is : w' ≡ record w { net = net }
+
+abbrev pub InjectsIf : Bool → PortId → List ℕ → WorldState → List Draw → WorldState → Type 0
+InjectsIf true from octets w draws w' = Injects from octets w draws w'
+InjectsIf false from octets w draws w' = Nothing w draws w'

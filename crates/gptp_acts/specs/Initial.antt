@@ -1,29 +1,31 @@
 -- The world that a network makes, before its systems start (profile).
 use Rattle.std.specs.Prelude.{false, List, [], map}
-use Rattle.gptp_setup.specs.declared.setup.Params.{Params}
+use Rattle.gptp_setup.specs.Pace.{Pace}
 use Rattle.gptp_setup.specs.declared.setup.Setup.{Setup}
 use Rattle.gptp_system.specs.Start.{started}
 use Rattle.gptp_plan.specs.declared.network.Member.{Member}
 use Rattle.gptp_plan.specs.declared.network.Wire.{Wire}
 use Rattle.gptp_acts.specs.declared.station.Station.{Station}
-use Rattle.gptp_plan.specs.Network.{NetworkState}
+use Rattle.gptp_plan.specs.Network.{NetworkState, pace_of}
 use Rattle.gptp_acts.specs.World.{Channel, Net, WorldState}
 
--- what a system of a network starts with
-abbrev pub setup_of : Params → Member → Setup
-setup_of params member = record {
+-- what a system of a network starts with: its ports announce at their own intervals, none above the largest
+abbrev pub setup_of : Pace → Member → Setup
+setup_of pace member = record {
   identity = member.identity;
   ports = member.ports;
   phase = member.phase;
   drift = member.drift;
-  params = params;
+  intervals = member.intervals;
+  largest = pace.largest;
+  params = pace.params;
 }
 
 -- it isn't live yet
-abbrev pub station_of : Params → Member → Station
-station_of params member = record {
-  setup = setup_of params member;
-  system = started (setup_of params member) 0;
+abbrev pub station_of : Pace → Member → Station
+station_of pace member = record {
+  setup = setup_of pace member;
+  system = started (setup_of pace member) 0;
   live = false;
 }
 
@@ -39,7 +41,7 @@ channel_from wire = record {
 }
 
 abbrev pub stations_of : NetworkState → List Station
-stations_of n = map (station_of n.params) n.systems
+stations_of n = map (station_of (pace_of n)) n.systems
 
 abbrev pub channels_of : NetworkState → List Channel
 channels_of n = map channel_from n.links

@@ -4,6 +4,7 @@ use Rattle.gptp_links.specs.declared.link.Direction.{Direction}
 use Rattle.gptp_links.specs.Queue.{AreDueInOrder}
 use Rattle.gptp_pdelay.specs.Clock.{IsDrift}
 use Rattle.gptp_roles.specs.Selection.{clock_of}
+use Rattle.gptp_setup.specs.Intervals.{AreIntervals}
 use Rattle.gptp_system.specs.State.{clock}
 use Rattle.gptp_system.specs.Steps.{IsPortOf, IsUp}
 use Rattle.gptp_acts.specs.declared.station.Station.{Station}
@@ -17,6 +18,7 @@ pub record IsItsSetup (station : Station) : Type 0 where
   pub few : station.setup.ports ≤ 16
   pub phase : station.setup.phase ≤ 10 ^ 18
   pub drift : IsDrift station.setup.drift
+  pub intervals : AreIntervals station.setup
   pub named : clock_of station.setup.identity ≡ clock station.system
 
 abbrev pub HaveTheirSetups : WorldState → Type 0

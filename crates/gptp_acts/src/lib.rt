@@ -11,6 +11,6 @@ mod item;
 mod station;
 
 pub use done::{Done, Refused};
-pub use gptp_plan::{Act, Change, Network, NetworkFault, Params, Timed};
+pub use gptp_plan::{Act, Change, Network, NetworkFault, Octets, Params, Timed};
 pub use item::Item;
 pub use station::Station;

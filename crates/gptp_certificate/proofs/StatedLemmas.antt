@@ -4,7 +4,7 @@ use Rattle.std.proofs.lemmas.Bool.Decides.{nat_tests}
 use Rattle.std.proofs.lemmas.List.{drop_more}
 use Rattle.std.proofs.lemmas.Option.{same_Some, slice_get-get_or, slice_get_within}
 use Rattle.std.specs.List.{range_with_len}
-use Rattle.gptp_graph.specs.Labelling.{PortLine, SystemLine, line_clocks, port_numbers}
+use Rattle.gptp_graph.specs.Labelling.{PortLine, SystemLine, line_clocks}
 use Rattle.gptp_lists.specs.Members.{In, Different}
 use Rattle.gptp_graph.specs.Order.{IsRising}
 use Rattle.gptp_lists.proofs.MemberLemmas.{In-left, In-map, In-parts, In-right, In-slice_get, from_map, slice_get-In}
@@ -15,9 +15,8 @@ use Rattle.gptp_acts.specs.Views.{put_rising, rising, rising_clocks}
 use Rattle.gptp_acts.specs.World.{WorldState}
 use Rattle.gptp_acts.specs.declared.station.Station.{Station}
 use Rattle.gptp_acts.proofs.RisingLemmas.{rising_clocks-count}
-use Rattle.gptp_certificate_text.specs.Certificate.{AreInOrder}
-use Rattle.gptp_certificate.specs.Stated.{stated_line, stated_port, States}
-use Rattle.gptp_certificate.specs.Stating.{stated_if, Adds}
+use Rattle.gptp_certificate.specs.Stated.{stated_line, stated_port}
+use Rattle.gptp_certificate.specs.Stating.{stated_if, Adds, AreSaid}
 
 -- ---- numbers in rising order have the same members, and rise where they differ
 
@@ -220,7 +219,7 @@ lines_rise (name ∷ names) w lines up (rest, one, are) =
 
 -- where none is left, the lines are those of all live systems
 pub stated_all : (w : WorldState) (lines : List SystemLine) → HaveOwnClocks w → StatedSoFar (rising_clocks w) [] w lines
-    → States w lines
+    → AreSaid w lines
 stated_all w lines own all = record {
   rising = lines_rise names w lines (clocks_rise w own) are;
   each = λ line. (
@@ -246,19 +245,10 @@ numbers_from s first zero k h = absurd h
 numbers_from s first (suc count) k (inl e) = omega arith
 numbers_from s first (suc count) k (inr h) = let later = numbers_from s (first + 1) count k h in omega arith
 
-numbers_rise : (s : SystemState) (first count : ℕ)
+pub numbers_rise : (s : SystemState) (first count : ℕ)
     → IsRising (map (λ (port : PortLine). port.number) (map (stated_port s) (range_with_len first count)))
 numbers_rise s first zero = tt
 numbers_rise s first (suc count) = (
   (λ k h. let later = numbers_from s (first + 1) count k h in omega arith),
   numbers_rise s (first + 1) count,
 )
-
--- so what systems state is in order
-pub stated_in_order : (w : WorldState) (lines : List SystemLine) → States w lines → AreInOrder lines
-stated_in_order w lines states = record {
-  clocks = states.rising;
-  ports = λ line h. let s = (states.each line).0 h in
-      subst (λ (l : SystemLine). IsRising (port_numbers l)) (sym s.is)
-      (numbers_rise s.station.system 1 (length s.station.system.ports));
-}

@@ -1,6 +1,8 @@
--- How the lines of systems are put one behind another.
-use Rattle.std.specs.Prelude.{◌≡◌, ℕ, List, [], ◌∷◌, ◌++◌, if◌then◌else◌}
-use Rattle.gptp_graph.specs.Labelling.{SystemLine}
+-- What the live systems of a world say of themselves, as it is put together line by line.
+use Rattle.std.specs.Prelude.{◌≡◌, ◌↔◌, ℕ, true, List, [], ◌∷◌, ◌++◌, if◌then◌else◌}
+use Rattle.gptp_graph.specs.Labelling.{SystemLine, line_clocks}
+use Rattle.gptp_graph.specs.Order.{IsRising}
+use Rattle.gptp_lists.specs.Members.{In}
 use Rattle.gptp_acts.specs.Acts.{AtSystem}
 use Rattle.gptp_acts.specs.World.{WorldState}
 use Rattle.gptp_acts.specs.declared.station.Station.{Station}
@@ -13,3 +15,15 @@ stated_if station = if station.live then stated_line station.system ∷ [] else 
 -- the line of the system with a clock is put behind others
 abbrev pub Adds : ℕ → WorldState → List SystemLine → List SystemLine → Type 0
 Adds name w before after = AtSystem name w (λ place station. after ≡ before ++ stated_if station)
+
+-- the line is what a live system says
+pub record IsSaid (w : WorldState) (line : SystemLine) : Type 0 where
+  pub station : Station
+  pub there : In station w.stations
+  pub live : station.live ≡ true
+  pub is : line ≡ stated_line station.system
+
+-- the lines are what the live systems say, by rising clock
+pub record AreSaid (w : WorldState) (lines : List SystemLine) : Type 0 where
+  pub rising : IsRising (line_clocks lines)
+  pub each : (line : SystemLine) → In line lines ↔ IsSaid w line

@@ -8,8 +8,9 @@ ghost use Rattle.gptp_acts.specs.Views.{rising_clocks};
 ghost use Rattle.gptp_certificate_text.specs.Certificate.{line_of, lines_of, parent_of, port_line_of};
 ghost use Rattle.gptp_certificate.specs.Settled.{IsRightInTime};
 ghost use Rattle.gptp_certificate.specs.Stated.{stated_line, stated_port, States};
-ghost use Rattle.gptp_certificate.specs.Stating.{Adds};
+ghost use Rattle.gptp_certificate.specs.Stating.{Adds, AreSaid};
 
+use crate::marking::mark_far;
 use gptp_certificate_text::{Certificate, SystemLine};
 use gptp_links::Fate;
 use gptp_roles::Role;
@@ -53,6 +54,7 @@ fn stated_line(alloc: Global, own: ClockId, system: &System) -> Result<SystemLin
         clock: own,
         root,
         steps,
+        far: false,
         parent,
         ports,
     })
@@ -105,12 +107,12 @@ fn state_at<F: Fate + Drop>(
     }
 }
 
-/// The lines of all live systems, by rising clock.
+/// What all live systems say, by rising clock.
 fn list_lines<F: Fate + Drop>(
     alloc: Global,
     world: &World<F>,
 ) -> Result<Vec<SystemLine>, AllocError>
-    ensures { IfOk result (λ lines. States world.now.scene (lines_of lines.items)) }
+    ensures { IfOk result (λ lines. AreSaid world.now.scene (lines_of lines.items)) }
 {
     world.well_formed();
     let mut lines = Vec::new(alloc);
@@ -120,17 +122,22 @@ fn list_lines<F: Fate + Drop>(
     Ok(lines)
 }
 
-/// The certificate of a world as it stands: of each live system, by rising clock, what its own state says now. Once the
-/// world has been calm for its settling span since the last change, where all live systems are fewer than 255 steps from
-/// the best of their component, it is the settled choice of the network. Refused for want of memory alone.
+/// The certificate of a world as it stands, in version 2: a line of each live system, by rising clock. It is what the
+/// system's own state says now, unless the system is far: where its own steps are 255 or more, or some system of its
+/// component, over the links that are up between live systems, states a lower root than it. Then its root is the lowest
+/// that is stated in its component, and its steps are 254 and the least number of links to a system that isn't far, or
+/// 65535 where none leads to one. Once the world has been calm for its settling span since the last change, it is the
+/// settled choice of the network. Refused for want of memory alone.
 pub fn write_certificate<F: Fate + Drop>(
     alloc: Global,
     world: &World<F>,
 ) -> Result<Certificate, AllocError>
-    ensures states { IfOk result (States world.now.scene) }
-    ensures right { IfOk result (IsRightInTime world.now.scene) }
+    ensures version { IfOk result (λ certificate. certificate.version ≡ 2) }
+    ensures states { IfOk result (λ certificate. States world.now.scene certificate.lines) }
+    ensures right { IfOk result (λ certificate. IsRightInTime world.now.scene certificate.lines) }
 {
     world.well_formed();
-    let lines = list_lines(alloc, world)?;
-    Ok(Certificate::of_lines(lines))
+    let mut lines = list_lines(alloc, world)?;
+    mark_far(alloc, world, &mut lines)?;
+    Ok(Certificate::of_lines(2, lines))
 }

@@ -3,7 +3,7 @@ use Rattle.std.proofs.Common.{◌≡◌, ℕ, List, ◌∷◌, ◌++◌, codes, 
 use Rattle.std.specs.Prelude.{Some}
 use Rattle.std.proofs.lemmas.List.{append_cancel_left}
 use Rattle.gptp_certificate_text.specs.Words.{IsWord}
-use Rattle.gptp_certificate_text.specs.Forms.{ParentWords, SystemWords, PortWords, AreParentWords, AreSystemWords, ArePortWords, parent_text, port_text, role_text, system_text}
+use Rattle.gptp_certificate_text.specs.Forms.{ParentWords, SystemWords, FarWords, PortWords, AreParentWords, AreSystemWords, AreFarWords, ArePortWords, parent_text, far_text, port_text, role_text, system_text}
 use Rattle.gptp_certificate_text.proofs.WordLemmas.{one_value, one_word}
 
 abbrev pub behind_steps : SystemWords → List ℕ
@@ -18,6 +18,15 @@ behind_clock words = codes "root " ++ (words.root ++ 32 ∷ behind_root words)
 pub system_parts : (words : SystemWords)
     → system_text words ≡ codes "system " ++ (words.clock ++ 32 ∷ behind_clock words)
 system_parts words = simp append_assoc refl
+
+abbrev pub far_behind_steps : FarWords → List ℕ
+far_behind_steps words = codes "root " ++ words.root
+
+abbrev pub far_behind_clock : FarWords → List ℕ
+far_behind_clock words = codes "far " ++ (words.steps ++ 32 ∷ far_behind_steps words)
+
+pub far_parts : (words : FarWords) → far_text words ≡ codes "system " ++ (words.clock ++ 32 ∷ far_behind_clock words)
+far_parts words = simp append_assoc refl
 
 pub port_parts : (words : PortWords)
     → port_text words ≡ codes "port " ++ (words.clock ++ 32 ∷ (words.number ++ 32 ∷ role_text words.role))
@@ -48,6 +57,23 @@ pub rest_is_parent : (words : SystemWords) (text rest : List ℕ) → text ≡ c
     → text ≡ behind_steps words
     → rest ≡ parent_text words.parent
 rest_is_parent words text rest d e = append_cancel_left (codes "parent ") rest (parent_text words.parent) (sym d ∙ e)
+
+pub far_rest_behind_clock : (words : FarWords) (line clock rest : List ℕ) → AreFarWords words → IsWord clock
+    → line ≡ codes "system " ++ (clock ++ 32 ∷ rest) → line ≡ far_text words → (clock ≡ words.clock)
+    × (rest ≡ far_behind_clock words)
+far_rest_behind_clock words line clock rest are is d e =
+    one_value (codes "system ") line clock words.clock rest (far_behind_clock words) is are.clock d
+    (e ∙ far_parts words)
+
+pub far_rest_behind_steps : (words : FarWords) (text steps rest : List ℕ) → AreFarWords words → IsWord steps
+    → text ≡ codes "far " ++ (steps ++ 32 ∷ rest) → text ≡ far_behind_clock words → (steps ≡ words.steps)
+    × (rest ≡ far_behind_steps words)
+far_rest_behind_steps words text steps rest are is d e =
+    one_value (codes "far ") text steps words.steps rest (far_behind_steps words) is are.steps d e
+
+pub rest_is_root : (words : FarWords) (text rest : List ℕ) → text ≡ codes "root " ++ rest
+    → text ≡ far_behind_steps words → rest ≡ words.root
+rest_is_root words text rest d e = append_cancel_left (codes "root ") rest words.root (sym d ∙ e)
 
 pub port_behind_clock : (words : PortWords) (line clock rest : List ℕ) → ArePortWords words → IsWord clock
     → line ≡ codes "port " ++ (clock ++ 32 ∷ rest) → line ≡ port_text words

@@ -1,6 +1,6 @@
 -- The laws of the text: it is read in one way.
-use Rattle.std.proofs.Common.{◌≡◌, ◌≢◌, ℕ, ◌<◌, ◌≤◌, ◌^◌, List, [], ◌∷◌, ◌++◌, map, inl, inr, refl, sym, ap, subst, ◌∙◌, append_assoc, append-nil, arith}
-use Rattle.std.specs.Prelude.{◌⊎◌, Bool, false, Option, Some, None, decimal, get_or}
+use Rattle.std.proofs.Common.{◌≡◌, ◌≢◌, ℕ, ◌<◌, ◌≤◌, ◌^◌, List, [], ◌∷◌, ◌++◌, map, codes, inl, inr, refl, sym, ap, subst, ◌∙◌, append_assoc, append-nil, arith}
+use Rattle.std.specs.Prelude.{◌⊎◌, Bool, true, false, Option, Some, None, decimal, get_or}
 use Rattle.std.specs.List.{AllByRecursion}
 use Rattle.std.specs.Option.{option_map}
 use Rattle.std.proofs.lemmas.Fmt.{decimal_injective}
@@ -14,13 +14,14 @@ use Rattle.gptp_graph.specs.Parent.{ParentLink}
 use Rattle.gptp_graph.specs.SettledRole.{Role}
 use Rattle.gptp_certificate_text.specs.declared.fault.CertificateFault.{CertificateFault}
 use Rattle.gptp_certificate_text.specs.declared.fault.CertificateFault.TheVariants.{Head, Line, Order, OutOfMemory, Spelling}
-use Rattle.gptp_certificate_text.specs.Certificate.{AreInOrder}
-use Rattle.gptp_certificate_text.specs.CertificateText.{certificate_text, end_text, entry_text, front_text, head_text, parent_words, port_words, spelled, system_words}
-use Rattle.gptp_certificate_text.specs.Entries.{Entry, SystemEntry, PortEntry, FollowEach, IsReadable, IsReadableEntry, IsReadableLink, IsReadableParent, StandInOrder, clock_of, entries_of, number_of, system_entry}
-use Rattle.gptp_certificate_text.specs.Forms.{Form, SystemForm, PortForm, HasForm, ParentWords, PortWords, SystemWords, form_text}
+use Rattle.gptp_certificate_text.specs.Certificate.{IsCertificate, IsVersion}
+use Rattle.gptp_certificate_text.specs.CertificateText.{certificate_text, end_text, entry_text, far_words, front_text, head_text, parent_words, port_words, spelled, system_words}
+use Rattle.gptp_certificate_text.specs.Entries.{Entry, SystemEntry, PortEntry, FollowEach, IsReadable, IsReadableEntry, IsReadableLink, IsReadableParent, StandInOrder, clock_of, ends_far, entries_of, is_far, number_of, system_entry}
+use Rattle.gptp_certificate_text.specs.Forms.{Form, SystemForm, FarForm, PortForm, FitsHere, HasForm, ParentWords, PortWords, FarWords, SystemWords, form_text}
 use Rattle.gptp_certificate_text.specs.Parsing.{Fails, FailsBehind, RestFails}
 use Rattle.gptp_certificate_text.proofs.LineLemmas.{entry_words, one_form}
-use Rattle.gptp_certificate_text.proofs.ReadingLemmas.{entry_lacks_feed, line_lacks_feed}
+use Rattle.gptp_certificate_text.proofs.OrderLemmas.{all_behind}
+use Rattle.gptp_certificate_text.proofs.ReadingLemmas.{entry_lacks_feed, head_lacks_feed, line_lacks_feed}
 use Rattle.gptp_certificate_text.proofs.SpellingLemmas.{digits_read, number_read, same_ok}
 use Rattle.gptp_certificate_text.proofs.TextLemmas.{entries_text}
 use Rattle.gptp_certificate_text.proofs.WordLemmas.{one_cut}
@@ -68,18 +69,35 @@ same_port_words a b e = cc
 abbrev port_of : ℕ → Role → PortLine
 port_of number role = record { number = number; role = role }
 
-same_spelled : (a b : Entry) → IsReadableEntry a → IsReadableEntry b → spelled a ≡ spelled b → a ≡ b
-same_spelled (SystemEntry c r s p) (SystemEntry c2 r2 s2 p2) f g e =
+same_far_words : (a b : FarWords) → FarForm a ≡ FarForm b → a ≡ b
+same_far_words a b e = cc
+
+same_spelled : (v w : ℕ) (a b : Entry) → IsReadableEntry v a → IsReadableEntry w b → spelled a ≡ spelled b → a ≡ b
+same_spelled v w (SystemEntry c r s true p) (SystemEntry c2 r2 s2 true p2) f g e =
+    let words = same_far_words (far_words c r s) (far_words c2 r2 s2) e in
+    let clock = same_digits 8 c c2 f.0 g.0 (ap (λ (w : FarWords). w.clock) words) in
+    let root = same_digits 14 r r2 f.1 g.1 (ap (λ (w : FarWords). w.root) words) in
+    let steps = same_number s s2 f.2 g.2 (ap (λ (w : FarWords). w.steps) words) in
+    let parent = f.3.0 ∙ sym g.3.0 in
+    ap (λ (x : ℕ). SystemEntry x r s true p) clock ∙ ap (λ (x : ℕ). SystemEntry c2 x s true p) root
+    ∙ ap (λ (x : ℕ). SystemEntry c2 r2 x true p) steps
+    ∙ ap (λ (x : Option ParentLink). SystemEntry c2 r2 s2 true x) parent
+same_spelled v w (SystemEntry c r s true p) (SystemEntry c2 r2 s2 false p2) f g e = absurd cc
+same_spelled v w (SystemEntry c r s true p) (PortEntry c2 q2) f g e = absurd cc
+same_spelled v w (SystemEntry c r s false p) (SystemEntry c2 r2 s2 true p2) f g e = absurd cc
+same_spelled v w (SystemEntry c r s false p) (SystemEntry c2 r2 s2 false p2) f g e =
     let words = same_system_words (system_words c r s p) (system_words c2 r2 s2 p2) e in
     let clock = same_digits 8 c c2 f.0 g.0 (ap (λ (w : SystemWords). w.clock) words) in
     let root = same_digits 14 r r2 f.1 g.1 (ap (λ (w : SystemWords). w.root) words) in
     let steps = same_number s s2 f.2 g.2 (ap (λ (w : SystemWords). w.steps) words) in
     let parent = same_parent p p2 f.3 g.3 (ap (λ (w : SystemWords). w.parent) words) in
-    ap (λ (x : ℕ). SystemEntry x r s p) clock ∙ ap (λ (x : ℕ). SystemEntry c2 x s p) root
-    ∙ ap (λ (x : ℕ). SystemEntry c2 r2 x p) steps ∙ ap (λ (x : Option ParentLink). SystemEntry c2 r2 s2 x) parent
-same_spelled (SystemEntry c r s p) (PortEntry c2 q2) f g e = absurd cc
-same_spelled (PortEntry c q) (SystemEntry c2 r2 s2 p2) f g e = absurd cc
-same_spelled (PortEntry c q) (PortEntry c2 q2) f g e =
+    ap (λ (x : ℕ). SystemEntry x r s false p) clock ∙ ap (λ (x : ℕ). SystemEntry c2 x s false p) root
+    ∙ ap (λ (x : ℕ). SystemEntry c2 r2 x false p) steps
+    ∙ ap (λ (x : Option ParentLink). SystemEntry c2 r2 s2 false x) parent
+same_spelled v w (SystemEntry c r s false p) (PortEntry c2 q2) f g e = absurd cc
+same_spelled v w (PortEntry c q) (SystemEntry c2 r2 s2 true p2) f g e = absurd cc
+same_spelled v w (PortEntry c q) (SystemEntry c2 r2 s2 false p2) f g e = absurd cc
+same_spelled v w (PortEntry c q) (PortEntry c2 q2) f g e =
     let words = same_port_words (port_words c q) (port_words c2 q2) e in
     let clock = same_digits 8 c c2 f.0 g.0 (ap (λ (w : PortWords). w.clock) words) in
     let number = same_number q.number q2.number f.1.most g.1.most (ap (λ (w : PortWords). w.number) words) in
@@ -87,40 +105,66 @@ same_spelled (PortEntry c q) (PortEntry c2 q2) f g e =
     ap (λ (x : ℕ). PortEntry x q) clock ∙ ap (λ (x : ℕ). PortEntry c2 (port_of x q.role)) number
     ∙ ap (λ (x : Role). PortEntry c2 (port_of q2.number x)) role
 
-one_entry : (a b : Entry) → IsReadableEntry a → IsReadableEntry b → entry_text a ≡ entry_text b → a ≡ b
-one_entry a b f g e = same_spelled a b f g (one_form (spelled a) (spelled b) (entry_words a f) (entry_words b g) e)
+one_entry : (v w : ℕ) (a b : Entry) → IsReadableEntry v a → IsReadableEntry w b → entry_text a ≡ entry_text b → a ≡ b
+one_entry v w a b f g e =
+    same_spelled v w a b f g (one_form (spelled a) (spelled b) (entry_words v a f) (entry_words w b g) e)
 
 -- one line stands first
-first_entry : (a b : Entry) (x y : List ℕ) → IsReadableEntry a → IsReadableEntry b
+first_entry : (v w : ℕ) (a b : Entry) (x y : List ℕ) → IsReadableEntry v a → IsReadableEntry w b
     → entry_text a ++ 10 ∷ x ≡ entry_text b ++ 10 ∷ y
     → (a ≡ b) × (x ≡ y)
-first_entry a b x y f g e =
-    let cut = one_cut 10 (entry_text a) (entry_text b) x y (entry_lacks_feed a f) (entry_lacks_feed b g) e in
-    (one_entry a b f g cut.0, cut.1)
+first_entry v w a b x y f g e =
+    let cut = one_cut 10 (entry_text a) (entry_text b) x y (entry_lacks_feed v a f) (entry_lacks_feed w b g) e in
+    (one_entry v w a b f g cut.0, cut.1)
 
-has_form : (entry : Entry) → IsReadableEntry entry → HasForm (entry_text entry)
-has_form entry readable = record { form = spelled entry; words = entry_words entry readable; is = refl }
+has_form : (v : ℕ) (after_far : Bool) (entry : Entry) → IsReadableEntry v entry
+    → FitsHere v after_far (spelled entry) → HasForm v after_far (entry_text entry)
+has_form v after_far entry readable fits =
+    record { form = spelled entry; words = entry_words v entry readable; fits = fits; is = refl }
 
-same_line : (line more : List ℕ) (entry : Entry) (rest : List ℕ) → HasForm line → IsReadableEntry entry
-    → line ++ 10 ∷ more ≡ entry_text entry ++ 10 ∷ rest → line ≡ entry_text entry
-same_line line more entry rest has readable e =
-    (one_cut 10 line (entry_text entry) more rest (line_lacks_feed line has) (entry_lacks_feed entry readable) e).0
+same_line : (v : ℕ) (after_far : Bool) (line more : List ℕ) (entry : Entry) (rest : List ℕ) → HasForm v after_far line
+    → IsReadableEntry v entry → line ++ 10 ∷ more ≡ entry_text entry ++ 10 ∷ rest → line ≡ entry_text entry
+same_line v after_far line more entry rest has readable e =
+    (one_cut 10 line (entry_text entry) more rest (line_lacks_feed v after_far line has)
+    (entry_lacks_feed v entry readable) e).0
+
+-- a port line in order doesn't stand right after a far system's line
+port_after : (first : Entry) (before : List Entry) (clock : ℕ) (port : PortLine)
+    → FollowEach first (before ++ PortEntry clock port ∷ []) → ends_far (first ∷ before) ≡ false
+port_after first [] clock port each = each.0.2
+port_after first (next ∷ before) clock port each = port_after next before clock port each.1
+
+-- what stands in order has a form that can stand there
+stands_fit : (v : ℕ) (before : List Entry) (entry : Entry) → IsReadableEntry v entry
+    → StandInOrder (before ++ entry ∷ []) → FitsHere v (ends_far before) (spelled entry)
+stands_fit v before (SystemEntry c r s true p) readable stand = readable.3.1
+stands_fit v before (SystemEntry c r s false p) readable stand = tt
+stands_fit v [] (PortEntry c p) readable stand = absurd stand
+stands_fit v (SystemEntry c r s far q ∷ before) (PortEntry d p) readable stand =
+    port_after (SystemEntry c r s far q) before d p stand
+stands_fit v (PortEntry c q ∷ before) (PortEntry d p) readable stand = absurd stand
 
 -- an entry's line that can stand there is no fault
-no_fault : (before : List Entry) (entry : Entry) (more : List ℕ) (fault : CertificateFault) → IsReadableEntry entry
-    → StandInOrder (before ++ entry ∷ []) → RestFails before (entry_text entry ++ 10 ∷ more) fault → ⊥
-no_fault before entry more Head readable stand fails = fails
-no_fault before entry more Line readable stand fails =
-    fails.formless (entry_text entry) more (has_form entry readable) refl
-no_fault before entry more Order readable stand fails =
-    let same = first_entry entry fails.entry more fails.more readable fails.readable fails.first in
+no_fault : (v : ℕ) (before : List Entry) (entry : Entry) (more : List ℕ) (fault : CertificateFault)
+    → IsReadableEntry v entry → StandInOrder (before ++ entry ∷ [])
+    → RestFails v before (entry_text entry ++ 10 ∷ more) fault → ⊥
+no_fault v before entry more Head readable stand fails = fails
+no_fault v before entry more Line readable stand fails =
+    let fits = stands_fit v before entry readable stand in
+    fails.formless (entry_text entry) more (has_form v (ends_far before) entry readable fits) refl
+no_fault v before entry more Order readable stand fails =
+    let same = first_entry v v entry fails.entry more fails.more readable fails.readable fails.first in
     fails.order (subst (λ e. StandInOrder (before ++ e ∷ [])) same.0 stand)
-no_fault before entry more Spelling readable stand fails =
-    fails.unread entry readable (same_line fails.line fails.more entry more fails.form readable (sym fails.first))
-no_fault before entry more OutOfMemory readable stand fails = fails
+no_fault v before entry more Spelling readable stand fails =
+    fails.unread entry readable
+    (same_line v (ends_far before) fails.line fails.more entry more fails.form readable (sym fails.first))
+no_fault v before entry more OutOfMemory readable stand fails = fails
 
 form_not_end : (form : Form) (more : List ℕ) → end_text ≡ form_text form ++ 10 ∷ more → ⊥
 form_not_end (SystemForm words) more e =
+    let same : ◌≡◌ {A = ℕ} 101 115 = ap (λ (text : List ℕ). get_or text 0 0) e in
+    absurd (omega (arith, same))
+form_not_end (FarForm words) more e =
     let same : ◌≡◌ {A = ℕ} 101 115 = ap (λ (text : List ℕ). get_or text 0 0) e in
     absurd (omega (arith, same))
 form_not_end (PortForm words) more e =
@@ -128,39 +172,39 @@ form_not_end (PortForm words) more e =
     absurd (omega (arith, same))
 
 -- nor is the end
-no_end : (before : List Entry) (fault : CertificateFault) → RestFails before end_text fault → ⊥
-no_end before Head fails = fails
-no_end before Line fails = fails.goes_on refl
-no_end before Order fails = form_not_end (spelled fails.entry) fails.more fails.first
-no_end before Spelling fails =
+no_end : (v : ℕ) (before : List Entry) (fault : CertificateFault) → RestFails v before end_text fault → ⊥
+no_end v before Head fails = fails
+no_end v before Line fails = fails.goes_on refl
+no_end v before Order fails = form_not_end (spelled fails.entry) fails.more fails.first
+no_end v before Spelling fails =
     form_not_end fails.form.form fails.more (fails.first ∙ ap (λ l. l ++ 10 ∷ fails.more) fails.form.is)
-no_end before OutOfMemory fails = fails
+no_end v before OutOfMemory fails = fails
 
-same_fault : (before : List Entry) (rest : List ℕ) (f g : CertificateFault) → RestFails before rest f
-    → RestFails before rest g → f ≡ g
-same_fault before rest Head g a b = absurd a
-same_fault before rest OutOfMemory g a b = absurd a
-same_fault before rest Line Head a b = absurd b
-same_fault before rest Line Line a b = refl
-same_fault before rest Line Order a b =
-    absurd (a.formless (entry_text b.entry) b.more (has_form b.entry b.readable) b.first)
-same_fault before rest Line Spelling a b = absurd (a.formless b.line b.more b.form b.first)
-same_fault before rest Line OutOfMemory a b = absurd b
-same_fault before rest Order Head a b = absurd b
-same_fault before rest Order Line a b =
-    absurd (b.formless (entry_text a.entry) a.more (has_form a.entry a.readable) a.first)
-same_fault before rest Order Order a b = refl
-same_fault before rest Order Spelling a b =
+same_fault : (v : ℕ) (before : List Entry) (rest : List ℕ) (f g : CertificateFault) → RestFails v before rest f
+    → RestFails v before rest g → f ≡ g
+same_fault v before rest Head g a b = absurd a
+same_fault v before rest OutOfMemory g a b = absurd a
+same_fault v before rest Line Head a b = absurd b
+same_fault v before rest Line Line a b = refl
+same_fault v before rest Line Order a b =
+    absurd (a.formless (entry_text b.entry) b.more (has_form v (ends_far before) b.entry b.readable b.fits) b.first)
+same_fault v before rest Line Spelling a b = absurd (a.formless b.line b.more b.form b.first)
+same_fault v before rest Line OutOfMemory a b = absurd b
+same_fault v before rest Order Head a b = absurd b
+same_fault v before rest Order Line a b =
+    absurd (b.formless (entry_text a.entry) a.more (has_form v (ends_far before) a.entry a.readable a.fits) a.first)
+same_fault v before rest Order Order a b = refl
+same_fault v before rest Order Spelling a b =
     absurd (b.unread a.entry a.readable
-    (same_line b.line b.more a.entry a.more b.form a.readable (sym b.first ∙ a.first)))
-same_fault before rest Order OutOfMemory a b = absurd b
-same_fault before rest Spelling Head a b = absurd b
-same_fault before rest Spelling Line a b = absurd (b.formless a.line a.more a.form a.first)
-same_fault before rest Spelling Order a b =
+    (same_line v (ends_far before) b.line b.more a.entry a.more b.form a.readable (sym b.first ∙ a.first)))
+same_fault v before rest Order OutOfMemory a b = absurd b
+same_fault v before rest Spelling Head a b = absurd b
+same_fault v before rest Spelling Line a b = absurd (b.formless a.line a.more a.form a.first)
+same_fault v before rest Spelling Order a b =
     absurd (a.unread b.entry b.readable
-    (same_line a.line a.more b.entry b.more a.form b.readable (sym a.first ∙ b.first)))
-same_fault before rest Spelling Spelling a b = refl
-same_fault before rest Spelling OutOfMemory a b = absurd b
+    (same_line v (ends_far before) a.line a.more b.entry b.more a.form b.readable (sym a.first ∙ b.first)))
+same_fault v before rest Spelling Spelling a b = refl
+same_fault v before rest Spelling OutOfMemory a b = absurd b
 
 -- of two fronts of a text one goes on with the other's lines
 abbrev GoesOn : List Entry → List Entry → List ℕ → List ℕ → Type 0
@@ -178,23 +222,20 @@ either_more : (a b : Entry) (xs ys : List Entry) (x y : List ℕ) → a ≡ b �
 either_more a b xs ys x y same (inl goes) = inl (more_of a b xs ys x y same goes)
 either_more a b xs ys x y same (inr goes) = inr (more_of b a ys xs y x (sym same) goes)
 
-fronts : (xs ys : List Entry) (x y : List ℕ) → AllByRecursion IsReadableEntry xs → AllByRecursion IsReadableEntry ys
-    → entries_text xs ++ x ≡ entries_text ys ++ y → GoesOn xs ys x y ⊎ GoesOn ys xs y x
-fronts [] ys x y f g e = inl (ys, refl, e)
-fronts (a ∷ xs) [] x y f g e = inr (a ∷ xs, refl, sym e)
-fronts (a ∷ xs) (b ∷ ys) x y f g e =
-    let cut = first_entry a b (entries_text xs ++ x) (entries_text ys ++ y) f.0 g.0
+fronts : (v w : ℕ) (xs ys : List Entry) (x y : List ℕ) → AllByRecursion (IsReadableEntry v) xs
+    → AllByRecursion (IsReadableEntry w) ys → entries_text xs ++ x ≡ entries_text ys ++ y
+    → GoesOn xs ys x y ⊎ GoesOn ys xs y x
+fronts v w [] ys x y f g e = inl (ys, refl, e)
+fronts v w (a ∷ xs) [] x y f g e = inr (a ∷ xs, refl, sym e)
+fronts v w (a ∷ xs) (b ∷ ys) x y f g e =
+    let cut = first_entry v w a b (entries_text xs ++ x) (entries_text ys ++ y) f.0 g.0
     (sym (first_of a xs x) ∙ e ∙ first_of b ys y) in
-    either_more a b xs ys x y cut.0 (fronts xs ys x y f.1 g.1 cut.1)
+    either_more a b xs ys x y cut.0 (fronts v w xs ys x y f.1 g.1 cut.1)
 
-all_at : (xs : List Entry) (entry : Entry) (zs : List Entry) → AllByRecursion IsReadableEntry (xs ++ entry ∷ zs)
-    → IsReadableEntry entry
-all_at [] entry zs all = all.0
-all_at (x ∷ xs) entry zs all = all_at xs entry zs all.1
-
-all_behind : (xs ys : List Entry) → AllByRecursion IsReadableEntry (xs ++ ys) → AllByRecursion IsReadableEntry ys
-all_behind [] ys all = all
-all_behind (x ∷ xs) ys all = all_behind xs ys all.1
+all_at : (v : ℕ) (xs : List Entry) (entry : Entry) (zs : List Entry)
+    → AllByRecursion (IsReadableEntry v) (xs ++ entry ∷ zs) → IsReadableEntry v entry
+all_at v [] entry zs all = all.0
+all_at v (x ∷ xs) entry zs all = all_at v xs entry zs all.1
 
 each_front : (first : Entry) (xs : List Entry) (entry : Entry) (zs : List Entry) → FollowEach first (xs ++ entry ∷ zs)
     → FollowEach first (xs ++ entry ∷ [])
@@ -203,114 +244,166 @@ each_front first (x ∷ xs) entry zs each = (each.0, each_front x xs entry zs ea
 
 stand_front : (xs : List Entry) (entry : Entry) (zs : List Entry) → StandInOrder (xs ++ entry ∷ zs)
     → StandInOrder (xs ++ entry ∷ [])
-stand_front [] (SystemEntry c r s p) zs stand = tt
+stand_front [] (SystemEntry c r s far p) zs stand = tt
 stand_front [] (PortEntry c p) zs stand = absurd stand
-stand_front (SystemEntry c r s p ∷ xs) entry zs stand = each_front (SystemEntry c r s p) xs entry zs stand
+stand_front (SystemEntry c r s far p ∷ xs) entry zs stand = each_front (SystemEntry c r s far p) xs entry zs stand
 stand_front (PortEntry c p ∷ xs) entry zs stand = absurd stand
 
 -- where lines in order go on, there is no fault
-at_fault : (xs ys zs : List Entry) (x y : List ℕ) (fault : CertificateFault) → AllByRecursion IsReadableEntry ys
-    → StandInOrder ys
-    → ys ≡ xs ++ zs → x ≡ entries_text zs ++ y → RestFails xs x fault → (xs ≡ ys) × (x ≡ y)
-at_fault xs ys [] x y fault readable stand goes rest fails = (sym (goes ∙ append-nil xs), rest)
-at_fault xs ys (entry ∷ zs) x y fault readable stand goes rest fails =
-    absurd (no_fault xs entry (entries_text zs ++ y) fault
-    (all_at xs entry zs (subst (AllByRecursion IsReadableEntry) goes readable))
+at_fault : (v : ℕ) (xs ys zs : List Entry) (x y : List ℕ) (fault : CertificateFault)
+    → AllByRecursion (IsReadableEntry v) ys → StandInOrder ys
+    → ys ≡ xs ++ zs → x ≡ entries_text zs ++ y → RestFails v xs x fault → (xs ≡ ys) × (x ≡ y)
+at_fault v xs ys [] x y fault readable stand goes rest fails = (sym (goes ∙ append-nil xs), rest)
+at_fault v xs ys (entry ∷ zs) x y fault readable stand goes rest fails =
+    absurd (no_fault v xs entry (entries_text zs ++ y) fault
+    (all_at v xs entry zs (subst (AllByRecursion (IsReadableEntry v)) goes readable))
     (stand_front xs entry zs (subst StandInOrder goes stand))
-    (subst (λ r. RestFails xs r fault) (rest ∙ first_of entry zs y) fails))
+    (subst (λ r. RestFails v xs r fault) (rest ∙ first_of entry zs y) fails))
 
 not_end : (zs : List Entry) (y : List ℕ) (P : Type 0) → end_text ≡ entries_text zs ++ y → (end_text ≡ y → P) → P
 not_end [] y P e f = f e
 not_end (entry ∷ zs) y P e f = absurd (form_not_end (spelled entry) (entries_text zs ++ y) (e ∙ first_of entry zs y))
 
--- what stands behind the head line
-behind_head : (xs ys : List Entry) (x y : List ℕ) → front_text xs ++ x ≡ front_text ys ++ y
-    → entries_text xs ++ x ≡ entries_text ys ++ y
-behind_head xs ys x y e = append_cancel_left (head_text ++ 10 ∷ []) (entries_text xs ++ x) (entries_text ys ++ y) e
+-- the head line stands first
+head_first : (v : ℕ) (xs : List Entry) (x : List ℕ) → front_text v xs ++ x ≡ head_text v ++ 10 ∷ (entries_text xs ++ x)
+head_first v xs x = simp append_assoc refl
+
+small_version : (v : ℕ) → IsVersion v → v < 10
+small_version v (inl e) = omega arith
+small_version v (inr e) = omega arith
+
+-- a head line is one version's, with what stands behind it
+behind_head : (v w : ℕ) (xs ys : List Entry) (x y : List ℕ) → IsVersion v → IsVersion w
+    → front_text v xs ++ x ≡ front_text w ys ++ y → (v ≡ w) × (entries_text xs ++ x ≡ entries_text ys ++ y)
+behind_head v w xs ys x y is_v is_w e =
+    let small_v = small_version v is_v in
+    let small_w = small_version w is_w in
+    let cut = one_cut 10 (head_text v) (head_text w) (entries_text xs ++ x) (entries_text ys ++ y)
+    (head_lacks_feed v small_v) (head_lacks_feed w small_w) (sym (head_first v xs x) ∙ e ∙ head_first w ys y) in
+    let digits : decimal v ≡ decimal w =
+    append_cancel_left (codes "gptp-certificate ") (decimal v) (decimal w) cut.0 in
+    (decimal_injective v w (omega arith) (omega arith) digits, cut.1)
+
+-- a text is of one version
+pub one_version : (v w : ℕ) (xs ys : List SystemLine) → IsVersion v → IsVersion w
+    → certificate_text v xs ≡ certificate_text w ys → v ≡ w
+one_version v w xs ys is_v is_w e =
+    (behind_head v w (entries_of xs) (entries_of ys) end_text end_text is_v is_w e).0
+
+near_if_ports : (far : Bool) (port : PortLine) (ports : List PortLine) → (far ≡ true → port ∷ ports ≡ [])
+    → far ≡ false
+near_if_ports false port ports bare = refl
+near_if_ports true port ports bare = absurd (let none = bare refl in cc)
 
 ports_follow : (first : Entry) (clock : ℕ) (ports : List PortLine) (more : List Entry) → clock_of first ≡ clock
+    → (is_far first ≡ true → ports ≡ [])
     → ((number : ℕ) → In number (map (λ (p : PortLine). p.number) ports) → number_of first < number)
     → IsRising (map (λ (p : PortLine). p.number) ports)
     → ((last : Entry) → clock_of last ≡ clock → FollowEach last more)
     → FollowEach first (map (PortEntry clock) ports ++ more)
-ports_follow first clock [] more is above rising behind = behind first is
-ports_follow first clock (port ∷ ports) more is above rising behind = (
-  (is, above port.number (inl refl)),
-  ports_follow (PortEntry clock port) clock ports more refl rising.0 rising.1
+ports_follow first clock [] more is bare above rising behind = behind first is
+ports_follow first clock (port ∷ ports) more is bare above rising behind = (
+  (is, above port.number (inl refl), near_if_ports (is_far first) port ports bare),
+  ports_follow (PortEntry clock port) clock ports more refl (λ far. absurd cc) rising.0 rising.1
       behind,
 )
 
-ports_positive : (clock : ℕ) (ports : List PortLine) (more : List Entry)
-    → AllByRecursion IsReadableEntry (map (PortEntry clock) ports ++ more)
+ports_positive : (version clock : ℕ) (ports : List PortLine) (more : List Entry)
+    → AllByRecursion (IsReadableEntry version) (map (PortEntry clock) ports ++ more)
     → (number : ℕ) → In number (map (λ (p : PortLine). p.number) ports) → 0 < number
-ports_positive clock [] more all number i = absurd i
-ports_positive clock (port ∷ ports) more all number (inl e) = let least = all.0.1.least in omega arith
-ports_positive clock (port ∷ ports) more all number (inr i) = ports_positive clock ports more all.1 number i
+ports_positive version clock [] more all number i = absurd i
+ports_positive version clock (port ∷ ports) more all number (inl e) = let least = all.0.1.least in omega arith
+ports_positive version clock (port ∷ ports) more all number (inr i) =
+    ports_positive version clock ports more all.1 number i
 
-rest_in_order : (line : SystemLine) (lines : List SystemLine) → AreInOrder (line ∷ lines) → AreInOrder lines
-rest_in_order line lines order = record { clocks = order.clocks.1; ports = λ l i. order.ports l (inr i) }
+rest_in_order : (v : ℕ) (line : SystemLine) (lines : List SystemLine) → IsCertificate v (line ∷ lines)
+    → IsCertificate v lines
+rest_in_order v line lines is = record {
+  is_version = is.is_version;
+  order = record { clocks = is.order.clocks.1; ports = λ l i. is.order.ports l (inr i) };
+  bare = λ l i. is.bare l (inr i);
+  second = λ l i. is.second l (inr i);
+}
 
-lines_follow : (lines : List SystemLine) (first : Entry)
+lines_follow : (v : ℕ) (lines : List SystemLine) (first : Entry)
     → ((clock : ℕ) → In clock (line_clocks lines) → clock_of first < clock)
-    → AreInOrder lines → AllByRecursion IsReadableEntry (entries_of lines) → FollowEach first (entries_of lines)
-lines_follow [] first above order readable = tt
-lines_follow (line ∷ lines) first above order readable = (
+    → IsCertificate v lines → IsReadable v lines → FollowEach first (entries_of lines)
+lines_follow v [] first above order readable = tt
+lines_follow v (line ∷ lines) first above order readable = (
   above line.clock (inl refl),
   ports_follow (system_entry line) line.clock line.ports (entries_of lines) refl
-      (ports_positive line.clock line.ports (entries_of lines) readable.1) (order.ports line (inl refl))
-      (λ last is. lines_follow lines last (λ clock i. subst (λ c. c < clock) (sym is) (order.clocks.0 clock i))
-      (rest_in_order line lines order)
-      (all_behind (map (PortEntry line.clock) line.ports) (entries_of lines) readable.1)),
+      (λ far. (order.bare line (inl refl) far).ports)
+      (ports_positive v line.clock line.ports (entries_of lines) readable.1) (order.order.ports line (inl refl))
+      (λ last is. lines_follow v lines last
+      (λ clock i. subst (λ c. c < clock) (sym is) (order.order.clocks.0 clock i)) (rest_in_order v line lines order)
+      (all_behind v (map (PortEntry line.clock) line.ports) (entries_of lines) readable.1)),
 )
 
 -- the lines of a certificate that can be read stand in order
-lines_stand : (lines : List SystemLine) → AreInOrder lines → AllByRecursion IsReadableEntry (entries_of lines)
+lines_stand : (v : ℕ) (lines : List SystemLine) → IsCertificate v lines → IsReadable v lines
     → StandInOrder (entries_of lines)
-lines_stand [] order readable = tt
-lines_stand (line ∷ lines) order readable =
+lines_stand v [] order readable = tt
+lines_stand v (line ∷ lines) order readable =
     ports_follow (system_entry line) line.clock line.ports (entries_of lines) refl
-    (ports_positive line.clock line.ports (entries_of lines) readable.1) (order.ports line (inl refl))
-    (λ last is. lines_follow lines last (λ clock i. subst (λ c. c < clock) (sym is) (order.clocks.0 clock i))
-    (rest_in_order line lines order) (all_behind (map (PortEntry line.clock) line.ports) (entries_of lines) readable.1))
+    (λ far. (order.bare line (inl refl) far).ports)
+    (ports_positive v line.clock line.ports (entries_of lines) readable.1) (order.order.ports line (inl refl))
+    (λ last is. lines_follow v lines last
+    (λ clock i. subst (λ c. c < clock) (sym is) (order.order.clocks.0 clock i)) (rest_in_order v line lines order)
+    (all_behind v (map (PortEntry line.clock) line.ports) (entries_of lines) readable.1))
 
 no_certificate_of : (text : List ℕ) (fault : CertificateFault) (b : FailsBehind text fault) (ys : List Entry)
-    → StandInOrder ys → AllByRecursion IsReadableEntry ys
+    → StandInOrder ys → AllByRecursion (IsReadableEntry b.version) ys
     → GoesOn b.before ys b.rest end_text ⊎ GoesOn ys b.before end_text b.rest → ⊥
 no_certificate_of text fault b ys stand readable (inl goes) =
-    let same = at_fault b.before ys goes.0 b.rest end_text fault readable stand goes.1 goes.2 b.fails in
-    no_end b.before fault (subst (λ r. RestFails b.before r fault) same.1 b.fails)
+    let same = at_fault b.version b.before ys goes.0 b.rest end_text fault readable stand goes.1 goes.2 b.fails in
+    no_end b.version b.before fault (subst (λ r. RestFails b.version b.before r fault) same.1 b.fails)
 no_certificate_of text fault b ys stand readable (inr goes) =
     not_end goes.0 b.rest ⊥ goes.2
-    (λ e. no_end b.before fault (subst (λ r. RestFails b.before r fault) (sym e) b.fails))
+    (λ e. no_end b.version b.before fault (subst (λ r. RestFails b.version b.before r fault) (sym e) b.fails))
 
-pub no_certificate : (text : List ℕ) (fault : CertificateFault) (lines : List SystemLine) → Fails text fault
-    → AreInOrder lines
-    → IsReadable lines → text ≢ certificate_text lines
-no_certificate text fault lines (inl (e, lacks)) order readable is =
-    lacks (entries_text (entries_of lines) ++ end_text) is
-no_certificate text fault lines (inr b) order readable is =
-    no_certificate_of text fault b (entries_of lines) (lines_stand lines order readable.entries) readable.entries
-    (fronts b.before (entries_of lines) b.rest end_text b.stand.readable readable.entries
-    (behind_head b.before (entries_of lines) b.rest end_text (sym b.stand.split ∙ is)))
+pub no_certificate : (text : List ℕ) (fault : CertificateFault) (version : ℕ) (lines : List SystemLine)
+    → Fails text fault → IsCertificate version lines → IsReadable version lines → text ≢ certificate_text version lines
+no_certificate text fault version lines (inl (e, lacks)) order readable is =
+    lacks version (entries_text (entries_of lines) ++ end_text) order.is_version
+    (is ∙ head_first version (entries_of lines) end_text)
+no_certificate text fault version lines (inr b) order readable is =
+    let behind = behind_head b.version version b.before (entries_of lines) b.rest end_text b.is_version
+    order.is_version (sym b.stand.split ∙ is) in
+    let readable_there : IsReadable b.version lines = subst (λ v. IsReadable v lines) (sym behind.0) readable in
+    no_certificate_of text fault b (entries_of lines) (lines_stand version lines order readable) readable_there
+    (fronts b.version version b.before (entries_of lines) b.rest end_text b.stand.readable readable behind.1)
 
-one_fault_of : (text : List ℕ) (f g : CertificateFault) (a : FailsBehind text f) (b : FailsBehind text g)
-    → GoesOn a.before b.before a.rest b.rest ⊎ GoesOn b.before a.before b.rest a.rest → f ≡ g
-one_fault_of text f g a b (inl goes) =
-    let same = at_fault a.before b.before goes.0 a.rest b.rest f b.stand.readable b.stand.order goes.1 goes.2 a.fails in
-    same_fault b.before b.rest f g
-    (subst (λ r. RestFails b.before r f) same.1 (subst (λ es. RestFails es a.rest f) same.0 a.fails)) b.fails
-one_fault_of text f g a b (inr goes) =
-    let same = at_fault b.before a.before goes.0 b.rest a.rest g a.stand.readable a.stand.order goes.1 goes.2 b.fails in
-    same_fault a.before a.rest f g a.fails
-    (subst (λ r. RestFails a.before r g) same.1 (subst (λ es. RestFails es b.rest g) same.0 b.fails))
+-- two faults behind lines of one version, of which the ones go on with the others
+one_fault_of : (v : ℕ) (f g : CertificateFault) (xs ys : List Entry) (x y : List ℕ)
+    → AllByRecursion (IsReadableEntry v) ys → StandInOrder ys → RestFails v xs x f → RestFails v ys y g
+    → GoesOn xs ys x y → f ≡ g
+one_fault_of v f g xs ys x y readable order first second goes =
+    let same = at_fault v xs ys goes.0 x y f readable order goes.1 goes.2 first in
+    same_fault v ys y f g
+    (subst (λ r. RestFails v ys r f) same.1 (subst (λ es. RestFails v es x f) same.0 first)) second
+
+one_fault_behind : (text : List ℕ) (f g : CertificateFault) (a : FailsBehind text f) (b : FailsBehind text g)
+    → a.version ≡ b.version → GoesOn a.before b.before a.rest b.rest ⊎ GoesOn b.before a.before b.rest a.rest → f ≡ g
+one_fault_behind text f g a b same (inl goes) =
+    one_fault_of b.version f g a.before b.before a.rest b.rest b.stand.readable b.stand.order
+    (subst (λ v. RestFails v a.before a.rest f) same a.fails) b.fails goes
+one_fault_behind text f g a b same (inr goes) =
+    sym (one_fault_of a.version g f b.before a.before b.rest a.rest a.stand.readable a.stand.order
+    (subst (λ v. RestFails v b.before b.rest g) (sym same) b.fails) a.fails goes)
 
 pub one_fault : (text : List ℕ) (f g : CertificateFault) → Fails text f → Fails text g → f ≡ g
 one_fault text f g (inl (d, lacks)) (inl (e, also)) = d ∙ sym e
-one_fault text f g (inl (d, lacks)) (inr b) = absurd (lacks (entries_text b.before ++ b.rest) b.stand.split)
-one_fault text f g (inr a) (inl (e, lacks)) = absurd (lacks (entries_text a.before ++ a.rest) a.stand.split)
+one_fault text f g (inl (d, lacks)) (inr b) =
+    absurd (lacks b.version (entries_text b.before ++ b.rest) b.is_version
+    (b.stand.split ∙ head_first b.version b.before b.rest))
+one_fault text f g (inr a) (inl (e, lacks)) =
+    absurd (lacks a.version (entries_text a.before ++ a.rest) a.is_version
+    (a.stand.split ∙ head_first a.version a.before a.rest))
 one_fault text f g (inr a) (inr b) =
-    one_fault_of text f g a b (fronts a.before b.before a.rest b.rest a.stand.readable b.stand.readable
-    (behind_head a.before b.before a.rest b.rest (sym a.stand.split ∙ b.stand.split)))
+    let behind = behind_head a.version b.version a.before b.before a.rest b.rest a.is_version b.is_version
+    (sym a.stand.split ∙ b.stand.split) in
+    one_fault_behind text f g a b behind.0 (fronts a.version b.version a.before b.before a.rest b.rest a.stand.readable
+    b.stand.readable behind.1)
 
 same_ports : (c d : ℕ) (ps qs : List PortLine) (xs ys : List SystemLine)
     → map (PortEntry c) ps ++ entries_of xs ≡ map (PortEntry d) qs ++ entries_of ys → (ps ≡ qs)
@@ -330,11 +423,12 @@ abbrev system_line : ℕ → ℕ → ℕ → Bool → Option ParentLink → List
 system_line clock root steps far parent ports =
     record { clock = clock; root = root; steps = steps; far = far; parent = parent; ports = ports }
 
-same_system : (a b : SystemLine) → system_entry a ≡ system_entry b → a.ports ≡ b.ports → a.far ≡ b.far → a ≡ b
-same_system a b e ports far =
+same_system : (a b : SystemLine) → system_entry a ≡ system_entry b → a.ports ≡ b.ports → a ≡ b
+same_system a b e ports =
     let clock : a.clock ≡ b.clock = cc in
     let root : a.root ≡ b.root = cc in
     let steps : a.steps ≡ b.steps = cc in
+    let far : a.far ≡ b.far = cc in
     let parent : a.parent ≡ b.parent = cc in
     ap (λ (x : ℕ). system_line x a.root a.steps a.far a.parent a.ports) clock
     ∙ ap (λ (x : ℕ). system_line b.clock x a.steps a.far a.parent a.ports) root
@@ -343,19 +437,16 @@ same_system a b e ports far =
     ∙ ap (λ (x : Option ParentLink). system_line b.clock b.root b.steps b.far x a.ports) parent
     ∙ ap (λ (x : List PortLine). system_line b.clock b.root b.steps b.far b.parent x) ports
 
-same_lines : (xs ys : List SystemLine) → ((x : SystemLine) → In x xs → x.far ≡ false)
-    → ((y : SystemLine) → In y ys → y.far ≡ false) → entries_of xs ≡ entries_of ys → xs ≡ ys
-same_lines [] [] f g e = refl
-same_lines [] (y ∷ ys) f g e = absurd cc
-same_lines (x ∷ xs) [] f g e = absurd cc
-same_lines (x ∷ xs) (y ∷ ys) f g e =
+same_lines : (xs ys : List SystemLine) → entries_of xs ≡ entries_of ys → xs ≡ ys
+same_lines [] [] e = refl
+same_lines [] (y ∷ ys) e = absurd cc
+same_lines (x ∷ xs) [] e = absurd cc
+same_lines (x ∷ xs) (y ∷ ys) e =
     let first : system_entry x ≡ system_entry y = cc in
     let others : map (PortEntry x.clock) x.ports ++ entries_of xs
     ≡ map (PortEntry y.clock) y.ports ++ entries_of ys = cc in
     let rest = same_ports x.clock y.clock x.ports y.ports xs ys others in
-    let far = f x (inl refl) ∙ sym (g y (inl refl)) in
-    ap (λ l. l ∷ xs) (same_system x y first rest.0 far)
-    ∙ ap (λ ls. y ∷ ls) (same_lines xs ys (λ l i. f l (inr i)) (λ l i. g l (inr i)) rest.1)
+    ap (λ l. l ∷ xs) (same_system x y first rest.0) ∙ ap (λ ls. y ∷ ls) (same_lines xs ys rest.1)
 
 whole : (xs ys zs : List Entry) → ys ≡ xs ++ zs → end_text ≡ entries_text zs ++ end_text → xs ≡ ys
 whole xs ys [] goes rest = sym (goes ∙ append-nil xs)
@@ -366,10 +457,11 @@ whole_either : (xs ys : List Entry) → GoesOn xs ys end_text end_text ⊎ GoesO
 whole_either xs ys (inl goes) = whole xs ys goes.0 goes.1 goes.2
 whole_either xs ys (inr goes) = sym (whole ys xs goes.0 goes.1 goes.2)
 
-pub one_certificate : (one other : List SystemLine) → IsReadable one → IsReadable other
-    → certificate_text one ≡ certificate_text other
-    → one ≡ other
-one_certificate one other f g e =
-    same_lines one other f.near g.near (whole_either (entries_of one) (entries_of other)
-    (fronts (entries_of one) (entries_of other) end_text end_text f.entries g.entries
-    (behind_head (entries_of one) (entries_of other) end_text end_text e)))
+pub one_certificate : (v w : ℕ) (one other : List SystemLine) → IsVersion v → IsVersion w → IsReadable v one
+    → IsReadable w other → certificate_text v one ≡ certificate_text w other → (v ≡ w) × (one ≡ other)
+one_certificate v w one other is_v is_w f g e =
+    let behind = behind_head v w (entries_of one) (entries_of other) end_text end_text is_v is_w e in (
+      behind.0,
+      same_lines one other (whole_either (entries_of one) (entries_of other)
+          (fronts v w (entries_of one) (entries_of other) end_text end_text f g behind.1)),
+    )

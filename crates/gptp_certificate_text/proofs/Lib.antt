@@ -1,5 +1,7 @@
 pub mod TextLemmas
 pub mod PrintedLemmas
+pub mod LengthLemmas
+pub mod LineTextLemmas
 pub mod WordLemmas
 pub mod FormLemmas
 pub mod SpellingLemmas

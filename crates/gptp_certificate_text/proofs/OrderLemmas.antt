@@ -1,7 +1,8 @@
 -- The order of lines: it is that of the last line with the next, and makes clocks and port numbers rise.
 use Rattle.std.proofs.lemmas.Bool.Decides.{nat_tests}
-use Rattle.std.proofs.Common.{◌≡◌, ℕ, zero, suc, ◌<◌, ◌-◌, nat_lt, true, length, take, get_or, set, List, [], ◌∷◌, ◌++◌, map, inl, inr, refl, sym, ap, subst, ◌∙◌, append_assoc, append-nil, arith}
-use Rattle.std.specs.Prelude.{◌⊎◌, Option, Result, Ok, Err, IfErr, OnOk}
+use Rattle.std.proofs.Common.{◌≡◌, ℕ, zero, suc, ◌<◌, ◌-◌, nat_eq, nat_lt, true, length, take, get_or, set, List, [], ◌∷◌, ◌++◌, map, inl, inr, refl, sym, ap, subst, ◌∙◌, append_assoc, append-nil, arith}
+use Rattle.std.specs.Prelude.{◌⊎◌, Bool, false, Option, None, Result, Ok, Err, IfErr, OnOk}
+use Rattle.std.specs.List.{AllByRecursion}
 use Rattle.std.proofs.lemmas.List.{map-append}
 use Rattle.std.proofs.lemmas.Grind.{flat_map-append}
 use Rattle.gptp_graph.specs.Labelling.{PortLine, SystemLine, line_clocks, port_numbers}
@@ -10,8 +11,8 @@ use Rattle.gptp_graph.specs.Order.{IsRising}
 use Rattle.gptp_graph.specs.Parent.{ParentLink}
 use Rattle.gptp_roles.specs.declared.role.Role.{Role}
 use Rattle.gptp_certificate_text.specs.declared.certificate.SystemLine as declared
-use Rattle.gptp_certificate_text.specs.Certificate.{AreInOrder, line_of, lines_of, port_line_of}
-use Rattle.gptp_certificate_text.specs.Entries.{Entry, SystemEntry, PortEntry, FollowEach, Follows, StandInOrder, clock_of, entries_of, entries_of_line, number_of, system_entry}
+use Rattle.gptp_certificate_text.specs.Certificate.{AreInOrder, IsCertificate, IsVersion, line_of, lines_of, port_line_of}
+use Rattle.gptp_certificate_text.specs.Entries.{Entry, SystemEntry, PortEntry, FollowEach, Follows, IsReadable, IsReadableChoice, IsReadableEntry, StandInOrder, clock_of, ends_far, entries_of, entries_of_line, is_far, number_of, system_entry}
 use Rattle.gptp_certificate_text.specs.Lines.{Appends, last_entry, last_of}
 
 each_then : (first : Entry) (rest : List Entry) (entry : Entry) → FollowEach first rest
@@ -121,11 +122,30 @@ last_port line front port split =
     number_of (last_of (system_entry (line_of line)) (map (PortEntry line.clock) (map port_line_of ports)))) split
     ∙ number_last (system_entry (line_of line)) line.clock front port)
 
+-- a far line has no ports
+abbrev IsBareIfFar : SystemLine → Type 0
+IsBareIfFar line = line.far ≡ true → line.ports ≡ []
+
+abbrev AreBare : List SystemLine → Type 0
+AreBare lines = (line : SystemLine) → In line lines → IsBareIfFar line
+
+-- the part of a list that is behind another
+pub all_behind : (version : ℕ) (xs ys : List Entry) → AllByRecursion (IsReadableEntry version) (xs ++ ys)
+    → AllByRecursion (IsReadableEntry version) ys
+all_behind version [] ys all = all
+all_behind version (x ∷ xs) ys all = all_behind version xs ys all.1
+
 -- what holds of the first and of the others
 of_each : {X : Type 0} (P : X → Type 0) (x : X) (xs : List X) → P x → ((y : X) → In y xs → P y) → (y : X)
     → In y (x ∷ xs) → P y
 of_each P x xs here there y (inl e) = subst P (sym e) here
 of_each P x xs here there y (inr i) = there y i
+
+-- behind a far system's line stands no port line
+ports_bare : (first : Entry) (clock : ℕ) (ports : List PortLine) (more : List Entry)
+    → FollowEach first (map (PortEntry clock) ports ++ more) → is_far first ≡ true → ports ≡ []
+ports_bare first clock [] more each far = refl
+ports_bare first clock (port ∷ ports) more each far = absurd (let near = each.0.2 in cc)
 
 -- ports in order rise, and what follows them follows the last
 ports_rise : (first : Entry) (clock : ℕ) (ports : List PortLine) (more : List Entry)
@@ -146,6 +166,7 @@ ports_rise first clock (port ∷ ports) more each =
 rises_from : (line : SystemLine) (lines : List SystemLine)
     → FollowEach (system_entry line) (map (PortEntry line.clock) line.ports ++ entries_of lines)
     → AreInOrder (line ∷ lines) × ((clock : ℕ) → In clock (line_clocks lines) → line.clock < clock)
+    × AreBare (line ∷ lines)
 rises_from line [] each =
     let ports = ports_rise (system_entry line) line.clock line.ports [] each in (
       record {
@@ -153,6 +174,7 @@ rises_from line [] each =
         ports = of_each (λ l. IsRising (port_numbers l)) line [] ports.0 (λ l i. absurd i);
       },
       λ clock i. absurd i,
+      of_each IsBareIfFar line [] (ports_bare (system_entry line) line.clock line.ports [] each) (λ l i. absurd i),
     )
 rises_from line (next ∷ lines) each =
     let ports = ports_rise (system_entry line) line.clock line.ports (entries_of (next ∷ lines)) each in
@@ -165,6 +187,8 @@ rises_from line (next ∷ lines) each =
         ports = of_each (λ l. IsRising (port_numbers l)) line (next ∷ lines) ports.0 rest.0.ports;
       },
       above,
+      of_each IsBareIfFar line (next ∷ lines)
+          (ports_bare (system_entry line) line.clock line.ports (entries_of (next ∷ lines)) each) rest.2,
     )
 
 -- lines in order are a certificate's
@@ -172,15 +196,53 @@ pub in_order : (lines : List SystemLine) → StandInOrder (entries_of lines) →
 in_order [] stand = record { clocks = tt; ports = λ line i. absurd i }
 in_order (line ∷ lines) stand = (rises_from line lines stand).0
 
+bare_in_order : (lines : List SystemLine) → StandInOrder (entries_of lines) → AreBare lines
+bare_in_order [] stand = λ line i. absurd i
+bare_in_order (line ∷ lines) stand = (rises_from line lines stand).2
+
+-- each line's own entry is readable where all are
+readable_line : (version : ℕ) (lines : List SystemLine) (line : SystemLine) → IsReadable version lines
+    → In line lines → IsReadableEntry version (system_entry line)
+readable_line version (first ∷ lines) line all (inl e) =
+    subst (λ l. IsReadableEntry version (system_entry l)) (sym e) all.0
+readable_line version (first ∷ lines) line all (inr i) =
+    readable_line version lines line
+    (all_behind version (map (PortEntry first.clock) first.ports) (entries_of lines) all.1) i
+readable_line version [] line all i = absurd i
+
+-- a far line's parent and version
+far_choice : (version : ℕ) (far : Bool) (parent : Option ParentLink) → IsReadableChoice version far parent
+    → far ≡ true → (parent ≡ None) × (version ≡ 2)
+far_choice version true parent choice far = choice
+far_choice version false parent choice far = absurd cc
+
+-- lines that are read are a certificate's
+pub is_certificate : (version : ℕ) (lines : List SystemLine) → IsVersion version → IsReadable version lines
+    → StandInOrder (entries_of lines) → IsCertificate version lines
+is_certificate version lines is readable stand = record {
+  is_version = is;
+  order = in_order lines stand;
+  bare = λ line member far. record {
+    parent = (choice line member far).0;
+    ports = bare_in_order lines stand line member far;
+  };
+  second = λ line member far. (choice line member far).1;
+}
+  where
+    choice : (line : SystemLine) → In line lines → line.far ≡ true → (line.parent ≡ None) × (version ≡ 2)
+    choice line member far =
+        far_choice version line.far line.parent (readable_line version lines line readable member).3 far
+
 -- the entries of a line with a port more
-pub port_added : (clock root steps : ℕ) (parent : Option ParentLink) (ports after : List (ℕ × Role)) (port : ℕ × Role)
+pub port_added : (clock root steps : ℕ) (far : Bool) (parent : Option ParentLink)
+    (ports after : List (ℕ × Role)) (port : ℕ × Role)
     (other : ℕ)
     → after ≡ ports ++ port ∷ [] → clock ≡ other
-    → SystemEntry clock root steps parent ∷ map (PortEntry clock) (map port_line_of after)
-    ≡ (SystemEntry clock root steps parent ∷ map (PortEntry clock) (map port_line_of ports))
+    → SystemEntry clock root steps far parent ∷ map (PortEntry clock) (map port_line_of after)
+    ≡ (SystemEntry clock root steps far parent ∷ map (PortEntry clock) (map port_line_of ports))
     ++ PortEntry other (port_line_of port) ∷ []
-port_added clock root steps parent ports after port other split same =
-    let first = SystemEntry clock root steps parent in
+port_added clock root steps far parent ports after port other split same =
+    let first = SystemEntry clock root steps far parent in
     ap (λ items. first ∷ map (PortEntry clock) (map port_line_of items)) split
     ∙ ap (λ lines. first ∷ map (PortEntry clock) lines) (map-append port_line_of ports (port ∷ []))
     ∙ ap (λ entries. first ∷ entries) (map-append (PortEntry clock) (map port_line_of ports) (port_line_of port ∷ []))
@@ -236,3 +298,47 @@ port_follows lines last entry some is stand =
 pub not_after : (A B F S : Type 0) → A ⊎ (B × (F → ⊥)) → (S → F) → A ⊎ (B × (S → ⊥))
 not_after A B F S (inl a) f = inl a
 not_after A B F S (inr (b, no_f)) f = inr (b, λ s. no_f (f s))
+
+-- the last of all lines is that of the last system
+ends_of : (front : List Entry) (first : Entry) (rest : List Entry)
+    → ends_far (front ++ first ∷ rest) ≡ is_far (last_of first rest)
+ends_of [] first [] = refl
+ends_of [] first (next ∷ rest) = ends_of [] next rest
+ends_of (x ∷ []) first rest = ends_of [] first rest
+ends_of (x ∷ (y ∷ front)) first rest = ends_of (y ∷ front) first rest
+
+pub ends_last : (front : List SystemLine) (last : SystemLine)
+    → ends_far (entries_of (front ++ last ∷ [])) ≡ is_far (last_entry last)
+ends_last front last =
+    ap ends_far (entries_split front last)
+    ∙ ends_of (entries_of front) (system_entry last) (map (PortEntry last.clock) last.ports)
+
+-- a line with ports doesn't end with a far system's
+pub not_far_behind : (first : Entry) (clock : ℕ) (port : PortLine) (ports : List PortLine)
+    → is_far (last_of first (map (PortEntry clock) (port ∷ ports))) ≡ false
+not_far_behind first clock port [] = refl
+not_far_behind first clock port (next ∷ ports) = not_far_behind (PortEntry clock port) clock next ports
+
+pub lines_end : (lines front : List declared.SystemLine) (last : declared.SystemLine) → lines ≡ front ++ last ∷ []
+    → ends_far (entries_of (lines_of lines)) ≡ is_far (last_entry (line_of last))
+lines_end lines front last split =
+    ap (λ ls. ends_far (entries_of ls)) (lines_split lines front last split) ∙ ends_last (lines_of front) (line_of last)
+
+pub near_last : (lines : List declared.SystemLine) (last : declared.SystemLine) → true ≡ nat_lt 0 (length lines)
+    → last ≡ get_or lines (length lines - 1) last → ends_far (entries_of (lines_of lines)) ≡ false
+    → is_far (last_entry (line_of last)) ≡ false
+near_last lines last some is near =
+    sym (lines_end lines (take (length lines - 1) lines) last (last_split lines last last some is).0) ∙ near
+
+-- whether a system's last line is a far system's
+pub ends_near : (first : Entry) (clock : ℕ) (items : List (ℕ × Role)) → is_far first ≡ false
+    → is_far (last_of first (map (PortEntry clock) (map port_line_of items))) ≡ false
+ends_near first clock [] near = near
+ends_near first clock (item ∷ items) near = not_far_behind first clock (port_line_of item) (map port_line_of items)
+
+pub ends_with : (first : Entry) (clock : ℕ) (items : List (ℕ × Role)) → is_far first ≡ true
+    → nat_eq (length items) 0 ≡ is_far (last_of first (map (PortEntry clock) (map port_line_of items)))
+ends_with first clock [] far = sym far
+ends_with first clock (item ∷ items) far =
+    let none : nat_eq (length (item ∷ items)) 0 ≡ false = grind (arith, nat_tests) in
+    none ∙ sym (not_far_behind first clock (port_line_of item) (map port_line_of items))

@@ -14,6 +14,10 @@ pub if_none_weaker : {X : Type 0} {P Q : Type 0} (o : Option X) → (P → Q) �
 if_none_weaker None f p = f p
 if_none_weaker (Some x) f p = p
 
+pub if_some_weaker : {X : Type 0} {P Q : X → Type 0} (o : Option X) → ((x : X) → P x → Q x) → IfSome o P → IfSome o Q
+if_some_weaker None f p = p
+if_some_weaker (Some x) f p = f x p
+
 -- how many octets stand before the first of this value
 abbrev before : ℕ → List ℕ → ℕ
 before s text = position_or_len (λ other. other == s) text

@@ -1,7 +1,7 @@
 -- Certificates as gptp_graph has them (profile).
-use Rattle.std.specs.Prelude.{ℕ, false, List, map}
+use Rattle.std.specs.Prelude.{◌≡◌, ◌⊎◌, ℕ, true, List, map}
 use Rattle.std.specs.Option.{option_map}
-use Rattle.gptp_graph.specs.Labelling.{PortLine, line_clocks, port_numbers}
+use Rattle.gptp_graph.specs.Labelling.{PortLine, IsBare, line_clocks, port_numbers}
 use Rattle.gptp_graph.specs.Labelling as graphs
 use Rattle.gptp_lists.specs.Members.{In}
 use Rattle.gptp_graph.specs.Order.{IsRising}
@@ -30,7 +30,7 @@ line_of line = record {
   clock = line.clock;
   root = line.root;
   steps = line.steps;
-  far = false;
+  far = line.far;
   parent = option_map parent_of line.parent;
   ports = map port_line_of line.ports.items;
 }
@@ -42,3 +42,19 @@ lines_of = map line_of
 pub record AreInOrder (lines : List graphs.SystemLine) : Type 0 where
   pub clocks : IsRising (line_clocks lines)
   pub ports : (line : graphs.SystemLine) → In line lines → IsRising (port_numbers line)
+
+-- there are two versions
+abbrev pub IsVersion : ℕ → Type 0
+IsVersion version = (version ≡ 1) ⊎ (version ≡ 2)
+
+-- a certificate, as contracts see it
+pub record CertificateContent : Type 0 where
+  pub version : ℕ
+  pub lines : List graphs.SystemLine
+
+-- what holds of every certificate: its lines stand in order, far ones are bare, and stand in version 2 alone
+pub record IsCertificate (version : ℕ) (lines : List graphs.SystemLine) : Type 0 where
+  pub is_version : IsVersion version
+  pub order : AreInOrder lines
+  pub bare : (line : graphs.SystemLine) → In line lines → line.far ≡ true → IsBare line
+  pub second : (line : graphs.SystemLine) → In line lines → line.far ≡ true → version ≡ 2

@@ -1,5 +1,5 @@
 -- The text of a certificate (profile).
-use Rattle.std.specs.Prelude.{ℕ, Option, List, [], ◌∷◌, ◌++◌, map, codes}
+use Rattle.std.specs.Prelude.{◌≡◌, ℕ, Bool, true, false, Option, Some, None, List, [], ◌∷◌, ◌++◌, map, codes}
 use Rattle.std.specs.Fmt.{decimal}
 use Rattle.std.specs.Option.{option_map}
 use Rattle.gptp_graph.specs.Labelling.{PortLine, SystemLine}
@@ -7,7 +7,7 @@ use Rattle.gptp_graph.specs.Parent.{ParentLink}
 use Rattle.gptp_spelling.specs.Digits.{clock_text, identity_text}
 use Rattle.gptp_spelling.specs.Lines.{text_of}
 use Rattle.gptp_certificate_text.specs.Entries.{Entry, SystemEntry, PortEntry, entries_of}
-use Rattle.gptp_certificate_text.specs.Forms.{Form, SystemForm, PortForm, ParentWords, PortWords, SystemWords, form_text}
+use Rattle.gptp_certificate_text.specs.Forms.{Form, SystemForm, FarForm, PortForm, ParentWords, PortWords, FarWords, SystemWords, form_text}
 
 -- the words of a parent: numbers are decimal, clocks hexadecimal
 abbrev pub parent_words : ParentLink → ParentWords
@@ -26,13 +26,18 @@ system_words clock root steps parent = record {
   parent = option_map parent_words parent;
 }
 
+-- the words of a far system's line
+abbrev pub far_words : ℕ → ℕ → ℕ → FarWords
+far_words clock root steps = record { clock = clock_text clock; steps = decimal steps; root = identity_text root }
+
 -- the words of a port line
 abbrev pub port_words : ℕ → PortLine → PortWords
 port_words clock port = record { clock = clock_text clock; number = decimal port.number; role = port.role }
 
 -- how a line is spelled
 abbrev pub spelled : Entry → Form
-spelled (SystemEntry clock root steps parent) = SystemForm (system_words clock root steps parent)
+spelled (SystemEntry clock root steps true parent) = FarForm (far_words clock root steps)
+spelled (SystemEntry clock root steps false parent) = SystemForm (system_words clock root steps parent)
 spelled (PortEntry clock port) = PortForm (port_words clock port)
 
 -- a line, as it is spelled
@@ -40,21 +45,26 @@ abbrev pub entry_text : Entry → List ℕ
 entry_text entry = form_text (spelled entry)
 
 -- the head line
-abbrev pub head_text : List ℕ
-head_text = codes "gptp-certificate 1"
+abbrev pub head_text : ℕ → List ℕ
+head_text version = codes "gptp-certificate " ++ decimal version
 
 -- the head, and then these lines
-abbrev pub front_text : List Entry → List ℕ
-front_text entries = text_of (head_text ∷ map entry_text entries)
+abbrev pub front_text : ℕ → List Entry → List ℕ
+front_text version entries = text_of (head_text version ∷ map entry_text entries)
 
 -- the line that a certificate ends with
 abbrev pub end_text : List ℕ
 end_text = codes "end" ++ 10 ∷ []
 
 -- the head, the lines of each system, and the end
-abbrev pub certificate_text : List SystemLine → List ℕ
-certificate_text lines = front_text (entries_of lines) ++ end_text
+abbrev pub certificate_text : ℕ → List SystemLine → List ℕ
+certificate_text version lines = front_text version (entries_of lines) ++ end_text
 
 -- the same, line by line
-abbrev pub certificate_lines : List SystemLine → List (List ℕ)
-certificate_lines lines = head_text ∷ map entry_text (entries_of lines) ++ codes "end" ∷ []
+abbrev pub certificate_lines : ℕ → List SystemLine → List (List ℕ)
+certificate_lines version lines = head_text version ∷ map entry_text (entries_of lines) ++ codes "end" ∷ []
+
+-- A line was appended with its line feed, and it was told so; or there is none, and nothing was appended.
+abbrev pub PrintsLine : Option (List ℕ) → Bool → List ℕ → List ℕ → Type 0
+PrintsLine (Some line) told before after = (told ≡ true) × (after ≡ before ++ (line ++ 10 ∷ []))
+PrintsLine None told before after = (told ≡ false) × (after ≡ before)

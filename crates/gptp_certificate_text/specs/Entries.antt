@@ -1,18 +1,17 @@
 -- The lines of a certificate, one by one, and their order (profile).
-use Rattle.std.specs.Prelude.{◌≡◌, ◌<◌, ◌≤◌, ◌^◌, ⊤, ℕ, false, List, [], ◌∷◌, Option, Some, None, map}
+use Rattle.std.specs.Prelude.{◌≡◌, ◌<◌, ◌≤◌, ◌^◌, ⊤, ℕ, Bool, true, false, List, [], ◌∷◌, Option, Some, None, map}
 use Rattle.std.specs.List.{flat_map, AllByRecursion}
-use Rattle.gptp_lists.specs.Members.{In}
 use Rattle.gptp_graph.specs.Labelling.{PortLine, SystemLine}
 use Rattle.gptp_graph.specs.Parent.{ParentLink}
 
--- a system line: clock, root, steps and parent; a port line: the system's clock, and the port
+-- a system line: clock, root, steps, whether it is far, and parent; a port line: the system's clock, and the port
 pub data Entry : Type 0 where
-  SystemEntry : (clock root steps : ℕ) → Option ParentLink → Entry
+  SystemEntry : (clock root steps : ℕ) → (far : Bool) → Option ParentLink → Entry
   PortEntry : (clock : ℕ) → PortLine → Entry
 
 -- a system's line without its ports
 abbrev pub system_entry : SystemLine → Entry
-system_entry line = SystemEntry line.clock line.root line.steps line.parent
+system_entry line = SystemEntry line.clock line.root line.steps line.far line.parent
 
 -- a system's line, and then its ports'
 abbrev pub entries_of_line : SystemLine → List Entry
@@ -38,32 +37,43 @@ abbrev pub IsReadableParent : Option ParentLink → Type 0
 IsReadableParent None = ⊤
 IsReadableParent (Some link) = IsReadableLink link
 
--- a text can spell the line: octets hold the clock and the root, and sixteen bits the steps and the ports
-abbrev pub IsReadableEntry : Entry → Type 0
-IsReadableEntry (SystemEntry clock root steps parent) =
-    (clock < 2 ^ 64) × (root < 2 ^ 112) × (steps ≤ 65535) × IsReadableParent parent
-IsReadableEntry (PortEntry clock port) = (clock < 2 ^ 64) × IsPortNumber port.number
+-- a text can spell the parent of a far line or of another: a far line has none, and stands in version 2 alone
+abbrev pub IsReadableChoice : ℕ → Bool → Option ParentLink → Type 0
+IsReadableChoice version true parent = (parent ≡ None) × (version ≡ 2)
+IsReadableChoice version false parent = IsReadableParent parent
 
--- a text can spell each line, and none is far
-pub record IsReadable (lines : List SystemLine) : Type 0 where
-  pub entries : AllByRecursion IsReadableEntry (entries_of lines)
-  pub near : (line : SystemLine) → In line lines → line.far ≡ false
+-- a text of this version can spell the line: octets hold the clock and the root, and sixteen bits the steps and the
+-- ports
+abbrev pub IsReadableEntry : ℕ → Entry → Type 0
+IsReadableEntry version (SystemEntry clock root steps far parent) =
+    (clock < 2 ^ 64) × (root < 2 ^ 112) × (steps ≤ 65535) × IsReadableChoice version far parent
+IsReadableEntry version (PortEntry clock port) = (clock < 2 ^ 64) × IsPortNumber port.number
+
+-- a text of this version can spell each line
+abbrev pub IsReadable : ℕ → List SystemLine → Type 0
+IsReadable version lines = AllByRecursion (IsReadableEntry version) (entries_of lines)
 
 -- the clock of the system that the line is about
 abbrev pub clock_of : Entry → ℕ
-clock_of (SystemEntry clock root steps parent) = clock
+clock_of (SystemEntry clock root steps far parent) = clock
 clock_of (PortEntry clock port) = clock
 
 -- a system line is before all ports of its system
 abbrev pub number_of : Entry → ℕ
-number_of (SystemEntry clock root steps parent) = 0
+number_of (SystemEntry clock root steps far parent) = 0
 number_of (PortEntry clock port) = port.number
 
+-- the line is a far system's
+abbrev pub is_far : Entry → Bool
+is_far (SystemEntry clock root steps far parent) = far
+is_far (PortEntry clock port) = false
+
 -- a line can stand right after another: a system line has a higher clock, a port line the same clock and a higher
--- number
+-- number, and follows no far line
 abbrev pub Follows : Entry → Entry → Type 0
-Follows before (SystemEntry clock root steps parent) = clock_of before < clock
-Follows before (PortEntry clock port) = (clock_of before ≡ clock) × (number_of before < port.number)
+Follows before (SystemEntry clock root steps far parent) = clock_of before < clock
+Follows before (PortEntry clock port) =
+    (clock_of before ≡ clock) × (number_of before < port.number) × (is_far before ≡ false)
 
 -- each line follows the one before, the first of them this entry
 abbrev pub FollowEach : Entry → List Entry → Type 0
@@ -73,5 +83,12 @@ FollowEach before (entry ∷ rest) = Follows before entry × FollowEach entry re
 -- a system line is first, and each line follows the one before
 abbrev pub StandInOrder : List Entry → Type 0
 StandInOrder [] = ⊤
-StandInOrder (SystemEntry clock root steps parent ∷ rest) = FollowEach (SystemEntry clock root steps parent) rest
+StandInOrder (SystemEntry clock root steps far parent ∷ rest) =
+    FollowEach (SystemEntry clock root steps far parent) rest
 StandInOrder (PortEntry clock port ∷ rest) = ⊥
+
+-- whether the last line, if there is any, is a far system's
+abbrev pub ends_far : List Entry → Bool
+ends_far [] = false
+ends_far (entry ∷ []) = is_far entry
+ends_far (entry ∷ (next ∷ rest)) = ends_far (next ∷ rest)

@@ -4,55 +4,59 @@ use Rattle.std.specs.Prelude.{◌≡◌, ◌≢◌, ◌⊎◌, ℕ, List, [], �
 use Rattle.std.specs.List.{AllByRecursion}
 use Rattle.gptp_certificate_text.specs.declared.fault.CertificateFault.{CertificateFault}
 use Rattle.gptp_certificate_text.specs.declared.fault.CertificateFault.TheVariants.{Head, Line, Order, Spelling, OutOfMemory}
-use Rattle.gptp_certificate_text.specs.CertificateText.{end_text, entry_text, front_text, head_text}
-use Rattle.gptp_certificate_text.specs.Entries.{Entry, IsReadableEntry, StandInOrder}
-use Rattle.gptp_certificate_text.specs.Forms.{HasForm}
+use Rattle.gptp_certificate_text.specs.Certificate.{IsVersion}
+use Rattle.gptp_certificate_text.specs.CertificateText.{end_text, entry_text, front_text, head_text, spelled}
+use Rattle.gptp_certificate_text.specs.Entries.{Entry, IsReadableEntry, StandInOrder, ends_far}
+use Rattle.gptp_certificate_text.specs.Forms.{FitsHere, HasForm}
 
--- after the head and the lines of these entries, which can be read and stand in order, stands the rest
-pub record StandBefore (before : List Entry) (rest text : List ℕ) : Type 0 where
-  pub readable : AllByRecursion IsReadableEntry before
+-- after the head of this version and the lines of these entries, which can be read and stand in order, stands the rest
+pub record StandBefore (version : ℕ) (before : List Entry) (rest text : List ℕ) : Type 0 where
+  pub readable : AllByRecursion (IsReadableEntry version) before
   pub order : StandInOrder before
-  pub split : text ≡ front_text before ++ rest
+  pub split : text ≡ front_text version before ++ rest
 
--- the rest isn't the end, and doesn't begin with a line that has a form
-pub record HasNoForm (rest : List ℕ) : Type 0 where
+-- the rest isn't the end, and doesn't begin with a line that has a form which can stand there
+pub record HasNoForm (version : ℕ) (before : List Entry) (rest : List ℕ) : Type 0 where
   pub goes_on : rest ≢ end_text
-  pub formless : (line more : List ℕ) → HasForm line → rest ≢ line ++ 10 ∷ more
+  pub formless : (line more : List ℕ) → HasForm version (ends_far before) line → rest ≢ line ++ 10 ∷ more
 
--- the rest begins with a line that has a form, but is the line of no entry
-pub record IsMisspelled (rest : List ℕ) : Type 0 where
+-- the rest begins with a line that has such a form, but is the line of no entry
+pub record IsMisspelled (version : ℕ) (before : List Entry) (rest : List ℕ) : Type 0 where
   pub line : List ℕ
   pub more : List ℕ
-  pub form : HasForm line
+  pub form : HasForm version (ends_far before) line
   pub first : rest ≡ line ++ 10 ∷ more
-  pub unread : (entry : Entry) → IsReadableEntry entry → line ≢ entry_text entry
+  pub unread : (entry : Entry) → IsReadableEntry version entry → line ≢ entry_text entry
 
--- the rest begins with the line of an entry that can't stand after those before
-pub record IsOutOfOrder (before : List Entry) (rest : List ℕ) : Type 0 where
+-- the rest begins with the line of an entry that has such a form, but can't stand after those before
+pub record IsOutOfOrder (version : ℕ) (before : List Entry) (rest : List ℕ) : Type 0 where
   pub entry : Entry
   pub more : List ℕ
-  pub readable : IsReadableEntry entry
+  pub readable : IsReadableEntry version entry
+  pub fits : FitsHere version (ends_far before) (spelled entry)
   pub first : rest ≡ entry_text entry ++ 10 ∷ more
   pub order : StandInOrder (before ++ entry ∷ []) → ⊥
 
 -- the fault of the first line of the rest
-abbrev pub RestFails : List Entry → List ℕ → CertificateFault → Type 0
-RestFails before rest Head = ⊥
-RestFails before rest Line = HasNoForm rest
-RestFails before rest Order = IsOutOfOrder before rest
-RestFails before rest Spelling = IsMisspelled rest
-RestFails before rest OutOfMemory = ⊥
+abbrev pub RestFails : ℕ → List Entry → List ℕ → CertificateFault → Type 0
+RestFails version before rest Head = ⊥
+RestFails version before rest Line = HasNoForm version before rest
+RestFails version before rest Order = IsOutOfOrder version before rest
+RestFails version before rest Spelling = IsMisspelled version before rest
+RestFails version before rest OutOfMemory = ⊥
 
--- the text doesn't begin with the head line
+-- the text doesn't begin with the head line of a version
 abbrev pub LacksHead : List ℕ → Type 0
-LacksHead text = (rest : List ℕ) → text ≢ head_text ++ 10 ∷ rest
+LacksHead text = (version : ℕ) (rest : List ℕ) → IsVersion version → text ≢ head_text version ++ 10 ∷ rest
 
 -- the first lines are those of a certificate, and the next has the fault
 pub record FailsBehind (text : List ℕ) (fault : CertificateFault) : Type 0 where
+  pub version : ℕ
   pub before : List Entry
   pub rest : List ℕ
-  pub stand : StandBefore before rest text
-  pub fails : RestFails before rest fault
+  pub is_version : IsVersion version
+  pub stand : StandBefore version before rest text
+  pub fails : RestFails version before rest fault
 
 -- the fault that is found first, by lines and then by form, spelling and order
 abbrev pub Fails : List ℕ → CertificateFault → Type 0

@@ -1,22 +1,23 @@
 //! Single lines of a certificate.
 
-ghost use Rattle.std.specs.Prelude.{◌≡◌, ◌≢◌, ℕ, Option, Some, None, IfSome, IfNone, IfOk, IfErr, OnErr, option_map};
+ghost use Rattle.std.specs.Prelude.{◌≡◌, ◌≢◌, ℕ, true, false, Option, Some, None, IfSome, IfNone, IfOk, IfErr, OnErr, option_map};
 ghost use Rattle.gptp_graph.specs.Labelling.{PortLine};
 ghost use Rattle.gptp_graph.specs.Parent.{ParentLink};
 ghost use Rattle.gptp_certificate_text.specs.Certificate.{parent_of};
 ghost use Rattle.gptp_certificate_text.specs.CertificateText as text;
 ghost use Rattle.gptp_certificate_text.specs.CertificateText.{entry_text, spelled};
+ghost use Rattle.gptp_certificate_text.specs.Forms.{FitsHere};
 ghost use Rattle.gptp_certificate_text.specs.Entries as entries;
 ghost use Rattle.gptp_certificate_text.specs.Entries.{IsReadableEntry, IsReadableLink, IsReadableParent};
-ghost use Rattle.gptp_certificate_text.specs.Lines.{entry_of, form_of, parent_words_of, port_words_of, system_words_of, LineFails};
+ghost use Rattle.gptp_certificate_text.specs.Lines.{entry_of, form_of, far_words_of, parent_words_of, port_words_of, system_words_of, LineFails};
 
 use crate::fault::CertificateFault;
-use crate::form::{Form, ParentWords, PortWords, SystemWords, read_form};
+use crate::form::{FarWords, Form, ParentWords, PortWords, SystemWords, read_form};
 use crate::spelling::{clock, identity, number, port_number};
 use gptp_roles::Role;
 use gptp_vector::{ClockId, Identity, PortId};
 
-/// A line of a system without its ports, or of a port.
+/// A line of a system without its ports, of a far system, or of a port.
 #[derive(Debug, Clone, Copy)]
 pub(crate) enum Entry {
     System {
@@ -24,6 +25,11 @@ pub(crate) enum Entry {
         root: Identity,
         steps: u16,
         parent: Option<(u16, PortId)>,
+    },
+    Far {
+        clock: ClockId,
+        root: Identity,
+        steps: u16,
     },
     Port {
         clock: ClockId,
@@ -58,9 +64,11 @@ fn parent(words: Option<ParentWords<'_>>) -> Option<Option<(u16, PortId)>>
 
 /// The line of a system that these words spell.
 fn system(words: SystemWords<'_>) -> Option<Entry>
-    ensures readable { IfSome result (λ entry. IsReadableEntry (entry_of entry)) }
+    ensures readable { IfSome result (λ entry. (version : ℕ) → IsReadableEntry version (entry_of entry)) }
     ensures found { IfSome result (λ entry. spelled (entry_of entry) ≡ form_of (Form.System words.entry)) }
-    ensures absent { IfNone result ((clock root steps : ℕ) (parent : Option ParentLink) → IsReadableEntry (entries.SystemEntry clock root steps parent) → text.system_words clock root steps parent ≢ system_words_of words.entry) }
+    ensures absent { IfNone result ((version clock root steps : ℕ) (parent : Option ParentLink)
+        → IsReadableEntry version (entries.SystemEntry clock root steps false parent)
+        → text.system_words clock root steps parent ≢ system_words_of words.entry) }
 {
     let clock = clock(words.clock)?;
     let root = identity(words.root)?;
@@ -74,11 +82,25 @@ fn system(words: SystemWords<'_>) -> Option<Entry>
     })
 }
 
+/// The line of a far system that these words spell.
+fn far(words: FarWords<'_>) -> Option<Entry>
+    ensures readable { IfSome result (λ entry. IsReadableEntry 2 (entry_of entry)) }
+    ensures found { IfSome result (λ entry. spelled (entry_of entry) ≡ form_of (Form.Far words.entry)) }
+    ensures absent { IfNone result ((version clock root steps : ℕ) (parent : Option ParentLink)
+        → IsReadableEntry version (entries.SystemEntry clock root steps true parent)
+        → text.far_words clock root steps ≢ far_words_of words.entry) }
+{
+    let clock = clock(words.clock)?;
+    let steps = number(words.steps)?;
+    let root = identity(words.root)?;
+    Some(Entry::Far { clock, root, steps })
+}
+
 /// The line of a port that these words spell.
 fn port(words: PortWords<'_>) -> Option<Entry>
-    ensures readable { IfSome result (λ entry. IsReadableEntry (entry_of entry)) }
+    ensures readable { IfSome result (λ entry. (version : ℕ) → IsReadableEntry version (entry_of entry)) }
     ensures found { IfSome result (λ entry. spelled (entry_of entry) ≡ form_of (Form.Port words.entry)) }
-    ensures absent { IfNone result ((clock : ℕ) (port : PortLine) → IsReadableEntry (entries.PortEntry clock port) → text.port_words clock port ≢ port_words_of words.entry) }
+    ensures absent { IfNone result ((version clock : ℕ) (port : PortLine) → IsReadableEntry version (entries.PortEntry clock port) → text.port_words clock port ≢ port_words_of words.entry) }
 {
     let clock = clock(words.clock)?;
     let number = port_number(words.number)?;
@@ -89,39 +111,48 @@ fn port(words: PortWords<'_>) -> Option<Entry>
     })
 }
 
-/// The line that the words of a form spell.
-fn spelled_entry(form: Form<'_>) -> Option<Entry>
-    ensures readable { IfSome result (λ entry. IsReadableEntry (entry_of entry)) }
+/// The line that the words of a form spell, which fits a text of this version.
+fn spelled_entry(form: Form<'_>, version: u8, after_far: bool) -> Option<Entry>
+    requires { FitsHere version after_far (form_of form) }
+    ensures readable { IfSome result (λ entry. IsReadableEntry version (entry_of entry)) }
     ensures found { IfSome result (λ entry. spelled (entry_of entry) ≡ form_of form.entry) }
-    ensures absent { IfNone result ((entry : entries.Entry) → IsReadableEntry entry → spelled entry ≢ form_of form.entry) }
+    ensures absent { IfNone result ((entry : entries.Entry) → IsReadableEntry version entry → spelled entry ≢ form_of form.entry) }
 {
     match form {
         Form::System(words) => system(words),
+        Form::Far(words) => far(words),
         Form::Port(words) => port(words),
     }
 }
 
-/// The line that the words of a form spell, or the fault Spelling.
-fn entry_of_form(form: Form<'_>) -> Result<Entry, CertificateFault>
-    ensures readable { IfOk result (λ entry. IsReadableEntry (entry_of entry)) }
+/// The line that the words of a form spell, which fits a text of this version, or the fault Spelling.
+fn entry_of_form(form: Form<'_>, version: u8, after_far: bool) -> Result<Entry, CertificateFault>
+    requires { FitsHere version after_far (form_of form) }
+    ensures readable { IfOk result (λ entry. IsReadableEntry version (entry_of entry)) }
     ensures read { IfOk result (λ entry. spelled (entry_of entry) ≡ form_of form.entry) }
     ensures fault { IfErr result (λ fault. fault ≡ CertificateFault.Spelling) }
-    ensures refused { OnErr result ((entry : entries.Entry) → IsReadableEntry entry → spelled entry ≢ form_of form.entry) }
+    ensures refused { OnErr result ((entry : entries.Entry) → IsReadableEntry version entry → spelled entry ≢ form_of form.entry) }
 {
-    match spelled_entry(form) {
+    match spelled_entry(form, version, after_far) {
         None => Err(CertificateFault::Spelling),
         Some(entry) => Ok(entry),
     }
 }
 
-/// Reads a line. The error is Line where it has no form, and Spelling where its words spell no entry.
-pub(crate) fn read_entry(line: &[u8]) -> Result<Entry, CertificateFault>
-    ensures readable { IfOk result (λ entry. IsReadableEntry (entry_of entry)) }
+/// Reads a line of a text of this version, right after a far system's line or not. The error is Line where it has no form
+/// that can stand there, and Spelling where its words spell no entry.
+pub(crate) fn read_entry(
+    line: &[u8],
+    version: u8,
+    after_far: bool,
+) -> Result<Entry, CertificateFault>
+    ensures readable { IfOk result (λ entry. IsReadableEntry version (entry_of entry)) }
+    ensures fits { IfOk result (λ entry. FitsHere version after_far (spelled (entry_of entry))) }
     ensures read { IfOk result (λ entry. line.now ≡ entry_text (entry_of entry)) }
-    ensures refused { IfErr result (λ fault. LineFails line.now fault) }
+    ensures refused { IfErr result (λ fault. LineFails version after_far line.now fault) }
 {
-    match read_form(line) {
+    match read_form(line, version, after_far) {
         None => Err(CertificateFault::Line),
-        Some(form) => entry_of_form(form),
+        Some(form) => entry_of_form(form, version, after_far),
     }
 }

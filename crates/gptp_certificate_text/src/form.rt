@@ -1,11 +1,11 @@
 //! The forms of lines.
 
-ghost use Rattle.std.specs.Prelude.{◌≡◌, ◌≢◌, ◌++◌, List, ℕ, Option, Some, None, codes, IfSome, IfNone, option_map};
+ghost use Rattle.std.specs.Prelude.{◌≡◌, ◌≢◌, ◌↔◌, ◌++◌, List, ℕ, Option, Some, None, codes, IfSome, IfNone, IsTrue, option_map};
 ghost use Rattle.gptp_graph.specs.SettledRole as settled;
 ghost use Rattle.gptp_certificate_text.specs.Certificate.{role_of};
 ghost use Rattle.gptp_certificate_text.specs.Forms as forms;
-ghost use Rattle.gptp_certificate_text.specs.Forms.{role_text, parent_text, system_text, port_text, form_text, HasParentWords, AreSystemWords, ArePortWords, HasWords, HasForm};
-ghost use Rattle.gptp_certificate_text.specs.Lines.{parent_words_of, system_words_of, port_words_of, form_of};
+ghost use Rattle.gptp_certificate_text.specs.Forms.{role_text, parent_text, system_text, far_text, port_text, form_text, HasParentWords, AreSystemWords, AreFarWords, ArePortWords, HasWords, FitsHere, HasForm};
+ghost use Rattle.gptp_certificate_text.specs.Lines.{parent_words_of, system_words_of, far_words_of, port_words_of, form_of};
 
 use crate::words::{after, is_word, value, word};
 use gptp_roles::Role;
@@ -27,6 +27,14 @@ pub(crate) struct SystemWords<'a> {
     pub(crate) parent: Option<ParentWords<'a>>,
 }
 
+/// The words of a far system's line that aren't the same in all.
+#[derive(Debug, Clone, Copy)]
+pub(crate) struct FarWords<'a> {
+    pub(crate) clock: &'a [u8],
+    pub(crate) steps: &'a [u8],
+    pub(crate) root: &'a [u8],
+}
+
 /// The words of a port line that aren't the same in all.
 #[derive(Debug, Clone, Copy)]
 pub(crate) struct PortWords<'a> {
@@ -39,6 +47,7 @@ pub(crate) struct PortWords<'a> {
 #[derive(Debug, Clone, Copy)]
 pub(crate) enum Form<'a> {
     System(SystemWords<'a>),
+    Far(FarWords<'a>),
     Port(PortWords<'a>),
 }
 
@@ -105,6 +114,22 @@ fn system_words(line: &[u8]) -> Option<SystemWords<'_>>
     })
 }
 
+/// The words of a far system's line.
+fn far_words(line: &[u8]) -> Option<FarWords<'_>>
+    ensures words { IfSome result (λ words. AreFarWords (far_words_of words)) }
+    ensures found { IfSome result (λ words. line.now ≡ far_text (far_words_of words)) }
+    ensures absent { IfNone result ((words : forms.FarWords) → AreFarWords words → line.now ≢ far_text words) }
+{
+    let (clock, rest) = value(b"system ", line)?;
+    let (steps, rest) = value(b"far ", rest)?;
+    let root = after(b"root ", rest)?;
+    if is_word(root) {
+        Some(FarWords { clock, steps, root })
+    } else {
+        None
+    }
+}
+
 /// The words of a port line.
 fn port_words(line: &[u8]) -> Option<PortWords<'_>>
     ensures words { IfSome result (λ words. ArePortWords (port_words_of words)) }
@@ -121,14 +146,53 @@ fn port_words(line: &[u8]) -> Option<PortWords<'_>>
     })
 }
 
-/// The form of a line.
-pub(crate) fn read_form(line: &[u8]) -> Option<Form<'_>>
+/// The words of a far system's line or of a port line.
+fn short_form(line: &[u8]) -> Option<Form<'_>>
     ensures words { IfSome result (λ form. HasWords (form_of form)) }
     ensures found { IfSome result (λ form. line.now ≡ form_text (form_of form)) }
-    ensures absent { IfNone result (HasForm line.now → ⊥) }
+    ensures no_far { IfNone result ((words : forms.FarWords) → AreFarWords words → line.now ≢ far_text words) }
+    ensures no_port { IfNone result ((words : forms.PortWords) → ArePortWords words → line.now ≢ port_text words) }
+{
+    match far_words(line) {
+        Some(words) => Some(Form::Far(words)),
+        None => Some(Form::Port(port_words(line)?)),
+    }
+}
+
+/// The words of a line.
+fn any_form(line: &[u8]) -> Option<Form<'_>>
+    ensures words { IfSome result (λ form. HasWords (form_of form)) }
+    ensures found { IfSome result (λ form. line.now ≡ form_text (form_of form)) }
+    ensures absent { IfNone result ((form : forms.Form) → HasWords form → line.now ≢ form_text form) }
 {
     match system_words(line) {
         Some(words) => Some(Form::System(words)),
-        None => Some(Form::Port(port_words(line)?)),
+        None => short_form(line),
+    }
+}
+
+/// Whether a form can stand in a text of this version, right after a far system's line or not.
+fn fits_here(form: Form<'_>, version: u8, after_far: bool) -> bool
+    ensures { IsTrue result ↔ FitsHere version after_far (form_of form.entry) }
+{
+    match form {
+        Form::System(_) => true,
+        Form::Far(_) => version == 2,
+        Form::Port(_) => !after_far,
+    }
+}
+
+/// The form of a line that can stand in a text of this version, right after a far system's line or not.
+pub(crate) fn read_form(line: &[u8], version: u8, after_far: bool) -> Option<Form<'_>>
+    ensures words { IfSome result (λ form. HasWords (form_of form)) }
+    ensures fits { IfSome result (λ form. FitsHere version after_far (form_of form)) }
+    ensures found { IfSome result (λ form. line.now ≡ form_text (form_of form)) }
+    ensures absent { IfNone result (HasForm version after_far line.now → ⊥) }
+{
+    let form = any_form(line)?;
+    if fits_here(form, version, after_far) {
+        Some(form)
+    } else {
+        None
     }
 }

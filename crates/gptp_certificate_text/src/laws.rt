@@ -3,15 +3,16 @@
 ghost use Rattle.std.specs.Prelude.{◌≡◌, ◌≢◌, ℕ, List};
 ghost use Rattle.gptp_graph.specs.Labelling.{SystemLine};
 ghost use Rattle.gptp_certificate_text.specs.declared.fault.CertificateFault.{CertificateFault};
-ghost use Rattle.gptp_certificate_text.specs.Certificate.{AreInOrder};
+ghost use Rattle.gptp_certificate_text.specs.Certificate.{IsCertificate, IsVersion};
 ghost use Rattle.gptp_certificate_text.specs.CertificateText.{certificate_text};
 ghost use Rattle.gptp_certificate_text.specs.Entries.{IsReadable};
 ghost use Rattle.gptp_certificate_text.specs.Parsing.{Fails};
 
 /// A text that fails is the text of no certificate that can be read.
 pub fn a_text_that_fails_is_no_certificates()
-    ensures { (text : List ℕ) (fault : CertificateFault) (lines : List SystemLine)
-        → Fails text fault → AreInOrder lines → IsReadable lines → text ≢ certificate_text lines }
+    ensures { (text : List ℕ) (fault : CertificateFault) (version : ℕ) (lines : List SystemLine)
+        → Fails text fault → IsCertificate version lines → IsReadable version lines
+        → text ≢ certificate_text version lines }
 {}
 
 /// A text fails in one way at most.
@@ -21,6 +22,7 @@ pub fn a_text_fails_in_one_way()
 
 /// Two certificates that can be read differ in their texts: so what was printed is read back.
 pub fn a_text_is_one_certificates()
-    ensures { (one other : List SystemLine)
-        → IsReadable one → IsReadable other → certificate_text one ≡ certificate_text other → one ≡ other }
+    ensures { (version second : ℕ) (one other : List SystemLine)
+        → IsVersion version → IsVersion second → IsReadable version one → IsReadable second other
+        → certificate_text version one ≡ certificate_text second other → (version ≡ second) × (one ≡ other) }
 {}

@@ -1,10 +1,11 @@
 //! The order of lines.
 
-ghost use Rattle.std.specs.Prelude.{◌≡◌, ◌↔◌, ◌<◌, ◌⊎◌, ◌++◌, ◌∷◌, [], ℕ, Option, IfErr, IsTrue, OnOk, option_map};
+ghost use Rattle.std.specs.Prelude.{◌≡◌, ◌↔◌, ◌<◌, ◌⊎◌, ◌++◌, ◌∷◌, [], ℕ, Bool, true, false, None, Option, IfErr, IsTrue, OnOk, option_map};
+ghost use Rattle.gptp_graph.specs.Labelling.{PortLine};
 ghost use Rattle.gptp_graph.specs.Parent.{ParentLink};
 ghost use Rattle.gptp_certificate_text.specs.Certificate.{line_of, lines_of, parent_of, port_line_of};
 ghost use Rattle.gptp_certificate_text.specs.Entries as entries;
-ghost use Rattle.gptp_certificate_text.specs.Entries.{Follows, StandInOrder, clock_of, entries_of, entries_of_line, number_of};
+ghost use Rattle.gptp_certificate_text.specs.Entries.{Follows, StandInOrder, clock_of, ends_far, entries_of, entries_of_line, is_far, number_of};
 ghost use Rattle.gptp_certificate_text.specs.Lines.{Appends, entry_of, last_entry, ReadsLine, RefusesLine, RefusesOrder};
 
 use crate::certificate::SystemLine;
@@ -24,7 +25,7 @@ fn last_number(line: &SystemLine) -> u16
     }
 }
 
-/// Whether the line of a port can follow the last line of a system.
+/// Whether the line of a port can follow the last line of a system that isn't far.
 fn can_follow(line: &SystemLine, clock: ClockId, number: u16) -> bool
     ensures { IsTrue result ↔ ((clock_of (last_entry (line_of line.now)) ≡ clock) × (number_of (last_entry (line_of line.now)) < number)) }
 {
@@ -41,6 +42,7 @@ fn add_port(
     number: u16,
     role: Role,
 ) -> Result<(), CertificateFault>
+    requires near { is_far (last_entry (line_of line.old)) ≡ false }
     ensures appended { OnOk result (entries_of_line (line_of line.new)
         ≡ entries_of_line (line_of line.old) ++ entries.PortEntry clock (port_line_of (number, role)) ∷ []) }
     ensures follows { OnOk result
@@ -63,7 +65,8 @@ fn append_port(
     number: u16,
     role: Role,
 ) -> Result<(), CertificateFault>
-    requires { StandInOrder (entries_of (lines_of lines.old)) }
+    requires stand { StandInOrder (entries_of (lines_of lines.old)) }
+    requires near { ends_far (entries_of (lines_of lines.old)) ≡ false }
     ensures appended { OnOk result (Appends (entries_of (lines_of lines.old)) (entries.PortEntry clock (port_line_of (number, role))) (entries_of (lines_of lines.new))) }
     ensures refused { IfErr result (RefusesOrder (entries_of (lines_of lines.old)) (entries.PortEntry clock (port_line_of (number, role)))) }
 {
@@ -76,8 +79,11 @@ fn append_port(
 /// Whether the line of a system with this clock can follow.
 fn rises(lines: &[SystemLine], clock: ClockId) -> bool
     requires { StandInOrder (entries_of (lines_of lines.now)) }
-    ensures yes { IsTrue result → (root steps : ℕ) (parent : Option ParentLink) → StandInOrder (entries_of (lines_of lines.now) ++ entries.SystemEntry clock root steps parent ∷ []) }
-    ensures only { (root steps : ℕ) (parent : Option ParentLink) → StandInOrder (entries_of (lines_of lines.now) ++ entries.SystemEntry clock root steps parent ∷ []) → IsTrue result }
+    ensures yes { IsTrue result → (root steps : ℕ) (far : Bool) (parent : Option ParentLink)
+        → StandInOrder (entries_of (lines_of lines.now) ++ entries.SystemEntry clock root steps far parent ∷ []) }
+    ensures only { (root steps : ℕ) (far : Bool) (parent : Option ParentLink)
+        → StandInOrder (entries_of (lines_of lines.now) ++ entries.SystemEntry clock root steps far parent ∷ [])
+        → IsTrue result }
 {
     match lines.split_last() {
         None => true,
@@ -92,11 +98,14 @@ fn append_system(
     clock: ClockId,
     root: Identity,
     steps: u16,
+    far: bool,
     parent: Option<(u16, PortId)>,
 ) -> Result<(), CertificateFault>
     requires { StandInOrder (entries_of (lines_of lines.old.items)) }
-    ensures appended { OnOk result (Appends (entries_of (lines_of lines.old.items)) (entries.SystemEntry clock root steps (option_map parent_of parent)) (entries_of (lines_of lines.new.items))) }
-    ensures refused { IfErr result (RefusesOrder (entries_of (lines_of lines.old.items)) (entries.SystemEntry clock root steps (option_map parent_of parent))) }
+    ensures appended { OnOk result (Appends (entries_of (lines_of lines.old.items))
+        (entries.SystemEntry clock root steps far (option_map parent_of parent)) (entries_of (lines_of lines.new.items))) }
+    ensures refused { IfErr result (RefusesOrder (entries_of (lines_of lines.old.items))
+        (entries.SystemEntry clock root steps far (option_map parent_of parent))) }
 {
     if !rises(lines.as_slice(), clock) {
         return Err(CertificateFault::Order);
@@ -105,15 +114,29 @@ fn append_system(
         clock,
         root,
         steps,
+        far,
         parent,
         ports: Vec::new(alloc),
     })?;
     Ok(())
 }
 
-/// Appends a line. The error is Order where it can't follow those before, or OutOfMemory.
+/// Whether the last line is a far system's.
+fn ends_far(lines: &[SystemLine]) -> bool
+    ensures { result ≡ ends_far (entries_of (lines_of lines.now)) }
+{
+    match lines.split_last() {
+        None => false,
+        Some((last, _)) => last.far && last.ports.as_slice().is_empty(),
+    }
+}
+
+/// Appends a line, which is no port's behind a far system's. The error is Order where it can't follow those before, or
+/// OutOfMemory.
 fn append(alloc: Global, lines: &mut Vec<SystemLine>, entry: Entry) -> Result<(), CertificateFault>
-    requires { StandInOrder (entries_of (lines_of lines.old.items)) }
+    requires stand { StandInOrder (entries_of (lines_of lines.old.items)) }
+    requires near { (clock : ℕ) (port : PortLine) → entry_of entry ≡ entries.PortEntry clock port
+        → ends_far (entries_of (lines_of lines.old.items)) ≡ false }
     ensures appended { OnOk result (Appends (entries_of (lines_of lines.old.items)) (entry_of entry) (entries_of (lines_of lines.new.items))) }
     ensures refused { IfErr result (RefusesOrder (entries_of (lines_of lines.old.items)) (entry_of entry)) }
 {
@@ -123,7 +146,10 @@ fn append(alloc: Global, lines: &mut Vec<SystemLine>, entry: Entry) -> Result<()
             root,
             steps,
             parent,
-        } => append_system(alloc, lines, clock, root, steps, parent),
+        } => append_system(alloc, lines, clock, root, steps, false, parent),
+        Entry::Far { clock, root, steps } => {
+            append_system(alloc, lines, clock, root, steps, true, None)
+        }
         Entry::Port {
             clock,
             number,
@@ -132,17 +158,19 @@ fn append(alloc: Global, lines: &mut Vec<SystemLine>, entry: Entry) -> Result<()
     }
 }
 
-/// Reads a line and appends it. The error is the fault of the line, or OutOfMemory.
+/// Reads a line of a text of this version and appends it. The error is the fault of the line, or OutOfMemory.
 pub(crate) fn append_line(
     alloc: Global,
     lines: &mut Vec<SystemLine>,
+    version: u8,
     line: &[u8],
 ) -> Result<(), CertificateFault>
     requires { StandInOrder (entries_of (lines_of lines.old.items)) }
-    ensures read { OnOk result (ReadsLine (entries_of (lines_of lines.old.items)) line.now (entries_of (lines_of lines.new.items))) }
-    ensures refused { IfErr result (RefusesLine (entries_of (lines_of lines.old.items)) line.now) }
+    ensures read { OnOk result
+        (ReadsLine version (entries_of (lines_of lines.old.items)) line.now (entries_of (lines_of lines.new.items))) }
+    ensures refused { IfErr result (RefusesLine version (entries_of (lines_of lines.old.items)) line.now) }
 {
-    match read_entry(line) {
+    match read_entry(line, version, ends_far(lines.as_slice())) {
         Err(fault) => Err(fault),
         Ok(entry) => append(alloc, lines, entry),
     }

@@ -1,12 +1,12 @@
 //! Reading a certificate from its text.
 
-ghost use Rattle.std.specs.Prelude.{◌≡◌, ◌⊎◌, List, ℕ, ◌≢◌, ◌<◌, ◌++◌, ◌∷◌, length, IfOk, IfErr};
-ghost use Rattle.gptp_certificate_text.specs.Certificate.{lines_of};
-ghost use Rattle.gptp_certificate_text.specs.CertificateText.{certificate_text, end_text};
+ghost use Rattle.std.specs.Prelude.{◌≡◌, ◌⊎◌, List, ℕ, ◌≢◌, ◌<◌, ◌++◌, ◌∷◌, length, IfOk, IfErr, IfSome, IfNone};
+ghost use Rattle.gptp_certificate_text.specs.Certificate.{lines_of, IsVersion};
+ghost use Rattle.gptp_certificate_text.specs.CertificateText.{certificate_text, end_text, head_text};
 ghost use Rattle.gptp_certificate_text.specs.Entries.{IsReadable, StandInOrder, entries_of};
 ghost use Rattle.gptp_certificate_text.specs.Lines.{ReadsLine};
 ghost use Rattle.gptp_certificate_text.specs.Words.{Lacks};
-ghost use Rattle.gptp_certificate_text.specs.Parsing.{Fails, RestFails};
+ghost use Rattle.gptp_certificate_text.specs.Parsing.{Fails, LacksHead, RestFails};
 
 use crate::certificate::{Certificate, SystemLine};
 use crate::fault::CertificateFault;
@@ -26,21 +26,34 @@ fn first_line(text: &[u8]) -> Result<(&[u8], &[u8]), CertificateFault>
     }
 }
 
+/// Reads the first line of a text: the version, and what stands after it.
+fn read_head(text: &[u8]) -> Option<(u8, &[u8])>
+    ensures version { IfSome result (λ parts. IsVersion parts.0) }
+    ensures found { IfSome result (λ parts. text.now ≡ head_text parts.0 ++ 10 ∷ parts.1.now) }
+    ensures absent { IfNone result (LacksHead text.now) }
+{
+    if let Some(rest) = after(b"gptp-certificate 1\n", text) {
+        return Some((1, rest));
+    }
+    Some((2, after(b"gptp-certificate 2\n", text)?))
+}
+
 /// Reads the first line of the rest, and gives what stands after it.
 fn read_line<'a>(
     alloc: Global,
     lines: &mut Vec<SystemLine>,
+    version: u8,
     rest: &'a [u8],
 ) -> Result<&'a [u8], CertificateFault>
     requires stand { StandInOrder (entries_of (lines_of lines.old.items)) }
     requires goes_on { rest.now ≢ end_text }
     ensures read { IfOk result (λ more. (line : List ℕ)
-        × ReadsLine (entries_of (lines_of lines.old.items)) line (entries_of (lines_of lines.new.items))
+        × ReadsLine version (entries_of (lines_of lines.old.items)) line (entries_of (lines_of lines.new.items))
         × (rest.now ≡ line ++ 10 ∷ more.now)) }
-    ensures refused { IfErr result (λ fault. (fault ≡ CertificateFault.OutOfMemory) ⊎ RestFails (entries_of (lines_of lines.old.items)) rest.now fault) }
+    ensures refused { IfErr result (λ fault. (fault ≡ CertificateFault.OutOfMemory) ⊎ RestFails version (entries_of (lines_of lines.old.items)) rest.now fault) }
 {
     let (line, more) = first_line(rest)?;
-    match append_line(alloc, lines, line) {
+    match append_line(alloc, lines, version, line) {
         Err(fault) => Err(fault),
         Ok(()) => Ok(more),
     }
@@ -49,8 +62,9 @@ fn read_line<'a>(
 /// The certificate that a text spells, as [`print`](crate::print) writes it (profile). The text is read line by line, and
 /// the first line that fails tells the fault:
 ///
-/// - [`CertificateFault::Head`]: the text doesn't begin with the first line, whole
-/// - [`CertificateFault::Line`]: a line is missing or lacks its line feed, isn't one by its words, or stands behind `end`
+/// - [`CertificateFault::Head`]: the text doesn't begin with the first line of version 1 or 2, whole
+/// - [`CertificateFault::Line`]: a line is missing or lacks its line feed, isn't one by its words, or stands behind `end`;
+///   or it is a far system's in version 1, or a port's right after a far system's
 /// - [`CertificateFault::Spelling`]: a number or digits are spelled otherwise, or a number is out of its range: steps are
 ///   0 to 65535, ports 1 to 65535
 /// - [`CertificateFault::Order`]: a clock or a port number doesn't rise, or a port has another clock than the system
@@ -58,15 +72,15 @@ fn read_line<'a>(
 ///
 /// [`CertificateFault::OutOfMemory`] can come at any point.
 pub fn parse(alloc: Global, text: &[u8]) -> Result<Certificate, CertificateFault>
-    ensures read { IfOk result (λ c. (text.now ≡ certificate_text c) × IsReadable c) }
+    ensures read { IfOk result (λ c. (text.now ≡ certificate_text c.version c.lines) × IsReadable c.version c.lines) }
     ensures refused { IfErr result (λ fault. (fault ≡ CertificateFault.OutOfMemory) ⊎ Fails text.now fault) }
 {
-    let Some(mut rest) = after(b"gptp-certificate 1\n", text) else {
+    let Some((version, mut rest)) = read_head(text) else {
         return Err(CertificateFault::Head);
     };
     let mut lines = Vec::new(alloc);
     while rest != b"end\n".as_slice() {
-        rest = read_line(alloc, &mut lines, rest)?;
+        rest = read_line(alloc, &mut lines, version, rest)?;
     }
-    Ok(Certificate::of_lines(lines))
+    Ok(Certificate::of_lines(version, lines))
 }

@@ -3,11 +3,10 @@ use Rattle.std.proofs.Common.{Bool, IsTrue, ◌≡◌, ◌↔◌, ℕ, suc, List
 use Rattle.gptp_lists.specs.Members.{In}
 use Rattle.gptp_graph.specs.Snapshot.{Snapshot, IsWellFormed}
 use Rattle.gptp_graph.specs.Labelling.{SystemLine}
-use Rattle.gptp_graph.specs.LocalTests.{PassesSystems, PassesTooFar, PassesLocalTests}
-use Rattle.gptp_graph.specs.SettledChoice.{IsSettledChoice}
+use Rattle.gptp_graph.specs.LocalTests.{PassesSystems, PassesLocalTests}
 use Rattle.gptp_graph.proofs.SoundLemmas.{sound}
 use Rattle.gptp_graph.proofs.CompleteLemmas.{complete}
-use Rattle.gptp_checker.specs.Faults.{test_of, later_faults, IsFirstFault}
+use Rattle.gptp_checker.specs.Faults.{test_of, later_faults, IsAccepted, IsFirstFault}
 use Rattle.gptp_checker.specs.declared.fault.Fault.{Fault}
 use Rattle.gptp_checker.specs.declared.fault.Fault.TheVariants.{Systems, Root, Steps, Parent, Link, Identity, Tie, Role, TooFar}
 use Rattle.gptp_checker.specs.declared.line_test.LineTest.{LineTest}
@@ -26,36 +25,38 @@ found_by tests.Identity = Identity
 found_by tests.Tie = Tie
 found_by tests.Role = Role
 
-module _ (g : Snapshot) (lines : List SystemLine) where
+module _ (version : ℕ) (g : Snapshot) (lines : List SystemLine) where
   -- it is found line by line
-  by_lines : (test : LineTest) → IsWellFormed g → PassesSystems g lines
-      → PassesEachLine test g lines ↔ test_of (found_by test) g lines
-  by_lines tests.TooFar wf right = too_far_by_line g lines
-  by_lines tests.Root wf right = root_by_line g lines
-  by_lines tests.Steps wf right = steps_by_line g lines
-  by_lines tests.Parent wf right = parent_by_line g lines
-  by_lines tests.Identity wf right = identity_by_line g lines
-  by_lines tests.Tie wf right = tie_by_line g lines wf right
-  by_lines tests.Role wf right = role_by_line g lines
+  by_lines : (test : LineTest) → IsWellFormed g → PassesSystems g lines → (test ≡ tests.TooFar → version ≡ 1)
+      → PassesEachLine test g lines ↔ test_of (found_by test) version g lines
+  by_lines tests.TooFar wf right first =
+      let each = too_far_by_line g lines in ((λ h e. each.0 h), (λ h. each.1 (h (first refl))))
+  by_lines tests.Root wf right first = root_by_line g lines
+  by_lines tests.Steps wf right first = steps_by_line g lines
+  by_lines tests.Parent wf right first = parent_by_line g lines
+  by_lines tests.Identity wf right first = identity_by_line g lines
+  by_lines tests.Tie wf right first = tie_by_line g lines wf right
+  by_lines tests.Role wf right first = role_by_line g lines
 
   pub found_by_lines : (fault : Fault) (test : LineTest) (b : Bool) → IsWellFormed g → PassesSystems g lines
-      → fault ≡ found_by test → (IsTrue b ↔ PassesEachLine test g lines) → IsTrue b ↔ test_of fault g lines
-  found_by_lines fault test b wf right e h =
-      let each = by_lines test wf right in
-      subst (λ f. IsTrue b ↔ test_of f g lines) (sym e) ((λ t. each.0 (h.0 t)), (λ p. h.1 (each.1 p)))
+      → (test ≡ tests.TooFar → version ≡ 1) → fault ≡ found_by test → (IsTrue b ↔ PassesEachLine test g lines)
+      → IsTrue b ↔ test_of fault version g lines
+  found_by_lines fault test b wf right first e h =
+      let each = by_lines test wf right first in
+      subst (λ f. IsTrue b ↔ test_of f version g lines) (sym e) ((λ t. each.0 (h.0 t)), (λ p. h.1 (each.1 p)))
 
   -- this fault's test passes
   abbrev pub IsAbsent : Fault → Type 0
-  IsAbsent fault = test_of fault g lines
+  IsAbsent fault = test_of fault version g lines
 
   -- where systems are wrong, that is the first fault
-  pub systems_first : (PassesSystems g lines → ⊥) → IsFirstFault g lines Systems
+  pub systems_first : (PassesSystems g lines → ⊥) → IsFirstFault version g lines Systems
   systems_first f =
       record { before = []; after = later_faults; order = refl; passes = λ earlier k. absurd k; fails = f }
 
   -- where they are right and the faults before a place are absent, it is the one at the place
   pub later_first : (i : ℕ) (fault : Fault) → slice_get later_faults i ≡ Some fault → PassesSystems g lines
-      → HoldBefore IsAbsent later_faults i → (test_of fault g lines → ⊥) → IsFirstFault g lines fault
+      → HoldBefore IsAbsent later_faults i → (test_of fault version g lines → ⊥) → IsFirstFault version g lines fault
   later_first i fault at right h f = record {
     before = Systems ∷ take i later_faults;
     after = drop (suc i) later_faults;
@@ -64,12 +65,12 @@ module _ (g : Snapshot) (lines : List SystemLine) where
     fails = f;
   }
     where
-      passes : (earlier : Fault) → In earlier (Systems ∷ take i later_faults) → test_of earlier g lines
+      passes : (earlier : Fault) → In earlier (Systems ∷ take i later_faults) → test_of earlier version g lines
       passes earlier (inl e) = subst IsAbsent (sym e) right
       passes earlier (inr k) = hold_before IsAbsent later_faults i h earlier k
 
   -- where all are absent, all local tests pass
-  all_absent : PassesSystems g lines → ((fault : Fault) → In fault later_faults → test_of fault g lines)
+  all_absent : PassesSystems g lines → ((fault : Fault) → In fault later_faults → test_of fault version g lines)
       → PassesLocalTests g lines
   all_absent right h = record {
     systems = right;
@@ -82,18 +83,17 @@ module _ (g : Snapshot) (lines : List SystemLine) where
     role = h Role (inr (inr (inr (inr (inr (inr (inr (inl refl))))))));
   }
 
-  -- and the lines are the settled choice
+  -- and the lines are accepted
   pub settled : IsWellFormed g → PassesSystems g lines
-      → ((fault : Fault) → In fault later_faults → test_of fault g lines)
-      → IsSettledChoice g lines × PassesTooFar lines
-  settled wf right h = (sound g lines wf (all_absent right h), h TooFar (inl refl))
+      → ((fault : Fault) → In fault later_faults → test_of fault version g lines)
+      → IsAccepted version g lines
+  settled wf right h = record { choice = sound g lines wf (all_absent right h); near = h TooFar (inl refl) }
 
-  -- the settled choice has no fault
-  pub no_fault : (fault : Fault) → IsWellFormed g → IsSettledChoice g lines × PassesTooFar lines
-      → test_of fault g lines
-  no_fault fault wf (is, near) = one fault (complete g lines wf is)
+  -- what is accepted has no fault
+  pub no_fault : (fault : Fault) → IsWellFormed g → IsAccepted version g lines → test_of fault version g lines
+  no_fault fault wf is = one fault (complete g lines wf is.choice)
     where
-      one : (fault : Fault) → PassesLocalTests g lines → test_of fault g lines
+      one : (fault : Fault) → PassesLocalTests g lines → test_of fault version g lines
       one Systems h = h.systems
       one Root h = h.root
       one Steps h = h.steps
@@ -102,4 +102,4 @@ module _ (g : Snapshot) (lines : List SystemLine) where
       one Identity h = h.identity
       one Tie h = h.tie
       one Role h = h.role
-      one TooFar h = near
+      one TooFar h = is.near

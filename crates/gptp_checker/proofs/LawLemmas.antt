@@ -1,11 +1,11 @@
 -- A certificate has one verdict: one first fault, or none where it is the settled choice.
-use Rattle.std.proofs.Common.{◌≡◌, ◌⊎◌, List, [], ◌∷◌, ◌++◌, sym, ◌∙◌, inl, inr}
+use Rattle.std.proofs.Common.{◌≡◌, ◌⊎◌, ℕ, List, [], ◌∷◌, ◌++◌, sym, ◌∙◌, inl, inr}
 use Rattle.gptp_lists.specs.Members.{In}
-use Rattle.gptp_graph.specs.Labelling.{SystemLine}
-use Rattle.gptp_graph.specs.LocalTests.{PassesTooFar}
-use Rattle.gptp_graph.specs.SettledChoice.{IsSettledChoice}
+use Rattle.gptp_graph.specs.Labelling.{SystemLine, line_clocks}
+use Rattle.gptp_graph.specs.Order.{IsRising}
 use Rattle.gptp_graph.specs.Snapshot.{IsWellFormed, Snapshot}
-use Rattle.gptp_checker.specs.Faults.{IsFirstFault}
+use Rattle.gptp_graph.proofs.ChoiceLemmas.{same_choice}
+use Rattle.gptp_checker.specs.Faults.{IsAccepted, IsFirstFault}
 use Rattle.gptp_checker.specs.declared.fault.Fault.{Fault}
 use Rattle.gptp_checker.proofs.FaultLemmas.{no_fault}
 
@@ -27,9 +27,9 @@ one_place (z ∷ xs) (w ∷ ys) x y after behind e =
       | inr k ↦ inr (elim k [ inl first ↦ inl (inr first) | inr second ↦ inr (inr second) ])
     ]
 
-pub one_fault : (g : Snapshot) (lines : List SystemLine) (f h : Fault) → IsFirstFault g lines f
-    → IsFirstFault g lines h → f ≡ h
-one_fault g lines f h x y = elim (one_place x.before y.before f h x.after y.after (x.order ∙ sym y.order)) [
+pub one_fault : (version : ℕ) (g : Snapshot) (lines : List SystemLine) (f h : Fault)
+    → IsFirstFault version g lines f → IsFirstFault version g lines h → f ≡ h
+one_fault version g lines f h x y = elim (one_place x.before y.before f h x.after y.after (x.order ∙ sym y.order)) [
   | inl same ↦ same
   | inr k ↦ elim k [
     | inl first ↦ absurd (x.fails (y.passes f first))
@@ -37,6 +37,12 @@ one_fault g lines f h x y = elim (one_place x.before y.before f h x.after y.afte
   ]
 ]
 
-pub settled_has_none : (g : Snapshot) (lines : List SystemLine) (fault : Fault) → IsWellFormed g
-    → IsSettledChoice g lines → PassesTooFar lines → IsFirstFault g lines fault → ⊥
-settled_has_none g lines fault wf is near x = x.fails (no_fault g lines fault wf (is, near))
+pub settled_has_none : (version : ℕ) (g : Snapshot) (lines : List SystemLine) (fault : Fault) → IsWellFormed g
+    → IsAccepted version g lines → IsFirstFault version g lines fault → ⊥
+settled_has_none version g lines fault wf is x = x.fails (no_fault version g lines fault wf is)
+
+pub one_accepted : (version other : ℕ) (g : Snapshot) (lines others : List SystemLine) → IsWellFormed g
+    → IsRising (line_clocks lines) → IsRising (line_clocks others)
+    → IsAccepted version g lines → IsAccepted other g others → lines ≡ others
+one_accepted version other g lines others wf rising rises is also =
+    same_choice g lines others wf is.choice also.choice rising rises

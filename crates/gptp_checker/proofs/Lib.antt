@@ -5,3 +5,4 @@ pub mod StatedLemmas
 pub mod LineTestLemmas
 pub mod FaultLemmas
 pub mod LawLemmas
+pub mod ReadableLemmas

@@ -8,7 +8,8 @@ use Rattle.gptp_graph.specs.Labelling.{PortLine, SystemLine, HasItsSystems}
 use Rattle.gptp_graph.specs.LocalTests.{PassesTooFar, PassesRoot, PassesSteps, PassesParent, PassesLink, PassesIdentity, PassesTie, PassesRole}
 use Rattle.gptp_lists.proofs.MemberLemmas.{from_map}
 use Rattle.gptp_graph.proofs.StatementLemmas.{near_with_parent}
-use Rattle.gptp_checker.specs.LineTests.{IsNoLower, PassesLine, PassesEachLine, AgreeAcross, AgreeOver}
+use Rattle.gptp_certificate_text.specs.Certificate.{IsVersion}
+use Rattle.gptp_checker.specs.LineTests.{HasNearer, IsNoLower, LeadsNearer, PassesLine, PassesEachLine, AgreeAcross, AgreeOver}
 use Rattle.gptp_checker.specs.declared.line_test.LineTest.{LineTest}
 use Rattle.gptp_checker.specs.declared.line_test.LineTest.TheVariants.{TooFar, Root, Steps, Parent, Identity, Tie, Role}
 
@@ -19,6 +20,11 @@ In-range a (suc n) k low high = elim (native.Mathlib.Decide.ℕ_discrete k a) [
   | yes e ↦ inl e
   | no other ↦ inr (In-range (a + 1) n k (omega arith) (omega arith))
 ]
+
+-- a version that isn't 2
+pub first_version : (version : ℕ) → IsVersion version → (version ≡ 2 → ⊥) → version ≡ 1
+first_version version (inl e) other = e
+first_version version (inr e) other = absurd (other e)
 
 -- the same test
 pub same_test : (one two : LineTest) (g : Snapshot) (lines : List SystemLine) (line : SystemLine) (b : Bool) → one ≡ two
@@ -98,6 +104,25 @@ module _ (g : Snapshot) (lines : List SystemLine) where
       back h line stated l parent port listed other d joins there less lower =
           let end : ParentLink = record { own_port = port.number; clock = other.clock; port = other.port } in
           h line l end d stated parent joins there less lower
+
+  -- a system has a neighbour one step nearer where one of the links leads there
+  pub nearer_by_link : (line : SystemLine)
+      → ((link : Link) × In link g.links × LeadsNearer lines line link) ↔ HasNearer g lines line
+  nearer_by_link line = (forward, back)
+    where
+      forward : (link : Link) × In link g.links × LeadsNearer lines line link → HasNearer g lines line
+      forward (link, at, inl (here, less)) =
+          let e : link ≡ record { a = port_of line.clock link.a.port; b = link.b } =
+          λ i. record { a = port_of (here i) link.a.port; b = link.b } in
+          (link.b.clock, (link.a.port, link.b.port, inl (subst (λ l. In l g.links) e at)), less)
+      forward (link, at, inr (here, less)) =
+          let e : link ≡ record { a = link.a; b = port_of line.clock link.b.port } =
+          λ i. record { a = link.a; b = port_of (here i) link.b.port } in
+          (link.a.clock, (link.b.port, link.a.port, inr (subst (λ l. In l g.links) e at)), less)
+
+      back : HasNearer g lines line → (link : Link) × In link g.links × LeadsNearer lines line link
+      back (w, (m, n, inl at), less) = (record { a = port_of line.clock m; b = port_of w n }, at, inl (refl, less))
+      back (w, (m, n, inr at), less) = (record { a = port_of w n; b = port_of line.clock m }, at, inr (refl, less))
 
   -- over each link
   abbrev pub PassesEachLink : Type 0

@@ -13,7 +13,7 @@ use Rattle.gptp_graph.proofs.SystemLemmas.{system_of}
 use Rattle.gptp_graph.proofs.StatementLemmas.{same_line}
 use Rattle.gptp_graph.proofs.Sure.{and_true}
 use Rattle.gptp_checker.specs.Places.{IsLineAt, IsSystemAt}
-use Rattle.gptp_checker.specs.LineTests.{Follows, FollowsNearer, HasLowRoot, HasOwnRoot, IsNearer, IsNoLower, AgreeAcross, AgreeOver}
+use Rattle.gptp_checker.specs.LineTests.{Follows, HasLowRoot, HasOwnRoot, IsNearer, IsNoLower, AgreeAcross, AgreeOver}
 
 -- this is the identity of the clock, if it has one
 abbrev pub OnlyIdentity : Snapshot → ℕ → Option ℕ → Type 0
@@ -24,7 +24,7 @@ abbrev pub OnlySteps : List SystemLine → ℕ → Option ℕ → Type 0
 OnlySteps lines v o = (d : ℕ) → StatesSteps lines v d → o ≡ Some d
 
 -- what is in two options that are one
-same_number : (m n : ℕ) → Some m ≡ Some n → m ≡ n
+pub same_number : (m n : ℕ) → Some m ≡ Some n → m ≡ n
 same_number m n e = cc
 
 -- a parent is one that is stated
@@ -121,15 +121,6 @@ pub follows_by : (g : Snapshot) (lines : List SystemLine) (v steps d : ℕ) (l :
 follows_by g lines v steps d l b joins there only test = (
   (λ t. record { joins = joins; less = (d, there, test.0 t) }),
   (λ f. let (k, at, less) = f.less in test.1 (ap (λ n. n + 1) (same_number d k (only k at)) ∙ less)),
-)
-
--- the parent that is stated, of a system that isn't far
-pub follows_nearer : (g : Snapshot) (lines : List SystemLine) (line : SystemLine) (b : Bool) → line.far ≡ false
-    → (IsTrue b ↔ ((l : ParentLink) → line.parent ≡ Some l → Follows g lines line.clock line.steps l))
-    → IsTrue b ↔ FollowsNearer g lines line
-follows_nearer g lines line b near test = (
-  (λ t. record { near = test.0 t; far = λ far. absurd cc }),
-  (λ f. test.1 f.near),
 )
 
 -- a parent of which nothing is stated

@@ -3,7 +3,7 @@
 use Rattle.std.specs.Prelude.{◌≡◌, ◌⊎◌, ◌+◌, ◌<◌, ◌≤◌, ℕ, true, false, List, [], ◌∷◌, Some, None}
 use Rattle.gptp_lists.specs.Members.{In}
 use Rattle.gptp_graph.specs.Order.{IsLower}
-use Rattle.gptp_graph.specs.Snapshot.{System, Snapshot, PortIdentity, port_of, Joins, Adjacent}
+use Rattle.gptp_graph.specs.Snapshot.{System, Snapshot, PortIdentity, Link, port_of, Joins, Adjacent}
 use Rattle.gptp_graph.specs.Parent.{ParentLink, key, JoinsAt}
 use Rattle.gptp_graph.specs.Labelling.{PortLine, SystemLine}
 use Rattle.gptp_graph.specs.LocalTests.{StatesSteps, StatesOneLess, HasStatedRole}
@@ -28,10 +28,23 @@ pub record Follows (g : Snapshot) (lines : List SystemLine) (clock steps : ℕ) 
   pub joins : JoinsAt g clock l
   pub less : (d : ℕ) × StatesSteps lines l.clock d × (d + 1 ≡ steps)
 
+-- from this end a link leads from the line's system to one that states one step less
+abbrev pub LeadsFrom : List SystemLine → SystemLine → ℕ → ℕ → Type 0
+LeadsFrom lines line here there = (here ≡ line.clock) × StatesOneLess lines there line
+
+-- so from one of its ends
+abbrev pub LeadsNearer : List SystemLine → SystemLine → Link → Type 0
+LeadsNearer lines line link =
+    LeadsFrom lines line link.a.clock link.b.clock ⊎ LeadsFrom lines line link.b.clock link.a.clock
+
+-- a link of the snapshot leads from a far system to one that states one step less
+abbrev pub HasNearer : Snapshot → List SystemLine → SystemLine → Type 0
+HasNearer g lines line = (w : ℕ) × Adjacent g line.clock w × StatesOneLess lines w line
+
 -- a parent is followed, and a far system has a link to one that states one step less
 pub record FollowsNearer (g : Snapshot) (lines : List SystemLine) (line : SystemLine) : Type 0 where
   pub near : (l : ParentLink) → line.parent ≡ Some l → Follows g lines line.clock line.steps l
-  pub far : line.far ≡ true → (w : ℕ) × Adjacent g line.clock w × StatesOneLess lines w line
+  pub far : line.far ≡ true → HasNearer g lines line
 
 -- the root isn't above the system's identity
 abbrev pub HasLowRoot : Snapshot → SystemLine → Type 0

@@ -17,6 +17,11 @@ pub record IsLineFor (s : System) (line : SystemLine) : Type 0 where
   pub ports : line.far ≡ false → port_numbers line ≡ range_with_len 1 s.ports
   pub bare : line.far ≡ true → IsBare line
 
+-- these are all the ports of a system with so many, or none where the line is far
+pub record HasRightPorts (count : ℕ) (line : SystemLine) : Type 0 where
+  pub all : line.far ≡ false → port_numbers line ≡ range_with_len 1 count
+  pub bare : line.far ≡ true → IsBare line
+
 -- at this place stands a system, and its line
 pub record AgreeAt (systems : List System) (lines : List SystemLine) (place : ℕ) : Type 0 where
   pub system : System

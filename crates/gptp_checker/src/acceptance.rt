@@ -2,8 +2,7 @@
 
 ghost use Rattle.std.specs.Prelude.{◌≡◌, ◌↔◌, IfErr, IsTrue, Ok};
 ghost use Rattle.gptp_graph.specs.LocalTests.{PassesSystems, PassesTooFar};
-ghost use Rattle.gptp_graph.specs.SettledChoice.{IsSettledChoice};
-ghost use Rattle.gptp_checker.specs.Faults.{IsFirstFault, test_of};
+ghost use Rattle.gptp_checker.specs.Faults.{IsAccepted, IsFirstFault, test_of};
 
 use crate::fault::Fault;
 use crate::line_test::LineTest;
@@ -25,17 +24,29 @@ const LATER_FAULTS: [Fault; 8] = [
     Fault::Role,
 ];
 
+/// Whether the steps of a certificate are below 255, where it is of version 1.
+fn passes_too_far(snapshot: &Snapshot, certificate: &Certificate) -> bool
+    requires { PassesSystems snapshot.now certificate.now.lines }
+    ensures { IsTrue result ↔ (certificate.now.version ≡ 1 → PassesTooFar certificate.now.lines) }
+{
+    certificate.well_formed();
+    if certificate.version() == 2 {
+        return true;
+    }
+    every_line_passes(snapshot, certificate, LineTest::TooFar)
+}
+
 /// Whether a certificate whose systems are right passes the test that finds a fault.
 fn passes(snapshot: &Snapshot, certificate: &Certificate, fault: Fault) -> bool
-    requires { PassesSystems snapshot.now certificate.now }
-    ensures { IsTrue result ↔ test_of fault snapshot.now certificate.now }
+    requires { PassesSystems snapshot.now certificate.now.lines }
+    ensures { IsTrue result ↔ test_of fault certificate.now.version snapshot.now certificate.now.lines }
 {
     snapshot.well_formed();
     let test = match fault {
         // As required.
         Fault::Systems => return true,
         Fault::Link => return passes_link(snapshot, certificate),
-        Fault::TooFar => LineTest::TooFar,
+        Fault::TooFar => return passes_too_far(snapshot, certificate),
         Fault::Root => LineTest::Root,
         Fault::Steps => LineTest::Steps,
         Fault::Parent => LineTest::Parent,
@@ -46,14 +57,17 @@ fn passes(snapshot: &Snapshot, certificate: &Certificate, fault: Fault) -> bool
     every_line_passes(snapshot, certificate, test)
 }
 
-/// Whether a certificate is the choice that the network of a snapshot settles at, with all steps below 255. Refused by
-/// the first fault, looked for over the whole certificate in this order:
+/// Whether a certificate is the choice that the network of a snapshot settles at, in version 1 with all steps below 255.
+/// Refused by the first fault, looked for over the whole certificate in this order:
 ///
-/// - [`Fault::Systems`]: its systems aren't the live ones, or the ports of one aren't all its ports
-/// - [`Fault::TooFar`]: a system has 255 steps or more
-/// - [`Fault::Root`]: a system with no parent states another root than itself
-/// - [`Fault::Steps`]: a system with no parent has steps, or one with a parent has none
-/// - [`Fault::Parent`]: no link joins a system to its parent, or the parent isn't one step nearer
+/// - [`Fault::Systems`]: its systems aren't the live ones, the ports of one that isn't far aren't all its ports, or a far
+///   one has some
+/// - [`Fault::TooFar`]: in version 1, a system has 255 steps or more
+/// - [`Fault::Root`]: a system that isn't far and has no parent states another root than itself
+/// - [`Fault::Steps`]: a system that isn't far has steps and no parent, a parent and no steps, or 255 steps or more; or a
+///   far one has fewer
+/// - [`Fault::Parent`]: no link joins a system to its parent, or the parent isn't one step nearer; or no link leads from a
+///   far system to one that is
 /// - [`Fault::Link`]: over a link the roots differ, or the steps by more than one
 /// - [`Fault::Identity`]: a system is better than the root that it states
 /// - [`Fault::Tie`]: another link, to a system as near as the parent, goes first
@@ -62,9 +76,8 @@ fn passes(snapshot: &Snapshot, certificate: &Certificate, fault: Fault) -> bool
 /// Takes no memory. Each test looks at single systems or links, and finds the other end of a link and a system's line
 /// in logarithmic time.
 pub fn accepts(snapshot: &Snapshot, certificate: &Certificate) -> Result<(), Fault>
-    ensures accepted { (result ≡ Ok tt)
-        ↔ (IsSettledChoice snapshot.now certificate.now × PassesTooFar certificate.now) }
-    ensures refused { IfErr result (IsFirstFault snapshot.now certificate.now) }
+    ensures accepted { (result ≡ Ok tt) ↔ IsAccepted certificate.now.version snapshot.now certificate.now.lines }
+    ensures refused { IfErr result (IsFirstFault certificate.now.version snapshot.now certificate.now.lines) }
 {
     snapshot.well_formed();
     if !passes_systems(snapshot, certificate) {

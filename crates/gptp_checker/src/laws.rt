@@ -1,21 +1,40 @@
 //! What the faults of certificates promise beyond single calls.
 
-ghost use Rattle.std.specs.Prelude.{◌≡◌, List};
-ghost use Rattle.gptp_graph.specs.Labelling.{SystemLine};
-ghost use Rattle.gptp_graph.specs.LocalTests.{PassesTooFar};
-ghost use Rattle.gptp_graph.specs.SettledChoice.{IsSettledChoice};
+ghost use Rattle.std.specs.Prelude.{◌≡◌, ◌≤◌, ℕ, List, length};
+ghost use Rattle.gptp_graph.specs.Labelling.{SystemLine, line_clocks};
+ghost use Rattle.gptp_graph.specs.Order.{IsRising};
 ghost use Rattle.gptp_graph.specs.Snapshot.{IsWellFormed, Snapshot};
-ghost use Rattle.gptp_checker.specs.Faults.{IsFirstFault};
+ghost use Rattle.gptp_network.specs.Snapshot.{IsWithinLimits};
+ghost use Rattle.gptp_certificate_text.specs.Certificate.{IsVersion};
+ghost use Rattle.gptp_certificate_text.specs.CertificateText.{certificate_text};
+ghost use Rattle.gptp_certificate_text.specs.Entries.{IsReadable};
+ghost use Rattle.gptp_checker.specs.Faults.{IsAccepted, IsFirstFault};
 ghost use Rattle.gptp_checker.specs.declared.fault.Fault.{Fault};
 
 /// A certificate has one first fault at most.
 pub fn a_certificate_has_one_first_fault()
-    ensures { (g : Snapshot) (lines : List SystemLine) (one other : Fault)
-        → IsFirstFault g lines one → IsFirstFault g lines other → one ≡ other }
+    ensures { (version : ℕ) (g : Snapshot) (lines : List SystemLine) (one other : Fault)
+        → IsFirstFault version g lines one → IsFirstFault version g lines other → one ≡ other }
 {}
 
-/// The choice that a network settles at, with all steps below 255, has no fault.
+/// The choice that a network settles at, in version 1 with all steps below 255, has no fault.
 pub fn the_settled_choice_has_no_fault()
-    ensures { (g : Snapshot) (lines : List SystemLine) (fault : Fault) → IsWellFormed g
-        → IsSettledChoice g lines → PassesTooFar lines → IsFirstFault g lines fault → ⊥ }
+    ensures { (version : ℕ) (g : Snapshot) (lines : List SystemLine) (fault : Fault) → IsWellFormed g
+        → IsAccepted version g lines → IsFirstFault version g lines fault → ⊥ }
+{}
+
+/// At most one certificate is accepted of a network: two whose lines stand by rising clock are the same, in whichever
+/// versions.
+pub fn one_certificate_is_accepted()
+    ensures { (version other : ℕ) (g : Snapshot) (lines others : List SystemLine) → IsWellFormed g
+        → IsRising (line_clocks lines) → IsRising (line_clocks others)
+        → IsAccepted version g lines → IsAccepted other g others → lines ≡ others }
+{}
+
+/// What is accepted of the snapshot of a document can be read from its text, which is short enough for that.
+pub fn what_is_accepted_can_be_read()
+    ensures readable { (version : ℕ) (g : Snapshot) (lines : List SystemLine) → IsVersion version → IsWellFormed g
+        → IsWithinLimits g → IsAccepted version g lines → IsReadable version lines }
+    ensures short { (version : ℕ) (g : Snapshot) (lines : List SystemLine) → IsVersion version → IsWellFormed g
+        → IsWithinLimits g → IsAccepted version g lines → length (certificate_text version lines) ≤ 1048576 }
 {}

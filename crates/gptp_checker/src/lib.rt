@@ -2,7 +2,7 @@
 //!
 //! [`accepts`] tests what each system of a network says that it has chosen against a snapshot of the network, system by
 //! system and link by link. All tests pass exactly where the certificate is the choice that the network settles at
-//! (IEEE 802.1AS-2020, 10.3) and no system is too far from its root; else the first [`Fault`] is answered.
+//! (IEEE 802.1AS-2020, 10.3), in version 1 with no system too far from its root; else the first [`Fault`] is answered.
 #![tactic(auto)]
 
 mod acceptance;
@@ -11,6 +11,7 @@ pub mod laws;
 mod line_test;
 mod lines;
 mod links;
+mod nearer;
 mod roles;
 mod stated;
 mod systems;
@@ -18,3 +19,4 @@ mod ties;
 
 pub use acceptance::accepts;
 pub use fault::Fault;
+pub use stated::{line_of, steps_of};

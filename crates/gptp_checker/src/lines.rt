@@ -1,15 +1,17 @@
 //! The tests that each line has to pass.
 
-ghost use Rattle.std.specs.Prelude.{◌≡◌, ◌↔◌, IsTrue, Some, slice_get};
+ghost use Rattle.std.specs.Prelude.{◌≡◌, ◌↔◌, true, IsTrue, Some, slice_get};
 ghost use Rattle.gptp_certificate_text.specs.Certificate.{line_of, parent_of};
 ghost use Rattle.gptp_graph.specs.LocalTests.{PassesSystems};
 ghost use Rattle.gptp_graph.specs.Labelling as graphs;
 ghost use Rattle.gptp_lists.specs.Members.{In};
+ghost use Rattle.gptp_graph.specs.Parent.{ParentLink};
 ghost use Rattle.gptp_graph.specs.Snapshot.{clocks};
-ghost use Rattle.gptp_checker.specs.LineTests.{FitsSteps, Follows, HasLowRoot, HasOwnRoot, PassesEachLine, PassesLine};
+ghost use Rattle.gptp_checker.specs.LineTests.{FitsSteps, Follows, HasLowRoot, HasNearer, HasOwnRoot, PassesEachLine, PassesLine};
 ghost use Rattle.gptp_checker.specs.declared.line_test.LineTest.TheVariants as tests;
 
 use crate::line_test::LineTest;
+use crate::nearer::has_nearer;
 use crate::roles::has_roles;
 use crate::stated::{identity_of, joins, steps_of};
 use crate::ties::follows_lowest;
@@ -17,11 +19,14 @@ use gptp_certificate_text::{Certificate, SystemLine};
 use gptp_network::Snapshot;
 use gptp_vector::PortId;
 
-/// Whether a line with no parent states the system's own identity as root.
+/// Whether a line with no parent, which isn't far, states the system's own identity as root.
 fn has_own_root(snapshot: &Snapshot, line: &SystemLine) -> bool
     requires { In line.now.clock (clocks snapshot.now) }
     ensures { IsTrue result ↔ HasOwnRoot snapshot.now (line_of line.now) }
 {
+    if line.far {
+        return true;
+    }
     snapshot.well_formed();
     match identity_of(snapshot, line.clock) {
         Some(identity) => line.parent.is_some() || line.root == identity,
@@ -41,13 +46,13 @@ fn has_low_root(snapshot: &Snapshot, line: &SystemLine) -> bool
     }
 }
 
-/// Whether the steps of a line are 0 exactly where it has no parent, and few enough to follow one.
+/// Whether the steps of a line are 0 exactly where it has no parent, and below 255; those of a far one are 255 or more.
 fn fits_steps(line: &SystemLine) -> bool
     ensures { IsTrue result ↔ FitsSteps (line_of line.now) }
 {
     match line.parent {
-        Some(_) => line.steps > 0 && line.steps < 255,
-        None => line.steps == 0,
+        Some(_) => line.steps > 0 && (line.steps < 255) != line.far,
+        None => (line.far || line.steps == 0) && (line.steps < 255) != line.far,
     }
 }
 
@@ -59,9 +64,9 @@ fn follows(
     steps: u16,
     parent: PortId,
 ) -> bool
-    requires { PassesSystems snapshot.now certificate.now }
+    requires { PassesSystems snapshot.now certificate.now.lines }
     ensures { IsTrue result
-        ↔ Follows snapshot.now certificate.now own.clock steps (parent_of (own.port, parent)) }
+        ↔ Follows snapshot.now certificate.now.lines own.clock steps (parent_of (own.port, parent)) }
 {
     let clock = parent.clock;
     if !joins(snapshot, own, parent) {
@@ -75,8 +80,9 @@ fn follows(
 
 /// Whether a line with a parent is linked with it, and one step farther.
 fn follows_parent(snapshot: &Snapshot, certificate: &Certificate, line: &SystemLine) -> bool
-    requires { PassesSystems snapshot.now certificate.now }
-    ensures { IsTrue result ↔ PassesLine tests.Parent snapshot.now certificate.now (line_of line.now) }
+    requires { PassesSystems snapshot.now certificate.now.lines }
+    ensures { IsTrue result ↔ ((l : ParentLink) → (line_of line.now).parent ≡ Some l
+        → Follows snapshot.now certificate.now.lines line.now.clock line.now.steps l) }
 {
     let clock = line.clock;
     let steps = line.steps;
@@ -92,17 +98,40 @@ fn follows_parent(snapshot: &Snapshot, certificate: &Certificate, line: &SystemL
     }
 }
 
+/// Whether a line that is far has a neighbour one step nearer.
+fn is_nearer_if_far(snapshot: &Snapshot, certificate: &Certificate, line: &SystemLine) -> bool
+    requires { PassesSystems snapshot.now certificate.now.lines }
+    ensures { IsTrue result
+        ↔ (line.now.far ≡ true → HasNearer snapshot.now certificate.now.lines (line_of line.now)) }
+{
+    if line.far {
+        return has_nearer(snapshot, certificate, line);
+    }
+    true
+}
+
+/// Whether a line follows its parent, if it has one, and has a neighbour one step nearer, if it is far.
+fn follows_nearer(snapshot: &Snapshot, certificate: &Certificate, line: &SystemLine) -> bool
+    requires { PassesSystems snapshot.now certificate.now.lines }
+    ensures { IsTrue result ↔ PassesLine tests.Parent snapshot.now certificate.now.lines (line_of line.now) }
+{
+    if !follows_parent(snapshot, certificate, line) {
+        return false;
+    }
+    is_nearer_if_far(snapshot, certificate, line)
+}
+
 /// Whether a line passes a test.
 fn passes(snapshot: &Snapshot, certificate: &Certificate, line: &SystemLine, test: LineTest) -> bool
-    requires systems { PassesSystems snapshot.now certificate.now }
-    requires stated { In (line_of line.now) certificate.now }
-    ensures { IsTrue result ↔ PassesLine test snapshot.now certificate.now (line_of line.now) }
+    requires systems { PassesSystems snapshot.now certificate.now.lines }
+    requires stated { In (line_of line.now) certificate.now.lines }
+    ensures { IsTrue result ↔ PassesLine test snapshot.now certificate.now.lines (line_of line.now) }
 {
     match test {
         LineTest::TooFar => line.steps < 255,
         LineTest::Root => has_own_root(snapshot, line),
         LineTest::Steps => fits_steps(line),
-        LineTest::Parent => follows_parent(snapshot, certificate, line),
+        LineTest::Parent => follows_nearer(snapshot, certificate, line),
         LineTest::Identity => has_low_root(snapshot, line),
         LineTest::Tie => follows_lowest(snapshot, certificate, line),
         LineTest::Role => has_roles(snapshot, certificate, line),
@@ -111,9 +140,9 @@ fn passes(snapshot: &Snapshot, certificate: &Certificate, line: &SystemLine, tes
 
 /// Whether the line at a place passes a test.
 fn passes_at(snapshot: &Snapshot, certificate: &Certificate, place: usize, test: LineTest) -> bool
-    requires { PassesSystems snapshot.now certificate.now }
-    ensures { IsTrue result ↔ ((line : graphs.SystemLine) → slice_get certificate.now place ≡ Some line
-        → PassesLine test snapshot.now certificate.now line) }
+    requires { PassesSystems snapshot.now certificate.now.lines }
+    ensures { IsTrue result ↔ ((line : graphs.SystemLine) → slice_get certificate.now.lines place ≡ Some line
+        → PassesLine test snapshot.now certificate.now.lines line) }
 {
     match certificate.line(place) {
         Some(line) => passes(snapshot, certificate, line, test),
@@ -127,8 +156,8 @@ pub(crate) fn every_line_passes(
     certificate: &Certificate,
     test: LineTest,
 ) -> bool
-    requires { PassesSystems snapshot.now certificate.now }
-    ensures { IsTrue result ↔ PassesEachLine test snapshot.now certificate.now }
+    requires { PassesSystems snapshot.now certificate.now.lines }
+    ensures { IsTrue result ↔ PassesEachLine test snapshot.now certificate.now.lines }
 {
     for place in 0..certificate.len() {
         if !passes_at(snapshot, certificate, place, test) {

@@ -20,8 +20,8 @@ fn agree_across(one: &SystemLine, other: &SystemLine) -> bool
 
 /// Whether what is stated of two clocks agrees.
 fn agree_over(snapshot: &Snapshot, certificate: &Certificate, one: ClockId, other: ClockId) -> bool
-    requires { PassesSystems snapshot.now certificate.now }
-    ensures { IsTrue result ↔ AgreeOver certificate.now one other }
+    requires { PassesSystems snapshot.now certificate.now.lines }
+    ensures { IsTrue result ↔ AgreeOver certificate.now.lines one other }
 {
     let Some(here) = line_of(snapshot, certificate, one) else {
         return true;
@@ -34,9 +34,9 @@ fn agree_over(snapshot: &Snapshot, certificate: &Certificate, one: ClockId, othe
 
 /// Whether what is stated agrees across the link at a place.
 fn agree_at(snapshot: &Snapshot, certificate: &Certificate, place: usize) -> bool
-    requires { PassesSystems snapshot.now certificate.now }
+    requires { PassesSystems snapshot.now certificate.now.lines }
     ensures { IsTrue result ↔ ((link : Link) → slice_get snapshot.now.links place ≡ Some link
-        → AgreeOver certificate.now link.a.clock link.b.clock) }
+        → AgreeOver certificate.now.lines link.a.clock link.b.clock) }
 {
     match snapshot.link_at(place) {
         Some((a, b)) => agree_over(snapshot, certificate, a.clock, b.clock),
@@ -46,8 +46,8 @@ fn agree_at(snapshot: &Snapshot, certificate: &Certificate, place: usize) -> boo
 
 /// Whether over each link the roots agree, and the steps differ by one at most.
 pub(crate) fn passes_link(snapshot: &Snapshot, certificate: &Certificate) -> bool
-    requires { PassesSystems snapshot.now certificate.now }
-    ensures { IsTrue result ↔ PassesLink snapshot.now certificate.now }
+    requires { PassesSystems snapshot.now certificate.now.lines }
+    ensures { IsTrue result ↔ PassesLink snapshot.now certificate.now.lines }
 {
     for place in 0..snapshot.links() {
         if !agree_at(snapshot, certificate, place) {

@@ -36,8 +36,8 @@ fn is_nearer(
     line: &SystemLine,
     other: ClockId,
 ) -> bool
-    requires { PassesSystems snapshot.now certificate.now }
-    ensures { IsTrue result ↔ IsNearer certificate.now (line_of line.now) other }
+    requires { PassesSystems snapshot.now certificate.now.lines }
+    ensures { IsTrue result ↔ IsNearer certificate.now.lines (line_of line.now) other }
 {
     match steps_of(snapshot, certificate, other) {
         Some(there) => goes_before(line.steps, line.clock, there, other),
@@ -47,8 +47,8 @@ fn is_nearer(
 
 /// The role that links, parent and steps give a port.
 fn role_at(snapshot: &Snapshot, certificate: &Certificate, line: &SystemLine, number: u16) -> Role
-    requires { PassesSystems snapshot.now certificate.now }
-    ensures { HasStatedRole snapshot.now certificate.now (line_of line.now) number (role_of result) }
+    requires { PassesSystems snapshot.now certificate.now.lines }
+    ensures { HasStatedRole snapshot.now certificate.now.lines (line_of line.now) number (role_of result) }
 {
     snapshot.well_formed();
     let port = PortId {
@@ -69,8 +69,8 @@ fn role_at(snapshot: &Snapshot, certificate: &Certificate, line: &SystemLine, nu
 
 /// Whether each port of a line has the role that links, parent and steps give it.
 pub(crate) fn has_roles(snapshot: &Snapshot, certificate: &Certificate, line: &SystemLine) -> bool
-    requires { PassesSystems snapshot.now certificate.now }
-    ensures { IsTrue result ↔ PassesLine tests.Role snapshot.now certificate.now (line_of line.now) }
+    requires { PassesSystems snapshot.now certificate.now.lines }
+    ensures { IsTrue result ↔ PassesLine tests.Role snapshot.now certificate.now.lines (line_of line.now) }
 {
     for port in &line.ports {
         if role_at(snapshot, certificate, line, port.0) != port.1 {

@@ -21,30 +21,28 @@ pub(crate) fn identity_of(snapshot: &Snapshot, clock: ClockId) -> Option<Identit
     Some(identity)
 }
 
-/// The line of a clock, if there is one.
-pub(crate) fn line_of<'a>(
+/// The line of a clock in a certificate that is of the systems of a snapshot, if there is one. Takes no memory, and
+/// logarithmic time.
+pub fn line_of<'a>(
     snapshot: &Snapshot,
     certificate: &'a Certificate,
     clock: ClockId,
 ) -> Option<&'a SystemLine>
-    requires { PassesSystems snapshot.now certificate.now }
-    ensures some { IfSome result (λ line. IsLineAt certificate.now clock (line_of line.now)) }
-    ensures none { IfNone result ((line : graphs.SystemLine) → IsLineAt certificate.now clock line → ⊥) }
+    requires { PassesSystems snapshot.now certificate.now.lines }
+    ensures some { IfSome result (λ line. IsLineAt certificate.now.lines clock (line_of line.now)) }
+    ensures none { IfNone result ((line : graphs.SystemLine) → IsLineAt certificate.now.lines clock line → ⊥) }
 {
     snapshot.well_formed();
     certificate.well_formed();
     certificate.line(snapshot.place_of(clock)?)
 }
 
-/// The steps that are stated of a clock, if it has a line.
-pub(crate) fn steps_of(
-    snapshot: &Snapshot,
-    certificate: &Certificate,
-    clock: ClockId,
-) -> Option<u16>
-    requires { PassesSystems snapshot.now certificate.now }
-    ensures some { IfSome result (StatesSteps certificate.now clock) }
-    ensures only { (d : ℕ) → StatesSteps certificate.now clock d → result ≡ Some d }
+/// The steps that such a certificate states of a clock, if it has a line: in a far line too. Takes no memory, and
+/// logarithmic time.
+pub fn steps_of(snapshot: &Snapshot, certificate: &Certificate, clock: ClockId) -> Option<u16>
+    requires { PassesSystems snapshot.now certificate.now.lines }
+    ensures some { IfSome result (StatesSteps certificate.now.lines clock) }
+    ensures only { (d : ℕ) → StatesSteps certificate.now.lines clock d → result ≡ Some d }
 {
     Some(line_of(snapshot, certificate, clock)?.steps)
 }

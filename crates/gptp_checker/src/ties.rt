@@ -31,9 +31,9 @@ fn is_no_lower(
     parent: &PortId,
     number: u16,
 ) -> bool
-    requires { PassesSystems snapshot.now certificate.now }
+    requires { PassesSystems snapshot.now certificate.now.lines }
     ensures { IsTrue result
-        ↔ IsNoLower snapshot.now certificate.now (line_of line.now) (parent_of (own_port, parent.now)) number }
+        ↔ IsNoLower snapshot.now certificate.now.lines (line_of line.now) (parent_of (own_port, parent.now)) number }
 {
     snapshot.well_formed();
     let port = PortId {
@@ -60,9 +60,9 @@ fn are_no_lower(
     own_port: u16,
     parent: PortId,
 ) -> bool
-    requires { PassesSystems snapshot.now certificate.now }
+    requires { PassesSystems snapshot.now certificate.now.lines }
     ensures { IsTrue result
-        ↔ AreNoLower snapshot.now certificate.now (line_of line.now) (parent_of (own_port, parent)) }
+        ↔ AreNoLower snapshot.now certificate.now.lines (line_of line.now) (parent_of (own_port, parent)) }
 {
     for port in &line.ports {
         if !is_no_lower(snapshot, certificate, line, own_port, &parent, port.0) {
@@ -78,8 +78,8 @@ pub(crate) fn follows_lowest(
     certificate: &Certificate,
     line: &SystemLine,
 ) -> bool
-    requires { PassesSystems snapshot.now certificate.now }
-    ensures { IsTrue result ↔ PassesLine tests.Tie snapshot.now certificate.now (line_of line.now) }
+    requires { PassesSystems snapshot.now certificate.now.lines }
+    ensures { IsTrue result ↔ PassesLine tests.Tie snapshot.now certificate.now.lines (line_of line.now) }
 {
     match line.parent {
         Some((own_port, parent)) => are_no_lower(snapshot, certificate, line, own_port, parent),

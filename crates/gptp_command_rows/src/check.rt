@@ -78,7 +78,7 @@ const SECOND_TOO_FAR: &str =
 port 0000000000000002 1 slave
 ";
 
-/// A certificate of two systems.
+/// A certificate, of version 1, of two systems.
 fn certificate(alloc: Global, one: &str, other: &str) -> Result<String, AllocError> {
     format!(in alloc; "gptp-certificate 1\n{one}{other}end\n")
 }
@@ -152,6 +152,75 @@ fn certificates_are_judged_by_number_and_name(rt: HostRuntime) -> Result<(), Fai
     Ok(())
 }
 
+/// That a system is far.
+const FIRST_FAR: &str = "system 0000000000000001 far 255 root f6f8fe436af80000000000000001\n";
+
+const SECOND_FAR: &str = "system 0000000000000002 far 256 root f6f8fe436af80000000000000001\n";
+
+const SECOND_FAR_FEW: &str = "system 0000000000000002 far 1 root f6f8fe436af80000000000000001\n";
+
+const SECOND_FAR_PADDED: &str =
+    "system 0000000000000002 far 0255 root f6f8fe436af80000000000000001\n";
+
+const SECOND_FAR_TOO_MANY: &str =
+    "system 0000000000000002 far 65536 root f6f8fe436af80000000000000001\n";
+
+/// A port, misspelled or of another clock, after that.
+const SECOND_FAR_PORT: &str = "system 0000000000000002 far 256 root f6f8fe436af80000000000000001
+port 0000000000000002 01 slave
+";
+
+const SECOND_FAR_PORT_ELSEWHERE: &str =
+    "system 0000000000000002 far 256 root f6f8fe436af80000000000000001
+port 0000000000000001 1 slave
+";
+
+#[test]
+fn far_systems_stand_in_version_2(rt: HostRuntime) -> Result<(), Fail> {
+    let alloc = rt.alloc();
+    for (version, one, other, want) in [
+        ("2", FIRST, SECOND, "accepted\n"),
+        ("2", FIRST, SECOND_TOO_FAR, "not accepted 3 Steps\n"),
+        ("2", FIRST, SECOND_FAR_FEW, "not accepted 3 Steps\n"),
+        ("2", FIRST, SECOND_FAR, "not accepted 4 Parent\n"),
+        ("2", FIRST_FAR, SECOND, "not accepted 4 Parent\n"),
+        ("2", FIRST_FAR, SECOND_FAR, "not accepted 4 Parent\n"),
+        ("2", FIRST_FAR, "", "not accepted 1 Systems\n"),
+        (
+            "2",
+            FIRST,
+            SECOND_FAR_PADDED,
+            "certificate refused 4 Spelling\n",
+        ),
+        (
+            "2",
+            FIRST,
+            SECOND_FAR_TOO_MANY,
+            "certificate refused 4 Spelling\n",
+        ),
+        ("2", SECOND_FAR, FIRST, "certificate refused 3 Order\n"),
+        ("2", FIRST, SECOND_FAR_PORT, "certificate refused 2 Line\n"),
+        (
+            "2",
+            FIRST,
+            SECOND_FAR_PORT_ELSEWHERE,
+            "certificate refused 2 Line\n",
+        ),
+        ("1", FIRST, SECOND_FAR, "certificate refused 2 Line\n"),
+        (
+            "1",
+            FIRST,
+            SECOND_FAR_PADDED,
+            "certificate refused 2 Line\n",
+        ),
+    ] {
+        let text = format!(in alloc; "gptp-certificate {version}\n{one}{other}end\n")?;
+        let (verdict, _) = checked(alloc, TWO.as_bytes(), text.as_bytes(), None)?;
+        same_at(&rt, &text, verdict.as_slice(), want.as_bytes());
+    }
+    Ok(())
+}
+
 #[test]
 fn heads_and_ends_are_read(rt: HostRuntime) -> Result<(), Fail> {
     let alloc = rt.alloc();
@@ -162,6 +231,12 @@ fn heads_and_ends_are_read(rt: HostRuntime) -> Result<(), Fail> {
             "certificate refused 1 Head\n",
         ),
         ("gptp-certificate 1", "", "certificate refused 1 Head\n"),
+        ("gptp-certificate 2", "", "certificate refused 1 Head\n"),
+        (
+            "gptp-certificate 02\n",
+            "end\n",
+            "certificate refused 1 Head\n",
+        ),
         ("gptp-certificate 1\n", "", "certificate refused 2 Line\n"),
         (
             "gptp-certificate 1\n",
@@ -243,6 +318,24 @@ fn the_network_is_that_of_a_time(rt: HostRuntime) -> Result<(), Fail> {
     ] {
         let (verdict, _) = checked(alloc, document.as_bytes(), text.as_bytes(), until)?;
         same_at(&rt, &until, verdict.as_slice(), want.as_bytes());
+    }
+    Ok(())
+}
+
+/// So does the second at 50 s.
+const SECOND_FAILURE: &str = "[[event]]
+at = 50000000000
+kind = \"fail\"
+clock = \"0000000000000002\"
+";
+
+#[test]
+fn of_no_system_a_certificate_says_nothing(rt: HostRuntime) -> Result<(), Fail> {
+    let alloc = rt.alloc();
+    let document = format!(in alloc; "{TWO}{FAILURE}{SECOND_FAILURE}")?;
+    for text in ["gptp-certificate 1\nend\n", "gptp-certificate 2\nend\n"] {
+        let (verdict, _) = checked(alloc, document.as_bytes(), text.as_bytes(), None)?;
+        same_at(&rt, &text, verdict.as_slice(), "accepted\n".as_bytes());
     }
     Ok(())
 }

@@ -4,11 +4,21 @@
 #![tactic(auto)]
 
 #[cfg(test)]
+mod accuracy;
+#[cfg(test)]
+mod asked;
+#[cfg(test)]
 mod check;
 #[cfg(test)]
 mod compare;
 #[cfg(test)]
+mod cut;
+#[cfg(test)]
+mod failing;
+#[cfg(test)]
 mod far;
+#[cfg(test)]
+mod inject;
 #[cfg(test)]
 mod refusals;
 #[cfg(test)]

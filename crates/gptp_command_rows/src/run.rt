@@ -36,7 +36,7 @@ pub fn ran(
 }
 
 /// The run of a document is done, and writes this.
-fn assert_writes(
+pub fn assert_writes(
     rt: &impl Abort,
     alloc: Global,
     document: &[u8],
@@ -80,6 +80,101 @@ port 0000000000000002 1 slave capable yes delay 32768000
     assert_writes(&rt, alloc, TWO.as_bytes(), &TO_THE_END, want)
 }
 
+/// The same two systems, but the port of the first announces each two seconds.
+pub const SLOWER_FIRST: &str = "version = 2
+[[system]]
+clock = \"0000000000000001\"
+announce = [1]
+[[system]]
+clock = \"0000000000000002\"
+phase = 1000000
+[[link]]
+a = \"0000000000000001\"
+a_port = 1
+b = \"0000000000000002\"
+b_port = 1
+min = 500
+max = 500
+";
+
+#[test]
+fn settling_counts_the_largest_interval(rt: HostRuntime) -> Result<(), Fail> {
+    let alloc = rt.alloc();
+    let want = "time 52000000000
+change 0 calm yes settle 52000000000
+system 0000000000000001 root f6f8fe436af80000000000000001 steps 0 gm yes slave none offset none
+port 0000000000000001 1 master capable yes delay 32768000
+system 0000000000000002 root f6f8fe436af80000000000000001 steps 1 gm yes slave 1 offset 65536000000
+port 0000000000000002 1 slave capable yes delay 32768000
+";
+    assert_writes(&rt, alloc, SLOWER_FIRST.as_bytes(), &TO_THE_END, want)
+}
+
+/// Whether a line of a run tells of an Announce with these octets.
+fn tells_announce(text: &str, octets: &str) -> bool {
+    let mut told = false;
+    for line in text.lines() {
+        told |= line.contains(" announce ") && line.contains(octets);
+    }
+    told
+}
+
+/// Source port, sequence and control of the first Announce of each system, with the logarithm of an interval behind.
+#[test]
+fn announces_name_the_interval_of_their_port(rt: HostRuntime) -> Result<(), Fail> {
+    let alloc = rt.alloc();
+    let options = RunOptions {
+        until: Some(2_000_000_000),
+        frames: true,
+        ..TO_THE_END
+    };
+    let (text, _) = ran(alloc, SLOWER_FIRST.as_bytes(), &options)?;
+    let text = str::from_utf8(text.as_slice())?;
+    for (octets, is_told) in [
+        ("0000000000000001000100000001", true),
+        ("0000000000000001000100000000", false),
+        ("0000000000000002000100000000", true),
+    ] {
+        same_at(&rt, &octets, tells_announce(text, octets), is_told);
+    }
+    Ok(())
+}
+
+/// The first system of those two fails at 60 s.
+const FIRST_FAILS: &str =
+    "[[event]]\nat = 60000000000\nkind = \"fail\"\nclock = \"0000000000000001\"\n";
+
+/// What is held ages by the interval that its Announce named: the last came at 59.0000025 s, and stays for three times 2 s.
+#[test]
+fn what_is_heard_ages_by_its_interval(rt: HostRuntime) -> Result<(), Fail> {
+    let alloc = rt.alloc();
+    let document = format!(in alloc; "{SLOWER_FIRST}{FIRST_FAILS}")?;
+    for (until, second) in [
+        (
+            65_000_002_499,
+            "system 0000000000000002 root f6f8fe436af80000000000000001 steps 1 gm yes slave 1 offset 65536000000
+port 0000000000000002 1 slave capable yes delay 32768000
+",
+        ),
+        (
+            65_000_002_500,
+            "system 0000000000000002 root f6f8fe436af80000000000000002 steps 0 gm yes slave none offset none
+port 0000000000000002 1 master capable yes delay 32768000
+",
+        ),
+    ] {
+        let options = RunOptions {
+            until: Some(until),
+            ..TO_THE_END
+        };
+        let want = format!(in alloc;
+            "time {until}\nchange 60000000000 calm yes settle 100000000000\nsystem 0000000000000001 failed\n{second}"
+        )?;
+        assert_writes(&rt, alloc, document.as_bytes(), &options, want.as_str())?;
+    }
+    Ok(())
+}
+
 /// The same two systems, but the second clock gains 1 in 2^16: its drift is 2^41 / 2^16. In units of 2^-16 ns it shows
 /// 65537 for each ns.
 ///
@@ -102,6 +197,18 @@ b_port = 1
 min = 500
 max = 500
 ";
+
+#[test]
+fn run_never_wants_memory(rt: HostRuntime) -> Result<(), Fail> {
+    let alloc = rt.alloc();
+    let options = RunOptions {
+        certificate: true,
+        frames: true,
+        ..TO_THE_END
+    };
+    assert!(rt; ran(alloc, TWO.as_bytes(), &options).is_ok());
+    Ok(())
+}
 
 #[test]
 fn a_drifting_clock_runs_ahead(rt: HostRuntime) -> Result<(), Fail> {
@@ -296,7 +403,7 @@ fn ring(alloc: Global) -> Result<String, AllocError> {
 }
 
 /// What the three systems of the ring say then.
-const RING_CERTIFICATE: &str = "gptp-certificate 1
+const RING_CERTIFICATE: &str = "gptp-certificate 2
 system 0000000000000002 root f6f8fe436af80000000000000002 steps 0 parent none
 port 0000000000000002 1 disabled
 port 0000000000000002 2 master
@@ -387,7 +494,8 @@ fn documents_are_refused_by_number_and_name(rt: HostRuntime) -> Result<(), Fail>
         ("", "refused 2 MissingKey\n"),
         ("version", "refused 1 NotToml\n"),
         ("version = 1\n", "refused 2 MissingKey\n"),
-        ("version = 2\n", "refused 4 OutOfRange\n"),
+        ("version = 2\n", "refused 2 MissingKey\n"),
+        ("version = 3\n", "refused 4 OutOfRange\n"),
         ("version = \"1\"\n", "refused 3 WrongKind\n"),
         (TWICE, "refused 5 DuplicateClock\n"),
         (

@@ -1,8 +1,8 @@
 -- The words that the parser takes of the program's command line: what it finds wrong with any others.
-use Rattle.std.proofs.Common.{◌≡◌, ◌⊎◌, inl, inr, ℕ, suc, Bool, true, false, ◌==◌, List, [], ◌∷◌, Option, Some, None, length, codes, bytes_eq, refl, sym, ap, ap₂, ◌∙◌, arith, chars, slice_get, drop}
+use Rattle.std.proofs.Common.{◌≡◌, ◌⊎◌, inl, inr, ℕ, suc, Bool, true, false, ◌==◌, List, [], ◌∷◌, Option, Some, None, length, codes, bytes_eq, refl, sym, subst, ap, ap₂, ◌∙◌, arith, chars, slice_get, drop}
 use Rattle.std.proofs.lemmas.Slice.Eq.{bytes_eq-Decides}
 use Rattle.std.specs.Option.{option_map_or}
-use Rattle.std.specs.Prelude.{Box, cond, is_some, option_and_then, option_map}
+use Rattle.std.specs.Prelude.{Box, cond, is_some, option_and_then, option_map, unwrap_or}
 use Rattle.std.specs.Box.{box_value}
 use Rattle.clap.specs.Words.{App, HasKind, HasMatchesOf, Kinds, Row, kind_of, subcommand_name_of, subcommand_of, subcommand_rows, subcommand_rows_of}
 use Rattle.clap.specs.declared.parser.matches.ArgMatches.{ArgMatches}
@@ -18,9 +18,11 @@ use Rattle.clap.specs.Simple.{Shape, built, built_leaf, entered, filled_from, he
 use Rattle.clap.specs.Faults.{built_fault, check_fault, defaults_fault, level_fault, settle_fault, word_fault, bundle_fault, bundle_step_fault, entered_fault, flag_word_fault, fault_of, flags_fault, is_simple_and_free, long_fault, short_fault, step_fault, stray_fault, turn_fault, walk_fault}
 use Rattle.clap.proofs.WalkLemmas.{walk_stopped}
 use Rattle.clap.proofs.OnLiterals.{clap_on_literals}
-use Rattle.gptp_commands.specs.Command.{AsksFor, BeginsWith, Enters, IsCompare, IsNoOption, IsPlain, OrderIsInRange, check_command, program}
+use Rattle.gptp_commands.specs.Command.{AsksFor, BeginsWith, Enters, IsCompare, IsNoOption, IsPlain, OrderIsInRange, QuestionIsInRange, ReadsQuestion, check_command, name_of, program}
 use Rattle.gptp_commands.specs.declared.command.Order.{Order}
-use Rattle.gptp_commands.specs.declared.command.Order.TheVariants.{Check, Compare, Run}
+use Rattle.gptp_commands.specs.declared.command.Order.TheVariants.{Ask, Check, Compare, Run}
+use Rattle.gptp_commands.specs.declared.question.Question.{Question}
+use Rattle.gptp_commands.specs.declared.question.Question.TheVariants.{Accuracy, Choice}
 
 -- ---- faults, of which the first that there is counts
 
@@ -172,6 +174,18 @@ unfolding walked
 stops_at_check words =
     ap (λ (w : Walk). w.stopped) (sym (walk_stopped help_rules names (walk_from nothing_held) (codes "check") [] words))
 
+stops_at_choice : (words : List Text) → stop (codes "choice" ∷ words) ≡ Some (codes "choice", words)
+unfolding walked
+stops_at_choice words =
+    ap (λ (w : Walk). w.stopped)
+    (sym (walk_stopped help_rules names (walk_from nothing_held) (codes "choice") [] words))
+
+stops_at_accuracy : (words : List Text) → stop (codes "accuracy" ∷ words) ≡ Some (codes "accuracy", words)
+unfolding walked
+stops_at_accuracy words =
+    ap (λ (w : Walk). w.stopped)
+    (sym (walk_stopped help_rules names (walk_from nothing_held) (codes "accuracy") [] words))
+
 -- the words behind `compare` are left to it
 words_behind : (words : List Text) → fault (codes "compare" ∷ words) ≡ [] → (words ≡ []) ⊎ (words ≡ codes "--" ∷ [])
 words_behind words none =
@@ -200,35 +214,47 @@ named : (words : List Text) → (words ≡ []) ⊎ (words ≡ codes "--" ∷ [])
 named words (inl nothing) = inl (rw nothing refl)
 named words (inr mark) = inr (rw mark refl)
 
--- one of the three commands is named
+-- the commands with options
+abbrev IsOther : Text → Type 0
+IsOther name =
+    (name ≡ codes "run") ⊎ ((name ≡ codes "check") ⊎ ((name ≡ codes "choice") ⊎ (name ≡ codes "accuracy")))
+
+-- one of the commands is named
 abbrev NamesOne : List Text → Type 0
-NamesOne words = IsCompare words ⊎ (BeginsWith (codes "run") words ⊎ BeginsWith (codes "check") words)
+NamesOne words = IsCompare words ⊎ ((name : Text) × IsOther name × BeginsWith name words)
 
 -- the first word is the name
-begins : (name word : Text) (words : List Text) → bytes_eq name word ≡ true → BeginsWith name (word ∷ words)
-begins name word words same = (words, ap (λ first. first ∷ words) (sym ((bytes_eq-Decides name word).0 same)))
+begins : (name word : Text) (words : List Text) → IsOther name → bytes_eq name word ≡ true → NamesOne (word ∷ words)
+begins name word words other same =
+    inr (name, other, (words, ap (λ first. first ∷ words) (sym ((bytes_eq-Decides name word).0 same))))
 
 -- by what the first word is
-first_word : (is_compare is_run is_check is_help is_mark : Bool) (word : Text) (words : List Text)
+first_word : (is_compare is_run is_check is_choice is_accuracy is_help is_mark : Bool) (word : Text) (words : List Text)
     → bytes_eq (codes "compare") word ≡ is_compare → bytes_eq (codes "run") word ≡ is_run
-    → bytes_eq (codes "check") word ≡ is_check → bytes_eq (codes "help") word ≡ is_help
+    → bytes_eq (codes "check") word ≡ is_check → bytes_eq (codes "choice") word ≡ is_choice
+    → bytes_eq (codes "accuracy") word ≡ is_accuracy → bytes_eq (codes "help") word ≡ is_help
     → bytes_eq word (codes "--") ≡ is_mark → fault (word ∷ words) ≡ [] → NamesOne (word ∷ words)
 unfolding walk_fault
-first_word true is_run is_check is_help is_mark word words compare run check help mark none =
+first_word true is_run is_check is_choice is_accuracy is_help is_mark word words compare run check choice accuracy help
+    mark none =
     let word_is : codes "compare" ≡ word = (bytes_eq-Decides (codes "compare") word).0 compare in
     inl (rw (← word_is) (named words (words_behind words (rw (← word_is) at none))))
-first_word false true is_check is_help is_mark word words compare run check help mark none =
-    inr (inl (begins (codes "run") word words run))
-first_word false false true is_help is_mark word words compare run check help mark none =
-    inr (inr (begins (codes "check") word words check))
-first_word false false false true is_mark word words compare run check help mark none =
+first_word false true is_check is_choice is_accuracy is_help is_mark word words compare run check choice accuracy help
+    mark none = begins (codes "run") word words (inl refl) run
+first_word false false true is_choice is_accuracy is_help is_mark word words compare run check choice accuracy help mark
+    none = begins (codes "check") word words (inr (inl refl)) check
+first_word false false false true is_accuracy is_help is_mark word words compare run check choice accuracy help mark
+    none = begins (codes "choice") word words (inr (inr (inl refl))) choice
+first_word false false false false true is_help is_mark word words compare run check choice accuracy help mark none =
+    begins (codes "accuracy") word words (inr (inr (inr refl))) accuracy
+first_word false false false false false true is_mark word words compare run check choice accuracy help mark none =
     let word_is : codes "help" ≡ word = (bytes_eq-Decides (codes "help") word).0 help in
     absurd (help_asked words (rw (← word_is) at none))
-first_word false false false false true word words compare run check help mark none =
+first_word false false false false false false true word words compare run check choice accuracy help mark none =
     let word_is : word ≡ codes "--" = (bytes_eq-Decides word (codes "--")).0 mark in
     absurd (mark_alone words (rw word_is at none))
-first_word false false false false false word words compare run check help mark none =
-    let no_name : subcommand_met names idle word ≡ None = rw (compare, run, check, help) refl in
+first_word false false false false false false false word words compare run check choice accuracy help mark none =
+    let no_name : subcommand_met names idle word ≡ None = rw (compare, run, check, choice, accuracy, help) refl in
     absurd (strange top names word no_name mark (first_none _ _ (walk_finds_none (word ∷ words) none)))
 
 -- no word at all
@@ -240,7 +266,9 @@ words_named : (words : List Text) → fault words ≡ [] → NamesOne words
 words_named [] none = absurd (nothing_named none)
 words_named (word ∷ words) none =
     first_word (bytes_eq (codes "compare") word) (bytes_eq (codes "run") word) (bytes_eq (codes "check") word)
-    (bytes_eq (codes "help") word) (bytes_eq word (codes "--")) word words refl refl refl refl refl none
+    (bytes_eq (codes "choice") word) (bytes_eq (codes "accuracy") word) (bytes_eq (codes "help") word)
+    (bytes_eq word (codes "--")) word words
+    refl refl refl refl refl refl refl none
 
 -- ---- the command that the parser enters is the one that is named
 
@@ -255,55 +283,55 @@ enters_compare : (words : List Text) → IsCompare words → entered_name words 
 enters_compare words (inl alone) = rw (alone, stops_at_compare []) refl
 enters_compare words (inr marked) = rw (marked, stops_at_compare (codes "--" ∷ [])) refl
 
-enters_run : (words : List Text) → BeginsWith (codes "run") words → entered_name words ≡ Some (codes "run")
-enters_run words run = rw (run.1, stops_at_run run.0) refl
-
-enters_check : (words : List Text) → BeginsWith (codes "check") words → entered_name words ≡ Some (codes "check")
-enters_check words check = rw (check.1, stops_at_check check.0) refl
+enters_other : (words : List Text) (name : Text) → IsOther name → BeginsWith name words
+    → entered_name words ≡ Some name
+enters_other words name (inl is) (others, begins) = rw (begins, is, stops_at_run others) refl
+enters_other words name (inr (inl is)) (others, begins) = rw (begins, is, stops_at_check others) refl
+enters_other words name (inr (inr (inl is))) (others, begins) = rw (begins, is, stops_at_choice others) refl
+enters_other words name (inr (inr (inr is))) (others, begins) = rw (begins, is, stops_at_accuracy others) refl
 
 -- it enters one command only
-one_length : (words : List Text) (name other : Text) → entered_name words ≡ Some name → entered_name words ≡ Some other
-    → length name ≡ length other
-one_length words name other is also = ap (λ entered. option_map_or length entered 0) (sym is ∙ also)
+one_name : (words : List Text) (name other : Text) → entered_name words ≡ Some name → entered_name words ≡ Some other
+    → name ≡ other
+one_name words name other is also = ap (λ entered. unwrap_or entered []) (sym is ∙ also)
 
--- `compare`, where the parser entered neither of the others
-compare_named : (words : List Text) → NamesOne words → (entered_name words ≡ Some (codes "run") → ⊥)
-    → (entered_name words ≡ Some (codes "check") → ⊥) → IsCompare words
-compare_named words (inl compare) not_run not_check = compare
-compare_named words (inr (inl run)) not_run not_check = absurd (not_run (enters_run words run))
-compare_named words (inr (inr check)) not_run not_check = absurd (not_check (enters_check words check))
-
--- `run`, where it entered that
-run_named : (words : List Text) → NamesOne words → entered_name words ≡ Some (codes "run")
-    → BeginsWith (codes "run") words
-run_named words (inl compare) is_run =
-    let count : ◌≡◌ {A = ℕ} 7 3 =
-    one_length words (codes "compare") (codes "run") (enters_compare words compare) is_run in
+-- `compare` is none of the others
+not_compare : (name : Text) → IsOther name → codes "compare" ≡ name → ⊥
+not_compare name (inl is) same =
+    let count : ◌≡◌ {A = ℕ} 7 3 = ap length (same ∙ is) in
     absurd (omega arith)
-run_named words (inr (inl run)) is_run = run
-run_named words (inr (inr check)) is_run =
-    let count : ◌≡◌ {A = ℕ} 5 3 = one_length words (codes "check") (codes "run") (enters_check words check) is_run in
+not_compare name (inr (inl is)) same =
+    let count : ◌≡◌ {A = ℕ} 7 5 = ap length (same ∙ is) in
+    absurd (omega arith)
+not_compare name (inr (inr (inl is))) same =
+    let count : ◌≡◌ {A = ℕ} 7 6 = ap length (same ∙ is) in
+    absurd (omega arith)
+not_compare name (inr (inr (inr is))) same =
+    let count : ◌≡◌ {A = ℕ} 7 8 = ap length (same ∙ is) in
     absurd (omega arith)
 
--- `check`, where it entered that
-check_named : (words : List Text) → NamesOne words → entered_name words ≡ Some (codes "check")
-    → BeginsWith (codes "check") words
-check_named words (inl compare) is_check =
-    let count : ◌≡◌ {A = ℕ} 7 5 =
-    one_length words (codes "compare") (codes "check") (enters_compare words compare) is_check in
-    absurd (omega arith)
-check_named words (inr (inl run)) is_check =
-    let count : ◌≡◌ {A = ℕ} 3 5 = one_length words (codes "run") (codes "check") (enters_run words run) is_check in
-    absurd (omega arith)
-check_named words (inr (inr check)) is_check = check
+-- `compare`, where the parser entered none of the others
+compare_named : (words : List Text) → NamesOne words
+    → ((name : Text) → IsOther name → entered_name words ≡ Some name → ⊥) → IsCompare words
+compare_named words (inl compare) none = compare
+compare_named words (inr (name, other, begins)) none = absurd (none name other (enters_other words name other begins))
+
+-- another, where it entered that
+other_named : (words : List Text) (name : Text) → NamesOne words → IsOther name → entered_name words ≡ Some name
+    → BeginsWith name words
+other_named words name (inl compare) other is =
+    absurd (not_compare name other (one_name words (codes "compare") name (enters_compare words compare) is))
+other_named words name (inr (first, is_other, begins)) other is =
+    let same : first ≡ name = one_name words first name (enters_other words first is_other begins) is in
+    subst (λ n. BeginsWith n words) same begins
 
 -- ---- a parse of the command line, by the clauses of the parser
 
 -- the name of the subcommand, by its name and rows
-name_of : {Z : Type 0} (found : Option (Box SubCommand Z))
+found_name : {Z : Type 0} (found : Option (Box SubCommand Z))
     → option_map (λ b. (out-SubCommand (box_value b)).name.now) found ≡ name_in (subcommand_rows found)
-name_of None = refl
-name_of (Some sub) = refl
+found_name None = refl
+found_name (Some sub) = refl
 
 -- the command that was entered, with what was found
 rows_of_words : (parsed : App) (words : List Text) (m : ArgMatches) → parsed ≡ program → HasMatchesOf parsed words m
@@ -315,12 +343,17 @@ rows_of_words parsed words m is matches =
 entered_of : (parsed : App) (words : List Text) (m : ArgMatches) → parsed ≡ program → HasMatchesOf parsed words m
     → subcommand_name_of m ≡ entered_name (drop 1 words)
 entered_of parsed words m is matches =
-    name_of (out-ArgMatches m).subcommand ∙ ap name_in (rows_of_words parsed words m is matches)
+    found_name (out-ArgMatches m).subcommand ∙ ap name_in (rows_of_words parsed words m is matches)
 
 -- one that succeeds
 accepted_words : (parsed : App) (words : List Text) → parsed ≡ program
     → (is_simple_and_free parsed ≡ true → fault_of parsed words ≡ []) → NamesOne (drop 1 words)
 accepted_words parsed words is accepted = words_named (drop 1 words) (rw is at accepted refl)
+
+-- the command of a question is one of the others
+question_other : (question : Question) → IsOther (name_of question)
+question_other (Choice until) = inr (inr (inl refl))
+question_other (Accuracy until max_error) = inr (inr (inr refl))
 
 -- what the matches ask for is what the words ask for
 pub asked : (parsed : App) (words : List Text) (m : ArgMatches) (order : Order) → parsed ≡ program
@@ -328,23 +361,46 @@ pub asked : (parsed : App) (words : List Text) (m : ArgMatches) (order : Order) 
     → (is_simple_and_free parsed ≡ true → fault_of parsed words ≡ []) → Enters m order → AsksFor words order
 asked parsed words m Compare is matches accepted entered =
     let same = entered_of parsed words m is matches in
-    compare_named (drop 1 words) (accepted_words parsed words is accepted)
-    (λ run. entered.0 (same ∙ run)) (λ check. entered.1 (same ∙ check))
+    compare_named (drop 1 words) (accepted_words parsed words is accepted) (λ name other entered_is.
+    elim other [
+      | inl run ↦ entered.0 (same ∙ entered_is ∙ ap Some run)
+      | inr k ↦ elim k [
+        | inl check ↦ entered.1 (same ∙ entered_is ∙ ap Some check)
+        | inr l ↦ elim l [
+          | inl choice ↦ entered.2 (same ∙ entered_is ∙ ap Some choice)
+          | inr accuracy ↦ entered.3 (same ∙ entered_is ∙ ap Some accuracy)
+        ]
+      ]
+    ])
 asked parsed words m (Run options) is matches accepted entered =
     let rows_are = sym (rows_of_words parsed words m is matches) ∙ entered.1 in (
-      run_named (drop 1 words) (accepted_words parsed words is accepted) (ap name_in rows_are),
+      other_named (drop 1 words) (codes "run") (accepted_words parsed words is accepted) (inl refl)
+          (ap name_in rows_are),
       (entered.0, rows_are, entered.2),
     )
 asked parsed words m (Check options) is matches accepted entered =
     let rows_are = sym (rows_of_words parsed words m is matches) ∙ entered.1 in (
-      check_named (drop 1 words) (accepted_words parsed words is accepted) (ap name_in rows_are),
+      other_named (drop 1 words) (codes "check") (accepted_words parsed words is accepted) (inr (inl refl))
+          (ap name_in rows_are),
       (entered.0, rows_are, entered.2),
     )
+asked parsed words m (Ask question) is matches accepted entered =
+    let rows_are = sym (rows_of_words parsed words m is matches) ∙ entered.1 in (
+      other_named (drop 1 words) (name_of question) (accepted_words parsed words is accepted)
+          (question_other question) (ap name_in rows_are),
+      (entered.0, rows_are, entered.2),
+    )
+
+question_in_range : (rows : List Row) (question : Question) → ReadsQuestion rows question
+    → QuestionIsInRange question
+question_in_range rows (Choice until) reads = reads.range
+question_in_range rows (Accuracy until max_error) reads = (reads.0.range, reads.1.range)
 
 pub asked_in_range : (words : List Text) (order : Order) → AsksFor words order → OrderIsInRange order
 asked_in_range words Compare asks = tt
 asked_in_range words (Run options) asks = (asks.1.2.until.range, asks.1.2.seed.range)
 asked_in_range words (Check options) asks = asks.1.2.until.range
+asked_in_range words (Ask question) asks = question_in_range asks.1.0 question asks.1.2
 
 -- `check` with a file alone
 no_mark : (word : Text) → IsNoOption word → bytes_eq word (codes "--") ≡ false
@@ -433,8 +489,10 @@ none_wrong : (words : List Text) → IsPlain words → fault_of program words �
 unfolding clap_on_literals
 none_wrong words (inl (inl compare)) = rw compare refl
 none_wrong words (inl (inr compare)) = rw compare refl
-none_wrong words (inr (inl run)) = rw run refl
-none_wrong words (inr (inr check)) = rw check.1.0 (plain_file check.0 check.1.1)
+none_wrong words (inr (inl check)) = rw check.1.0 (plain_file check.0 check.1.1)
+none_wrong words (inr (inr (inl run))) = rw run refl
+none_wrong words (inr (inr (inr (inl choice)))) = rw choice refl
+none_wrong words (inr (inr (inr (inr accuracy)))) = rw accuracy refl
 
 no_kind : (error : Error) → HasKind [] error → kind_of error ≡ OutOfMemory
 no_kind error (inl memory) = memory

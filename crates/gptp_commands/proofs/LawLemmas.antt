@@ -1,8 +1,10 @@
 -- A word says one thing, a line has one answer, and an input one text.
-use Rattle.std.proofs.Common.{◌≡◌, ℕ, Bool, true, false, nat_le, List, [], ◌∷◌, length, map, Result, Ok, Err, refl, sym, ap, ◌∙◌, inl, inr}
+use Rattle.std.proofs.Common.{◌≡◌, ℕ, Bool, true, false, nat_le, List, [], ◌∷◌, ◌++◌, length, map, Result, Ok, Err, refl, sym, ap, subst, append-nil, ◌∙◌, inl, inr}
 use Rattle.std.specs.Bool.{MatchBool}
 use Rattle.std.specs.List.{list_any}
 use Rattle.std.specs.Str.Lines.{lines}
+use Rattle.std.proofs.lemmas.Bool.{le-leb}
+use Rattle.std.proofs.lemmas.List.{map-append}
 use Rattle.gptp_vector.specs.declared.vector.Vector.{Vector}
 use Rattle.gptp_messages.specs.declared.message.Message.TheVariants.{Announce}
 use Rattle.gptp_messages.specs.declared.announce.AnnounceView.{AnnounceView}
@@ -16,7 +18,7 @@ use Rattle.gptp_commands.specs.declared.failure.Status.{Status}
 use Rattle.gptp_commands.specs.Announced.{AnnouncesNothing, Says, vector_of}
 use Rattle.gptp_commands.specs.Answer.{AnswersWords, answer_of, answer_text, is_refusal}
 use Rattle.gptp_commands.specs.Failure.{status_by}
-use Rattle.gptp_commands.specs.CompareText.{size_limit, AreAnswers, AnswersLines, RefusesSize, CompareText}
+use Rattle.gptp_commands.specs.CompareText.{size_limit, AreAnswers, AnswersLines, AnswersSome, BeginsCompare, RefusesSize, CompareText}
 
 -- what reads as an Announce doesn't announce nothing
 not_nothing : (f : List ℕ) (a : AnnounceView) (e : Refused) → Reads f (Announce a) → AnnouncesNothing f e → ⊥
@@ -86,3 +88,35 @@ one_by_size input a b s t false x y = (x.shown ∙ sym y.shown, x.status_is ∙ 
 pub one_text : (input : List ℕ) (a b : List (List ℕ)) (s t : Status) → CompareText input a s → CompareText input b t
     → (a ≡ b) × (s ≡ t)
 one_text input a b s t x y = one_by_size input a b s t (nat_le (length input) size_limit) x y
+
+-- ---- what a text begins with
+
+-- the answers to the first lines are the first answers
+first_answers : (answered left : List (List ℕ)) (some all : List Answer) → AreAnswers answered some
+    → AreAnswers (answered ++ left) all → (rest : List Answer) × (all ≡ some ++ rest)
+first_answers [] left some all none are = (all, ap (λ xs. xs ++ all) (sym none))
+first_answers (line ∷ others) left [] all some-are are = absurd some-are
+first_answers (line ∷ others) left (x ∷ xs) [] some-are are = absurd are
+first_answers (line ∷ others) left (x ∷ xs) (y ∷ ys) (x-is, xs-are) (y-is, ys-are) =
+    let behind = first_answers others left xs ys xs-are ys-are in
+    (behind.0, ap (λ z. z ∷ ys) (sym (one_answer _ x y x-is y-is)) ∙ ap (λ zs. x ∷ zs) behind.1)
+
+first_lines : (input : List ℕ) (begun output : List (List ℕ)) (status : Status) → AnswersSome input begun
+    → AnswersLines input output status → (rest : List (List ℕ)) × (output ≡ begun ++ rest)
+first_lines input begun output status some all =
+    let behind = first_answers some.answered some.left some.answers all.answers some.are
+    (subst (λ xs. AreAnswers xs all.answers) some.split all.are) in (
+      map answer_text behind.0,
+      all.shown ∙ ap (map answer_text) behind.1 ∙ map-append answer_text some.answers behind.0
+          ∙ ap (λ xs. xs ++ map answer_text behind.0) (sym some.shown),
+    )
+
+-- whatever text an input has begins with what may have been begun
+pub begins_so : (input : List ℕ) (begun output : List (List ℕ)) (status : Status) → BeginsCompare input begun
+    → CompareText input output status → (rest : List (List ℕ)) × (output ≡ begun ++ rest)
+begins_so input begun output status (inl none) text = (output, ap (λ xs. xs ++ output) (sym none))
+begins_so input begun output status (inr (inl (within, some))) text =
+    let fits : nat_le (length input) size_limit ≡ true = le-leb (length input) size_limit within in
+    first_lines input begun output status some (rw fits at text)
+begins_so input begun output status (inr (inr (s, whole))) text =
+    ([], (one_text input output begun status s text whole).0 ∙ sym (append-nil begun))

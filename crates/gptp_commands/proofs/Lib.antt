@@ -1,13 +1,16 @@
 pub mod SourceLemmas
-pub mod SinkLemmas
 pub mod SplitLemmas
 pub mod WordsLemmas
 pub mod LinesLemmas
 pub mod LimitedLemmas
+pub mod LineLemmas
 pub mod CompareLemmas
 pub mod LawLemmas
 pub mod VerdictLemmas
+pub mod OneRunLemmas
+pub mod CertifiedLemmas
 pub mod CommandLemmas
 pub mod OptionLemmas
 pub mod CheckLemmas
 pub mod RunLemmas
+pub mod RunSoFarLemmas

@@ -1,50 +1,48 @@
 -- The run of a document that is at rest at its end shows a settled world, and certifies it.
 use Rattle.std.proofs.Common.{ℕ, Bool, true, false, List, Result, Ok, Err, inl}
 use Rattle.std.specs.Prelude.{IfOk}
+use Rattle.gptp_graph.specs.Snapshot.{Snapshot}
 use Rattle.gptp_plan.specs.Network.{IsNetwork}
 use Rattle.gptp_network.specs.Document.{DocumentState, Means}
 use Rattle.gptp_network.specs.Events.{AreEvents}
-use Rattle.gptp_kept.proofs.ClaimedLemmas.{claimed_settled}
-use Rattle.gptp_certificate.specs.Settled.{AreNear}
+use Rattle.gptp_network.specs.Snapshot.{IsSnapshot}
+use Rattle.gptp_certificate.proofs.SettledLemmas.{states_certificate}
 use Rattle.gptp_commands.specs.declared.failure.Status.{Status}
 use Rattle.gptp_commands.specs.declared.run.RunOptions.{RunOptions}
 use Rattle.gptp_commands.specs.RunText.{AnswersDocument, CertifiesIf, CertifiesRight, PlaysDocument, SettlesInTime, draws, generator, until_of}
 use Rattle.gptp_reached.specs.PlayedLaws.{IsPlayable}
-use Rattle.gptp_reached.proofs.CalmLemmas.{document_calm}
-use Rattle.gptp_reached.proofs.ClaimedLemmas.{events_made, played_claimed}
+use Rattle.gptp_reached.proofs.HeadlineLemmas.{documents_lead}
 use Rattle.gptp_reached.proofs.OctetLemmas.{documents_playable}
-use Rattle.gptp_reached.proofs.PlayedLemmas.{played_stands}
 use Rattle.gptp_reached.proofs.SettleLemmas.{played_settle}
 
 pub runs_settle : (d : DocumentState) (options : RunOptions) (output : List (List ℕ)) (status : Status)
     → IsPlayable d → PlaysDocument d options output status → SettlesInTime d options output
-runs_settle d options output status is k rest g stands =
+runs_settle d options output status is k rest =
     let until = until_of options d in
     let fate = generator options.seed in
-    let told = k.reports.leads.told in
     let plays = k.reports.leads.plays in
-    let made = events_made d until is.network is.events in
-    let reached = played_stands draws d until fate told k.world is.network made plays in
-    let claimed = played_claimed draws d until fate told k.world is plays in
+    let (settled, snapshot) = documents_lead draws d until fate k.reports.leads.told k.world is plays rest in
     record {
       world = k.world;
-      settled = claimed_settled k.world claimed (document_calm d until k.world reached claimed rest);
+      settled = settled;
+      snapshot = snapshot;
       report = k.report;
       reports = k.reports;
       certificate = k.certificate;
-      certifies = λ near. right near options.certificate k.certifies;
+      certifies = λ g stands. right g stands options.certificate k.certifies;
       lines = k.lines;
     }
   where
-    right : AreNear g → (asked : Bool) → CertifiesIf asked k.world k.certificate
-        → CertifiesRight asked g k.certificate
-    right near true (stated, states, lines) = (
+    right : (g : Snapshot) → IsSnapshot d (until_of options d) g → (asked : Bool)
+        → CertifiesIf asked k.world k.certificate → CertifiesRight asked g k.certificate
+    right g stands true (stated, states, lines) = (
       stated,
       played_settle draws d (until_of options d) (generator options.seed) k.reports.leads.told k.world stated g is
-          k.reports.leads.plays rest states stands near,
+          k.reports.leads.plays rest states stands,
+      states_certificate k.world stated states,
       lines,
     )
-    right near false none = none
+    right g stands false none = none
 
 -- the run of a document answers the text that means it
 pub run_answers : (octets : List ℕ) (d : DocumentState) (options : RunOptions) → Means octets d

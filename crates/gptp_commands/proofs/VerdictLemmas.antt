@@ -3,16 +3,15 @@ use Rattle.std.proofs.Common.{◌≡◌, ℕ, Bool, true, false, nat_le, List, [
 use Rattle.std.specs.Bool.{MatchBool}
 use Rattle.gptp_graph.specs.Labelling.{SystemLine}
 use Rattle.gptp_graph.specs.Snapshot.{IsWellFormed, Snapshot}
-use Rattle.gptp_network.specs.Document.{DocumentState, Means}
+use Rattle.gptp_network.specs.Document.{DocumentState}
 use Rattle.gptp_network.specs.Faults as documents
 use Rattle.gptp_network.specs.declared.fault.DocumentFault.{DocumentFault}
 use Rattle.gptp_network.specs.declared.fault.DocumentFault.TheVariants.{TooMany}
 use Rattle.gptp_network.proofs.LawLemmas as network_laws
+use Rattle.gptp_certificate_text.specs.Certificate.{CertificateContent}
 use Rattle.gptp_certificate_text.specs.Faults as certificates
-use Rattle.gptp_certificate_text.specs.declared.fault.CertificateFault.{CertificateFault}
 use Rattle.gptp_certificate_text.specs.declared.fault.CertificateFault.TheVariants.{Line}
 use Rattle.gptp_certificate_text.proofs.LawLemmas as certificate_laws
-use Rattle.gptp_checker.specs.declared.fault.Fault.{Fault}
 use Rattle.gptp_checker.specs.Faults.{fault_text}
 use Rattle.gptp_checker.proofs.LawLemmas as checker_laws
 use Rattle.gptp_commands.specs.declared.failure.Status.{Status}
@@ -21,7 +20,7 @@ use Rattle.gptp_commands.specs.Limited.{Limited}
 use Rattle.gptp_commands.specs.RunText.{document_limit, RefusesFault}
 
 -- one text and one status
-abbrev AreSame : List (List ℕ) → Status → List (List ℕ) → Status → Type 0
+abbrev pub AreSame : List (List ℕ) → Status → List (List ℕ) → Status → Type 0
 AreSame a s b t = (a ≡ b) × (s ≡ t)
 
 -- so it is where both say one line
@@ -30,7 +29,7 @@ same_line : (line other : List ℕ) (is : Status) (a b : List (List ℕ)) (s t :
 same_line line other is a b s t e x y =
     (x.shown ∙ ap (λ said. said ∷ []) e ∙ sym y.shown, x.status_is ∙ sym y.status_is)
 
-same_refusal : (f g : DocumentFault) (a b : List (List ℕ)) (s t : Status) → f ≡ g → RefusesFault f a s
+pub same_refusal : (f g : DocumentFault) (a b : List (List ℕ)) (s t : Status) → f ≡ g → RefusesFault f a s
     → RefusesFault g b t → AreSame a s b t
 same_refusal f g a b s t e x y = (
   x.shown ∙ ap (λ fault. (codes "refused " ++ documents.fault_text fault) ∷ []) e ∙ sym y.shown,
@@ -38,34 +37,44 @@ same_refusal f g a b s t e x y = (
 )
 
 -- a certificate has one verdict for a network
-one_verdict : (g : Snapshot) (lines : List SystemLine) (a b : List (List ℕ)) (s t : Status) → IsWellFormed g
-    → Judges g lines a s → Judges g lines b t → AreSame a s b t
-one_verdict g lines a b s t wf (inl (_, _, x)) (inl (_, _, y)) = same_line _ _ _ a b s t refl x y
-one_verdict g lines a b s t wf (inl (is, near, _)) (inr (fault, first, _)) =
-    absurd (checker_laws.settled_has_none g lines fault wf is near first)
-one_verdict g lines a b s t wf (inr (fault, first, _)) (inl (is, near, _)) =
-    absurd (checker_laws.settled_has_none g lines fault wf is near first)
-one_verdict g lines a b s t wf (inr (f, f-is, x)) (inr (h, h-is, y)) =
+one_verdict : (g : Snapshot) (c : CertificateContent) (a b : List (List ℕ)) (s t : Status) → IsWellFormed g
+    → Judges g c a s → Judges g c b t → AreSame a s b t
+one_verdict g c a b s t wf (inl (_, x)) (inl (_, y)) = same_line _ _ _ a b s t refl x y
+one_verdict g c a b s t wf (inl (is, _)) (inr (fault, first, _)) =
+    absurd (checker_laws.settled_has_none c.version g c.lines fault wf is first)
+one_verdict g c a b s t wf (inr (fault, first, _)) (inl (is, _)) =
+    absurd (checker_laws.settled_has_none c.version g c.lines fault wf is first)
+one_verdict g c a b s t wf (inr (f, f-is, x)) (inr (h, h-is, y)) =
     same_line _ _ _ a b s t
-    (ap (λ fault. codes "not accepted " ++ fault_text fault) (checker_laws.one_fault g lines f h f-is h-is)) x y
+    (ap (λ fault. codes "not accepted " ++ fault_text fault)
+    (checker_laws.one_fault c.version g c.lines f h f-is h-is)) x y
 
 -- and for a document, which has one network at the time
-one_moment : (d : DocumentState) (until : Option ℕ) (lines : List SystemLine) (a b : List (List ℕ)) (s t : Status)
-    → JudgesAt d until lines a s → JudgesAt d until lines b t → AreSame a s b t
-one_moment d until lines a b s t (g, g-is, wf, x) (h, h-is, _, y) =
+one_moment : (d : DocumentState) (until : Option ℕ) (c : CertificateContent) (a b : List (List ℕ)) (s t : Status)
+    → JudgesAt d until c a s → JudgesAt d until c b t → AreSame a s b t
+one_moment d until c a b s t (g, g-is, wf, x) (h, h-is, _, y) =
     let same = network_laws.one_snapshot d (moment_of until d) h g h-is g-is in
-    one_verdict g lines a b s t wf x (subst (λ k. Judges k lines b t) same y)
+    one_verdict g c a b s t wf x (subst (λ k. Judges k c b t) same y)
+
+abbrev content : ℕ → List SystemLine → CertificateContent
+content version lines = record { version = version; lines = lines }
+
+-- two certificates of one text are one
+same_content : (c e : CertificateContent) → (c.version ≡ e.version) × (c.lines ≡ e.lines) → c ≡ e
+same_content c e (version, lines) =
+    ap (λ (v : ℕ). content v c.lines) version ∙ ap (λ (ls : List SystemLine). content e.version ls) lines
 
 -- a text is one certificate, or has one fault
 one_certificate : (d : DocumentState) (until : Option ℕ) (input : List ℕ) (a b : List (List ℕ)) (s t : Status)
     → AnswersCertificate d until input a s → AnswersCertificate d until input b t → AreSame a s b t
-one_certificate d until input a b s t (inl (xs, xs-is, xs-read, _, x)) (inl (ys, ys-is, ys-read, _, y)) =
-    let same = certificate_laws.one_certificate ys xs ys-read xs-read (sym ys-is ∙ xs-is) in
-    one_moment d until xs a b s t x (subst (λ lines. JudgesAt d until lines b t) same y)
-one_certificate d until input a b s t (inl (xs, xs-is, xs-read, order, _)) (inr (fault, fails, _)) =
-    absurd (certificate_laws.no_certificate input fault xs fails order xs-read xs-is)
-one_certificate d until input a b s t (inr (fault, fails, _)) (inl (ys, ys-is, ys-read, order, _)) =
-    absurd (certificate_laws.no_certificate input fault ys fails order ys-read ys-is)
+one_certificate d until input a b s t (inl (c, c-is, c-read, c-of, x)) (inl (e, e-is, e-read, e-of, y)) =
+    let same = same_content e c (certificate_laws.one_certificate e.version c.version e.lines c.lines e-of.is_version
+    c-of.is_version e-read c-read (sym e-is ∙ c-is)) in
+    one_moment d until c a b s t x (subst (λ k. JudgesAt d until k b t) same y)
+one_certificate d until input a b s t (inl (c, c-is, c-read, c-of, _)) (inr (fault, fails, _)) =
+    absurd (certificate_laws.no_certificate input fault c.version c.lines fails c-of c-read c-is)
+one_certificate d until input a b s t (inr (fault, fails, _)) (inl (e, e-is, e-read, e-of, _)) =
+    absurd (certificate_laws.no_certificate input fault e.version e.lines fails e-of e-read e-is)
 one_certificate d until input a b s t (inr (f, f-fails, x)) (inr (g, g-fails, y)) =
     same_line _ _ _ a b s t
     (ap (λ fault. codes "certificate refused " ++ certificates.fault_text fault)

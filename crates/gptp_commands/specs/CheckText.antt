@@ -1,8 +1,5 @@
 -- What `check` writes for a document and a certificate, and its status (profile).
 use Rattle.std.specs.Prelude.{◌≡◌, ◌⊎◌, ℕ, List, [], ◌∷◌, ◌++◌, Option, codes, unwrap_or}
-use Rattle.gptp_graph.specs.Labelling.{SystemLine}
-use Rattle.gptp_graph.specs.LocalTests.{PassesTooFar}
-use Rattle.gptp_graph.specs.SettledChoice.{IsSettledChoice}
 use Rattle.gptp_graph.specs.Snapshot.{IsWellFormed, Snapshot}
 use Rattle.gptp_network.specs.declared.fault.DocumentFault.{DocumentFault}
 use Rattle.gptp_network.specs.declared.fault.DocumentFault.TheVariants.{TooMany}
@@ -11,13 +8,13 @@ use Rattle.gptp_network.specs.Snapshot.{IsSnapshot}
 use Rattle.gptp_plan.specs.Calm.{last_change}
 use Rattle.gptp_certificate_text.specs.declared.fault.CertificateFault.{CertificateFault}
 use Rattle.gptp_certificate_text.specs.declared.fault.CertificateFault.TheVariants.{Line}
-use Rattle.gptp_certificate_text.specs.Certificate.{AreInOrder}
+use Rattle.gptp_certificate_text.specs.Certificate.{CertificateContent, IsCertificate}
 use Rattle.gptp_certificate_text.specs.Faults as certificates
 use Rattle.gptp_certificate_text.specs.CertificateText.{certificate_text}
 use Rattle.gptp_certificate_text.specs.Entries.{IsReadable}
 use Rattle.gptp_certificate_text.specs.Parsing.{Fails}
 use Rattle.gptp_checker.specs.declared.fault.Fault.{Fault}
-use Rattle.gptp_checker.specs.Faults.{IsFirstFault, fault_text}
+use Rattle.gptp_checker.specs.Faults.{IsAccepted, IsFirstFault, fault_text}
 use Rattle.gptp_commands.specs.declared.failure.Status.{Status}
 use Rattle.gptp_commands.specs.declared.failure.Status.TheVariants.{Done, Refused}
 use Rattle.gptp_commands.specs.Limited.{Limited}
@@ -37,26 +34,26 @@ pub record Says (line : List ℕ) (is : Status) (output : List (List ℕ)) (stat
   pub status_is : status ≡ is
 
 -- the verdict on a certificate for a network
-abbrev pub Judges : Snapshot → List SystemLine → List (List ℕ) → Status → Type 0
-Judges g lines output status =
-    (IsSettledChoice g lines × PassesTooFar lines × Says (codes "accepted") Done output status)
-    ⊎ ((fault : Fault) × IsFirstFault g lines fault
+abbrev pub Judges : Snapshot → CertificateContent → List (List ℕ) → Status → Type 0
+Judges g c output status =
+    (IsAccepted c.version g c.lines × Says (codes "accepted") Done output status)
+    ⊎ ((fault : Fault) × IsFirstFault c.version g c.lines fault
     × Says (codes "not accepted " ++ fault_text fault) Refused output status)
 
 -- it is judged for the network as it stands at that time, which is well-formed as every document's is
-abbrev pub JudgesAt : DocumentState → Option ℕ → List SystemLine → List (List ℕ) → Status → Type 0
-JudgesAt d until lines output status =
-    (g : Snapshot) × IsSnapshot d (moment_of until d) g × IsWellFormed g × Judges g lines output status
+abbrev pub JudgesAt : DocumentState → Option ℕ → CertificateContent → List (List ℕ) → Status → Type 0
+JudgesAt d until c output status =
+    (g : Snapshot) × IsSnapshot d (moment_of until d) g × IsWellFormed g × Judges g c output status
 
 -- a certificate that is refused
 abbrev pub RefusesCertificate : CertificateFault → List (List ℕ) → Status → Type 0
 RefusesCertificate fault = Says (codes "certificate refused " ++ certificates.fault_text fault) Refused
 
--- a text is a certificate with its lines in order, which is judged, or fails a test
+-- a text is a certificate, which is judged, or fails a test
 abbrev pub AnswersCertificate : DocumentState → Option ℕ → List ℕ → List (List ℕ) → Status → Type 0
 AnswersCertificate d until input output status =
-    ((lines : List SystemLine) × (input ≡ certificate_text lines) × IsReadable lines × AreInOrder lines
-    × JudgesAt d until lines output status)
+    ((c : CertificateContent) × (input ≡ certificate_text c.version c.lines) × IsReadable c.version c.lines
+    × IsCertificate c.version c.lines × JudgesAt d until c output status)
     ⊎ ((fault : CertificateFault) × Fails input fault × RefusesCertificate fault output status)
 
 -- so it is with one within its size, for a text that is a document

@@ -11,13 +11,24 @@ use Rattle.gptp_commands.specs.declared.command.CheckOptions.{CheckOptions}
 use Rattle.gptp_commands.specs.declared.command.CommandLineError.{CommandLineError}
 use Rattle.gptp_commands.specs.declared.command.CommandLineError.TheVariants.{Memory, NotText, NotRead}
 use Rattle.gptp_commands.specs.declared.command.Order.{Order}
-use Rattle.gptp_commands.specs.declared.command.Order.TheVariants.{Check, Compare, Run}
+use Rattle.gptp_commands.specs.declared.command.Order.TheVariants.{Ask, Check, Compare, Run}
+use Rattle.gptp_commands.specs.declared.question.Question.{Question}
+use Rattle.gptp_commands.specs.declared.question.Question.TheVariants.{Accuracy, Choice}
 use Rattle.gptp_commands.specs.declared.run.RunOptions.{RunOptions}
 
 -- `--until NS`, at most 10^15
 abbrev pub until_rule : Rule
 until_rule = record (new_rule (codes "until")) {
   long = Some (codes "until");
+  action = Some Set;
+  value_names = 1;
+  parser = Some (Unsigned 0 1000000000000000);
+}
+
+-- `--max-error NS`, at most 10^15
+abbrev pub max_error_rule : Rule
+max_error_rule = record (new_rule (codes "max-error")) {
+  long = Some (codes "max-error");
   action = Some Set;
   value_names = 1;
   parser = Some (Unsigned 0 1000000000000000);
@@ -46,8 +57,8 @@ certificate_rule =
 abbrev pub file_rule : Rule
 file_rule = record (new_rule (codes "file")) { action = Some Set; value_names = 1; required = true }
 
--- the command `compare`, which has no options, the command `run`, which has four, and the command `check`, which has a
--- file and one option
+-- the command `compare`, which has no options, the command `run`, which has four, the command `check`, which has a file
+-- and one option, the command `choice`, which has one option, and the command `accuracy`, which has two
 abbrev pub compare_command : App
 compare_command = new_app (codes "compare")
 
@@ -61,14 +72,24 @@ run_command = with_rule (with_rule played_command frames_rule) certificate_rule
 abbrev pub check_command : App
 check_command = with_rule (with_rule (new_app (codes "check")) file_rule) until_rule
 
--- the program with its three commands, of which one has to be named; first with `compare` alone
+abbrev pub choice_command : App
+choice_command = with_rule (new_app (codes "choice")) until_rule
+
+abbrev pub accuracy_command : App
+accuracy_command = with_rule (with_rule (new_app (codes "accuracy")) until_rule) max_error_rule
+
+-- the program with its commands, of which one has to be named; first with `compare` alone
 abbrev pub first_program : App
 first_program =
     let top = on_top (λ top. record top { subcommand_required = true }) (new_app (codes "gptp_sim")) in
     with_subcommand top compare_command.top
 
+-- with those that compare, simulate and check
+abbrev pub simulating_program : App
+simulating_program = with_subcommand (with_subcommand first_program run_command.top) check_command.top
+
 abbrev pub program : App
-program = with_subcommand (with_subcommand first_program run_command.top) check_command.top
+program = with_subcommand (with_subcommand simulating_program choice_command.top) accuracy_command.top
 
 -- ---- the words that name a command
 
@@ -98,9 +119,15 @@ IsNoOption text = strip_byte 45 text ≡ None
 abbrev pub ChecksOnly : List ℕ → List (List ℕ) → Type 0
 ChecksOnly file words = (drop 1 words ≡ codes "check" ∷ file ∷ []) × IsNoOption file
 
+-- a command by its name alone
+abbrev pub IsBare : List ℕ → List (List ℕ) → Type 0
+IsBare name words = drop 1 words ≡ name ∷ []
+
 -- a command with nothing that may be left out: such a command line is read
 abbrev pub IsPlain : List (List ℕ) → Type 0
-IsPlain words = NamesCompare words ⊎ ((drop 1 words ≡ codes "run" ∷ []) ⊎ ((file : List ℕ) × ChecksOnly file words))
+IsPlain words =
+    NamesCompare words ⊎ (((file : List ℕ) × ChecksOnly file words)
+    ⊎ (IsBare (codes "run") words ⊎ (IsBare (codes "choice") words ⊎ IsBare (codes "accuracy") words)))
 
 -- ---- the options, by the texts that the parser finds
 
@@ -109,11 +136,11 @@ abbrev pub WritesNumber : List ℕ → ℕ → Type 0
 WritesNumber text number =
     IsNumeral 10 (without_leading_plus text) × (digits_value 10 (without_leading_plus text) ≡ number)
 
--- the time of `--until` is in its range
+-- the time of `--until`, or the error of `--max-error`, is in its range
 abbrev pub IsEndInRange : Option ℕ → Type 0
 IsEndInRange until = IfSome until (λ until. until ≤ 1000000000000000)
 
--- the time of `--until`, by its text
+-- the time of `--until`, or the error of `--max-error`, by its text
 pub record IsUntil (found : Option (List ℕ)) (until : Option ℕ) : Type 0 where
   pub range : IsEndInRange until
   pub none : found ≡ None → until ≡ None
@@ -143,6 +170,17 @@ pub record ReadsCheck (rows : List Row) (options : CheckOptions) : Type 0 where
   pub file : (text : List ℕ) → first_of (codes "file") rows ≡ Some text → string_bytes options.file ≡ text
   pub until : IsUntil (one_of (codes "until") rows) options.until
 
+-- what a question asks, by what was found for the arguments of its command
+abbrev pub ReadsQuestion : List Row → Question → Type 0
+ReadsQuestion rows (Choice until) = IsUntil (one_of (codes "until") rows) until
+ReadsQuestion rows (Accuracy until max_error) =
+    IsUntil (one_of (codes "until") rows) until × IsUntil (one_of (codes "max-error") rows) max_error
+
+-- the command that asks it
+abbrev pub name_of : Question → List ℕ
+name_of (Choice until) = codes "choice"
+name_of (Accuracy until max_error) = codes "accuracy"
+
 -- ---- what a command line asks for
 
 -- the command that was entered is `run`, with these options
@@ -153,28 +191,43 @@ IsRunOf entered options = (rows : List Row) × (entered ≡ Some (codes "run", r
 abbrev pub IsCheckOf : Option (List ℕ × List Row) → CheckOptions → Type 0
 IsCheckOf entered options = (rows : List Row) × (entered ≡ Some (codes "check", rows)) × ReadsCheck rows options
 
+-- it is the command of a question, with what that asks
+abbrev pub IsQuestionOf : Option (List ℕ × List Row) → Question → Type 0
+IsQuestionOf entered question =
+    (rows : List Row) × (entered ≡ Some (name_of question, rows)) × ReadsQuestion rows question
+
 -- what the matches of a command line ask for
 abbrev pub Enters : ArgMatches → Order → Type 0
 Enters m Compare =
     (subcommand_name_of m ≢ Some (codes "run")) × (subcommand_name_of m ≢ Some (codes "check"))
+    × (subcommand_name_of m ≢ Some (codes "choice")) × (subcommand_name_of m ≢ Some (codes "accuracy"))
 Enters m (Run options) = IsRunOf (subcommand_rows_of m) options
 Enters m (Check options) = IsCheckOf (subcommand_rows_of m) options
+Enters m (Ask question) = IsQuestionOf (subcommand_rows_of m) question
 
 -- what its words ask for: the command that they name, with what the parser finds behind its name
 abbrev pub AsksFor : List (List ℕ) → Order → Type 0
 AsksFor words Compare = NamesCompare words
 AsksFor words (Run options) = NamesRun words × IsRunOf (subcommand_of program words) options
 AsksFor words (Check options) = NamesCheck words × IsCheckOf (subcommand_of program words) options
+AsksFor words (Ask question) =
+    BeginsWith (name_of question) (drop 1 words) × IsQuestionOf (subcommand_of program words) question
 
 -- the numbers of the options of `run` are in their ranges
 abbrev pub AreInRange : RunOptions → Type 0
 AreInRange options = IsEndInRange options.until × (options.seed < 2 ^ 32)
+
+-- the numbers of a question are in their ranges
+abbrev pub QuestionIsInRange : Question → Type 0
+QuestionIsInRange (Choice until) = IsEndInRange until
+QuestionIsInRange (Accuracy until max_error) = IsEndInRange until × IsEndInRange max_error
 
 -- the numbers of the options of a command are in their ranges
 abbrev pub OrderIsInRange : Order → Type 0
 OrderIsInRange Compare = ⊤
 OrderIsInRange (Run options) = AreInRange options
 OrderIsInRange (Check options) = IsEndInRange options.until
+OrderIsInRange (Ask question) = QuestionIsInRange question
 
 -- ---- where no command runs
 

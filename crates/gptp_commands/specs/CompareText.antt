@@ -1,5 +1,5 @@
 -- What `compare` writes for an input, line by line, and its status (profile).
-use Rattle.std.specs.Prelude.{◌≡◌, ℕ, List, [], ◌∷◌, map, codes}
+use Rattle.std.specs.Prelude.{◌≡◌, ℕ, List, [], ◌∷◌, ◌++◌, map, codes}
 use Rattle.std.specs.List.{list_any}
 use Rattle.std.specs.Str.Lines.{lines}
 use Rattle.gptp_commands.specs.declared.answer.Answer.{Answer}
@@ -7,7 +7,7 @@ use Rattle.gptp_commands.specs.declared.failure.Status.{Status}
 use Rattle.gptp_commands.specs.declared.failure.Status.TheVariants.{Refused}
 use Rattle.gptp_commands.specs.Answer.{Answers, answer_text, is_refusal}
 use Rattle.gptp_commands.specs.Failure.{status_by}
-use Rattle.gptp_commands.specs.Limited.{Limited}
+use Rattle.gptp_commands.specs.Limited.{Begins, Limited}
 
 -- how many octets an input may have
 abbrev pub size_limit : ℕ
@@ -33,3 +33,16 @@ pub record RefusesSize (output : List (List ℕ)) (status : Status) : Type 0 whe
 
 abbrev pub CompareText : List ℕ → List (List ℕ) → Status → Type 0
 CompareText = Limited size_limit AnswersLines RefusesSize
+
+-- the output is the answers to the first lines of the input
+pub record AnswersSome (input : List ℕ) (output : List (List ℕ)) : Type 0 where
+  pub answered : List (List ℕ)
+  pub left : List (List ℕ)
+  pub split : lines input ≡ answered ++ left
+  pub answers : List Answer
+  pub are : AreAnswers answered answers
+  pub shown : output ≡ map answer_text answers
+
+-- the text as far as it has got
+abbrev pub BeginsCompare : List ℕ → List (List ℕ) → Type 0
+BeginsCompare = Begins size_limit AnswersSome CompareText

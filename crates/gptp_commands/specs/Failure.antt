@@ -1,6 +1,9 @@
 -- How a command ends, and the process with it (profile).
 use Rattle.std.specs.Prelude.{ℕ, Bool, true, false, Result, Ok, Err}
+use Rattle.gptp_report.specs.declared.cut.Cut.{Cut}
+use Rattle.gptp_report.specs.declared.cut.Cut.TheVariants as cuts
 use Rattle.gptp_commands.specs.declared.failure.SimError.{SimError}
+use Rattle.gptp_commands.specs.declared.failure.SimError.TheVariants as errors
 use Rattle.gptp_commands.specs.declared.failure.Status.{Status}
 use Rattle.gptp_commands.specs.declared.failure.Status.TheVariants.{Done, Refused}
 
@@ -14,3 +17,8 @@ abbrev pub exit_status : Result Status SimError → ℕ
 exit_status (Ok Done) = 0
 exit_status (Ok Refused) = 1
 exit_status (Err error) = 3
+
+-- why a command stops, where a text ended before its end
+abbrev pub error_of : Cut → SimError
+error_of cuts.Memory = errors.Memory
+error_of cuts.Write = errors.Write

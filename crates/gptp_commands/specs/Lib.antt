@@ -1,6 +1,6 @@
 pub mod Source
-pub mod Sink
 pub mod Failure
+pub mod Output
 pub mod Words
 pub mod Announced
 pub mod Answer
@@ -8,5 +8,10 @@ pub mod Limited
 pub mod Written
 pub mod CompareText
 pub mod RunText
+pub mod RunSoFar
 pub mod CheckText
+pub mod ChoiceText
+pub mod AccuracyText
+pub mod QuestionText
+pub mod Certified
 pub mod Command

@@ -13,18 +13,20 @@ use Rattle.gptp_network.specs.Snapshot.{IsSnapshot}
 use Rattle.gptp_plan.specs.SettlingTime.{settles}
 use Rattle.gptp_acts.specs.World.{WorldState}
 use Rattle.gptp_graph.specs.Labelling.{SystemLine}
+use Rattle.gptp_graph.specs.SettledChoice.{IsSettledChoice}
 use Rattle.gptp_graph.specs.Snapshot.{Snapshot}
-use Rattle.gptp_kept.specs.Settled.{Settled}
 use Rattle.gptp_report.specs.Report.{Reports}
-use Rattle.gptp_report.specs.Run.{LeadsTo}
+use Rattle.gptp_report.specs.Run.{LeadsSoFar, LeadsTo}
+use Rattle.gptp_certificate_text.specs.Certificate.{IsCertificate}
 use Rattle.gptp_certificate_text.specs.CertificateText.{certificate_lines}
-use Rattle.gptp_certificate.specs.Settled.{AreNear, IsRight}
 use Rattle.gptp_certificate.specs.Stated.{States}
+use Rattle.gptp_reached.specs.Headline.{IsSettled}
+use Rattle.gptp_reached.specs.HeadlineLaws.{HasSnapshotOf}
 use Rattle.gptp_reached.specs.PlayedLaws.{IsAtRest}
 use Rattle.gptp_commands.specs.declared.failure.Status.{Status}
 use Rattle.gptp_commands.specs.declared.failure.Status.TheVariants.{Done, Refused}
 use Rattle.gptp_commands.specs.declared.run.RunOptions.{RunOptions}
-use Rattle.gptp_commands.specs.Limited.{Limited}
+use Rattle.gptp_commands.specs.Limited.{Begins, Limited}
 
 -- how many octets a document may have
 abbrev pub document_limit : ℕ
@@ -51,7 +53,7 @@ pub record ReportsRun (d : DocumentState) (options : RunOptions) (w : WorldState
 
 -- the certificate of a world, where it is asked for
 abbrev pub CertifiesIf : Bool → WorldState → List (List ℕ) → Type 0
-CertifiesIf true w lines = (stated : List SystemLine) × States w stated × (lines ≡ certificate_lines stated)
+CertifiesIf true w lines = (stated : List SystemLine) × States w stated × (lines ≡ certificate_lines 2 stated)
 CertifiesIf false w lines = lines ≡ []
 
 -- the text of the run of a document
@@ -65,28 +67,29 @@ pub record PlaysDocument (d : DocumentState) (options : RunOptions) (output : Li
   pub lines : output ≡ report ++ certificate
   pub status_is : status ≡ Done
 
--- where a certificate is asked for, it is the text of the settled choice, with all steps below 255
+-- where a certificate is asked for, it is the text of one that states the settled choice
 abbrev pub CertifiesRight : Bool → Snapshot → List (List ℕ) → Type 0
-CertifiesRight true g lines = (stated : List SystemLine) × IsRight g stated × (lines ≡ certificate_lines stated)
+CertifiesRight true g lines =
+    (stated : List SystemLine) × IsSettledChoice g stated × IsCertificate 2 stated
+    × (lines ≡ certificate_lines 2 stated)
 CertifiesRight false g lines = lines ≡ []
 
--- The report is that of a world that has settled, and behind it stands the right certificate, where it is asked for and
--- all systems are near.
-pub record IsSettledRun (d : DocumentState) (options : RunOptions) (g : Snapshot) (output : List (List ℕ)) : Type
-    0 where
+-- The report is that of a world that is settled and has the snapshot of the document, and behind it stands the right
+-- certificate of that snapshot, where it is asked for.
+pub record IsSettledRun (d : DocumentState) (options : RunOptions) (output : List (List ℕ)) : Type 0 where
   pub world : WorldState
-  pub settled : Settled world
+  pub settled : IsSettled world
+  pub snapshot : HasSnapshotOf d (until_of options d) world
   pub report : List (List ℕ)
   pub reports : ReportsRun d options world report
   pub certificate : List (List ℕ)
-  pub certifies : AreNear g → CertifiesRight options.certificate g certificate
+  pub certifies : (g : Snapshot) → IsSnapshot d (until_of options d) g
+      → CertifiesRight options.certificate g certificate
   pub lines : output ≡ report ++ certificate
 
--- so is the run of a document that is at rest when it ends, of the snapshot that the document then has
+-- so is the run of a document that is at rest when it ends
 abbrev pub SettlesInTime : DocumentState → RunOptions → List (List ℕ) → Type 0
-SettlesInTime d options output =
-    IsAtRest d (until_of options d) → (g : Snapshot) → IsSnapshot d (until_of options d) g
-    → IsSettledRun d options g output
+SettlesInTime d options output = IsAtRest d (until_of options d) → IsSettledRun d options output
 
 -- a document that is refused
 pub record RefusesFault (fault : DocumentFault) (output : List (List ℕ)) (status : Status) : Type 0 where
@@ -101,3 +104,12 @@ AnswersDocument options input output status =
 
 abbrev pub RunText : RunOptions → List ℕ → List (List ℕ) → Status → Type 0
 RunText options = Limited document_limit (AnswersDocument options) (RefusesFault TooMany)
+
+-- the lines of the frames, as far as a document has been run
+abbrev pub RunsSoFar : RunOptions → List ℕ → List (List ℕ) → Type 0
+RunsSoFar options input lines = (d : DocumentState) × Means input d
+    × LeadsSoFar draws d (until_of options d) options.frames (generator options.seed) lines
+
+-- the text as far as it has got; from the report on all of it is known
+abbrev pub BeginsRun : RunOptions → List ℕ → List (List ℕ) → Type 0
+BeginsRun options = Begins document_limit (RunsSoFar options) (RunText options)

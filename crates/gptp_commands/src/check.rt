@@ -17,19 +17,19 @@ use crate::documents::{DOCUMENT_LIMIT, refuse};
 use crate::failure::{SimError, Status};
 use crate::output::Output;
 use crate::reading::read_whole;
-use crate::sink::Sink;
 use crate::source::Source;
-use crate::writing::write_whole;
 use gptp_certificate::{Certificate, CertificateFault, parse};
 use gptp_checker::{Fault, accepts};
 use gptp_network::{Document, DocumentFault, Snapshot};
+use gptp_report::sink::Sink;
+use gptp_report::write_whole;
 use std::alloc::Global;
 
 /// How many octets a certificate may have.
 const CERTIFICATE_LIMIT: usize = 1_048_576;
 
 /// The time of the network that is meant.
-fn moment_of(document: &Document, until: Option<u64>) -> u64
+pub(crate) fn moment_of(document: &Document, until: Option<u64>) -> u64
     ensures { result ≡ moment_of until document.now }
 {
     match until {
@@ -49,7 +49,7 @@ fn accept(alloc: Global) -> Result<Output, SimError>
 }
 
 /// The line of one that isn't.
-fn reject(alloc: Global, fault: Fault) -> Result<Output, SimError>
+pub(crate) fn reject(alloc: Global, fault: Fault) -> Result<Output, SimError>
     ensures says { IfOk result (λ o. (output : List (List ℕ)) × Says (codes "not accepted " ++ fault_text fault) Refused output o.status × (o.text.items ≡ text_of output)) }
     ensures memory { IfErr result (λ e. e ≡ SimError.Memory) }
 {
@@ -59,7 +59,7 @@ fn reject(alloc: Global, fault: Fault) -> Result<Output, SimError>
 }
 
 /// The line of a certificate that is refused.
-fn refuse_certificate(alloc: Global, fault: CertificateFault) -> Result<Output, SimError>
+pub(crate) fn refuse_certificate(alloc: Global, fault: CertificateFault) -> Result<Output, SimError>
     ensures refuses { IfOk result (λ o. (output : List (List ℕ)) × RefusesCertificate fault output o.status × (o.text.items ≡ text_of output)) }
     ensures memory { IfErr result (λ e. e ≡ SimError.Memory) }
 {

@@ -1,38 +1,45 @@
 //! The command line: which command runs, and how the process ends.
 
-ghost use Rattle.std.specs.Prelude.{◌≡◌, ◌≤◌, IfErr, IfOk, codes, false, map, string_bytes};
+ghost use Rattle.std.specs.Prelude.{◌≡◌, ◌⊎◌, ◌≤◌, IfErr, IfOk, codes, false, map, string_bytes};
 ghost use Rattle.std.specs.Process.{exit_status as process_status};
 ghost use Rattle.clap.specs.Words.{app_of, found_of, one_text, rows_of, rule_of};
 ghost use Rattle.clap.specs.declared.builder.command.Command.TheViews.{out-Command as fields_of};
-ghost use Rattle.gptp_commands.specs.Command.{AsksFor, Enters, IsPlain, IsUntil, IsSeed, OrderIsInRange, ReadsCheck, ReadsRun};
+ghost use Rattle.gptp_commands.specs.Command.{AsksFor, Enters, IsPlain, IsUntil, IsSeed, OrderIsInRange, ReadsCheck, ReadsQuestion, ReadsRun};
 ghost use Rattle.gptp_commands.specs.Command.{IsEndInRange, command_line_status, program};
-ghost use Rattle.gptp_commands.specs.Command.{certificate_rule, file_rule, frames_rule, seed_rule, until_rule};
-ghost use Rattle.gptp_commands.specs.Command.{check_command, first_program, played_command, run_command};
+ghost use Rattle.gptp_commands.specs.Command.{certificate_rule, file_rule, frames_rule, max_error_rule, seed_rule, until_rule};
+ghost use Rattle.gptp_commands.specs.Command.{accuracy_command, check_command, choice_command, first_program, played_command, run_command};
+ghost use Rattle.gptp_commands.specs.Command.{simulating_program};
 ghost use Rattle.gptp_commands.specs.declared.command.CommandLineError.TheVariants.{Memory};
+ghost use Rattle.gptp_commands.specs.declared.question.Question.TheVariants.{Accuracy, Choice};
 
 use crate::check::check;
 use crate::compare::compare_lines;
 use crate::failure::{SimError, Status, exit_status};
+use crate::question::{Question, answer_question};
 use crate::run::RunOptions;
-use crate::sink::{CountedWriter, Sink};
 use crate::source::{CountedReader, Source};
 use clap::error::ErrorKind;
 use clap::{Arg, ArgAction, ArgMatches, Command};
+use gptp_report::sink::{CountedWriter, Sink};
 use std::alloc::{AllocError, Global};
 use std::env::{self, Env};
+use std::fs;
+use std::io::{self, BufWriter, Write};
 use std::process::ExitCode;
 use std::rt::Files;
-use std::{fs, io};
 use thiserror::Error;
 
 /// The exit status where the command line isn't read.
 const NOT_READ: u8 = 2;
 
-/// The latest time that `--until` may give, in ns.
+/// The latest time that `--until` may give, and the greatest error that `--max-error` may give, in ns.
 const MOST_UNTIL: u64 = 1_000_000_000_000_000;
 
 /// The highest seed that `--seed` may give.
 const MOST_SEED: u64 = 4_294_967_295;
+
+/// How many octets are held back, so that a block of lines is one write.
+const BLOCK: usize = 65_536;
 
 /// What help says of the input of `compare`.
 const COMPARE_HELP: &str = "\
@@ -58,6 +65,23 @@ certificate of at most 1 MiB (1,048,576 octets), such as 'run --certificate' wri
 The document comes by '<', the certificate by its name.
 Example: gptp_sim check certificate.txt < examples/vehicle.toml";
 
+/// What help says of `--until` where it is the time of a network.
+const MOMENT_HELP: &str =
+    "The time of the network that is meant, in ns; by default after all events";
+
+/// What help says of the input of `choice`.
+const CHOICE_HELP: &str = "\
+Input: standard input, a document in TOML of at most 32 MiB (33,554,432 octets).
+Output: a certificate, as 'run --certificate' writes one once a calm network has settled; 'check' accepts it.
+Example: gptp_sim choice < examples/ring.toml";
+
+/// What help says of the input of `accuracy`.
+const ACCURACY_HELP: &str = "\
+Input: standard input, a document in TOML of at most 32 MiB (33,554,432 octets).
+Output: the time from which on it holds, and each system with its root, its steps from it, and how far its
+time may be from the root's, in ns, rounded up. Where links lose frames or are too long it is none.
+Example: gptp_sim accuracy --max-error 1000 < examples/ring.toml";
+
 /// What is asked of `check`.
 #[derive(Debug, Drop, PartialEq, Eq)]
 pub struct CheckOptions {
@@ -77,6 +101,8 @@ enum Order {
     Run(RunOptions),
     /// The command `check`, with these options.
     Check(CheckOptions),
+    /// A command that answers this question.
+    Ask(Question),
 }
 
 /// Why no command runs.
@@ -162,6 +188,19 @@ fn until_option<'a>(alloc: Global, help: &'a str) -> Arg<'a>
         .help(help)
 }
 
+/// The option of `accuracy` that gives the greatest error.
+fn max_error_option<'a>(alloc: Global) -> Arg<'a>
+    ensures rule { rule_of result ≡ max_error_rule }
+    ensures local { result.global ≡ false }
+{
+    Arg::new(alloc, "max-error")
+        .long("max-error")
+        .action(ArgAction::Set)
+        .value_name("NS")
+        .value_parser(clap::value_parser!(u64).range(0..=1_000_000_000_000_000))
+        .help("Say whether each system's error is at most this, in ns")
+}
+
 /// The option of `run` that chooses delays and losses.
 fn seed_option<'a>(alloc: Global) -> Arg<'a>
     ensures rule { rule_of result ≡ seed_rule }
@@ -244,10 +283,30 @@ fn check_grammar<'a>(alloc: Global) -> Result<Command<'a>, AllocError>
         .about("Says whether a certificate is the choice that a network settles at")
         .after_help(CHECK_HELP)
         .arg(file_argument(alloc))?
-        .arg(until_option(
-            alloc,
-            "The time of the network that is meant, in ns; by default after all events",
-        ))
+        .arg(until_option(alloc, MOMENT_HELP))
+}
+
+/// The command `choice` with its option.
+fn choice_grammar<'a>(alloc: Global) -> Result<Command<'a>, AllocError>
+    ensures app { IfOk result (λ command. app_of command ≡ choice_command) }
+    ensures local { IfOk result (λ command. (fields_of command).has_globals ≡ false) }
+{
+    Command::new(alloc, "choice")
+        .about("Writes the choice that a network settles at, as a certificate, without a run")
+        .after_help(CHOICE_HELP)
+        .arg(until_option(alloc, MOMENT_HELP))
+}
+
+/// The command `accuracy` with its options.
+fn accuracy_grammar<'a>(alloc: Global) -> Result<Command<'a>, AllocError>
+    ensures app { IfOk result (λ command. app_of command ≡ accuracy_command) }
+    ensures local { IfOk result (λ command. (fields_of command).has_globals ≡ false) }
+{
+    Command::new(alloc, "accuracy")
+        .about("Says how exact the time is that each system gets, without a run")
+        .after_help(ACCURACY_HELP)
+        .arg(until_option(alloc, MOMENT_HELP))?
+        .arg(max_error_option(alloc))
 }
 
 /// The program with its first command, of which one has to be named.
@@ -264,22 +323,46 @@ fn first_grammar<'a>(alloc: Global) -> Result<Command<'a>, AllocError>
         .subcommand(compare)
 }
 
-/// What the command line may say.
-fn grammar<'a>(alloc: Global) -> Result<Command<'a>, AllocError>
-    ensures { IfOk result (λ command. app_of command ≡ program) }
+/// The program with the commands that compare, simulate and check.
+fn simulating_grammar<'a>(alloc: Global) -> Result<Command<'a>, AllocError>
+    ensures app { IfOk result (λ command. app_of command ≡ simulating_program) }
+    ensures local { IfOk result (λ command. (fields_of command).has_globals ≡ false) }
 {
     first_grammar(alloc)?
         .subcommand(run_grammar(alloc)?)?
         .subcommand(check_grammar(alloc)?)
 }
 
-/// The time that `--until` gives. The parser lets no number through that is above the most.
+/// What the command line may say.
+fn grammar<'a>(alloc: Global) -> Result<Command<'a>, AllocError>
+    ensures { IfOk result (λ command. app_of command ≡ program) }
+{
+    simulating_grammar(alloc)?
+        .subcommand(choice_grammar(alloc)?)?
+        .subcommand(accuracy_grammar(alloc)?)
+}
+
+/// The number of ns that an option gives. The parser lets no number through that is above the most.
+fn nanoseconds_in(matches: &ArgMatches, option: &'static str) -> Option<u64>
+    ensures { IsUntil (one_text (found_of matches.now) option.now) result }
+{
+    matches
+        .get_one::<u64>(option)
+        .filter(|number| *number <= MOST_UNTIL)
+}
+
+/// The time that `--until` gives.
 fn until_in(matches: &ArgMatches) -> Option<u64>
     ensures { IsUntil (one_text (found_of matches.now) (codes "until")) result }
 {
-    matches
-        .get_one::<u64>("until")
-        .filter(|until| *until <= MOST_UNTIL)
+    nanoseconds_in(matches, "until")
+}
+
+/// The error that `--max-error` gives.
+fn max_error_in(matches: &ArgMatches) -> Option<u64>
+    ensures { IsUntil (one_text (found_of matches.now) (codes "max-error")) result }
+{
+    nanoseconds_in(matches, "max-error")
 }
 
 /// The seed that the command line gives, or its default. The parser lets no number through that is above the most.
@@ -315,6 +398,20 @@ fn check_options_in(alloc: Global, matches: &ArgMatches) -> Result<CheckOptions,
     })
 }
 
+/// The time of the network that `choice` is asked for.
+fn choice_in(matches: &ArgMatches) -> Option<u64>
+    ensures { ReadsQuestion (rows_of (found_of matches.now)) (Choice result) }
+{
+    until_in(matches)
+}
+
+/// What `accuracy` is asked for: the time of the network, and the greatest error.
+fn accuracy_in(matches: &ArgMatches) -> (Option<u64>, Option<u64>)
+    ensures { ReadsQuestion (rows_of (found_of matches.now)) (Accuracy result.0 result.1) }
+{
+    (until_in(matches), max_error_in(matches))
+}
+
 /// What is asked for, by the command that the parser entered.
 fn order_in(alloc: Global, matches: &ArgMatches) -> Result<Order, AllocError>
     ensures { IfOk result (Enters matches.now) }
@@ -322,6 +419,13 @@ fn order_in(alloc: Global, matches: &ArgMatches) -> Result<Order, AllocError>
     match matches.subcommand() {
         Some(("run", matches)) => Ok(Order::Run(options_in(matches))),
         Some(("check", matches)) => Ok(Order::Check(check_options_in(alloc, matches)?)),
+        Some(("choice", matches)) => Ok(Order::Ask(Question::Choice {
+            until: choice_in(matches),
+        })),
+        Some(("accuracy", matches)) => {
+            let (until, max_error) = accuracy_in(matches);
+            Ok(Order::Ask(Question::Accuracy { until, max_error }))
+        }
         _ => Ok(Order::Compare),
     }
 }
@@ -368,7 +472,33 @@ fn check_file<R: Files + AllocGlobal, S: Source, K: Sink>(
     check(rt.alloc(), document, &mut certificate, sink, options.until)
 }
 
-/// Runs a command from standard input to standard output.
+/// Writes what is held back, unless a write has failed: then the device isn't tried again. A write that fails here is the
+/// outcome of a command that did its work.
+fn close<W: Write + Drop>(
+    sink: CountedWriter<BufWriter<W>>,
+    outcome: Result<Status, SimError>,
+) -> Result<Status, SimError>
+    ensures done { IfOk outcome (λ status. (result ≡ Ok status) ⊎ (result ≡ Err SimError.Write)) }
+    ensures failed { IfErr outcome (λ e. result ≡ Err e) }
+{
+    let mut writer = sink.into_inner();
+    let outcome = match outcome {
+        Ok(status) => match writer.flush() {
+            Ok(()) => Ok(status),
+            Err(_) => Err(SimError::Write),
+        },
+        Err(SimError::Write) => Err(SimError::Write),
+        Err(error) => {
+            let _ = writer.flush();
+            Err(error)
+        }
+    };
+    // dropped as it is, it would write once more
+    let _ = writer.into_parts();
+    outcome
+}
+
+/// Runs a command from standard input to standard output, which is written in blocks.
 fn carry_out<R: Input + Print + Files + AllocGlobal>(
     rt: &R,
     order: &Order,
@@ -376,12 +506,17 @@ fn carry_out<R: Input + Print + Files + AllocGlobal>(
     requires { OrderIsInRange order.now }
 {
     let mut source = CountedReader::new(rt.reader());
-    let mut sink = CountedWriter::new(io::writer(rt));
-    match order {
+    let Ok(writer) = BufWriter::with_capacity(rt.alloc(), BLOCK, io::writer(rt)) else {
+        return Err(SimError::Memory);
+    };
+    let mut sink = CountedWriter::new(writer);
+    let outcome = match order {
         Order::Compare => compare_lines(rt.alloc(), &mut source, &mut sink),
         Order::Run(options) => crate::run::run(rt.alloc(), &mut source, &mut sink, options),
         Order::Check(options) => check_file(rt, &mut source, &mut sink, options),
-    }
+        Order::Ask(question) => answer_question(rt.alloc(), &mut source, &mut sink, *question),
+    };
+    close(sink, outcome)
 }
 
 /// Runs what the command line says, and tells of errors on standard error. The process ends with 0, 1 or

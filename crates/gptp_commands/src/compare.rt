@@ -1,55 +1,78 @@
 //! The command `compare`: which of two announced vectors is better, line by line.
 
-ghost use Rattle.std.specs.Prelude.{◌≡◌, ◌≢◌, ◌+◌, List, ℕ, IfOk, OnOk, IfErr, string_bytes};
-ghost use Rattle.std.specs.Io.KnownBytes.{Keeps};
+ghost use Rattle.std.specs.Prelude.{◌≡◌, ◌≢◌, ◌+◌, [], ◌∷◌, List, ℕ, IfOk, OnOk, IfErr, OnErr};
+ghost use Rattle.std.specs.Io.KnownBytes.{Appends, Keeps};
 ghost use Rattle.gptp_commands.specs.Source.{ReadsWhole, TakesAtMost};
 ghost use Rattle.gptp_spelling.specs.Lines.{text_of};
-ghost use Rattle.gptp_commands.specs.Written.{Writes, WritesFront};
-ghost use Rattle.gptp_commands.specs.CompareText.{size_limit, AnswersLines, CompareText};
+ghost use Rattle.gptp_report.specs.Sink.{AppendsSome};
+ghost use Rattle.gptp_commands.specs.Answer.{answer_text};
+ghost use Rattle.gptp_commands.specs.Written.{Writes, WritesSome};
+ghost use Rattle.gptp_commands.specs.CompareText.{size_limit, AnswersLines, AnswersSome, BeginsCompare, CompareText};
 
-use crate::answer::answer_to;
+use crate::answer::{Answer, answer_to};
 use crate::failure::{SimError, Status};
 use crate::lines::first_line;
-use crate::output::Output;
 use crate::reading::read_whole;
-use crate::sink::Sink;
 use crate::source::Source;
-use crate::writing::write_whole;
+use gptp_report::sink::Sink;
+use gptp_report::write_whole;
 use std::alloc::Global;
 
 /// How many octets an input may have.
 const LIMIT: usize = 1_048_576;
 
-/// The answers to the lines of an input.
-fn answer_lines(alloc: Global, input: &[u8]) -> Result<Output, SimError>
-    ensures answers { IfOk result (λ o. (output : List (List ℕ)) × AnswersLines input.now output o.status × (o.text.items ≡ text_of output)) }
-    ensures memory { IfErr result (λ e. e ≡ SimError.Memory) }
+/// Writes the line of an answer.
+fn write_answer<K: Sink>(alloc: Global, sink: &mut K, answer: &Answer) -> Result<(), SimError>
+    ensures some { AppendsSome (K.written sink.old) (K.written sink.new) (text_of (answer_text answer.now ∷ [])) }
+    ensures whole { OnOk result
+        (Appends (K.written sink.old) (K.written sink.new) (text_of (answer_text answer.now ∷ []))) }
+    ensures no_read { result ≢ Err SimError.Read }
+    ensures works { result ≢ Err SimError.Write → K.failures sink.new ≡ K.failures sink.old }
+    ensures fails { result ≡ Err SimError.Write → K.failures sink.new ≢ K.failures sink.old }
 {
-    let mut text = String::new(alloc);
+    let mut line = String::new(alloc);
+    writeln!(line, "{answer}")?;
+    write_whole(sink, line.as_bytes())?;
+    Ok(())
+}
+
+/// Writes the answers to the lines of an input, each as it is found.
+fn answer_lines<K: Sink>(alloc: Global, input: &[u8], sink: &mut K) -> Result<Status, SimError>
+    ensures answers { IfOk result (λ status. (output : List (List ℕ)) × AnswersLines input.now output status
+        × Appends (K.written sink.old) (K.written sink.new) (text_of output)) }
+    ensures some { OnErr result ((output : List (List ℕ)) × AnswersSome input.now output
+        × AppendsSome (K.written sink.old) (K.written sink.new) (text_of output)) }
+    ensures no_read { result ≢ Err SimError.Read }
+    ensures works { result ≢ Err SimError.Write → K.failures sink.new ≡ K.failures sink.old }
+    ensures fails { result ≡ Err SimError.Write → K.failures sink.new ≢ K.failures sink.old }
+{
     let mut refused = false;
     let mut rest = input;
     while !rest.is_empty() {
         let (line, after) = first_line(rest);
         let answer = answer_to(alloc, line)?;
-        writeln!(text, "{answer}")?;
+        write_answer(alloc, sink, &answer)?;
         refused |= answer.is_refusal();
         rest = after;
     }
-    Ok(Output::of(text, Status::of_refusal(refused)))
+    Ok(Status::of_refusal(refused))
 }
 
-/// What is written for an input. The only error is [`SimError::Memory`].
-fn compare_text(alloc: Global, input: &[u8]) -> Result<Output, SimError>
-    ensures text { IfOk result (λ o. (output : List (List ℕ)) × CompareText input.now output o.status × (o.text.items ≡ text_of output)) }
-    ensures memory { IfErr result (λ e. e ≡ SimError.Memory) }
+/// Writes the text for an input.
+fn answer_input<K: Sink>(alloc: Global, input: &[u8], sink: &mut K) -> Result<Status, SimError>
+    ensures text { IfOk result (λ status. (output : List (List ℕ)) × CompareText input.now output status
+        × Appends (K.written sink.old) (K.written sink.new) (text_of output)) }
+    ensures begun { OnErr result ((output : List (List ℕ)) × BeginsCompare input.now output
+        × AppendsSome (K.written sink.old) (K.written sink.new) (text_of output)) }
+    ensures no_read { result ≢ Err SimError.Read }
+    ensures works { result ≢ Err SimError.Write → K.failures sink.new ≡ K.failures sink.old }
+    ensures fails { result ≡ Err SimError.Write → K.failures sink.new ≢ K.failures sink.old }
 {
     if input.len() <= LIMIT {
-        return answer_lines(alloc, input);
+        return answer_lines(alloc, input, sink);
     }
-    Ok(Output {
-        text: Vec::from_slice(alloc, b"refused size\n")?,
-        status: Status::Refused,
-    })
+    write_whole(sink, b"refused size\n")?;
+    Ok(Status::Refused)
 }
 
 /// Reads lines of two words of hexadecimal, two Announces, and writes which of them announces the
@@ -62,9 +85,10 @@ fn compare_text(alloc: Global, input: &[u8]) -> Result<Output, SimError>
 /// spaces and tabs separate. Of an input of more than 1,048,576 octets no more than one further octet is
 /// read, and the one line `refused size` is written.
 ///
-/// The answer is [`Status::Refused`] where any line was refused, or the size. Errors:
-/// [`SimError::Read`] exactly where a read failed, with nothing written; [`SimError::Memory`] with
-/// nothing written; [`SimError::Write`] exactly where a write failed, with a front of the text written.
+/// The input is read whole first; then each line is answered and written before the next is looked at. The
+/// answer is [`Status::Refused`] where any line was refused, or the size. Errors: [`SimError::Read`] exactly
+/// where a read failed, with nothing written; [`SimError::Memory`]; [`SimError::Write`] exactly where a write
+/// failed, after which nothing more is done. After these two a front of the text stands written.
 pub fn compare_lines<S: Source, K: Sink>(
     alloc: Global,
     source: &mut S,
@@ -81,11 +105,10 @@ pub fn compare_lines<S: Source, K: Sink>(
     ensures write { result ≡ Err SimError.Write → K.failures sink.new ≢ K.failures sink.old }
 
     // what stands written after an error
-    ensures nothing { IfErr result (λ e. e ≢ SimError.Write → Keeps (K.written sink.old) (K.written sink.new)) }
-    ensures front { result ≡ Err SimError.Write → WritesFront CompareText (S.left source.old) (K.written sink.old) (K.written sink.new) }
+    ensures nothing { result ≡ Err SimError.Read → Keeps (K.written sink.old) (K.written sink.new) }
+    ensures front { IfErr result (λ e. e ≢ SimError.Read
+        → WritesSome BeginsCompare (S.left source.old) (K.written sink.old) (K.written sink.new)) }
 {
     let input = read_whole(alloc, source, LIMIT)?;
-    let output = compare_text(alloc, &input)?;
-    write_whole(sink, &output.text)?;
-    Ok(output.status)
+    answer_input(alloc, &input, sink)
 }

@@ -2,10 +2,11 @@
 
 ghost use Rattle.std.specs.Prelude.{◌≡◌};
 ghost use Rattle.gptp_commands.specs.declared.failure.SimError.TheVariants.{Memory, Read, Write};
-ghost use Rattle.gptp_commands.specs.Failure.{status_by, exit_status};
+ghost use Rattle.gptp_commands.specs.Failure.{error_of, status_by, exit_status};
 
-use crate::sink::WriteFailed;
 use crate::source::ReadFailed;
+use gptp_report::Cut;
+use gptp_report::sink::WriteFailed;
 use std::alloc::{AllocError, AllocFailed};
 use thiserror::Error;
 
@@ -74,6 +75,17 @@ impl From<WriteFailed> for SimError {
 
     fn from(_error: WriteFailed) -> SimError {
         SimError::Write
+    }
+}
+
+impl From<Cut> for SimError {
+    ghost from_gives = { λ cut e. e ≡ error_of cut };
+
+    fn from(cut: Cut) -> SimError {
+        match cut {
+            Cut::Memory => SimError::Memory,
+            Cut::Write => SimError::Write,
+        }
     }
 }
 

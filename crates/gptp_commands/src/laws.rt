@@ -1,9 +1,14 @@
 //! What the texts promise beyond single calls.
 
-ghost use Rattle.std.specs.Prelude.{◌≡◌, ℕ, List, Option};
+ghost use Rattle.std.specs.Prelude.{◌≡◌, ◌++◌, ℕ, List, Option};
 ghost use Rattle.gptp_commands.specs.declared.failure.Status.{Status};
+ghost use Rattle.gptp_graph.specs.Snapshot.{Snapshot};
+ghost use Rattle.gptp_network.specs.Document.{DocumentState};
+ghost use Rattle.gptp_commands.specs.declared.run.RunOptions.{RunOptions};
+ghost use Rattle.gptp_commands.specs.Certified.{AsksAtRest, AsksTheSame, EndsAccepted};
 ghost use Rattle.gptp_commands.specs.CheckText.{CheckText};
-ghost use Rattle.gptp_commands.specs.CompareText.{CompareText};
+ghost use Rattle.gptp_commands.specs.CompareText.{BeginsCompare, CompareText};
+ghost use Rattle.gptp_commands.specs.RunText.{BeginsRun, RunText};
 
 /// An input has one text and one status at most. `compare_lines` finds them wherever memory and the
 /// devices serve.
@@ -12,9 +17,41 @@ pub fn one_comparison()
         → CompareText input a s → CompareText input b t → (a ≡ b) × (s ≡ t) }
 {}
 
+/// Whatever text an input has, the lines that `compare_lines` may have begun with are its first lines. So what stands written
+/// where it stopped is a front of that text.
+pub fn a_comparison_begins_so()
+    ensures { (input : List ℕ) (begun output : List (List ℕ)) (status : Status)
+        → BeginsCompare input begun → CompareText input output status
+        → (rest : List (List ℕ)) × (output ≡ begun ++ rest) }
+{}
+
 /// A document and a certificate have one text and one status at most, for the network at the time that is asked for.
 /// [`check`](crate::check::check) finds them wherever memory and the devices serve.
 pub fn one_check()
     ensures { (until : Option ℕ) (certificate document : List ℕ) (a b : List (List ℕ)) (s t : Status)
         → CheckText until certificate document a s → CheckText until certificate document b t → (a ≡ b) × (s ≡ t) }
+{}
+
+/// A document and the options of its run have one text and one status at most. [`run`](crate::run::run) finds them
+/// wherever memory and the devices serve.
+pub fn one_run()
+    ensures { (options : RunOptions) (input : List ℕ) (a b : List (List ℕ)) (s t : Status)
+        → RunText options input a s → RunText options input b t → (a ≡ b) × (s ≡ t) }
+{}
+
+/// Whatever text a document and options have, the lines that `run` may have begun with are its first lines. So what
+/// stands written where it stopped is a front of that text.
+pub fn a_run_begins_so()
+    ensures { (options : RunOptions) (input : List ℕ) (begun output : List (List ℕ)) (status : Status)
+        → BeginsRun options input begun → RunText options input output status
+        → (rest : List (List ℕ)) × (output ≡ begun ++ rest) }
+{}
+
+/// What `run` certifies of a document that is at rest at its end, [`check`](crate::check::check) accepts of that document:
+/// at that time, and at each before and after which the same events lie. So a right certificate is one that is read.
+pub fn what_a_run_certifies_is_accepted()
+    ensures { (options : RunOptions) (input : List ℕ) (d : DocumentState) (g : Snapshot) (at : Option ℕ)
+        → AsksAtRest options input d g → AsksTheSame at options d
+        → (output : List (List ℕ)) (status : Status) → RunText options input output status
+        → EndsAccepted at input output }
 {}

@@ -1,26 +1,28 @@
 //! The command `run`: what becomes of the network of a document.
 
-ghost use Rattle.std.specs.Prelude.{◌≡◌, ◌≢◌, ◌≤◌, ◌+◌, ◌++◌, List, ℕ, IfOk, OnOk, IfErr, IfSome, string_bytes, unwrap_or};
-ghost use Rattle.std.specs.Io.KnownBytes.{Keeps};
+ghost use Rattle.std.specs.Prelude.{◌≡◌, ◌≢◌, ◌⊎◌, ◌≤◌, ◌+◌, [], true, List, ℕ, IfOk, OnErr, OnOk, IfErr, IfSome, unwrap_or};
+ghost use Rattle.std.specs.Io.KnownBytes.{Appends, Keeps};
 ghost use Rattle.gptp_network.specs.Document.{Means};
 ghost use Rattle.gptp_network.specs.Faults.{fault_text};
+ghost use Rattle.gptp_certificate_text.specs.CertificateText.{certificate_lines};
+ghost use Rattle.gptp_report.specs.Report.{Reports};
+ghost use Rattle.gptp_report.specs.Sink.{AppendsSome};
 ghost use Rattle.gptp_plan.specs.SettlingTime.{settles};
 ghost use Rattle.gptp_spelling.specs.Lines.{text_of};
 ghost use Rattle.gptp_commands.specs.Source.{ReadsWhole, TakesAtMost};
-ghost use Rattle.gptp_commands.specs.RunText.{document_limit, until_of, AnswersDocument, CertifiesIf, PlaysDocument, ReportsRun, RunText};
-ghost use Rattle.gptp_commands.specs.Written.{Writes, WritesFront};
+ghost use Rattle.gptp_commands.specs.RunText.{document_limit, until_of, AnswersDocument, BeginsRun, PlaysDocument, RefusesFault, RunText};
+ghost use Rattle.gptp_commands.specs.RunSoFar.{AnswersSome, PlaysSome, Tells};
+ghost use Rattle.gptp_commands.specs.Written.{Writes, WritesSome};
 
-use crate::documents::{DOCUMENT_LIMIT, refuse};
+use crate::documents::DOCUMENT_LIMIT;
 use crate::failure::{SimError, Status};
-use crate::output::Output;
 use crate::reading::read_whole;
-use crate::sink::Sink;
 use crate::source::Source;
-use crate::writing::write_whole;
-use gptp_certificate::{print, write_certificate};
-use gptp_links::PcgFate;
+use gptp_certificate::{Certificate, print_line, write_certificate};
+use gptp_links::{Fate, PcgFate};
 use gptp_network::{Document, DocumentFault};
-use gptp_report::{run_document, write_report};
+use gptp_report::sink::Sink;
+use gptp_report::{Cut, run_document, write_report, write_whole};
 use gptp_world::World;
 use std::alloc::Global;
 
@@ -50,88 +52,175 @@ fn until_of(document: &Document, options: &RunOptions) -> u64
     }
 }
 
-/// The lines of the frames, where they are asked for, and the report, with the world that they tell of.
-fn report(
-    alloc: Global,
-    document: &Document,
-    options: &RunOptions,
-    text: &mut String,
-) -> Result<World<PcgFate>, SimError>
-    requires { IfSome options.now.until (λ until. until ≤ 1000000000000000) }
-    ensures reports { IfOk result (λ world. (lines : List (List ℕ)) × ReportsRun document.now options.now world.scene lines × (string_bytes text.new ≡ string_bytes text.old ++ text_of lines)) }
-    ensures memory { IfErr result (λ e. e ≡ SimError.Memory) }
+/// Writes the lines of a certificate, one after another.
+fn write_lines<K: Sink>(alloc: Global, certificate: &Certificate, sink: &mut K) -> Result<(), Cut>
+    ensures some { AppendsSome (K.written sink.old) (K.written sink.new)
+        (text_of (certificate_lines certificate.now.version certificate.now.lines)) }
+    ensures whole { OnOk result
+        (Appends (K.written sink.old) (K.written sink.new) (text_of (certificate_lines certificate.now.version certificate.now.lines))) }
+    ensures works { result ≢ Err Cut.Write → K.failures sink.new ≡ K.failures sink.old }
+    ensures fails { result ≡ Err Cut.Write → K.failures sink.new ≢ K.failures sink.old }
 {
-    let until = until_of(document, options);
-    let fate = PcgFate::new(options.seed);
-    let world = run_document(alloc, document, fate, until, options.frames, text)?;
-    write_report(text, document, until, &world)?;
-    Ok(world)
+    let mut line = Vec::new(alloc);
+    for place in 0..usize::MAX {
+        line.clear();
+        if !print_line(certificate, place, &mut line)? {
+            return Ok(());
+        }
+        write_whole(sink, &line)?;
+    }
+    // no memory holds so many lines
+    Err(Cut::Memory)
 }
 
-/// The certificate of a world, where it is asked for.
-fn certify(
+/// Writes the report of a world.
+fn write_all<F: Fate + Drop, K: Sink>(
     alloc: Global,
-    world: &World<PcgFate>,
-    wanted: bool,
-    text: &mut Vec<u8>,
-) -> Result<(), SimError>
-    ensures certifies { OnOk result ((lines : List (List ℕ)) × CertifiesIf wanted world.now.scene lines × (text.new.items ≡ text.old.items ++ text_of lines)) }
-    ensures memory { IfErr result (λ e. e ≡ SimError.Memory) }
+    document: &Document,
+    until: u64,
+    world: &World<F>,
+    sink: &mut K,
+) -> Result<(), Cut>
+    ensures some { OnErr result ((lines : List (List ℕ))
+        × ((lines ≡ []) ⊎ Reports document.now until world.now.scene lines)
+        × AppendsSome (K.written sink.old) (K.written sink.new) (text_of lines)) }
+    ensures whole { OnOk result ((lines : List (List ℕ)) × Reports document.now until world.now.scene lines
+        × Appends (K.written sink.old) (K.written sink.new) (text_of lines)) }
+    ensures works { result ≢ Err Cut.Write → K.failures sink.new ≡ K.failures sink.old }
+    ensures fails { result ≡ Err Cut.Write → K.failures sink.new ≢ K.failures sink.old }
 {
-    if wanted {
-        let certificate = write_certificate(alloc, world)?;
-        print(&certificate, text)?;
-    }
+    let mut text = String::new(alloc);
+    write_report(&mut text, document, until, world)?;
+    write_whole(sink, text.as_bytes())?;
     Ok(())
 }
 
-/// The text of the run of a document.
-fn play_document(
+/// Writes the report of a world, and what its systems say.
+fn write_certified<F: Fate + Drop, K: Sink>(
+    alloc: Global,
+    document: &Document,
+    until: u64,
+    world: &World<F>,
+    sink: &mut K,
+) -> Result<(), Cut>
+    ensures some { OnErr result ((lines : List (List ℕ))
+        × ((lines ≡ []) ⊎ Tells document.now until true world.now.scene lines)
+        × AppendsSome (K.written sink.old) (K.written sink.new) (text_of lines)) }
+    ensures whole { OnOk result ((lines : List (List ℕ)) × Tells document.now until true world.now.scene lines
+        × Appends (K.written sink.old) (K.written sink.new) (text_of lines)) }
+    ensures works { result ≢ Err Cut.Write → K.failures sink.new ≡ K.failures sink.old }
+    ensures fails { result ≡ Err Cut.Write → K.failures sink.new ≢ K.failures sink.old }
+{
+    let certificate = write_certificate(alloc, world)?;
+    write_all(alloc, document, until, world, sink)?;
+    write_lines(alloc, &certificate, sink)
+}
+
+/// Writes the report of a world, and what its systems say where that is asked for.
+fn tell<F: Fate + Drop, K: Sink>(
+    alloc: Global,
+    document: &Document,
+    until: u64,
+    certified: bool,
+    world: &World<F>,
+    sink: &mut K,
+) -> Result<(), Cut>
+    ensures some { OnErr result ((lines : List (List ℕ))
+        × ((lines ≡ []) ⊎ Tells document.now until certified world.now.scene lines)
+        × AppendsSome (K.written sink.old) (K.written sink.new) (text_of lines)) }
+    ensures whole { OnOk result ((lines : List (List ℕ)) × Tells document.now until certified world.now.scene lines
+        × Appends (K.written sink.old) (K.written sink.new) (text_of lines)) }
+    ensures works { result ≢ Err Cut.Write → K.failures sink.new ≡ K.failures sink.old }
+    ensures fails { result ≡ Err Cut.Write → K.failures sink.new ≢ K.failures sink.old }
+{
+    match certified {
+        true => write_certified(alloc, document, until, world, sink),
+        false => write_all(alloc, document, until, world, sink),
+    }
+}
+
+/// Runs a document, and writes its lines as they are known.
+fn play_document<K: Sink>(
     alloc: Global,
     document: &Document,
     options: &RunOptions,
-) -> Result<Output, SimError>
+    sink: &mut K,
+) -> Result<(), Cut>
     requires { IfSome options.now.until (λ until. until ≤ 1000000000000000) }
-    ensures plays { IfOk result (λ o. (output : List (List ℕ)) × PlaysDocument document.now options.now output o.status × (o.text.items ≡ text_of output)) }
-    ensures memory { IfErr result (λ e. e ≡ SimError.Memory) }
+    ensures some { OnErr result ((lines : List (List ℕ)) × PlaysSome document.now options.now lines
+        × AppendsSome (K.written sink.old) (K.written sink.new) (text_of lines)) }
+    ensures whole { OnOk result ((lines : List (List ℕ)) × PlaysDocument document.now options.now lines Status.Done
+        × Appends (K.written sink.old) (K.written sink.new) (text_of lines)) }
+    ensures works { result ≢ Err Cut.Write → K.failures sink.new ≡ K.failures sink.old }
+    ensures fails { result ≡ Err Cut.Write → K.failures sink.new ≢ K.failures sink.old }
 {
-    let mut text = String::new(alloc);
-    let world = report(alloc, document, options, &mut text)?;
-    let mut text = text.into_bytes();
-    certify(alloc, &world, options.certificate, &mut text)?;
-    Ok(Output {
-        text,
-        status: Status::Done,
-    })
+    let until = until_of(document, options);
+    let fate = PcgFate::new(options.seed);
+    let world = run_document(alloc, document, fate, until, options.frames, sink)?;
+    tell(alloc, document, until, options.certificate, &world, sink)
 }
 
-/// The text for a document within its size.
-fn answer_document(alloc: Global, input: &[u8], options: &RunOptions) -> Result<Output, SimError>
+/// Writes the line of a document that is refused.
+fn write_refusal<K: Sink>(alloc: Global, fault: DocumentFault, sink: &mut K) -> Result<Status, Cut>
+    ensures some { (lines : List (List ℕ)) × RefusesFault fault lines Status.Refused
+        × AppendsSome (K.written sink.old) (K.written sink.new) (text_of lines) }
+    ensures whole { IfOk result (λ status. (lines : List (List ℕ)) × RefusesFault fault lines status
+        × Appends (K.written sink.old) (K.written sink.new) (text_of lines)) }
+    ensures works { result ≢ Err Cut.Write → K.failures sink.new ≡ K.failures sink.old }
+    ensures fails { result ≡ Err Cut.Write → K.failures sink.new ≢ K.failures sink.old }
+{
+    let mut line = String::new(alloc);
+    writeln!(line, "refused {fault}")?;
+    write_whole(sink, line.as_bytes())?;
+    Ok(Status::Refused)
+}
+
+/// Writes the text for a document within its size.
+fn answer_document<K: Sink>(
+    alloc: Global,
+    input: &[u8],
+    options: &RunOptions,
+    sink: &mut K,
+) -> Result<Status, Cut>
     requires { IfSome options.now.until (λ until. until ≤ 1000000000000000) }
-    ensures answers { IfOk result (λ o. (output : List (List ℕ)) × AnswersDocument options.now input.now output o.status × (o.text.items ≡ text_of output)) }
-    ensures memory { IfErr result (λ e. e ≡ SimError.Memory) }
+    ensures some { OnErr result ((lines : List (List ℕ)) × AnswersSome options.now input.now lines
+        × AppendsSome (K.written sink.old) (K.written sink.new) (text_of lines)) }
+    ensures whole { IfOk result (λ status. (lines : List (List ℕ)) × AnswersDocument options.now input.now lines status
+        × Appends (K.written sink.old) (K.written sink.new) (text_of lines)) }
+    ensures works { result ≢ Err Cut.Write → K.failures sink.new ≡ K.failures sink.old }
+    ensures fails { result ≡ Err Cut.Write → K.failures sink.new ≢ K.failures sink.old }
 {
     match Document::read(alloc, input) {
         Ok(document) => {
             document.well_formed();
             document.network().well_formed();
-            play_document(alloc, &document, options)
+            play_document(alloc, &document, options, sink)?;
+            Ok(Status::Done)
         }
-        Err(DocumentFault::OutOfMemory) => Err(SimError::Memory),
-        Err(fault) => refuse(alloc, fault),
+        Err(DocumentFault::OutOfMemory) => Err(Cut::Memory),
+        Err(fault) => write_refusal(alloc, fault, sink),
     }
 }
 
-/// What is written for an input. The only error is [`SimError::Memory`].
-fn output_of(alloc: Global, input: &[u8], options: &RunOptions) -> Result<Output, SimError>
+/// Writes the text for an input.
+fn answer_input<K: Sink>(
+    alloc: Global,
+    input: &[u8],
+    options: &RunOptions,
+    sink: &mut K,
+) -> Result<Status, Cut>
     requires { IfSome options.now.until (λ until. until ≤ 1000000000000000) }
-    ensures text { IfOk result (λ o. (output : List (List ℕ)) × RunText options.now input.now output o.status × (o.text.items ≡ text_of output)) }
-    ensures memory { IfErr result (λ e. e ≡ SimError.Memory) }
+    ensures some { OnErr result ((lines : List (List ℕ)) × BeginsRun options.now input.now lines
+        × AppendsSome (K.written sink.old) (K.written sink.new) (text_of lines)) }
+    ensures whole { IfOk result (λ status. (lines : List (List ℕ)) × RunText options.now input.now lines status
+        × Appends (K.written sink.old) (K.written sink.new) (text_of lines)) }
+    ensures works { result ≢ Err Cut.Write → K.failures sink.new ≡ K.failures sink.old }
+    ensures fails { result ≡ Err Cut.Write → K.failures sink.new ≢ K.failures sink.old }
 {
     if input.len() <= DOCUMENT_LIMIT {
-        return answer_document(alloc, input, options);
+        return answer_document(alloc, input, options, sink);
     }
-    refuse(alloc, DocumentFault::TooMany)
+    write_refusal(alloc, DocumentFault::TooMany, sink)
 }
 
 /// Reads a document, a network and its events as TOML, lets them run up to a time, and writes what became of them: with
@@ -140,15 +229,15 @@ fn output_of(alloc: Global, input: &[u8], options: &RunOptions) -> Result<Output
 ///
 /// Where the network of the document is calm after its events, and the run ends no sooner than [`Document::settles`]
 /// says, the report is that of a world that has settled, whatever the seed; and the certificate is the settled choice of
-/// the network as it then stands, where all its systems are within 254 steps of the best of their component.
+/// the network as it then stands.
 ///
 /// A document that is refused is the one line `refused` with the number and name of [`gptp_network::DocumentFault`]. Of an
-/// input of more than 33,554,432 octets no more than one further octet is read, and it is `refused 11 TooMany`. The whole
-/// text is held before its first octet is written.
+/// input of more than 33,554,432 octets no more than one further octet is read, and it is `refused 11 TooMany`. The document
+/// is read whole first; then the line of each frame is written as that reaches its port, and the report as a whole.
 ///
 /// The answer is [`Status::Refused`] where the document was refused. Errors: [`SimError::Read`] exactly where a read failed,
-/// with nothing written; [`SimError::Memory`] with nothing written; [`SimError::Write`] exactly where a write failed, with a
-/// front of the text written.
+/// with nothing written; [`SimError::Memory`]; [`SimError::Write`] exactly where a write failed, after which nothing more is
+/// done. After these two a front of the text stands written, as far as that had got.
 pub fn run<S: Source, K: Sink>(
     alloc: Global,
     source: &mut S,
@@ -167,11 +256,14 @@ pub fn run<S: Source, K: Sink>(
     ensures write { result ≡ Err SimError.Write → K.failures sink.new ≢ K.failures sink.old }
 
     // what stands written after an error
-    ensures nothing { IfErr result (λ e. e ≢ SimError.Write → Keeps (K.written sink.old) (K.written sink.new)) }
-    ensures front { result ≡ Err SimError.Write → WritesFront (RunText options.now) (S.left source.old) (K.written sink.old) (K.written sink.new) }
+    ensures nothing { result ≡ Err SimError.Read → Keeps (K.written sink.old) (K.written sink.new) }
+    ensures front { IfErr result (λ e. e ≢ SimError.Read
+        → WritesSome (BeginsRun options.now) (S.left source.old) (K.written sink.old) (K.written sink.new)) }
 {
     let input = read_whole(alloc, source, DOCUMENT_LIMIT)?;
-    let output = output_of(alloc, &input, options)?;
-    write_whole(sink, &output.text)?;
-    Ok(output.status)
+    match answer_input(alloc, &input, options, sink) {
+        Ok(status) => Ok(status),
+        Err(Cut::Memory) => Err(SimError::Memory),
+        Err(Cut::Write) => Err(SimError::Write),
+    }
 }

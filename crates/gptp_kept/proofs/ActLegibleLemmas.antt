@@ -9,23 +9,24 @@ use Rattle.gptp_links.specs.Queue.{Frame}
 use Rattle.gptp_plan.specs.declared.change.Act.{Act}
 use Rattle.gptp_plan.specs.declared.change.Act.TheVariants.{Deliver, Expire, Change as Changing}
 use Rattle.gptp_plan.specs.declared.change.Change.{Change}
-use Rattle.gptp_plan.specs.declared.change.Change.TheVariants.{LinkDown, LinkUp, LinkSet, Fail, Recover, Priority1}
+use Rattle.gptp_plan.specs.declared.change.Change.TheVariants.{LinkDown, LinkUp, LinkSet, Fail, Recover, Priority1, Inject}
 use Rattle.gptp_acts.specs.declared.done.Done.{Done}
 use Rattle.gptp_plan.specs.declared.network.Wire.{Wire}
 use Rattle.gptp_acts.specs.declared.station.Station.{Station}
 use Rattle.gptp_acts.specs.Acts.{Acts, Changes, set_to}
 use Rattle.gptp_acts.specs.Initial.{channel_from, channels_of, initial, setup_of, station_of, stations_of}
-use Rattle.gptp_plan.specs.Network.{IsNetwork, NetworkState}
+use Rattle.gptp_plan.specs.Network.{IsNetwork, NetworkState, pace_of}
 use Rattle.gptp_acts.specs.Ahead.{IsPortAmong}
 use Rattle.gptp_acts.specs.Changing.{StartsAll}
 use Rattle.gptp_acts.specs.Sound.{IsSound}
-use Rattle.gptp_acts.specs.World.{Channel, WorldState, queue, sender}
+use Rattle.gptp_acts.specs.World.{Channel, WorldState, port_id, queue, sender}
 use Rattle.gptp_lists.proofs.MappedLemmas.{mapped}
 use Rattle.gptp_kept.specs.Legible.{ChannelFits, IsLegible, SayWhatFits, StationFits}
 use Rattle.gptp_kept.specs.LegibleLaws.{SetsAnOctet}
 use Rattle.gptp_kept.proofs.LegibleLemmas.{delivers_legible, expires_legible}
 use Rattle.gptp_kept.proofs.AnsweringLemmas.{IsAnswering, new_fits, recovers_answering, sound_answers, starts_all_answering}
-use Rattle.gptp_kept.proofs.ChangeLegibleLemmas.{bounds_legible, comes_up_answering, fails_legible, goes_down_answering, prioritized_answering}
+use Rattle.gptp_kept.proofs.ChangeLegibleLemmas.{bounds_legible, comes_up_answering, fails_legible, goes_down_answering, injects_legible, prioritized_answering}
+use Rattle.gptp_kept.proofs.SeenOctetLemmas.{octets_say_what_fits}
 
 -- the ports at the ends of a link are those of systems
 ends_among : (w : WorldState) (link : ℕ) (channel : Channel) → IsSound w
@@ -66,6 +67,9 @@ changes_legible (Recover number) w draws w' sound legible octet k =
 changes_legible (Priority1 number value) w draws w' sound legible octet k =
     (prioritized_answering value k.place k.station (record w { last_change = w.time }) draws w' octet k.is.here
     (marked_answers w sound legible) k.so).legible
+changes_legible (Inject number port octets) w draws w' sound legible octet k =
+    injects_legible k.channel.up (port_id number port) octets (record w { last_change = w.time }) draws w'
+    (octets_say_what_fits octets octet) (marked_answers w sound legible).legible k.so
 
 pub acts_legible : (act : Act) (w : WorldState) (draws : List Draw) (done : Done) (w' : WorldState) → IsSound w
     → IsLegible w → SetsAnOctet act → Acts act w draws done w' → IsLegible w'
@@ -88,8 +92,8 @@ initial_legible n is = record { stations = stations; links = links }
   where
     stations : (place : ℕ) (station : Station) → slice_get (stations_of n) place ≡ Some station → StationFits station
     stations place station there =
-        let (m, stands, same) = mapped (station_of n.params) n.systems place station there in
-        subst StationFits same (new_fits 0 (setup_of n.params m) false (is.identities place m stands))
+        let (m, stands, same) = mapped (station_of (pace_of n)) n.systems place station there in
+        subst StationFits same (new_fits 0 (setup_of (pace_of n) m) false (is.identities place m stands))
 
     links : (link : ℕ) (channel : Channel) → slice_get (channels_of n) link ≡ Some channel → ChannelFits channel
     links link channel there =

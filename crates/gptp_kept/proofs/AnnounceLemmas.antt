@@ -1,5 +1,5 @@
--- What an Announce says that is written, whatever stands in its header besides the source.
-use Rattle.std.proofs.Common.{◌≡◌, ◌≤◌, ℕ, pos, false, List, [], ◌++◌, length, refl, sym, ap, subst, ◌∙◌, arith}
+-- What an Announce says that is written, whatever stands in its header besides the source and the interval.
+use Rattle.std.proofs.Common.{◌≡◌, ◌≤◌, ℕ, pos, false, List, [], ◌++◌, length, refl, sym, ap, subst, ◌∙◌, arith, FitsSigned, w8}
 use Rattle.std.proofs.lemmas.List.{append-nil}
 use Rattle.std.proofs.lemmas.Option.{same_Some}
 use Rattle.gptp_messages.specs.declared.announce.AnnounceBody.{AnnounceBody}
@@ -21,13 +21,13 @@ carried : {K : Type 0} (one kind : K) → one ≡ kind → (Before After : K →
 carried one kind same Before After carries before = subst After same (carries (subst Before (sym same) before))
 
 module _ (head : Head) (body : AnnounceBody) (path : List ℕ) where
-  -- the header with nothing but its source
+  -- the header with nothing but its source and its interval
   abbrev plain : Head
   plain = record {
     source = head.source;
     sequence = 0;
     correction = pos 0;
-    log_interval = pos 0;
+    log_interval = head.log_interval;
     two_step = false;
   }
 
@@ -64,10 +64,15 @@ module _ (head : Head) (body : AnnounceBody) (path : List ℕ) where
   unfolding field
   same_source = refl
 
+  same_log : (head_of bare_octets).log_interval ≡ (head_of octets).log_interval
+  unfolding field
+  same_log = refl
+
   same_size : length bare_octets ≡ length octets
   same_size = refl
 
-  module _ (fits : PortFits head.source) (body-fits : BodyFits body) (path-fits : PathFits path) where
+  module _ (fits : PortFits head.source) (log-fits : FitsSigned w8 head.log_interval) (body-fits : BodyFits body)
+      (path-fits : PathFits path) where
     bare_reads : Reads bare_octets (messages.Announce bare)
     bare_reads =
         (reads_back (messages.Announce bare) []
@@ -76,7 +81,7 @@ module _ (head : Head) (body : AnnounceBody) (path : List ℕ) where
             source = fits;
             sequence = omega arith;
             correction = record { sfits = omega arith };
-            log_interval = record { sfits = omega arith };
+            log_interval = log-fits;
           };
           body = body-fits;
           path = path-fits;
@@ -122,8 +127,17 @@ module _ (head : Head) (body : AnnounceBody) (path : List ℕ) where
     seen_source =
         ap identity_of (sym same_source ∙ sym (ap (λ (h : Head). h.source) (head_read bare_octets bare bare_reads)))
 
+    seen_log : (head_of octets).log_interval ≡ head.log_interval
+    seen_log = sym same_log ∙ sym (ap (λ (h : Head). h.log_interval) (head_read bare_octets bare bare_reads))
+
     seen_said : said seen ≡ said written
-    seen_said = λ i. record { root = body.root; steps = body.steps; source = seen_source i; path = path }
+    seen_said = λ i. record {
+      root = body.root;
+      steps = body.steps;
+      source = seen_source i;
+      log = seen_log i;
+      path = path;
+    }
 
     -- an Announce that is written reads as one that says the same
     pub announce_reads : (m : AnnounceView) × Reads (Written (messages.Announce written)) (messages.Announce m)

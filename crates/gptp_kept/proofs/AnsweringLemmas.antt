@@ -1,6 +1,5 @@
 -- Calls one after another, and starts, leave a world legible.
 use Rattle.std.proofs.Common.{◌≡◌, ◌≤◌, ◌<◌, ◌^◌, ℕ, Bool, true, false, List, [], ◌∷◌, map, length, Some, slice_get, refl, sym, ap, subst, ◌∙◌, inl, inr}
-use Rattle.std.specs.List.{range_with_len}
 use Rattle.std.proofs.lemmas.Option.{none-some, same_Some}
 use Rattle.gptp_lists.specs.Members.{In}
 use Rattle.gptp_links.specs.Fate.{Draw}
@@ -13,6 +12,7 @@ use Rattle.gptp_setup.specs.Intervals.{AreParams}
 use Rattle.gptp_system.specs.Start.{started}
 use Rattle.gptp_system.specs.State.{clock}
 use Rattle.gptp_system.specs.Steps.{IsPortOf}
+use Rattle.gptp_system.proofs.StartLemmas.{disabled_at}
 use Rattle.gptp_acts.specs.declared.station.Station.{Station}
 use Rattle.gptp_acts.specs.Act.{Calls, all_timers, in_state}
 use Rattle.gptp_acts.specs.Ahead.{HasPorts, IsPortAmong, IsSteady}
@@ -21,7 +21,7 @@ use Rattle.gptp_acts.specs.Sound.{IsItsSetup, IsSound}
 use Rattle.gptp_acts.specs.World.{Channel, WorldState}
 use Rattle.gptp_acts.proofs.AheadLemmas.{calls_ports}
 use Rattle.gptp_acts.proofs.ChangeOnTimeLemmas.{IsOfPort, calls_if_live_ports}
-use Rattle.gptp_lists.proofs.MappedLemmas.{mapped, same_there}
+use Rattle.gptp_lists.proofs.MappedLemmas.{same_there}
 use Rattle.gptp_lists.proofs.PlaceLemmas.{get-set_all, get-set_same}
 use Rattle.gptp_acts.proofs.StayLemmas.{called_same, fresh_same}
 use Rattle.gptp_acts.proofs.SteadyLemmas.{started_steady, steps_steady}
@@ -132,8 +132,8 @@ new_fits now setup live small = record {
   system = record {
     identity = small;
     held = λ i h stands r got.
-        let (p, there, is) = mapped (λ (p : ℕ). helds.Disabled) (range_with_len 1 setup.ports) i h stands in
-        absurd (none-some r (ap received is ∙ got));
+        let off = disabled_at (length setup.intervals.items) i h stands in
+        absurd (none-some r (ap received (sym off) ∙ got));
   };
   setup = small;
 }
@@ -155,7 +155,7 @@ starts_answering place w draws w' is k =
     can : CanAnswer new
     can = record {
       params = old.params;
-      steady = started_steady k.station.setup w.time old.params;
+      steady = started_steady k.station.setup w.time old.params old.its.intervals;
       its = (fresh_same w.time k.station old.its).its;
     }
 

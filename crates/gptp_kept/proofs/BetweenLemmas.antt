@@ -5,7 +5,7 @@ use Rattle.gptp_links.specs.Fate.{Draw}
 use Rattle.gptp_vector.specs.declared.port.PortId.{PortId}
 use Rattle.gptp_roles.specs.Selection.{clock_of}
 use Rattle.gptp_system.specs.State.{clock}
-use Rattle.gptp_system.proofs.ReadyLemmas.{length-new_ports}
+use Rattle.gptp_system.proofs.StartLemmas.{length-new_ports}
 use Rattle.gptp_plan.specs.declared.change.Act.{Act}
 use Rattle.gptp_acts.specs.declared.done.Done.{Done}
 use Rattle.gptp_plan.specs.declared.network.Wire.{Wire}
@@ -13,7 +13,7 @@ use Rattle.gptp_acts.specs.declared.station.Station.{Station}
 use Rattle.gptp_acts.specs.Acts.{Acts}
 use Rattle.gptp_acts.specs.Changing.{StartsAll}
 use Rattle.gptp_acts.specs.Initial.{channel_from, initial, setup_of, station_of, stations_of}
-use Rattle.gptp_plan.specs.Network.{IsNetwork, IsPort, IsWire, NetworkState}
+use Rattle.gptp_plan.specs.Network.{IsNetwork, IsPort, IsWire, NetworkState, pace_of}
 use Rattle.gptp_acts.specs.Sound.{IsSound}
 use Rattle.gptp_acts.specs.World.{WorldState}
 use Rattle.gptp_lists.proofs.MappedLemmas.{mapped, mapped_there, same_there}
@@ -24,28 +24,29 @@ use Rattle.gptp_kept.proofs.OutlineLemmas.{acts_count, count, starts_all_count}
 
 -- ---- the world that a network makes
 
-port_made : (n : NetworkState) (port : PortId) → IsPort n.systems port → HasPort (stations_of n) port
-port_made n port k =
-    let setup = setup_of n.params k.system in
-    let made : Station = station_of n.params k.system in
-    let ports = length-new_ports (clock_of setup.identity) setup.params setup.ports in
+port_made : (n : NetworkState) → IsNetwork n → (port : PortId) → IsPort n.systems port → HasPort (stations_of n) port
+port_made n is port k =
+    let setup = setup_of (pace_of n) k.system in
+    let made : Station = station_of (pace_of n) k.system in
+    let ports = length-new_ports (clock_of setup.identity) setup.params 1 setup.intervals.items
+    ∙ (is.systems k.place k.system k.there).many in
     record {
       place = k.place;
       station = made;
-      here = mapped_there (station_of n.params) n.systems k.place k.system k.there;
+      here = mapped_there (station_of (pace_of n)) n.systems k.place k.system k.there;
       named = k.clock;
       is = record { least = k.first; most = subst (λ count. port.port ≤ count) (sym ports) k.last };
     }
 
-wire_made : (n : NetworkState) (place : ℕ) (wire : Wire) → IsWire n place wire
+wire_made : (n : NetworkState) → IsNetwork n → (place : ℕ) (wire : Wire) → IsWire n place wire
     → IsBetween (stations_of n) (channel_from wire)
-wire_made n place wire is =
-    record { a = port_made n wire.a is.a; b = port_made n wire.b is.b; apart = is.apart }
+wire_made n network place wire is =
+    record { a = port_made n network wire.a is.a; b = port_made n network wire.b is.b; apart = is.apart }
 
 pub networks_between : (n : NetworkState) → IsNetwork n → AreBetween (initial n)
 networks_between n is link channel here =
     let (wire, stands, same) = mapped channel_from n.links link channel here in
-    subst (IsBetween (stations_of n)) same (wire_made n link wire (is.links link wire stands))
+    subst (IsBetween (stations_of n)) same (wire_made n is link wire (is.links link wire stands))
 
 -- ---- what stays
 

@@ -1,5 +1,5 @@
 -- A system that is at rest is seen at rest.
-use Rattle.std.proofs.Common.{◌≡◌, ◌⊎◌, ◌+◌, ℕ, zero, suc, Bool, false, List, [], ◌∷◌, Option, Some, None, slice_get, refl, sym, ap, subst, ◌∙◌, inl, inr, arith}
+use Rattle.std.proofs.Common.{◌≡◌, ◌⊎◌, ◌+◌, ℕ, zero, suc, ℤ, Bool, false, List, [], ◌∷◌, Option, Some, None, slice_get, refl, sym, ap, subst, ◌∙◌, inl, inr, arith}
 use Rattle.std.specs.Prelude.{◌==◌}
 use Rattle.std.specs.List.{AllByRecursion}
 use Rattle.std.specs.Option.{option_map_or}
@@ -75,9 +75,9 @@ of_path P (first ∷ hs) all (suc i) h r stands got =
     by (Some x) rest = rest.1
 
 -- the parts of the path vector of what was received, as the machine lists them
-path_parts : (n span : ℕ) (r : Reception) → r.vector.receiver ≡ n
-    → parts (path_of r.vector) ≡ path_vector (reception_view span r).said n
-path_parts n span r here =
+path_parts : (n : ℕ) (keep : ℤ → ℕ) (r : Reception) → r.vector.receiver ≡ n
+    → parts (path_of r.vector) ≡ path_vector (reception_view keep r).said n
+path_parts n keep r here =
     let more : r.vector.steps + 1 ≡ suc r.vector.steps = omega arith in
     let source = r.vector.source in
     ap (λ steps. r.vector.root ∷ steps ∷ source.clock ∷ source.port ∷ r.vector.receiver ∷ []) more
@@ -110,13 +110,13 @@ module _ (live : Bool) (s : SystemState) (shown : AreShown s) (held : AreHeld s)
       by (inr path) =
           let at = path_at s.held v path in
           let came = held at.place at.held at.stands at.reception at.got in
-          let (span, holds) = holds_there live s shown at.place at.held at.reception at.stands at.got in
+          let holds = holds_there live s shown at.place at.held at.reception at.stands at.got in
           let receiver : v.receiver ≡ suc at.place = ap (λ (x : Vector). x.receiver) at.is ∙ came.receiver in
           inr (
             at.place,
-            reception_view span at.reception,
+            reception_view (span_at s) at.reception,
             holds,
-            ap parts at.is ∙ path_parts (suc at.place) span at.reception came.receiver,
+            ap parts at.is ∙ path_parts (suc at.place) (span_at s) at.reception came.receiver,
             slave_is at.place receiver,
           )
 
@@ -128,10 +128,9 @@ module _ (live : Bool) (s : SystemState) (shown : AreShown s) (held : AreHeld s)
       → IsLower (path_vector seen.said (suc i)) (parts v) → ⊥
   held_not_lower i seen holds less =
       let at = held_from live s i seen holds in
-      let span = span_at s.params at.port in
       let is : path_vector seen.said (suc i) ≡ parts (path_of at.reception.vector) =
       ap (λ (x : SeenReception). path_vector x.said (suc i)) at.is
-      ∙ sym (path_parts (suc i) span at.reception (at_of i seen at)) in
+      ∙ sym (path_parts (suc i) (span_at s) at.reception (at_of i seen at)) in
       not_lower (path_of at.reception.vector) v
       (of_path (λ x. lower x v ≡ false) s.held rest.is_chosen.least.1 i at.held at.reception at.stands at.got)
       (subst (λ xs. IsLower xs (parts v)) is less)
@@ -153,7 +152,7 @@ module _ (live : Bool) (s : SystemState) (shown : AreShown s) (held : AreHeld s)
       is : message seen.said (suc i) ≡ parts at.reception.vector
       is =
           ap (λ (x : SeenReception). message x.said (suc i)) at.is
-          ∙ sym (parts_of (suc i) (span_at s.params at.port) at.reception (at_of i seen at))
+          ∙ sym (parts_of (suc i) (span_at s) at.reception (at_of i seen at))
 
       by : (s.slave ≡ Some (suc i)) ⊎ (lower own at.reception.vector ≡ false)
           → (s.slave ≡ Some (suc i))
@@ -171,12 +170,12 @@ module _ (live : Bool) (s : SystemState) (shown : AreShown s) (held : AreHeld s)
     source = source;
     is = ap (λ root. root ∷ v.steps ∷ source) (sym rest.root) ∙ ap (λ steps. s.root ∷ steps ∷ source) (sym rest.steps);
     fresh = λ i q there aged.
-        let at = port_from s.params s.held s.ports i q there in
+        let at = port_from (span_at s) s.held s.ports i q there in
         (port_rests i at.held at.held_there).fresh
-        (aged_back (span_at s.params at.port) at.held (ap (λ (x : SeenPort). x.held) (sym at.is) ∙ aged));
+        (aged_back (span_at s) at.held (ap (λ (x : SeenPort). x.held) (sym at.is) ∙ aged));
     mine = λ i q root steps there mine.
-        let at = port_from s.params s.held s.ports i q there in
+        let at = port_from (span_at s) s.held s.ports i q there in
         (port_rests i at.held at.held_there).mine root steps
-        (mine_back (span_at s.params at.port) at.held root steps (ap (λ (x : SeenPort). x.held) (sym at.is) ∙ mine));
+        (mine_back (span_at s) at.held root steps (ap (λ (x : SeenPort). x.held) (sym at.is) ∙ mine));
     passive = passive_seen;
   }

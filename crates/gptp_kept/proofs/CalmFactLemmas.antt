@@ -7,9 +7,10 @@ use Rattle.gptp_lists.proofs.MemberLemmas.{from_map}
 use Rattle.gptp_links.specs.declared.link.Direction.{Direction}
 use Rattle.gptp_links.specs.declared.link.Direction.TheVariants.{FromA, FromB}
 use Rattle.gptp_links.specs.Queue.{Frame}
-use Rattle.gptp_setup.specs.declared.setup.Params.{Params}
+use Rattle.gptp_setup.specs.Intervals.{IsLog}
+use Rattle.gptp_setup.specs.Pace.{Pace, largest_interval, longest_span}
+use Rattle.gptp_setup.proofs.PaceLemmas.{span_longest}
 use Rattle.gptp_system.specs.Follows.{FollowsItself, FollowsPort}
-use Rattle.gptp_setup.specs.Intervals.{largest_interval, longest_span}
 use Rattle.gptp_system.specs.State.{clock}
 use Rattle.gptp_acts.specs.Ahead.{IsSteady}
 use Rattle.gptp_acts.specs.declared.station.Station.{Station}
@@ -22,13 +23,14 @@ use Rattle.gptp_settling.specs.Station.{Reception as SeenReception, Station as S
 use Rattle.gptp_kept.specs.Known.{IsKnown}
 use Rattle.gptp_kept.proofs.KnownAtRestLemmas.{systems_follow}
 use Rattle.gptp_kept.proofs.DueLemmas.{frames_on_links, ports_known}
-use Rattle.gptp_kept.specs.View.{frame_view, lane_view, lanes_view, reception_view, station_view, view}
+use Rattle.gptp_kept.specs.View.{frame_view, lane_view, lanes_view, reception_view, span_at, station_view, view}
 use Rattle.gptp_kept.proofs.SeenLaneLemmas.{lane_from}
 use Rattle.gptp_kept.proofs.OrderLemmas.{in_contains}
 use Rattle.gptp_kept.proofs.PlaceLemmas.{station_from}
 use Rattle.gptp_kept.specs.Calm.{network_of}
 use Rattle.gptp_kept.specs.Standing.{has_clock, is_used, live_systems, snapshot_of}
-use Rattle.gptp_kept.proofs.PortLemmas.{held_from, holds_there, same_standing, span_is}
+use Rattle.gptp_kept.proofs.PortLemmas.{held_from, holds_there, same_standing}
+use Rattle.gptp_kept.proofs.SetLemmas.{span_is}
 use Rattle.gptp_kept.proofs.SystemLemmas.{clock_there, live_there}
 use Rattle.gptp_kept.proofs.WayLemmas.{used_joins}
 
@@ -94,19 +96,18 @@ follows_seen : (station : Station) → IsSteady station.system
     → SeenItself (station_view station) ⊎ SeenFollows (station_view station)
 follows_seen station steady (inl k) = inl (record { root = k.root; steps = k.steps; trace = k.path })
 follows_seen station steady (inr k) =
-    let (span, holds) = holds_there station.live station.system steady.shown k.place k.held k.reception k.there k.holds
-    in
+    let holds = holds_there station.live station.system steady.shown k.place k.held k.reception k.there k.holds in
     let more = k.steps in
     inr (record {
       place = k.place;
-      r = reception_view span k.reception;
+      r = reception_view (span_at station.system) k.reception;
       holds = holds;
       root = k.root;
       steps = omega arith;
       trace = k.path;
     })
 
-module _ (p : Params) (m start : ℕ) (w : WorldState) (sound : IsSound w) (known : IsKnown p w) where
+module _ (p : Pace) (m start : ℕ) (w : WorldState) (sound : IsSound w) (known : IsKnown p w) where
   abbrev k : Setting
   k = setting (network_of p m start w)
 
@@ -118,14 +119,16 @@ module _ (p : Params) (m start : ℕ) (w : WorldState) (sound : IsSound w) (know
       let s = station.system in
       let steady = (sound.on_time.stations place station here).steady in
       let at = held_from station.live s i seen holds in
-      let span = span_is p station (known.set place station here) i at.port at.there in
+      let set = known.set place station here in
+      let span = span_is p station set at.reception.interval in
       let within = (ports_known p w sound known place station here live i at.held at.port at.stands at.there).came
       at.reception at.got in
       subst (IsInTime k w.time (clock s)) (sym at.is)
       (record {
         came = within.least;
         stays = subst (λ n. w.time ≤ at.reception.at + n) (sym span) within.most;
-        short = subst (λ n. n ≤ longest_span p) (sym span) (omega arith);
+        short = subst (λ n. n ≤ longest_span p) (sym span)
+            (span_longest p at.reception.interval (subst IsLog set.largest steady.largest));
         no_loop = λ member.
             (steady.held i at.held at.stands at.reception at.got).no_loop (in_contains (clock s) _ member);
       })
@@ -150,6 +153,6 @@ module _ (p : Params) (m start : ℕ) (w : WorldState) (sound : IsSound w) (know
     near = λ j lane seen there member.
         let at = frame_from w j lane seen there member in
         subst (λ (f : SeenFrame). f.due ≤ w.time + largest_interval p) (sym at.is)
-        (known.near at.link at.direction at.channel at.frame at.here at.among);
+        ((known.near at.link at.channel at.here).dues at.direction at.frame at.among);
     linked = linked w sound;
   }

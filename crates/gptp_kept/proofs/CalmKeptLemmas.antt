@@ -1,6 +1,7 @@
 -- What a delivery and an expiry leave of the network that a world has.
-use Rattle.std.proofs.Common.{◌≡◌, ◌≢◌, ℕ, zero, suc, true, List, [], ◌∷◌, map, Option, Some, None, slice_get, slice_set, refl, sym, ap, subst, ◌∙◌}
+use Rattle.std.proofs.Common.{◌≡◌, ◌≢◌, ℕ, zero, suc, pos, true, List, [], ◌∷◌, map, Option, Some, None, slice_get, slice_set, refl, sym, ap, subst, ◌∙◌}
 use Rattle.std.specs.Prelude.{if◌then◌else◌, ◌==◌, max}
+use Rattle.std.specs.Option.{option_map_or}
 use Rattle.std.proofs.lemmas.Option.{same_Some}
 use Rattle.gptp_graph.specs.Snapshot.{PortIdentity, System}
 use Rattle.gptp_links.specs.declared.link.Direction.{Direction}
@@ -8,9 +9,11 @@ use Rattle.gptp_links.specs.declared.link.Direction.TheVariants.{FromA, FromB}
 use Rattle.gptp_links.specs.Fate.{Draw}
 use Rattle.gptp_system.specs.declared.answer.Answer.{Answer}
 use Rattle.gptp_setup.specs.declared.setup.Params.{Params}
+use Rattle.gptp_setup.specs.Pace.{Pace, largest_interval}
+use Rattle.gptp_setup.specs.declared.setup.Setup.{Setup}
 use Rattle.gptp_setup.specs.declared.timer.Timer.{Timer}
+use Rattle.gptp_setup.specs.Intervals.{interval_of}
 use Rattle.gptp_system.specs.Input.{Input, Frame as FrameHeard, Priority, Expires as TimerExpires}
-use Rattle.gptp_setup.specs.Intervals.{announce_interval, largest_interval}
 use Rattle.gptp_system.specs.State.{clock}
 use Rattle.gptp_system.proofs.StepLemmas.{steps_steady}
 use Rattle.gptp_plan.specs.declared.change.Act.{Act}
@@ -23,10 +26,11 @@ use Rattle.gptp_acts.specs.Agrees.{stopped}
 use Rattle.gptp_acts.specs.World.{Channel, Net, WorldState, receiver}
 use Rattle.gptp_acts.proofs.BareLemmas.{DifferInFlight, bare, calls_bare, takes_bare}
 use Rattle.gptp_lists.proofs.MappedLemmas.{alike}
+use Rattle.gptp_lists.proofs.PlaceLemmas.{map-set_same}
 use Rattle.gptp_acts.proofs.SteadyLemmas.{same_clock, same_ports}
 use Rattle.gptp_kept.specs.SeenLaws.{IsNoChange}
 use Rattle.gptp_kept.specs.View.{lane_place}
-use Rattle.gptp_kept.specs.Calm.{IsQuietWorld, greatest_delay, is_port, lane_of, network_of, place_of}
+use Rattle.gptp_kept.specs.Calm.{IsQuietWorld, greatest_delay, is_port, lane_of, log_at, log_of, network_of, place_of, setups_of}
 use Rattle.gptp_kept.specs.Standing.{is_used, joined, live_systems, snapshot_of, standing, used_links}
 
 -- ---- systems
@@ -86,11 +90,12 @@ of_kept f each before after kept = sym (each after) ∙ ap f kept ∙ each befor
 
 -- ---- the network
 
--- The systems live that did, and stand where they stood; only what is in flight on the links is another; and the last
--- change is the same.
+-- The systems live that did, stand where they stood, and start with what they started with; only what is in flight on
+-- the links is another; and the last change is the same.
 pub record KeepsNetwork (w w' : WorldState) : Type 0 where
   pub systems : live_systems w'.stations ≡ live_systems w.stations
   pub places : (number : ℕ) → place_of w'.stations number ≡ place_of w.stations number
+  pub setups : setups_of w'.stations ≡ setups_of w.stations
   pub links : DifferInFlight w.net.channels w'.net.channels
   pub change : w'.last_change ≡ w.last_change
 
@@ -99,6 +104,7 @@ keeps_on : (first second third : WorldState) → KeepsNetwork first second → K
 keeps_on first second third f g = record {
   systems = g.systems ∙ f.systems;
   places = λ number. g.places number ∙ f.places number;
+  setups = g.setups ∙ f.setups;
   links = g.links ∙ f.links;
   change = g.change ∙ f.change;
 }
@@ -106,7 +112,13 @@ keeps_on first second third f g = record {
 -- the links alone are others
 net_keeps : (w : WorldState) (net : Net) → DifferInFlight w.net.channels net.channels
     → KeepsNetwork w (record w { net = net })
-net_keeps w net links = record { systems = refl; places = λ number. refl; links = links; change = refl }
+net_keeps w net links = record {
+  systems = refl;
+  places = λ number. refl;
+  setups = refl;
+  links = links;
+  change = refl;
+}
 
 module _ (w w' : WorldState) (k : KeepsNetwork w w') where
   links_kept : used_links (live_systems w'.stations) w'.net.channels
@@ -127,19 +139,25 @@ module _ (w w' : WorldState) (k : KeepsNetwork w w') where
   lanes_kept port =
       of_kept (λ channels. lane_of channels port) (lane_bare port) w.net.channels w'.net.channels k.links
 
+  logs_kept : (port : PortIdentity) → log_of w'.stations port ≡ log_of w.stations port
+  logs_kept port =
+      λ i. option_map_or (λ (setup : Setup). log_at setup port.port)
+      (slice_get (k.setups i) (k.places port.clock i)) (pos 0)
+
   pub same_snapshot : snapshot_of w' ≡ snapshot_of w
   same_snapshot = λ i. record { systems = k.systems i; links = links_kept i }
 
-  pub same_network : (p : Params) (m start : ℕ) → network_of p m start w' ≡ network_of p m start w
+  pub same_network : (p : Pace) (m start : ℕ) → network_of p m start w' ≡ network_of p m start w
   same_network p m start = λ i. record {
     graph = same_snapshot i;
     reach = m;
     place = λ number. k.places number i;
     lane = λ port. lanes_kept port i;
-    interval_of = λ port. announce_interval p;
+    log_of = λ port. logs_kept port i;
+    interval_of = λ port. interval_of (logs_kept port i);
     interval = largest_interval p;
     most = delay_kept i;
-    timeout = p.timeout;
+    timeout = p.params.timeout;
     start = start;
   }
 
@@ -163,6 +181,7 @@ calls_keep place input w draws answer w' other k =
     (record {
       systems = systems_kept w.stations place k.station called k.here refl stands;
       places = places_kept w.stations place k.station called k.here named;
+      setups = map-set_same (λ (x : Station). x.setup) w.stations place k.station called k.here refl;
       links = calls_bare place input w draws answer w' k;
       change = refl;
     })

@@ -1,5 +1,5 @@
 -- A calm world is seen as a calm state of the machine.
-use Rattle.std.proofs.Common.{◌≡◌, ◌≤◌, ◌<◌, ◌+◌, ℕ, suc, true, Some, slice_get, refl, sym, ap, subst, ◌∙◌, arith}
+use Rattle.std.proofs.Common.{◌≡◌, ◌≤◌, ◌<◌, ◌+◌, ℕ, suc, ℤ, true, Some, slice_get, refl, sym, ap, subst, ◌∙◌, arith}
 use Rattle.gptp_lists.specs.Members.{In}
 use Rattle.gptp_graph.specs.Snapshot.{Joins, PortIdentity, System, port_of}
 use Rattle.gptp_graph.specs.PathBound.{BoundsPaths}
@@ -7,8 +7,8 @@ use Rattle.gptp_links.specs.declared.link.Direction.{Direction}
 use Rattle.gptp_links.specs.declared.link.Direction.TheVariants.{FromA, FromB}
 use Rattle.gptp_receipt.specs.declared.held.Held.{Held}
 use Rattle.gptp_system.specs.declared.port.Port.{Port}
-use Rattle.gptp_setup.specs.declared.setup.Params.{Params}
-use Rattle.gptp_setup.specs.Intervals.{AreParams, announce_interval, largest_interval}
+use Rattle.gptp_setup.specs.Intervals.{AreParams, interval_of}
+use Rattle.gptp_setup.specs.Pace.{Pace, largest_interval, span_by}
 use Rattle.gptp_system.specs.State.{clock, is_mine}
 use Rattle.gptp_acts.specs.declared.station.Station.{Station}
 use Rattle.gptp_acts.specs.Sound.{IsSound}
@@ -17,7 +17,7 @@ use Rattle.gptp_settling.specs.Calm.{Calm, HasLane, HasStation, IsCalmPort, IsCa
 use Rattle.gptp_settling.specs.Frame.{Frame as SeenFrame, Lane}
 use Rattle.gptp_settling.specs.Network.{IsNetwork, Network}
 use Rattle.gptp_settling.specs.Station.{Reception as SeenReception, Received, Station as SeenStation}
-use Rattle.gptp_kept.specs.Known.{IsKnown}
+use Rattle.gptp_kept.specs.Known.{IsKnown, IsSetTo}
 use Rattle.gptp_kept.proofs.DueLemmas.{frames_fresh, frames_not_late, ports_known}
 use Rattle.gptp_kept.specs.Legible.{IsLegible}
 use Rattle.gptp_kept.specs.View.{held_view, identity_of, lane_place, lane_view, lanes_view, port_view, span_at, station_view, view}
@@ -25,25 +25,30 @@ use Rattle.gptp_kept.proofs.SeenLaneLemmas.{lane_from, lane_there}
 use Rattle.gptp_kept.proofs.MidLemmas.{seen_on}
 use Rattle.gptp_kept.proofs.PlaceLemmas.{port_from, station_from, station_there}
 use Rattle.gptp_kept.proofs.ReactLemmas.{received_back}
-use Rattle.gptp_kept.specs.Calm.{AreCapableFrom, IsQuietWorld, lane_of, network_of, place_of}
+use Rattle.gptp_kept.specs.Calm.{AreCapableFrom, IsQuietWorld, lane_of, log_of, network_of, place_of}
 use Rattle.gptp_kept.specs.Standing.{AreBetween, live_systems, snapshot_of}
 use Rattle.gptp_kept.proofs.CalmAtRestLemmas.{rest_seen}
 use Rattle.gptp_kept.proofs.DelayLemmas.{delay_of_used, delay_short, receipts_stay}
 use Rattle.gptp_kept.proofs.CalmFactLemmas.{facts, frame_from}
 use Rattle.gptp_kept.proofs.FoundLemmas.{lane_is, place_is}
-use Rattle.gptp_kept.proofs.PortLemmas.{interval_is, mine_back, same_standing, span_is}
+use Rattle.gptp_kept.proofs.LogLemmas.{linked_log, log_is}
+use Rattle.gptp_kept.proofs.PortLemmas.{mine_back, same_standing}
+use Rattle.gptp_kept.proofs.SetLemmas.{log_shorter, log_there, span_is}
 use Rattle.gptp_kept.proofs.StandsLemmas.{stands_well, used_up}
 use Rattle.gptp_kept.proofs.SystemLemmas.{live_from}
 use Rattle.gptp_kept.proofs.WayLemmas.{IsWay, one_way, way_of}
 
 -- ---- the network
 
-pub network : (p : Params) (m start : ℕ) (w : WorldState) → IsSound w → AreBetween w → IsLegible w → IsKnown p w
+pub network : (p : Pace) (m start : ℕ) (w : WorldState) → IsSound w → AreBetween w → IsLegible w → IsKnown p w
     → BoundsPaths (snapshot_of w) m → IsNetwork (network_of p m start w)
 network p m start w sound between legible known bounded = record {
   graph = stands_well w sound between legible;
   paths = bounded;
-  round = λ port linked. let short = delay_short p w known in omega arith;
+  round = λ port linked.
+      let short = delay_short p w known in
+      let log = log_shorter p w known.set (log_of w.stations port) (linked_log p w sound known.set port linked) in
+      omega arith;
 }
 
 -- ---- directions
@@ -66,8 +71,8 @@ same_direction FromB FromA same = sym same
 
 -- ---- the state
 
-module _ (p : Params) (m start : ℕ) (w : WorldState) (sound : IsSound w) (legible : IsLegible w)
-    (known : IsKnown p w) (quiet : IsQuietWorld p w) (old : w.last_change + largest_interval p ≤ start)
+module _ (p : Pace) (m start : ℕ) (w : WorldState) (sound : IsSound w) (legible : IsLegible w)
+    (known : IsKnown p w) (quiet : IsQuietWorld p.params w) (old : w.last_change + largest_interval p ≤ start)
     (capable : AreCapableFrom start w) where
   abbrev n : Network
   n = network_of p m start w
@@ -78,34 +83,49 @@ module _ (p : Params) (m start : ℕ) (w : WorldState) (sound : IsSound w) (legi
   module _ (place : ℕ) (station : Station) (here : slice_get w.stations place ≡ Some station)
       (live : station.live ≡ true) (i : ℕ) (h : Held) (q : Port) (stands : slice_get station.system.held i ≡ Some h)
       (there : slice_get station.system.ports i ≡ Some q) where
-    abbrev span : ℕ
-    span = span_at station.system.params q
+    abbrev keep : ℤ → ℕ
+    keep = span_at station.system
 
     abbrev itself : PortIdentity
     itself = port_of (clock station.system) (suc i)
 
-    -- what it received stays longer than an announce interval and the greatest delay
-    stays : (r : SeenReception) → held_view span h ≡ Received r → announce_interval p + n.most < r.span
-    stays r holds =
-        let params = subst AreParams (known.set place station here).setup
-        (sound.on_time.stations place station here).setup in
-        let back = received_back span h r holds in
-        let is = ap (λ (x : SeenReception). x.span) back.2
-        ∙ span_is p station (known.set place station here) i q there in
-        subst (λ t. announce_interval p + n.most < t) (sym is) (receipts_stay p w params known)
+    set : IsSetTo p station
+    set = known.set place station here
 
-    port_seen : IsCalmPort n w.time itself (port_view station.system.params h q)
+    log_seen : q.log_interval ≡ log_of w.stations itself
+    log_seen =
+        sym (log_is w sound.wired.clocks place station here (suc i) ∙ log_there p station set i q there)
+
+    -- what it received, where that names the other port's interval, stays longer than that and the greatest delay
+    stays : (r : SeenReception) (from : PortIdentity) → held_view keep h ≡ Received r
+        → Joins (snapshot_of w) from itself → r.said.log ≡ log_of w.stations from
+        → n.interval_of from + n.most < r.span
+    stays r from holds joins named =
+        let params = subst AreParams set.starts.params (sound.on_time.stations place station here).setup in
+        let back = received_back keep h r holds in
+        let heard : back.0.interval ≡ log_of w.stations from =
+        ap (λ (x : SeenReception). x.said.log) (sym back.2) ∙ named in
+        let is : r.span ≡ span_by p.params.timeout p.largest (log_of w.stations from) =
+        ap (λ (x : SeenReception). x.span) back.2
+        ∙ span_is p station set back.0.interval
+        ∙ ap (span_by p.params.timeout p.largest) heard in
+        subst (λ t. n.interval_of from + n.most < t) (sym is)
+        (receipts_stay p w params known (log_of w.stations from)
+        (linked_log p w sound known.set from (itself, joins)))
+
+    port_seen : IsCalmPort n w.time itself (port_view keep h q)
     port_seen = record {
-      interval = interval_is p station (known.set place station here) i q there;
+      log = log_seen;
+      interval = ap interval_of log_seen;
       timer = λ root steps mine.
           let within = (ports_known p w sound known place station here live i h q stands there).announces
-          (ap is_mine (mine_back span h root steps mine)) in
-          (within.least, within.most);
+          (ap is_mine (mine_back keep h root steps mine)) in
+          (within.least, subst (λ log. q.announce ≤ w.time + interval_of log) log_seen within.most);
       capable = λ begun linked.
-          seen_on span h ((capable begun place station here live i h q stands there).capable linked);
+          seen_on keep h ((capable begun place station here live i h q stands there).capable linked);
       unlinked = λ begun none.
-          ap (held_view span) ((capable begun place station here live i h q stands there).unlinked none);
-      long = λ r from holds begun joins source. stays r holds;
+          ap (held_view keep) ((capable begun place station here live i h q stands there).unlinked none);
+      long = λ r from holds joins source named. stays r from holds joins named;
     }
 
   station_seen : (place : ℕ) (station : Station) → slice_get w.stations place ≡ Some station → station.live ≡ true
@@ -116,7 +136,7 @@ module _ (p : Params) (m start : ℕ) (w : WorldState) (sound : IsSound w) (legi
       record {
         at_rest = rest_seen station.live s steady.shown steady.held steady.rest;
         ports = λ i seen there.
-            let at = port_from s.params s.held s.ports i seen there in
+            let at = port_from (span_at s) s.held s.ports i seen there in
             subst (IsCalmPort n w.time (port_of (clock s) (suc i))) (sym at.is)
             (port_seen place station here live i at.held at.port at.held_there at.port_there);
       }

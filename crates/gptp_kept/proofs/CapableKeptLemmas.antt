@@ -1,5 +1,6 @@
 -- An act without change keeps the claim, and so does time that passes.
 use Rattle.std.proofs.Common.{◌≡◌, ◌≢◌, ◌≤◌, ◌+◌, ◌*◌, ℕ, List, Option, Some, slice_get, sym, ap, subst, ◌∙◌}
+use Rattle.gptp_setup.specs.Pace.{Pace, largest_interval}
 use Rattle.gptp_lists.specs.Members.{In}
 use Rattle.gptp_graph.specs.Snapshot.{System}
 use Rattle.gptp_vector.specs.declared.port.PortId.{PortId}
@@ -7,8 +8,6 @@ use Rattle.gptp_links.specs.declared.bounds.Bounds.{Bounds}
 use Rattle.gptp_links.specs.declared.link.Direction.{Direction}
 use Rattle.gptp_links.specs.declared.link.Direction.TheVariants.{FromA, FromB}
 use Rattle.gptp_links.specs.Fate.{Draw}
-use Rattle.gptp_setup.specs.declared.setup.Params.{Params}
-use Rattle.gptp_setup.specs.Intervals.{largest_interval}
 use Rattle.gptp_system.specs.State.{clock}
 use Rattle.gptp_plan.specs.declared.change.Act.{Act}
 use Rattle.gptp_plan.specs.declared.change.Act.TheVariants.{Deliver, Expire, Change as Changing}
@@ -18,9 +17,9 @@ use Rattle.gptp_acts.specs.declared.done.Done.{Done}
 use Rattle.gptp_acts.specs.Acts.{Acts, at as at_time}
 use Rattle.gptp_plan.specs.Allowed.{IsFitAct}
 use Rattle.gptp_acts.specs.Course.{WasDone}
-use Rattle.gptp_plan.specs.Params.{KeepParams}
+use Rattle.gptp_plan.specs.Params.{KeepPace}
 use Rattle.gptp_acts.specs.Pending.{NothingBefore}
-use Rattle.gptp_plan.specs.Prompt.{IsPromptAct}
+use Rattle.gptp_acts.specs.Prompt.{IsPromptIn}
 use Rattle.gptp_acts.specs.Sound.{IsSound}
 use Rattle.gptp_acts.specs.World.{Channel, WorldState, receiver, sender}
 use Rattle.gptp_acts.proofs.BareLemmas.{bare}
@@ -55,7 +54,7 @@ same_receiver : (direction : Direction) (x y : Channel) → bare x ≡ bare y
 same_receiver FromA x y same = ap (λ (c : Channel). c.b) same
 same_receiver FromB x y same = ap (λ (c : Channel). c.a) same
 
-module _ (p : Params) (w w' : WorldState) (is : IsWorld p w) (is' : IsWorld p w') (k : KeepsNetwork w w') where
+module _ (p : Pace) (w w' : WorldState) (is : IsWorld p w) (is' : IsWorld p w') (k : KeepsNetwork w w') where
   -- a link stood there, with the same ends and bounds
   link_stood : (link : ℕ) (channel : Channel) → slice_get w'.net.channels link ≡ Some channel
       → (old : Channel) × (slice_get w.net.channels link ≡ Some old) × (bare old ≡ bare channel)
@@ -84,7 +83,8 @@ module _ (p : Params) (w w' : WorldState) (is : IsWorld p w) (is' : IsWorld p w'
   same_params : (place number was : ℕ) (now : IsLiveAt place number w') (then : IsLiveAt place was w)
       → then.station.setup.params ≡ now.station.setup.params
   same_params place number was now then =
-      (is.known.set place then.station then.here).setup ∙ sym (is'.known.set place now.station now.here).setup
+      (is.known.set place then.station then.here).starts.params
+      ∙ sym (is'.known.set place now.station now.here).starts.params
 
   -- so a good link in use was one
   stood : (at : LinkPlace) → StandsAt at w' → StandsAt at w
@@ -116,7 +116,7 @@ no_change (Deliver link direction) none change same = absurd cc
 no_change (Expire number timer) none change same = absurd cc
 no_change (Changing other) none change same = absurd none
 
-pub acts_watch : (p : Params) (act : Act) (w : WorldState) (draws : List Draw) (done : Done) (w' : WorldState)
+pub acts_watch : (p : Pace) (act : Act) (w : WorldState) (draws : List Draw) (done : Done) (w' : WorldState)
     → IsNoChange act → Acts act w draws done w' → IsWorld p w → Watches p w → Watches p w'
 acts_watch p act w draws done w' none k is watches at stands =
     let keeps = acts_keep act w draws done w' none k in
@@ -127,7 +127,7 @@ acts_watch p act w draws done w' none k is watches at stands =
     (watch_kept at (w.last_change + interval) (w.last_change + 2 * interval) act w w' draws done is.sound
     (no_change act none) k before)
 
-pub later_watches : (p : Params) (w : WorldState) (time : ℕ) → w.time ≤ time → NothingBefore time w.net.pending
+pub later_watches : (p : Pace) (w : WorldState) (time : ℕ) → w.time ≤ time → NothingBefore time w.net.pending
     → IsWorld p w → Watches p w → Watches p (at_time time w)
 later_watches p w time later first is watches at stands =
     let interval = largest_interval p in
@@ -150,19 +150,19 @@ later_watches p w time later first is watches at stands =
 
 -- each port goes on measuring, and what is in flight fitting
 pub done_measured : {F : Type 0} (answers : Bounds → ℕ → F → Option ℕ → F → Type 0) (timed : Timed)
-    (fate fate_after : F) (w w' : WorldState) (done : Done) → WasDone answers timed fate fate_after w w' done
-    → IsSound w → IsMeasured w → IsMeasured w'
-done_measured answers timed fate fate_after w w' done k sound is =
+    (fate fate_after : F) (w w' : WorldState) (done : Done) → SetsAnOctet timed.act
+    → WasDone answers timed fate fate_after w w' done → IsSound w → IsMeasured w → IsMeasured w'
+done_measured answers timed fate fate_after w w' done octet k sound is =
     let timely = k.ready.timely in
     acts_measured timed.act (at_time timed.at w) w' k.draws done
-    (later_sound w timed.at w.last_change sound timely.first) (later_measured timed.at w timely.now is) k.acts
+    (later_sound w timed.at w.last_change sound timely.first) (later_measured timed.at w timely.now is) octet k.acts
 
 -- and each good link in use is watched, after a change too
-pub done_watches : {F : Type 0} (answers : Bounds → ℕ → F → Option ℕ → F → Type 0) (p : Params) (timed : Timed)
-    (fate fate_after : F) (w w' : WorldState) (done : Done) → KeepParams p → IsFitAct timed.act
-    → IsPromptAct p timed.act → SetsAnOctet timed.act → WasDone answers timed fate fate_after w w' done → IsWorld p w
+pub done_watches : {F : Type 0} (answers : Bounds → ℕ → F → Option ℕ → F → Type 0) (p : Pace) (timed : Timed)
+    (fate fate_after : F) (w w' : WorldState) (done : Done) → KeepPace p → IsFitAct timed.act
+    → IsPromptIn w timed.act → SetsAnOctet timed.act → WasDone answers timed fate fate_after w w' done → IsWorld p w
     → IsMeasured w → Watches p w → Watches p w'
-done_watches answers p timed fate fate_after w w' done params fit prompt octet k is measured watches =
+done_watches answers p timed fate fate_after w w' done pace fit prompt octet k is measured watches =
     by timed.act k.acts
   where
     then : WorldState
@@ -177,6 +177,6 @@ done_watches answers p timed fate fate_after w w' done params fit prompt octet k
     by (Deliver link direction) acts = still (Deliver link direction) tt acts
     by (Expire number timer) acts = still (Expire number timer) tt acts
     by (Changing change) acts =
-        changes_begin p change then k.draws done w' params acts
+        changes_begin p change then k.draws done w' pace acts
         (done_stays answers p timed fate fate_after w w' done fit prompt octet k is)
-        (done_measured answers timed fate fate_after w w' done k is.sound measured)
+        (done_measured answers timed fate fate_after w w' done octet k is.sound measured)

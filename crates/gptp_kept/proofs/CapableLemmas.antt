@@ -6,11 +6,11 @@ use Rattle.gptp_links.specs.declared.link.Direction.{Direction}
 use Rattle.gptp_pdelay.specs.Peer.{is_capable}
 use Rattle.gptp_receipt.specs.declared.held.Held.{Held}
 use Rattle.gptp_system.specs.declared.port.Port.{Port}
-use Rattle.gptp_setup.specs.declared.setup.Params.{Params}
-use Rattle.gptp_setup.specs.Intervals.{interval_of, largest_interval}
+use Rattle.gptp_setup.specs.Intervals.{interval_of}
+use Rattle.gptp_setup.specs.Pace.{Pace, largest_interval}
 use Rattle.gptp_system.specs.State.{clock, number, own}
 use Rattle.gptp_acts.specs.declared.station.Station.{Station}
-use Rattle.gptp_plan.specs.Params.{KeepParams}
+use Rattle.gptp_plan.specs.Params.{KeepPace}
 use Rattle.gptp_acts.specs.World.{Channel, WorldState, receiver, sender}
 use Rattle.gptp_lists.proofs.MappedLemmas.{same_there, some_same}
 use Rattle.gptp_kept.specs.Measured.{IsLiveAt, StandsAt}
@@ -53,7 +53,7 @@ receiver_lives w direction channel used =
 
 -- ---- a port at a link of the snapshot
 
-module _ (p : Params) (w : WorldState) (params : KeepParams p) (is : IsWorld p w) (quiet : IsQuietWorld p w)
+module _ (p : Pace) (w : WorldState) (pace : KeepPace p) (is : IsWorld p w) (quiet : IsQuietWorld p.params w)
     (watches : Watches p w) (late : start_of p w ≤ w.time) (place : ℕ) (station : Station)
     (here : slice_get w.stations place ≡ Some station) (live : station.live ≡ true) where
   -- where a way from a port of the system stands
@@ -71,8 +71,8 @@ module _ (p : Params) (w : WorldState) (params : KeepParams p) (is : IsWorld p w
   way_stands n to joins way =
       let links = quiet way.link way.channel way.here way.used in
       let other = receiver_lives w way.direction way.channel way.used in
-      let asking = (is.known.set place station here).setup in
-      let answering = (is.known.set other.place other.at.station other.at.here).setup in
+      let asking = (is.known.set place station here).starts.params in
+      let answering = (is.known.set other.place other.at.station other.at.here).starts.params in
       record {
         channel = way.channel;
         here = way.here;
@@ -104,9 +104,9 @@ module _ (p : Params) (w : WorldState) (params : KeepParams p) (is : IsWorld p w
       let at = place_of_way (suc i) to way in
       let l = watches at (way_stands (suc i) to joins way) in
       let asking = l.link.asking in
-      let set = (is.known.set place asking.station asking.here).setup in
+      let set = (is.known.set place asking.station asking.here).starts.params in
       let period : interval_of asking.station.setup.params.pdelay ≤ largest_interval p =
-      rw set params.requests in
+      rw set pace.requests in
       let past : w.last_change + (asking.station.setup.params.lost + 5) * largest_interval p ≤ w.time =
       rw set late in
       let same_station = same_there w.stations place asking.station station asking.here here in
@@ -131,7 +131,7 @@ module _ (p : Params) (w : WorldState) (params : KeepParams p) (is : IsWorld p w
       let capable = way_capable i q to there joins way in
       record { capable = capable; enabled = (shown.each i h q holds there).on capable }
 
-pub used_capable : (p : Params) (w : WorldState) → KeepParams p → IsWorld p w → IsQuietWorld p w → Watches p w
+pub used_capable : (p : Pace) (w : WorldState) → KeepPace p → IsWorld p w → IsQuietWorld p.params w → Watches p w
     → start_of p w ≤ w.time → AreUsedCapable w
-used_capable p w params is quiet watches late place station here live =
-    port_capable p w params is quiet watches late place station here live
+used_capable p w pace is quiet watches late place station here live =
+    port_capable p w pace is quiet watches late place station here live

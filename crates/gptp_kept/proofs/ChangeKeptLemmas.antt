@@ -1,6 +1,7 @@
 -- Every act, a change too, keeps what must be known of the measuring.
 use Rattle.std.proofs.Common.{◌≡◌, ℕ, Bool, true, false, List, Option, Some, None, slice_get, slice_set, refl, sym, ap, subst, ◌∙◌, inl, inr}
 use Rattle.gptp_lists.specs.Members.{In}
+use Rattle.gptp_vector.specs.declared.port.PortId.{PortId}
 use Rattle.gptp_links.specs.declared.link.Direction.{Direction}
 use Rattle.gptp_links.specs.declared.link.Direction.TheVariants.{FromA, FromB}
 use Rattle.gptp_links.specs.Fate.{Draw}
@@ -13,27 +14,30 @@ use Rattle.gptp_system.specs.Steps.{IsUp}
 use Rattle.gptp_system.proofs.InTimeLemmas.{later_in_time}
 use Rattle.gptp_plan.specs.declared.change.Act.TheVariants.{Deliver, Expire, Change as Changing}
 use Rattle.gptp_plan.specs.declared.change.Change.{Change}
-use Rattle.gptp_plan.specs.declared.change.Change.TheVariants.{LinkDown, LinkUp, LinkSet, Fail, Recover, Priority1}
+use Rattle.gptp_plan.specs.declared.change.Change.TheVariants.{LinkDown, LinkUp, LinkSet, Fail, Recover, Priority1, Inject}
 use Rattle.gptp_plan.specs.declared.network.Wire.{Wire}
+use Rattle.gptp_plan.specs.Network.{pace_of}
 use Rattle.gptp_acts.specs.declared.station.Station.{Station}
 use Rattle.gptp_acts.specs.Act.{Delivers, Expires, Hears, all_timers}
 use Rattle.gptp_acts.specs.Acts.{Changes, set_to}
 use Rattle.gptp_acts.specs.Agrees.{stopped}
 use Rattle.gptp_acts.specs.Ahead.{IsPortAmong, IsSteady}
-use Rattle.gptp_acts.specs.Changing.{CallsIfLive, ComesUpIf, FailsIf, GoesDownIf, RecoversIf, brought_up, failed, lost, taken_down, with_bounds, with_setup, with_station}
+use Rattle.gptp_acts.specs.Changing.{CallsIfLive, ComesUpIf, FailsIf, GoesDownIf, InjectsIf, RecoversIf, brought_up, failed, lost, taken_down, with_bounds, with_setup, with_station}
 use Rattle.gptp_acts.specs.Initial.{channel_from, setup_of, station_of}
 use Rattle.gptp_acts.specs.Sound.{HaveTheirSetups, IsSound, JoinPorts}
-use Rattle.gptp_acts.specs.World.{Channel, Net, WorldState, queue, receiver}
+use Rattle.gptp_acts.specs.World.{Channel, Net, WorldState, port_id, queue, receiver}
 use Rattle.gptp_lists.proofs.MappedLemmas.{mapped, same_there}
 use Rattle.gptp_lists.proofs.PlaceLemmas.{get-set_all}
 use Rattle.gptp_acts.proofs.SoundLemmas.{delivered_up}
 use Rattle.gptp_acts.proofs.StayLemmas.{failed_stays, stays_setups, with_setup_stays}
+use Rattle.gptp_kept.specs.LegibleLaws.{SetsAnOctet}
 use Rattle.gptp_kept.specs.LinkLaws.{InitiallyMeasured, MeasuredHoldsLater, MeasuredIsKept, StartsMeasured}
 use Rattle.gptp_kept.specs.Measured.{AllFit, IsStationMeasured}
 use Rattle.gptp_kept.specs.LinkView.{SaysWhatFits}
 use Rattle.gptp_kept.proofs.LinkExpiryLemmas.{expires_timely}
 use Rattle.gptp_kept.proofs.LinkKeptLemmas.{calls_if_live_kept, is_down, is_up, started_measured, starts_all_kept, starts_kept, tells_kept}
-use Rattle.gptp_kept.proofs.MeasuredLemmas.{IsKept, calls_kept, queue_fits, sound_kept}
+use Rattle.gptp_kept.proofs.MeasuredLemmas.{IsKept, calls_kept, entered_fits, queue_fits, sound_kept}
+use Rattle.gptp_kept.proofs.SeenOctetLemmas.{octets_fit}
 
 -- ---- what is between the systems
 
@@ -197,33 +201,47 @@ prioritized_kept value place station w draws w' here is k =
     (stays_setups w set (with_setup_stays value place station w here is.setups)) is)
     k
 
+-- what octets say fits
+injects_kept : (up : Bool) (from : PortId) (octets : List ℕ) (w : WorldState) (draws : List Draw) (w' : WorldState)
+    → SaysWhatFits octets → IsKept w → InjectsIf up from octets w draws w' → IsKept w'
+injects_kept false from octets w draws w' fits is (none, same) = subst IsKept (sym same) is
+injects_kept true from octets w draws w' fits is k =
+    let one = k.sent in
+    let entered =
+    entered_fits one.place one.direction one.channel w.time octets k.draw.answer w.net one.here fits
+    is.measured.frames in
+    subst IsKept (sym k.is)
+    (net_kept w k.net (subst (λ (n : Net). AllFit n.channels) (sym one.after) entered) is)
+
 changes_kept : (c : Change) (w : WorldState) (draws : List Draw) (w' : WorldState) → JoinPorts w → IsKept w
-    → Changes c w draws w' → IsKept w'
-changes_kept (LinkDown number port) w draws w' joins is k =
+    → SetsAnOctet (Changing c) → Changes c w draws w' → IsKept w'
+changes_kept (LinkDown number port) w draws w' joins is octet k =
     goes_down_kept k.channel.up k.place k.channel w draws w' k.is.here joins is k.so
-changes_kept (LinkUp number port) w draws w' joins is k =
+changes_kept (LinkUp number port) w draws w' joins is octet k =
     comes_up_kept k.channel.up k.place k.channel w draws w' k.is.here joins is k.so
-changes_kept (LinkSet number port min max loss) w draws w' joins is k =
+changes_kept (LinkSet number port min max loss) w draws w' joins is octet k =
     let bounds = set_to min max loss k.channel in
     let new : Channel = record k.channel { bounds = bounds } in
     subst IsKept (sym k.so.1)
     (net_kept w (with_bounds bounds k.place k.channel w.net)
     (channel_fits w.net.channels k.place k.channel new k.is.here
     (same_fits k.channel new refl refl (is.measured.frames k.place k.channel k.is.here)) is.measured.frames) is)
-changes_kept (Fail number) w draws w' joins is k =
+changes_kept (Fail number) w draws w' joins is octet k =
     fails_kept k.station.live k.place k.station w draws w' k.is.here is k.so
-changes_kept (Recover number) w draws w' joins is k = recovers_kept k.station.live k.place w draws w' is k.so
-changes_kept (Priority1 number value) w draws w' joins is k =
+changes_kept (Recover number) w draws w' joins is octet k = recovers_kept k.station.live k.place w draws w' is k.so
+changes_kept (Priority1 number value) w draws w' joins is octet k =
     prioritized_kept value k.place k.station w draws w' k.is.here is k.so
+changes_kept (Inject number port octets) w draws w' joins is octet k =
+    injects_kept k.channel.up (port_id number port) octets w draws w' (octets_fit octets octet) is k.so
 
 -- ---- all acts
 
 pub acts_measured : MeasuredIsKept
-acts_measured (Deliver link direction) w w' draws done sound is k =
+acts_measured (Deliver link direction) w w' draws done sound is octet k =
     (delivers_kept link direction k.octets w draws k.answer w' sound (sound_kept w sound is) k.delivers).measured
-acts_measured (Expire number timer) w w' draws done sound is k =
+acts_measured (Expire number timer) w w' draws done sound is octet k =
     (expires_kept k.1.place timer w draws w' (sound_kept w sound is) k.1.so).measured
-acts_measured (Changing change) w w' draws done sound is k =
+acts_measured (Changing change) w w' draws done sound is octet k =
     let kept = sound_kept w sound is in
     (changes_kept change (record w { last_change = w.time }) draws w' sound.wired.ports
     (record {
@@ -231,7 +249,7 @@ acts_measured (Changing change) w w' draws done sound is k =
       setups = kept.setups;
       measured = record { stations = is.stations; frames = is.frames };
     })
-    k.1).measured
+    octet k.1).measured
 
 pub later_measured : MeasuredHoldsLater
 later_measured time w later is = record {
@@ -253,8 +271,8 @@ starts_measured places w w' draws sound is k = (starts_all_kept places w draws w
 pub initially_measured : InitiallyMeasured
 initially_measured n = record {
   stations = λ place station here.
-      let (member, at, made) = mapped (station_of n.params) n.systems place station here in
-      subst (IsStationMeasured 0) made (started_measured (setup_of n.params member) 0 false);
+      let (member, at, made) = mapped (station_of (pace_of n)) n.systems place station here in
+      subst (IsStationMeasured 0) made (started_measured (setup_of (pace_of n) member) 0 false);
   frames = λ link channel here.
       let (wire, at, made) = mapped channel_from n.links link channel here in
       subst (λ (c : Channel). (direction : Direction) (f : Frame) → In f (queue direction c) → SaysWhatFits f.octets)

@@ -1,6 +1,7 @@
 -- Every change of the network leaves a world legible.
 use Rattle.std.proofs.Common.{◌≡◌, ◌<◌, ℕ, Bool, true, false, List, Some, slice_get, slice_set, refl, sym, subst, ◌∙◌, arith}
 use Rattle.gptp_lists.specs.Members.{In}
+use Rattle.gptp_vector.specs.declared.port.PortId.{PortId}
 use Rattle.gptp_links.specs.declared.bounds.Bounds.{Bounds}
 use Rattle.gptp_links.specs.declared.link.Direction.{Direction}
 use Rattle.gptp_links.specs.declared.link.Direction.TheVariants.{FromA, FromB}
@@ -11,11 +12,11 @@ use Rattle.gptp_system.specs.Start.{started}
 use Rattle.gptp_system.proofs.TouchedLemmas.{priority_clock}
 use Rattle.gptp_acts.specs.declared.station.Station.{Station}
 use Rattle.gptp_acts.specs.Ahead.{IsPortAmong}
-use Rattle.gptp_acts.specs.Changing.{CallsIfLive, ComesUpIf, FailsIf, GoesDownIf, brought_up, lost, taken_down, with_bounds, with_setup, with_station}
+use Rattle.gptp_acts.specs.Changing.{CallsIfLive, ComesUpIf, FailsIf, GoesDownIf, InjectsIf, brought_up, lost, taken_down, with_bounds, with_setup, with_station}
 use Rattle.gptp_acts.specs.World.{Channel, Net, WorldState, queue}
 use Rattle.gptp_lists.proofs.PlaceLemmas.{get-set_all}
 use Rattle.gptp_kept.specs.Legible.{ChannelFits, IsLegible, SayWhatFits, StationFits}
-use Rattle.gptp_kept.proofs.LegibleLemmas.{LinksFit, set_fits}
+use Rattle.gptp_kept.proofs.LegibleLemmas.{LinksFit, entered_fits, net_legible, set_fits}
 use Rattle.gptp_kept.proofs.AnsweringLemmas.{CanAnswer, IsAnswering, calls_if_live_answering, tells_answering}
 
 -- ---- changes of a system
@@ -52,6 +53,7 @@ prioritized_answering value place station w draws w' octet here is k =
     ready : IsAnswering set
     ready =
         let old = is.stations place station here in
+        let intervals = old.its.intervals in
         let fits = is.legible.stations place station here in
         record {
           stations = get-set_all CanAnswer w.stations place station new here
@@ -63,6 +65,7 @@ prioritized_answering value place station w draws w' octet here is k =
                   few = old.its.few;
                   phase = old.its.phase;
                   drift = old.its.drift;
+                  intervals = record { many = intervals.many; each = intervals.each; largest = intervals.largest };
                   named = priority_clock value (started station.setup 0) ∙ old.its.named;
                 };
               })
@@ -112,6 +115,17 @@ pub bounds_legible : (bounds : Bounds) (place : ℕ) (channel : Channel) (w : Wo
 bounds_legible bounds place channel w here legible =
     link_legible place channel (record channel { bounds = bounds }) w (with_bounds bounds place channel w.net) refl here
     (bounds_fits bounds channel (legible.links place channel here)) legible
+
+-- what octets say fits
+pub injects_legible : (up : Bool) (from : PortId) (octets : List ℕ) (w : WorldState) (draws : List Draw)
+    (w' : WorldState) → SayWhatFits octets → IsLegible w → InjectsIf up from octets w draws w' → IsLegible w'
+injects_legible false from octets w draws w' says legible (none, same) = subst IsLegible (sym same) legible
+injects_legible true from octets w draws w' says legible k =
+    let one = k.sent in
+    let entered =
+    entered_fits w.time one.place one.direction one.channel octets k.draw.answer w.net one.here says legible.links in
+    subst IsLegible (sym k.is)
+    (net_legible w k.net (subst (λ (n : Net). LinksFit n.channels) (sym one.after) entered) legible)
 
 module _ (place : ℕ) (channel : Channel) (w : WorldState) (draws : List Draw) (w' : WorldState)
     (here : slice_get w.net.channels place ≡ Some channel) (is : IsAnswering w)

@@ -1,42 +1,44 @@
 -- Every change of the network keeps what is known.
-use Rattle.std.proofs.Common.{◌≡◌, ℕ, ◌≤◌, Bool, true, false, List, [], ◌∷◌, map, Some, length, slice_get, refl, sym, ap, subst, ◌∙◌, inl, inr, arith}
-use Rattle.std.specs.List.{range_with_len}
+use Rattle.std.proofs.Common.{◌≡◌, ℕ, ℤ, ◌≤◌, Bool, true, false, List, [], ◌∷◌, map, Some, length, slice_get, refl, sym, ap, subst, ◌∙◌, inl, inr, arith}
 use Rattle.gptp_lists.specs.Members.{In}
+use Rattle.gptp_vector.specs.declared.port.PortId.{PortId}
 use Rattle.gptp_links.specs.declared.bounds.Bounds.{Bounds}
 use Rattle.gptp_links.specs.declared.link.Direction.{Direction}
 use Rattle.gptp_links.specs.declared.link.Direction.TheVariants.{FromA, FromB}
 use Rattle.gptp_links.specs.Fate.{Draw}
 use Rattle.gptp_roles.specs.Selection.{clock_of}
 use Rattle.gptp_system.specs.declared.port.Port.{Port}
-use Rattle.gptp_setup.specs.declared.setup.Params.{Params}
+use Rattle.gptp_setup.specs.Pace.{Pace}
 use Rattle.gptp_setup.specs.declared.setup.Setup.{Setup}
+use Rattle.gptp_setup.specs.Intervals.{AreIntervals, interval_of}
 use Rattle.gptp_system.specs.Input.{Input, IsTimely, PortUp, PortDown, Priority}
-use Rattle.gptp_setup.specs.Intervals.{announce_interval}
-use Rattle.gptp_system.specs.Start.{new_port, new_ports, started}
+use Rattle.gptp_system.specs.Start.{started}
 use Rattle.gptp_system.specs.State.{SystemState}
 use Rattle.gptp_system.specs.Steps.{IsPortOf}
 use Rattle.gptp_system.proofs.SpanLemmas.{starts_in_time}
+use Rattle.gptp_system.proofs.StartLemmas.{new_port_at}
 use Rattle.gptp_plan.specs.declared.change.Act.TheVariants.{Change as Changing}
 use Rattle.gptp_plan.specs.declared.change.Change.{Change}
-use Rattle.gptp_plan.specs.declared.change.Change.TheVariants.{LinkDown, LinkUp, LinkSet, Fail, Recover, Priority1}
+use Rattle.gptp_plan.specs.declared.change.Change.TheVariants.{LinkDown, LinkUp, LinkSet, Fail, Recover, Priority1, Inject}
 use Rattle.gptp_acts.specs.declared.station.Station.{Station}
 use Rattle.gptp_acts.specs.Act.{all_timers}
 use Rattle.gptp_acts.specs.Acts.{set_to, Changes}
 use Rattle.gptp_acts.specs.Ahead.{HasPorts, IsPortAmong}
-use Rattle.gptp_acts.specs.Changing.{CallsAll, CallsIfLive, ComesUpIf, FailsIf, GoesDownIf, RecoversIf, Starts, StartsAll, TellsEnds, brought_up, failed, fresh, taken_down, up_ports, with_bounds, with_setup, with_station}
+use Rattle.gptp_acts.specs.Changing.{CallsAll, CallsIfLive, ComesUpIf, FailsIf, GoesDownIf, InjectsIf, RecoversIf, Starts, StartsAll, TellsEnds, brought_up, failed, fresh, taken_down, up_ports, with_bounds, with_setup, with_station}
 use Rattle.gptp_plan.specs.Prompt.{IsPromptAct}
 use Rattle.gptp_acts.specs.Sound.{IsWired}
-use Rattle.gptp_acts.specs.World.{Channel, WorldState, sender}
+use Rattle.gptp_acts.specs.World.{Channel, WorldState, port_id, sender}
 use Rattle.gptp_acts.proofs.AgreeLemmas.{replaced}
 use Rattle.gptp_acts.proofs.AheadLemmas.{calls_ports}
 use Rattle.gptp_acts.proofs.ChangeOnTimeLemmas.{IsOfPort, calls_if_live_ports}
-use Rattle.gptp_lists.proofs.MappedLemmas.{mapped, same_there}
+use Rattle.gptp_lists.proofs.MappedLemmas.{same_there}
 use Rattle.gptp_lists.proofs.PlaceLemmas.{get-set_all, get-set_same}
 use Rattle.gptp_acts.proofs.SteadyLemmas.{started_steady}
 use Rattle.gptp_acts.proofs.UpLemmas.{brought_ports}
+use Rattle.gptp_acts.specs.Prompt.{HasPace}
 use Rattle.gptp_kept.specs.Known.{IsSetTo}
 use Rattle.gptp_kept.proofs.KnownKeptLemmas.{IsKept, IsKeptStation, calls_kept, fresh_limit, near_limit, net_kept, station_kept}
-use Rattle.gptp_kept.proofs.LimitLemmas.{IsLimited, keep_all, lost_keep, up_keep}
+use Rattle.gptp_kept.proofs.LimitLemmas.{IsLimited, keep_all, lost_keep, sends_one_keep, up_keep}
 use Rattle.gptp_kept.proofs.MeasuringLemmas.{started_measure}
 
 -- ---- ports
@@ -60,32 +62,33 @@ ends_are w link channel wired here direction place station there named =
 
 -- ---- calls one after another
 
-calls_if_live_kept : (p : Params) (place : ℕ) (input : Input) (w : WorldState) (draws : List Draw) (w' : WorldState)
+calls_if_live_kept : (p : Pace) (So : ℤ → Type 0) (place : ℕ) (input : Input) (w : WorldState) (draws : List Draw)
+    (w' : WorldState)
     → ((station : Station) → slice_get w.stations place ≡ Some station → IsTimely station.system w.time input)
-    → IsKept p w → CallsIfLive place input w draws w' → IsKept p w'
-calls_if_live_kept p place input w draws w' timely kept (inl (answer, calls)) =
-    calls_kept p place input w draws answer w' calls (timely calls.station calls.here) kept
-calls_if_live_kept p place input w draws w' timely kept (inr (failed, none, is)) = subst (IsKept p) (sym is) kept
+    → IsKept p So w → CallsIfLive place input w draws w' → IsKept p So w'
+calls_if_live_kept p So place input w draws w' timely kept (inl (answer, calls)) =
+    calls_kept p So place input w draws answer w' calls (timely calls.station calls.here) kept
+calls_if_live_kept p So place input w draws w' timely kept (inr (failed, none, is)) = subst (IsKept p So) (sym is) kept
 
 -- an input at a port of the system at a place, which has as many ports as this one
-tells_kept : (p : Params) (input : ℕ → Input) → IsOfPort input → (s : SystemState) (place n : ℕ) (w : WorldState)
-    (draws : List Draw) (w' : WorldState) → HasPorts place (length s.ports) w → IsPortOf s n → IsKept p w
-    → CallsIfLive place (input n) w draws w' → IsKept p w'
-tells_kept p input timely s place n w draws w' has port =
-    calls_if_live_kept p place (input n) w draws w'
+tells_kept : (p : Pace) (So : ℤ → Type 0) (input : ℕ → Input) → IsOfPort input → (s : SystemState) (place n : ℕ)
+    (w : WorldState) (draws : List Draw) (w' : WorldState) → HasPorts place (length s.ports) w → IsPortOf s n
+    → IsKept p So w → CallsIfLive place (input n) w draws w' → IsKept p So w'
+tells_kept p So input timely s place n w draws w' has port =
+    calls_if_live_kept p So place (input n) w draws w'
     (λ station there. timely station.system w.time n (port_at s place n w has port station there))
 
-tells_ends_kept : (p : Params) (input : ℕ → Input) (channel : Channel) (w : WorldState) (draws : List Draw)
-    (w' : WorldState)
+tells_ends_kept : (p : Pace) (So : ℤ → Type 0) (input : ℕ → Input) (channel : Channel) (w : WorldState)
+    (draws : List Draw) (w' : WorldState)
     → IsOfPort input → ((direction : Direction) → IsPortAmong (sender direction channel) w.stations)
-    → IsKept p w → TellsEnds input channel w draws w' → IsKept p w'
-tells_ends_kept p input channel w draws w' timely ends kept k =
-    tells_kept p input timely k.station_b.system k.place_b channel.b.port k.between k.second w' still
+    → IsKept p So w → TellsEnds input channel w draws w' → IsKept p So w'
+tells_ends_kept p So input channel w draws w' timely ends kept k =
+    tells_kept p So input timely k.station_b.system k.place_b channel.b.port k.between k.second w' still
     (ends FromB k.place_b k.station_b k.is_b.here k.is_b.named) first k.at_b
   where
-    first : IsKept p k.between
+    first : IsKept p So k.between
     first =
-        tells_kept p input timely k.station_a.system k.place_a channel.a.port w k.first k.between
+        tells_kept p So input timely k.station_a.system k.place_a channel.a.port w k.first k.between
         (has_its_ports k.place_a w k.station_a k.is_a.here)
         (ends FromA k.place_a k.station_a k.is_a.here k.is_a.named) kept k.at_a
 
@@ -95,38 +98,38 @@ tells_ends_kept p input channel w draws w' timely ends kept k =
         (length k.station_b.system.ports) (has_its_ports k.place_b w k.station_b k.is_b.here)
 
 -- ports of the system at a place come up, one after another
-calls_all_kept : (p : Params) (s : SystemState) (place : ℕ) (ns : List ℕ) (w : WorldState) (draws : List Draw)
-    (w' : WorldState) → HasPorts place (length s.ports) w → ((n : ℕ) → In n ns → IsPortOf s n) → IsKept p w
-    → CallsAll place (map PortUp ns) w draws w' → IsKept p w'
-calls_all_kept p s place [] w draws w' has ports kept (none, is) = subst (IsKept p) (sym is) kept
-calls_all_kept p s place (n ∷ ns) w draws w' has ports kept (first, rest, between, answer, is, calls, more) =
-    calls_all_kept p s place ns between rest w'
+calls_all_kept : (p : Pace) (So : ℤ → Type 0) (s : SystemState) (place : ℕ) (ns : List ℕ) (w : WorldState)
+    (draws : List Draw) (w' : WorldState) → HasPorts place (length s.ports) w → ((n : ℕ) → In n ns → IsPortOf s n)
+    → IsKept p So w → CallsAll place (map PortUp ns) w draws w' → IsKept p So w'
+calls_all_kept p So s place [] w draws w' has ports kept (none, is) = subst (IsKept p So) (sym is) kept
+calls_all_kept p So s place (n ∷ ns) w draws w' has ports kept (first, rest, between, answer, is, calls, more) =
+    calls_all_kept p So s place ns between rest w'
     (calls_ports place (PortUp n) w first answer between calls place (length s.ports) has)
     (λ m among. ports m (inr among))
-    (calls_kept p place (PortUp n) w first answer between calls
+    (calls_kept p So place (PortUp n) w first answer between calls
     (port_at s place n w has (ports n (inl refl)) calls.station calls.here) kept)
     more
 
 -- ---- starts
 
--- a system that starts has the parameters of its setup
-pub started_set : (p : Params) (setup : Setup) (now : ℕ) (live : Bool) → setup.params ≡ p
+-- a system that starts has the parameters and the intervals of its setup
+pub started_set : (p : Pace) (setup : Setup) (now : ℕ) (live : Bool) → setup.params ≡ p.params
+    → setup.largest ≡ p.largest → AreIntervals setup
     → IsSetTo p (record { setup = setup; system = started setup now; live = live })
-started_set p setup now live same = record { setup = same; system = same; logs = logs }
-  where
-    new : ℕ → Port
-    new n = new_port (record { clock = clock_of setup.identity; port = n }) setup.params
+started_set p setup now live params largest intervals = record {
+  starts = record { params = params; largest = largest };
+  params = params;
+  largest = largest;
+  intervals = intervals;
+  logs = λ i q there.
+      let (log, here, is) = new_port_at (clock_of setup.identity) setup.params setup.intervals.items i q there in
+      here ∙ ap (λ (x : Port). Some x.log_interval) (sym is);
+}
 
-    logs : (i : ℕ) (q : Port) → slice_get (new_ports (clock_of setup.identity) setup.params setup.ports) i ≡ Some q
-        → q.log_interval ≡ p.announce
-    logs i q there =
-        let port = mapped new (range_with_len 1 setup.ports) i q there in
-        ap (λ (x : Port). x.log_interval) (sym port.2) ∙ ap (λ (x : Params). x.announce) same
-
-starts_kept : (p : Params) (place : ℕ) (w : WorldState) (draws : List Draw) (w' : WorldState) → IsKept p w
-    → Starts place w draws w' → IsKept p w'
-starts_kept p place w draws w' kept k =
-    calls_all_kept p new.system place (up_ports new w.net) begun draws w'
+starts_kept : (p : Pace) (So : ℤ → Type 0) (place : ℕ) (w : WorldState) (draws : List Draw) (w' : WorldState)
+    → IsKept p So w → Starts place w draws w' → IsKept p So w'
+starts_kept p So place w draws w' kept k =
+    calls_all_kept p So new.system place (up_ports new w.net) begun draws w'
     (has_its_ports place begun new (get-set_same w.stations place k.station new k.here)) (brought_ports new w.net)
     begun_kept k.calls
   where
@@ -136,99 +139,119 @@ starts_kept p place w draws w' kept k =
     begun : WorldState
     begun = replaced place new w
 
-    begun_kept : IsKept p begun
+    begun_kept : IsKept p So begun
     begun_kept =
         let old = kept.stations place k.station k.here in
-        net_kept p (with_station place new w) (all_timers place new w.net) (keep_all w.time w.net.channels)
-        (station_kept p place k.station new w k.here (record {
+        net_kept p So (with_station place new w) (all_timers place new w.net) (keep_all w.time w.net.channels)
+        (station_kept p So place k.station new w k.here (record {
           setup = old.setup;
-          steady = started_steady k.station.setup w.time old.setup;
-          set = started_set p k.station.setup w.time true old.set.setup;
+          steady = started_steady k.station.setup w.time old.setup old.set.intervals;
+          set = started_set p k.station.setup w.time true old.set.starts.params old.set.starts.largest
+              old.set.intervals;
+          logs = old.logs;
           in_time = λ live. starts_in_time k.station.setup w.time;
-          measuring = λ live. started_measure p k.station.setup w.time old.set.setup;
+          measuring = λ live. started_measure p.params k.station.setup w.time old.set.starts.params;
         }) kept)
 
-pub starts_all_kept : (p : Params) (places : List ℕ) (w : WorldState) (draws : List Draw) (w' : WorldState)
-    → IsKept p w → StartsAll places w draws w' → IsKept p w'
-starts_all_kept p [] w draws w' kept (none, is) = subst (IsKept p) (sym is) kept
-starts_all_kept p (place ∷ places) w draws w' kept (first, rest, between, is, one, more) =
-    starts_all_kept p places between rest w' (starts_kept p place w first between kept one) more
+pub starts_all_kept : (p : Pace) (So : ℤ → Type 0) (places : List ℕ) (w : WorldState) (draws : List Draw)
+    (w' : WorldState) → IsKept p So w → StartsAll places w draws w' → IsKept p So w'
+starts_all_kept p So [] w draws w' kept (none, is) = subst (IsKept p So) (sym is) kept
+starts_all_kept p So (place ∷ places) w draws w' kept (first, rest, between, is, one, more) =
+    starts_all_kept p So places between rest w' (starts_kept p So place w first between kept one) more
 
-recovers_kept : (p : Params) (live : Bool) (place : ℕ) (w : WorldState) (draws : List Draw) (w' : WorldState)
-    → IsKept p w → RecoversIf live place w draws w' → IsKept p w'
-recovers_kept p true place w draws w' kept (none, is) = subst (IsKept p) (sym is) kept
-recovers_kept p false place w draws w' kept k = starts_kept p place w draws w' kept k
+recovers_kept : (p : Pace) (So : ℤ → Type 0) (live : Bool) (place : ℕ) (w : WorldState) (draws : List Draw)
+    (w' : WorldState) → IsKept p So w → RecoversIf live place w draws w' → IsKept p So w'
+recovers_kept p So true place w draws w' kept (none, is) = subst (IsKept p So) (sym is) kept
+recovers_kept p So false place w draws w' kept k = starts_kept p So place w draws w' kept k
 
 -- ---- systems
 
--- a station becomes another with these parameters, and with the same system
-same_system : (p : Params) (now : ℕ) (old new : Station) → IsKeptStation p now old → new.system ≡ old.system
-    → new.setup.params ≡ old.setup.params → (new.live ≡ true → old.live ≡ true) → IsKeptStation p now new
-same_system p now old new is system setup live = record {
-  setup = rw setup is.setup;
+-- a station becomes another that starts with the same but perhaps for its identity, and with the same system
+same_system : (p : Pace) (So : ℤ → Type 0) (now : ℕ) (old new : Station) → IsKeptStation p So now old
+    → new.system ≡ old.system → HasPace p new → AreIntervals new.setup
+    → new.setup.intervals.items ≡ old.setup.intervals.items → (new.live ≡ true → old.live ≡ true)
+    → IsKeptStation p So now new
+same_system p So now old new is system starts intervals same live = record {
+  setup = rw (starts.params, sym is.set.starts.params) is.setup;
   steady = rw system is.steady;
   set = record {
-    setup = setup ∙ is.set.setup;
-    system = rw system is.set.system;
-    logs = rw system is.set.logs;
+    starts = starts;
+    params = rw system is.set.params;
+    largest = rw system is.set.largest;
+    intervals = intervals;
+    logs = rw (system, same) is.set.logs;
   };
+  logs = rw same is.logs;
   in_time = λ now_live. rw system (is.in_time (live now_live));
   measuring = λ now_live. rw system (is.measuring (live now_live));
 }
 
-fails_kept : (p : Params) (live : Bool) (place : ℕ) (station : Station) (w : WorldState) (draws : List Draw)
-    (w' : WorldState) → slice_get w.stations place ≡ Some station → IsKept p w → FailsIf live place station w draws w'
-    → IsKept p w'
-fails_kept p true place station w draws w' here kept (none, is) =
+fails_kept : (p : Pace) (So : ℤ → Type 0) (live : Bool) (place : ℕ) (station : Station) (w : WorldState)
+    (draws : List Draw) (w' : WorldState) → slice_get w.stations place ≡ Some station → IsKept p So w
+    → FailsIf live place station w draws w' → IsKept p So w'
+fails_kept p So true place station w draws w' here kept (none, is) =
     let off : Station = record station { live = false } in
-    subst (IsKept p) (sym is)
-    (net_kept p (with_station place off w) (all_timers place off w.net) (keep_all w.time w.net.channels)
-    (station_kept p place station off w here
-    (same_system p w.time station off (kept.stations place station here) refl refl (λ live. absurd cc)) kept))
-fails_kept p false place station w draws w' here kept (none, is) = subst (IsKept p) (sym is) kept
+    let old = kept.stations place station here in
+    let starts = old.set.starts in
+    subst (IsKept p So) (sym is)
+    (net_kept p So (with_station place off w) (all_timers place off w.net) (keep_all w.time w.net.channels)
+    (station_kept p So place station off w here
+    (same_system p So w.time station off old refl (record { params = starts.params; largest = starts.largest })
+    old.set.intervals refl (λ live. absurd cc)) kept))
+fails_kept p So false place station w draws w' here kept (none, is) = subst (IsKept p So) (sym is) kept
 
 -- a system with another priority1
-prioritized_kept : (p : Params) (value place : ℕ) (station : Station) (w : WorldState) (draws : List Draw)
-    (w' : WorldState) → slice_get w.stations place ≡ Some station → IsKept p w
-    → CallsIfLive place (Priority value) (with_station place (with_setup value station) w) draws w' → IsKept p w'
-prioritized_kept p value place station w draws w' here kept k =
+prioritized_kept : (p : Pace) (So : ℤ → Type 0) (value place : ℕ) (station : Station) (w : WorldState)
+    (draws : List Draw) (w' : WorldState) → slice_get w.stations place ≡ Some station → IsKept p So w
+    → CallsIfLive place (Priority value) (with_station place (with_setup value station) w) draws w' → IsKept p So w'
+prioritized_kept p So value place station w draws w' here kept k =
     let new : Station = with_setup value station in
-    calls_if_live_kept p place (Priority value) (with_station place new w) draws w' (λ x there. tt)
-    (station_kept p place station new w here
-    (same_system p w.time station new (kept.stations place station here) refl refl (λ live. live)) kept) k
+    let old = kept.stations place station here in
+    let starts = old.set.starts in
+    let intervals = old.set.intervals in
+    calls_if_live_kept p So place (Priority value) (with_station place new w) draws w' (λ x there. tt)
+    (station_kept p So place station new w here
+    (same_system p So w.time station new old refl (record { params = starts.params; largest = starts.largest })
+    (record { many = intervals.many; each = intervals.each; largest = intervals.largest }) refl (λ live. live)) kept) k
 
 -- ---- links
 
-goes_down_kept : (p : Params) (up : Bool) (place : ℕ) (channel : Channel) (w : WorldState) (draws : List Draw)
-    (w' : WorldState) → slice_get w.net.channels place ≡ Some channel → IsWired w → IsKept p w
-    → GoesDownIf up place channel w draws w' → IsKept p w'
-goes_down_kept p false place channel w draws w' here wired kept (none, is) = subst (IsKept p) (sym is) kept
-goes_down_kept p true place channel w draws w' here wired kept k =
-    tells_ends_kept p PortDown channel (record w { net = taken_down place channel w.net }) draws w' (λ s now n of. of)
-    (ends_are w place channel wired here)
-    (net_kept p w (taken_down place channel w.net) (lost_keep w.time w.net.channels place channel here) kept) k
+goes_down_kept : (p : Pace) (So : ℤ → Type 0) (up : Bool) (place : ℕ) (channel : Channel) (w : WorldState)
+    (draws : List Draw) (w' : WorldState) → slice_get w.net.channels place ≡ Some channel → IsWired w → IsKept p So w
+    → GoesDownIf up place channel w draws w' → IsKept p So w'
+goes_down_kept p So false place channel w draws w' here wired kept (none, is) = subst (IsKept p So) (sym is) kept
+goes_down_kept p So true place channel w draws w' here wired kept k =
+    tells_ends_kept p So PortDown channel (record w { net = taken_down place channel w.net }) draws w'
+    (λ s now n of. of) (ends_are w place channel wired here)
+    (net_kept p So w (taken_down place channel w.net) (lost_keep w.time w.net.channels place channel here) kept) k
 
-comes_up_kept : (p : Params) (up : Bool) (place : ℕ) (channel : Channel) (w : WorldState) (draws : List Draw)
-    (w' : WorldState) → slice_get w.net.channels place ≡ Some channel → IsWired w → IsKept p w
-    → ComesUpIf up place channel w draws w' → IsKept p w'
-comes_up_kept p true place channel w draws w' here wired kept (none, is) = subst (IsKept p) (sym is) kept
-comes_up_kept p false place channel w draws w' here wired kept k =
-    tells_ends_kept p PortUp channel (record w { net = brought_up place channel w.net }) draws w' (λ s now n of. of)
+comes_up_kept : (p : Pace) (So : ℤ → Type 0) (up : Bool) (place : ℕ) (channel : Channel) (w : WorldState)
+    (draws : List Draw) (w' : WorldState) → slice_get w.net.channels place ≡ Some channel → IsWired w → IsKept p So w
+    → ComesUpIf up place channel w draws w' → IsKept p So w'
+comes_up_kept p So true place channel w draws w' here wired kept (none, is) = subst (IsKept p So) (sym is) kept
+comes_up_kept p So false place channel w draws w' here wired kept k =
+    tells_ends_kept p So PortUp channel (record w { net = brought_up place channel w.net }) draws w' (λ s now n of. of)
     (ends_are w place channel wired here)
-    (net_kept p w (brought_up place channel w.net) (up_keep w.time w.net.channels place channel here) kept) k
+    (net_kept p So w (brought_up place channel w.net) (up_keep w.time w.net.channels place channel here) kept) k
 
--- At the time of the last change the frames in flight are due within an announce interval, whatever the bounds become.
-bounds_kept : (p : Params) (bounds : Bounds) (place : ℕ) (channel : Channel) (w : WorldState)
-    → slice_get w.net.channels place ≡ Some channel → w.last_change ≡ w.time → bounds.max ≤ announce_interval p
-    → IsKept p w → IsKept p (record w { net = with_bounds bounds place channel w.net })
-bounds_kept p bounds place channel w here now prompt kept = record {
+-- At the time of the last change the frames in flight are due within every announce interval, whatever the bounds
+-- become.
+bounds_kept : (p : Pace) (So : ℤ → Type 0) (bounds : Bounds) (place : ℕ) (channel : Channel) (w : WorldState)
+    → slice_get w.net.channels place ≡ Some channel → w.last_change ≡ w.time
+    → ((log : ℤ) → So log → bounds.max ≤ interval_of log) → IsKept p So w
+    → IsKept p So (record w { net = with_bounds bounds place channel w.net })
+bounds_kept p So bounds place channel w here now prompt kept = record {
   change = kept.change;
   stations = kept.stations;
-  near = get-set_all (IsLimited (near_limit p w.time) w.time) w.net.channels place channel new here (record {
-    room = omega arith;
-    from_a = near.from_a;
-    from_b = near.from_b;
-  }) kept.near;
+  largest = kept.largest;
+  near = λ log so.
+      let near = kept.near log so place channel here in
+      let most = prompt log so in
+      get-set_all (IsLimited (near_limit log w.time) w.time) w.net.channels place channel new here (record {
+        room = omega arith;
+        from_a = near.from_a;
+        from_b = near.from_b;
+      }) (kept.near log so);
   fresh = get-set_all (IsLimited (fresh_limit p w.time w.last_change) w.time) w.net.channels place channel new here
       (record {
         room = omega arith;
@@ -240,19 +263,29 @@ bounds_kept p bounds place channel w here now prompt kept = record {
     new : Channel
     new = record channel { bounds = bounds }
 
-    near : IsLimited (near_limit p w.time) w.time channel
-    near = kept.near place channel here
+    near : IsLimited (near_limit p.largest w.time) w.time channel
+    near = kept.near p.largest kept.largest place channel here
+
+-- octets that enter a link are due within its greatest delay
+injects_kept : (p : Pace) (So : ℤ → Type 0) (up : Bool) (from : PortId) (octets : List ℕ) (w : WorldState)
+    (draws : List Draw) (w' : WorldState) → IsKept p So w → InjectsIf up from octets w draws w' → IsKept p So w'
+injects_kept p So false from octets w draws w' kept (none, is) = subst (IsKept p So) (sym is) kept
+injects_kept p So true from octets w draws w' kept k =
+    subst (IsKept p So) (sym k.is)
+    (net_kept p So w k.net (sends_one_keep w.time from octets k.draw w.net k.net k.sent) kept)
 
 -- ---- all changes
 
--- A change is the last one from then on: all frames are due within an announce interval of it.
-pub changed_kept : (p : Params) (w : WorldState) → IsKept p w → IsKept p (record w { last_change = w.time })
-changed_kept p w kept = record {
+-- A change is the last one from then on: all frames are due within the largest announce interval of it.
+pub changed_kept : (p : Pace) (So : ℤ → Type 0) (w : WorldState) → IsKept p So w
+    → IsKept p So (record w { last_change = w.time })
+changed_kept p So w kept = record {
   change = omega arith;
   stations = kept.stations;
+  largest = kept.largest;
   near = kept.near;
   fresh = λ link channel here.
-      let near = kept.near link channel here in
+      let near = kept.near p.largest kept.largest link channel here in
       record {
         room = omega arith;
         from_a = λ f among. let soon = near.from_a f among in omega arith;
@@ -260,18 +293,21 @@ changed_kept p w kept = record {
       };
 }
 
-pub changes_kept : (p : Params) (c : Change) (w : WorldState) (draws : List Draw) (w' : WorldState) → IsWired w
-    → w.last_change ≡ w.time → IsPromptAct p (Changing c) → IsKept p w → Changes c w draws w' → IsKept p w'
-changes_kept p (LinkDown number port) w draws w' wired now prompt kept k =
-    goes_down_kept p k.channel.up k.place k.channel w draws w' k.is.here wired kept k.so
-changes_kept p (LinkUp number port) w draws w' wired now prompt kept k =
-    comes_up_kept p k.channel.up k.place k.channel w draws w' k.is.here wired kept k.so
-changes_kept p (LinkSet number port least greatest loss) w draws w' wired now prompt kept k =
-    subst (IsKept p) (sym k.so.1)
-    (bounds_kept p (set_to least greatest loss k.channel) k.place k.channel w k.is.here now prompt kept)
-changes_kept p (Fail number) w draws w' wired now prompt kept k =
-    fails_kept p k.station.live k.place k.station w draws w' k.is.here kept k.so
-changes_kept p (Recover number) w draws w' wired now prompt kept k =
-    recovers_kept p k.station.live k.place w draws w' kept k.so
-changes_kept p (Priority1 number value) w draws w' wired now prompt kept k =
-    prioritized_kept p value k.place k.station w draws w' k.is.here kept k.so
+pub changes_kept : (p : Pace) (So : ℤ → Type 0) (c : Change) (w : WorldState) (draws : List Draw) (w' : WorldState)
+    → IsWired w → w.last_change ≡ w.time → ((log : ℤ) → So log → IsPromptAct (interval_of log) (Changing c))
+    → IsKept p So w → Changes c w draws w' → IsKept p So w'
+changes_kept p So (LinkDown number port) w draws w' wired now prompt kept k =
+    goes_down_kept p So k.channel.up k.place k.channel w draws w' k.is.here wired kept k.so
+changes_kept p So (LinkUp number port) w draws w' wired now prompt kept k =
+    comes_up_kept p So k.channel.up k.place k.channel w draws w' k.is.here wired kept k.so
+changes_kept p So (LinkSet number port least greatest loss) w draws w' wired now prompt kept k =
+    subst (IsKept p So) (sym k.so.1)
+    (bounds_kept p So (set_to least greatest loss k.channel) k.place k.channel w k.is.here now prompt kept)
+changes_kept p So (Fail number) w draws w' wired now prompt kept k =
+    fails_kept p So k.station.live k.place k.station w draws w' k.is.here kept k.so
+changes_kept p So (Recover number) w draws w' wired now prompt kept k =
+    recovers_kept p So k.station.live k.place w draws w' kept k.so
+changes_kept p So (Priority1 number value) w draws w' wired now prompt kept k =
+    prioritized_kept p So value k.place k.station w draws w' k.is.here kept k.so
+changes_kept p So (Inject number port octets) w draws w' wired now prompt kept k =
+    injects_kept p So k.channel.up (port_id number port) octets w draws w' kept k.so

@@ -1,8 +1,8 @@
 -- The claim begins with the world of a network, and is kept.
 use Rattle.std.proofs.Common.{◌≢◌, ◌≤◌, ℕ, Option, length, refl}
 use Rattle.std.specs.List.{range_with_len}
+use Rattle.gptp_setup.specs.Pace.{Pace}
 use Rattle.gptp_links.specs.declared.bounds.Bounds.{Bounds}
-use Rattle.gptp_setup.specs.declared.setup.Params.{Params}
 use Rattle.gptp_plan.specs.declared.change.Act.{Act}
 use Rattle.gptp_plan.specs.declared.change.Act.TheVariants.{Deliver, Expire, Change as Changing}
 use Rattle.gptp_plan.specs.declared.change.Change.{Change}
@@ -12,12 +12,13 @@ use Rattle.gptp_acts.specs.Acts.{Acts, at as at_time}
 use Rattle.gptp_plan.specs.Allowed.{IsFitAct}
 use Rattle.gptp_acts.specs.Course.{Begun, WasDone}
 use Rattle.gptp_acts.specs.Initial.{initial}
-use Rattle.gptp_plan.specs.Network.{IsNetwork, NetworkState}
+use Rattle.gptp_plan.specs.Network.{IsNetwork, NetworkState, pace_of}
+use Rattle.gptp_plan.proofs.LogLemmas.{keeps_pace}
 use Rattle.gptp_acts.specs.Pending.{NothingBefore}
 use Rattle.gptp_acts.specs.Sound.{IsSound}
 use Rattle.gptp_acts.specs.World.{WorldState}
 use Rattle.gptp_acts.proofs.SoundLemmas.{later_sound, starts_sound}
-use Rattle.gptp_plan.specs.Prompt.{IsPromptAct}
+use Rattle.gptp_acts.specs.Prompt.{IsPromptIn}
 use Rattle.gptp_kept.proofs.KnownLemmas.{begins_known}
 use Rattle.gptp_kept.specs.Measured.{IsMeasured}
 use Rattle.gptp_kept.proofs.ChangeKeptLemmas.{later_measured}
@@ -37,15 +38,15 @@ use Rattle.gptp_kept.proofs.ClaimedCapableLemmas.{are_capable}
 
 -- ---- one world
 
-pub claim_capable : (p : Params) (w : WorldState) → IsClaimed p w → BecomeCapable p w
-claim_capable p w is = are_capable p w is.params is.world is.watched is.silent
+pub claim_capable : (p : Pace) (w : WorldState) → IsClaimed p w → BecomeCapable p w
+claim_capable p w is = are_capable p w is.pace is.world is.watched is.silent
 
 -- ---- it begins
 
 -- the world of a network is one as it begins
 first_world : {F : Type 0} (answers : Bounds → ℕ → F → Option ℕ → F → Type 0) (n : NetworkState)
     (fate fate_after : F) (w : WorldState) → IsNetwork n → IsSound (initial n)
-    → Begun answers n fate fate_after w → IsWorld n.params w
+    → Begun answers n fate fate_after w → IsWorld (pace_of n) w
 first_world answers n fate fate_after w network sound k =
     let places = range_with_len 0 (length n.systems) in
     record {
@@ -57,23 +58,23 @@ first_world answers n fate fate_after w network sound k =
 
 pub claim_begins : {F : Type 0} (answers : Bounds → ℕ → F → Option ℕ → F → Type 0) (n : NetworkState)
     (fate fate_after : F) (w : WorldState) → IsNetwork n → IsSound (initial n)
-    → Begun answers n fate fate_after w → IsClaimed n.params w
+    → Begun answers n fate fate_after w → IsClaimed (pace_of n) w
 claim_begins answers n fate fate_after w network sound k =
     let world = first_world answers n fate fate_after w network sound k in
     let measured = first_measured answers n fate fate_after w sound k in
     let now = starts_are_last (range_with_len 0 (length n.systems)) (initial n) k.draws w refl k.starts in
     record {
-      params = network.params;
+      pace = keeps_pace n network;
       world = world;
       measured = measured;
       watched = watches_first answers n fate fate_after w network k world measured;
-      silent = silent_at_first n.params w world.sound measured world.known now;
+      silent = silent_at_first (pace_of n) w world.sound measured world.known now;
       settling = holds_first answers n fate fate_after w network k world;
     }
 
 -- ---- time passes
 
-pub claim_later : (p : Params) (w : WorldState) (time : ℕ) → w.time ≤ time → NothingBefore time w.net.pending
+pub claim_later : (p : Pace) (w : WorldState) (time : ℕ) → w.time ≤ time → NothingBefore time w.net.pending
     → IsClaimed p w → IsClaimed p (at_time time w)
 claim_later p w time later first is =
     let sound = later_sound w time w.last_change is.world.sound first in
@@ -81,20 +82,20 @@ claim_later p w time later first is =
     let watched = later_watches p w time later first is.world is.watched in
     let silent = silent_later p time w is.silent in
     record {
-      params = is.params;
+      pace = is.pace;
       world = world;
       measured = later_measured time w later is.measured;
       watched = watched;
       silent = silent;
       settling = later_holds p w time later is.world world (claim_capable p w is)
-          (are_capable p (at_time time w) is.params world watched silent) is.settling;
+          (are_capable p (at_time time w) is.pace world watched silent) is.settling;
     }
 
 -- ---- from act to act
 
-module _ {F : Type 0} (answers : Bounds → ℕ → F → Option ℕ → F → Type 0) (p : Params) (timed : Timed)
+module _ {F : Type 0} (answers : Bounds → ℕ → F → Option ℕ → F → Type 0) (p : Pace) (timed : Timed)
     (fate fate_after : F) (w w' : WorldState) (done : Done) (fit : IsFitAct timed.act)
-    (prompt : IsPromptAct p timed.act) (octet : SetsAnOctet timed.act)
+    (prompt : IsPromptIn w timed.act) (octet : SetsAnOctet timed.act)
     (k : WasDone answers timed fate fate_after w w' done) (is : IsClaimed p w) where
   abbrev then : WorldState
   then = at_time timed.at w
@@ -109,7 +110,7 @@ module _ {F : Type 0} (answers : Bounds → ℕ → F → Option ℕ → F → T
   world_after = done_stays answers p timed fate fate_after w w' done fit prompt octet k is.world
 
   measured_after : IsMeasured w'
-  measured_after = done_measured answers timed fate fate_after w w' done k is.world.sound is.measured
+  measured_after = done_measured answers timed fate fate_after w w' done octet k is.world.sound is.measured
 
   -- a change begins the silence anew
   silent_after : AreSilent p w'
@@ -131,15 +132,15 @@ module _ {F : Type 0} (answers : Bounds → ℕ → F → Option ℕ → F → T
   pub claim_kept : IsClaimed p w'
   claim_kept =
       let watched =
-      done_watches answers p timed fate fate_after w w' done is.params fit prompt octet k is.world is.measured
+      done_watches answers p timed fate fate_after w w' done is.pace fit prompt octet k is.world is.measured
       is.watched in
       record {
-        params = is.params;
+        pace = is.pace;
         world = world_after;
         measured = measured_after;
         watched = watched;
         silent = silent_after;
-        settling = done_holds answers p timed fate fate_after w w' done is.params.ranges.params fit prompt octet k
+        settling = done_holds answers p timed fate fate_after w w' done is.pace.largest fit prompt octet k
             is.world (claim_capable p w is) (claim_capable p then claim_then)
-            (are_capable p w' is.params world_after watched silent_after) is.settling;
+            (are_capable p w' is.pace world_after watched silent_after) is.settling;
       }

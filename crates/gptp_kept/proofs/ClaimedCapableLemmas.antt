@@ -1,5 +1,6 @@
 -- From the start on a port is capable exactly where a link of the snapshot is at it.
 use Rattle.std.proofs.Common.{◌≡◌, ◌⊎◌, ◌≤◌, ℕ, suc, Bool, true, false, List, Option, Some, None, slice_get, refl, sym, ap, subst, ◌∙◌, inl, inr}
+use Rattle.gptp_setup.specs.Pace.{Pace}
 use Rattle.gptp_graph.specs.Snapshot.{IsLinked, Joins, Snapshot}
 use Rattle.gptp_lists.proofs.MemberLemmas.{In-map}
 use Rattle.gptp_vector.specs.declared.port.PortId.{PortId}
@@ -9,12 +10,11 @@ use Rattle.gptp_pdelay.specs.Peer.{is_capable}
 use Rattle.gptp_receipt.specs.declared.held.Held.{Held}
 use Rattle.gptp_receipt.specs.declared.held.Held.TheVariants.{Disabled}
 use Rattle.gptp_system.specs.declared.port.Port.{Port}
-use Rattle.gptp_setup.specs.declared.setup.Params.{Params}
 use Rattle.gptp_system.specs.Facts.{IsShown}
 use Rattle.gptp_system.specs.State.{clock, number, own}
 use Rattle.gptp_system.specs.Steps.{IsUp}
 use Rattle.gptp_acts.specs.declared.station.Station.{Station}
-use Rattle.gptp_plan.specs.Params.{KeepParams}
+use Rattle.gptp_plan.specs.Params.{KeepPace}
 use Rattle.gptp_acts.specs.World.{Channel, WorldState, receiver, sender}
 use Rattle.gptp_kept.specs.Linked.{BeginsLink}
 use Rattle.gptp_kept.specs.LinkView.{LinkPlace}
@@ -57,7 +57,7 @@ used_if stations FromB channel up from to = rw (up, from, to) refl
 
 -- ---- one port
 
-module _ (p : Params) (w : WorldState) (params : KeepParams p) (is : IsWorld p w) (silent : AreSilent p w)
+module _ (p : Pace) (w : WorldState) (pace : KeepPace p) (is : IsWorld p w) (silent : AreSilent p w)
     (late : start_of p w ≤ w.time) (place : ℕ) (station : Station) (here : slice_get w.stations place ≡ Some station)
     (live : station.live ≡ true) (i : ℕ) (q : Port) (there : slice_get station.system.ports i ≡ Some q) where
   abbrev itself : PortId
@@ -92,7 +92,7 @@ module _ (p : Params) (w : WorldState) (params : KeepParams p) (is : IsWorld p w
     -- one that has failed: nothing has answered for long enough
     by_failed : other.station.live ≡ false → LinkedOrOff
     by_failed failed =
-        inr (silent_incapable p w is.sound is.known params.requests silent late at stands q
+        inr (silent_incapable p w is.sound is.known pace.requests silent late at stands q
         (ap (λ (x : PortId). number station.system.ports x.port) begins.begins ∙ there))
       where
         at : LinkPlace
@@ -160,21 +160,21 @@ module _ (g : Snapshot) (itself : PortId) (h : Held) (q : Port) (shown : IsShown
       by (inl linked) on = linked
       by (inr off) on = absurd (not_both q on off)
 
-pub ports_settled : (p : Params) (w : WorldState) → KeepParams p → IsWorld p w → Watches p w → AreSilent p w
-    → IsQuietWorld p w → start_of p w ≤ w.time → ArePortsSettled w
-ports_settled p w params is watched silent quiet late place station here live i h q stands there =
+pub ports_settled : (p : Pace) (w : WorldState) → KeepPace p → IsWorld p w → Watches p w → AreSilent p w
+    → IsQuietWorld p.params w → start_of p w ≤ w.time → ArePortsSettled w
+ports_settled p w pace is watched silent quiet late place station here live i h q stands there =
     port_settled (snapshot_of w) (own station.system (suc i)) h q
     ((is.sound.on_time.stations place station here).steady.shown.each i h q stands there)
-    (λ linked. (used linked).capable) (linked_or_off p w params is silent late place station here live i q there)
+    (λ linked. (used linked).capable) (linked_or_off p w pace is silent late place station here live i q there)
   where
     used : IsLinked (snapshot_of w) (identity_of (own station.system (suc i))) → IsCapablePort h q
-    used = used_capable p w params is quiet watched late place station here live i h q stands there
+    used = used_capable p w pace is quiet watched late place station here live i h q stands there
 
 -- so the ports are capable as the machine of gptp_settling wants them
-pub are_capable : (p : Params) (w : WorldState) → KeepParams p → IsWorld p w → Watches p w → AreSilent p w
+pub are_capable : (p : Pace) (w : WorldState) → KeepPace p → IsWorld p w → Watches p w → AreSilent p w
     → BecomeCapable p w
-are_capable p w params is watched silent quiet late place station here live i h q stands there =
-    let settled = ports_settled p w params is watched silent quiet late place station here live i h q stands there in
+are_capable p w pace is watched silent quiet late place station here live i h q stands there =
+    let settled = ports_settled p w pace is watched silent quiet late place station here live i h q stands there in
     record {
       capable = λ linked disabled. not_both q (settled.capable.1 linked) (settled.disabled.0 disabled);
       unlinked = λ none. by none settled (is_capable q.peer) refl;

@@ -1,15 +1,15 @@
 -- The greatest delay of the links of a snapshot.
-use Rattle.std.proofs.Common.{◌≡◌, ◌≤◌, ◌<◌, ◌+◌, ◌*◌, ℕ, zero, suc, Bool, true, false, List, [], ◌∷◌, Some, slice_get, refl, ap, ◌∙◌, arith, mul-le-mul}
+use Rattle.std.proofs.Common.{◌≡◌, ◌≤◌, ◌<◌, ◌+◌, ℕ, zero, suc, ℤ, Bool, true, false, List, [], ◌∷◌, Some, slice_get, refl, ap, ◌∙◌, arith}
 use Rattle.std.specs.Prelude.{if◌then◌else◌, max}
 use Rattle.std.proofs.lemmas.Option.{none-some, same_Some}
 use Rattle.gptp_graph.specs.Snapshot.{System}
-use Rattle.gptp_setup.specs.declared.setup.Params.{Params}
-use Rattle.gptp_setup.specs.Intervals.{AreParams, announce_interval, receipt_span}
-use Rattle.gptp_setup.proofs.IntervalLemmas.{interval_positive}
+use Rattle.gptp_setup.specs.Intervals.{AreParams, interval_of}
+use Rattle.gptp_setup.specs.Pace.{Pace, largest_interval, span_by}
 use Rattle.gptp_acts.specs.World.{Channel, WorldState}
-use Rattle.gptp_kept.specs.Known.{IsKnown}
+use Rattle.gptp_kept.specs.Known.{IsKnown, IsLogAmong}
 use Rattle.gptp_kept.specs.Calm.{greatest_delay}
 use Rattle.gptp_kept.specs.Standing.{is_used, live_systems}
+use Rattle.gptp_kept.proofs.SetLemmas.{log_outlasts}
 
 -- it is no more than what no link exceeds
 delay_within : (systems : List System) (channels : List Channel) (bound : ℕ)
@@ -44,19 +44,20 @@ delay_of_used systems (first ∷ channels) (suc link) channel here used =
     by true later = omega arith
     by false later = later
 
--- so it is at most an announce interval
-pub delay_short : (p : Params) (w : WorldState) → IsKnown p w
-    → greatest_delay (live_systems w.stations) w.net.channels ≤ announce_interval p
-delay_short p w known = delay_within (live_systems w.stations) w.net.channels (announce_interval p) known.prompt
+-- so it is at most the largest announce interval
+pub delay_short : (p : Pace) (w : WorldState) → IsKnown p w
+    → greatest_delay (live_systems w.stations) w.net.channels ≤ largest_interval p
+delay_short p w known =
+    delay_within (live_systems w.stations) w.net.channels (largest_interval p)
+    (λ link channel here. (known.near link channel here).most)
 
--- and what is received stays longer than an announce interval and that delay
-pub receipts_stay : (p : Params) (w : WorldState) → AreParams p → IsKnown p w
-    → announce_interval p + greatest_delay (live_systems w.stations) w.net.channels
-    < receipt_span p
-receipts_stay p w params known =
-    let short = delay_short p w known in
-    let positive = interval_positive p.announce params.announce in
-    let same : announce_interval p ≤ announce_interval p = omega arith in
-    let long : 3 * announce_interval p ≤ receipt_span p =
-    mul-le-mul params.timeout-least same in
+-- and what names the interval of a port stays longer than that interval and that delay
+pub receipts_stay : (p : Pace) (w : WorldState) → AreParams p.params → IsKnown p w → (log : ℤ)
+    → IsLogAmong w.stations log
+    → interval_of log + greatest_delay (live_systems w.stations) w.net.channels
+    < span_by p.params.timeout p.largest log
+receipts_stay p w params known log among =
+    let short = delay_within (live_systems w.stations) w.net.channels (interval_of log)
+    (λ link channel here. (known.prompt log among link channel here).most) in
+    let long = log_outlasts p w params known.set log among in
     omega arith

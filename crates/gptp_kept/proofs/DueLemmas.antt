@@ -1,5 +1,5 @@
 -- When the timers of each port and the frames in flight are due.
-use Rattle.std.proofs.Common.{◌≡◌, ℕ, suc, ◌+◌, ◌*◌, ◌<◌, ◌≤◌, Bool, true, false, List, [], ◌∷◌, map, Option, Some, None, slice_get, refl, sym, subst, ◌∙◌, inl, inr, arith, mul-le-mul}
+use Rattle.std.proofs.Common.{◌≡◌, ℕ, suc, ◌+◌, ◌<◌, ◌≤◌, ℤ, Bool, true, false, List, [], ◌∷◌, map, Option, Some, None, slice_get, refl, sym, subst, ◌∙◌, inl, inr, arith}
 use Rattle.std.specs.List.{AllByRecursion}
 use Rattle.gptp_lists.specs.Members.{In}
 use Rattle.gptp_links.specs.Queue.{Frame}
@@ -11,12 +11,12 @@ use Rattle.gptp_pdelay.specs.Peer.{is_capable}
 use Rattle.gptp_system.specs.declared.port.Port.{Port}
 use Rattle.gptp_setup.specs.declared.setup.Params.{Params}
 use Rattle.gptp_setup.specs.declared.timer.Timer.TheVariants as timers
-use Rattle.gptp_setup.specs.Intervals.{AreParams, announce_interval, interval_of, largest_interval, longest_span, receipt_span}
+use Rattle.gptp_setup.specs.Intervals.{AreParams, interval_of}
+use Rattle.gptp_setup.specs.Pace.{Pace, largest_interval, span_by}
 use Rattle.gptp_system.specs.Measures.{part_of}
-use Rattle.gptp_system.specs.State.{SystemState, age_due, announce_due, due, is_mine, span_of}
+use Rattle.gptp_system.specs.State.{SystemState, age_due, announce_due, due, is_mine}
 use Rattle.gptp_system.specs.Steps.{IsUp}
 use Rattle.gptp_system.specs.Times.{IsPortInTime}
-use Rattle.gptp_setup.proofs.IntervalLemmas.{interval_positive}
 use Rattle.gptp_acts.specs.declared.item.Item.TheVariants.{Arrival}
 use Rattle.gptp_acts.specs.declared.station.Station.{Station}
 use Rattle.gptp_acts.specs.Ahead.{NoneLate}
@@ -26,8 +26,10 @@ use Rattle.gptp_acts.specs.World.{Channel, WorldState, queue}
 use Rattle.gptp_acts.proofs.MomentLemmas.{times-all}
 use Rattle.gptp_acts.proofs.SoundLemmas.{agrees_arrivals}
 use Rattle.gptp_kept.specs.Due.{IsPortKnown, IsWithin, OfEachPort}
-use Rattle.gptp_kept.specs.Known.{IsKnown, IsSetTo, OfEachFrame}
+use Rattle.gptp_kept.specs.Known.{IsKnown, IsLogAmong, IsSetTo, OfEachFrame}
 use Rattle.gptp_kept.specs.Measuring.{IsIdle}
+use Rattle.gptp_kept.specs.View.{span_at}
+use Rattle.gptp_kept.proofs.SetLemmas.{log_outlasts, span_is}
 
 -- ---- frames
 
@@ -55,7 +57,7 @@ frames_not_late w sound link direction channel f here among =
     (subst (AllByRecursion (λ t. w.time ≤ t)) (agrees_arrivals w sound.agrees link direction channel here) pending)
     among
 
-pub frames_fresh : (p : Params) (w : WorldState) → IsSound w → IsKnown p w
+pub frames_fresh : (p : Pace) (w : WorldState) → IsSound w → IsKnown p w
     → w.last_change + largest_interval p ≤ w.time
     → OfEachFrame (λ channel f. IsWithin w.time channel.bounds.max f.due) w
 frames_fresh p w sound known passed link direction channel f here among = record {
@@ -78,7 +80,7 @@ module _ (s : SystemState) (i : ℕ) (h : Held) (q : Port) (stands : slice_get s
   announce_is : due (timers.Announce (suc i)) s ≡ announce_due q h
   announce_is = rw (there, stands) refl
 
-  age_is : due (timers.Age (suc i)) s ≡ age_due s.params q h
+  age_is : due (timers.Age (suc i)) s ≡ age_due s.params s.largest h
   age_is = rw (there, stands) refl
 
   pdelay_is : due (timers.Pdelay (suc i)) s ≡ q.pdelay
@@ -88,40 +90,36 @@ module _ (s : SystemState) (i : ℕ) (h : Held) (q : Port) (stands : slice_get s
   respond_is = rw there refl
 
 -- a port whose timers aren't late, and run out in time, is known
-port_known : (p : Params) (now : ℕ) (station : Station) (i : ℕ) (h : Held) (q : Port) → IsSetTo p station
+port_known : (p : Pace) (now : ℕ) (station : Station) (i : ℕ) (h : Held) (q : Port) → IsSetTo p station
     → slice_get station.system.held i ≡ Some h → slice_get station.system.ports i ≡ Some q
     → NoneLate now station.system → IsPortInTime station.system.params now h q → IsPortKnown p now h q
 port_known p now station i h q set stands there late soon = record {
   announces = λ mine. record {
     least = late (timers.Announce (suc i)) q.announce
         (announce_is s i h q stands there ∙ announces_then q h mine);
-    most = subst (λ log. q.announce ≤ now + interval_of log) log (soon.announce mine);
+    most = soon.announce mine;
   };
   came = λ r got. record { least = soon.came r got; most = stays r got };
   asks = λ t is. record {
     least = late (timers.Pdelay (suc i)) t (pdelay_is s i h q stands there ∙ is);
-    most = subst (λ (x : Params). t ≤ now + interval_of x.pdelay) set.system (soon.pdelay t is);
+    most = subst (λ (x : Params). t ≤ now + interval_of x.pdelay) set.params (soon.pdelay t is);
   };
   answers = λ t is. record {
     least = late (timers.Respond (suc i)) t (respond_is s i h q stands there ∙ is);
-    most = subst (λ (x : Params). t ≤ now + x.turnaround) set.system (soon.respond t is);
+    most = subst (λ (x : Params). t ≤ now + x.turnaround) set.params (soon.respond t is);
   };
 }
   where
     s : SystemState
     s = station.system
 
-    log : q.log_interval ≡ p.announce
-    log = set.logs i q there
-
-    stays : (r : Reception) → received h ≡ Some r → now ≤ r.at + longest_span p
+    stays : (r : Reception) → received h ≡ Some r → now ≤ r.at + span_by p.params.timeout p.largest r.interval
     stays r got =
-        let ages : age_due s.params q h ≡ Some (r.at + span_of s.params q) = rw got refl in
-        let least = late (timers.Age (suc i)) (r.at + span_of s.params q) (age_is s i h q stands there ∙ ages) in
-        subst (λ log. now ≤ r.at + p.timeout * interval_of log) log
-        (subst (λ (x : Params). now ≤ r.at + span_of x q) set.system least)
+        let ages : age_due s.params s.largest h ≡ Some (r.at + span_at s r.interval) = rw got refl in
+        subst (λ span. now ≤ r.at + span) (span_is p station set r.interval)
+        (late (timers.Age (suc i)) (r.at + span_at s r.interval) (age_is s i h q stands there ∙ ages))
 
-pub ports_known : (p : Params) (w : WorldState) → IsSound w → IsKnown p w
+pub ports_known : (p : Pace) (w : WorldState) → IsSound w → IsKnown p w
     → OfEachPort (λ itself h q. IsPortKnown p w.time h q) w
 ports_known p w sound known place station here live i h q stands there =
     port_known p w.time station i h q (known.set place station here) stands there
@@ -129,15 +127,12 @@ ports_known p w sound known place station here live i h q stands there =
     ((known.in_time place station here live).each i h q stands there)
 
 -- three announce intervals are longer than one and a delay
-pub receipts_outlast : (p : Params) (w : WorldState) → AreParams p → IsKnown p w → (link : ℕ) (channel : Channel)
-    → slice_get w.net.channels link ≡ Some channel
-    → announce_interval p + channel.bounds.max < receipt_span p
-receipts_outlast p w params known link channel here =
-    let prompt = known.prompt link channel here in
-    let positive = interval_positive p.announce params.announce in
-    let same : announce_interval p ≤ announce_interval p = omega arith in
-    let long : 3 * announce_interval p ≤ receipt_span p =
-    mul-le-mul params.timeout-least same in
+pub receipts_outlast : (p : Pace) (w : WorldState) → AreParams p.params → IsKnown p w → (log : ℤ)
+    → IsLogAmong w.stations log → (link : ℕ) (channel : Channel) → slice_get w.net.channels link ≡ Some channel
+    → interval_of log + channel.bounds.max < span_by p.params.timeout p.largest log
+receipts_outlast p w params known log among link channel here =
+    let prompt = (known.prompt log among link channel here).most in
+    let long = log_outlasts p w params known.set log among in
     omega arith
 
 -- ---- ports without a link
@@ -146,7 +141,7 @@ receipts_outlast p w params known link channel here =
 idle_off : (q : Port) → IsIdle (part_of q) → is_capable q.peer ≡ false
 idle_off q idle = rw idle.last refl
 
-pub unlinked_disabled : (p : Params) (w : WorldState) → IsSound w → IsKnown p w
+pub unlinked_disabled : (p : Pace) (w : WorldState) → IsSound w → IsKnown p w
     → OfEachPort (λ itself h q. IsUnlinked w.net itself → h ≡ helds.Disabled) w
 unlinked_disabled p w sound known place station here live i h q stands there unlinked = by q.pdelay refl
   where

@@ -1,9 +1,9 @@
 -- A delivery and an expiry keep what is known.
-use Rattle.std.proofs.Common.{◌≡◌, ℕ, ◌≤◌, List, Option, Some, None, sym, ap, subst, ◌∙◌, arith}
+use Rattle.std.proofs.Common.{◌≡◌, ℕ, ℤ, ◌≤◌, List, Option, Some, None, sym, ap, subst, ◌∙◌, arith}
 use Rattle.gptp_links.specs.declared.link.Direction.{Direction}
 use Rattle.gptp_links.specs.Fate.{Draw}
 use Rattle.gptp_system.specs.declared.answer.Answer.{Answer}
-use Rattle.gptp_setup.specs.declared.setup.Params.{Params}
+use Rattle.gptp_setup.specs.Pace.{Pace}
 use Rattle.gptp_setup.specs.declared.timer.Timer.{Timer}
 use Rattle.gptp_system.specs.Input.{Frame as FrameHeard, Expires as TimerExpires}
 use Rattle.gptp_system.specs.State.{due}
@@ -21,8 +21,8 @@ use Rattle.gptp_kept.proofs.LimitLemmas.{keep_all, takes_keep}
 
 -- ---- a delivery
 
-module _ (p : Params) (link : ℕ) (direction : Direction) (octets : List ℕ) (w : WorldState) (draws : List Draw)
-    (answer : Option Answer) (w' : WorldState) (wired : IsWired w)
+module _ (p : Pace) (So : ℤ → Type 0) (link : ℕ) (direction : Direction) (octets : List ℕ) (w : WorldState)
+    (draws : List Draw) (answer : Option Answer) (w' : WorldState) (wired : IsWired w)
     (k : Delivers link direction octets w draws answer w') where
   -- the world without the frame, and the port that it reaches
   abbrev emptied : WorldState
@@ -31,8 +31,8 @@ module _ (p : Params) (link : ℕ) (direction : Direction) (octets : List ℕ) (
   abbrev reached : ℕ
   reached = (receiver direction k.channel).port
 
-  emptied_kept : IsKept p w → IsKept p emptied
-  emptied_kept = net_kept p w k.net (takes_keep link direction w.time octets k.channel w.net k.net k.takes)
+  emptied_kept : IsKept p So w → IsKept p So emptied
+  emptied_kept = net_kept p So w k.net (takes_keep link direction w.time octets k.channel w.net k.net k.takes)
 
   -- it is up
   heard_up : (one : Answer) (c : Calls k.place (FrameHeard reached octets) emptied draws one w')
@@ -42,12 +42,12 @@ module _ (p : Params) (link : ℕ) (direction : Direction) (octets : List ℕ) (
       subst (λ (x : Station). IsUp x.system reached) same
       (delivered_up link direction octets w draws answer w' k wired (ap (λ (x : Station). x.live) same ∙ c.live))
 
-  heard_kept : IsKept p w → (a : Option Answer) → Hears k.place reached octets emptied draws a w' → IsKept p w'
+  heard_kept : IsKept p So w → (a : Option Answer) → Hears k.place reached octets emptied draws a w' → IsKept p So w'
   heard_kept kept (Some one) c =
-      calls_kept p k.place (FrameHeard reached octets) emptied draws one w' c (heard_up one c) (emptied_kept kept)
-  heard_kept kept None (failed, none, is) = subst (IsKept p) (sym is) (emptied_kept kept)
+      calls_kept p So k.place (FrameHeard reached octets) emptied draws one w' c (heard_up one c) (emptied_kept kept)
+  heard_kept kept None (failed, none, is) = subst (IsKept p So) (sym is) (emptied_kept kept)
 
-  pub delivers_kept : IsKept p w → IsKept p w'
+  pub delivers_kept : IsKept p So w → IsKept p So w'
   delivers_kept kept = heard_kept kept answer k.hears
 
 -- ---- an expiry
@@ -62,9 +62,9 @@ out_due place timer w draws w' k =
     sym (live_due k.calls.station timer k.calls.live) ∙ ap (station_due timer) same ∙ k.now_due in
     let least : w.time ≤ w.time = omega arith in rw now least
 
-pub expires_kept : (p : Params) (place : ℕ) (timer : Timer) (w : WorldState) (draws : List Draw) (w' : WorldState)
-    → Expires place timer w draws w' → IsKept p w → IsKept p w'
-expires_kept p place timer w draws w' k kept =
-    calls_kept p place (TimerExpires timer) (stopped place timer w) draws k.answer w' k.calls
+pub expires_kept : (p : Pace) (So : ℤ → Type 0) (place : ℕ) (timer : Timer) (w : WorldState) (draws : List Draw)
+    (w' : WorldState) → Expires place timer w draws w' → IsKept p So w → IsKept p So w'
+expires_kept p So place timer w draws w' k kept =
+    calls_kept p So place (TimerExpires timer) (stopped place timer w) draws k.answer w' k.calls
     (out_due place timer w draws w' k)
-    (net_kept p w (stopped place timer w).net (keep_all w.time w.net.channels) kept)
+    (net_kept p So w (stopped place timer w).net (keep_all w.time w.net.channels) kept)

@@ -1,14 +1,15 @@
 -- What is known of a world, with what every act asks of its systems: item by item, and kept by every call.
-use Rattle.std.proofs.Common.{◌≡◌, ℕ, ◌+◌, ◌≤◌, max, ℤ, true, List, Some, slice_get, slice_set, sym, subst, ◌∙◌, arith}
+use Rattle.std.proofs.Common.{◌≡◌, ◌⊎◌, ℕ, ◌+◌, ◌≤◌, max, ℤ, true, List, Some, slice_get, slice_set, refl, sym, ap, subst, ◌∙◌, inl, inr, arith}
+use Rattle.gptp_lists.specs.Members.{In}
 use Rattle.gptp_links.specs.declared.bounds.Bounds.{Bounds}
 use Rattle.gptp_links.specs.declared.link.Direction.TheVariants.{FromA, FromB}
 use Rattle.gptp_links.specs.Fate.{Draw}
 use Rattle.gptp_system.specs.declared.answer.Answer.{Answer}
 use Rattle.gptp_system.specs.declared.port.Port.{Port}
-use Rattle.gptp_setup.specs.declared.setup.Params.{Params}
 use Rattle.gptp_system.specs.Facts.{Keeps}
 use Rattle.gptp_system.specs.Input.{Input, IsTimely}
-use Rattle.gptp_setup.specs.Intervals.{AreParams, largest_interval}
+use Rattle.gptp_setup.specs.Intervals.{AreParams, interval_of}
+use Rattle.gptp_setup.specs.Pace.{Pace, largest_interval}
 use Rattle.gptp_system.specs.State.{SystemState}
 use Rattle.gptp_system.specs.Times.{IsInTime}
 use Rattle.gptp_system.proofs.InTimeLemmas.{stays_in_time}
@@ -20,43 +21,70 @@ use Rattle.gptp_acts.specs.World.{Net, WorldState}
 use Rattle.gptp_lists.proofs.MappedLemmas.{alike}
 use Rattle.gptp_lists.proofs.PlaceLemmas.{get-set_all}
 use Rattle.gptp_acts.proofs.SteadyLemmas.{steps_steady}
-use Rattle.gptp_kept.specs.Known.{IsKnown, IsSetTo}
+use Rattle.gptp_kept.specs.Known.{IsKnown, IsLogAmong, IsSetTo}
 use Rattle.gptp_kept.specs.Linked.{MeasureLinks}
 use Rattle.gptp_kept.specs.Measuring.{PortsMeasure}
+use Rattle.gptp_kept.specs.Short.{IsShort}
 use Rattle.gptp_kept.proofs.LimitLemmas.{AreLimited, KeepLimits, in_queue, sends_keep}
 use Rattle.gptp_kept.proofs.MeasuringLemmas.{ports_measure}
 
 -- ---- the items
 
--- A station can start, and its system is steady and has the network's parameters. Where it is live its timers run out
--- in time, and its ports measure by those parameters.
-pub record IsKeptStation (p : Params) (now : ℕ) (station : Station) : Type 0 where
+-- A station can start, for ports with such intervals alone, and its system is steady and has the network's parameters.
+-- Where it is live its timers run out in time, and its ports measure by those parameters.
+pub record IsKeptStation (p : Pace) (So : ℤ → Type 0) (now : ℕ) (station : Station) : Type 0 where
   pub setup : AreParams station.setup.params
   pub steady : IsSteady station.system
   pub set : IsSetTo p station
+  pub logs : (log : ℤ) → In log station.setup.intervals.items → So log
   pub in_time : station.live ≡ true → IsInTime station.system now
-  pub measuring : station.live ≡ true → PortsMeasure p station.system
+  pub measuring : station.live ≡ true → PortsMeasure p.params station.system
 
-abbrev pub AreKeptStations : Params → ℕ → List Station → Type 0
-AreKeptStations p now stations =
-    (place : ℕ) (station : Station) → slice_get stations place ≡ Some station → IsKeptStation p now station
+abbrev pub AreKeptStations : Pace → (ℤ → Type 0) → ℕ → List Station → Type 0
+AreKeptStations p So now stations =
+    (place : ℕ) (station : Station) → slice_get stations place ≡ Some station → IsKeptStation p So now station
 
--- the limits for frames: an announce interval from now; and the greatest delay from now, or an announce interval after
+-- the limits for frames: an announce interval from now; and the greatest delay from now, or the largest interval after
 -- the last change
-abbrev pub near_limit : Params → ℕ → Bounds → ℕ
-near_limit p now bounds = now + largest_interval p
+abbrev pub near_limit : ℤ → ℕ → Bounds → ℕ
+near_limit log now bounds = now + interval_of log
 
-abbrev pub fresh_limit : Params → ℕ → ℕ → Bounds → ℕ
+abbrev pub fresh_limit : Pace → ℕ → ℕ → Bounds → ℕ
 fresh_limit p now last_change bounds = max (now + bounds.max) (last_change + largest_interval p)
 
-pub record IsKept (p : Params) (w : WorldState) : Type 0 where
+pub record IsKept (p : Pace) (So : ℤ → Type 0) (w : WorldState) : Type 0 where
   pub change : w.last_change ≤ w.time
-  pub stations : AreKeptStations p w.time w.stations
-  pub near : AreLimited (near_limit p w.time) w.time w.net.channels
+  pub stations : AreKeptStations p So w.time w.stations
+  pub largest : So p.largest
+  pub near : (log : ℤ) → So log → AreLimited (near_limit log w.time) w.time w.net.channels
   pub fresh : AreLimited (fresh_limit p w.time w.last_change) w.time w.net.channels
 
+-- the intervals that count in a network: the largest, and those of its ports
+abbrev pub IsCounted : Pace → List Station → ℤ → Type 0
+IsCounted p stations log = (log ≡ p.largest) ⊎ IsLogAmong stations log
+
+-- links that are short are within the limit of that interval
+short_near : (log : ℤ) (w : WorldState) → IsShort (interval_of log) w
+    → AreLimited (near_limit log w.time) w.time w.net.channels
+short_near log w short link channel here =
+    let is = short link channel here in
+    record {
+      room = let most = is.most in omega arith;
+      from_a = λ f. is.dues FromA f;
+      from_b = λ f. is.dues FromB f;
+    }
+
+near_short : (log : ℤ) (w : WorldState) → AreLimited (near_limit log w.time) w.time w.net.channels
+    → IsShort (interval_of log) w
+near_short log w near link channel here =
+    let is = near link channel here in
+    record {
+      most = let room = is.room in omega arith;
+      dues = λ direction f. in_queue (near_limit log w.time) w.time direction channel is f;
+    }
+
 -- what is known, item by item
-pub known_kept : (p : Params) (w : WorldState) → IsWorldOnTime w → IsKnown p w → IsKept p w
+pub known_kept : (p : Pace) (w : WorldState) → IsWorldOnTime w → IsKnown p w → IsKept p (IsCounted p w.stations) w
 known_kept p w on known = record {
   change = known.fresh.change;
   stations = λ place station here.
@@ -64,15 +92,12 @@ known_kept p w on known = record {
         setup = (on.stations place station here).setup;
         steady = (on.stations place station here).steady;
         set = known.set place station here;
+        logs = λ log among. inr (record { place = place; station = station; here = here; among = among });
         in_time = known.in_time place station here;
         measuring = known.measuring place station here;
       };
-  near = λ link channel here.
-      record {
-        room = let prompt = known.prompt link channel here in omega arith;
-        from_a = λ f. known.near link FromA channel f here;
-        from_b = λ f. known.near link FromB channel f here;
-      };
+  largest = inl refl;
+  near = near;
   fresh = λ link channel here.
       record {
         room = omega arith;
@@ -80,17 +105,21 @@ known_kept p w on known = record {
         from_b = λ f. known.fresh.frames link FromB channel f here;
       };
 }
+  where
+    near : (log : ℤ) → IsCounted p w.stations log → AreLimited (near_limit log w.time) w.time w.net.channels
+    near log (inl same) = short_near log w (subst (λ l. IsShort (interval_of l) w) (sym same) known.near)
+    near log (inr among) = short_near log w (known.prompt log among)
 
 -- and so it is known, where ports measure only at links that are up
-pub kept_known : (p : Params) (w : WorldState) → IsKept p w → MeasureLinks w → IsKnown p w
-kept_known p w kept links = record {
+pub kept_known : (p : Pace) (So : ℤ → Type 0) (w : WorldState) → IsKept p So w → MeasureLinks w → IsKnown p w
+kept_known p So w kept links = record {
   set = λ place station here. (kept.stations place station here).set;
-  prompt = λ link channel here. let room = (kept.near link channel here).room in omega arith;
+  prompt = λ log at.
+      near_short log w (kept.near log ((kept.stations at.place at.station at.here).logs log at.among));
   in_time = λ place station here. (kept.stations place station here).in_time;
   measuring = λ place station here. (kept.stations place station here).measuring;
   links = links;
-  near = λ link direction channel f here.
-      in_queue (near_limit p w.time) w.time direction channel (kept.near link channel here) f;
+  near = near_short p.largest w (kept.near p.largest kept.largest);
   fresh = record {
     change = kept.change;
     frames = λ link direction channel f here.
@@ -101,22 +130,24 @@ kept_known p w kept links = record {
 -- ---- what becomes other
 
 -- the links alone
-pub net_kept : (p : Params) (w : WorldState) (net : Net) → KeepLimits w.time w.net.channels net.channels → IsKept p w
-    → IsKept p (record w { net = net })
-net_kept p w net keep kept = record {
+pub net_kept : (p : Pace) (So : ℤ → Type 0) (w : WorldState) (net : Net)
+    → KeepLimits w.time w.net.channels net.channels → IsKept p So w → IsKept p So (record w { net = net })
+net_kept p So w net keep kept = record {
   change = kept.change;
   stations = kept.stations;
-  near = keep (near_limit p w.time) kept.near;
+  largest = kept.largest;
+  near = λ log so. keep (near_limit log w.time) (kept.near log so);
   fresh = keep (fresh_limit p w.time w.last_change) kept.fresh;
 }
 
 -- one station
-pub station_kept : (p : Params) (place : ℕ) (old new : Station) (w : WorldState)
-    → slice_get w.stations place ≡ Some old → IsKeptStation p w.time new → IsKept p w
-    → IsKept p (record w { stations = slice_set w.stations place new })
-station_kept p place old new w here is kept = record {
+pub station_kept : (p : Pace) (So : ℤ → Type 0) (place : ℕ) (old new : Station) (w : WorldState)
+    → slice_get w.stations place ≡ Some old → IsKeptStation p So w.time new → IsKept p So w
+    → IsKept p So (record w { stations = slice_set w.stations place new })
+station_kept p So place old new w here is kept = record {
   change = kept.change;
-  stations = get-set_all (IsKeptStation p w.time) w.stations place old new here is kept.stations;
+  stations = get-set_all (IsKeptStation p So w.time) w.stations place old new here is kept.stations;
+  largest = kept.largest;
   near = kept.near;
   fresh = kept.fresh;
 }
@@ -124,19 +155,21 @@ station_kept p place old new w here is kept = record {
 -- ---- a call
 
 -- the intervals at which the ports announce stay
-logs_kept : (p : Params) (s s' : SystemState) → Keeps s s'
-    → ((i : ℕ) (q : Port) → slice_get s.ports i ≡ Some q → q.log_interval ≡ p.announce)
-    → (i : ℕ) (q' : Port) → slice_get s'.ports i ≡ Some q' → q'.log_interval ≡ p.announce
-logs_kept p s s' kept logs i q' there =
+logs_kept : (station : Station) (s' : SystemState) → Keeps station.system s'
+    → ((i : ℕ) (q : Port) → slice_get station.system.ports i ≡ Some q
+    → slice_get station.setup.intervals.items i ≡ Some q.log_interval)
+    → (i : ℕ) (q' : Port) → slice_get s'.ports i ≡ Some q'
+    → slice_get station.setup.intervals.items i ≡ Some q'.log_interval
+logs_kept station s' kept logs i q' there =
     let log : Port → ℤ = λ q. q.log_interval in
-    let old = alike log log s.ports s'.ports (sym kept.logs) i q' there in
-    sym old.2 ∙ logs i old.0 old.1
+    let old = alike log log station.system.ports s'.ports (sym kept.logs) i q' there in
+    logs i old.0 old.1 ∙ ap Some old.2
 
-module _ (p : Params) (place : ℕ) (input : Input) (w : WorldState) (draws : List Draw) (answer : Answer)
+module _ (p : Pace) (So : ℤ → Type 0) (place : ℕ) (input : Input) (w : WorldState) (draws : List Draw) (answer : Answer)
     (w' : WorldState) (calls : Calls place input w draws answer w') where
   -- the system as the call leaves it
-  called_station : IsTimely calls.station.system w.time input → IsKeptStation p w.time calls.station
-      → IsKeptStation p w.time (in_state calls.after calls.station)
+  called_station : IsTimely calls.station.system w.time input → IsKeptStation p So w.time calls.station
+      → IsKeptStation p So w.time (in_state calls.after calls.station)
   called_station timely is =
       let old = is.steady in
       let sound = steps_sound input w.time calls.station.system calls.after calls.sends answer calls.steps in
@@ -144,24 +177,27 @@ module _ (p : Params) (place : ℕ) (input : Input) (w : WorldState) (draws : Li
         setup = is.setup;
         steady = steps_steady input w.time calls.station.system calls.after calls.sends answer old calls.steps;
         set = record {
-          setup = is.set.setup;
-          system = sound.kept.params ∙ is.set.system;
-          logs = logs_kept p calls.station.system calls.after sound.kept is.set.logs;
+          starts = record { params = is.set.starts.params; largest = is.set.starts.largest };
+          params = sound.kept.params ∙ is.set.params;
+          largest = sound.kept.largest ∙ is.set.largest;
+          intervals = is.set.intervals;
+          logs = logs_kept calls.station calls.after sound.kept is.set.logs;
         };
+        logs = is.logs;
         in_time = λ live.
             stays_in_time input w.time calls.station.system calls.after calls.sends answer timely old.shown old.rest
             (is.in_time live) calls.steps;
         measuring = λ live.
-            ports_measure p input w.time calls.station.system calls.after calls.sends answer timely calls.steps
+            ports_measure p.params input w.time calls.station.system calls.after calls.sends answer timely calls.steps
             (is.measuring live);
       }
 
-  pub calls_kept : IsTimely calls.station.system w.time input → IsKept p w → IsKept p w'
+  pub calls_kept : IsTimely calls.station.system w.time input → IsKept p So w → IsKept p So w'
   calls_kept timely kept =
       let new : Station = in_state calls.after calls.station in
       let called : WorldState = record w { stations = slice_set w.stations place new } in
-      subst (IsKept p) (sym calls.is)
-      (net_kept p called calls.net
+      subst (IsKept p So) (sym calls.is)
+      (net_kept p So called calls.net
       (sends_keep w.time calls.after calls.sends draws (all_timers place new w.net) calls.net calls.sent)
-      (station_kept p place calls.station new w calls.here
+      (station_kept p So place calls.station new w calls.here
       (called_station timely (kept.stations place calls.station calls.here)) kept))

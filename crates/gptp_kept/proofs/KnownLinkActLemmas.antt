@@ -1,6 +1,7 @@
 -- Every act leaves ports measuring only at links that are up.
 use Rattle.std.proofs.Common.{◌≡◌, ℕ, Bool, true, false, List, Option, Some, None, IsSome, slice_get, refl, sym, subst}
 use Rattle.std.specs.Prelude.{IsSomeAnd}
+use Rattle.gptp_vector.specs.declared.port.PortId.{PortId}
 use Rattle.gptp_links.specs.declared.bounds.Bounds.{Bounds}
 use Rattle.gptp_links.specs.declared.link.Direction.{Direction}
 use Rattle.gptp_links.specs.Fate.{Draw}
@@ -12,19 +13,19 @@ use Rattle.gptp_system.specs.State.{due}
 use Rattle.gptp_plan.specs.declared.change.Act.{Act}
 use Rattle.gptp_plan.specs.declared.change.Act.TheVariants.{Deliver, Expire, Change as Changing}
 use Rattle.gptp_plan.specs.declared.change.Change.{Change}
-use Rattle.gptp_plan.specs.declared.change.Change.TheVariants.{LinkDown, LinkUp, LinkSet, Fail, Recover, Priority1}
+use Rattle.gptp_plan.specs.declared.change.Change.TheVariants.{LinkDown, LinkUp, LinkSet, Fail, Recover, Priority1, Inject}
 use Rattle.gptp_acts.specs.declared.done.Done.{Done}
 use Rattle.gptp_acts.specs.declared.station.Station.{Station}
 use Rattle.gptp_acts.specs.Act.{Delivers, Expires, Hears}
 use Rattle.gptp_acts.specs.Acts.{Acts, Changes, set_to}
 use Rattle.gptp_acts.specs.Agrees.{stopped}
-use Rattle.gptp_acts.specs.Changing.{CallsIfLive, FailsIf, with_bounds, with_setup, with_station}
+use Rattle.gptp_acts.specs.Changing.{CallsIfLive, FailsIf, InjectsIf, with_bounds, with_setup, with_station}
 use Rattle.gptp_acts.specs.Sound.{IsWired}
-use Rattle.gptp_acts.specs.World.{Channel, WorldState, receiver}
+use Rattle.gptp_acts.specs.World.{Channel, WorldState, port_id, receiver}
 use Rattle.gptp_acts.proofs.WiredLemmas.{time_wired}
 use Rattle.gptp_kept.specs.Linked.{MeasureLinks}
 use Rattle.gptp_kept.proofs.KnownActLemmas.{out_due}
-use Rattle.gptp_kept.proofs.RunningLemmas.{set_links, takes_links}
+use Rattle.gptp_kept.proofs.RunningLemmas.{sends_one_links, set_links, takes_links}
 use Rattle.gptp_kept.proofs.OnLinkLemmas.{calls_measure, net_measure, replaced_measure, station_measure}
 use Rattle.gptp_kept.proofs.ComesUpLemmas.{calls_if_live_measure, comes_up_measures}
 use Rattle.gptp_kept.proofs.GoesDownLemmas.{goes_down_measures}
@@ -89,6 +90,13 @@ bounds_measure bounds place channel w here measure =
     net_measure w (with_bounds bounds place channel w.net)
     (set_links w.net.channels place channel (record channel { bounds = bounds }) here refl refl (λ up. up)) measure
 
+injects_measure : (up : Bool) (from : PortId) (octets : List ℕ) (w : WorldState) (draws : List Draw) (w' : WorldState)
+    → MeasureLinks w → InjectsIf up from octets w draws w' → MeasureLinks w'
+injects_measure false from octets w draws w' measure (none, is) = subst MeasureLinks (sym is) measure
+injects_measure true from octets w draws w' measure k =
+    subst MeasureLinks (sym k.is)
+    (net_measure w k.net (sends_one_links w.time from octets k.draw w.net k.net k.sent) measure)
+
 changes_measure : (c : Change) (w : WorldState) (draws : List Draw) (w' : WorldState) → IsWired w → MeasureLinks w
     → Changes c w draws w' → MeasureLinks w'
 changes_measure (LinkDown number port) w draws w' wired measure k =
@@ -104,6 +112,8 @@ changes_measure (Recover number) w draws w' wired measure k =
     recovers_measure k.station.live k.place w draws w' measure k.so
 changes_measure (Priority1 number value) w draws w' wired measure k =
     prioritized_measure value k.place k.station w draws w' k.is.here measure k.so
+changes_measure (Inject number port octets) w draws w' wired measure k =
+    injects_measure k.channel.up (port_id number port) octets w draws w' measure k.so
 
 -- ---- all acts
 

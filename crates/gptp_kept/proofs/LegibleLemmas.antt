@@ -60,7 +60,7 @@ one_behind frames g all says f member = by (In-parts f frames (g ∷ []) member)
     by (inr (inl same)) = subst (λ (x : Frame). SayWhatFits x.octets) (sym same) says
     by (inr (inr none)) = absurd none
 
-entered_fits : (now place : ℕ) (direction : Direction) (channel : Channel) (octets : List ℕ) (answer : Option ℕ)
+pub entered_fits : (now place : ℕ) (direction : Direction) (channel : Channel) (octets : List ℕ) (answer : Option ℕ)
     (net : Net) → slice_get net.channels place ≡ Some channel → SayWhatFits octets → LinksFit net.channels
     → LinksFit (entered place direction channel now octets answer net).channels
 entered_fits now place direction channel octets None net here says fit = fit

@@ -1,3 +1,4 @@
+pub mod SetLemmas
 pub mod DueLemmas
 pub mod KnownAtRestLemmas
 pub mod LaterLemmas
@@ -41,6 +42,7 @@ pub mod StandsLemmas
 pub mod CalmKeptLemmas
 pub mod FoundLemmas
 pub mod PortLemmas
+pub mod LogLemmas
 pub mod CalmAtRestLemmas
 pub mod CalmFactLemmas
 pub mod DelayLemmas
@@ -84,3 +86,5 @@ pub mod ClaimLemmas
 pub mod ClaimedLemmas
 pub mod ShownLemmas
 pub mod TraceLemmas
+pub mod TreeLemmas
+pub mod BoundedLemmas

@@ -115,7 +115,7 @@ entered_keep place direction channel now octets (Some delay) net here lawful =
     let last : due_after before now delay ≤ limit channel.bounds = omega arith in
     requeued limit now direction (before ++ new ∷ []) channel (pushed_by (limit channel.bounds) before new old last) is)
 
-sends_one_keep : (now : ℕ) (from : PortId) (octets : List ℕ) (draw : Draw) (net net' : Net)
+pub sends_one_keep : (now : ℕ) (from : PortId) (octets : List ℕ) (draw : Draw) (net net' : Net)
     → SendsOne now from octets draw net net' → KeepLimits now net.channels net'.channels
 sends_one_keep now from octets draw net net' one =
     subst (λ (n : Net). KeepLimits now net.channels n.channels) (sym one.after)

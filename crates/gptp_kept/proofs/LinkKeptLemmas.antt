@@ -1,6 +1,5 @@
 -- Every act leaves each port measuring and what is in flight fitting, and the world of a network begins so.
-use Rattle.std.proofs.Common.{◌≡◌, ◌+◌, ℕ, zero, suc, Bool, true, List, [], ◌∷◌, map, Some, slice_get, refl, sym, ap, subst, ◌∙◌, inl, inr, arith}
-use Rattle.std.specs.List.{range_with_len}
+use Rattle.std.proofs.Common.{◌≡◌, ℕ, zero, suc, Bool, true, List, [], ◌∷◌, map, Some, slice_get, refl, sym, ap, subst, ◌∙◌, inl, inr, arith}
 use Rattle.std.proofs.lemmas.Option.{none-some, same_Some}
 use Rattle.gptp_lists.specs.Members.{In}
 use Rattle.gptp_vector.specs.declared.port.PortId.{PortId}
@@ -11,16 +10,17 @@ use Rattle.gptp_setup.specs.declared.setup.Setup.{Setup}
 use Rattle.gptp_system.specs.Input.{Input, IsTimely, PortUp, PortDown}
 use Rattle.gptp_setup.specs.Intervals.{AreParams}
 use Rattle.gptp_system.specs.Measures.{part_of}
-use Rattle.gptp_system.specs.Start.{new_port, started}
+use Rattle.gptp_system.specs.Start.{started}
 use Rattle.gptp_system.specs.State.{clock, number, own}
 use Rattle.gptp_system.specs.Steps.{IsPortOf}
 use Rattle.gptp_system.proofs.SpanLemmas.{starts_in_time}
+use Rattle.gptp_system.proofs.StartLemmas.{new_port_at}
 use Rattle.gptp_acts.specs.declared.station.Station.{Station}
 use Rattle.gptp_acts.specs.Act.{all_timers}
 use Rattle.gptp_acts.specs.Ahead.{IsPortAmong, IsSteady}
 use Rattle.gptp_acts.specs.Changing.{CallsAll, CallsIfLive, Starts, StartsAll, TellsEnds, fresh, up_ports, with_station}
 use Rattle.gptp_acts.specs.World.{Channel, WorldState}
-use Rattle.gptp_lists.proofs.MappedLemmas.{mapped, same_there}
+use Rattle.gptp_lists.proofs.MappedLemmas.{same_there}
 use Rattle.gptp_lists.proofs.PlaceLemmas.{get-set_all, get-set_same}
 use Rattle.gptp_acts.proofs.StayLemmas.{Stays, calls_if_live_stay, calls_stay, refreshed_stays, stays_setups}
 use Rattle.gptp_acts.proofs.SteadyLemmas.{started_steady}
@@ -103,11 +103,6 @@ calls_all_kept place (p ∷ ps) w draws w' has is (first, rest, between, answer,
 
 -- ---- a start
 
-range_at : (a n i x : ℕ) → slice_get (range_with_len a n) i ≡ Some x → x ≡ a + i
-range_at a zero i x there = absurd (none-some x there)
-range_at a (suc n) zero x there = let e = same_Some a x there in omega arith
-range_at a (suc n) (suc i) x there = let e = range_at (a + 1) n i x there in omega arith
-
 -- a system that starts measures, at each of its ports
 pub started_measured : (setup : Setup) (now : ℕ) (live : Bool)
     → IsStationMeasured now (record { setup = setup; system = started setup now; live = live })
@@ -121,13 +116,10 @@ started_measured setup now live = record {
         → IsMeasuring setup.params (own (started setup now) n) (part_of q)
     ports zero q there = absurd (none-some q there)
     ports (suc i) q there =
-        let (p, at, made) =
-        mapped (λ n. new_port (record { clock = clock_of setup.identity; port = n }) setup.params)
-        (range_with_len 1 setup.ports) i q there in
-        let place : p ≡ suc i = let e = range_at 1 setup.ports i p at in omega arith in
-        subst (λ (one : Port). IsMeasuring setup.params (own (started setup now) (suc i)) (part_of one)) made
+        let (log, here, is) = new_port_at (clock_of setup.identity) setup.params setup.intervals.items i q there in
+        subst (λ (one : Port). IsMeasuring setup.params (own (started setup now) (suc i)) (part_of one)) (sym is)
         (record {
-          own = λ j. record { clock = clock_of setup.identity; port = place j };
+          own = refl;
           allowed = refl;
           threshold = refl;
           next = omega arith;
@@ -144,7 +136,7 @@ starts_kept place w draws w' is k =
     subst AreParams (is.measured.stations place k.station k.here).set_up.params
     (is.steady place k.station k.here).params in
     let steady = get-set_all (λ (x : Station). IsSteady x.system) w.stations place k.station new k.here
-    (started_steady k.station.setup w.time params) is.steady in
+    (started_steady k.station.setup w.time params (is.setups place k.station k.here).intervals) is.steady in
     let stations = get-set_all (IsStationMeasured w.time) w.stations place k.station new k.here
     (started_measured k.station.setup w.time true) is.measured.stations in
     let ready : IsKept begun = record {

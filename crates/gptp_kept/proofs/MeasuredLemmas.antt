@@ -134,9 +134,9 @@ queue_fits channels link direction channel frames here fits all =
     by FromB FromA f member = all link channel here FromA f member
     by FromB FromB f member = fits f member
 
-entered_fits : (place : ℕ) (direction : Direction) (channel : Channel) (now : ℕ) (octets : List ℕ) (answer : Option ℕ)
-    (net : Net) → slice_get net.channels place ≡ Some channel → SaysWhatFits octets → AllFit net.channels
-    → AllFit (entered place direction channel now octets answer net).channels
+pub entered_fits : (place : ℕ) (direction : Direction) (channel : Channel) (now : ℕ) (octets : List ℕ)
+    (answer : Option ℕ) (net : Net) → slice_get net.channels place ≡ Some channel → SaysWhatFits octets
+    → AllFit net.channels → AllFit (entered place direction channel now octets answer net).channels
 entered_fits place direction channel now octets None net here fits all = all
 entered_fits place direction channel now octets (Some delay) net here fits all =
     queue_fits net.channels place direction channel _ here

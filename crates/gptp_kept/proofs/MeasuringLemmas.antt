@@ -1,10 +1,9 @@
 -- Every step of a system keeps what is known of the measuring of its ports.
-use Rattle.std.proofs.Common.{◌≡◌, ◌≢◌, ℕ, zero, suc, ◌+◌, ◌≤◌, ℤ, Bool, true, false, List, Option, Some, None, IsSome, slice_get, refl, sym, ap, subst, ◌∙◌, inl, inr, arith}
+use Rattle.std.proofs.Common.{◌≡◌, ◌≢◌, ℕ, suc, ◌+◌, ◌≤◌, ℤ, Bool, true, false, List, Option, Some, None, IsSome, slice_get, refl, sym, ap, subst, ◌∙◌, inl, inr, arith}
 use Rattle.std.specs.Prelude.{if◌then◌else◌, ◌==◌}
-use Rattle.std.specs.List.{range_with_len}
 use Rattle.std.specs.Option.{option_and_then, option_map_or}
 use Rattle.std.proofs.lemmas.Bool.Decides.{nat_tests}
-use Rattle.std.proofs.lemmas.Option.{none-some, same_Some}
+use Rattle.std.proofs.lemmas.Option.{none-some}
 use Rattle.gptp_vector.specs.declared.port.PortId.{PortId}
 use Rattle.gptp_messages.specs.declared.message.Message.{Message}
 use Rattle.gptp_messages.specs.declared.message.Message.TheVariants as messages
@@ -23,12 +22,12 @@ use Rattle.gptp_setup.specs.declared.setup.Setup.{Setup}
 use Rattle.gptp_setup.specs.declared.timer.Timer.TheVariants as timers
 use Rattle.gptp_system.specs.Input.{Input, IsTimely, Steps, PortUp, PortDown, Frame, Expires, Priority}
 use Rattle.gptp_system.specs.Measures.{IsPartAfter, Part, only_at, part_answered, part_asked, part_down, part_heard, part_of, part_owing, part_stepped}
-use Rattle.gptp_system.specs.Start.{new_port, started}
+use Rattle.gptp_system.specs.Start.{started}
 use Rattle.gptp_system.specs.State.{SystemState, local_time, own}
 use Rattle.gptp_system.specs.Steps.{IsUp}
 use Rattle.gptp_system.proofs.MeasureLemmas.{steps_measure}
+use Rattle.gptp_system.proofs.StartLemmas.{new_port_at}
 use Rattle.gptp_acts.specs.World.{port_id}
-use Rattle.gptp_lists.proofs.MappedLemmas.{mapped}
 use Rattle.gptp_acts.proofs.SteadyLemmas.{same_clock}
 use Rattle.gptp_kept.specs.Measuring.{IsMeasuring, IsPeerOf, PortsMeasure}
 
@@ -205,22 +204,13 @@ ports_measure p input now s s' sends answer timely steps measure i q' there =
 
 -- ---- a start
 
-range_at : (a n i k : ℕ) → slice_get (range_with_len a n) i ≡ Some k → k ≡ a + i
-range_at a zero i k there = absurd (none-some k there)
-range_at a (suc n) zero k there = let same = same_Some a k there in omega arith
-range_at a (suc n) (suc i) k there = let rest = range_at (a + 1) n i k there in omega arith
-
 -- a port of a system that starts has measured nothing
 pub started_measure : (p : Params) (setup : Setup) (now : ℕ) → setup.params ≡ p → PortsMeasure p (started setup now)
 started_measure p setup now same i q there =
-    let at : PortId → Port = λ id. new_port id setup.params in
-    let port = mapped (λ k. at (port_id (clock_of setup.identity) k)) (range_with_len 1 setup.ports) i q there in
-    let number : port.0 ≡ suc i = omega (arith, range_at 1 setup.ports i port.0 port.1) in
-    let id : port_id (clock_of setup.identity) port.0 ≡ own (started setup now) (suc i) =
-    ap (port_id (clock_of setup.identity)) number in
-    subst (λ x. IsMeasuring p (own (started setup now) (suc i)) (part_of x)) port.2 (record {
+    let (log, here, is) = new_port_at (clock_of setup.identity) setup.params setup.intervals.items i q there in
+    subst (λ x. IsMeasuring p (own (started setup now) (suc i)) (part_of x)) (sym is) (record {
       peer = record {
-        own_is = id;
+        own_is = refl;
         threshold = ap (λ (x : Params). x.threshold) same;
         allowed = ap (λ (x : Params). x.lost) same;
         lost = omega arith;

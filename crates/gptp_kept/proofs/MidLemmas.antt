@@ -1,5 +1,5 @@
 -- What a touch leaves a port with, as the machine sees it.
-use Rattle.std.proofs.Common.{◌≡◌, ◌≢◌, ◌⊎◌, ℕ, Bool, true, false, ◌&&◌, ◌||◌, ◌==◌, [], ◌∷◌, Some, refl, sym, ap, subst, ◌∙◌, inl, inr}
+use Rattle.std.proofs.Common.{◌≡◌, ◌≢◌, ◌⊎◌, ℕ, ℤ, Bool, true, false, ◌&&◌, ◌||◌, ◌==◌, [], ◌∷◌, Some, refl, sym, ap, subst, ◌∙◌, inl, inr}
 use Rattle.std.specs.Prelude.{if◌then◌else◌}
 use Rattle.std.proofs.lemmas.Bool.{eq-eqb, eqb-true}
 use Rattle.gptp_graph.specs.Order.{IsLower}
@@ -88,12 +88,12 @@ same_sources known v e =
     ap (λ b. b && known.source.port == v.source.port) clock ∙ port
 
 -- the parts of what a port received are those of its message vector there
-pub parts_of : (n span : ℕ) (r : Reception) → r.vector.receiver ≡ n
-    → parts r.vector ≡ message (reception_view span r).said n
-parts_of n span r here =
+pub parts_of : (n : ℕ) (keep : ℤ → ℕ) (r : Reception) → r.vector.receiver ≡ n
+    → parts r.vector ≡ message (reception_view keep r).said n
+parts_of n keep r here =
     ap (λ p. r.vector.root ∷ r.vector.steps ∷ r.vector.source.clock ∷ r.vector.source.port ∷ p ∷ []) here
 
-module _ (c n span : ℕ) (a : AnnounceView) where
+module _ (c n : ℕ) (keep : ℤ → ℕ) (a : AnnounceView) where
   abbrev own : PortId
   own = record { clock = c; port = n }
 
@@ -101,7 +101,7 @@ module _ (c n span : ℕ) (a : AnnounceView) where
   heard = message_vector a n
 
   taken_replaces : (h : Held) → ReceivedAt n h → is_taken (comparison h own a) ≡ true
-      → Replaces c n (said a) (held_view span h)
+      → Replaces c n (said a) (held_view keep h)
   taken_replaces helds.Disabled at taken = absurd cc
   taken_replaces helds.Aged at taken = tt
   taken_replaces (helds.Mine root steps) at taken =
@@ -110,12 +110,12 @@ module _ (c n span : ℕ) (a : AnnounceView) where
       by (either_true (same_source r.vector heard) (lower heard r.vector) (sym (taken_received r.vector heard) ∙ taken))
     where
       by : (same_source r.vector heard ≡ true) ⊎ (lower heard r.vector ≡ true)
-          → Replaces c n (said a) (held_view span (helds.Received r))
+          → Replaces c n (said a) (held_view keep (helds.Received r))
       by (inl same) = inl (sources_same r.vector heard same)
       by (inr better) =
-          inr (subst (IsLower (parts heard)) (parts_of n span r (at r refl)) (lower_parts heard r.vector better))
+          inr (subst (IsLower (parts heard)) (parts_of n keep r (at r refl)) (lower_parts heard r.vector better))
 
-  replaces_taken : (h : Held) → ReceivedAt n h → Replaces c n (said a) (held_view span h)
+  replaces_taken : (h : Held) → ReceivedAt n h → Replaces c n (said a) (held_view keep h)
       → is_taken (comparison h own a) ≡ true
   replaces_taken helds.Disabled at never = absurd never
   replaces_taken helds.Aged at replaces = refl
@@ -123,13 +123,13 @@ module _ (c n span : ℕ) (a : AnnounceView) where
       taken_if (lower heard (master_of root steps c n)) ∙ parts_lower heard (master_of root steps c n) is
   replaces_taken (helds.Received r) at is = taken_received r.vector heard ∙ by is
     where
-      by : Replaces c n (said a) (held_view span (helds.Received r))
+      by : Replaces c n (said a) (held_view keep (helds.Received r))
           → (same_source r.vector heard || lower heard r.vector) ≡ true
       by (inl same) =
           or_first (same_source r.vector heard) (lower heard r.vector) (same_sources r.vector heard same)
       by (inr lower_is) =
           or_second (same_source r.vector heard) (lower heard r.vector)
-          (parts_lower heard r.vector (subst (IsLower (parts heard)) (sym (parts_of n span r (at r refl))) lower_is))
+          (parts_lower heard r.vector (subst (IsLower (parts heard)) (sym (parts_of n keep r (at r refl))) lower_is))
 
   -- ---- what is heard
 
@@ -145,48 +145,48 @@ module _ (c n span : ℕ) (a : AnnounceView) where
   after_left Inferior h r e = refl
 
   heard_seen : (now : ℕ) (h mid : Held) → ReceivedAt n h → HeardAs own a now h mid
-      → Takes c n (said a) now (held_view span h) (held_view span mid)
-      ⊎ Refuses c n (said a) (held_view span h) (held_view span mid)
+      → Takes c n (said a) now (held_view keep h) (held_view keep mid)
+      ⊎ Refuses c n (said a) (held_view keep h) (held_view keep mid)
   heard_seen now h mid at (inl (qualified, is)) = by (is_taken (comparison h own a)) refl
     where
       by : (b : Bool) → is_taken (comparison h own a) ≡ b
-          → Takes c n (said a) now (held_view span h) (held_view span mid)
-          ⊎ Refuses c n (said a) (held_view span h) (held_view span mid)
+          → Takes c n (said a) now (held_view keep h) (held_view keep mid)
+          ⊎ Refuses c n (said a) (held_view keep h) (held_view keep mid)
       by true taken = inl (record {
         qualified = qualified_seen c a qualified;
         replaces = taken_replaces h at taken;
-        span = span;
-        is = ap (held_view span) (is ∙ after_taken (comparison h own a) h (reception a own now) taken);
+        span = keep a.head.log_interval;
+        is = ap (held_view keep) (is ∙ after_taken (comparison h own a) h (reception a own now) taken);
       })
       by false left = inr (record {
         fails = λ usable replaces. let both = sym (replaces_taken h at replaces) ∙ left in cc;
-        is = ap (held_view span) (is ∙ after_left (comparison h own a) h (reception a own now) left);
+        is = ap (held_view keep) (is ∙ after_left (comparison h own a) h (reception a own now) left);
       })
   heard_seen now h mid at (inr (unqualified, same)) = inr (record {
     fails = λ usable replaces. unqualified (seen_qualified c a usable);
-    is = ap (held_view span) same;
+    is = ap (held_view keep) same;
   })
 
 -- ---- touches
 
-pub seen_on : (span : ℕ) (h : Held) → h ≢ helds.Disabled → held_view span h ≢ Disabled
-seen_on span helds.Disabled on = λ e. on refl
-seen_on span helds.Aged on = λ e. absurd cc
-seen_on span (helds.Mine root steps) on = λ e. absurd cc
-seen_on span (helds.Received r) on = λ e. absurd cc
+pub seen_on : (keep : ℤ → ℕ) (h : Held) → h ≢ helds.Disabled → held_view keep h ≢ Disabled
+seen_on keep helds.Disabled on = λ e. on refl
+seen_on keep helds.Aged on = λ e. absurd cc
+seen_on keep (helds.Mine root steps) on = λ e. absurd cc
+seen_on keep (helds.Received r) on = λ e. absurd cc
 
 -- what a port holds after a touch
-pub mid_seen : (c n span now : ℕ) (touch : Touch) (h mid : Held) → ReceivedAt n h → Mid c n touch now h mid
-    → SeenMid c n (touch_view touch) now (held_view span h) (held_view span mid)
-mid_seen c n span now (Hear p a) h mid at (inl (here, on, heard)) =
-    inl (here, seen_on span h on, heard_seen c n span a now h mid at heard)
-mid_seen c n span now (Hear p a) h mid at (inr (elsewhere, same)) = inr (elsewhere, ap (held_view span) same)
-mid_seen c n span now (Tick p) h mid at same = ap (held_view span) same
-mid_seen c n span now (Grow p) h mid at (inl (here, is)) = inl (here, ap (held_view span) is)
-mid_seen c n span now (Grow p) h mid at (inr (elsewhere, same)) = inr (elsewhere, ap (held_view span) same)
-mid_seen c n span now (Enable p) h mid at (inl (here, off, is)) =
-    inl (here, ap (held_view span) off, ap (held_view span) is)
-mid_seen c n span now (Enable p) h mid at (inr (elsewhere, same)) = inr (elsewhere, ap (held_view span) same)
-mid_seen c n span now (Disable p) h mid at (inl (here, is)) = inl (here, ap (held_view span) is)
-mid_seen c n span now (Disable p) h mid at (inr (elsewhere, same)) = inr (elsewhere, ap (held_view span) same)
-mid_seen c n span now Other h mid at same = ap (held_view span) same
+pub mid_seen : (c n : ℕ) (keep : ℤ → ℕ) (now : ℕ) (touch : Touch) (h mid : Held) → ReceivedAt n h
+    → Mid c n touch now h mid → SeenMid c n (touch_view touch) now (held_view keep h) (held_view keep mid)
+mid_seen c n keep now (Hear p a) h mid at (inl (here, on, heard)) =
+    inl (here, seen_on keep h on, heard_seen c n keep a now h mid at heard)
+mid_seen c n keep now (Hear p a) h mid at (inr (elsewhere, same)) = inr (elsewhere, ap (held_view keep) same)
+mid_seen c n keep now (Tick p) h mid at same = ap (held_view keep) same
+mid_seen c n keep now (Grow p) h mid at (inl (here, is)) = inl (here, ap (held_view keep) is)
+mid_seen c n keep now (Grow p) h mid at (inr (elsewhere, same)) = inr (elsewhere, ap (held_view keep) same)
+mid_seen c n keep now (Enable p) h mid at (inl (here, off, is)) =
+    inl (here, ap (held_view keep) off, ap (held_view keep) is)
+mid_seen c n keep now (Enable p) h mid at (inr (elsewhere, same)) = inr (elsewhere, ap (held_view keep) same)
+mid_seen c n keep now (Disable p) h mid at (inl (here, is)) = inl (here, ap (held_view keep) is)
+mid_seen c n keep now (Disable p) h mid at (inr (elsewhere, same)) = inr (elsewhere, ap (held_view keep) same)
+mid_seen c n keep now Other h mid at same = ap (held_view keep) same

@@ -1,19 +1,20 @@
 -- What calls, starts and changes leave as it is: the time, that of the last change, and how many systems there are.
 use Rattle.std.proofs.Common.{◌≡◌, ℕ, Bool, true, false, List, [], ◌∷◌, length, length-set, map, Option, Some, None, refl, sym, ap, ◌∙◌, inl, inr}
+use Rattle.gptp_vector.specs.declared.port.PortId.{PortId}
 use Rattle.gptp_links.specs.Fate.{Draw}
 use Rattle.gptp_system.specs.declared.answer.Answer.{Answer}
 use Rattle.gptp_system.specs.Input.{Input, PortUp, PortDown, Frame as FrameHeard, Priority, Expires as TimerExpires}
 use Rattle.gptp_plan.specs.declared.change.Act.{Act}
 use Rattle.gptp_plan.specs.declared.change.Act.TheVariants.{Deliver, Expire, Change as Changing}
 use Rattle.gptp_plan.specs.declared.change.Change.{Change}
-use Rattle.gptp_plan.specs.declared.change.Change.TheVariants.{LinkDown, LinkUp, LinkSet, Fail, Recover, Priority1}
+use Rattle.gptp_plan.specs.declared.change.Change.TheVariants.{LinkDown, LinkUp, LinkSet, Fail, Recover, Priority1, Inject}
 use Rattle.gptp_acts.specs.declared.done.Done.{Done}
 use Rattle.gptp_acts.specs.declared.station.Station.{Station}
 use Rattle.gptp_acts.specs.Act.{Calls, Hears, in_state}
 use Rattle.gptp_acts.specs.Acts.{Acts, Changes}
 use Rattle.gptp_acts.specs.Agrees.{stopped}
-use Rattle.gptp_acts.specs.Changing.{brought_up, fresh, taken_down, up_ports, with_setup, with_station, CallsAll, CallsIfLive, ComesUpIf, FailsIf, GoesDownIf, RecoversIf, Starts, StartsAll, TellsEnds}
-use Rattle.gptp_acts.specs.World.{Channel, WorldState, receiver}
+use Rattle.gptp_acts.specs.Changing.{brought_up, fresh, taken_down, up_ports, with_setup, with_station, CallsAll, CallsIfLive, ComesUpIf, FailsIf, GoesDownIf, InjectsIf, RecoversIf, Starts, StartsAll, TellsEnds}
+use Rattle.gptp_acts.specs.World.{Channel, WorldState, port_id, receiver}
 use Rattle.gptp_acts.proofs.AgreeLemmas.{replaced}
 
 -- how many systems there are
@@ -99,6 +100,11 @@ recovers_outline : (live : Bool) (place : ℕ) (w : WorldState) (draws : List Dr
 recovers_outline true place w draws w' k = ap outline k.1
 recovers_outline false place w draws w' k = starts_outline place w draws w' k
 
+injects_outline : (up : Bool) (from : PortId) (octets : List ℕ) (w : WorldState) (draws : List Draw) (w' : WorldState)
+    → InjectsIf up from octets w draws w' → outline w' ≡ outline w
+injects_outline false from octets w draws w' k = ap outline k.1
+injects_outline true from octets w draws w' k = ap outline k.is
+
 changes_outline : (change : Change) (w : WorldState) (draws : List Draw) (w' : WorldState) → Changes change w draws w'
     → outline w' ≡ outline w
 changes_outline (LinkDown number port) w draws w' k = goes_down_outline k.channel.up k.place k.channel w draws w' k.so
@@ -110,6 +116,8 @@ changes_outline (Priority1 number value) w draws w' k =
     let new : Station = with_setup value k.station in
     calls_if_live_outline k.place (Priority value) (with_station k.place new w) draws w' k.so
     ∙ set_outline k.place new w
+changes_outline (Inject number port octets) w draws w' k =
+    injects_outline k.channel.up (port_id number port) octets w draws w' k.so
 
 -- ---- what follows: no act changes how many systems there are
 

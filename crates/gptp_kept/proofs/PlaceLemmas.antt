@@ -1,9 +1,8 @@
 -- Where the systems of a world and their ports stand in its view, and members of mapped lists.
-use Rattle.std.proofs.Common.{◌≡◌, ℕ, zero, suc, List, [], ◌∷◌, map, Some, slice_get, refl, sym, ap, ◌∙◌}
+use Rattle.std.proofs.Common.{◌≡◌, ℕ, ℤ, zero, suc, List, [], ◌∷◌, map, Some, slice_get, refl, sym, ap, ◌∙◌}
 use Rattle.std.proofs.lemmas.Option.{none-some, same_Some}
 use Rattle.gptp_receipt.specs.declared.held.Held.{Held}
 use Rattle.gptp_system.specs.declared.port.Port.{Port}
-use Rattle.gptp_setup.specs.declared.setup.Params.{Params}
 use Rattle.gptp_acts.specs.declared.station.Station.{Station}
 use Rattle.gptp_lists.proofs.MappedLemmas.{mapped, mapped_there}
 use Rattle.gptp_settling.specs.Station.{Port as SeenPort, Station as SeenStation}
@@ -29,37 +28,37 @@ station_from stations place seen there =
 
 -- ---- ports
 
-pub port_there : (params : Params) (hs : List Held) (qs : List Port) (i : ℕ) (h : Held) (q : Port)
+pub port_there : (keep : ℤ → ℕ) (hs : List Held) (qs : List Port) (i : ℕ) (h : Held) (q : Port)
     → slice_get hs i ≡ Some h → slice_get qs i ≡ Some q
-    → slice_get (ports_view params hs qs) i ≡ Some (port_view params h q)
-port_there params [] qs i h q held there = absurd (none-some h held)
-port_there params (g ∷ hs) [] i h q held there = absurd (none-some q there)
-port_there params (g ∷ hs) (p ∷ qs) zero h q held there =
-    ap (λ x. Some (port_view params x p)) (same_Some g h held)
-    ∙ ap (λ x. Some (port_view params h x)) (same_Some p q there)
-port_there params (g ∷ hs) (p ∷ qs) (suc i) h q held there = port_there params hs qs i h q held there
+    → slice_get (ports_view keep hs qs) i ≡ Some (port_view keep h q)
+port_there keep [] qs i h q held there = absurd (none-some h held)
+port_there keep (g ∷ hs) [] i h q held there = absurd (none-some q there)
+port_there keep (g ∷ hs) (p ∷ qs) zero h q held there =
+    ap (λ x. Some (port_view keep x p)) (same_Some g h held)
+    ∙ ap (λ x. Some (port_view keep h x)) (same_Some p q there)
+port_there keep (g ∷ hs) (p ∷ qs) (suc i) h q held there = port_there keep hs qs i h q held there
 
 -- what stands at a place is the port there, with what it holds
-pub record IsPortAt (params : Params) (hs : List Held) (qs : List Port) (i : ℕ) (seen : SeenPort) : Type 0 where
+pub record IsPortAt (keep : ℤ → ℕ) (hs : List Held) (qs : List Port) (i : ℕ) (seen : SeenPort) : Type 0 where
   pub held : Held
   pub port : Port
   pub held_there : slice_get hs i ≡ Some held
   pub port_there : slice_get qs i ≡ Some port
-  pub is : seen ≡ port_view params held port
+  pub is : seen ≡ port_view keep held port
 
-pub port_from : (params : Params) (hs : List Held) (qs : List Port) (i : ℕ) (seen : SeenPort)
-    → slice_get (ports_view params hs qs) i ≡ Some seen → IsPortAt params hs qs i seen
-port_from params [] qs i seen there = absurd (none-some seen there)
-port_from params (h ∷ hs) [] i seen there = absurd (none-some seen there)
-port_from params (h ∷ hs) (q ∷ qs) zero seen there = record {
+pub port_from : (keep : ℤ → ℕ) (hs : List Held) (qs : List Port) (i : ℕ) (seen : SeenPort)
+    → slice_get (ports_view keep hs qs) i ≡ Some seen → IsPortAt keep hs qs i seen
+port_from keep [] qs i seen there = absurd (none-some seen there)
+port_from keep (h ∷ hs) [] i seen there = absurd (none-some seen there)
+port_from keep (h ∷ hs) (q ∷ qs) zero seen there = record {
   held = h;
   port = q;
   held_there = refl;
   port_there = refl;
-  is = sym (same_Some (port_view params h q) seen there);
+  is = sym (same_Some (port_view keep h q) seen there);
 }
-port_from params (h ∷ hs) (q ∷ qs) (suc i) seen there =
-    let later = port_from params hs qs i seen there in
+port_from keep (h ∷ hs) (q ∷ qs) (suc i) seen there =
+    let later = port_from keep hs qs i seen there in
     record {
       held = later.held;
       port = later.port;

@@ -1,5 +1,5 @@
 -- A system's answer to a touch is an answer of the machine.
-use Rattle.std.proofs.Common.{◌≡◌, ◌⊎◌, ℕ, suc, ◌*◌, Bool, List, map, Some, slice_get, refl, sym, ap, subst, ◌∙◌, inl, inr}
+use Rattle.std.proofs.Common.{◌≡◌, ◌⊎◌, ℕ, suc, ℤ, Bool, List, map, Some, slice_get, refl, sym, ap, subst, ◌∙◌, inl, inr}
 use Rattle.std.proofs.lemmas.Option.{none-some, same_Some}
 use Rattle.gptp_lists.specs.Members.{In}
 use Rattle.gptp_graph.specs.Order.{IsLower}
@@ -15,9 +15,9 @@ use Rattle.gptp_receipt.specs.declared.held.Reception.{Reception}
 use Rattle.gptp_receipt.specs.Held.{comparison, held_after, received, reception}
 use Rattle.gptp_system.specs.declared.port.Port.{Port}
 use Rattle.gptp_system.specs.declared.sending.Sending.{Sending}
-use Rattle.gptp_setup.specs.declared.setup.Params.{Params}
 use Rattle.gptp_system.specs.Facts.{AreHeld}
 use Rattle.gptp_setup.specs.Intervals.{interval_of}
+use Rattle.gptp_setup.specs.Pace.{span_by}
 use Rattle.gptp_system.specs.State.{SystemState, clock}
 use Rattle.gptp_system.specs.Touch.{Touch, Hear, Tick, Grow, Enable, Disable, Other, HeardAs, Mid}
 use Rattle.gptp_system.specs.Reacts.{IsAnnounce, IsKept, PortEnds, PortReacts, Reacts, Tells}
@@ -73,82 +73,72 @@ mid_received P c n now Other h mid old new same r got = old r (ap received (sym 
 -- ---- one port
 
 -- what is seen as received is so
-pub received_back : (span : ℕ) (h : Held) (x : SeenReception) → held_view span h ≡ Received x
-    → (r : Reception) × (received h ≡ Some r) × (x ≡ reception_view span r)
-received_back span helds.Disabled x e = absurd cc
-received_back span helds.Aged x e = absurd cc
-received_back span (helds.Mine root steps) x e = absurd cc
-received_back span (helds.Received r) x e = (r, refl, sym (received_injective (reception_view span r) x e))
+pub received_back : (keep : ℤ → ℕ) (h : Held) (x : SeenReception) → held_view keep h ≡ Received x
+    → (r : Reception) × (received h ≡ Some r) × (x ≡ reception_view keep r)
+received_back keep helds.Disabled x e = absurd cc
+received_back keep helds.Aged x e = absurd cc
+received_back keep (helds.Mine root steps) x e = absurd cc
+received_back keep (helds.Received r) x e = (r, refl, sym (received_injective (reception_view keep r) x e))
 
-seen_kept : (span : ℕ) (h : Held) → IsKept h → SeenIsKept (held_view span h)
-seen_kept span helds.Disabled kept = tt
-seen_kept span helds.Aged (inl off) = absurd cc
-seen_kept span helds.Aged (inr (r, is)) = none-some r is
-seen_kept span (helds.Mine root steps) (inl off) = absurd cc
-seen_kept span (helds.Mine root steps) (inr (r, is)) = none-some r is
-seen_kept span (helds.Received r) kept = tt
+seen_kept : (keep : ℤ → ℕ) (h : Held) → IsKept h → SeenIsKept (held_view keep h)
+seen_kept keep helds.Disabled kept = tt
+seen_kept keep helds.Aged (inl off) = absurd cc
+seen_kept keep helds.Aged (inr (r, is)) = none-some r is
+seen_kept keep (helds.Mine root steps) (inl off) = absurd cc
+seen_kept keep (helds.Mine root steps) (inr (r, is)) = none-some r is
+seen_kept keep (helds.Received r) kept = tt
 
 -- each Announce that is sent says something
 abbrev pub AreRead : SystemState → List Sending → Type 0
 AreRead s sends = (x : Sending) → In x sends → IsAnnounce x.body → (a : Announce) × says (send_view s x).octets a
 
 module _ (s' : SystemState) (sends : List Sending) (read : AreRead s' sends) where
-  tells_seen : (params : Params) (n now : ℕ) (h h' : Held) (q q' : Port) → Tells n now q q' sends
-      → SeenTells says n now (port_view params h q) (port_view params h' q') (map (send_view s') sends)
-  tells_seen params n now h h' q q' k = record { sent = sent k.sent; timer = k.timer }
+  tells_seen : (keep : ℤ → ℕ) (n now : ℕ) (h h' : Held) (q q' : Port) → Tells n now q q' sends
+      → SeenTells says n now (port_view keep h q) (port_view keep h' q') (map (send_view s') sends)
+  tells_seen keep n now h h' q q' k = record { sent = sent k.sent; timer = k.timer }
     where
       sent : (x : Sending) × In x sends × (x.port ≡ n) × IsAnnounce x.body
           → (y : Send) × In y (map (send_view s') sends) × (y.port ≡ n) × ((a : Announce) × says y.octets a)
       sent (x, among, here, announce) =
           (send_view s' x, In-map (send_view s') x sends among, here, read x among announce)
 
-  module _ (params : Params) (c n now root steps : ℕ) (touch : Touch) (h h' : Held) (q q' : Port)
+  module _ (keep : ℤ → ℕ) (c n now root steps : ℕ) (touch : Touch) (h h' : Held) (q q' : Port)
       (at : ReceivedAt n h) (k : PortReacts c n touch now root steps h h' q q' sends) where
-    -- a port keeps its span
-    same_span : span_at params q' ≡ span_at params q
-    same_span = ap (λ log. params.timeout * interval_of log) k.log
-
-    abbrev span : ℕ
-    span = span_at params q
-
     mid_at : ReceivedAt n k.mid
     mid_at =
         mid_received (λ (r : Reception). r.vector.receiver ≡ n) c n now touch h k.mid at (λ a heard. refl) k.before
 
-    held_same : (x : Held) → held_view (span_at params q') x ≡ held_view span x
-    held_same x = ap (λ t. held_view t x) same_span
-
     ends_seen : PortEnds c n now root steps k.mid h' q q' sends
-        → (((port_view params h' q').held ≡ held_view span k.mid) × SeenIsKept (held_view span k.mid))
-        ⊎ BecomesMaster says c n now root steps (held_view span k.mid) (port_view params h q) (port_view params h' q')
+        → (((port_view keep h' q').held ≡ held_view keep k.mid) × SeenIsKept (held_view keep k.mid))
+        ⊎ BecomesMaster says c n now root steps (held_view keep k.mid) (port_view keep h q) (port_view keep h' q')
         (map (send_view s') sends)
-    ends_seen (inl (same, kept)) = inl (held_same h' ∙ ap (held_view span) same, seen_kept span k.mid kept)
+    ends_seen (inl (same, kept)) = inl (ap (held_view keep) same, seen_kept keep k.mid kept)
     ends_seen (inr m) = inr (record {
-      mine = ap (held_view (span_at params q')) m.mine;
-      on = seen_on span k.mid m.on;
-      is_lower = λ x holds. is_lower x (received_back span k.mid x holds);
+      mine = ap (held_view keep) m.mine;
+      on = seen_on keep k.mid m.on;
+      is_lower = λ x holds. is_lower x (received_back keep k.mid x holds);
       timing = timing m.timing;
     })
       where
-        is_lower : (x : SeenReception) → (r : Reception) × (received k.mid ≡ Some r) × (x ≡ reception_view span r)
+        is_lower : (x : SeenReception) → (r : Reception) × (received k.mid ≡ Some r) × (x ≡ reception_view keep r)
             → IsLower (master root steps c n) (message x.said n)
         is_lower x (r, got, is) =
-            let here = parts_of n span r (mid_at r got) in
+            let here = parts_of n keep r (mid_at r got) in
             subst (IsLower (master root steps c n)) (here ∙ ap (λ (y : SeenReception). message y.said n) (sym is))
             (lower_parts (master_of root steps c n) r.vector (m.is_lower r got))
 
         timing : ((k.mid ≡ helds.Mine root steps) × (q'.announce ≡ q.announce)) ⊎ Tells n now q q' sends
-            → ((held_view span k.mid ≡ Mine root steps) × (q'.announce ≡ q.announce))
-            ⊎ SeenTells says n now (port_view params h q) (port_view params h' q') (map (send_view s') sends)
-        timing (inl (mine, same)) = inl (ap (held_view span) mine, same)
-        timing (inr tells) = inr (tells_seen params n now h h' q q' tells)
+            → ((held_view keep k.mid ≡ Mine root steps) × (q'.announce ≡ q.announce))
+            ⊎ SeenTells says n now (port_view keep h q) (port_view keep h' q') (map (send_view s') sends)
+        timing (inl (mine, same)) = inl (ap (held_view keep) mine, same)
+        timing (inr tells) = inr (tells_seen keep n now h h' q q' tells)
 
-    pub port_seen : PortStep says c n now (touch_view touch) root steps (port_view params h q) (port_view params h' q')
+    pub port_seen : PortStep says c n now (touch_view touch) root steps (port_view keep h q) (port_view keep h' q')
         (map (send_view s') sends)
     port_seen = record {
       interval = ap interval_of k.log;
-      mid = held_view span k.mid;
-      before = mid_seen c n span now touch h k.mid at k.before;
+      mid = held_view keep k.mid;
+      before = mid_seen c n keep now touch h k.mid at k.before;
       after = ends_seen k.after;
     }
 
@@ -160,27 +150,31 @@ AreOwn live s sends = (x : Sending) (a : Announce) → In x sends → says (send
     → IsOwn (system_view live s) x.port a × IsMasterAt (system_view live s) x.port
 
 module _ (live : Bool) (s s' : SystemState) (touch : Touch) (now : ℕ) (sends : List Sending) (held : AreHeld s)
-    (same : s'.params ≡ s.params) (read : AreRead s' sends) (are_own : AreOwn live s' sends)
-    (k : Reacts s touch now s' sends) where
-  place_seen : (i : ℕ) (seen : SeenPort) → slice_get (ports_view s'.params s'.held s'.ports) i ≡ Some seen
-      → (q : SeenPort) × (slice_get (ports_view s.params s.held s.ports) i ≡ Some q)
+    (params : s'.params ≡ s.params) (largest : s'.largest ≡ s.largest) (read : AreRead s' sends)
+    (are_own : AreOwn live s' sends) (k : Reacts s touch now s' sends) where
+  -- what was received stays as long
+  keeps : span_at s' ≡ span_at s
+  keeps = λ i log. span_by (params i).timeout (largest i) log
+
+  place_seen : (i : ℕ) (seen : SeenPort) → slice_get (ports_view (span_at s') s'.held s'.ports) i ≡ Some seen
+      → (q : SeenPort) × (slice_get (ports_view (span_at s) s.held s.ports) i ≡ Some q)
       × PortStep says (clock s) (suc i) now (touch_view touch) s'.root s'.steps q seen (map (send_view s') sends)
-  place_seen i seen there = go (port_from s'.params s'.held s'.ports i seen there)
+  place_seen i seen there = go (port_from (span_at s') s'.held s'.ports i seen there)
     where
-      go : IsPortAt s'.params s'.held s'.ports i seen
-          → (q : SeenPort) × (slice_get (ports_view s.params s.held s.ports) i ≡ Some q)
+      go : IsPortAt (span_at s') s'.held s'.ports i seen
+          → (q : SeenPort) × (slice_get (ports_view (span_at s) s.held s.ports) i ≡ Some q)
           × PortStep says (clock s) (suc i) now (touch_view touch) s'.root s'.steps q seen (map (send_view s') sends)
       go p =
           let r = k.ports i p.held p.port p.held_there p.port_there in
           let at : ReceivedAt (suc i) r.held = λ x got. (held i r.held r.held_there x got).receiver in
-          let step = port_seen s' sends read s.params (clock s) (suc i) now s'.root s'.steps touch r.held p.held r.port
-          p.port at r.reacts in (
-            port_view s.params r.held r.port,
-            port_there s.params s.held s.ports i r.held r.port r.held_there r.port_there,
+          let step = port_seen s' sends read (span_at s) (clock s) (suc i) now s'.root s'.steps touch r.held p.held
+          r.port p.port at r.reacts in (
+            port_view (span_at s) r.held r.port,
+            port_there (span_at s) s.held s.ports i r.held r.port r.held_there r.port_there,
             subst
                 (λ x. PortStep says (clock s) (suc i) now (touch_view touch) s'.root s'.steps
-                (port_view s.params r.held r.port) x (map (send_view s') sends))
-                (ap (λ x. port_view x p.held p.port) (sym same) ∙ sym p.is) step,
+                (port_view (span_at s) r.held r.port) x (map (send_view s') sends))
+                (ap (λ x. port_view x p.held p.port) (sym keeps) ∙ sym p.is) step,
           )
 
   tells_own : (x : Send) (a : Announce) → In x (map (send_view s') sends) → says x.octets a

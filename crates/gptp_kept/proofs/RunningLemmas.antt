@@ -20,8 +20,9 @@ use Rattle.gptp_system.specs.Steps.{IsUp}
 use Rattle.gptp_system.proofs.MeasureLemmas.{steps_measure}
 use Rattle.gptp_system.proofs.SystemLemmas.{up_is_port}
 use Rattle.gptp_acts.specs.Act.{Calls, Takes}
+use Rattle.gptp_acts.specs.Sends.{SendsOne}
 use Rattle.gptp_acts.specs.World.{Channel, Net, WorldState, sender}
-use Rattle.gptp_acts.proofs.BareLemmas.{DifferInFlight, bare, calls_bare, takes_bare}
+use Rattle.gptp_acts.proofs.BareLemmas.{DifferInFlight, bare, calls_bare, sends_one_bare, takes_bare}
 use Rattle.gptp_lists.proofs.MappedLemmas.{alike, same_there}
 use Rattle.gptp_lists.proofs.PlaceLemmas.{get-set_other, get-set_same, member_there, same_place}
 use Rattle.gptp_acts.proofs.StayLemmas.{sender_same}
@@ -173,6 +174,11 @@ pub takes_links : (place : ℕ) (direction : Direction) (now : ℕ) (octets : Li
     → Takes place direction now octets channel net net' → KeepLinks net.channels net'.channels
 takes_links place direction now octets channel net net' takes =
     bare_links net.channels net'.channels (takes_bare place direction now octets channel net net' takes)
+
+pub sends_one_links : (now : ℕ) (from : PortId) (octets : List ℕ) (draw : Draw) (net net' : Net)
+    → SendsOne now from octets draw net net' → KeepLinks net.channels net'.channels
+sends_one_links now from octets draw net net' one =
+    bare_links net.channels net'.channels (sends_one_bare now from octets draw net net' one)
 
 pub calls_links : (place : ℕ) (input : Input) (w : WorldState) (draws : List Draw) (answer : Answer) (w' : WorldState)
     → (calls : Calls place input w draws answer w') → KeepLinks w.net.channels calls.net.channels

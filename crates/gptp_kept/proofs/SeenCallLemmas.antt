@@ -75,17 +75,18 @@ module _ (place : ℕ) (input : Input) (w : WorldState) (draws : List Draw) (ans
   pub call_sends_fit : (x : Sending) → In x k.sends → SayWhatFits (written k.after x)
   call_sends_fit =
       sends_fit k.after (rest_fits k.after after_fits after_steady.held after_steady.rest) few_ports after_steady.shown
-      k.sends answers.reacts.tells
+      after_steady.logs k.sends answers.reacts.tells
 
   answer_seen : SeenReacts says (station_view k.station) (touch_view answers.touch) w.time (station_view called)
       (map (send_view k.after) k.sends)
   answer_seen =
       let told = rest_fits k.after after_fits after_steady.held after_steady.rest in
       let tells = answers.reacts.tells in
+      let kept = (steps_sound input w.time s k.after k.sends answer k.steps).kept in
       reacts_seen k.station.live s k.after answers.touch w.time k.sends steady.held
-      (steps_sound input w.time s k.after k.sends answer k.steps).kept.params
-      (are_read k.after told few_ports after_steady.shown k.sends tells)
-      (are_own k.after told few_ports after_steady.shown k.sends tells k.station.live) answers.reacts
+      kept.params kept.largest
+      (are_read k.after told few_ports after_steady.shown after_steady.logs k.sends tells)
+      (are_own k.after told few_ports after_steady.shown after_steady.logs k.sends tells k.station.live) answers.reacts
 
   -- the one system answers, and the others stand
   others_stand : (j : ℕ) (m : SeenStation) → slice_get (map station_view answered.stations) j ≡ Some m

@@ -38,13 +38,13 @@ use Rattle.gptp_kept.proofs.SendLemmas.{world_apart}
 
 -- a port that isn't Disabled is capable
 capable_on : (s : SystemState) (i : ℕ) (h : Held) (q : Port) → AreShown s → slice_get s.held i ≡ Some h
-    → slice_get s.ports i ≡ Some q → held_view (span_at s.params q) h ≢ Disabled → is_capable_at s (suc i) ≡ true
+    → slice_get s.ports i ≡ Some q → held_view (span_at s) h ≢ Disabled → is_capable_at s (suc i) ≡ true
 capable_on s i h q shown held there on =
     ap (λ o. option_map_or (λ (x : Port). is_capable x.peer) o false) there ∙ by (is_capable q.peer) refl
   where
     by : (b : Bool) → is_capable q.peer ≡ b → b ≡ true
     by true e = refl
-    by false e = absurd (on (ap (held_view (span_at s.params q)) ((shown.each i h q held there).off e)))
+    by false e = absurd (on (ap (held_view (span_at s)) ((shown.each i h q held there).off e)))
 
 same_frame : (n p : ℕ) (x y : List ℕ) → FrameHeard n x ≡ FrameHeard p y → (n ≡ p) × (x ≡ y)
 same_frame n p x y e = (cc, cc)
@@ -163,9 +163,9 @@ module _ (link : ℕ) (direction : Direction) (octets : List ℕ) (w : WorldStat
         → slice_get (station_view c.station).ports i ≡ Some q → q.held ≢ Disabled → says octets a
         → (b : Announce) × (touch_view receiver_call.touch ≡ touches.Hear port b)
     port_hears i q a number there on (m, reads, same) =
-        go (port_from c.station.system.params c.station.system.held c.station.system.ports i q there)
+        go (port_from (span_at c.station.system) c.station.system.held c.station.system.ports i q there)
       where
-        go : IsPortAt c.station.system.params c.station.system.held c.station.system.ports i q
+        go : IsPortAt (span_at c.station.system) c.station.system.held c.station.system.ports i q
             → (b : Announce) × (touch_view receiver_call.touch ≡ touches.Hear port b)
         go p =
             let capable =

@@ -12,7 +12,7 @@ use Rattle.gptp_system.specs.declared.port.Port.{Port}
 use Rattle.gptp_setup.specs.declared.timer.Timer.{Timer}
 use Rattle.gptp_setup.specs.declared.timer.Timer.TheVariants as timers
 use Rattle.gptp_system.specs.Input.{Expires as TimerExpires}
-use Rattle.gptp_system.specs.State.{SystemState, age_due, due, held_at, span_of}
+use Rattle.gptp_system.specs.State.{SystemState, age_due, due, held_at}
 use Rattle.gptp_system.specs.Steps.{IsDue}
 use Rattle.gptp_system.specs.Touch.{Hear, Grow}
 use Rattle.gptp_acts.specs.declared.station.Station.{Station}
@@ -36,20 +36,20 @@ use Rattle.gptp_kept.proofs.SendLemmas.{world_apart}
 -- what is seen as received at a port is too old where its Age timer is due
 age_passed : (s : SystemState) (i : ℕ) (h : Held) (q : Port) (now : ℕ) (x : SeenReception) → slice_get s.held i ≡ Some h
     → slice_get s.ports i ≡ Some q → due (timers.Age (suc i)) s ≡ Some now
-    → held_view (span_at s.params q) h ≡ Received x → x.at + x.span ≤ now
-age_passed s i h q now x held there is holds = go (received_back (span_at s.params q) h x holds)
+    → held_view (span_at s) h ≡ Received x → x.at + x.span ≤ now
+age_passed s i h q now x held there is holds = go (received_back (span_at s) h x holds)
   where
-    due_is : age_due s.params q h ≡ Some now
+    due_is : age_due s.params s.largest h ≡ Some now
     due_is =
-        ap (λ o. age_due s.params q (option_map_or (λ y. y) o helds.Disabled)) (sym held)
-        ∙ ap (λ o. option_and_then (λ p. age_due s.params p (held_at s (suc i))) o) (sym there)
+        ap (λ o. age_due s.params s.largest (option_map_or (λ y. y) o helds.Disabled)) (sym held)
+        ∙ ap (λ o. option_and_then (λ p. age_due s.params s.largest (held_at s (suc i))) o) (sym there)
         ∙ is
 
-    go : (r : Reception) × (received h ≡ Some r) × (x ≡ reception_view (span_at s.params q) r) → x.at + x.span ≤ now
+    go : (r : Reception) × (received h ≡ Some r) × (x ≡ reception_view (span_at s) r) → x.at + x.span ≤ now
     go (r, got, same) =
-        let time : r.at + span_at s.params q ≡ now =
-        same_Some (r.at + span_at s.params q) now
-        (ap (λ o. option_map (λ (y : Reception). y.at + span_of s.params q) o) (sym got) ∙ due_is) in
+        let time : r.at + span_at s r.interval ≡ now =
+        same_Some (r.at + span_at s r.interval) now
+        (ap (λ o. option_map (λ (y : Reception). y.at + span_at s y.interval) o) (sym got) ∙ due_is) in
         subst (λ (y : SeenReception). y.at + y.span ≤ now) (sym same) (omega arith)
 
 module _ (place : ℕ) (timer : Timer) (w : WorldState) (draws : List Draw) (w' : WorldState) (sound : IsSound w)
@@ -97,9 +97,9 @@ module _ (place : ℕ) (timer : Timer) (w : WorldState) (draws : List Draw) (w' 
           → c.touch ≡ Grow (suc i) → slice_get (station_view station).ports i ≡ Some q → q.held ≡ Received x
           → x.at + x.span ≤ w.time
       ages c i q x grown there holds =
-          go (port_from station.system.params station.system.held station.system.ports i q there)
+          go (port_from (span_at station.system) station.system.held station.system.ports i q there)
         where
-          go : IsPortAt station.system.params station.system.held station.system.ports i q → x.at + x.span ≤ w.time
+          go : IsPortAt (span_at station.system) station.system.held station.system.ports i q → x.at + x.span ≤ w.time
           go p =
               let is = same_timer timer (timers.Age (suc i))
               (grown_by station.system (TimerExpires timer) c.touch c.seen (suc i) grown) in

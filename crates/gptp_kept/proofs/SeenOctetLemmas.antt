@@ -8,6 +8,7 @@ use Rattle.byteorder.specs.Endian.{big_bytes}
 use Rattle.byteorder.specs.Numbers.{big_from-lt}
 use Rattle.gptp_lists.specs.Members.{In}
 use Rattle.gptp_messages.specs.declared.announce.AnnounceView.{AnnounceView}
+use Rattle.gptp_messages.specs.declared.head.Head.{Head}
 use Rattle.gptp_messages.specs.declared.message.Message.TheVariants as messages
 use Rattle.gptp_messages.specs.Announce.{IsPath, ReadsPath, announce_body_of, announce_tlvs}
 use Rattle.gptp_messages.specs.Frame.{field}
@@ -18,6 +19,7 @@ use Rattle.gptp_messages.specs.Path.{clocks}
 use Rattle.gptp_messages.specs.Tlv.{FirstTlv, Tlv, first_value, is_of_kind, spelled}
 use Rattle.gptp_system.proofs.TypeLemmas.{type_is}
 use Rattle.gptp_kept.specs.Legible.{AreClocks, AreOctets, SayWhatFits}
+use Rattle.gptp_kept.specs.LinkView.{RequestFits, SaysWhatFits}
 
 -- ---- octets
 
@@ -122,3 +124,25 @@ octets_say_what_fits octets all a reads = record {
   path = path_fits (announce_tlvs octets) a.path
       (λ x member. all x (In-drop x 64 octets (In-take x _ (drop 64 octets) member))) (path_read octets a reads);
 }
+
+-- ---- a Pdelay_Req that is read
+
+same_request : (a b : Head) → messages.PdelayReq a ≡ messages.PdelayReq b → a ≡ b
+same_request a b e = cc
+
+-- its header is what stands in front
+request_read : (octets : List ℕ) (head : Head) → Reads octets (messages.PdelayReq head) → head ≡ head_of octets
+request_read octets head reads =
+    let kind_is : type_of 0x2 ≡ Some reads.kind =
+    subst (λ n. type_of n ≡ Some reads.kind) (type_is octets (messages.PdelayReq head) reads) reads.header.kind_is in
+    let same = same_Some _ reads.kind kind_is in
+    same_request head (head_of octets)
+    (subst (λ k. messages.PdelayReq head ≡ message_of k octets reads.path reads.rate) (sym same) reads.is)
+
+-- octets say only requests that fit
+pub octets_fit : (octets : List ℕ) → AreOctets octets → SaysWhatFits octets
+octets_fit octets all head reads =
+    subst (λ h. RequestFits h.source h.sequence) (sym (request_read octets head reads)) (record {
+      from = record { clock = field_fits 8 20 octets all; port = field_fits 2 28 octets all };
+      numbered = field_fits 2 30 octets all;
+    })

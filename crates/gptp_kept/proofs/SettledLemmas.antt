@@ -1,16 +1,17 @@
 -- A world of which the claim has held for long enough has settled.
-use Rattle.std.proofs.Common.{◌≡◌, ◌≢◌, ◌≤◌, ◌+◌, ℕ, zero, suc, Bool, true, false, Option, Some, None, length, slice_get, refl, ap, arith}
+use Rattle.std.proofs.Common.{◌≡◌, ◌≢◌, ◌≤◌, ◌<◌, ◌+◌, ℕ, zero, suc, Bool, true, false, Option, Some, None, length, slice_get, refl, ap, arith, ℤ}
 use Rattle.std.specs.Option.{option_map_or}
 use Rattle.std.specs.Prelude.{◌==◌}
 use Rattle.std.proofs.lemmas.Bool.{eq-eqb, eqb-true}
 use Rattle.std.proofs.lemmas.Option.{none-some, same_Some}
+use Rattle.gptp_setup.specs.Pace.{Pace}
+use Rattle.gptp_graph.specs.Distance.{IsDistance}
 use Rattle.gptp_graph.specs.PathBound.{BoundsPaths}
 use Rattle.gptp_graph.specs.Snapshot.{Snapshot, port_of}
 use Rattle.gptp_graph.specs.SettledRole.{Role, Disabled, Master, Slave, Passive, IsSettledRole}
 use Rattle.gptp_receipt.specs.declared.held.Held.{Held}
 use Rattle.gptp_receipt.specs.declared.held.Held.TheVariants as helds
 use Rattle.gptp_system.specs.declared.port.Port.{Port}
-use Rattle.gptp_setup.specs.declared.setup.Params.{Params}
 use Rattle.gptp_system.specs.Facts.{AreShown}
 use Rattle.gptp_system.specs.Start.{role_at, role_by}
 use Rattle.gptp_system.specs.State.{SystemState, clock}
@@ -19,11 +20,12 @@ use Rattle.gptp_acts.specs.declared.station.Station.{Station}
 use Rattle.gptp_plan.specs.SettlingTime.{settling_span}
 use Rattle.gptp_acts.specs.World.{WorldState}
 use Rattle.gptp_lists.proofs.PlaceLemmas.{member_there}
+use Rattle.gptp_settling.specs.Calm.{Calm}
 use Rattle.gptp_settling.specs.CleanLaws.{HeldIsWhole}
-use Rattle.gptp_settling.specs.Network.{setting, settled_from}
-use Rattle.gptp_settling.specs.Settled.{HasSettledRoles, Plays}
+use Rattle.gptp_settling.specs.Network.{Network, setting, settled_from, since}
+use Rattle.gptp_settling.specs.Settled.{FollowsBest, HasSettledRoles, Plays}
 use Rattle.gptp_settling.proofs.CleanLemmas.{held_whole}
-use Rattle.gptp_settling.proofs.SettledLemmas.{network_settles}
+use Rattle.gptp_settling.proofs.SettledLemmas.{follows_best, network_settles, settled_roles}
 use Rattle.gptp_kept.specs.View.{held_view, port_view, says, span_at, station_view, view}
 use Rattle.gptp_kept.proofs.PlaceLemmas.{port_there, station_there}
 use Rattle.gptp_kept.specs.Calm.{IsQuietWorld}
@@ -52,24 +54,24 @@ slave_is_not (Some m) n other = by (m == n) refl
     by false differ = differ
 
 -- the role that a port is seen to play is its role
-plays_own : (slave : Option ℕ) (n span : ℕ) (h : Held) (r : Role) → Plays slave n (held_view span h) r
+plays_own : (slave : Option ℕ) (n : ℕ) (keep : ℤ → ℕ) (h : Held) (r : Role) → Plays slave n (held_view keep h) r
     → role_of (role_by (is_slave slave n) h) ≡ r
-plays_own slave n span helds.Disabled Disabled plays = refl
-plays_own slave n span helds.Disabled Master (root, steps, same) = absurd cc
-plays_own slave n span helds.Disabled Slave (is, (r, same)) = absurd cc
-plays_own slave n span helds.Disabled Passive (is, (r, same)) = absurd cc
-plays_own slave n span helds.Aged Disabled same = absurd cc
-plays_own slave n span helds.Aged Master plays = refl
-plays_own slave n span helds.Aged Slave (is, (r, same)) = absurd cc
-plays_own slave n span helds.Aged Passive (is, (r, same)) = absurd cc
-plays_own slave n span (helds.Mine root steps) Disabled same = absurd cc
-plays_own slave n span (helds.Mine root steps) Master plays = refl
-plays_own slave n span (helds.Mine root steps) Slave (is, (r, same)) = absurd cc
-plays_own slave n span (helds.Mine root steps) Passive (is, (r, same)) = absurd cc
-plays_own slave n span (helds.Received x) Disabled same = absurd cc
-plays_own slave n span (helds.Received x) Master (root, steps, same) = absurd cc
-plays_own slave n span (helds.Received x) Slave (is, (r, same)) = let e = slave_is slave n is in rw e refl
-plays_own slave n span (helds.Received x) Passive (is, (r, same)) =
+plays_own slave n keep helds.Disabled Disabled plays = refl
+plays_own slave n keep helds.Disabled Master (root, steps, same) = absurd cc
+plays_own slave n keep helds.Disabled Slave (is, (r, same)) = absurd cc
+plays_own slave n keep helds.Disabled Passive (is, (r, same)) = absurd cc
+plays_own slave n keep helds.Aged Disabled same = absurd cc
+plays_own slave n keep helds.Aged Master plays = refl
+plays_own slave n keep helds.Aged Slave (is, (r, same)) = absurd cc
+plays_own slave n keep helds.Aged Passive (is, (r, same)) = absurd cc
+plays_own slave n keep (helds.Mine root steps) Disabled same = absurd cc
+plays_own slave n keep (helds.Mine root steps) Master plays = refl
+plays_own slave n keep (helds.Mine root steps) Slave (is, (r, same)) = absurd cc
+plays_own slave n keep (helds.Mine root steps) Passive (is, (r, same)) = absurd cc
+plays_own slave n keep (helds.Received x) Disabled same = absurd cc
+plays_own slave n keep (helds.Received x) Master (root, steps, same) = absurd cc
+plays_own slave n keep (helds.Received x) Slave (is, (r, same)) = let e = slave_is slave n is in rw e refl
+plays_own slave n keep (helds.Received x) Passive (is, (r, same)) =
     let e = slave_is_not slave n is in rw e refl
 
 -- So a port that is seen with its settled role has it. The port at place i has the number i + 1.
@@ -81,10 +83,10 @@ module _ (g : Snapshot) (station : Station) (shown : AreShown station.system)
   role_settled : (i : ℕ) (h : Held) (q : Port) → slice_get s.held i ≡ Some h → slice_get s.ports i ≡ Some q
       → IsSettledRole g (port_of (clock s) (suc i)) (role_of (role_at s (suc i)))
   role_settled i h q stands there =
-      let (r, plays, settled) = seen i (port_view s.params h q) (port_there s.params s.held s.ports i h q stands there)
-      in
+      let (r, plays, settled) = seen i (port_view (span_at s) h q)
+      (port_there (span_at s) s.held s.ports i h q stands there) in
       let same : role_of (role_by (is_slave s.slave (suc i)) h) ≡ r =
-      plays_own s.slave (suc i) (span_at s.params q) h r plays in
+      plays_own s.slave (suc i) (span_at s) h r plays in
       rw (stands, same) settled
 
   roles_settled : (n : ℕ) → IsPortOf s n → IsSettledRole g (port_of (clock s) n) (role_of (role_at s n))
@@ -98,38 +100,71 @@ module _ (g : Snapshot) (station : Station) (shown : AreShown station.system)
 
 -- ---- the world
 
-module _ (p : Params) (w : WorldState) (is : IsWorld p w) (quiet : IsQuietWorld p w) (capable : BecomeCapable p w)
-    (holds : Holds p w) (m : ℕ) (bounded : BoundsPaths (snapshot_of w) m)
-    (late : w.last_change + settling_span p m ≤ w.time) where
-  -- the machine has settled by then
-  settled_by : settled_from (settling_network p m w) ≤ w.time
-  settled_by = omega (arith, late)
+module _ (p : Pace) (w : WorldState) (is : IsWorld p w) (quiet : IsQuietWorld p.params w) (capable : BecomeCapable p w)
+    (holds : Holds p w) (m : ℕ) (bounded : BoundsPaths (snapshot_of w) m) where
+  abbrev n : Network
+  n = settling_network p m w
 
-  -- and before that all that is held has come over the links of the snapshot
-  held_is_whole : HeldIsWhole (setting (settling_network p m w)) (view w)
-  held_is_whole =
-      held_whole says (setting (settling_network p m w)) m (view w) bounded (is_calm p m w is quiet capable).facts
-      (holds m bounded quiet).traces (omega (arith, late))
+  state : Calm n (view w)
+  state = is_calm p m w is quiet capable
 
-  pub settles_by_paths : Settled w
-  settles_by_paths place station here live near =
-      let there = station_there w.stations place station here in
-      let state = is_calm p m w is quiet capable in
-      let (follows, roles) = network_settles says (settling_network p m w) (view w) place (station_view station)
-      (is_network p m w is bounded) state (holds m bounded quiet) there live near settled_by in
-      let rest = (state.stations place (station_view station) there live).at_rest in
-      let shown = (is.sound.on_time.stations place station here).steady.shown in
-      record {
-        root = follows.root;
-        steps = follows.steps;
-        slave = follows.slave;
-        parent = parent_settled (snapshot_of w) station (is_network p m w is bounded).graph rest.vector rest.chosen
-            (λ i r. held_is_whole place (station_view station) i r there live) follows.slave;
-        roles = roles_settled (snapshot_of w) station shown roles;
-      }
+  -- ---- one live system
+
+  module _ (place : ℕ) (station : Station) (here : slice_get w.stations place ≡ Some station)
+      (live : station.live ≡ true) where
+    there : slice_get (view w).stations place ≡ Some (station_view station)
+    there = station_there w.stations place station here
+
+    roles_are : HasSettledRoles (snapshot_of w) (station_view station) → (port : ℕ) → IsPortOf station.system port
+        → IsSettledRole (snapshot_of w) (port_of (clock station.system) port) (role_of (role_at station.system port))
+    roles_are =
+        roles_settled (snapshot_of w) station (is.sound.on_time.stations place station here).steady.shown
+
+    module _ (d : ℕ) (distance : IsDistance (snapshot_of w) (clock station.system) d) (near : d < 255) where
+      -- two intervals for each step after all that is held is wholly clean
+      pub follows_by_distance : since n d ≤ w.time → FollowsBest (snapshot_of w) (station_view station)
+      follows_by_distance =
+          follows_best says n (is_network p m w is bounded) (view w) state (holds m bounded quiet) place
+          (station_view station) there live d distance near
+
+      -- two intervals later its ports have settled
+      pub roles_by_distance : since n (suc d) ≤ w.time → (port : ℕ) → IsPortOf station.system port
+          → IsSettledRole (snapshot_of w) (port_of (clock station.system) port) (role_of (role_at station.system port))
+      roles_by_distance late =
+          roles_are
+          (settled_roles says n (is_network p m w is bounded) (view w) state (holds m bounded quiet) place
+          (station_view station) there live d distance near late)
+
+  -- ---- all of them
+
+  module _ (late : w.last_change + settling_span p m ≤ w.time) where
+    -- the machine has settled by then
+    settled_by : settled_from n ≤ w.time
+    settled_by = omega (arith, late)
+
+    -- and before that all that is held has come over the links of the snapshot
+    held_is_whole : HeldIsWhole (setting n) (view w)
+    held_is_whole =
+        held_whole says (setting n) m (view w) bounded state.facts (holds m bounded quiet).traces (omega (arith, late))
+
+    pub settles_by_paths : Settled w
+    settles_by_paths place station here live near =
+        let (follows, roles) = network_settles says n (view w) place (station_view station)
+        (is_network p m w is bounded) state (holds m bounded quiet) (there place station here live) live near settled_by
+        in
+        let rest = (state.stations place (station_view station) (there place station here live) live).at_rest in
+        record {
+          root = follows.root;
+          steps = follows.steps;
+          slave = follows.slave;
+          parent = parent_settled (snapshot_of w) station (is_network p m w is bounded).graph rest.vector rest.chosen
+              (λ i r. held_is_whole place (station_view station) i r (there place station here live) live)
+              follows.slave;
+          roles = roles_are place station here live roles;
+        }
 
 -- so it settles by the number of live systems
-pub settles : (p : Params) (w : WorldState) → IsWorld p w → IsQuietWorld p w → BecomeCapable p w → Holds p w
+pub settles : (p : Pace) (w : WorldState) → IsWorld p w → IsQuietWorld p.params w → BecomeCapable p w → Holds p w
     → w.last_change + settling_span p (length (snapshot_of w).systems) ≤ w.time → Settled w
 settles p w is quiet capable holds =
     settles_by_paths p w is quiet capable holds (length (snapshot_of w).systems) (systems_bound p w is)

@@ -2,6 +2,7 @@
 use Rattle.std.proofs.Common.{◌≡◌, ◌⊎◌, ◌+◌, ◌≤◌, ℕ, Bool, true, false, List, [], ◌∷◌, ◌++◌, map, Option, Some, None, slice_get, slice_set, refl, sym, subst, inl, inr, arith}
 use Rattle.gptp_lists.specs.Members.{In}
 use Rattle.gptp_lists.proofs.MemberLemmas.{In-parts}
+use Rattle.gptp_vector.specs.declared.port.PortId.{PortId}
 use Rattle.gptp_links.specs.declared.bounds.Bounds.{Bounds}
 use Rattle.gptp_links.specs.declared.link.Direction.{Direction}
 use Rattle.gptp_links.specs.declared.link.Direction.TheVariants.{FromA, FromB}
@@ -15,21 +16,22 @@ use Rattle.gptp_system.specs.State.{SystemState, own}
 use Rattle.gptp_plan.specs.declared.change.Act.{Act}
 use Rattle.gptp_plan.specs.declared.change.Act.TheVariants.{Deliver, Expire, Change as Changing}
 use Rattle.gptp_plan.specs.declared.change.Change.{Change}
-use Rattle.gptp_plan.specs.declared.change.Change.TheVariants.{LinkDown, LinkUp, LinkSet, Fail, Recover, Priority1}
+use Rattle.gptp_plan.specs.declared.change.Change.TheVariants.{LinkDown, LinkUp, LinkSet, Fail, Recover, Priority1, Inject}
 use Rattle.gptp_acts.specs.declared.done.Done.{Done}
 use Rattle.gptp_plan.specs.declared.network.Wire.{Wire}
+use Rattle.gptp_plan.specs.Prompt.{IsPromptAct}
 use Rattle.gptp_acts.specs.declared.station.Station.{Station}
 use Rattle.gptp_acts.specs.Act.{Calls, Hears, all_timers}
 use Rattle.gptp_acts.specs.Acts.{Acts, Changes, set_to}
 use Rattle.gptp_acts.specs.Agrees.{stopped}
-use Rattle.gptp_acts.specs.Changing.{CallsAll, CallsIfLive, ComesUpIf, FailsIf, GoesDownIf, RecoversIf, Starts, StartsAll, TellsEnds, brought_up, fresh, lost, taken_down, up_ports, with_setup, with_station}
+use Rattle.gptp_acts.specs.Changing.{CallsAll, CallsIfLive, ComesUpIf, FailsIf, GoesDownIf, InjectsIf, RecoversIf, Starts, StartsAll, TellsEnds, brought_up, fresh, lost, taken_down, up_ports, with_setup, with_station}
 use Rattle.gptp_acts.specs.Initial.{channel_from}
 use Rattle.gptp_acts.specs.Sends.{entered, written, SendsAll, SendsOne}
-use Rattle.gptp_acts.specs.World.{Channel, Net, WorldState, queue, receiver, with_queue}
+use Rattle.gptp_acts.specs.World.{Channel, Net, WorldState, port_id, queue, receiver, with_queue}
 use Rattle.gptp_lists.proofs.MappedLemmas.{mapped}
 use Rattle.gptp_lists.proofs.PlaceLemmas.{get-set_all}
 use Rattle.gptp_kept.specs.LinkLaws.{InitiallyShort, ShortHoldsLater, ShortIsKept, StartsShort}
-use Rattle.gptp_kept.specs.Short.{AreShort, IsShort, IsShortAct, IsShortChannel}
+use Rattle.gptp_kept.specs.Short.{AreShort, IsShort, IsShortChannel}
 use Rattle.gptp_kept.proofs.LinkLaneLemmas.{IsDueSoon, due_soon}
 
 module _ (span : ℕ) where
@@ -73,22 +75,21 @@ module _ (span : ℕ) where
   behind now f new fs all due (inr (inl same)) = subst (λ (g : Frame). g.due ≤ now + span) (sym same) due
   behind now f new fs all due (inr (inr none)) = absurd none
 
-  one_short : (now : ℕ) (s : SystemState) (x : Sending) (draw : Draw) (net net' : Net)
-      → AreShort span now net.channels → SendsOne now (own s x.port) (written s x) draw net net'
-      → AreShort span now net'.channels
-  one_short now s x draw net net' all one =
+  one_short : (now : ℕ) (from : PortId) (octets : List ℕ) (draw : Draw) (net net' : Net)
+      → AreShort span now net.channels → SendsOne now from octets draw net net' → AreShort span now net'.channels
+  one_short now from octets draw net net' all one =
       subst (λ (n : Net). AreShort span now n.channels) (sym one.after) (by draw.answer one.lawful)
     where
       by : (answer : Option ℕ) → IsLawful draw.bounds answer
-          → AreShort span now (entered one.place one.direction one.channel now (written s x) answer net).channels
+          → AreShort span now (entered one.place one.direction one.channel now octets answer net).channels
       by None lawful = all
       by (Some delay) (least, most) =
           let old = all one.place one.channel one.here in
           let fs = queue one.direction one.channel in
           let short : delay ≤ one.channel.bounds.max = subst (λ (b : Bounds). delay ≤ b.max) one.bounds most in
-          let due = entered_due now one.channel.bounds.max fs (frame (due_after fs now delay) (written s x)) old.most
-          (old.dues one.direction) (due_soon now delay one.channel.bounds.max fs (written s x) short) in
-          let new : Frame = frame (due_after fs now delay) (written s x) in
+          let new : Frame = frame (due_after fs now delay) octets in
+          let due = entered_due now one.channel.bounds.max fs new old.most (old.dues one.direction)
+          (due_soon now delay one.channel.bounds.max fs octets short) in
           channel_short now net.channels one.place one.channel (with_queue one.direction (fs ++ new ∷ []) one.channel)
           one.here
           (queue_short now one.direction one.channel (fs ++ new ∷ [])
@@ -100,7 +101,7 @@ module _ (span : ℕ) where
   sends_short now s [] draws net net' all (none, same) =
       subst (λ (n : Net). AreShort span now n.channels) (sym same) all
   sends_short now s (x ∷ xs) draws net net' all (inl (draw, rest, between, split, one, more)) =
-      sends_short now s xs rest between net' (one_short now s x draw net between all one) more
+      sends_short now s xs rest between net' (one_short now (own s x.port) (written s x) draw net between all one) more
   sends_short now s (x ∷ xs) draws net net' all (inr (none, more)) = sends_short now s xs draws net net' all more
 
   -- ---- calls
@@ -193,7 +194,13 @@ module _ (span : ℕ) where
   recovers_short true place w draws w' all (none, same) = subst (IsShort span) (sym same) all
   recovers_short false place w draws w' all k = start_short place w draws w' all k
 
-  changes_short : (c : Change) (w : WorldState) (draws : List Draw) (w' : WorldState) → IsShortAct span (Changing c)
+  injects_short : (up : Bool) (from : PortId) (octets : List ℕ) (w : WorldState) (draws : List Draw) (w' : WorldState)
+      → IsShort span w → InjectsIf up from octets w draws w' → IsShort span w'
+  injects_short false from octets w draws w' all (none, same) = subst (IsShort span) (sym same) all
+  injects_short true from octets w draws w' all k =
+      subst (IsShort span) (sym k.is) (one_short w.time from octets k.draw w.net k.net all k.sent)
+
+  changes_short : (c : Change) (w : WorldState) (draws : List Draw) (w' : WorldState) → IsPromptAct span (Changing c)
       → IsShort span w → Changes c w draws w' → IsShort span w'
   changes_short (LinkDown number port) w draws w' fit all k =
       goes_down_short k.channel.up k.place k.channel w draws w' k.is.here all k.so
@@ -209,8 +216,10 @@ module _ (span : ℕ) where
   changes_short (Recover number) w draws w' fit all k = recovers_short k.station.live k.place w draws w' all k.so
   changes_short (Priority1 number value) w draws w' fit all k =
       if_live_short k.place (Priority value) (with_station k.place (with_setup value k.station) w) draws w' all k.so
+  changes_short (Inject number port octets) w draws w' fit all k =
+      injects_short k.channel.up (port_id number port) octets w draws w' all k.so
 
-  acts_short_by : (act : Act) (w w' : WorldState) (draws : List Draw) (done : Done) → IsShortAct span act
+  acts_short_by : (act : Act) (w w' : WorldState) (draws : List Draw) (done : Done) → IsPromptAct span act
       → IsShort span w → Acts act w draws done w' → IsShort span w'
   acts_short_by (Deliver link direction) w w' draws done fit all k =
       let d = k.delivers in

@@ -1,6 +1,6 @@
 -- What the calls of a world show is capable and settled in time.
 use Rattle.std.proofs.Common.{◌≡◌, ◌≢◌, ◌↔◌, ℕ, zero, suc, Bool, true, false, Option, Some, slice_get, refl, sym, subst, ◌∙◌, arith}
-use Rattle.gptp_graph.specs.Distance.{IsNear}
+use Rattle.gptp_graph.specs.Distance.{IsDistance, IsNear}
 use Rattle.gptp_graph.specs.SettledRole.{IsSettledRole}
 use Rattle.gptp_graph.specs.Snapshot.{IsLinked, port_of}
 use Rattle.gptp_pdelay.specs.Peer.{is_capable}
@@ -21,8 +21,8 @@ use Rattle.gptp_kept.specs.Standing.{snapshot_of}
 use Rattle.gptp_kept.specs.Settled.{IsSettledSystem, Settled, role_of}
 use Rattle.gptp_kept.specs.CalmFor.{IsCalmFor, IsPortSettled, capable_span}
 use Rattle.gptp_kept.specs.Claimed.{Claimed}
-use Rattle.gptp_kept.specs.Shown.{AreCapable, FollowsByPaths, FollowsInTime, IsCapableInTime, IsEnabledInTime, IsSettledFor, PlaysByPaths, PlaysInTime}
-use Rattle.gptp_kept.proofs.ClaimedLemmas.{claimed_capable, claimed_settled, settled_by_paths}
+use Rattle.gptp_kept.specs.Shown.{AreCapable, FollowsByDistance, FollowsByPaths, FollowsInTime, IsCapableInTime, IsEnabledInTime, IsSettledFor, PlaysByDistance, PlaysByPaths, PlaysInTime}
+use Rattle.gptp_kept.proofs.ClaimedLemmas.{claimed_capable, claimed_settled, distance_follows, distance_plays, settled_by_paths}
 
 -- ---- capability
 
@@ -147,3 +147,19 @@ pub role_by_paths : (number port : ℕ) (w : WorldState) (role : Role) → Claim
     → AtSystem number w (HasRole port role) → PlaysByPaths number port w role
 role_by_paths number port w role claimed at m bounded calm near =
     settled_role number w (settled_by_paths m w claimed bounded calm) near port role at
+
+-- by the distance
+pub choice_by_distance : (number root steps : ℕ) (slave : Option ℕ) (w : WorldState) → Claimed w
+    → AtSystem number w (Follows root steps slave) → FollowsByDistance number w root steps slave
+choice_by_distance number root steps slave w claimed at m d bounded distance near calm =
+    let is = distance_follows m d w claimed bounded at.place at.station at.is.here at.so.live
+    (subst (λ v. IsDistance (snapshot_of w) v d) (sym at.is.named) distance) near calm in
+    rw (at.so.root_is, at.so.steps_are, at.so.slave_is, sym at.is.named)
+    (record { best = is.root; distance = is.steps; parent = is.slave })
+
+pub role_by_distance : (number port : ℕ) (w : WorldState) (role : Role) → Claimed w
+    → AtSystem number w (HasRole port role) → PlaysByDistance number port w role
+role_by_distance number port w role claimed at m d bounded distance near calm =
+    let roles = distance_plays m d w claimed bounded at.place at.station at.is.here at.so.live
+    (subst (λ v. IsDistance (snapshot_of w) v d) (sym at.is.named) distance) near calm in
+    rw (at.so.role_is, sym at.is.named) (roles port at.so.port_of)

@@ -4,7 +4,8 @@ use Rattle.std.proofs.lemmas.Option.{none-some}
 use Rattle.gptp_vector.specs.declared.port.PortId.{PortId}
 use Rattle.gptp_pdelay.specs.Peer.{is_capable}
 use Rattle.gptp_setup.specs.declared.setup.Params.{Params}
-use Rattle.gptp_setup.specs.Intervals.{AreParams, interval_of, largest_interval}
+use Rattle.gptp_setup.specs.Intervals.{AreParams, interval_of}
+use Rattle.gptp_setup.specs.Pace.{Pace, largest_interval}
 use Rattle.gptp_system.specs.State.{number}
 use Rattle.gptp_setup.proofs.IntervalLemmas.{interval_positive}
 use Rattle.gptp_acts.specs.World.{WorldState, sender}
@@ -19,7 +20,7 @@ use Rattle.gptp_kept.proofs.UnansweredActLemmas.{acts_seen}
 use Rattle.gptp_kept.proofs.UnansweredStandLemmas.{timers_known}
 
 -- no more requests of an end are lost than may be
-end_lost : (p : Params) (place : ℕ) (port : PortId) (w : WorldState) → IsKnown p w → (e : IsEndOf place port w)
+end_lost : (p : Pace) (place : ℕ) (port : PortId) (w : WorldState) → IsKnown p w → (e : IsEndOf place port w)
     → e.state.peer.lost ≤ e.state.peer.allowed
 end_lost p place port w known e = go port.port e.there
   where
@@ -36,7 +37,7 @@ silence_begins at p w sound known l changed =
     record {
       link = l;
       old = λ f member.
-          let near = known.near at.link (opposite at.direction) l.channel f l.here member in omega arith;
+          let near = (known.near at.link l.channel l.here).dues (opposite at.direction) f member in omega arith;
       inv = unanswered_begins (setting at w l) gone (view at w l) (omega (arith, lost, allowed))
           (omega (arith, timers.asked, changed));
     }
@@ -64,12 +65,12 @@ silence_goes_on at gone time w is = record {
 pub become_incapable : PortsBecomeIncapable
 become_incapable at p change w sound known short l past = go (is_capable l.link.asking.state.peer) refl
   where
-    set_to : l.link.asking.station.setup.params ≡ p
-    set_to = (known.set at.asking l.link.asking.station l.link.asking.here).setup
+    set_to : l.link.asking.station.setup.params ≡ p.params
+    set_to = (known.set at.asking l.link.asking.station l.link.asking.here).starts.params
 
-    params : AreParams p
+    params : AreParams p.params
     params =
-        subst AreParams (known.set at.asking l.link.asking.station l.link.asking.here).system
+        subst AreParams (known.set at.asking l.link.asking.station l.link.asking.here).params
         (sound.on_time.stations at.asking l.link.asking.station l.link.asking.here).steady.params
 
     short_here : (setting at w l.link).period ≤ largest_interval p
@@ -82,6 +83,6 @@ become_incapable at p change w sound known short l past = go (is_capable l.link.
     go : (b : Bool) → is_capable l.link.asking.state.peer ≡ b → is_capable l.link.asking.state.peer ≡ false
     go true capable =
         absurd (silence_settles (setting at w l.link) change (largest_interval p) (view at w l.link)
-        (omega (arith, interval_positive p.announce params.announce)) short_here
+        (omega (arith, interval_positive p.params.pdelay params.pdelay, short)) short_here
         (timers_known at p w l.link sound known) l.inv past_here capable)
     go false other = other

@@ -17,11 +17,11 @@ use Rattle.gptp_system.specs.Input.{PortUp}
 use Rattle.gptp_system.specs.Start.{new_port, started}
 use Rattle.gptp_system.specs.State.{clock}
 use Rattle.gptp_system.specs.Steps.{IsUp}
+use Rattle.gptp_system.proofs.StartLemmas.{new_port_at}
 use Rattle.gptp_acts.specs.declared.station.Station.{Station}
 use Rattle.gptp_acts.specs.Changing.{CallsAll, CallsIfLive, RecoversIf, Starts, StartsAll, fresh, is_end, is_up_at, up_ports}
 use Rattle.gptp_acts.specs.World.{Channel, WorldState, port_id, sender}
 use Rattle.gptp_acts.proofs.AgreeLemmas.{replaced}
-use Rattle.gptp_lists.proofs.MappedLemmas.{mapped}
 use Rattle.gptp_lists.proofs.PlaceLemmas.{get-set_same}
 use Rattle.gptp_kept.specs.Linked.{BeginsLink, MeasureLinks}
 use Rattle.gptp_kept.proofs.OnLinkLemmas.{replaced_measure}
@@ -32,15 +32,14 @@ started_still : (setup : Setup) (now n : ℕ) → IsUp (started setup now) n →
 started_still setup now zero up = absurd cc
 started_still setup now (suc i) up = by (slice_get (started setup now).ports i) refl up
   where
-    new : ℕ → Port
-    new n = new_port (port_id (clock_of setup.identity) n) setup.params
-
     by : (o : Option Port) → slice_get (started setup now).ports i ≡ o
         → IsSome (option_and_then (λ (q : Port). q.pdelay) o) → ⊥
     by None there some = absurd cc
     by (Some q) there some =
-        let port = mapped new (range_with_len 1 setup.ports) i q there in
-        let none : IsSome (new port.0).pdelay = subst (λ (x : Port). IsSome x.pdelay) (sym port.2) some in absurd cc
+        let (log, here, is) = new_port_at (clock_of setup.identity) setup.params setup.intervals.items i q there in
+        let none : IsSome (new_port (port_id (clock_of setup.identity) (suc i)) setup.params log).pdelay =
+        subst (λ (x : Port). IsSome x.pdelay) is some in
+        absurd cc
 
 -- a port at which a start finds a link that is up
 port_is : (number port : ℕ) (end : PortId) → is_end number port end ≡ true → end ≡ port_id number port

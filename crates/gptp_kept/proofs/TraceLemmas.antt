@@ -1,8 +1,14 @@
 -- Traces in a calm world become clean.
 use Rattle.std.proofs.Common.{◌≡◌, ◌≤◌, ◌+◌, ◌*◌, ℕ, zero, suc, true, List, ◌∷◌, map, length, Option, Some, None, slice_get, refl, sym, ap, subst, ◌∙◌, inl, arith}
 use Rattle.std.proofs.lemmas.Option.{none-some, same_Some, slice_get_within}
+use Rattle.gptp_setup.specs.Pace.{Pace}
 use Rattle.gptp_lists.specs.Members.{In}
-use Rattle.gptp_graph.specs.Snapshot.{port_of}
+use Rattle.gptp_graph.specs.Best.{IsBest}
+use Rattle.gptp_graph.specs.Distance.{IsDistance}
+use Rattle.gptp_graph.specs.PathBound.{BoundsPaths}
+use Rattle.gptp_graph.specs.Snapshot.{IsWellFormed, Snapshot, System, port_of}
+use Rattle.gptp_graph.proofs.BestLemmas.{IsBest-neighbour}
+use Rattle.gptp_graph.proofs.LinkLemmas.{Joins-sym}
 use Rattle.gptp_messages.specs.declared.announce.AnnounceView.{AnnounceView}
 use Rattle.gptp_messages.specs.declared.message.Message.TheVariants as messages
 use Rattle.gptp_messages.specs.Grammar.{Reads}
@@ -14,7 +20,6 @@ use Rattle.gptp_receipt.specs.declared.held.Held.{Held}
 use Rattle.gptp_receipt.specs.declared.held.Held.TheVariants as helds
 use Rattle.gptp_receipt.specs.declared.held.Reception.{Reception}
 use Rattle.gptp_receipt.specs.Held.{received}
-use Rattle.gptp_setup.specs.declared.setup.Params.{Params}
 use Rattle.gptp_system.specs.State.{SystemState, clock, held_at}
 use Rattle.gptp_plan.specs.declared.change.Act.{Act}
 use Rattle.gptp_plan.specs.declared.change.Act.TheVariants.{Deliver, Expire, Change as Changing}
@@ -32,7 +37,9 @@ use Rattle.gptp_settling.specs.CleanInvariant.{StationIsClean, TracesAreClean}
 use Rattle.gptp_settling.specs.Facts.{IsStation, Late, Setting}
 use Rattle.gptp_settling.specs.Frame.{Frame as SeenFrame}
 use Rattle.gptp_settling.specs.Network.{setting}
-use Rattle.gptp_settling.proofs.CleanLemmas.{may_say}
+use Rattle.gptp_settling.specs.Station.{HoldsAt}
+use Rattle.gptp_settling.proofs.CleanLemmas.{held_whole, may_say}
+use Rattle.gptp_settling.proofs.NearestLemmas.{root_not_better, steps_not_fewer}
 use Rattle.gptp_kept.specs.View.{frame_view, identity_of, lane_place, lane_view, port_view, reception_view, said, says, span_at, station_view, view}
 use Rattle.gptp_kept.proofs.SeenLaneLemmas.{lane_there}
 use Rattle.gptp_kept.proofs.PlaceLemmas.{port_there, station_there}
@@ -41,11 +48,11 @@ use Rattle.gptp_kept.specs.Standing.{snapshot_of}
 use Rattle.gptp_kept.specs.Holds.{settling_network, start_of}
 use Rattle.gptp_kept.proofs.HoldsLemmas.{is_calm, systems_bound}
 use Rattle.gptp_kept.specs.Claimed.{Claimed, IsClaimed}
-use Rattle.gptp_kept.specs.Traces.{AreHeldCleanInTime, IsCleanInTime, IsFrameClean, IsHeardClean, IsHeldClean, IsTraceClean, announced, turn_of}
+use Rattle.gptp_kept.specs.Traces.{AreHeldCleanInTime, AreHeldWholeInTime, IsCleanInTime, IsFrameClean, IsHeardClean, IsHeldClean, IsHeldWhole, IsTraceClean, announced, heard, turn_of}
 use Rattle.gptp_kept.proofs.ClaimedLemmas.{set_alike}
 use Rattle.gptp_kept.proofs.ClaimLemmas.{claim_capable}
 
-module _ (p : Params) (w : WorldState) (is : IsClaimed p w) (quiet : IsQuietWorld p w) where
+module _ (p : Pace) (w : WorldState) (is : IsClaimed p w) (quiet : IsQuietWorld p.params w) where
   abbrev live_count : ℕ
   live_count = length (snapshot_of w).systems
 
@@ -74,16 +81,26 @@ module _ (p : Params) (w : WorldState) (is : IsClaimed p w) (quiet : IsQuietWorl
     trace_clean : (c : ℕ) → start_of p w + c * turn_of p ≤ w.time → IsTraceClean (snapshot_of w) c s
     trace_clean c late =
         (may_say k w.time (station_view station) known clean c 0 (announced s)
-        (record { root = refl; steps = refl; source = refl; path = refl }) late).clean
+        (record {
+          root = refl;
+          steps = refl;
+          source = refl;
+          log = λ i q number there. absurd cc;
+          path = refl;
+        }) late).clean
 
-    held_clean : (c n : ℕ) (r : Reception) → received (held_at s n) ≡ Some r → Late k c r.at
-        → IsHeldClean (snapshot_of w) (suc c) (clock s) n r
-    held_clean c zero r holds late = absurd (none-some r holds)
-    held_clean c (suc i) r holds late = by (slice_get s.held i) refl holds
+    -- what a port holds, as the machine sees it: the port at place i has the number i + 1
+    record IsSeenHeld (n : ℕ) (r : Reception) : Type 0 where
+      i : ℕ
+      number : n ≡ suc i
+      holds : HoldsAt (station_view station) i (reception_view (span_at s) r)
+
+    seen_held : (n : ℕ) (r : Reception) → received (held_at s n) ≡ Some r → IsSeenHeld n r
+    seen_held zero r holds = absurd (none-some r holds)
+    seen_held (suc i) r holds = by (slice_get s.held i) refl holds
       where
         -- what stands there is received
-        came : (h : Held) → slice_get s.held i ≡ Some h → received h ≡ Some r
-            → IsHeldClean (snapshot_of w) (suc c) (clock s) (suc i) r
+        came : (h : Held) → slice_get s.held i ≡ Some h → received h ≡ Some r → IsSeenHeld (suc i) r
         came helds.Disabled there none = absurd (none-some r none)
         came helds.Aged there none = absurd (none-some r none)
         came (helds.Mine root steps) there none = absurd (none-some r none)
@@ -92,18 +109,47 @@ module _ (p : Params) (w : WorldState) (is : IsClaimed p w) (quiet : IsQuietWorl
             let places = (is.world.sound.on_time.stations place station here).steady.shown.places in
             let within : suc i ≤ length s.held = slice_get_within s.held i (helds.Received x) there in
             let (q, port) = member_there s.ports i (rw places at within) in
-            let seen = port_there s.params s.held s.ports i (helds.Received x) q there port in
-            let hit = clean i (reception_view (span_at s.params q) x) c
-            (port_view s.params (helds.Received x) q, seen, refl)
-            (subst (λ (y : Reception). Late k c y.at) (sym same) late) in
-            subst (IsHeldClean (snapshot_of w) (suc c) (clock s) (suc i)) same
-            (record { from = hit.from; joins = hit.joins; good = hit.good })
+            subst (IsSeenHeld (suc i)) same (record {
+              i = i;
+              number = refl;
+              holds = (
+                port_view (span_at s) (helds.Received x) q,
+                port_there (span_at s) s.held s.ports i (helds.Received x) q there port,
+                refl,
+              );
+            })
 
         by : (found : Option Held) → slice_get s.held i ≡ found
             → received (held_at s (suc i)) ≡ Some r
-            → IsHeldClean (snapshot_of w) (suc c) (clock s) (suc i) r
+            → IsSeenHeld (suc i) r
         by None none holds = absurd (none-some r (rw none at holds))
         by (Some h) there holds = came h there (rw there at holds)
+
+    held_clean : (c n : ℕ) (r : Reception) → received (held_at s n) ≡ Some r → Late k c r.at
+        → IsHeldClean (snapshot_of w) (suc c) (clock s) n r
+    held_clean c n r holds late =
+        let seen = seen_held n r holds in
+        let hit = clean seen.i (reception_view (span_at s) r) c seen.holds late in
+        subst (λ m. IsHeldClean (snapshot_of w) (suc c) (clock s) m r) (sym seen.number) (record {
+          from = hit.from;
+          joins = hit.joins;
+          no_loop = (known.held seen.i (reception_view (span_at s) r) seen.holds).no_loop;
+          good = hit.good;
+        })
+
+    held_whole_at : (m n : ℕ) (r : Reception) → BoundsPaths (snapshot_of w) m → start_of p w + m * turn_of p ≤ w.time
+        → received (held_at s n) ≡ Some r → IsHeldWhole (snapshot_of w) (clock s) n r
+    held_whole_at m n r bounded late holds =
+        let seen = seen_held n r holds in
+        let hit = held_whole says k m (view w) bounded state.facts traces late place (station_view station) seen.i
+        (reception_view (span_at s) r) (station_there w.stations place station here) live seen.holds in
+        subst (λ x. IsHeldWhole (snapshot_of w) (clock s) x r) (sym seen.number) (record {
+          from = hit.from;
+          joins = hit.joins;
+          no_loop = (known.held seen.i (reception_view (span_at s) r) seen.holds).no_loop;
+          source = hit.source;
+          whole = hit.whole;
+        })
 
   -- ---- a frame that arrives
 
@@ -130,19 +176,42 @@ module _ (p : Params) (w : WorldState) (is : IsClaimed p w) (quiet : IsQuietWorl
 pub traces_become_clean : (number : ℕ) (w : WorldState) (s : SystemState) → Claimed w → ShowsLive number w s
     → IsCleanInTime w s
 traces_become_clean number w s claimed shows c calm =
-    let is = set_alike w claimed calm.params calm.set shows.place shows.station shows.is.here in
+    let is = set_alike w claimed calm.pace calm.set shows.place shows.station shows.is.here in
     let late = calm.late in
     subst (IsTraceClean (snapshot_of w) c) (sym shows.state)
-    (trace_clean calm.params w is calm.quiet shows.place shows.station shows.is.here shows.live c (omega arith))
+    (trace_clean calm.pace w is calm.quiet shows.place shows.station shows.is.here shows.live c (omega arith))
 
 pub held_becomes_clean : (number : ℕ) (w : WorldState) (s : SystemState) → Claimed w → ShowsLive number w s
     → AreHeldCleanInTime w s
 held_becomes_clean number w s claimed shows calm c n r holds late =
-    let is = set_alike w claimed calm.params calm.set shows.place shows.station shows.is.here in
+    let is = set_alike w claimed calm.pace calm.set shows.place shows.station shows.is.here in
     let same = shows.state in
     subst (λ (x : SystemState). IsHeldClean (snapshot_of w) (suc c) (clock x) n r) (sym same)
-    (held_clean calm.params w is calm.quiet shows.place shows.station shows.is.here shows.live c n r
+    (held_clean calm.pace w is calm.quiet shows.place shows.station shows.is.here shows.live c n r
     (subst (λ (x : SystemState). received (held_at x n) ≡ Some r) same holds) (omega (arith, late)))
+
+pub held_becomes_whole : (number : ℕ) (w : WorldState) (s : SystemState) → Claimed w → ShowsLive number w s
+    → AreHeldWholeInTime w s
+held_becomes_whole number w s claimed shows m n r bounded calm holds =
+    let is = set_alike w claimed calm.pace calm.set shows.place shows.station shows.is.here in
+    let late = calm.late in
+    let same = shows.state in
+    subst (λ (x : SystemState). IsHeldWhole (snapshot_of w) (clock x) n r) (sym same)
+    (held_whole_at calm.pace w is calm.quiet shows.place shows.station shows.is.here shows.live m n r bounded
+    (omega arith) (subst (λ (x : SystemState). received (held_at x n) ≡ Some r) same holds))
+
+-- what is wholly clean names nothing better than the best
+pub held_is_no_better : (g : Snapshot) (number port : ℕ) (r : Reception) (best : System) → IsWellFormed g
+    → (held : IsHeldWhole g number port r) → IsBest g number best → (best.identity ≤ r.vector.root)
+    × (r.vector.root ≡ best.identity → (d : ℕ) → IsDistance g held.from.clock d → d ≤ r.vector.steps)
+held_is_no_better g number port r best wf held is_best =
+    let there : IsBest g held.from.clock best =
+    IsBest-neighbour g number held.from.clock best wf
+    (port, held.from.port, Joins-sym g held.from (port_of number port) held.joins) is_best in (
+      root_not_better g wf held.from.clock (heard r) held.whole best there,
+      λ root d far. steps_not_fewer g wf held.from.clock (heard r) held.whole best there held.from.clock d (inl refl)
+          there far root,
+    )
 
 -- what a delivery tells
 delivered_clean : (link : ℕ) (direction : Direction) (time : ℕ) (done : Done) (w w' : WorldState) (draws : List Draw)
@@ -156,9 +225,9 @@ delivered_clean link direction time (Heard number port answer octets) w w' draws
     same_Some delivery.channel channel (sym delivery.here ∙ takes.here) in
     let (clock_is, port_is, told, octets_are) = delivery.told in
     let end = (claimed.is.world.between link channel takes.here).a in
-    let is = set_alike w claimed calm.params calm.set end.place end.station end.here in
+    let is = set_alike w claimed calm.pace calm.set end.place end.station end.here in
     let read = subst (λ o. Reads o (messages.Announce m)) octets_are reads in
-    let clean = frame_clean calm.params w is calm.quiet c link direction channel time delivery.octets takes.rest m
+    let clean = frame_clean calm.pace w is calm.quiet c link direction channel time delivery.octets takes.rest m
     takes.here takes.front read (omega (arith, late)) in
     let reached : identity_of (receiver direction channel) ≡ port_of number port =
     ap (λ (x : Channel). identity_of (receiver direction x)) (sym same)

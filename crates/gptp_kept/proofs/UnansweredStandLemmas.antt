@@ -7,6 +7,7 @@ use Rattle.gptp_vector.specs.declared.port.PortId.{PortId}
 use Rattle.gptp_system.specs.declared.port.Port.{Port}
 use Rattle.gptp_setup.specs.declared.setup.Params.{Params}
 use Rattle.gptp_setup.specs.Intervals.{interval_of}
+use Rattle.gptp_setup.specs.Pace.{Pace}
 use Rattle.gptp_system.specs.State.{number}
 use Rattle.gptp_acts.specs.Sound.{IsSound}
 use Rattle.gptp_acts.specs.World.{WorldState, sender}
@@ -47,12 +48,12 @@ timer_runs at w l sound =
     (subst IsSome (ap (option_and_then (λ (q : Port). q.pdelay)) l.asking.there) up)
 
 -- and is due within a period from now
-end_asks : (p : Params) (place : ℕ) (port : PortId) (w : WorldState) → IsSound w → IsKnown p w
+end_asks : (p : Pace) (place : ℕ) (port : PortId) (w : WorldState) → IsSound w → IsKnown p w
     → (e : IsEndOf place port w) → (t : ℕ) → e.state.pdelay ≡ Some t
-    → IsWithin w.time (interval_of p.pdelay) t
+    → IsWithin w.time (interval_of p.params.pdelay) t
 end_asks p place port w sound known e t runs = go port.port e.there
   where
-    go : (n : ℕ) → number e.station.system.ports n ≡ Some e.state → IsWithin w.time (interval_of p.pdelay) t
+    go : (n : ℕ) → number e.station.system.ports n ≡ Some e.state → IsWithin w.time (interval_of p.params.pdelay) t
     go zero there = absurd (none-some e.state there)
     go (suc i) there =
         let places = (sound.on_time.stations place e.station e.here).steady.shown.places in
@@ -65,8 +66,8 @@ timers_known at p w l sound known =
     let (t, runs) = timer_runs at w l sound in
     let within = end_asks p at.asking (sender at.direction l.channel) w sound known l.asking t runs in
     let period = interval_of l.asking.station.setup.params.pdelay in
-    let same : period ≡ interval_of p.pdelay =
-    ap (λ (x : Params). interval_of x.pdelay) (known.set at.asking l.asking.station l.asking.here).setup in
+    let same : period ≡ interval_of p.params.pdelay =
+    ap (λ (x : Params). interval_of x.pdelay) (known.set at.asking l.asking.station l.asking.here).starts.params in
     let seen : asked_at period l.asking.state.pdelay ≡ asked_at period (Some t) = ap (asked_at period) runs in
     let least = l.asking.measures.asks t runs in
     let early = within.least in

@@ -1,5 +1,6 @@
 -- A calm world, and the network of the machine of gptp_settling that it then has.
-use Rattle.std.specs.Prelude.{◌≡◌, ◌≢◌, ◌≤◌, ◌==◌, ◌&&◌, ℕ, suc, max, Bool, true, if◌then◌else◌, List, [], ◌∷◌, Some, slice_get}
+use Rattle.std.specs.Prelude.{◌≡◌, ◌≢◌, ◌≤◌, ◌==◌, ◌&&◌, ℕ, suc, ℤ, pos, max, Bool, true, if◌then◌else◌, List, [], ◌∷◌, map, Some, slice_get}
+use Rattle.std.specs.Option.{option_map_or}
 use Rattle.gptp_graph.specs.Snapshot.{IsLinked, PortIdentity, Snapshot, System}
 use Rattle.gptp_vector.specs.declared.port.PortId.{PortId}
 use Rattle.gptp_links.specs.declared.link.Direction.TheVariants.{FromA, FromB}
@@ -7,8 +8,10 @@ use Rattle.gptp_pdelay.specs.GoodLink.{IsGoodLink}
 use Rattle.gptp_receipt.specs.declared.held.Held.{Held}
 use Rattle.gptp_receipt.specs.declared.held.Held.TheVariants.{Disabled}
 use Rattle.gptp_setup.specs.declared.setup.Params.{Params}
-use Rattle.gptp_setup.specs.Intervals.{announce_interval, largest_interval}
-use Rattle.gptp_system.specs.State.{clock}
+use Rattle.gptp_setup.specs.declared.setup.Setup.{Setup}
+use Rattle.gptp_setup.specs.Intervals.{interval_of}
+use Rattle.gptp_setup.specs.Pace.{Pace, largest_interval}
+use Rattle.gptp_system.specs.State.{clock, number}
 use Rattle.gptp_acts.specs.declared.station.Station.{Station}
 use Rattle.gptp_acts.specs.World.{Channel, WorldState}
 use Rattle.gptp_settling.specs.Network.{Network}
@@ -56,6 +59,22 @@ lane_of (channel ∷ channels) port =
     if is_port channel.a port then lane_place 0 FromA
     else (if is_port channel.b port then lane_place 0 FromB else suc (suc (lane_of channels port)))
 
+-- ---- intervals
+
+-- the announce interval, as a logarithm, that a system is set up with for the port of this number; 0 where it has none
+abbrev pub log_at : Setup → ℕ → ℤ
+log_at setup n = option_map_or (λ log. log) (number setup.intervals.items n) (pos 0)
+
+-- what systems are set up with
+abbrev pub setups_of : List Station → List Setup
+setups_of stations = map (λ (station : Station). station.setup) stations
+
+-- the announce interval of a port, by where the system of its clock stands
+abbrev pub log_of : List Station → PortIdentity → ℤ
+log_of stations port =
+    option_map_or (λ (setup : Setup). log_at setup port.port)
+    (slice_get (setups_of stations) (place_of stations port.clock)) (pos 0)
+
 -- ---- ports
 
 -- a port that holds this is Disabled exactly where no link of the snapshot is at it
@@ -70,16 +89,17 @@ AreCapableFrom start w = start ≤ w.time → OfEachPort (λ itself h q. IsCapab
 -- ---- the network
 
 -- The network that a world has, no path of which has more than m systems, and of which claims are made from this time
--- on. All ports have one announce interval.
-abbrev pub network_of : Params → ℕ → ℕ → WorldState → Network
+-- on. Each port has its own announce interval.
+abbrev pub network_of : Pace → ℕ → ℕ → WorldState → Network
 network_of p m start w = record {
   graph = snapshot_of w;
   reach = m;
   place = place_of w.stations;
   lane = lane_of w.net.channels;
-  interval_of = λ port. announce_interval p;
+  log_of = log_of w.stations;
+  interval_of = λ port. interval_of (log_of w.stations port);
   interval = largest_interval p;
   most = greatest_delay (live_systems w.stations) w.net.channels;
-  timeout = p.timeout;
+  timeout = p.params.timeout;
   start = start;
 }

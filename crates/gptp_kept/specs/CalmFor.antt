@@ -1,34 +1,35 @@
 -- A world that has been calm for long enough, and ports that have settled, in words that name no parameters.
 use Rattle.std.specs.Prelude.{◌≡◌, ◌≤◌, ◌↔◌, ◌+◌, ℕ, true, false, length}
+use Rattle.gptp_setup.specs.Pace.{Pace}
 use Rattle.gptp_graph.specs.Snapshot.{IsLinked, Snapshot}
 use Rattle.gptp_vector.specs.declared.port.PortId.{PortId}
 use Rattle.gptp_pdelay.specs.Peer.{is_capable}
 use Rattle.gptp_receipt.specs.declared.held.Held.{Held}
 use Rattle.gptp_receipt.specs.declared.held.Held.TheVariants.{Disabled}
 use Rattle.gptp_system.specs.declared.port.Port.{Port}
-use Rattle.gptp_setup.specs.declared.setup.Params.{Params}
 use Rattle.gptp_plan.specs.SettlingTime.{capability_span, settling_span}
+use Rattle.gptp_acts.specs.Prompt.{HavePace}
 use Rattle.gptp_acts.specs.World.{WorldState}
 use Rattle.gptp_kept.specs.Due.{OfEachPort}
-use Rattle.gptp_kept.specs.Known.{AreSet}
 use Rattle.gptp_kept.specs.View.{identity_of}
 use Rattle.gptp_kept.specs.Calm.{IsQuietWorld}
 use Rattle.gptp_kept.specs.Standing.{snapshot_of}
 
--- All systems have the same parameters; each link that is up between two live systems loses nothing and is short
--- enough for the threshold; and since the last change a span has passed that may depend on how many systems live.
-pub record IsCalmFor (span : Params → ℕ → ℕ) (w : WorldState) : Type 0 where
-  pub params : Params
-  pub set : AreSet params w
-  pub quiet : IsQuietWorld params w
-  pub late : w.last_change + span params (length (snapshot_of w).systems) ≤ w.time
+-- All systems start with the same parameters and largest announce interval; each link that is up between two live
+-- systems loses nothing and is short enough for the threshold; and since the last change a span has passed that may
+-- depend on how many systems live.
+pub record IsCalmFor (span : Pace → ℕ → ℕ) (w : WorldState) : Type 0 where
+  pub pace : Pace
+  pub set : HavePace pace w
+  pub quiet : IsQuietWorld pace.params w
+  pub late : w.last_change + span pace (length (snapshot_of w).systems) ≤ w.time
 
 -- by when every port is capable that will be, and no other is, however many systems live
-abbrev pub capable_span : Params → ℕ → ℕ
+abbrev pub capable_span : Pace → ℕ → ℕ
 capable_span p n = capability_span p
 
 -- the settling span of m systems, however many live
-abbrev pub span_over : ℕ → Params → ℕ → ℕ
+abbrev pub span_over : ℕ → Pace → ℕ → ℕ
 span_over m p n = settling_span p m
 
 -- a port is capable exactly where a link of the snapshot is at it, and Disabled exactly where it isn't capable

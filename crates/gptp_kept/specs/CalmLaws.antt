@@ -3,7 +3,7 @@ use Rattle.std.specs.Prelude.{◌≡◌, ◌≤◌, ◌+◌, ℕ, List}
 use Rattle.gptp_graph.specs.PathBound.{BoundsPaths}
 use Rattle.gptp_links.specs.Fate.{Draw}
 use Rattle.gptp_setup.specs.declared.setup.Params.{Params}
-use Rattle.gptp_setup.specs.Intervals.{largest_interval}
+use Rattle.gptp_setup.specs.Pace.{Pace, largest_interval}
 use Rattle.gptp_plan.specs.declared.change.Act.{Act}
 use Rattle.gptp_acts.specs.declared.done.Done.{Done}
 use Rattle.gptp_acts.specs.Acts.{Acts, at}
@@ -23,21 +23,21 @@ use Rattle.gptp_kept.specs.Calm.{AreCapableFrom, IsQuietWorld, network_of}
 
 -- what the machine knows of each state is so of every sound and known world, calm or not
 abbrev pub HasFacts : Type 0
-HasFacts = (p : Params) (m start : ℕ) (w : WorldState)
+HasFacts = (p : Pace) (m start : ℕ) (w : WorldState)
     → IsSound w → IsKnown p w
     → Facts (setting (network_of p m start w)) (view w)
 
 -- a sound, legible and known world has a network of the machine, for each number that bounds the systems of its paths
 abbrev pub HasNetwork : Type 0
-HasNetwork = (p : Params) (m start : ℕ) (w : WorldState)
+HasNetwork = (p : Pace) (m start : ℕ) (w : WorldState)
     → IsSound w → AreBetween w → IsLegible w → IsKnown p w → BoundsPaths (snapshot_of w) m
     → IsNetwork (network_of p m start w)
 
--- Such a world is a calm state where it is quiet, an announce interval passes from the last change to the start, and
--- from the start its ports are disabled exactly where no link of the snapshot is at them.
+-- Such a world is a calm state where it is quiet, the largest announce interval passes from the last change to the
+-- start, and from the start its ports are disabled exactly where no link of the snapshot is at them.
 abbrev pub IsCalmState : Type 0
-IsCalmState = (p : Params) (m start : ℕ) (w : WorldState)
-    → IsSound w → IsLegible w → IsKnown p w → IsQuietWorld p w
+IsCalmState = (p : Pace) (m start : ℕ) (w : WorldState)
+    → IsSound w → IsLegible w → IsKnown p w → IsQuietWorld p.params w
     → w.last_change + largest_interval p ≤ start → AreCapableFrom start w
     → Calm (network_of p m start w) (view w)
 
@@ -45,13 +45,13 @@ IsCalmState = (p : Params) (m start : ℕ) (w : WorldState)
 
 -- an act that changes nothing of the network leaves it, and so does time that passes
 abbrev pub ActsKeepNetwork : Type 0
-ActsKeepNetwork = (p : Params) (m start : ℕ) (act : Act) (w : WorldState) (draws : List Draw) (done : Done)
+ActsKeepNetwork = (p : Pace) (m start : ℕ) (act : Act) (w : WorldState) (draws : List Draw) (done : Done)
     (w' : WorldState)
     → IsNoChange act → Acts act w draws done w'
     → network_of p m start w' ≡ network_of p m start w
 
 abbrev pub TimeKeepsNetwork : Type 0
-TimeKeepsNetwork = (p : Params) (m start : ℕ) (w : WorldState) (time : ℕ)
+TimeKeepsNetwork = (p : Pace) (m start : ℕ) (w : WorldState) (time : ℕ)
     → network_of p m start (at time w) ≡ network_of p m start w
 
 -- they leave it quiet

@@ -1,8 +1,8 @@
 -- Laws on worlds whose good links in use are watched.
 use Rattle.std.specs.Prelude.{◌≤◌, ℕ, List, Option}
+use Rattle.gptp_setup.specs.Pace.{Pace}
 use Rattle.gptp_links.specs.declared.bounds.Bounds.{Bounds}
 use Rattle.gptp_links.specs.Fate.{Draw}
-use Rattle.gptp_setup.specs.declared.setup.Params.{Params}
 use Rattle.gptp_plan.specs.declared.change.Act.{Act}
 use Rattle.gptp_plan.specs.declared.change.Act.TheVariants.{Change as Changing}
 use Rattle.gptp_plan.specs.declared.change.Change.{Change}
@@ -12,10 +12,10 @@ use Rattle.gptp_acts.specs.Acts.{Acts, at}
 use Rattle.gptp_plan.specs.Allowed.{IsFitAct}
 use Rattle.gptp_acts.specs.Course.{Begun, WasDone}
 use Rattle.gptp_acts.specs.Initial.{initial}
-use Rattle.gptp_plan.specs.Network.{IsNetwork, NetworkState}
-use Rattle.gptp_plan.specs.Params.{KeepParams}
+use Rattle.gptp_plan.specs.Network.{IsNetwork, NetworkState, pace_of}
+use Rattle.gptp_plan.specs.Params.{KeepPace}
 use Rattle.gptp_acts.specs.Pending.{NothingBefore}
-use Rattle.gptp_plan.specs.Prompt.{IsPromptAct}
+use Rattle.gptp_acts.specs.Prompt.{IsPromptIn}
 use Rattle.gptp_acts.specs.Sound.{IsSound}
 use Rattle.gptp_acts.specs.World.{WorldState}
 use Rattle.gptp_kept.specs.Measured.{IsMeasured}
@@ -36,41 +36,41 @@ MeasuredAtFirst {F} answers = (n : NetworkState) (fate fate_after : F) (w : Worl
 -- and stays so from act to act
 abbrev pub MeasuredDone : {F : Type 0} → (Bounds → ℕ → F → Option ℕ → F → Type 0) → Type 0
 MeasuredDone {F} answers = (timed : Timed) (fate fate_after : F) (w w' : WorldState) (done : Done)
-    → WasDone answers timed fate fate_after w w' done → IsSound w → IsMeasured w
+    → SetsAnOctet timed.act → WasDone answers timed fate fate_after w w' done → IsSound w → IsMeasured w
     → IsMeasured w'
 
 -- ---- the claim begins
 
 -- after every change of the network
 abbrev pub WatchesChanged : Type 0
-WatchesChanged = (p : Params) (change : Change) (w : WorldState) (draws : List Draw) (done : Done) (w' : WorldState)
-    → KeepParams p → Acts (Changing change) w draws done w' → IsWorld p w' → IsMeasured w'
+WatchesChanged = (p : Pace) (change : Change) (w : WorldState) (draws : List Draw) (done : Done) (w' : WorldState)
+    → KeepPace p → Acts (Changing change) w draws done w' → IsWorld p w' → IsMeasured w'
     → Watches p w'
 
 -- and as the world of a network begins
 abbrev pub WatchesAtFirst : {F : Type 0} → (Bounds → ℕ → F → Option ℕ → F → Type 0) → Type 0
 WatchesAtFirst {F} answers = (n : NetworkState) (fate fate_after : F) (w : WorldState)
-    → IsNetwork n → Begun answers n fate fate_after w → IsWorld n.params w → IsMeasured w
-    → Watches n.params w
+    → IsNetwork n → Begun answers n fate fate_after w → IsWorld (pace_of n) w → IsMeasured w
+    → Watches (pace_of n) w
 
 -- ---- it is kept
 
 -- an act that changes nothing of the network keeps it
 abbrev pub WatchesKept : Type 0
-WatchesKept = (p : Params) (act : Act) (w : WorldState) (draws : List Draw) (done : Done) (w' : WorldState)
+WatchesKept = (p : Pace) (act : Act) (w : WorldState) (draws : List Draw) (done : Done) (w' : WorldState)
     → IsNoChange act → Acts act w draws done w' → IsWorld p w → Watches p w
     → Watches p w'
 
 -- and so does time that passes, up to when something is due
 abbrev pub WatchesLater : Type 0
-WatchesLater = (p : Params) (w : WorldState) (time : ℕ)
+WatchesLater = (p : Pace) (w : WorldState) (time : ℕ)
     → w.time ≤ time → NothingBefore time w.net.pending → IsWorld p w → Watches p w
     → Watches p (at time w)
 
 -- so it is kept from act to act, a change included
 abbrev pub WatchesDone : {F : Type 0} → (Bounds → ℕ → F → Option ℕ → F → Type 0) → Type 0
-WatchesDone {F} answers = (p : Params) (timed : Timed) (fate fate_after : F) (w w' : WorldState) (done : Done)
-    → KeepParams p → IsFitAct timed.act → IsPromptAct p timed.act → SetsAnOctet timed.act
+WatchesDone {F} answers = (p : Pace) (timed : Timed) (fate fate_after : F) (w w' : WorldState) (done : Done)
+    → KeepPace p → IsFitAct timed.act → IsPromptIn w timed.act → SetsAnOctet timed.act
     → WasDone answers timed fate fate_after w w' done → IsWorld p w → IsMeasured w → Watches p w
     → Watches p w'
 
@@ -78,6 +78,6 @@ WatchesDone {F} answers = (p : Params) (timed : Timed) (fate fate_after : F) (w 
 
 -- a quiet world of which it holds has capable ports at all links of its snapshot, from the start on
 abbrev pub UsedPortsCapable : Type 0
-UsedPortsCapable = (p : Params) (w : WorldState)
-    → KeepParams p → IsWorld p w → IsQuietWorld p w → Watches p w → start_of p w ≤ w.time
+UsedPortsCapable = (p : Pace) (w : WorldState)
+    → KeepPace p → IsWorld p w → IsQuietWorld p.params w → Watches p w → start_of p w ≤ w.time
     → AreUsedCapable w

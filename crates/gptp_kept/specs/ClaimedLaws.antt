@@ -1,20 +1,19 @@
 -- Laws on what every world of a network keeps.
 use Rattle.std.specs.Prelude.{◌≤◌, ℕ, Option}
+use Rattle.gptp_setup.specs.Pace.{Pace}
 use Rattle.gptp_graph.specs.PathBound.{BoundsPaths, path_bound}
 use Rattle.gptp_links.specs.declared.bounds.Bounds.{Bounds}
-use Rattle.gptp_setup.specs.declared.setup.Params.{Params}
 use Rattle.gptp_plan.specs.declared.change.Timed.{Timed}
 use Rattle.gptp_acts.specs.declared.done.Done.{Done}
 use Rattle.gptp_plan.specs.Allowed.{IsFitAct}
 use Rattle.gptp_acts.specs.Acts.{at}
 use Rattle.gptp_acts.specs.Course.{Begun, WasDone}
 use Rattle.gptp_acts.specs.Initial.{initial}
-use Rattle.gptp_plan.specs.Network.{IsNetwork, NetworkState}
+use Rattle.gptp_plan.specs.Network.{IsNetwork, NetworkState, pace_of}
 use Rattle.gptp_acts.specs.Pending.{NothingBefore}
 use Rattle.gptp_plan.specs.SettlingTime.{settling_span}
 use Rattle.gptp_acts.specs.Sound.{IsSound}
 use Rattle.gptp_acts.specs.World.{WorldState}
-use Rattle.gptp_plan.specs.Prompt.{IsPromptAct}
 use Rattle.gptp_acts.specs.Prompt.{IsPromptIn}
 use Rattle.gptp_kept.specs.LegibleLaws.{SetsAnOctet}
 use Rattle.gptp_kept.specs.Holds.{BecomeCapable}
@@ -23,30 +22,30 @@ use Rattle.gptp_kept.specs.Standing.{snapshot_of}
 use Rattle.gptp_kept.specs.CalmFor.{ArePortsSettled, IsCalmFor, capable_span, span_over}
 use Rattle.gptp_kept.specs.Claimed.{Claimed, IsClaimed}
 
--- ---- with the parameters of the network
+-- ---- with the parameters of the network and its largest announce interval
 
 -- the world of a network keeps it as it begins
 abbrev pub ClaimBegins : {F : Type 0} → (Bounds → ℕ → F → Option ℕ → F → Type 0) → Type 0
 ClaimBegins {F} answers = (n : NetworkState) (fate fate_after : F) (w : WorldState)
     → IsNetwork n → IsSound (initial n) → Begun answers n fate fate_after w
-    → IsClaimed n.params w
+    → IsClaimed (pace_of n) w
 
 -- it is kept from act to act, a change included
 abbrev pub ClaimKept : {F : Type 0} → (Bounds → ℕ → F → Option ℕ → F → Type 0) → Type 0
-ClaimKept {F} answers = (p : Params) (timed : Timed) (fate fate_after : F) (w w' : WorldState) (done : Done)
-    → IsFitAct timed.act → IsPromptAct p timed.act → SetsAnOctet timed.act
+ClaimKept {F} answers = (p : Pace) (timed : Timed) (fate fate_after : F) (w w' : WorldState) (done : Done)
+    → IsFitAct timed.act → IsPromptIn w timed.act → SetsAnOctet timed.act
     → WasDone answers timed fate fate_after w w' done → IsClaimed p w
     → IsClaimed p w'
 
 -- and as time passes, up to when something is due
 abbrev pub ClaimLater : Type 0
-ClaimLater = (p : Params) (w : WorldState) (time : ℕ)
+ClaimLater = (p : Pace) (w : WorldState) (time : ℕ)
     → w.time ≤ time → NothingBefore time w.net.pending → IsClaimed p w
     → IsClaimed p (at time w)
 
 -- from the start on the ports of live systems are disabled exactly where no link of the snapshot is at them
 abbrev pub ClaimIsCapable : Type 0
-ClaimIsCapable = (p : Params) (w : WorldState) → IsClaimed p w → BecomeCapable p w
+ClaimIsCapable = (p : Pace) (w : WorldState) → IsClaimed p w → BecomeCapable p w
 
 -- ---- without them
 

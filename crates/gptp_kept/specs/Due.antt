@@ -5,8 +5,8 @@ use Rattle.gptp_receipt.specs.declared.held.Held.{Held}
 use Rattle.gptp_receipt.specs.declared.held.Reception.{Reception}
 use Rattle.gptp_receipt.specs.Held.{received}
 use Rattle.gptp_system.specs.declared.port.Port.{Port}
-use Rattle.gptp_setup.specs.declared.setup.Params.{Params}
-use Rattle.gptp_setup.specs.Intervals.{interval_of, largest_interval, longest_span}
+use Rattle.gptp_setup.specs.Intervals.{interval_of}
+use Rattle.gptp_setup.specs.Pace.{Pace, span_by}
 use Rattle.gptp_system.specs.State.{is_mine, own}
 use Rattle.gptp_acts.specs.declared.station.Station.{Station}
 use Rattle.gptp_acts.specs.World.{WorldState}
@@ -16,13 +16,14 @@ pub record IsWithin (since span time : ℕ) : Type 0 where
   pub least : since ≤ time
   pub most : time ≤ since + span
 
--- What is known of a port that holds this: as Master it announces within one announce interval, what it received came
--- within the announce receipt timeout, and it asks within one pdelay interval and answers within one turnaround.
-pub record IsPortKnown (p : Params) (now : ℕ) (h : Held) (q : Port) : Type 0 where
-  pub announces : is_mine h ≡ true → IsWithin now (largest_interval p) q.announce
-  pub came : (r : Reception) → received h ≡ Some r → IsWithin r.at (longest_span p) now
-  pub asks : (t : ℕ) → q.pdelay ≡ Some t → IsWithin now (interval_of p.pdelay) t
-  pub answers : (t : ℕ) → q.respond ≡ Some t → IsWithin now p.turnaround t
+-- What is known of a port that holds this: as Master it announces within its announce interval, what it received came
+-- within the announce receipt timeout by the interval that it named, and it asks within one pdelay interval and answers
+-- within one turnaround.
+pub record IsPortKnown (p : Pace) (now : ℕ) (h : Held) (q : Port) : Type 0 where
+  pub announces : is_mine h ≡ true → IsWithin now (interval_of q.log_interval) q.announce
+  pub came : (r : Reception) → received h ≡ Some r → IsWithin r.at (span_by p.params.timeout p.largest r.interval) now
+  pub asks : (t : ℕ) → q.pdelay ≡ Some t → IsWithin now (interval_of p.params.pdelay) t
+  pub answers : (t : ℕ) → q.respond ≡ Some t → IsWithin now p.params.turnaround t
 
 -- this is so of each port of each live system; the port at place i has the number i + 1
 abbrev pub OfEachPort : (PortId → Held → Port → Type 0) → WorldState → Type 0

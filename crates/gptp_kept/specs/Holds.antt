@@ -1,7 +1,7 @@
 -- What is claimed of a world between two changes of its network.
 use Rattle.std.specs.Prelude.{◌+◌, ℕ}
+use Rattle.gptp_setup.specs.Pace.{Pace}
 use Rattle.gptp_graph.specs.PathBound.{BoundsPaths}
-use Rattle.gptp_setup.specs.declared.setup.Params.{Params}
 use Rattle.gptp_plan.specs.SettlingTime.{capability_span}
 use Rattle.gptp_acts.specs.Sound.{IsSound}
 use Rattle.gptp_acts.specs.World.{WorldState}
@@ -13,27 +13,27 @@ use Rattle.gptp_kept.specs.View.{says, view}
 use Rattle.gptp_kept.specs.Calm.{AreCapableFrom, IsQuietWorld, network_of}
 use Rattle.gptp_kept.specs.Standing.{AreBetween, snapshot_of}
 
--- a world of a network with these parameters, at any time
-pub record IsWorld (p : Params) (w : WorldState) : Type 0 where
+-- a world of a network with these parameters and this largest announce interval, at any time
+pub record IsWorld (p : Pace) (w : WorldState) : Type 0 where
   pub sound : IsSound w
   pub legible : IsLegible w
   pub known : IsKnown p w
   pub between : AreBetween w
 
 -- from when every port is capable that will be
-abbrev pub start_of : Params → WorldState → ℕ
+abbrev pub start_of : Pace → WorldState → ℕ
 start_of p w = w.last_change + capability_span p
 
 -- it is so of the ports of live systems, where the links are quiet
-abbrev pub BecomeCapable : Params → WorldState → Type 0
-BecomeCapable p w = IsQuietWorld p w → AreCapableFrom (start_of p w) w
+abbrev pub BecomeCapable : Pace → WorldState → Type 0
+BecomeCapable p w = IsQuietWorld p.params w → AreCapableFrom (start_of p w) w
 
 -- the network of the machine of gptp_settling that the world then has, where no path has more than m systems
-abbrev pub settling_network : Params → ℕ → WorldState → Network
+abbrev pub settling_network : Pace → ℕ → WorldState → Network
 settling_network p m w = network_of p m (start_of p w) w
 
 -- where the links are quiet, the invariant of that machine holds of what it sees of the world, for each number that
 -- bounds how many systems a path has
-abbrev pub Holds : Params → WorldState → Type 0
-Holds p w = (m : ℕ) → BoundsPaths (snapshot_of w) m → IsQuietWorld p w
+abbrev pub Holds : Pace → WorldState → Type 0
+Holds p w = (m : ℕ) → BoundsPaths (snapshot_of w) m → IsQuietWorld p.params w
     → Invariant says (settling_network p m w) (view w)

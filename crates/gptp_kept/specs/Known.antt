@@ -1,31 +1,43 @@
 -- What is known of every item of a world, at every time.
-use Rattle.std.specs.Prelude.{◌≡◌, ◌≤◌, ◌+◌, ℕ, max, true, Some, slice_get}
+use Rattle.std.specs.Prelude.{◌≡◌, ◌≤◌, ◌+◌, ℕ, ℤ, max, true, List, Some, slice_get}
 use Rattle.gptp_lists.specs.Members.{In}
 use Rattle.gptp_links.specs.declared.link.Direction.{Direction}
 use Rattle.gptp_links.specs.Queue.{Frame}
 use Rattle.gptp_system.specs.declared.port.Port.{Port}
-use Rattle.gptp_setup.specs.declared.setup.Params.{Params}
-use Rattle.gptp_setup.specs.Intervals.{announce_interval, largest_interval}
+use Rattle.gptp_setup.specs.Intervals.{AreIntervals, interval_of}
+use Rattle.gptp_setup.specs.Pace.{Pace, largest_interval}
 use Rattle.gptp_system.specs.Times.{IsInTime}
 use Rattle.gptp_acts.specs.declared.station.Station.{Station}
+use Rattle.gptp_acts.specs.Prompt.{HasPace}
 use Rattle.gptp_acts.specs.World.{Channel, WorldState, queue}
 use Rattle.gptp_kept.specs.Linked.{MeasureLinks}
 use Rattle.gptp_kept.specs.Measuring.{AreMeasuring}
+use Rattle.gptp_kept.specs.Short.{IsShort}
 
--- a station starts with these parameters, its system has them, and each of its ports announces at their interval
-pub record IsSetTo (p : Params) (station : Station) : Type 0 where
-  pub setup : station.setup.params ≡ p
-  pub system : station.system.params ≡ p
-  pub logs : (i : ℕ) (q : Port) → slice_get station.system.ports i ≡ Some q → q.log_interval ≡ p.announce
+-- A station starts with these parameters and this largest interval, and its system has them. It starts with an interval
+-- for each port, none of which is above the largest, and its ports announce at these.
+pub record IsSetTo (p : Pace) (station : Station) : Type 0 where
+  pub starts : HasPace p station
+  pub params : station.system.params ≡ p.params
+  pub largest : station.system.largest ≡ p.largest
+  pub intervals : AreIntervals station.setup
+  pub logs : (i : ℕ) (q : Port) → slice_get station.system.ports i ≡ Some q
+      → slice_get station.setup.intervals.items i ≡ Some q.log_interval
 
--- all stations of a world have the parameters of its network
-abbrev pub AreSet : Params → WorldState → Type 0
+-- all stations of a world have the parameters of its network, and its largest interval
+abbrev pub AreSet : Pace → WorldState → Type 0
 AreSet p w = (place : ℕ) (station : Station) → slice_get w.stations place ≡ Some station → IsSetTo p station
 
--- no link has a delay above an announce interval
-abbrev pub ArePrompt : Params → WorldState → Type 0
-ArePrompt p w = (link : ℕ) (channel : Channel) → slice_get w.net.channels link ≡ Some channel
-    → channel.bounds.max ≤ announce_interval p
+-- one of these stations starts with this announce interval for a port
+pub record IsLogAmong (stations : List Station) (log : ℤ) : Type 0 where
+  pub place : ℕ
+  pub station : Station
+  pub here : slice_get stations place ≡ Some station
+  pub among : In log station.setup.intervals.items
+
+-- no link has a delay above the announce interval of any port, and each frame in flight arrives within it
+abbrev pub ArePrompt : WorldState → Type 0
+ArePrompt w = (log : ℤ) → IsLogAmong w.stations log → IsShort (interval_of log) w
 
 -- the timers of each live system run out within their intervals
 abbrev pub AreInTime : WorldState → Type 0
@@ -37,23 +49,23 @@ abbrev pub OfEachFrame : (Channel → Frame → Type 0) → WorldState → Type 
 OfEachFrame So w = (link : ℕ) (direction : Direction) (channel : Channel) (f : Frame)
     → slice_get w.net.channels link ≡ Some channel → In f (queue direction channel) → So channel f
 
--- each frame in flight arrives within an announce interval
-abbrev pub AreNear : Params → WorldState → Type 0
-AreNear p w = OfEachFrame (λ channel f. f.due ≤ w.time + largest_interval p) w
+-- so it is with the largest of them
+abbrev pub AreNear : Pace → WorldState → Type 0
+AreNear p w = IsShort (largest_interval p) w
 
--- Since the last change: each frame in flight arrives within the greatest delay of its link, or by an announce interval
--- after that change, since it doesn't overtake one that was in flight then.
-pub record AreFresh (p : Params) (w : WorldState) : Type 0 where
+-- Since the last change: each frame in flight arrives within the greatest delay of its link, or by the largest announce
+-- interval after that change, since it doesn't overtake one that was in flight then.
+pub record AreFresh (p : Pace) (w : WorldState) : Type 0 where
   pub change : w.last_change ≤ w.time
   pub frames : OfEachFrame (λ channel f.
       f.due ≤ max (w.time + channel.bounds.max) (w.last_change + largest_interval p)) w
 
--- what is known of a world of a network with these parameters
-pub record IsKnown (p : Params) (w : WorldState) : Type 0 where
+-- what is known of a world of a network with these parameters and this largest interval
+pub record IsKnown (p : Pace) (w : WorldState) : Type 0 where
   pub set : AreSet p w
-  pub prompt : ArePrompt p w
+  pub prompt : ArePrompt w
   pub in_time : AreInTime w
-  pub measuring : AreMeasuring p w
+  pub measuring : AreMeasuring p.params w
   pub links : MeasureLinks w
   pub near : AreNear p w
   pub fresh : AreFresh p w

@@ -1,25 +1,26 @@
 -- Laws on what is known of a world.
-use Rattle.std.specs.Prelude.{◌≡◌, ◌⊎◌, ◌<◌, ◌≤◌, ◌+◌, ℕ, suc, true, List, Option, Some, slice_get}
+use Rattle.std.specs.Prelude.{◌≡◌, ◌⊎◌, ◌<◌, ◌≤◌, ◌+◌, ℕ, suc, ℤ, true, List, Option, Some, slice_get}
 use Rattle.gptp_links.specs.declared.bounds.Bounds.{Bounds}
 use Rattle.gptp_links.specs.Fate.{Draw}
 use Rattle.gptp_receipt.specs.declared.held.Held.{Held}
 use Rattle.gptp_receipt.specs.declared.held.Held.TheVariants.{Disabled}
-use Rattle.gptp_setup.specs.declared.setup.Params.{Params}
 use Rattle.gptp_system.specs.Follows.{FollowsItself, FollowsPort}
-use Rattle.gptp_setup.specs.Intervals.{AreParams, announce_interval, largest_interval, receipt_span}
+use Rattle.gptp_setup.specs.Intervals.{AreParams, interval_of}
+use Rattle.gptp_setup.specs.Pace.{Pace, largest_interval, span_by}
 use Rattle.gptp_plan.specs.declared.change.Act.{Act}
 use Rattle.gptp_plan.specs.declared.change.Timed.{Timed}
 use Rattle.gptp_acts.specs.declared.done.Done.{Done}
 use Rattle.gptp_acts.specs.Acts.{Acts, at}
 use Rattle.gptp_acts.specs.Course.{Begun, WasDone}
-use Rattle.gptp_plan.specs.Network.{IsNetwork, NetworkState}
+use Rattle.gptp_plan.specs.Network.{IsNetwork, NetworkState, pace_of}
 use Rattle.gptp_plan.specs.Prompt.{IsPromptAct}
+use Rattle.gptp_acts.specs.Prompt.{IsPromptIn}
 use Rattle.gptp_acts.specs.Sends.{IsUnlinked}
 use Rattle.gptp_acts.specs.Sound.{IsSound}
 use Rattle.gptp_acts.specs.World.{Channel, WorldState}
 use Rattle.gptp_kept.specs.AtRest.{IsPortAtRest, OfEachSystem}
 use Rattle.gptp_kept.specs.Due.{IsPortKnown, IsWithin, OfEachPort}
-use Rattle.gptp_kept.specs.Known.{IsKnown, OfEachFrame}
+use Rattle.gptp_kept.specs.Known.{IsKnown, IsLogAmong, OfEachFrame}
 
 -- ---- it begins, and is kept
 
@@ -27,46 +28,48 @@ use Rattle.gptp_kept.specs.Known.{IsKnown, OfEachFrame}
 abbrev pub BeginsKnown : {F : Type 0} → (Bounds → ℕ → F → Option ℕ → F → Type 0) → Type 0
 BeginsKnown {F} answers = (n : NetworkState) (fate fate_after : F) (w : WorldState)
     → IsNetwork n → Begun answers n fate fate_after w
-    → IsKnown n.params w
+    → IsKnown (pace_of n) w
 
 -- time that passes keeps what is known
 abbrev pub LaterKnown : Type 0
-LaterKnown = (p : Params) (w : WorldState) (t : ℕ)
+LaterKnown = (p : Pace) (w : WorldState) (t : ℕ)
     → w.time ≤ t → IsKnown p w
     → IsKnown p (at t w)
 
--- and so does every act
+-- and so does every act that sets no link to a delay above an announce interval, nor above the largest
 abbrev pub ActsKnown : Type 0
-ActsKnown = (p : Params) (act : Act) (w : WorldState) (draws : List Draw) (done : Done) (w' : WorldState)
-    → IsSound w → IsPromptAct p act → Acts act w draws done w' → IsKnown p w
+ActsKnown = (p : Pace) (act : Act) (w : WorldState) (draws : List Draw) (done : Done) (w' : WorldState)
+    → IsSound w → IsPromptAct (largest_interval p) act → IsPromptIn w act → Acts act w draws done w' → IsKnown p w
     → IsKnown p w'
 
 -- so what is known is kept from act to act
 abbrev pub DoneKnown : {F : Type 0} → (Bounds → ℕ → F → Option ℕ → F → Type 0) → Type 0
-DoneKnown {F} answers = (p : Params) (timed : Timed) (fate fate_after : F) (w w' : WorldState) (done : Done)
-    → IsSound w → IsPromptAct p timed.act → WasDone answers timed fate fate_after w w' done → IsKnown p w
+DoneKnown {F} answers = (p : Pace) (timed : Timed) (fate fate_after : F) (w w' : WorldState) (done : Done)
+    → IsSound w → IsPromptAct (largest_interval p) timed.act → IsPromptIn w timed.act
+    → WasDone answers timed fate fate_after w w' done → IsKnown p w
     → IsKnown p w'
 
 -- ---- what follows
 
 -- then what is pending of each port of a live system is due in time, and what it received is young
 abbrev pub PortsKnown : Type 0
-PortsKnown = (p : Params) (w : WorldState)
+PortsKnown = (p : Pace) (w : WorldState)
     → IsSound w → IsKnown p w
     → OfEachPort (λ itself h q. IsPortKnown p w.time h q) w
 
 -- one at which no link that is up begins is Disabled
 abbrev pub UnlinkedDisabled : Type 0
-UnlinkedDisabled = (p : Params) (w : WorldState)
+UnlinkedDisabled = (p : Pace) (w : WorldState)
     → IsSound w → IsKnown p w
     → OfEachPort (λ itself h q. IsUnlinked w.net itself → h ≡ Disabled) w
 
--- what is received stays longer than an announce interval and any delay
+-- what names the announce interval of a port stays longer than that interval and any delay
 abbrev pub ReceiptsOutlast : Type 0
-ReceiptsOutlast = (p : Params) (w : WorldState)
-    → AreParams p → IsKnown p w
+ReceiptsOutlast = (p : Pace) (w : WorldState)
+    → AreParams p.params → IsKnown p w
+    → (log : ℤ) → IsLogAmong w.stations log
     → (link : ℕ) (channel : Channel) → slice_get w.net.channels link ≡ Some channel
-    → announce_interval p + channel.bounds.max < receipt_span p
+    → interval_of log + channel.bounds.max < span_by p.params.timeout p.largest log
 
 -- the ports of every sound world hold what their systems chose
 abbrev pub PortsAtRest : Type 0
@@ -94,8 +97,9 @@ FramesNotLate = (w : WorldState)
     → IsSound w
     → OfEachFrame (λ channel f. w.time ≤ f.due) w
 
--- and once an announce interval has passed since the last change, each arrives within the greatest delay of its link
+-- and once the largest announce interval has passed since the last change, each arrives within the greatest delay of
+-- its link
 abbrev pub FramesFresh : Type 0
-FramesFresh = (p : Params) (w : WorldState)
+FramesFresh = (p : Pace) (w : WorldState)
     → IsSound w → IsKnown p w → w.last_change + largest_interval p ≤ w.time
     → OfEachFrame (λ channel f. IsWithin w.time channel.bounds.max f.due) w

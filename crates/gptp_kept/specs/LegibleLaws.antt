@@ -3,7 +3,7 @@ use Rattle.std.specs.Prelude.{◌<◌, ℕ, ⊤, List}
 use Rattle.gptp_links.specs.Fate.{Draw}
 use Rattle.gptp_plan.specs.declared.change.Act.{Act}
 use Rattle.gptp_plan.specs.declared.change.Act.TheVariants.{Change as Changing}
-use Rattle.gptp_plan.specs.declared.change.Change.TheVariants.{Priority1}
+use Rattle.gptp_plan.specs.declared.change.Change.TheVariants.{Priority1, Inject}
 use Rattle.gptp_acts.specs.declared.done.Done.{Done}
 use Rattle.gptp_acts.specs.Acts.{Acts, at}
 use Rattle.gptp_acts.specs.Changing.{StartsAll}
@@ -27,9 +27,10 @@ StartsStayLegible = (places : List ℕ) (w : WorldState) (draws : List Draw) (w'
     → IsSound w → IsLegible w → StartsAll places w draws w'
     → IsLegible w'
 
--- a priority1 that is set is an octet
+-- a priority1 that is set is an octet, and each octet that is injected is one
 abbrev pub SetsAnOctet : Act → Type 0
 SetsAnOctet (Changing (Priority1 number value)) = value < 256
+SetsAnOctet (Changing (Inject number port octets)) = AreOctets octets
 SetsAnOctet act = ⊤
 
 -- every act leaves a sound world legible

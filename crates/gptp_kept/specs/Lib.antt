@@ -29,7 +29,11 @@ pub mod CapableLaws
 pub mod Claimed
 pub mod CalmFor
 pub mod ClaimedLaws
-pub mod Shown
-pub mod ShownLaws
 pub mod Traces
 pub mod TraceLaws
+pub mod Shown
+pub mod ShownLaws
+pub mod Tree
+pub mod TreeLaws
+pub mod Bounded
+pub mod BoundedLaws

@@ -17,6 +17,7 @@ use Rattle.gptp_acts.specs.Acts.{Acts, at as at_time}
 use Rattle.gptp_acts.specs.Changing.{StartsAll}
 use Rattle.gptp_acts.specs.Initial.{initial}
 use Rattle.gptp_plan.specs.Network.{NetworkState}
+use Rattle.gptp_plan.specs.Prompt.{IsPromptAct}
 use Rattle.gptp_acts.specs.Pending.{NothingBefore}
 use Rattle.gptp_acts.specs.Sound.{IsSound}
 use Rattle.gptp_acts.specs.World.{WorldState, queue, receiver, sender}
@@ -24,10 +25,11 @@ use Rattle.gptp_measuring.specs.Acts.{AnswerTimerExpires, AnswererHears, AskerHe
 use Rattle.gptp_measuring.specs.Facts.{Facts, NothingIsDueBefore}
 use Rattle.gptp_measuring.specs.Invariant.{IsFresh}
 use Rattle.gptp_measuring.specs.Pair.{Passes}
+use Rattle.gptp_kept.specs.LegibleLaws.{SetsAnOctet}
 use Rattle.gptp_kept.specs.LinkView.{IsLinkOf, LinkPlace, asks, opposite, pair, replies, setting}
 use Rattle.gptp_kept.specs.LinkActs.{IsOneAct, IsSeen}
 use Rattle.gptp_kept.specs.Measured.{IsMeasured, StandsAt}
-use Rattle.gptp_kept.specs.Short.{IsShort, IsShortAct}
+use Rattle.gptp_kept.specs.Short.{IsShort}
 
 -- time passes at a link as it passes in the world
 abbrev pub TimePasses : Type 0
@@ -86,7 +88,7 @@ LinksAreSeen = (at : LinkPlace) (w : WorldState) → IsSound w → IsMeasured w 
 -- what must be known of the measuring is kept by every act, a change too
 abbrev pub MeasuredIsKept : Type 0
 MeasuredIsKept = (act : Act) (w w' : WorldState) (draws : List Draw) (done : Done)
-    → IsSound w → IsMeasured w → Acts act w draws done w'
+    → IsSound w → IsMeasured w → SetsAnOctet act → Acts act w draws done w'
     → IsMeasured w'
 
 -- by time that passes
@@ -127,7 +129,7 @@ LinksAreFresh = (at : LinkPlace) (gone calm : ℕ) (w : WorldState) (l : IsLinkO
 -- passes
 abbrev pub ShortIsKept : Type 0
 ShortIsKept = (span : ℕ) (act : Act) (w w' : WorldState) (draws : List Draw) (done : Done)
-    → IsShortAct span act → IsShort span w → Acts act w draws done w'
+    → IsPromptAct span act → IsShort span w → Acts act w draws done w'
     → IsShort span w'
 
 abbrev pub ShortHoldsLater : Type 0

@@ -3,8 +3,8 @@ use Rattle.std.specs.Prelude.{◌<◌, ◌≤◌, ◌+◌, ℕ, List, length, Op
 use Rattle.gptp_graph.specs.PathBound.{BoundsPaths}
 use Rattle.gptp_links.specs.declared.bounds.Bounds.{Bounds}
 use Rattle.gptp_links.specs.Fate.{Draw}
-use Rattle.gptp_setup.specs.declared.setup.Params.{Params}
-use Rattle.gptp_setup.specs.Intervals.{AreParams}
+use Rattle.gptp_setup.specs.Intervals.{IsLog}
+use Rattle.gptp_setup.specs.Pace.{Pace}
 use Rattle.gptp_plan.specs.declared.change.Act.{Act}
 use Rattle.gptp_plan.specs.declared.change.Act.TheVariants.{Change as Changing}
 use Rattle.gptp_plan.specs.declared.change.Change.{Change}
@@ -13,9 +13,9 @@ use Rattle.gptp_acts.specs.declared.done.Done.{Done}
 use Rattle.gptp_acts.specs.Acts.{Acts, at}
 use Rattle.gptp_plan.specs.Allowed.{IsFitAct}
 use Rattle.gptp_acts.specs.Course.{Begun, WasDone}
-use Rattle.gptp_plan.specs.Network.{IsNetwork, NetworkState}
-use Rattle.gptp_plan.specs.Prompt.{IsPromptAct}
+use Rattle.gptp_plan.specs.Network.{IsNetwork, NetworkState, pace_of}
 use Rattle.gptp_plan.specs.SettlingTime.{settling_span}
+use Rattle.gptp_acts.specs.Prompt.{IsPromptIn}
 use Rattle.gptp_acts.specs.Sound.{IsSound}
 use Rattle.gptp_acts.specs.World.{WorldState}
 use Rattle.gptp_kept.specs.LegibleLaws.{SetsAnOctet}
@@ -29,20 +29,20 @@ use Rattle.gptp_kept.specs.Settled.{Settled}
 
 -- every act that keeps the limits leaves a world one
 abbrev pub ActsStayWorlds : Type 0
-ActsStayWorlds = (p : Params) (act : Act) (w : WorldState) (draws : List Draw) (done : Done) (w' : WorldState)
-    → IsFitAct act → IsPromptAct p act → SetsAnOctet act → Acts act w draws done w' → IsWorld p w
+ActsStayWorlds = (p : Pace) (act : Act) (w : WorldState) (draws : List Draw) (done : Done) (w' : WorldState)
+    → IsFitAct act → IsPromptIn w act → SetsAnOctet act → Acts act w draws done w' → IsWorld p w
     → IsWorld p w'
 
 -- so does time that passes, where nothing is due before it
 abbrev pub TimeStaysWorld : Type 0
-TimeStaysWorld = (p : Params) (w : WorldState) (time : ℕ)
+TimeStaysWorld = (p : Pace) (w : WorldState) (time : ℕ)
     → w.time ≤ time → IsSound (at time w) → IsWorld p w
     → IsWorld p (at time w)
 
 -- so one is left from act to act
 abbrev pub DoneStaysWorld : {F : Type 0} → (Bounds → ℕ → F → Option ℕ → F → Type 0) → Type 0
-DoneStaysWorld {F} answers = (p : Params) (timed : Timed) (fate fate_after : F) (w w' : WorldState) (done : Done)
-    → IsFitAct timed.act → IsPromptAct p timed.act → SetsAnOctet timed.act
+DoneStaysWorld {F} answers = (p : Pace) (timed : Timed) (fate fate_after : F) (w w' : WorldState) (done : Done)
+    → IsFitAct timed.act → IsPromptIn w timed.act → SetsAnOctet timed.act
     → WasDone answers timed fate fate_after w w' done → IsWorld p w
     → IsWorld p w'
 
@@ -50,40 +50,40 @@ DoneStaysWorld {F} answers = (p : Params) (timed : Timed) (fate fate_after : F) 
 
 -- before the start it holds of every world
 abbrev pub HoldsBegins : Type 0
-HoldsBegins = (p : Params) (w : WorldState)
+HoldsBegins = (p : Pace) (w : WorldState)
     → IsWorld p w → w.time < start_of p w
     → Holds p w
 
 -- so it does after every change of the network
 abbrev pub HoldsChanged : Type 0
-HoldsChanged = (p : Params) (change : Change) (w : WorldState) (draws : List Draw) (done : Done) (w' : WorldState)
-    → AreParams p → Acts (Changing change) w draws done w' → IsWorld p w'
+HoldsChanged = (p : Pace) (change : Change) (w : WorldState) (draws : List Draw) (done : Done) (w' : WorldState)
+    → IsLog p.largest → Acts (Changing change) w draws done w' → IsWorld p w'
     → Holds p w'
 
 -- and as the world of a network begins
 abbrev pub HoldsAtFirst : {F : Type 0} → (Bounds → ℕ → F → Option ℕ → F → Type 0) → Type 0
 HoldsAtFirst {F} answers = (n : NetworkState) (fate fate_after : F) (w : WorldState)
-    → IsNetwork n → Begun answers n fate fate_after w → IsWorld n.params w
-    → Holds n.params w
+    → IsNetwork n → Begun answers n fate fate_after w → IsWorld (pace_of n) w
+    → Holds (pace_of n) w
 
 -- ---- it is kept
 
 -- an act that changes nothing of the network keeps it
 abbrev pub HoldsKept : Type 0
-HoldsKept = (p : Params) (act : Act) (w : WorldState) (draws : List Draw) (done : Done) (w' : WorldState)
+HoldsKept = (p : Pace) (act : Act) (w : WorldState) (draws : List Draw) (done : Done) (w' : WorldState)
     → IsNoChange act → Acts act w draws done w' → IsWorld p w → BecomeCapable p w → BecomeCapable p w' → Holds p w
     → Holds p w'
 
 -- and so does time that passes
 abbrev pub HoldsLater : Type 0
-HoldsLater = (p : Params) (w : WorldState) (time : ℕ)
+HoldsLater = (p : Pace) (w : WorldState) (time : ℕ)
     → w.time ≤ time → IsWorld p w → IsWorld p (at time w) → BecomeCapable p w → BecomeCapable p (at time w) → Holds p w
     → Holds p (at time w)
 
 -- so it is kept from act to act, where the ports are capable before the act, at its time, and after it
 abbrev pub HoldsDone : {F : Type 0} → (Bounds → ℕ → F → Option ℕ → F → Type 0) → Type 0
-HoldsDone {F} answers = (p : Params) (timed : Timed) (fate fate_after : F) (w w' : WorldState) (done : Done)
-    → AreParams p → IsFitAct timed.act → IsPromptAct p timed.act → SetsAnOctet timed.act
+HoldsDone {F} answers = (p : Pace) (timed : Timed) (fate fate_after : F) (w w' : WorldState) (done : Done)
+    → IsLog p.largest → IsFitAct timed.act → IsPromptIn w timed.act → SetsAnOctet timed.act
     → WasDone answers timed fate fate_after w w' done → IsWorld p w
     → BecomeCapable p w → BecomeCapable p (at timed.at w) → BecomeCapable p w' → Holds p w
     → Holds p w'
@@ -93,14 +93,14 @@ HoldsDone {F} answers = (p : Params) (timed : Timed) (fate fate_after : F) (w w'
 -- A quiet world of which it holds, and no path of which has more than m systems, has settled once the span of m systems
 -- has passed from the last change.
 abbrev pub HoldsSettledByPaths : Type 0
-HoldsSettledByPaths = (p : Params) (m : ℕ) (w : WorldState)
-    → IsWorld p w → IsQuietWorld p w → BecomeCapable p w → Holds p w → BoundsPaths (snapshot_of w) m
+HoldsSettledByPaths = (p : Pace) (m : ℕ) (w : WorldState)
+    → IsWorld p w → IsQuietWorld p.params w → BecomeCapable p w → Holds p w → BoundsPaths (snapshot_of w) m
     → w.last_change + settling_span p m ≤ w.time
     → Settled w
 
 -- so it has once the span of its live systems has
 abbrev pub HoldsSettled : Type 0
-HoldsSettled = (p : Params) (w : WorldState)
-    → IsWorld p w → IsQuietWorld p w → BecomeCapable p w → Holds p w
+HoldsSettled = (p : Pace) (w : WorldState)
+    → IsWorld p w → IsQuietWorld p.params w → BecomeCapable p w → Holds p w
     → w.last_change + settling_span p (length (snapshot_of w).systems) ≤ w.time
     → Settled w

@@ -1,11 +1,8 @@
 -- No frame in flight is due later than one greatest delay from now.
-use Rattle.std.specs.Prelude.{◌≡◌, ◌+◌, ◌≤◌, ℕ, ⊤, List, Some, slice_get}
+use Rattle.std.specs.Prelude.{◌≡◌, ◌+◌, ◌≤◌, ℕ, List, Some, slice_get}
 use Rattle.gptp_lists.specs.Members.{In}
 use Rattle.gptp_links.specs.declared.link.Direction.{Direction}
 use Rattle.gptp_links.specs.Queue.{Frame}
-use Rattle.gptp_plan.specs.declared.change.Act.{Act}
-use Rattle.gptp_plan.specs.declared.change.Act.TheVariants.{Change as Changing}
-use Rattle.gptp_plan.specs.declared.change.Change.TheVariants.{LinkSet}
 use Rattle.gptp_acts.specs.World.{Channel, WorldState, queue}
 
 -- no delay of a link is longer than this span, and what is in flight is due within it from now
@@ -20,8 +17,3 @@ AreShort span time channels = (link : ℕ) (channel : Channel) → slice_get cha
 -- so it is on every link of a world
 abbrev pub IsShort : ℕ → WorldState → Type 0
 IsShort span w = AreShort span w.time w.net.channels
-
--- an act sets no longer delay
-abbrev pub IsShortAct : ℕ → Act → Type 0
-IsShortAct span (Changing (LinkSet number port min max loss)) = max ≤ span
-IsShortAct span act = ⊤

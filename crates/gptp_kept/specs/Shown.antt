@@ -1,5 +1,6 @@
 -- What the calls of a world show once it has been calm for long enough.
-use Rattle.std.specs.Prelude.{◌≡◌, ◌≢◌, ◌↔◌, ℕ, true, Option}
+use Rattle.std.specs.Prelude.{◌≡◌, ◌≢◌, ◌<◌, ◌↔◌, ◌+◌, ◌*◌, ℕ, suc, true, Option}
+use Rattle.gptp_setup.specs.Pace.{Pace, largest_interval}
 use Rattle.gptp_graph.specs.Distance.{IsDistance, IsNear}
 use Rattle.gptp_graph.specs.PathBound.{BoundsPaths}
 use Rattle.gptp_graph.specs.SettledChoice.{IsBestIdentity}
@@ -15,6 +16,7 @@ use Rattle.gptp_settling.specs.Settled.{IsSlaveOf}
 use Rattle.gptp_kept.specs.Standing.{snapshot_of}
 use Rattle.gptp_kept.specs.Settled.{role_of}
 use Rattle.gptp_kept.specs.CalmFor.{IsCalmFor, capable_span, span_over}
+use Rattle.gptp_kept.specs.Traces.{turns_span}
 
 -- ---- capability
 
@@ -59,4 +61,24 @@ PlaysInTime number port w role =
 abbrev pub PlaysByPaths : ℕ → ℕ → WorldState → Role → Type 0
 PlaysByPaths number port w role = (m : ℕ)
     → BoundsPaths (snapshot_of w) m → IsCalmFor (span_over m) w → IsNear (snapshot_of w) number
+    → IsSettledRole (snapshot_of w) (port_of number port) (role_of role)
+
+-- ---- by distance
+
+-- two announce intervals for each of d steps, behind the turns in which all that is held becomes wholly clean
+abbrev pub distance_span : ℕ → ℕ → Pace → ℕ → ℕ
+distance_span m d p n = turns_span m p n + 2 * d * largest_interval p
+
+-- that is when a near system at distance d follows its component's best over its parent, where no path of the snapshot
+-- has more than m systems
+abbrev pub FollowsByDistance : ℕ → WorldState → ℕ → ℕ → Option ℕ → Type 0
+FollowsByDistance number w root steps slave = (m d : ℕ)
+    → BoundsPaths (snapshot_of w) m → IsDistance (snapshot_of w) number d → d < 255 → IsCalmFor (distance_span m d) w
+    → IsSettledFor (snapshot_of w) number root steps slave
+
+-- and two intervals later each of its ports has its settled role
+abbrev pub PlaysByDistance : ℕ → ℕ → WorldState → Role → Type 0
+PlaysByDistance number port w role = (m d : ℕ)
+    → BoundsPaths (snapshot_of w) m → IsDistance (snapshot_of w) number d → d < 255
+    → IsCalmFor (distance_span m (suc d)) w
     → IsSettledRole (snapshot_of w) (port_of number port) (role_of role)

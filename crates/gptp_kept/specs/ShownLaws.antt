@@ -6,7 +6,7 @@ use Rattle.gptp_acts.specs.Acts.{AtSystem}
 use Rattle.gptp_acts.specs.Views.{Follows, HasRole, ShowsLive}
 use Rattle.gptp_acts.specs.World.{WorldState}
 use Rattle.gptp_kept.specs.Claimed.{Claimed}
-use Rattle.gptp_kept.specs.Shown.{FollowsByPaths, FollowsInTime, IsCapableInTime, IsEnabledInTime, PlaysByPaths, PlaysInTime}
+use Rattle.gptp_kept.specs.Shown.{FollowsByDistance, FollowsByPaths, FollowsInTime, IsCapableInTime, IsEnabledInTime, PlaysByDistance, PlaysByPaths, PlaysInTime}
 
 -- a live system that is shown has its ports capable in time
 abbrev pub SystemsAreCapable : Type 0
@@ -42,3 +42,14 @@ abbrev pub RolesSettleByPaths : Type 0
 RolesSettleByPaths = (number port : ℕ) (w : WorldState) (role : Role)
     → Claimed w → AtSystem number w (HasRole port role)
     → PlaysByPaths number port w role
+
+-- and sooner still the nearer the system is to its best
+abbrev pub SystemsSettleByDistance : Type 0
+SystemsSettleByDistance = (number root steps : ℕ) (slave : Option ℕ) (w : WorldState)
+    → Claimed w → AtSystem number w (Follows root steps slave)
+    → FollowsByDistance number w root steps slave
+
+abbrev pub RolesSettleByDistance : Type 0
+RolesSettleByDistance = (number port : ℕ) (w : WorldState) (role : Role)
+    → Claimed w → AtSystem number w (HasRole port role)
+    → PlaysByDistance number port w role

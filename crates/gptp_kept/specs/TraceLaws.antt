@@ -1,6 +1,10 @@
 -- Laws on traces in calm worlds.
-use Rattle.std.specs.Prelude.{ℕ, Option}
+use Rattle.std.specs.Prelude.{◌≡◌, ◌≤◌, ℕ, Option}
+use Rattle.gptp_graph.specs.Best.{IsBest}
+use Rattle.gptp_graph.specs.Distance.{IsDistance}
+use Rattle.gptp_graph.specs.Snapshot.{IsWellFormed, Snapshot, System}
 use Rattle.gptp_links.specs.declared.bounds.Bounds.{Bounds}
+use Rattle.gptp_receipt.specs.declared.held.Reception.{Reception}
 use Rattle.gptp_system.specs.State.{SystemState}
 use Rattle.gptp_plan.specs.declared.change.Timed.{Timed}
 use Rattle.gptp_acts.specs.declared.done.Done.{Done}
@@ -8,7 +12,7 @@ use Rattle.gptp_acts.specs.Course.{WasDone}
 use Rattle.gptp_acts.specs.Views.{ShowsLive}
 use Rattle.gptp_acts.specs.World.{WorldState}
 use Rattle.gptp_kept.specs.Claimed.{Claimed}
-use Rattle.gptp_kept.specs.Traces.{AreHeldCleanInTime, IsCleanInTime, IsHeardClean}
+use Rattle.gptp_kept.specs.Traces.{AreHeldCleanInTime, AreHeldWholeInTime, IsCleanInTime, IsHeardClean, IsHeldWhole}
 
 -- the trace of a live system that is shown becomes clean
 abbrev pub TracesBecomeClean : Type 0
@@ -22,7 +26,21 @@ HeldBecomesClean = (number : ℕ) (w : WorldState) (s : SystemState)
     → Claimed w → ShowsLive number w s
     → AreHeldCleanInTime w s
 
--- and what an act delivers
+-- in the end it is wholly clean
+abbrev pub HeldBecomesWhole : Type 0
+HeldBecomesWhole = (number : ℕ) (w : WorldState) (s : SystemState)
+    → Claimed w → ShowsLive number w s
+    → AreHeldWholeInTime w s
+
+-- Then it names no root better than the best of the holder's component, and for that one no fewer steps than the
+-- distance of the system that sent it.
+abbrev pub HeldIsNoBetter : Type 0
+HeldIsNoBetter = (g : Snapshot) (number port : ℕ) (r : Reception) (best : System)
+    → IsWellFormed g → (held : IsHeldWhole g number port r) → IsBest g number best
+    → (best.identity ≤ r.vector.root)
+    × (r.vector.root ≡ best.identity → (d : ℕ) → IsDistance g held.from.clock d → d ≤ r.vector.steps)
+
+-- and what an act delivers becomes clean
 abbrev pub FramesBecomeClean : {F : Type 0} → (Bounds → ℕ → F → Option ℕ → F → Type 0) → Type 0
 FramesBecomeClean {F} answers = (timed : Timed) (fate fate_after : F) (w w' : WorldState) (done : Done)
     → Claimed w → WasDone answers timed fate fate_after w w' done

@@ -1,14 +1,14 @@
 -- How clean path traces are in a world that has been calm for so long.
-use Rattle.std.specs.Prelude.{◌≡◌, ◌⊎◌, ◌≤◌, ◌+◌, ◌*◌, ℕ, ⊤, suc, length, Some}
+use Rattle.std.specs.Prelude.{◌≡◌, ◌⊎◌, ◌≤◌, ◌+◌, ◌*◌, ℕ, ⊤, suc, pos, length, Some}
+use Rattle.gptp_setup.specs.Pace.{Pace, largest_interval, longest_span}
 use Rattle.gptp_lists.specs.Members.{In}
+use Rattle.gptp_graph.specs.PathBound.{BoundsPaths}
 use Rattle.gptp_graph.specs.Snapshot.{Joins, PortIdentity, Snapshot, clocks, port_of}
 use Rattle.gptp_receipt.specs.declared.held.Reception.{Reception}
 use Rattle.gptp_receipt.specs.Held.{received}
 use Rattle.gptp_messages.specs.declared.announce.AnnounceView.{AnnounceView}
 use Rattle.gptp_messages.specs.declared.message.Message.TheVariants as messages
 use Rattle.gptp_messages.specs.Grammar.{Reads}
-use Rattle.gptp_setup.specs.declared.setup.Params.{Params}
-use Rattle.gptp_setup.specs.Intervals.{largest_interval, longest_span}
 use Rattle.gptp_system.specs.State.{SystemState, clock, held_at, trace}
 use Rattle.gptp_acts.specs.declared.done.Done.{Done}
 use Rattle.gptp_acts.specs.declared.done.Done.TheVariants.{Quiet, Heard}
@@ -20,12 +20,12 @@ use Rattle.gptp_kept.specs.Standing.{snapshot_of}
 use Rattle.gptp_kept.specs.CalmFor.{IsCalmFor, capable_span}
 
 -- A turn is the longest time from when an Announce is sent to when a system last sends on what it took from it: what is
--- received stays for k announce intervals, and an Announce is under way for one at most.
-abbrev pub turn_of : Params → ℕ
+-- received stays for k of the largest announce intervals at most, and an Announce is under way for one at most.
+abbrev pub turn_of : Pace → ℕ
 turn_of p = longest_span p + largest_interval p
 
 -- so many turns after ports have become capable
-abbrev pub turns_span : ℕ → Params → ℕ → ℕ
+abbrev pub turns_span : ℕ → Pace → ℕ → ℕ
 turns_span c p n = capable_span p n + c * turn_of p
 
 -- the world is calm, for however long
@@ -35,13 +35,19 @@ IsCalmWorld = IsCalmFor (λ p n. 0)
 -- what arrived at this time was sent so many turns after ports have become capable
 abbrev pub WasSentAfter : ℕ → ℕ → (w : WorldState) → IsCalmWorld w → Type 0
 WasSentAfter c time w calm =
-    w.last_change + turns_span c calm.params (length (snapshot_of w).systems) + largest_interval calm.params ≤ time
+    w.last_change + turns_span c calm.pace (length (snapshot_of w).systems) + largest_interval calm.pace ≤ time
 
 -- ---- what a system announces
 
--- root, steps and trace, as it announces them
+-- root, steps and trace, as it announces them at each port
 abbrev pub announced : SystemState → Announce
-announced s = record { root = s.root; steps = s.steps; source = port_of (clock s) 0; path = trace s }
+announced s = record {
+  root = s.root;
+  steps = s.steps;
+  source = port_of (clock s) 0;
+  log = pos 0;
+  path = trace s;
+}
 
 -- The last c + 1 members of the system's trace are different live systems, each joined to the next, up to the system
 -- itself; or the trace is wholly so, from the root that it announces, and its steps are as many as there are links.
@@ -60,13 +66,15 @@ heard r = record {
   root = r.vector.root;
   steps = r.vector.steps;
   source = identity_of r.vector.source;
+  log = r.interval;
   path = r.path;
 }
 
--- it came over the port's link, and its trace is clean by so many members or wholly
+-- it came over the port's link, its trace doesn't name the holder, and is clean by so many members or wholly
 pub record IsHeldClean (g : Snapshot) (m number port : ℕ) (r : Reception) : Type 0 where
   pub from : PortIdentity
   pub joins : Joins g from (port_of number port)
+  pub no_loop : In number r.path → ⊥
   pub good : Good g m from (heard r)
 
 -- so is what each port received that was sent c turns after ports have become capable
@@ -74,6 +82,22 @@ abbrev pub AreHeldCleanInTime : WorldState → SystemState → Type 0
 AreHeldCleanInTime w s = (calm : IsCalmWorld w) (c n : ℕ) (r : Reception)
     → received (held_at s n) ≡ Some r → WasSentAfter c r.at w calm
     → IsHeldClean (snapshot_of w) (suc c) (clock s) n r
+
+-- It came over the port's link, its trace doesn't name the holder, and is wholly clean: from the system whose identity
+-- is its root to the one that sent it, over as many links as its steps say.
+pub record IsHeldWhole (g : Snapshot) (number port : ℕ) (r : Reception) : Type 0 where
+  pub from : PortIdentity
+  pub joins : Joins g from (port_of number port)
+  pub no_loop : In number r.path → ⊥
+  pub source : identity_of r.vector.source ≡ from
+  pub whole : Whole g from.clock (heard r)
+
+-- so is all that its ports hold once the world has been calm for m turns after its ports have become capable, where no
+-- path of its snapshot has more than m systems
+abbrev pub AreHeldWholeInTime : WorldState → SystemState → Type 0
+AreHeldWholeInTime w s = (m n : ℕ) (r : Reception)
+    → BoundsPaths (snapshot_of w) m → IsCalmFor (turns_span m) w → received (held_at s n) ≡ Some r
+    → IsHeldWhole (snapshot_of w) (clock s) n r
 
 -- ---- what reaches a port
 

@@ -2,8 +2,8 @@
 use Rattle.std.specs.Prelude.{◌≡◌, ◌≤◌, ◌+◌, ℕ, true, false, List, Some, slice_get}
 use Rattle.gptp_lists.specs.Members.{In}
 use Rattle.gptp_links.specs.Queue.{Frame}
-use Rattle.gptp_setup.specs.declared.setup.Params.{Params}
-use Rattle.gptp_setup.specs.Intervals.{interval_of, largest_interval}
+use Rattle.gptp_setup.specs.Intervals.{interval_of}
+use Rattle.gptp_setup.specs.Pace.{Pace, largest_interval}
 use Rattle.gptp_system.specs.Measures.{part_of}
 use Rattle.gptp_system.specs.State.{clock}
 use Rattle.gptp_acts.specs.declared.station.Station.{Station}
@@ -60,8 +60,8 @@ pub record IsSilent (gone : ℕ) (at : LinkPlace) (w : WorldState) : Type 0 wher
   pub old : IsOldBy gone at w link
   pub inv : InvUnanswered (setting at w link) gone (view at w link)
 
--- wherever all stands so, old frames are gone an announce interval after the last change
-abbrev pub AreSilent : Params → WorldState → Type 0
+-- wherever all stands so, old frames are gone the largest announce interval after the last change
+abbrev pub AreSilent : Pace → WorldState → Type 0
 AreSilent p w = (at : LinkPlace) → StandsUnanswered at w → IsSilent (w.last_change + largest_interval p) at w
 
 -- the link stands as it did, no frame comes from the failed end, and what is seen becomes what this allows

@@ -5,10 +5,10 @@ use Rattle.gptp_links.specs.Fate.{Draw}
 use Rattle.gptp_pdelay.specs.Peer.{is_capable}
 use Rattle.gptp_system.specs.declared.answer.Answer.{Answer}
 use Rattle.gptp_system.specs.declared.port.Port.{Port}
-use Rattle.gptp_setup.specs.declared.setup.Params.{Params}
 use Rattle.gptp_setup.specs.declared.timer.Timer.{Timer}
 use Rattle.gptp_setup.specs.declared.timer.Timer.TheVariants as timers
-use Rattle.gptp_setup.specs.Intervals.{interval_of, largest_interval}
+use Rattle.gptp_setup.specs.Intervals.{interval_of}
+use Rattle.gptp_setup.specs.Pace.{Pace, largest_interval}
 use Rattle.gptp_system.specs.State.{number}
 use Rattle.gptp_plan.specs.declared.change.Act.{Act}
 use Rattle.gptp_plan.specs.declared.change.Act.TheVariants.{Change as Changing}
@@ -32,7 +32,7 @@ PortsAreSeen = (at : LinkPlace) (w : WorldState) → IsSound w → IsMeasured w 
 
 -- the last request isn't in the future, and the request timer isn't late
 abbrev pub TimersAreKnown : Type 0
-TimersAreKnown = (at : LinkPlace) (p : Params) (w : WorldState) (l : IsUnansweredAt at w) → IsSound w → IsKnown p w
+TimersAreKnown = (at : LinkPlace) (p : Pace) (w : WorldState) (l : IsUnansweredAt at w) → IsSound w → IsKnown p w
     → TimerFacts (setting at w l) (view at w l)
 
 -- ---- acts
@@ -82,15 +82,16 @@ AskersHear = (at : LinkPlace) (gone : ℕ) (octets : List ℕ) (w w' : WorldStat
 
 -- ---- from the last change on
 
--- just after a change old frames are gone one announce interval later, and no more requests are lost than may be
+-- just after a change old frames are gone the largest announce interval later, and no more requests are lost than may
+-- be
 abbrev pub SilenceBegins : Type 0
-SilenceBegins = (at : LinkPlace) (p : Params) (w : WorldState)
+SilenceBegins = (at : LinkPlace) (p : Pace) (w : WorldState)
     → IsSound w → IsKnown p w → IsUnansweredAt at w → w.last_change ≡ w.time
     → IsSilent (w.last_change + largest_interval p) at w
 
 -- every act but a change leaves the port unanswered
 abbrev pub SilenceIsKept : Type 0
-SilenceIsKept = (at : LinkPlace) (gone : ℕ) (p : Params) (act : Act) (w w' : WorldState) (draws : List Draw)
+SilenceIsKept = (at : LinkPlace) (gone : ℕ) (p : Pace) (act : Act) (w w' : WorldState) (draws : List Draw)
     (done : Done)
     → IsSound w → IsMeasured w → IsKnown p w → ((change : Change) → act ≢ Changing change) → Acts act w draws done w'
     → IsSilent gone at w
@@ -104,8 +105,8 @@ SilenceGoesOn = (at : LinkPlace) (gone time : ℕ) (w : WorldState) → IsSilent
 -- the port isn't capable from L + 5 announce intervals after the last change on, where L is the number of requests that
 -- may be lost
 abbrev pub PortsBecomeIncapable : Type 0
-PortsBecomeIncapable = (at : LinkPlace) (p : Params) (change : ℕ) (w : WorldState)
-    → IsSound w → IsKnown p w → interval_of p.pdelay ≤ largest_interval p
+PortsBecomeIncapable = (at : LinkPlace) (p : Pace) (change : ℕ) (w : WorldState)
+    → IsSound w → IsKnown p w → interval_of p.params.pdelay ≤ largest_interval p
     → (l : IsSilent (change + largest_interval p) at w)
     → change + capability_span p ≤ w.time
     → is_capable l.link.asking.state.peer ≡ false
@@ -120,24 +121,24 @@ NoneStandsAnew = (at : LinkPlace) (act : Act) (w w' : WorldState) (draws : List 
 
 -- so from a change on all such ports are unanswered
 abbrev pub AreSilentAtFirst : Type 0
-AreSilentAtFirst = (p : Params) (w : WorldState) → IsSound w → IsMeasured w → IsKnown p w → w.last_change ≡ w.time
+AreSilentAtFirst = (p : Pace) (w : WorldState) → IsSound w → IsMeasured w → IsKnown p w → w.last_change ≡ w.time
     → AreSilent p w
 
 -- after every act but a change
 abbrev pub ActsLeaveSilent : Type 0
-ActsLeaveSilent = (p : Params) (act : Act) (w w' : WorldState) (draws : List Draw) (done : Done)
+ActsLeaveSilent = (p : Pace) (act : Act) (w w' : WorldState) (draws : List Draw) (done : Done)
     → IsSound w → IsMeasured w → IsKnown p w → ((change : Change) → act ≢ Changing change) → Acts act w draws done w'
     → AreSilent p w
     → AreSilent p w'
 
 -- and as time passes
 abbrev pub AreSilentLater : Type 0
-AreSilentLater = (p : Params) (time : ℕ) (w : WorldState) → AreSilent p w → AreSilent p (at_time time w)
+AreSilentLater = (p : Pace) (time : ℕ) (w : WorldState) → AreSilent p w → AreSilent p (at_time time w)
 
 -- and L + 5 announce intervals after the last change none of them is capable
 abbrev pub SilentPortsBecomeIncapable : Type 0
-SilentPortsBecomeIncapable = (p : Params) (w : WorldState)
-    → IsSound w → IsKnown p w → interval_of p.pdelay ≤ largest_interval p → AreSilent p w
+SilentPortsBecomeIncapable = (p : Pace) (w : WorldState)
+    → IsSound w → IsKnown p w → interval_of p.params.pdelay ≤ largest_interval p → AreSilent p w
     → w.last_change + capability_span p ≤ w.time
     → (at : LinkPlace) (s : StandsUnanswered at w) (q : Port)
     → number s.asking.station.system.ports (sender at.direction s.channel).port ≡ Some q

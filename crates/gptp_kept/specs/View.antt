@@ -1,5 +1,5 @@
 -- A world as the machine of gptp_settling sees it.
-use Rattle.std.specs.Prelude.{◌≡◌, ℕ, ◌+◌, ◌*◌, Bool, List, [], ◌∷◌, map}
+use Rattle.std.specs.Prelude.{◌≡◌, ℕ, ◌+◌, ◌*◌, ℤ, Bool, List, [], ◌∷◌, map}
 use Rattle.gptp_graph.specs.Snapshot.{PortIdentity, port_of}
 use Rattle.gptp_vector.specs.declared.port.PortId.{PortId}
 use Rattle.gptp_messages.specs.declared.announce.AnnounceView.{AnnounceView}
@@ -13,9 +13,9 @@ use Rattle.gptp_receipt.specs.declared.held.Held.TheVariants as helds
 use Rattle.gptp_receipt.specs.declared.held.Reception.{Reception}
 use Rattle.gptp_system.specs.declared.port.Port.{Port}
 use Rattle.gptp_system.specs.declared.sending.Sending.{Sending}
-use Rattle.gptp_setup.specs.declared.setup.Params.{Params}
 use Rattle.gptp_setup.specs.Intervals.{interval_of}
-use Rattle.gptp_system.specs.State.{SystemState, clock, span_of, trace}
+use Rattle.gptp_setup.specs.Pace.{span_by}
+use Rattle.gptp_system.specs.State.{SystemState, clock, trace}
 use Rattle.gptp_system.specs.Touch.{Touch, Hear, Tick, Grow, Enable, Disable, Other}
 use Rattle.gptp_acts.specs.declared.station.Station.{Station}
 use Rattle.gptp_acts.specs.Sends.{written}
@@ -31,10 +31,15 @@ use Rattle.gptp_settling.specs.Touch as touches
 abbrev pub identity_of : PortId → PortIdentity
 identity_of p = port_of p.clock p.port
 
--- what an Announce says of the root and the way to it (IEEE 802.1AS-2020, 10.6.3)
+-- what an Announce says of the root, the way to it, and the interval of its sender (IEEE 802.1AS-2020, 10.6.3)
 abbrev pub said : AnnounceView → Announce
-said a =
-    record { root = a.body.root; steps = a.body.steps; source = identity_of a.head.source; path = a.path }
+said a = record {
+  root = a.body.root;
+  steps = a.body.steps;
+  source = identity_of a.head.source;
+  log = a.head.log_interval;
+  path = a.path;
+}
 
 -- octets say an Announce exactly where they read as one
 abbrev pub says : Says
@@ -42,43 +47,46 @@ says octets a = (m : AnnounceView) × Reads octets (messages.Announce m) × (a �
 
 -- ---- systems
 
--- how long what a port receives stays there: announceReceiptTimeout times its announce interval (10.7.3.2)
-abbrev pub span_at : Params → Port → ℕ
-span_at params q = span_of params q
+-- How long what a port of a system receives stays there, by the interval that its Announce named:
+-- announceReceiptTimeout times that (10.7.3.2).
+abbrev pub span_at : SystemState → ℤ → ℕ
+span_at s log = span_by s.params.timeout s.largest log
 
--- what was received, as an Announce that stays for this span
-abbrev pub reception_view : ℕ → Reception → SeenReception
-reception_view span r = record {
+-- what was received, as an Announce that stays for the span of the interval that it named
+abbrev pub reception_view : (ℤ → ℕ) → Reception → SeenReception
+reception_view keep r = record {
   said = record {
     root = r.vector.root;
     steps = r.vector.steps;
     source = identity_of r.vector.source;
+    log = r.interval;
     path = r.path;
   };
   at = r.at;
-  span = span;
+  span = keep r.interval;
 }
 
--- what a port holds, where what is received stays for this span
-abbrev pub held_view : ℕ → Held → SeenHeld
-held_view span helds.Disabled = Disabled
-held_view span helds.Aged = Aged
-held_view span (helds.Mine root steps) = Mine root steps
-held_view span (helds.Received r) = Received (reception_view span r)
+-- what a port holds, where what is received stays for the span of the interval that it named
+abbrev pub held_view : (ℤ → ℕ) → Held → SeenHeld
+held_view keep helds.Disabled = Disabled
+held_view keep helds.Aged = Aged
+held_view keep (helds.Mine root steps) = Mine root steps
+held_view keep (helds.Received r) = Received (reception_view keep r)
 
 -- a port, with what it holds
-abbrev pub port_view : Params → Held → Port → SeenPort
-port_view params h q = record {
-  held = held_view (span_at params q) h;
+abbrev pub port_view : (ℤ → ℕ) → Held → Port → SeenPort
+port_view keep h q = record {
+  held = held_view keep h;
+  log = q.log_interval;
   interval = interval_of q.log_interval;
   announce = q.announce;
 }
 
 -- the ports of a system, each with what it holds
-abbrev pub ports_view : Params → List Held → List Port → List SeenPort
-ports_view params [] qs = []
-ports_view params (h ∷ hs) [] = []
-ports_view params (h ∷ hs) (q ∷ qs) = port_view params h q ∷ ports_view params hs qs
+abbrev pub ports_view : (ℤ → ℕ) → List Held → List Port → List SeenPort
+ports_view keep [] qs = []
+ports_view keep (h ∷ hs) [] = []
+ports_view keep (h ∷ hs) (q ∷ qs) = port_view keep h q ∷ ports_view keep hs qs
 
 -- a system in this state
 abbrev pub system_view : Bool → SystemState → SeenStation
@@ -86,7 +94,7 @@ system_view live s = record {
   live = live;
   clock = clock s;
   identity = s.identity;
-  ports = ports_view s.params s.held s.ports;
+  ports = ports_view (span_at s) s.held s.ports;
   root = s.root;
   steps = s.steps;
   slave = s.slave;

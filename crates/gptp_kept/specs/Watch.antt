@@ -1,12 +1,11 @@
 -- What is claimed of the links in use between two changes of the network, and of their ports.
 use Rattle.std.specs.Prelude.{◌≡◌, ◌≢◌, ◌+◌, ◌*◌, true}
+use Rattle.gptp_setup.specs.Pace.{Pace, largest_interval}
 use Rattle.gptp_graph.specs.Snapshot.{IsLinked}
 use Rattle.gptp_pdelay.specs.Peer.{is_capable}
 use Rattle.gptp_receipt.specs.declared.held.Held.{Held}
 use Rattle.gptp_receipt.specs.declared.held.Held.TheVariants.{Disabled}
 use Rattle.gptp_system.specs.declared.port.Port.{Port}
-use Rattle.gptp_setup.specs.declared.setup.Params.{Params}
-use Rattle.gptp_setup.specs.Intervals.{largest_interval}
 use Rattle.gptp_acts.specs.World.{WorldState}
 use Rattle.gptp_kept.specs.Due.{OfEachPort}
 use Rattle.gptp_kept.specs.Measured.{StandsAt}
@@ -16,8 +15,8 @@ use Rattle.gptp_kept.specs.View.{identity_of}
 use Rattle.gptp_kept.specs.Standing.{snapshot_of}
 
 -- Wherever two live systems stand at a link that is up, loses nothing and is good, it is watched, in either direction:
--- old frames are gone an announce interval after the last change, and exchanges from two on find nothing old.
-abbrev pub Watches : Params → WorldState → Type 0
+-- old frames are gone the largest announce interval after the last change, and exchanges from two on find nothing old.
+abbrev pub Watches : Pace → WorldState → Type 0
 Watches p w = (at : LinkPlace) → StandsAt at w
     → IsWatched (w.last_change + largest_interval p) (w.last_change + 2 * largest_interval p) at w
 

@@ -5,12 +5,15 @@ ghost use Rattle.gptp_kept.specs.ClaimedLaws.{ClaimedBegins, ClaimedKept, Claime
 ghost use Rattle.gptp_kept.specs.ClaimedLaws.{ClaimedCapable, SettledIsCapable, SettledIsCapableByPaths};
 ghost use Rattle.gptp_kept.specs.ClaimedLaws.{ClaimedSettled, ClaimedSettledByPaths, ClaimedSettledByNeighbours};
 ghost use Rattle.gptp_kept.specs.ShownLaws.{RolesAreEnabled, RolesSettle, SystemsAreCapable, SystemsSettle};
-ghost use Rattle.gptp_kept.specs.ShownLaws.{RolesSettleByPaths, SystemsSettleByPaths};
+ghost use Rattle.gptp_kept.specs.ShownLaws.{RolesSettleByDistance, RolesSettleByPaths};
+ghost use Rattle.gptp_kept.specs.ShownLaws.{SystemsSettleByDistance, SystemsSettleByPaths};
 ghost use Rattle.gptp_kept.specs.TraceLaws.{FramesBecomeClean, HeldBecomesClean, TracesBecomeClean};
+ghost use Rattle.gptp_kept.specs.TraceLaws.{HeldBecomesWhole, HeldIsNoBetter};
+ghost use Rattle.gptp_kept.specs.TreeLaws.{SettledIsTree};
 
 use gptp_links::Fate;
 
-/// The claim holds of the world of a network as it begins, with the parameters of that network.
+/// The claim holds of the world of a network as it begins, with its parameters and its largest announce interval.
 pub fn claim_begins<F: Fate>()
     ensures { ClaimBegins F.answers }
 {}
@@ -28,7 +31,7 @@ pub fn claimed_begins<F: Fate>()
     ensures { ClaimedBegins F.answers }
 {}
 
-/// And it is kept, where a link is set to no delay above the announce interval of any system.
+/// And it is kept, where a link is set to no delay above the announce interval of any port.
 pub fn claimed_is_kept<F: Fate>()
     ensures done { ClaimedKept F.answers }
     ensures time { ClaimedLater }
@@ -54,7 +57,14 @@ pub fn worlds_settle()
     ensures neighbours { ClaimedSettledByNeighbours }
 {}
 
-/// What the calls of such a world show is capable and settled in time.
+/// A settled world is a tree: each near system other than its component's best hangs on one that is one step nearer, by
+/// its one slave port and a master port there.
+pub fn settled_worlds_are_trees()
+    ensures { SettledIsTree }
+{}
+
+/// What the calls of such a world show is capable and settled in time: by how many systems live, by how many a path has
+/// at most, and of each system by its distance.
 pub fn calls_show_it()
     ensures capable { SystemsAreCapable }
     ensures enabled { RolesAreEnabled }
@@ -62,12 +72,17 @@ pub fn calls_show_it()
     ensures roles { RolesSettle }
     ensures choice_by_paths { SystemsSettleByPaths }
     ensures roles_by_paths { RolesSettleByPaths }
+    ensures choice_by_distance { SystemsSettleByDistance }
+    ensures roles_by_distance { RolesSettleByDistance }
 {}
 
 /// Traces in such a world become clean: those that systems announce, those that their ports hold, and those of frames
-/// that reach a port.
+/// that reach a port. In the end all that is held is wholly clean; then it names no better root than the best's, and for
+/// the best no fewer steps than its sender is away.
 pub fn traces_become_clean<F: Fate>()
     ensures traces { TracesBecomeClean }
     ensures held { HeldBecomesClean }
+    ensures whole { HeldBecomesWhole }
+    ensures no_better { HeldIsNoBetter }
     ensures frames { FramesBecomeClean F.answers }
 {}

@@ -12,11 +12,16 @@
 //! - [`unanswered_acts`], [`silence`], [`unanswered_worlds`]: a port beside a failed system as such a machine;
 //! - [`capable`]: ports at links in use become capable;
 //! - [`claimed`]: all this as one claim that begins with the world of every network and is kept by every act, that worlds
-//!   settle, and what the calls of a world show then.
+//!   settle, and what the calls of a world show then;
+//! - [`bounded`]: what the systems of a world state of themselves then, far ones too.
+//!
+//! Each port announces at an interval of its own. What is counted in announce intervals is counted in the largest of them
+//! in the network.
 //!
 //! Each function of this crate is a law: it does nothing, and its contract is a theorem about the definitions.
 #![tactic(auto)]
 
+pub mod bounded;
 pub mod calm;
 pub mod capable;
 pub mod claimed;

@@ -1,33 +1,138 @@
--- Frames in a slab, with a queue of their keys.
-use Rattle.std.specs.Prelude.{◌≢◌, ℕ, ◌+◌, ◌≤◌, ⊤, List, [], ◌∷◌, IsSome, map, unwrap_or}
+-- Frames in flight that a slab holds: those of one direction are a chain, each leads to the one that was sent next.
+use Rattle.std.specs.Prelude.{◌≡◌, ◌≢◌, ℕ, zero, suc, ◌+◌, ◌-◌, ◌<◌, ◌≤◌, ◌==◌, ⊤, List, [], ◌∷◌, Option, Some, None, IsSome, if◌then◌else◌, map}
 use Rattle.std.specs.List.{AllByRecursion}
-use Rattle.std.specs.Option.{option_map}
+use Rattle.std.specs.Option.{option_map, option_map_or}
 use Rattle.slab.specs.Slab.{Slab, get, slab_len}
-use Rattle.gptp_links.specs.Queue.{Frame, frame, AreDueInOrder}
-use Rattle.gptp_links.specs.declared.lane.Flight.{Flight}
+use Rattle.gptp_links.specs.Queue.{Frame, Queue, frame, newest_due, AreDueInOrder}
+use Rattle.gptp_links.specs.declared.flight.Key.{Key}
+use Rattle.gptp_links.specs.declared.flight.Flight.{Flight}
+use Rattle.gptp_links.specs.declared.lane.Lane.{Lane}
 
--- the frame at a key
-abbrev pub frame_at : Slab Flight → ℕ → Frame
-frame_at flights key =
-    unwrap_or (option_map (λ (f : Flight). frame f.due f.octets.items) (get flights key)) (frame 0 [])
+abbrev pub key_of : ℕ → Key
+key_of place = record { place = place }
 
-abbrev pub frames_of : Slab Flight → List ℕ → List Frame
-frames_of flights keys = map (frame_at flights) keys
+abbrev pub with_next : Key → Flight → Flight
+with_next next f = record f { next = next }
 
 -- no key stands twice
 abbrev pub Differ : List ℕ → Type 0
 Differ [] = ⊤
 Differ (key ∷ keys) = AllByRecursion (λ other. other ≢ key) keys × Differ keys
 
--- Each key has a frame and they are different, the frames are due in order, and the slab has room for what it
--- holds.
-pub record Holds (flights : Slab Flight) (keys : List ℕ) : Type 0 where
-  pub fits : slab_len flights ≤ flights.capacity
-  pub there : AllByRecursion (λ key. IsSome (get flights key)) keys
-  pub differ : Differ keys
-  pub due_in_order : AreDueInOrder (frames_of flights keys)
+-- the last of these keys, if there is one, is this
+abbrev pub EndsWith : ℕ → List ℕ → Type 0
+EndsWith tail [] = ⊤
+EndsWith tail (key ∷ []) = key ≡ tail
+EndsWith tail (key ∷ (other ∷ keys)) = EndsWith tail (other ∷ keys)
 
--- the slab and the queue of keys both have room for so many more
-pub record HasSpare (spare : ℕ) (flights : Slab Flight) (len capacity : ℕ) : Type 0 where
-  pub in_slab : slab_len flights + spare ≤ flights.capacity
-  pub in_queue : len + spare ≤ capacity
+-- a direction with room for so many frames, and none
+abbrev pub no_flights : ℕ → Lane
+no_flights limit = record {
+  head = key_of 0;
+  tail = key_of 0;
+  count = 0;
+  limit = limit;
+  first_due = 0;
+  last_due = 0;
+}
+
+abbrev pub with_limit : ℕ → Lane → Lane
+with_limit limit lane = record lane { limit = limit }
+
+-- with a frame more, the last, that is due then
+abbrev pub with_last : Key → ℕ → Lane → Lane
+with_last key due lane = record {
+  head = if lane.count == 0 then key else lane.head;
+  tail = key;
+  count = lane.count + 1;
+  limit = lane.limit;
+  first_due = if lane.count == 0 then due else lane.first_due;
+  last_due = due;
+}
+
+-- when the first frame is due, if there is one
+abbrev pub due_of_first : Lane → Option ℕ
+due_of_first lane = if lane.count == 0 then None else Some lane.first_due
+
+module _ (flights : ℕ → Option Flight) where
+  -- the frame at a key
+  abbrev pub frame_at : ℕ → Frame
+  frame_at key = option_map_or (λ (f : Flight). frame f.due f.octets.items) (flights key) (frame 0 [])
+
+  abbrev pub due_at : ℕ → ℕ
+  due_at key = (frame_at key).due
+
+  -- the key to which the frame at a key leads
+  abbrev pub next_at : ℕ → ℕ
+  next_at key = option_map_or (λ (f : Flight). f.next.place) (flights key) 0
+
+  -- so many keys from this one on, each to which the one before leads
+  abbrev pub chain : ℕ → ℕ → List ℕ
+  chain zero key = []
+  chain (suc n) key = key ∷ chain n (next_at key)
+
+  abbrev pub keys_of : Lane → List ℕ
+  keys_of lane = chain lane.count lane.head.place
+
+  abbrev pub frames_of : List ℕ → List Frame
+  frames_of keys = map frame_at keys
+
+  -- the frames in flight in a direction
+  abbrev pub frames_in : Lane → List Frame
+  frames_in lane = frames_of (keys_of lane)
+
+  -- those, and how many more can be sent
+  abbrev pub queue_of : Lane → Queue
+  queue_of lane = record { frames = frames_in lane; room = lane.limit - lane.count }
+
+  -- without the first frame, that led to this one
+  abbrev pub without_first : Key → Lane → Lane
+  without_first next lane = record lane {
+    head = next;
+    count = lane.count - 1;
+    first_due = if lane.count == 1 then 0 else due_at next.place;
+    last_due = if lane.count == 1 then 0 else lane.last_due;
+  }
+
+  -- Each key of a direction has a frame and they are different, the frames are due in order, and what is kept of the
+  -- first and the last is right.
+  pub record IsChained (lane : Lane) : Type 0 where
+    pub there : AllByRecursion (λ key. IsSome (flights key)) (keys_of lane)
+    pub differ : Differ (keys_of lane)
+    pub due_in_order : AreDueInOrder (frames_in lane)
+    pub tail : EndsWith lane.tail.place (keys_of lane)
+    pub first_due : 0 < lane.count → lane.first_due ≡ due_at lane.head.place
+    pub last_due : lane.last_due ≡ newest_due (frames_in lane)
+
+  -- no frame of two directions has the same key
+  pub record AreBeside (one other : Lane) : Type 0 where
+    pub chained : IsChained one
+    pub other_chained : IsChained other
+    pub apart : AllByRecursion (λ key. AllByRecursion (λ k. k ≢ key) (keys_of one)) (keys_of other)
+
+-- the same number of frames, and the same capacity
+pub record SameRoom (old new : Slab Flight) : Type 0 where
+  pub len : slab_len new ≡ slab_len old
+  pub capacity : new.capacity ≡ old.capacity
+
+-- the last of a direction leads to this key, and nothing else was changed
+pub record Joins (old new : ℕ → Option Flight) (lane : Lane) (key : Key) : Type 0 where
+  pub joined : 0 < lane.count → new lane.tail.place ≡ option_map (with_next key) (old lane.tail.place)
+  pub others : (k : ℕ) → (0 < lane.count → k ≢ lane.tail.place) → new k ≡ old k
+
+-- Of one direction frames came or went, as many as the slab has more or fewer; any other is as it was.
+pub record ChangesOne (old new : Slab Flight) (before after : Lane) : Type 0 where
+  pub beside : (other : Lane) → AreBeside (get old) before other → AreBeside (get new) after other
+  pub frames : (other : Lane) → AreBeside (get old) before other → frames_in (get new) other ≡ frames_in (get old) other
+  pub len : slab_len new + before.count ≡ slab_len old + after.count
+  pub capacity : new.capacity ≡ old.capacity
+  pub limit : after.limit ≡ before.limit
+
+-- Both directions of a link are chains through one slab, which holds their frames alone and has room for as many as
+-- both can hold.
+pub record AreLinked (flights : Slab Flight) (from_a from_b : Lane) : Type 0 where
+  pub beside : AreBeside (get flights) from_a from_b
+  pub alone : slab_len flights ≡ from_a.count + from_b.count
+  pub few_from_a : from_a.count ≤ from_a.limit
+  pub few_from_b : from_b.count ≤ from_b.limit
+  pub room : from_a.limit + from_b.limit ≤ flights.capacity

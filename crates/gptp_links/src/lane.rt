@@ -1,18 +1,19 @@
 //! One direction of a link.
 
-ghost use Rattle.std.specs.Prelude.{◌≡◌, ℕ, ◌+◌, ◌^◌, ◌<◌, ◌≤◌, ◌↔◌, [], ◌∷◌, ◌++◌, Option, Some, IsOk, IfOk, OnOk, OnErr, IfSome, IfNone, option_copied};
+ghost use Rattle.std.specs.Prelude.{◌≡◌, ℕ, ◌+◌, ◌-◌, ◌^◌, ◌<◌, ◌≤◌, ◌↔◌, [], ◌∷◌, ◌++◌, IsOk, IfOk, OnErr, option_copied};
 ghost use Rattle.std.specs.Option.{option_map};
-ghost use Rattle.gptp_links.specs.Bounds.{Fit, IsLawful};
-ghost use Rattle.gptp_links.specs.Queue.{frame, first, last, newest_due, AreDueInOrder, IsDue, IsSent, IsTaken};
+ghost use Rattle.slab.specs.Slab.{get, slab_len, HasRoomFor};
+ghost use Rattle.gptp_links.specs.Bounds.{Fit};
+ghost use Rattle.gptp_links.specs.Flights.{due_of_first, frames_in, no_flights, with_last, with_limit, without_first, ChangesOne, IsChained, Joins, SameRoom};
+ghost use Rattle.gptp_links.specs.Queue.{frame, first, newest_due, IsDue, IsSent, IsTaken};
 
 use crate::bounds::Bounds;
 use crate::fate::Fate;
+use crate::flight::{Flight, Key, due_at, set_next};
 use slab::Slab;
-use std::alloc::{AllocError, Global};
-use std::collections::VecDeque;
+use std::alloc::AllocError;
 use std::error::Error;
 use std::fmt;
-use std::marker::Model;
 
 /// Nothing that is in flight is due yet.
 #[derive(Clone, Copy, Debug, PartialEq, Eq)]
@@ -32,171 +33,193 @@ impl fmt::Display for NotDue {
 
 impl Error for NotDue {}
 
-/// A frame in flight, and when it is due, in ns.
-#[derive(Drop)]
-pub(crate) struct Flight {
-    due: u64,
-    octets: Vec<u8>,
-}
-
-/// The frames in flight in one direction. They lie in a slab, with a queue of their keys. It is seen
-/// as the list of the frames, oldest first, each with the time at which it is due, and how many more
-/// can be sent without being refused.
-#[derive(Drop)]
+/// The frames in flight in one direction: a chain through the slab of their link, which lends it to each call.
+#[derive(Clone, Copy)]
 pub(crate) struct Lane {
-    flights: Slab<Flight>,
-    keys: VecDeque<usize>,
-    // Both have room for so many more, or for more than that: whether there is room for a frame is one comparison.
-    spare: usize,
-}
-
-impl Model for Lane {
-    ghost use Rattle.gptp_links.specs.Queue.{Queue};
-
-    ghost Value = { Queue };
-
-    ghost use Rattle.std.specs.VecDeque.{deque_len, deque_capacity};
-    ghost use Rattle.gptp_links.specs.Flights.{frames_of, Holds, HasSpare};
-
-    ghost view = { λ lane. record { frames = frames_of lane.flights lane.keys.items; room = lane.spare } };
-
-    ghost invariant = { λ lane. Holds lane.flights lane.keys.items × HasSpare lane.spare lane.flights (deque_len lane.keys) (deque_capacity lane.keys) };
+    // The oldest frame, and the newest, where there is one.
+    head: Key,
+    tail: Key,
+    // How many there are, and how many there can be without being refused.
+    count: usize,
+    pub(crate) limit: usize,
+    // When the oldest is due, where there is one, and when the newest, or 0.
+    first_due: u64,
+    last_due: u64,
 }
 
 impl Lane {
-    /// Nothing in flight. Takes no memory.
-    pub fn new(alloc: Global) -> Self
-        ensures { result.frames ≡ [] }
+    /// Nothing in flight, and room for so many frames.
+    pub(crate) fn new(limit: usize) -> Lane
+        ensures { result ≡ no_flights limit }
     {
+        let nowhere = Key { place: 0 };
         Lane {
-            flights: Slab::new(alloc),
-            keys: VecDeque::new(alloc),
-            spare: 0,
+            head: nowhere,
+            tail: nowhere,
+            count: 0,
+            limit,
+            first_due: 0,
+            last_due: 0,
         }
     }
 
-    /// Makes room for so many more frames. Refused where there is no memory for them.
-    pub fn reserve(&mut self, additional: usize) -> Result<(), AllocError>
-        ensures frames { self.new.frames ≡ self.old.frames }
-        ensures room { self.old.room ≤ self.new.room }
-        ensures ok { OnOk result (additional ≤ self.new.room) }
-        ensures succeeds { additional ≤ self.old.room → IsOk result }
+    /// How many more frames can be sent without being refused.
+    pub(crate) fn room(&self) -> usize
+        requires few { self.now.count ≤ self.now.limit }
+        ensures { result ≡ self.now.limit - self.now.count }
     {
-        if self.spare < additional {
-            self.flights.reserve(additional)?;
-            self.keys.reserve(additional)?;
-            let flights = self.flights.capacity() - self.flights.len();
-            let keys = self.keys.capacity() - self.keys.len();
-            self.spare = flights.min(keys);
-        }
-        Ok(())
+        self.limit - self.count
     }
 
-    /// Sends a frame, and answers when it is due, or `None` where it is lost.
-    pub fn send<F: Fate>(
+    /// The same frames, and room for so many more. Refused where both together would be too many to count.
+    pub(crate) fn with_room(self, room: usize) -> Result<Lane, AllocError>
+        ensures { IfOk result (λ lane. lane ≡ with_limit (self.count + room) self) }
+    {
+        match self.count.checked_add(room) {
+            Some(limit) => Ok(Lane { limit, ..self }),
+            None => Err(AllocError),
+        }
+    }
+
+    /// Sends a frame, for which there is room, and answers when it is due, or `None` where it is lost.
+    pub(crate) fn send<F: Fate>(
         &mut self,
+        flights: &mut Slab<Flight>,
         bounds: &Bounds,
         octets: Vec<u8>,
         now: u64,
         fate: &mut F,
-    ) -> Result<Option<u64>, AllocError>
+    ) -> Option<u64>
         requires fit { Fit bounds.now }
         requires early { now ≤ 10 ^ 15 }
-        ensures sent { IfOk result (IsSent F.answers bounds.now now fate.old fate.new self.old.frames octets.items self.new.frames) }
-        ensures refused { OnErr result (self.new.frames ≡ self.old.frames) }
-        ensures undrawn { OnErr result (fate.new ≡ fate.old) }
-        ensures room { self.old.room ≤ self.new.room + 1 }
-        ensures kept_room { OnErr result (self.old.room ≤ self.new.room) }
-        ensures succeeds { 0 < self.old.room → IsOk result }
+        requires chained { IsChained (get flights.old) self.old }
+        requires few { self.old.count < self.old.limit }
+        requires room { HasRoomFor flights.old 1 }
+        ensures sent { IsSent F.answers bounds.now now fate.old fate.new (frames_in (get flights.old) self.old) octets.items (frames_in (get flights.new) self.new) result }
+        ensures others { ChangesOne flights.old flights.new self.old self.new }
+        ensures count { self.new.count ≤ self.old.count + 1 }
+        ensures few { self.new.count ≤ self.new.limit }
     {
-        self.reserve(1)?;
         match fate.fate(bounds, now) {
             Some(delay) => {
-                let due = (now + delay).max(self.last_due().unwrap_or(0));
-                self.push(due, octets);
-                Ok(Some(due))
+                let due = (now + delay).max(self.last_due);
+                self.put(flights, due, octets);
+                Some(due)
             }
-            None => Ok(None),
+            None => None,
         }
     }
 
     /// Takes the oldest frame out, where it is due.
-    pub fn deliver(&mut self, now: u64) -> Result<Vec<u8>, NotDue>
-        ensures due { IsOk result ↔ IsDue self.old.frames now }
-        ensures taken { IfOk result (λ octets. IsTaken self.old.frames octets.items self.new.frames) }
+    pub(crate) fn deliver(
+        &mut self,
+        flights: &mut Slab<Flight>,
+        now: u64,
+    ) -> Result<Vec<u8>, NotDue>
+        requires chained { IsChained (get flights.old) self.old }
+        ensures due { IsOk result ↔ IsDue (frames_in (get flights.old) self.old) now }
+        ensures taken { IfOk result (λ octets. IsTaken (frames_in (get flights.old) self.old) octets.items (frames_in (get flights.new) self.new)) }
+        ensures others { ChangesOne flights.old flights.new self.old self.new }
+        ensures count { self.new.count ≤ self.old.count }
+        ensures kept_flights { OnErr result (flights.new ≡ flights.old) }
         ensures kept { OnErr result (self.new ≡ self.old) }
-        ensures room { self.old.room ≤ self.new.room }
     {
         match self.next_due() {
-            Some(due) if due <= now => {
-                let (_, octets) = self.pop().unwrap();
-                Ok(octets)
-            }
+            Some(due) if due <= now => Ok(self.take(flights)),
             _ => Err(NotDue::NotDue),
         }
     }
 
-    /// Puts a frame behind all that are in flight.
-    fn push(&mut self, due: u64, octets: Vec<u8>)
-        requires room { 0 < self.old.room }
-        requires late { newest_due self.old.frames ≤ due }
-        ensures frames { self.new.frames ≡ self.old.frames ++ frame due octets.items ∷ [] }
-        ensures room { self.old.room ≤ self.new.room + 1 }
-    {
-        let key = self.flights.insert_reserved(Flight { due, octets });
-        self.keys.push_back_reserved(key);
-        self.spare -= 1;
-    }
-
-    /// Takes the oldest frame out, and when it was due.
-    fn pop(&mut self) -> Option<(u64, Vec<u8>)>
-        ensures taken { IfSome result (λ flight. self.old.frames ≡ frame flight.0 flight.1.items ∷ self.new.frames) }
-        ensures empty { IfNone result (self.old.frames ≡ []) }
-        ensures kept { IfNone result (self.new ≡ self.old) }
-        ensures room { self.old.room ≤ self.new.room }
-    {
-        let key = self.keys.pop_front()?;
-        let flight = self.flights.remove(key);
-        Some((flight.due, flight.octets))
-    }
-
-    /// Drops all frames.
-    pub fn clear(&mut self)
-        ensures frames { self.new.frames ≡ [] }
-        ensures room { self.old.room ≤ self.new.room }
-    {
-        self.flights.clear();
-        self.keys.clear();
-    }
-
     /// When the oldest frame is due, if any is in flight.
-    pub fn next_due(&self) -> Option<u64>
-        ensures { result ≡ option_map (λ f. f.due) (first self.now.frames) }
+    pub(crate) fn next_due(&self) -> Option<u64>
+        ensures { result ≡ due_of_first self.now }
     {
-        let key = *self.keys.front()?;
-        Some(self.flights.get(key).unwrap().due)
-    }
-
-    /// When the newest frame is due, if any is in flight.
-    fn last_due(&self) -> Option<u64>
-        ensures { result ≡ option_map (λ f. f.due) (last self.now.frames) }
-    {
-        let key = *self.keys.back()?;
-        Some(self.flights.get(key).unwrap().due)
+        if self.count == 0 {
+            None
+        } else {
+            Some(self.first_due)
+        }
     }
 
     /// The oldest frame, if any is in flight.
-    pub fn front(&self) -> Option<&[u8]>
-        ensures { option_copied result ≡ option_map (λ f. f.octets) (first self.now.frames) }
+    pub(crate) fn front<'a>(&self, flights: &'a Slab<Flight>) -> Option<&'a [u8]>
+        requires chained { IsChained (get flights.now) self.now }
+        ensures { option_copied result ≡ option_map (λ f. f.octets) (first (frames_in (get flights.now) self.now)) }
     {
-        let key = *self.keys.front()?;
-        Some(self.flights.get(key).unwrap().octets.as_slice())
+        if self.count == 0 {
+            return None;
+        }
+        Some(flights.get(self.head.place).unwrap().octets.as_slice())
     }
 
-    /// No frame is due before one that was sent earlier.
-    pub fn due_in_order(&self)
-        ensures { AreDueInOrder self.now.frames }
+    /// Puts a frame behind all that are in flight.
+    fn put(&mut self, flights: &mut Slab<Flight>, due: u64, octets: Vec<u8>)
+        requires chained { IsChained (get flights.old) self.old }
+        requires late { newest_due (frames_in (get flights.old) self.old) ≤ due }
+        requires few { self.old.count < self.old.limit }
+        requires room { HasRoomFor flights.old 1 }
+        ensures frames { frames_in (get flights.new) self.new ≡ frames_in (get flights.old) self.old ++ frame due octets.items ∷ [] }
+        ensures others { ChangesOne flights.old flights.new self.old self.new }
+        ensures count { self.new.count ≡ self.old.count + 1 }
     {
-        let _ = &self.keys;
+        let next = Key { place: 0 };
+        let place = flights.insert_reserved(Flight { due, octets, next });
+        let key = Key { place };
+        self.join(flights, key);
+        *self = self.with_last(key, due);
+    }
+
+    /// Makes the newest frame, if there is one, lead to another.
+    fn join(&self, flights: &mut Slab<Flight>, key: Key)
+        ensures joined { Joins (get flights.old) (get flights.new) self.now key }
+        ensures room { SameRoom flights.old flights.new }
+    {
+        if self.count > 0 {
+            set_next(flights, self.tail, key);
+        }
+    }
+
+    /// What is in flight once a frame came behind the others, that is due then.
+    fn with_last(self, key: Key, due: u64) -> Lane
+        requires few { self.count < self.limit }
+        ensures { result ≡ with_last key due self }
+    {
+        let alone = self.count == 0;
+        Lane {
+            head: if alone { key } else { self.head },
+            tail: key,
+            count: self.count + 1,
+            limit: self.limit,
+            first_due: if alone { due } else { self.first_due },
+            last_due: due,
+        }
+    }
+
+    /// Takes the oldest frame out, of those that there are.
+    fn take(&mut self, flights: &mut Slab<Flight>) -> Vec<u8>
+        requires chained { IsChained (get flights.old) self.old }
+        requires some { 0 < self.old.count }
+        ensures taken { frames_in (get flights.old) self.old ≡ frame self.old.first_due result.items ∷ frames_in (get flights.new) self.new }
+        ensures others { ChangesOne flights.old flights.new self.old self.new }
+        ensures count { self.new.count + 1 ≡ self.old.count }
+    {
+        let flight = flights.remove(self.head.place);
+        *self = self.without_first(flights, flight.next);
+        flight.octets
+    }
+
+    /// What is in flight once the oldest frame is gone, that led to this one.
+    fn without_first(self, flights: &Slab<Flight>, next: Key) -> Lane
+        requires some { 0 < self.count }
+        ensures { result ≡ without_first (get flights.now) next self }
+    {
+        let alone = self.count == 1;
+        Lane {
+            head: next,
+            count: self.count - 1,
+            first_due: if alone { 0 } else { due_at(flights, next) },
+            last_due: if alone { 0 } else { self.last_due },
+            ..self
+        }
     }
 }

@@ -11,6 +11,7 @@
 
 mod bounds;
 mod fate;
+mod flight;
 mod lane;
 mod laws;
 mod link;

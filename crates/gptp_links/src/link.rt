@@ -8,7 +8,9 @@ ghost use Rattle.gptp_links.specs.State.{queue, ChangesOnly, HasRoom, KeepsRoom,
 
 use crate::bounds::Bounds;
 use crate::fate::Fate;
+use crate::flight::Flight;
 use crate::lane::{Lane, NotDue};
+use slab::Slab;
 use std::alloc::{AllocError, Global};
 use std::marker::Model;
 
@@ -31,6 +33,8 @@ pub enum Direction {
 pub struct Link {
     bounds: Bounds,
     up: bool,
+    // The frames in flight of both directions.
+    flights: Slab<Flight>,
     from_a: Lane,
     from_b: Lane,
 }
@@ -40,16 +44,18 @@ impl Model for Link {
 
     ghost Value = { State };
 
+    ghost use Rattle.slab.specs.Slab.{get};
     ghost use Rattle.gptp_links.specs.Bounds.{Fit};
+    ghost use Rattle.gptp_links.specs.Flights.{queue_of, AreLinked};
 
     ghost view = { λ link. record {
       bounds = link.bounds;
       up = link.up;
-      from_a = link.from_a;
-      from_b = link.from_b;
+      from_a = queue_of (get link.flights) link.from_a;
+      from_b = queue_of (get link.flights) link.from_b;
     } };
 
-    ghost invariant = { λ link. Fit link.bounds };
+    ghost invariant = { λ link. Fit link.bounds × AreLinked link.flights link.from_a link.from_b };
 }
 
 impl Link {
@@ -64,8 +70,9 @@ impl Link {
         Link {
             bounds,
             up: true,
-            from_a: Lane::new(alloc),
-            from_b: Lane::new(alloc),
+            flights: Slab::new(alloc),
+            from_a: Lane::new(0),
+            from_b: Lane::new(0),
         }
     }
 
@@ -78,8 +85,11 @@ impl Link {
         ensures ok { OnOk result (HasRoom additional self.new) }
         ensures succeeds { HasRoom additional self.old → IsOk result }
     {
-        self.from_a.reserve(additional)?;
-        self.from_b.reserve(additional)
+        let (from_a, from_b) = (self.from_a.room(), self.from_b.room());
+        if from_a < additional || from_b < additional {
+            self.make_room(from_a.max(additional), from_b.max(additional))?;
+        }
+        Ok(())
     }
 
     /// Sends a frame at the time `now`, in ns, and answers when it is due, or `None` where it is lost;
@@ -104,9 +114,11 @@ impl Link {
         ensures kept_room { OnErr result (KeepsRoom self.old self.new) }
         ensures succeeds { 0 < (queue direction self.old).room → IsOk result }
     {
+        self.make_room_for_one(direction)?;
+        let flights = &mut self.flights;
         match direction {
-            Direction::FromA => self.from_a.send(&self.bounds, octets, now, fate),
-            Direction::FromB => self.from_b.send(&self.bounds, octets, now, fate),
+            Direction::FromA => Ok(self.from_a.send(flights, &self.bounds, octets, now, fate)),
+            Direction::FromB => Ok(self.from_b.send(flights, &self.bounds, octets, now, fate)),
         }
     }
 
@@ -120,8 +132,8 @@ impl Link {
         ensures room { KeepsRoom self.old self.new }
     {
         match direction {
-            Direction::FromA => self.from_a.deliver(now),
-            Direction::FromB => self.from_b.deliver(now),
+            Direction::FromA => self.from_a.deliver(&mut self.flights, now),
+            Direction::FromB => self.from_b.deliver(&mut self.flights, now),
         }
     }
 
@@ -129,14 +141,20 @@ impl Link {
     pub fn front(&self, direction: Direction) -> Option<&[u8]>
         ensures { option_copied result ≡ option_map (λ f. f.octets) (first (queue direction self.now).frames) }
     {
-        self.lane(direction).front()
+        match direction {
+            Direction::FromA => self.from_a.front(&self.flights),
+            Direction::FromB => self.from_b.front(&self.flights),
+        }
     }
 
     /// When the oldest frame in flight in a direction is due, in ns.
     pub fn next_due(&self, direction: Direction) -> Option<u64>
         ensures { result ≡ option_map (λ f. f.due) (first (queue direction self.now).frames) }
     {
-        self.lane(direction).next_due()
+        match direction {
+            Direction::FromA => self.from_a.next_due(),
+            Direction::FromB => self.from_b.next_due(),
+        }
     }
 
     /// Gives the link other bounds. They hold for what is sent from then on.
@@ -156,8 +174,9 @@ impl Link {
         ensures room { KeepsRoom self.old self.new }
     {
         self.up = false;
-        self.from_a.clear();
-        self.from_b.clear();
+        self.flights.clear();
+        self.from_a = Lane::new(self.from_a.limit);
+        self.from_b = Lane::new(self.from_b.limit);
     }
 
     /// Takes the link up.
@@ -187,17 +206,47 @@ impl Link {
         ensures from_a { AreDueInOrder self.now.from_a.frames }
         ensures from_b { AreDueInOrder self.now.from_b.frames }
     {
-        self.from_a.due_in_order();
-        self.from_b.due_in_order();
+        let _ = &self.flights;
     }
 
-    /// What is in flight in a direction.
-    fn lane(&self, direction: Direction) -> &Lane
-        ensures { result.now ≡ queue direction self.now }
+    /// Makes room for exactly so many more frames from each end. Where it is refused nothing changes.
+    fn make_room(&mut self, from_a: usize, from_b: usize) -> Result<(), AllocError>
+        ensures frames { SameFrames self.old self.new }
+        ensures ok { OnOk result ((self.new.from_a.room ≡ from_a) × (self.new.from_b.room ≡ from_b)) }
+        ensures refused { OnErr result (self.new ≡ self.old) }
     {
+        let from_a = self.from_a.with_room(from_a)?;
+        let from_b = self.from_b.with_room(from_b)?;
+        let capacity = capacity_for(&from_a, &from_b)?;
+        self.flights.reserve(capacity - self.flights.len())?;
+        self.from_a = from_a;
+        self.from_b = from_b;
+        Ok(())
+    }
+
+    /// Makes room for a frame in a direction, where there is none.
+    fn make_room_for_one(&mut self, direction: Direction) -> Result<(), AllocError>
+        ensures frames { SameFrames self.old self.new }
+        ensures others { ChangesOnly direction self.old self.new }
+        ensures room { KeepsRoom self.old self.new }
+        ensures ok { OnOk result (0 < (queue direction self.new).room) }
+        ensures succeeds { 0 < (queue direction self.old).room → IsOk result }
+    {
+        let (from_a, from_b) = (self.from_a.room(), self.from_b.room());
         match direction {
-            Direction::FromA => &self.from_a,
-            Direction::FromB => &self.from_b,
+            Direction::FromA if from_a == 0 => self.make_room(1, from_b),
+            Direction::FromB if from_b == 0 => self.make_room(from_a, 1),
+            _ => Ok(()),
         }
+    }
+}
+
+/// How many frames both directions can hold. Refused where they are too many to count.
+fn capacity_for(from_a: &Lane, from_b: &Lane) -> Result<usize, AllocError>
+    ensures { IfOk result (λ capacity. capacity ≡ from_a.now.limit + from_b.now.limit) }
+{
+    match from_a.limit.checked_add(from_b.limit) {
+        Some(capacity) => Ok(capacity),
+        None => Err(AllocError),
     }
 }

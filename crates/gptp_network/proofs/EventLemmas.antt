@@ -1,13 +1,13 @@
 -- The events of a document.
 use Rattle.std.proofs.Common.{◌≡◌, ◌≤◌, ◌-◌, ◌++◌, ℕ, zero, suc, List, [], ◌∷◌, length, slice_get, Some, refl, sym, ap, subst, ◌∙◌, arith}
 use Rattle.std.specs.List.{AllByRecursion}
-use Rattle.gptp_setup.specs.Intervals.{IsLog}
+use Rattle.gptp_setup.specs.Intervals.{interval_of, IsLog}
 use Rattle.gptp_setup.proofs.IntervalLemmas.{interval_most}
 use Rattle.gptp_plan.specs.Allowed.{IsFitAct}
 use Rattle.gptp_plan.specs.Calm.{last_change}
 use Rattle.gptp_network.specs.Events.{timed, AreInOrder, AreEvents, IsEvent, IsChange}
 use Rattle.gptp_network.specs.declared.events.Event.{Event}
-use Rattle.gptp_plan.specs.Network.{NetworkState}
+use Rattle.gptp_plan.specs.Network.{NetworkState, smallest_of}
 use Rattle.gptp_plan.specs.Allowed.{AreAllowed, IsAllowed}
 use Rattle.gptp_plan.specs.Prompt.{ArePromptActs, IsPromptAct}
 use Rattle.gptp_plan.specs.declared.change.Act.TheVariants as acts
@@ -53,12 +53,12 @@ early_from n es h = from_each es h.each where
 
 -- ---- events as acts
 
-fit_from : (n : NetworkState) (change : Change) → IsLog n.params.announce → IsChange n change
+fit_from : (n : NetworkState) (change : Change) → IsLog (smallest_of n) → IsChange n change
     → IsFitAct (acts.Change change)
 fit_from n (changes.LinkDown name port) log is = tt
 fit_from n (changes.LinkUp name port) log is = tt
 fit_from n (changes.LinkSet name port least greatest loss) log (there, bounds) =
-    let most = interval_most n.params.announce log in let prompt = bounds.prompt in
+    let most = interval_most (smallest_of n) log in let prompt = bounds.prompt in
     record {
       positive = bounds.positive;
       ordered = bounds.ordered;
@@ -68,15 +68,16 @@ fit_from n (changes.LinkSet name port least greatest loss) log (there, bounds) =
 fit_from n (changes.Fail name) log is = tt
 fit_from n (changes.Recover name) log is = tt
 fit_from n (changes.Priority1 name value) log is = tt
+fit_from n (changes.Inject name port frame) log is = tt
 
-allowed_from : (n : NetworkState) (t : Timed) → IsLog n.params.announce → IsEvent n t → IsAllowed t
+allowed_from : (n : NetworkState) (t : Timed) → IsLog (smallest_of n) → IsEvent n t → IsAllowed t
 allowed_from n t log is = let early = is.early in record {
   moment = omega (arith, early);
   fit = subst IsFitAct (sym is.act) (fit_from n is.change log is.fits);
 }
 
 -- a world of the network can be asked for each of its events
-pub events_allowed : (n : NetworkState) (es : List Timed) → IsLog n.params.announce → AreEvents n es → AreAllowed es
+pub events_allowed : (n : NetworkState) (es : List Timed) → IsLog (smallest_of n) → AreEvents n es → AreAllowed es
 events_allowed n es log h = each_allowed es h.each where
   each_allowed : (es : List Timed) → AllByRecursion (IsEvent n) es → AreAllowed es
   each_allowed [] h place t there = absurd cc
@@ -85,22 +86,25 @@ events_allowed n es log h = each_allowed es h.each where
 
 -- ---- events as prompt acts
 
-prompt_from : (n : NetworkState) (change : Change) → IsChange n change → IsPromptAct n.params (acts.Change change)
+prompt_from : (n : NetworkState) (change : Change) → IsChange n change
+    → IsPromptAct (interval_of (smallest_of n)) (acts.Change change)
 prompt_from n (changes.LinkDown name port) is = tt
 prompt_from n (changes.LinkUp name port) is = tt
 prompt_from n (changes.LinkSet name port least greatest loss) (there, bounds) = bounds.prompt
 prompt_from n (changes.Fail name) is = tt
 prompt_from n (changes.Recover name) is = tt
 prompt_from n (changes.Priority1 name value) is = tt
+prompt_from n (changes.Inject name port frame) is = tt
 
--- none sets a link to a delay above the announce interval
-pub events_prompt : (n : NetworkState) (es : List Timed) → AreEvents n es → ArePromptActs n.params es
+-- none sets a link to a delay above the announce interval of a port
+pub events_prompt : (n : NetworkState) (es : List Timed) → AreEvents n es
+    → ArePromptActs (interval_of (smallest_of n)) es
 events_prompt n es h = each_prompt es h.each where
-  each_prompt : (es : List Timed) → AllByRecursion (IsEvent n) es → ArePromptActs n.params es
+  each_prompt : (es : List Timed) → AllByRecursion (IsEvent n) es → ArePromptActs (interval_of (smallest_of n)) es
   each_prompt [] h place t there = absurd cc
   each_prompt (e ∷ es) h zero t there =
-      let is = h.0 in
-      let prompt : IsPromptAct n.params e.act =
-      subst (IsPromptAct n.params) (sym is.act) (prompt_from n is.change is.fits) in
-      let same : e ≡ t = cc in subst (λ (x : Timed). IsPromptAct n.params x.act) same prompt
+      let is = h.0 in let most = interval_of (smallest_of n) in
+      let prompt : IsPromptAct most e.act =
+      subst (IsPromptAct most) (sym is.act) (prompt_from n is.change is.fits) in
+      let same : e ≡ t = cc in subst (λ (x : Timed). IsPromptAct most x.act) same prompt
   each_prompt (e ∷ es) h (suc place) t there = each_prompt es h.1 place t there

@@ -6,10 +6,11 @@ use Rattle.toml.specs.Data.{Members}
 use Rattle.gptp_graph.specs.Snapshot.{Link, Snapshot, System}
 use Rattle.gptp_graph.proofs.RisingLemmas.{same_rising}
 use Rattle.gptp_lists.specs.Members.{In}
+use Rattle.gptp_plan.specs.Network.{IsNetwork}
 use Rattle.gptp_network.specs.Document.{DocumentState, Fails, Means, Parses, document_of}
-use Rattle.gptp_network.specs.Snapshot.{IsSnapshot, events_by, live_systems, used_links}
+use Rattle.gptp_network.specs.Snapshot.{IsSnapshot, IsWithinLimits, events_by, live_systems, used_links}
 use Rattle.gptp_network.specs.declared.fault.DocumentFault.{DocumentFault}
-use Rattle.gptp_network.proofs.SnapshotLemmas.{In-permutation}
+use Rattle.gptp_network.proofs.SnapshotLemmas.{In-permutation, stands_within}
 
 -- what a table makes is one document, or has one fault
 one_ok : (made : Result DocumentState DocumentFault) (d e : DocumentState) → made ≡ Ok d → made ≡ Ok e → d ≡ e
@@ -63,3 +64,7 @@ one_snapshot d at g h x y =
     same_rising (λ (s : System). s.clock) g.systems h.systems x.rising y.rising to back in
     let links : g.links ≡ h.links = x.links ∙ ap (used_links d.network.links events) systems ∙ sym y.links in
     ap (λ kept. snapshot kept g.links) systems ∙ ap (λ kept. snapshot h.systems kept) links
+
+pub within_limits : (d : DocumentState) (at : ℕ) (g : Snapshot) → IsNetwork d.network → IsSnapshot d at g
+    → IsWithinLimits g
+within_limits d at g network stands = stands_within d.network network (events_by at d.events) g stands

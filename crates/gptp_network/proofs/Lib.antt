@@ -1,7 +1,11 @@
 pub mod EventLemmas
+pub mod IntervalLemmas
+pub mod OctetLemmas
 pub mod MemberLemmas
 pub mod SearchLemmas
 pub mod SnapshotLemmas
 pub mod TakingLemmas
+pub mod ExistenceLemmas
 pub mod PathBoundLemmas
 pub mod LawLemmas
+pub mod SpanLemmas

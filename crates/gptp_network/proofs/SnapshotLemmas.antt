@@ -1,14 +1,15 @@
 -- What stands after events is a snapshot: clocks differ, and each link joins ports of two of the systems, at which no
 -- other link is.
-use Rattle.std.proofs.Common.{◌≡◌, ◌≢◌, ◌<◌, ◌≤◌, ◌⊎◌, ◌^◌, ◌%◌, ℕ, Bool, true, false, ◌==◌, cond, if◌then◌else◌, List, [], ◌∷◌, filter, map, Some, None, Option, slice_get, eqb-true, refl, sym, ap, subst, ◌∙◌, inl, inr, arith}
+use Rattle.std.proofs.Common.{◌≡◌, ◌≢◌, ◌<◌, ◌≤◌, ◌⊎◌, ◌^◌, ◌%◌, ℕ, Bool, true, false, ◌==◌, cond, if◌then◌else◌, List, [], ◌∷◌, filter, map, length, Some, None, Option, slice_get, eqb-true, refl, sym, ap, subst, ◌∙◌, inl, inr, arith}
 use Rattle.std.specs.List.{filter_map, cons_option}
 use Rattle.std.specs.List.Sorted.{IsPermutation}
+use Rattle.std.proofs.lemmas.List.{length-map}
 use Rattle.std.proofs.lemmas.List.Folds.{Any-from_list_any}
 use Rattle.std.proofs.lemmas.List.Sorted.{Contains-permutation, IsPermutation-sym}
 use Rattle.std.proofs.lemmas.Option.{cond_some, same_Some, slice_get-get_or}
 use Rattle.gptp_lists.specs.Members.{In}
 use Rattle.gptp_graph.specs.Snapshot.{System, PortIdentity, Link, Snapshot, IsPortOf, IsWellFormed, Joins, clocks}
-use Rattle.gptp_lists.proofs.MemberLemmas.{In-slice_get, slice_get-In, from_map}
+use Rattle.gptp_lists.proofs.MemberLemmas.{In-map, In-slice_get, slice_get-In, from_map, pigeonhole}
 use Rattle.gptp_graph.proofs.RisingLemmas.{Different-rising}
 use Rattle.gptp_graph.proofs.Sure.{and_true}
 use Rattle.gptp_roles.specs.Selection.{clock_of}
@@ -23,7 +24,7 @@ use Rattle.gptp_plan.specs.declared.change.Timed.{Timed}
 use Rattle.gptp_plan.specs.declared.network.Member.{Member}
 use Rattle.gptp_plan.specs.declared.network.Wire.{Wire}
 use Rattle.gptp_lists.proofs.MappedLemmas.{contains_there, there_contains}
-use Rattle.gptp_network.specs.Snapshot.{StandsAfter, has_clock, joins_two, link_of, live_systems, port_identity, system_of}
+use Rattle.gptp_network.specs.Snapshot.{IsWithinLimits, StandsAfter, has_clock, joins_two, link_of, live_systems, port_identity, system_of}
 
 -- ---- members of lists
 
@@ -80,6 +81,7 @@ changed_clock (changes.LinkSet clock port least greatest loss) own s = refl
 changed_clock (changes.Fail clock) own s = with_live_clock (clock == own) false s
 changed_clock (changes.Recover clock) own s = with_live_clock (clock == own) true s
 changed_clock (changes.Priority1 clock value) own s = with_priority1_clock (clock == own) value s
+changed_clock (changes.Inject clock port frame) own s = refl
 
 acted_clock : (act : Act) (own : ℕ) (s : _) → clock_of (system_acted act own s).identity ≡ clock_of s.identity
 acted_clock (acts.Deliver link direction) own s = refl
@@ -259,4 +261,31 @@ module _ (n : NetworkState) (network : IsNetwork n) (events : List Timed) (g : S
       | inl member ↦ apart_of (record { a = p; b = q }) member same
       | inr member ↦ apart_of (record { a = q; b = p }) member (sym same)
     ];
+  }
+
+  -- each clock that stands is one of the network
+  clock_known : (v : ℕ) → In v (clocks g) → In v (map (λ (m : Member). clock_of m.identity) n.systems)
+  unfolding after
+  clock_known v member =
+      let (s, live, same) = from_map (λ (s : System). s.clock) v g.systems member in
+      let (m, at, is) = member_of s live in
+      subst (λ u. In u (map (λ (m : Member). clock_of m.identity) n.systems))
+      (sym (clock_after events m) ∙ ap (λ (t : System). t.clock) is ∙ same)
+      (In-map (λ (m : Member). clock_of m.identity) m n.systems at)
+
+  -- and it keeps to the limits of the network
+  pub stands_within : IsWithinLimits g
+  unfolding after
+  stands_within = record {
+    systems =
+        let fits = pigeonhole (clocks g) (map (λ (m : Member). clock_of m.identity) n.systems)
+        (Different-rising (clocks g) stands.rising) clock_known in
+        let some = length-map g.systems (λ (s : System). s.clock) in
+        let all = length-map n.systems (λ (m : Member). clock_of m.identity) in
+        let limit = network.few_systems in
+        omega (arith, fits, some, all, limit);
+    ports = λ s live.
+        let (m, at, is) = member_of s live in
+        let (i, there) = slice_get-In m n.systems at in
+        subst (λ k. k ≤ 16) (ap (λ (t : System). t.ports) is) (network.systems i m there).ports;
   }

@@ -189,7 +189,7 @@ live_once_more m ms events once None e rest = rw e rest
 live_once_more m ms events once (Some pair) e rest = rw e (other_clock m ms events once pair e, rest)
 
 -- clocks of what lives differ
-live_once : (ms : List Member) (events : List Timed) → OneClockEach ms
+pub live_once : (ms : List Member) (events : List Timed) → OneClockEach ms
     → Different (map (λ (s : System). s.clock) (live_systems ms events))
 live_once [] events once = tt
 live_once (m ∷ ms) events once =

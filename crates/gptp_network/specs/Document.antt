@@ -18,18 +18,18 @@ pub record DocumentState : Type 0 where
   pub network : NetworkState
   pub events : List Timed
 
--- the network of a document
-unfoldable pub whole_network_of : Members → Result NetworkState DocumentFault
-whole_network_of t = do
+-- the network of a document of this version
+unfoldable pub whole_network_of : ℕ → Members → Result NetworkState DocumentFault
+whole_network_of version t = do
   values ← network_of t
-  systems ← with_systems t values
+  systems ← with_systems version t values
   with_links t systems
 
 -- the sections of a document, in the order in which they are tested
 unfoldable pub document_of : Members → Result DocumentState DocumentFault
 document_of t = do
-  version ← natural (codes "version") 1 1 None t
-  network ← whole_network_of t
+  version ← natural (codes "version") 1 2 None t
+  network ← whole_network_of version t
   events ← events_of t network
   Ok (record { network = network; events = events })
 

@@ -2,10 +2,10 @@
 use Rattle.std.specs.Prelude.{◌≡◌, ◌≤◌, ⊤, true, ℕ, codes, not, nat_lt, if◌then◌else◌, bytes_eq, List, [], ◌∷◌, ◌++◌, Option, None, Result, Ok, Err}
 use Rattle.std.specs.List.{AllByRecursion}
 use Rattle.toml.specs.Data.{Data, Members, as_table}
-use Rattle.gptp_setup.specs.Intervals.{announce_interval}
+use Rattle.gptp_setup.specs.Intervals.{interval_of}
 use Rattle.gptp_plan.specs.Calm.{last_change}
 use Rattle.gptp_plan.specs.Faults.{first_fault}
-use Rattle.gptp_plan.specs.Network.{NetworkState, has_clock, is_taken}
+use Rattle.gptp_plan.specs.Network.{NetworkState, has_clock, is_taken, smallest_of}
 use Rattle.gptp_plan.specs.declared.change.Act.TheVariants as acts
 use Rattle.gptp_plan.specs.declared.change.Change.{Change}
 use Rattle.gptp_plan.specs.declared.change.Change.TheVariants as changes
@@ -15,7 +15,7 @@ use Rattle.gptp_plan.specs.declared.fault.NetworkFault.TheVariants as networks
 use Rattle.gptp_network.specs.Faults.{◌>>=◌, tested}
 use Rattle.gptp_network.specs.Links.{port_id}
 use Rattle.gptp_network.specs.Members.{limited, each_of}
-use Rattle.gptp_network.specs.Values.{clock, natural, text, kind_of, array_at}
+use Rattle.gptp_network.specs.Values.{clock, natural, octets, text, kind_of, array_at}
 use Rattle.gptp_network.specs.declared.events.Event.{Event}
 use Rattle.gptp_network.specs.declared.fault.DocumentFault.{DocumentFault}
 use Rattle.gptp_network.specs.declared.fault.DocumentFault.TheVariants.{OutOfRange, EventOrder}
@@ -58,6 +58,13 @@ priority1_of t = do
   value ← natural (codes "value") 0 255 None t
   Ok (changes.Priority1 name value)
 
+unfoldable pub inject_of : Members → Result Change DocumentFault
+inject_of t = do
+  name ← clock (codes "clock") t
+  port ← natural (codes "port") 1 16 None t
+  frame ← octets (codes "octets") t
+  Ok (changes.Inject name port frame)
+
 -- an event of this kind
 unfoldable pub change_of : List ℕ → Members → Result Change DocumentFault
 change_of kind t =
@@ -67,6 +74,7 @@ change_of kind t =
     else if bytes_eq kind (codes "fail") then fail_of t
     else if bytes_eq kind (codes "recover") then recover_of t
     else if bytes_eq kind (codes "priority1") then priority1_of t
+    else if bytes_eq kind (codes "inject") then inject_of t
     else Err OutOfRange
 
 -- the keys of an event: its time, its kind, and those of its kind
@@ -90,11 +98,12 @@ change_fault n (changes.LinkUp name port) = link_fault_at n name port
 change_fault n (changes.LinkSet name port least greatest loss) = first_fault (
     (nat_lt greatest least, networks.OutOfRange)
     ∷ (not (is_taken n.links (port_id name port)), networks.NoSuchPort)
-    ∷ (nat_lt (announce_interval n.params) greatest, networks.DelayTooLong)
+    ∷ (nat_lt (interval_of (smallest_of n)) greatest, networks.DelayTooLong)
     ∷ [])
 change_fault n (changes.Fail name) = system_fault_at n name
 change_fault n (changes.Recover name) = system_fault_at n name
 change_fault n (changes.Priority1 name value) = system_fault_at n name
+change_fault n (changes.Inject name port frame) = link_fault_at n name port
 
 -- an event is no earlier than the one before
 abbrev pub not_before : ℕ → Event → Result Event DocumentFault
@@ -122,7 +131,7 @@ events_of t n = do
 pub record AreBounds (n : NetworkState) (least greatest loss : ℕ) : Type 0 where
   pub positive : 1 ≤ least
   pub ordered : least ≤ greatest
-  pub prompt : greatest ≤ announce_interval n.params
+  pub prompt : greatest ≤ interval_of (smallest_of n)
   pub share : loss ≤ 1000
 
 -- the ranges of a change's bounds
@@ -139,6 +148,7 @@ IsChange n (changes.LinkSet name port least greatest loss) =
 IsChange n (changes.Fail name) = has_clock n.systems name ≡ true
 IsChange n (changes.Recover name) = has_clock n.systems name ≡ true
 IsChange n (changes.Priority1 name value) = has_clock n.systems name ≡ true
+IsChange n (changes.Inject name port frame) = is_taken n.links (port_id name port) ≡ true
 
 -- an event of the network
 pub record IsEvent (n : NetworkState) (t : Timed) : Type 0 where

@@ -2,6 +2,7 @@ pub mod Faults
 pub mod Values
 pub mod Members
 pub mod Params
+pub mod Intervals
 pub mod Systems
 pub mod Links
 pub mod Events
@@ -9,3 +10,4 @@ pub mod Document
 pub mod Snapshot
 pub mod SnapshotTables
 pub mod PathBound
+pub mod Span

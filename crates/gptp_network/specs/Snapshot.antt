@@ -1,8 +1,9 @@
 -- The network of a document as it stands at a time: the live systems, and the links that are up between two of them
 -- (profile).
-use Rattle.std.specs.Prelude.{◌≡◌, ℕ, ◌==◌, ◌&&◌, nat_le, Bool, List, map, filter, filter_map}
+use Rattle.std.specs.Prelude.{◌≡◌, ℕ, ◌==◌, ◌&&◌, ◌≤◌, nat_le, Bool, List, length, map, filter, filter_map}
 use Rattle.std.specs.List.{list_any}
 use Rattle.std.specs.List.Sorted.{IsPermutation}
+use Rattle.gptp_lists.specs.Members.{In}
 use Rattle.gptp_graph.specs.Order.{IsRising}
 use Rattle.gptp_graph.specs.Snapshot.{System, PortIdentity, Link, Snapshot, clocks}
 use Rattle.gptp_roles.specs.Selection.{clock_of}
@@ -52,3 +53,8 @@ pub record StandsAfter (n : NetworkState) (events : List Timed) (g : Snapshot) :
 -- The snapshot of a document at a time: its network after all events up to then.
 abbrev pub IsSnapshot : DocumentState → ℕ → Snapshot → Type 0
 IsSnapshot d at = StandsAfter d.network (events_by at d.events)
+
+-- what the snapshot of every network keeps to: 512 systems at most, with sixteen ports at most
+pub record IsWithinLimits (g : Snapshot) : Type 0 where
+  pub systems : length g.systems ≤ 512
+  pub ports : (s : System) → In s g.systems → s.ports ≤ 16

@@ -1,7 +1,7 @@
 -- What the keys of a table hold: first MissingKey, then WrongKind, then OutOfRange (profile).
-use Rattle.std.specs.Prelude.{ℕ, ℤ, pos, negsuc, Bool, ◌&&◌, if◌then◌else◌, int_le, List, Option, Some, None, Result, Ok, Err}
+use Rattle.std.specs.Prelude.{ℕ, ℤ, pos, negsuc, Bool, ◌&&◌, if◌then◌else◌, int_le, List, length, Option, Some, None, Result, Ok, Err}
 use Rattle.byteorder.specs.Endian.{big_number}
-use Rattle.hex.specs.Hex.{decode_sized}
+use Rattle.hex.specs.Hex.{decode_of, decode_sized}
 use Rattle.hex.specs.declared.error.FromHexError.{FromHexError}
 use Rattle.toml.specs.Data.{Data, Items, no_items, Members, no_members, get_member, as_integer, as_str, as_bool, as_array, as_table}
 use Rattle.gptp_plan.specs.Params.{is_between}
@@ -42,6 +42,14 @@ clock_of_octets (Err e) = Err OutOfRange
 abbrev pub clock_of_text : List ℕ → Result ℕ DocumentFault
 clock_of_text text = clock_of_octets (decode_sized text 8)
 
+-- two hexadecimal digits for each octet, of either case: for one octet at least, and for as many at most as a frame has
+abbrev pub spelled_octets : Result (List ℕ) FromHexError → Result (List ℕ) DocumentFault
+spelled_octets (Ok octets) = Ok octets
+spelled_octets (Err e) = Err OutOfRange
+
+abbrev pub octets_of_text : List ℕ → Result (List ℕ) DocumentFault
+octets_of_text text = if is_between 1 4232 (length text) then spelled_octets (decode_of text) else Err OutOfRange
+
 -- a whole number in a range of numbers from 0, and in one that goes below 0
 unfoldable pub natural : List ℕ → ℕ → ℕ → Option ℕ → Members → Result ℕ DocumentFault
 natural key least greatest default t = key_in as_integer (natural_of least greatest) default (get_member key t)
@@ -60,6 +68,10 @@ text key t = key_in as_str (λ s. Ok s) None (get_member key t)
 -- a clock
 unfoldable pub clock : List ℕ → Members → Result ℕ DocumentFault
 clock key t = key_in as_str clock_of_text None (get_member key t)
+
+-- the octets of a frame
+unfoldable pub octets : List ℕ → Members → Result (List ℕ) DocumentFault
+octets key t = key_in as_str octets_of_text None (get_member key t)
 
 -- a section that is a table, empty where it is absent, and one that is an array
 unfoldable pub table_at : List ℕ → Members → Result Members DocumentFault

@@ -3,6 +3,8 @@
 ghost use Rattle.std.specs.Prelude.{◌≡◌, ◌≤◌, ◌⊎◌, ◌↔◌, IsTrue, Ok, IfOk, IfErr};
 ghost use Rattle.toml.specs.View.{table_view};
 ghost use Rattle.gptp_plan.specs.Calm.{last_change, IsCalm};
+ghost use Rattle.gptp_plan.specs.Network.{smallest_of};
+ghost use Rattle.gptp_setup.specs.Intervals.{interval_of};
 ghost use Rattle.gptp_plan.specs.Allowed.{AreAllowed};
 ghost use Rattle.gptp_plan.specs.Prompt.{ArePromptActs};
 ghost use Rattle.gptp_plan.specs.SettlingTime.{settles};
@@ -43,17 +45,17 @@ impl Model for Document {
 }
 
 impl Document {
-    /// Reads a document: TOML text with a `version`, which is 1, and the sections `[network]`, `[[system]]`, `[[link]]` and
-    /// `[[event]]` (profile). Their keys, with their ranges and defaults, are those that `specs/` lists. Unknown keys are
-    /// ignored.
+    /// Reads a document: TOML text with a `version`, which is 1 or 2, and the sections `[network]`, `[[system]]`, `[[link]]`
+    /// and `[[event]]` (profile). Their keys, with their ranges and defaults, are those that `specs/` lists. Unknown keys
+    /// are ignored, and in version 1 the announce intervals of a system's ports are such a key.
     ///
     /// Refused by the first test that fails. `NotToml` is the text. Then come the sections in that order, in each its
     /// members in their order, in each of these its keys in their order, and in each key `MissingKey`, `WrongKind`,
     /// `OutOfRange`. A section of another kind is `WrongKind`, one with more members than its limit (512 systems, 2,048
     /// links, 4,096 events) `TooMany` before they are read, and no system is `MissingKey`. After its keys `[network]` is
-    /// tested for `Timing`, a system for `DuplicateClock`, a link for `OutOfRange` where `min` is above `max`, `SelfLink`,
-    /// `NoSuchPort`, `PortTaken` and `DelayTooLong`, and an event for `EventOrder` and then as its kind asks. `OutOfMemory`
-    /// can come at any point.
+    /// tested for `Timing`, a system for `Timing` and `DuplicateClock`, a link for `OutOfRange` where `min` is above `max`,
+    /// `SelfLink`, `NoSuchPort`, `PortTaken` and `DelayTooLong`, and an event for `EventOrder` and then as its kind asks.
+    /// `OutOfMemory` can come at any point.
     pub fn read(alloc: Global, text: &[u8]) -> Result<Self, DocumentFault>
         ensures document { IfOk result (Means text.now) }
         ensures refused { IfErr result (λ e. (e ≡ DocumentFault.OutOfMemory) ⊎ Fails text.now e) }
@@ -104,12 +106,12 @@ impl Document {
     }
 
     /// The events are in order, at most at 8 * 10^14, and each can be made in the network: what it names is there, and the
-    /// bounds that it sets can be those of a link: its greatest delay is at most the announce interval. So a world can be
-    /// asked for each of them.
+    /// bounds that it sets can be those of a link: its greatest delay is at most the announce interval of each port. So a
+    /// world can be asked for each of them.
     pub fn well_formed(&self)
         ensures events { AreEvents self.now.network self.now.events }
         ensures allowed { AreAllowed self.now.events }
-        ensures prompt { ArePromptActs self.now.network.params self.now.events }
+        ensures prompt { ArePromptActs (interval_of (smallest_of self.now.network)) self.now.events }
     {
         self.network.well_formed();
     }
@@ -139,14 +141,14 @@ fn table_of(alloc: Global, text: &[u8]) -> Result<Table, DocumentFault>
     }
 }
 
-/// The network of a document.
+/// The network of a document of this version.
 #[tactic(auto, unfolding(crate::specs::Document::whole_network_of))]
-fn whole_network_of(alloc: Global, table: &Table) -> Result<Network, DocumentFault>
-    ensures network { IfOk result (λ n. whole_network_of (table_view table.now) ≡ Ok n) }
-    ensures refused { Refuses (whole_network_of (table_view table.now)) result }
+fn whole_network_of(alloc: Global, version: u64, table: &Table) -> Result<Network, DocumentFault>
+    ensures network { IfOk result (λ n. whole_network_of version (table_view table.now) ≡ Ok n) }
+    ensures refused { Refuses (whole_network_of version (table_view table.now)) result }
 {
     let mut network = network_of(alloc, table)?;
-    match add_systems(&mut network, table) {
+    match add_systems(&mut network, version, table) {
         Ok(()) => match add_links(&mut network, table) {
             Ok(()) => Ok(network),
             Err(fault) => Err(fault),
@@ -161,8 +163,8 @@ fn document_of(alloc: Global, table: &Table) -> Result<Document, DocumentFault>
     ensures document { IfOk result (λ d. document_of (table_view table.now) ≡ Ok d) }
     ensures refused { Refuses (document_of (table_view table.now)) result }
 {
-    let _ = natural(table, "version", 1, 1, None)?;
-    let network = whole_network_of(alloc, table)?;
+    let version = natural(table, "version", 1, 2, None)?;
+    let network = whole_network_of(alloc, version, table)?;
     match events_of(alloc, table, &network) {
         Ok(events) => Ok(Document { network, events }),
         Err(fault) => Err(fault),

@@ -6,20 +6,20 @@ ghost use Rattle.gptp_plan.specs.Calm.{last_change};
 ghost use Rattle.gptp_network.specs.Faults.{Refuses};
 ghost use Rattle.gptp_network.specs.Members.{each_of};
 ghost use Rattle.gptp_network.specs.Values.{natural};
-ghost use Rattle.gptp_network.specs.Events.{link_down_of, link_up_of, link_set_of, fail_of, recover_of, priority1_of, change_of, event_of, link_fault_at, system_fault_at, change_fault, timed, with_event_of, events_of, AreEvents, AreInOrder, IsInRange, IsChange};
+ghost use Rattle.gptp_network.specs.Events.{link_down_of, link_up_of, link_set_of, fail_of, recover_of, priority1_of, inject_of, change_of, event_of, link_fault_at, system_fault_at, change_fault, timed, with_event_of, events_of, AreEvents, AreInOrder, IsInRange, IsChange};
 ghost use Rattle.gptp_network.specs.Snapshot.{events_by};
 
 use crate::fault::DocumentFault;
 use crate::links::{delay, port_number};
 use crate::members::limited;
-use crate::values::{array_at, clock, natural, text};
+use crate::values::{array_at, clock, natural, octets, text};
 use gptp_plan::{Act, Change, Network, NetworkFault, Timed};
 use gptp_vector::{ClockId, PortId};
 use std::alloc::Global;
 use toml::{Table, Value};
 
 /// An event as a document describes it.
-#[derive(Clone, Copy, Debug)]
+#[derive(Debug, Drop)]
 pub(crate) struct Event {
     pub at: u64,
     pub change: Change,
@@ -98,10 +98,28 @@ fn priority1_of(table: &Table) -> Result<Change, DocumentFault>
     Ok(Change::Priority1 { clock, value })
 }
 
+/// The values of octets that enter a link.
+#[tactic(auto, unfolding(crate::specs::Events::inject_of))]
+fn inject_of(alloc: Global, table: &Table) -> Result<Change, DocumentFault>
+    ensures change { IfOk result (λ c. inject_of (table_view table.now) ≡ Ok c) }
+    ensures refused { Refuses (inject_of (table_view table.now)) result }
+    ensures range { IfOk result IsInRange }
+{
+    let clock = clock(table, "clock")?;
+    let port = port_number(table, "port")?;
+    let octets = octets(alloc, table, "octets")?;
+    Ok(Change::Inject {
+        clock,
+        port,
+        octets,
+    })
+}
+
 /// The values of an event of this kind.
 #[tactic(auto, unfolding(crate::specs::Events::change_of))]
-fn change_of(kind: &str, table: &Table) -> Result<Change, DocumentFault>
-    ensures is { result ≡ change_of kind.now (table_view table.now) }
+fn change_of(alloc: Global, kind: &str, table: &Table) -> Result<Change, DocumentFault>
+    ensures change { IfOk result (λ c. change_of kind.now (table_view table.now) ≡ Ok c) }
+    ensures refused { Refuses (change_of kind.now (table_view table.now)) result }
     ensures range { IfOk result IsInRange }
 {
     if kind == "link_down" {
@@ -116,6 +134,8 @@ fn change_of(kind: &str, table: &Table) -> Result<Change, DocumentFault>
         recover_of(table)
     } else if kind == "priority1" {
         priority1_of(table)
+    } else if kind == "inject" {
+        inject_of(alloc, table)
     } else {
         Err(DocumentFault::OutOfRange)
     }
@@ -123,14 +143,15 @@ fn change_of(kind: &str, table: &Table) -> Result<Change, DocumentFault>
 
 /// The values of an event.
 #[tactic(auto, unfolding(crate::specs::Events::event_of))]
-fn event_of(table: &Table) -> Result<Event, DocumentFault>
-    ensures is { result ≡ event_of (table_view table.now) }
+fn event_of(alloc: Global, table: &Table) -> Result<Event, DocumentFault>
+    ensures event { IfOk result (λ e. event_of (table_view table.now) ≡ Ok e) }
+    ensures refused { Refuses (event_of (table_view table.now)) result }
     ensures early { IfOk result (λ e. e.at ≤ 800000000000000) }
     ensures range { IfOk result (λ e. IsInRange e.change) }
 {
     let at = natural(table, "at", 0, 800_000_000_000_000, None)?;
     let kind = text(table, "kind")?;
-    let change = change_of(kind, table)?;
+    let change = change_of(alloc, kind, table)?;
     Ok(Event { at, change })
 }
 
@@ -175,7 +196,7 @@ fn change_fault(network: &Network, change: &Change) -> Option<NetworkFault>
                 Some(NetworkFault::OutOfRange)
             } else if !network.has_link(PortId { clock, port }) {
                 Some(NetworkFault::NoSuchPort)
-            } else if network.announce_interval() < max {
+            } else if network.least_interval() < max {
                 Some(NetworkFault::DelayTooLong)
             } else {
                 None
@@ -184,6 +205,11 @@ fn change_fault(network: &Network, change: &Change) -> Option<NetworkFault>
         Change::Fail { clock } => system_fault_at(network, clock),
         Change::Recover { clock } => system_fault_at(network, clock),
         Change::Priority1 { clock, value: _ } => system_fault_at(network, clock),
+        Change::Inject {
+            clock,
+            port,
+            octets: _,
+        } => link_fault_at(network, clock, port),
     }
 }
 
@@ -227,7 +253,12 @@ fn push_event(events: &mut Vec<Timed>, network: &Network, event: Event) -> Resul
 
 /// Adds an event.
 #[tactic(auto, unfolding(crate::specs::Events::with_event_of))]
-fn add_event(events: &mut Vec<Timed>, network: &Network, event: &Value) -> Result<(), DocumentFault>
+fn add_event(
+    alloc: Global,
+    events: &mut Vec<Timed>,
+    network: &Network,
+    event: &Value,
+) -> Result<(), DocumentFault>
     requires { AreEvents network.now events.old.items }
     ensures are_events { OnOk result (AreEvents network.now events.new.items) }
     ensures events { OnOk result (with_event_of network.now (view event.now) events.old.items ≡ Ok events.new.items) }
@@ -236,7 +267,7 @@ fn add_event(events: &mut Vec<Timed>, network: &Network, event: &Value) -> Resul
     match event.as_table() {
         None => Err(DocumentFault::WrongKind),
         Some(table) => {
-            let event = event_of(table)?;
+            let event = event_of(alloc, table)?;
             if event.at < last_change(events) {
                 Err(DocumentFault::EventOrder)
             } else {
@@ -251,6 +282,7 @@ fn add_event(events: &mut Vec<Timed>, network: &Network, event: &Value) -> Resul
 
 /// Adds events, one after another.
 fn add_each(
+    alloc: Global,
     events: &mut Vec<Timed>,
     network: &Network,
     values: &[Value],
@@ -261,7 +293,7 @@ fn add_each(
     ensures refused { Refuses (each_of (with_event_of network.now) (items_view values.now) events.old.items) result }
 {
     for value in values {
-        add_event(events, network, value)?;
+        add_event(alloc, events, network, value)?;
     }
     Ok(())
 }
@@ -280,7 +312,7 @@ pub(crate) fn events_of(
     let values = array_at(document, "event")?;
     let values = limited(4096, values)?;
     let mut events = Vec::new(alloc);
-    match add_each(&mut events, network, values) {
+    match add_each(alloc, &mut events, network, values) {
         Ok(()) => Ok(events),
         Err(fault) => Err(fault),
     }

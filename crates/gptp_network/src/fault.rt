@@ -24,7 +24,7 @@ pub enum DocumentFault {
     PortTaken = 7,
     /// No system has that port.
     NoSuchPort = 8,
-    /// The greatest delay is longer than the announce interval.
+    /// The greatest delay is longer than the announce interval of a port.
     DelayTooLong = 9,
     /// An event is earlier than the one before.
     EventOrder = 10,

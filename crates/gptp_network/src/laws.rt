@@ -2,8 +2,10 @@
 
 ghost use Rattle.std.specs.Prelude.{◌≡◌, ℕ, List};
 ghost use Rattle.gptp_graph.specs.Snapshot.{Snapshot};
+ghost use Rattle.gptp_plan.specs.Network.{IsNetwork};
 ghost use Rattle.gptp_network.specs.Document.{DocumentState, Fails, Means};
-ghost use Rattle.gptp_network.specs.Snapshot.{IsSnapshot};
+ghost use Rattle.gptp_plan.specs.Network.{IsNetwork};
+ghost use Rattle.gptp_network.specs.Snapshot.{IsSnapshot, IsWithinLimits};
 ghost use Rattle.gptp_network.specs.declared.fault.DocumentFault.{DocumentFault};
 
 /// A text means one document at most.
@@ -21,8 +23,18 @@ pub fn a_text_fails_in_one_way()
     ensures { (text : List ℕ) (first second : DocumentFault) → Fails text first → Fails text second → first ≡ second }
 {}
 
+/// A document whose network is within its limits has a snapshot at each time.
+pub fn a_document_has_a_snapshot()
+    ensures { (d : DocumentState) (at : ℕ) → IsNetwork d.network → (g : Snapshot) × IsSnapshot d at g }
+{}
+
 /// A document has one snapshot at a time.
 pub fn a_document_has_one_snapshot()
     ensures { (d : DocumentState) (at : ℕ) (one other : Snapshot)
         → IsSnapshot d at one → IsSnapshot d at other → one ≡ other }
+{}
+
+/// A snapshot has no more systems, and these no more ports, than a document may have.
+pub fn a_snapshot_is_within_limits()
+    ensures { (d : DocumentState) (at : ℕ) (g : Snapshot) → IsNetwork d.network → IsSnapshot d at g → IsWithinLimits g }
 {}

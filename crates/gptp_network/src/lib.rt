@@ -9,12 +9,14 @@
 mod document;
 mod events;
 mod fault;
+mod intervals;
 pub mod laws;
 mod links;
 mod members;
 mod params;
 mod path_bound;
 mod snapshot;
+mod span;
 mod systems;
 mod taking;
 mod values;

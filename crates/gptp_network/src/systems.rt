@@ -8,19 +8,22 @@ ghost use Rattle.gptp_network.specs.Values.{natural, whole};
 ghost use Rattle.gptp_network.specs.Systems.{identity_of, system_of, with_system_of, with_systems};
 
 use crate::fault::DocumentFault;
+use crate::intervals::intervals;
 use crate::members::{limited, needed};
 use crate::values::{array_at, clock, natural, whole};
+use arrayvec::ArrayVec;
 use gptp_plan::Network;
 use gptp_vector::{ClockId, Identity};
 use toml::{Table, Value};
 
 /// A system as a document describes it.
-#[derive(Clone, Copy, Debug)]
+#[derive(Debug, Drop)]
 pub(crate) struct System {
     pub identity: Identity,
     pub ports: u8,
     pub phase: u64,
     pub drift: i32,
+    pub intervals: ArrayVec<i8, 16>,
 }
 
 /// The identity of these parts.
@@ -46,7 +49,8 @@ fn identity_of(
 /// An octet, or the default where the key is absent.
 fn octet(table: &Table, key: &str, greatest: u8, default: u8) -> Result<u8, DocumentFault>
     requires { default ≤ greatest }
-    ensures { result ≡ natural key.now 0 greatest (Some default) (table_view table.now) }
+    ensures is { result ≡ natural key.now 0 greatest (Some default) (table_view table.now) }
+    ensures bound { IfOk result (λ n. n ≤ greatest) }
 {
     let number = natural(table, key, 0, u64::from(greatest), Some(u64::from(default)))?;
     Ok(number as u8)
@@ -60,10 +64,10 @@ fn drift(table: &Table, key: &str) -> Result<i32, DocumentFault>
     Ok(number as i32)
 }
 
-/// The values of a system.
+/// The values of a system of a document of this version, whose ports announce at this interval by default.
 #[tactic(auto, unfolding(crate::specs::Systems::system_of))]
-fn system_of(table: &Table) -> Result<System, DocumentFault>
-    ensures { result ≡ system_of (table_view table.now) }
+fn system_of(version: u64, announce: i8, table: &Table) -> Result<System, DocumentFault>
+    ensures { result ≡ system_of version announce (table_view table.now) }
 {
     let name = clock(table, "clock")?;
     let priority1 = octet(table, "priority1", 255, 246)?;
@@ -74,50 +78,62 @@ fn system_of(table: &Table) -> Result<System, DocumentFault>
     let phase = natural(table, "phase", 0, 1_000_000_000_000_000_000, Some(0))?;
     let drift = drift(table, "drift")?;
     let ports = octet(table, "ports", 16, 1)?;
+    let intervals = intervals(version, ports, announce, table)?;
     let identity = identity_of(priority1, class, accuracy, variance, priority2, name);
     Ok(System {
         identity,
         ports,
         phase,
         drift,
+        intervals,
     })
 }
 
 /// Adds a system.
 #[tactic(auto, unfolding(crate::specs::Systems::with_system_of))]
-fn add_system(network: &mut Network, system: &Value) -> Result<(), DocumentFault>
-    ensures network { OnOk result (with_system_of (view system.now) network.old ≡ Ok network.new) }
-    ensures refused { Refuses (with_system_of (view system.now) network.old) result }
+fn add_system(network: &mut Network, version: u64, system: &Value) -> Result<(), DocumentFault>
+    ensures network { OnOk result (with_system_of version (view system.now) network.old ≡ Ok network.new) }
+    ensures refused { Refuses (with_system_of version (view system.now) network.old) result }
 {
     match system.as_table() {
         None => Err(DocumentFault::WrongKind),
         Some(table) => {
-            let system = system_of(table)?;
-            network.add_system(system.identity, system.ports, system.phase, system.drift)?;
+            let system = system_of(version, network.params().announce, table)?;
+            network.add_system(
+                system.identity,
+                system.ports,
+                system.phase,
+                system.drift,
+                system.intervals,
+            )?;
             Ok(())
         }
     }
 }
 
 /// Adds systems, one after another.
-fn add_each(network: &mut Network, systems: &[Value]) -> Result<(), DocumentFault>
-    ensures network { OnOk result (each_of with_system_of (items_view systems.now) network.old ≡ Ok network.new) }
-    ensures refused { Refuses (each_of with_system_of (items_view systems.now) network.old) result }
+fn add_each(network: &mut Network, version: u64, systems: &[Value]) -> Result<(), DocumentFault>
+    ensures network { OnOk result (each_of (with_system_of version) (items_view systems.now) network.old ≡ Ok network.new) }
+    ensures refused { Refuses (each_of (with_system_of version) (items_view systems.now) network.old) result }
 {
     for system in systems {
-        add_system(network, system)?;
+        add_system(network, version, system)?;
     }
     Ok(())
 }
 
-/// Adds the systems of a document.
+/// Adds the systems of a document of this version.
 #[tactic(auto, unfolding(crate::specs::Systems::with_systems))]
-pub(crate) fn add_systems(network: &mut Network, document: &Table) -> Result<(), DocumentFault>
-    ensures network { OnOk result (with_systems (table_view document.now) network.old ≡ Ok network.new) }
-    ensures refused { Refuses (with_systems (table_view document.now) network.old) result }
+pub(crate) fn add_systems(
+    network: &mut Network,
+    version: u64,
+    document: &Table,
+) -> Result<(), DocumentFault>
+    ensures network { OnOk result (with_systems version (table_view document.now) network.old ≡ Ok network.new) }
+    ensures refused { Refuses (with_systems version (table_view document.now) network.old) result }
 {
     let systems = array_at(document, "system")?;
     let systems = needed(systems)?;
     let systems = limited(512, systems)?;
-    add_each(network, systems)
+    add_each(network, version, systems)
 }

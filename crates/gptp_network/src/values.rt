@@ -1,17 +1,21 @@
 //! What the keys of a table hold.
 
-ghost use Rattle.std.specs.Prelude.{◌≡◌, ◌≤◌, ◌≤ℤ◌, Ok, Err, Some, IfSome, IfNone, IfOk, IfErr, option_map};
+ghost use Rattle.std.specs.Prelude.{◌≡◌, ◌≤◌, ◌≤ℤ◌, length, Ok, Err, Some, IfSome, IfNone, IfOk, IfErr, option_map};
+ghost use Rattle.hex.specs.Hex.{decode_of};
 ghost use Rattle.toml.specs.Data.{get_member, no_members};
 ghost use Rattle.toml.specs.View.{view, table_view, items_view};
-ghost use Rattle.gptp_network.specs.Values.{natural, whole, flag, text, clock, table_at, array_at, natural_of, whole_of, clock_of_text, absent};
+ghost use Rattle.gptp_network.specs.Faults.{Refuses};
+ghost use Rattle.gptp_network.specs.Values.{natural, whole, flag, text, clock, table_at, array_at, natural_of, whole_of, clock_of_text, octets, octets_of_text, spelled_octets, absent};
 
 use crate::fault::DocumentFault;
+use gptp_plan::Octets;
 use gptp_vector::ClockId;
-use hex::FromHex;
+use hex::{FromHex, FromHexError};
+use std::alloc::Global;
 use toml::{Table, Value};
 
 /// The value at a key.
-fn value_at<'a>(table: &'a Table, key: &str) -> Option<&'a Value>
+pub(crate) fn value_at<'a>(table: &'a Table, key: &str) -> Option<&'a Value>
     ensures { option_map (λ v. view v.now) result ≡ get_member key.now (table_view table.now) }
 {
     table.get(key)
@@ -67,7 +71,7 @@ pub(crate) fn natural(
 }
 
 /// A whole number in a range.
-fn whole_of(least: i64, greatest: i64, number: i64) -> Result<i64, DocumentFault>
+pub(crate) fn whole_of(least: i64, greatest: i64, number: i64) -> Result<i64, DocumentFault>
     ensures is { result ≡ whole_of least greatest number }
     ensures low { IfOk result (λ z. least ≤ℤ z) }
     ensures high { IfOk result (λ z. z ≤ℤ greatest) }
@@ -152,6 +156,47 @@ pub(crate) fn clock(table: &Table, key: &str) -> Result<ClockId, DocumentFault>
         Some(value) => match value.as_str() {
             None => Err(DocumentFault::WrongKind),
             Some(text) => clock_of_text(text),
+        },
+    }
+}
+
+/// The octets that so many digits spell.
+#[tactic(auto, using(crate::proofs::OctetLemmas::few_octets))]
+fn spelled_octets(alloc: Global, digits: &str) -> Result<Octets, DocumentFault>
+    requires { length digits.now ≤ 4232 }
+    ensures octets { IfOk result (λ o. spelled_octets (decode_of digits.now) ≡ Ok o) }
+    ensures refused { Refuses (spelled_octets (decode_of digits.now)) result }
+{
+    match hex::decode(alloc, digits) {
+        Ok(octets) => Octets::new(octets).ok_or(DocumentFault::OutOfRange),
+        Err(FromHexError::OutOfMemory) => Err(DocumentFault::OutOfMemory),
+        Err(_) => Err(DocumentFault::OutOfRange),
+    }
+}
+
+/// The octets of a frame as hexadecimal digits: 1 to 2,116. A text of more digits takes no memory.
+fn octets_of_text(alloc: Global, text: &str) -> Result<Octets, DocumentFault>
+    ensures octets { IfOk result (λ o. octets_of_text text.now ≡ Ok o) }
+    ensures refused { Refuses (octets_of_text text.now) result }
+{
+    if 1 <= text.len() && text.len() <= 4232 {
+        spelled_octets(alloc, text)
+    } else {
+        Err(DocumentFault::OutOfRange)
+    }
+}
+
+/// The octets of a frame as hexadecimal digits of either case.
+#[tactic(auto, unfolding(crate::specs::Values::octets))]
+pub(crate) fn octets(alloc: Global, table: &Table, key: &str) -> Result<Octets, DocumentFault>
+    ensures octets { IfOk result (λ o. octets key.now (table_view table.now) ≡ Ok o) }
+    ensures refused { Refuses (octets key.now (table_view table.now)) result }
+{
+    match value_at(table, key) {
+        None => Err(DocumentFault::MissingKey),
+        Some(value) => match value.as_str() {
+            None => Err(DocumentFault::WrongKind),
+            Some(text) => octets_of_text(alloc, text),
         },
     }
 }

@@ -3,7 +3,8 @@
 ghost use Rattle.std.specs.Prelude.{◌≤◌};
 
 use crate::ring::{
-    CAPABLE, FAILS, FOLLOWED_BEFORE, SETTLED, begun, clock, fail, follow, is_settled,
+    CAPABLE, FAILS, FOLLOWED_BEFORE, INTERVAL, SETTLED, begun, clock, fail, follow, is_settled,
+    mixed,
 };
 use gptp_links::PcgFate;
 use gptp_messages::{AnnounceView, Message, PathView, decode};
@@ -16,23 +17,50 @@ use std::test::Fail;
 /// How many acts a run may have from the failure on.
 const ACTS: u32 = 100_000;
 
-/// When a run ends, a while after everything has settled.
-const END: u64 = 80_000_000_000;
-
 /// From when on an Announce that arrives was sent since ports are capable: one announce interval later.
-const SENT_SINCE: u64 = CAPABLE + 1_000_000_000;
+const SENT_SINCE: u64 = CAPABLE + INTERVAL;
 
 /// A turn: k + 1 announce intervals, k being 3.
-const TURN: u64 = 4_000_000_000;
+const TURN: u64 = 4 * INTERVAL;
 
-/// How many clocks at the end of a trace are clean from when on: one more with each turn. Only three live, so from the
-/// fourth on a trace is clean as a whole.
-const CLEAN: [(usize, u64); 4] = [
-    (4, SENT_SINCE + 3 * TURN),
-    (3, SENT_SINCE + 2 * TURN),
-    (2, SENT_SINCE + TURN),
-    (1, SENT_SINCE),
-];
+/// From when on what holds.
+struct Times {
+    /// Ports are capable, where they can be.
+    capable: u64,
+    /// So many clocks at the end of a trace are clean: one more with each turn. Only three live, so from the fourth on a
+    /// trace is clean as a whole.
+    clean: [(usize, u64); 4],
+    /// Everything has settled.
+    settled: u64,
+    /// A run ends, a while later.
+    end: u64,
+}
+
+/// Where all ports have the same interval.
+const ALIKE: Times = Times {
+    capable: CAPABLE,
+    clean: [
+        (4, SENT_SINCE + 3 * TURN),
+        (3, SENT_SINCE + 2 * TURN),
+        (2, SENT_SINCE + TURN),
+        (1, SENT_SINCE),
+    ],
+    settled: SETTLED,
+    end: SETTLED + 2 * TURN,
+};
+
+/// Where some have twice that: it is the largest, and so all takes twice as long from the failure on.
+const MIXED: Times = Times {
+    capable: 2 * CAPABLE - FAILS,
+    clean: [
+        (4, 2 * (SENT_SINCE + 3 * TURN) - FAILS),
+        (3, 2 * (SENT_SINCE + 2 * TURN) - FAILS),
+        (2, 2 * (SENT_SINCE + TURN) - FAILS),
+        (1, 2 * SENT_SINCE - FAILS),
+    ],
+    settled: 2 * SETTLED - FAILS,
+    end: 2 * (SETTLED + 2 * TURN) - FAILS,
+};
 
 /// A clock, a port, and whether a live system is at the other end of its link.
 const LINKED: [(u8, u8, bool); 7] = [
@@ -122,12 +150,12 @@ fn is_clean(announce: &AnnounceView<'_>, clocks: usize) -> bool {
 }
 
 /// Whether a frame that arrives at a time is as clean as it should be, where it is an Announce.
-fn is_frame_clean(at: u64, frame: &[u8]) -> bool {
+fn is_frame_clean(times: &Times, at: u64, frame: &[u8]) -> bool {
     let announce = match decode(frame) {
         Ok(Message::Announce(announce)) => announce,
         _ => return true,
     };
-    for (clocks, since) in CLEAN {
+    for (clocks, since) in times.clean {
         if since <= at {
             return is_clean(&announce, clocks);
         }
@@ -136,18 +164,18 @@ fn is_frame_clean(at: u64, frame: &[u8]) -> bool {
 }
 
 /// Whether what an act at a time told is so.
-fn is_told_clean(at: u64, done: &Done) -> bool {
+fn is_told_clean(times: &Times, at: u64, done: &Done) -> bool {
     match done {
-        Done::Heard { frame, .. } => is_frame_clean(at, frame.as_slice()),
+        Done::Heard { frame, .. } => is_frame_clean(times, at, frame.as_slice()),
         Done::Quiet => true,
     }
 }
 
 /// Whether all holds that should after an act at a time.
-fn holds(world: &World<PcgFate>, at: u64, done: &Done) -> bool {
-    (at < CAPABLE || are_capable(world))
-        && is_told_clean(at, done)
-        && (at < SETTLED || is_settled(world))
+fn holds(world: &World<PcgFate>, times: &Times, at: u64, done: &Done) -> bool {
+    (at < times.capable || are_capable(world))
+        && is_told_clean(times, at, done)
+        && (at < times.settled || is_settled(world))
 }
 
 /// The next act, where it comes by a time: when it came, and what it told.
@@ -166,16 +194,16 @@ fn next_act(world: &mut World<PcgFate>, end: u64) -> Result<Option<(u64, Done)>,
     Ok(Some((at, done)))
 }
 
-/// It goes on from the failure through a time. Answers whether all held after each act.
-fn holds_through(world: &mut World<PcgFate>, end: u64) -> Result<bool, Refused>
-    requires moment { end ≤ 1000000000000000 }
+/// It goes on from the failure to the end. Answers whether all held after each act.
+fn holds_through(world: &mut World<PcgFate>, times: &Times) -> Result<bool, Refused>
+    requires moment { times.now.end ≤ 1000000000000000 }
 {
     for _ in 0..ACTS {
-        let (at, done) = match next_act(world, end)? {
+        let (at, done) = match next_act(world, times.end)? {
             Some(told) => told,
             None => return Ok(true),
         };
-        if !holds(world, at, &done) {
+        if !holds(world, times, at, &done) {
             return Ok(false);
         }
     }
@@ -190,16 +218,27 @@ fn comes_to_failure(world: &mut World<PcgFate>) -> Result<bool, Refused> {
     Ok(is_followed)
 }
 
-/// Answers whether a world with the fate of this seed settles in time.
-fn settles_in_time(alloc: Global, seed: u64) -> Result<bool, Fail> {
-    let mut world = begun(alloc, "min = 100\nmax = 500\n", seed)?;
-    Ok(comes_to_failure(&mut world)? && holds_through(&mut world, END)? && SETTLED < world.now())
+/// The bounds of all links.
+const BOUNDS: &str = "min = 100\nmax = 500\n";
+
+/// Answers whether a world settles in time.
+fn settles_in_time(mut world: World<PcgFate>, times: &Times) -> Result<bool, Refused>
+    requires moment { times.now.end ≤ 1000000000000000 }
+{
+    Ok(
+        comes_to_failure(&mut world)?
+            && holds_through(&mut world, times)?
+            && times.settled < world.now(),
+    )
 }
 
 #[test]
 fn constants(rt: HostRuntime) -> Result<(), Fail> {
     for seed in 1..=20 {
-        assert!(rt; settles_in_time(rt.alloc(), seed)?);
+        let world = begun(rt.alloc(), BOUNDS, seed)?;
+        assert!(rt; settles_in_time(world, &ALIKE)?);
+        let world = mixed(rt.alloc(), BOUNDS, seed)?;
+        assert!(rt; settles_in_time(world, &MIXED)?);
     }
     Ok(())
 }

@@ -15,6 +15,13 @@ const SYSTEMS: &str =
 const LINK: &str =
     "[[link]]\na = \"0000000000000001\"\na_port = 1\nb = \"0000000000000002\"\nb_port = 1\n";
 
+/// The beginning of a document of version 2, and of each of those two systems, to which keys can be added.
+const SECOND_VERSION: &str = "version = 2\n";
+
+const FIRST: &str = "[[system]]\nclock = \"0000000000000001\"\n";
+
+const SECOND: &str = "[[system]]\nclock = \"0000000000000002\"\n";
+
 /// A document of these parts.
 fn document(alloc: Global, parts: &[&str]) -> Result<String, AllocError> {
     let mut text = String::new(alloc);
@@ -133,6 +140,149 @@ fn faulty_documents_are_refused(rt: HostRuntime) -> Result<(), Fail> {
     Ok(())
 }
 
+/// What is tested of the intervals of a system's ports, and in what order.
+#[test]
+fn faulty_intervals_are_refused(rt: HostRuntime) -> Result<(), Fail> {
+    let alloc = rt.alloc();
+    let rows: [(&str, &[&str], DocumentFault); 11] = [
+        (
+            "two for one port",
+            &[FIRST, "announce = [0, 0]\n"],
+            DocumentFault::OutOfRange,
+        ),
+        (
+            "none for one port",
+            &[FIRST, "announce = []\n"],
+            DocumentFault::OutOfRange,
+        ),
+        (
+            "no array",
+            &[FIRST, "announce = 0\n"],
+            DocumentFault::WrongKind,
+        ),
+        (
+            "past the range",
+            &[FIRST, "announce = [5]\n"],
+            DocumentFault::OutOfRange,
+        ),
+        (
+            "a text behind one past the range",
+            &[FIRST, "ports = 2\nannounce = [5, \"0\"]\n"],
+            DocumentFault::WrongKind,
+        ),
+        (
+            "a part of a number behind too many",
+            &[FIRST, "announce = [0, 0, 0.5]\n"],
+            DocumentFault::WrongKind,
+        ),
+        (
+            "shorter than that of requests",
+            &[FIRST, "announce = [-1]\n"],
+            DocumentFault::Timing,
+        ),
+        (
+            "shorter than that of requests, of a clock that is there",
+            &[FIRST, FIRST, "announce = [-1]\n"],
+            DocumentFault::Timing,
+        ),
+        (
+            "that of the network, shorter than that of requests",
+            &["[network]\nannounce = -1\n", FIRST, "announce = [0]\n"],
+            DocumentFault::Timing,
+        ),
+        (
+            "a link with a longer delay",
+            &[
+                "[network]\npdelay = -4\n",
+                FIRST,
+                "announce = [-4]\n",
+                SECOND,
+                LINK,
+                "min = 1\nmax = 100000000\n",
+            ],
+            DocumentFault::DelayTooLong,
+        ),
+        (
+            "a link that is set to a longer delay",
+            &[
+                "[network]\npdelay = -4\n",
+                FIRST,
+                "announce = [-4]\n",
+                SECOND,
+                LINK,
+                "min = 1\nmax = 1\n[[event]]\nat = 0\nkind = \"link_set\"\nclock = \"0000000000000001\"\nport = 1\nmin = 1\nmax = 100000000\nloss = 0\n",
+            ],
+            DocumentFault::DelayTooLong,
+        ),
+    ];
+    for (name, parts, want) in rows {
+        let text = document(alloc, parts)?;
+        let fault = refusal(alloc, &[SECOND_VERSION, text.as_str()])?;
+        same_at(&rt, &name, fault, Some(want));
+    }
+    Ok(())
+}
+
+/// By when two systems settle: 3 + 3 of the largest interval of any port for each, 9 and 5 more.
+#[test]
+fn settling_counts_the_largest_interval(rt: HostRuntime) -> Result<(), Fail> {
+    let alloc = rt.alloc();
+    let rows: [(&str, &[&str], u64); 5] = [
+        (
+            "version 1 knows no interval of a port",
+            &["version = 1\n", FIRST, "announce = [1]\n", SECOND],
+            26_000_000_000,
+        ),
+        (
+            "one of 2 s",
+            &[SECOND_VERSION, FIRST, "announce = [1]\n", SECOND],
+            52_000_000_000,
+        ),
+        (
+            "a port without a link counts",
+            &[
+                SECOND_VERSION,
+                FIRST,
+                "ports = 3\nannounce = [0, 2, 0]\n",
+                SECOND,
+                LINK,
+                "min = 1\nmax = 1\n",
+            ],
+            104_000_000_000,
+        ),
+        (
+            "that of the network, 16 s, is of no port",
+            &[
+                SECOND_VERSION,
+                "[network]\nannounce = 4\npdelay = -2\n",
+                FIRST,
+                "announce = [-2]\n",
+                SECOND,
+                "announce = [-2]\n",
+            ],
+            6_500_000_000,
+        ),
+        (
+            "no port",
+            &[
+                SECOND_VERSION,
+                "[network]\nannounce = 4\n",
+                FIRST,
+                "ports = 0\nannounce = []\n",
+                SECOND,
+                "ports = 0\n",
+            ],
+            416_000_000_000,
+        ),
+    ];
+    for (name, parts, want) in rows {
+        let text = document(alloc, parts)?;
+        let document = Document::read(alloc, text.as_bytes())?;
+        same_at(&rt, &name, document.settles(), want);
+    }
+    Ok(())
+}
+
 #[test]
 fn short_links_are_calm(rt: HostRuntime) -> Result<(), Fail> {
     let alloc = rt.alloc();
@@ -209,13 +359,14 @@ fn keys_have_defaults(rt: HostRuntime) -> Result<(), Fail> {
     same(&rt, network.params(), params);
     same(&rt, network.systems(), 2);
     same(&rt, network.links(), 1);
-    let (identity, ports, phase, drift) = network.system_at(0).ok_or("no system")?;
+    let (identity, ports, phase, drift, intervals) = network.system_at(0).ok_or("no system")?;
     same(
         &rt,
         identity.octets(),
         [0xf6, 0xf8, 0xfe, 0x43, 0x6a, 0xf8, 0, 0, 0, 0, 0, 0, 0, 1],
     );
     same(&rt, (ports, phase, drift), (1, 0, 0));
+    same(&rt, intervals.as_slice(), [0].as_slice());
     let (a, b, bounds, up) = network.link_at(0).ok_or("no link")?;
     let port = |clock: u64| PortId {
         clock: ClockId::from(clock),

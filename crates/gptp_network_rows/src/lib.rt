@@ -13,12 +13,20 @@ mod document;
 #[cfg(test)]
 mod far;
 #[cfg(test)]
+mod injections;
+#[cfg(test)]
+mod intervals;
+#[cfg(test)]
 mod paths;
+#[cfg(test)]
+mod printed;
 #[cfg(test)]
 mod refused;
 #[cfg(test)]
 mod ring;
 #[cfg(test)]
 mod same;
+#[cfg(test)]
+mod used;
 #[cfg(test)]
 mod world;

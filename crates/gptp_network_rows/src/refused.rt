@@ -4,5 +4,6 @@
 mod agenda;
 mod certificate;
 mod link;
+mod report;
 mod text;
 mod world;

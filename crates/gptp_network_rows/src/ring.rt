@@ -12,6 +12,10 @@ use std::test::Fail;
 const SYSTEMS: &str =
     "version = 1\n[[system]]\nclock = \"0000000000000001\"\n[[system]]\nclock = \"0000000000000002\"\nports = 3\n[[system]]\nclock = \"0000000000000003\"\nports = 2\n[[system]]\nclock = \"0000000000000004\"\nports = 2\n";
 
+/// The same in a document of version 2, where some of their ports announce each second and some each two.
+const MIXED_SYSTEMS: &str =
+    "version = 2\n[[system]]\nclock = \"0000000000000001\"\nannounce = [1]\n[[system]]\nclock = \"0000000000000002\"\nports = 3\nannounce = [0, 1, 0]\n[[system]]\nclock = \"0000000000000003\"\nports = 2\nannounce = [1, 0]\n[[system]]\nclock = \"0000000000000004\"\nports = 2\nannounce = [0, 1]\n";
+
 /// What each link joins: clock 1 hangs on clock 2, and 2, 3 and 4 are a ring.
 const LINKS: [&str; 4] = [
     "[[link]]\na = \"0000000000000001\"\na_port = 1\nb = \"0000000000000002\"\nb_port = 1\n",
@@ -27,15 +31,18 @@ const EVENT: &str = "[[event]]\nat = 40000000000\nkind = \"fail\"\nclock = \"000
 pub(crate) const FAILS: u64 = 40_000_000_000;
 
 /// From when on ports are capable, where they can be: L + 5 announce intervals after that, L being 9.
-pub(crate) const CAPABLE: u64 = 54_000_000_000;
+pub(crate) const CAPABLE: u64 = FAILS + 14 * INTERVAL;
+
+/// The announce interval.
+pub(crate) const INTERVAL: u64 = 1_000_000_000;
 
 /// By when everything has settled: n systems live, so it takes another (k + 3) n announce intervals, n and k being 3.
 pub(crate) const SETTLED: u64 = 72_000_000_000;
 
-/// The text of that network, with links of these bounds.
-fn ring(alloc: Global, bounds: &str) -> Result<String, AllocError> {
+/// The text of that network, with these systems and links of these bounds.
+fn ring(alloc: Global, systems: &str, bounds: &str) -> Result<String, AllocError> {
     let mut text = String::new(alloc);
-    text.push_str(SYSTEMS)?;
+    text.push_str(systems)?;
     for link in LINKS {
         text.push_str(link)?;
         text.push_str(bounds)?;
@@ -46,13 +53,20 @@ fn ring(alloc: Global, bounds: &str) -> Result<String, AllocError> {
 
 /// The document of that text.
 pub(crate) fn document(alloc: Global, bounds: &str) -> Result<Document, Fail> {
-    let text = ring(alloc, bounds)?;
+    let text = ring(alloc, SYSTEMS, bounds)?;
     Ok(Document::read(alloc, text.as_bytes())?)
 }
 
 /// The world of that document, at time 0, with the fate of a seed.
 pub(crate) fn begun(alloc: Global, bounds: &str, seed: u64) -> Result<World<PcgFate>, Fail> {
     let document = document(alloc, bounds)?;
+    Ok(World::new(alloc, document.network(), PcgFate::new(seed))?)
+}
+
+/// The world of that network with ports of both intervals, at time 0, with the fate of a seed.
+pub(crate) fn mixed(alloc: Global, bounds: &str, seed: u64) -> Result<World<PcgFate>, Fail> {
+    let text = ring(alloc, MIXED_SYSTEMS, bounds)?;
+    let document = Document::read(alloc, text.as_bytes())?;
     Ok(World::new(alloc, document.network(), PcgFate::new(seed))?)
 }
 

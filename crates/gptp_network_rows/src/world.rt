@@ -12,16 +12,16 @@ use std::alloc::Global;
 use std::test::Fail;
 
 /// Two systems, clocks 1 and 2, whose first ports a link joins; each frame takes 500 ns.
-const TWO: &str =
+pub(crate) const TWO: &str =
     "version = 1\n[[system]]\nclock = \"0000000000000001\"\n[[system]]\nclock = \"0000000000000002\"\nphase = 1000000\n[[link]]\na = \"0000000000000001\"\na_port = 1\nb = \"0000000000000002\"\nb_port = 1\nmin = 500\nmax = 500\n";
 
 /// The clock with this number.
-fn clock(number: u64) -> ClockId {
+pub(crate) fn clock(number: u64) -> ClockId {
     ClockId::of_octets(number.to_be_bytes())
 }
 
 /// The same two systems; each frame takes 500 to 900 ns.
-const SPREAD: &str =
+pub(crate) const SPREAD: &str =
     "version = 1\n[[system]]\nclock = \"0000000000000001\"\n[[system]]\nclock = \"0000000000000002\"\n[[link]]\na = \"0000000000000001\"\na_port = 1\nb = \"0000000000000002\"\nb_port = 1\nmin = 500\nmax = 900\n";
 
 /// One system, with clock 5.
@@ -32,7 +32,7 @@ const THREE: &str =
     "version = 1\n[[system]]\nclock = \"0000000000000009\"\n[[system]]\nclock = \"0000000000000002\"\n[[system]]\nclock = \"0000000000000005\"\n";
 
 /// A frame from end a of link 0 arrives.
-const ARRIVAL: Act = Act::Deliver {
+pub(crate) const ARRIVAL: Act = Act::Deliver {
     link: 0,
     direction: Direction::FromA,
 };
@@ -44,7 +44,7 @@ const REQUEST: [u8; 54] = [
 ];
 
 /// A frame from its end b arrives.
-const ARRIVAL_FROM_B: Act = Act::Deliver {
+pub(crate) const ARRIVAL_FROM_B: Act = Act::Deliver {
     link: 0,
     direction: Direction::FromB,
 };
@@ -56,7 +56,7 @@ const STRAY: Act = Act::Deliver {
 };
 
 /// The world of a document, as it begins.
-fn begun(alloc: Global, document: &str) -> Result<World<PcgFate>, Fail> {
+pub(crate) fn begun(alloc: Global, document: &str) -> Result<World<PcgFate>, Fail> {
     let document = Document::read(alloc, document.as_bytes())?;
     Ok(World::new(alloc, document.network(), PcgFate::new(0))?)
 }
@@ -135,7 +135,7 @@ fn answer(clock: ClockId) -> Act
 }
 
 /// The act at that time.
-fn timed(at: u64, act: Act) -> Timed
+pub(crate) fn timed(at: u64, act: Act) -> Timed
     ensures at { result.at ≡ at }
     ensures act { result.act ≡ act }
 {

@@ -1,2 +1,4 @@
+pub mod LogLemmas
 pub mod NetworkLemmas
 pub mod SpanLemmas
+pub mod OctetLemmas

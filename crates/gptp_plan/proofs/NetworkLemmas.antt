@@ -1,26 +1,37 @@
 -- What a network keeps when a system or a link is added.
-use Rattle.std.proofs.Common.{◌≡◌, ◌<◌, ◌^◌, inl, inr, ℕ, ◌+◌, List, [], ◌∷◌, ◌++◌, length, Some, slice_get, sym, ap, subst, ◌∙◌, arith}
+use Rattle.std.proofs.Common.{◌≡◌, ◌<◌, ◌≤◌, ◌^◌, inl, inr, ℕ, ◌+◌, ℤ, List, [], ◌∷◌, ◌++◌, length, Option, None, Some, slice_get, refl, sym, ap, subst, ◌∙◌, arith}
+use Rattle.std.specs.Int.{int_max, int_min}
+use Rattle.std.specs.List.{cons_option, reduce}
 use Rattle.std.proofs.lemmas.List.{length-append}
 use Rattle.std.proofs.lemmas.Option.{none-some}
 use Rattle.gptp_vector.specs.declared.port.PortId.{PortId}
 use Rattle.gptp_roles.specs.Selection.{clock_of}
 use Rattle.gptp_setup.specs.declared.setup.Params.{Params}
-use Rattle.gptp_plan.specs.Network.{NetworkState, without_members, with_system, with_link, IsMember, IsPort, IsWire, IsEnd, IsNetwork, CanAddSystem, CanAddLink}
+use Rattle.gptp_setup.specs.Intervals.{interval_of}
+use Rattle.gptp_plan.specs.Network.{NetworkState, without_members, with_system, with_link, logs_of, ArePrompt, IsKept, IsMember, IsMemberTimed, IsPort, IsWire, IsEnd, IsNetwork, CanAddSystem, CanAddLink}
 use Rattle.gptp_plan.specs.Params.{KeepParams}
 use Rattle.gptp_plan.specs.declared.network.Member.{Member}
 use Rattle.gptp_plan.specs.declared.network.Wire.{Wire}
+use Rattle.gptp_lists.specs.Members.{In}
+use Rattle.gptp_lists.proofs.MemberLemmas.{In-parts}
 use Rattle.gptp_lists.proofs.PlaceLemmas.{behind, before}
+use Rattle.gptp_plan.proofs.LogLemmas.{logs_added, of_member, reduce_added}
 
-pub none_yet : (p : Params) → KeepParams p → IsNetwork (without_members p)
+pub none_yet : (p : Params) → KeepParams p → IsKept (without_members p) None None
 none_yet p h = record {
-  params = h;
-  few_systems = omega arith;
-  few_links = omega arith;
-  systems = λ i m e. absurd (none-some m e);
-  identities = λ i m e. absurd (none-some m e);
-  clocks = λ i j l m e f same. absurd (none-some l e);
-  links = λ i w e. absurd (none-some w e);
-  one_link = λ i j v w q e f at_v at_w. absurd (none-some v e);
+  network = record {
+    params = h;
+    few_systems = omega arith;
+    few_links = omega arith;
+    systems = λ i m e. absurd (none-some m e);
+    identities = λ i m e. absurd (none-some m e);
+    clocks = λ i j l m e f same. absurd (none-some l e);
+    timed = λ i m e. absurd (none-some m e);
+    links = λ i w e. absurd (none-some w e);
+    one_link = λ i j v w q e f at_v at_w. absurd (none-some v e);
+  };
+  smallest = refl;
+  largest = refl;
 }
 
 length_behind : {X : Type 0} (xs : List X) (x : X) → length (xs ++ x ∷ []) ≡ length xs + 1
@@ -37,9 +48,18 @@ kept_port systems m p h = record {
   last = h.last;
 }
 
-pub system_added : (n : NetworkState) (m : Member) → IsNetwork n → CanAddSystem n m → m.identity < 2 ^ 112
+-- where a link is as prompt as a network and as one more system ask, it is as prompt as both ask
+still_prompt : (n : NetworkState) (m : Member) (i : ℕ) (w : Wire) → IsWire n i w → slice_get n.links i ≡ Some w
+    → CanAddSystem n m → (log : ℤ) → In log (logs_of (with_system m n)) → w.bounds.max ≤ interval_of log
+still_prompt n m i w k there c log member =
+    elim (In-parts log (logs_of n) m.intervals.items (subst (In log) (logs_added n m) member)) [
+      | inl of_others ↦ k.prompt log of_others
+      | inr of_its ↦ of_member (ArePrompt n.links) m.intervals.items log c.prompt of_its i w there
+    ]
+
+network_with_system : (n : NetworkState) (m : Member) → IsNetwork n → CanAddSystem n m → m.identity < 2 ^ 112
     → IsNetwork (with_system m n)
-system_added n m h c octets = record {
+network_with_system n m h c octets = record {
   params = h.params;
   few_systems = let e = length_behind n.systems m in let r = c.room in omega arith;
   few_links = h.few_links;
@@ -61,15 +81,29 @@ system_added n m h c octets = record {
       | inr f' ↦ e'.0 ∙ sym f'.0
     ]
   ];
+  timed = λ i x e. elim (behind n.systems m x i e) [
+    | inl f ↦ h.timed i x f
+    | inr f ↦ subst (IsMemberTimed n.params) f.1 c.timed
+  ];
   links = λ i w e. let k = h.links i w e in record {
     number = k.number;
     fit = k.fit;
-    prompt = k.prompt;
+    prompt = still_prompt n m i w k e c;
     a = kept_port n.systems m w.a k.a;
     b = kept_port n.systems m w.b k.b;
     apart = k.apart;
   };
   one_link = h.one_link;
+}
+
+pub system_added : (n : NetworkState) (m : Member) (smallest largest : Option ℤ) → IsKept n smallest largest
+    → CanAddSystem n m → m.identity < 2 ^ 112
+    → IsKept (with_system m n) (reduce int_min (cons_option smallest m.intervals.items))
+    (reduce int_max (cons_option largest m.intervals.items))
+system_added n m smallest largest h c octets = record {
+  network = network_with_system n m h.network c octets;
+  smallest = reduce_added int_min n m smallest h.smallest;
+  largest = reduce_added int_max n m largest h.largest;
 }
 
 -- a link has the limits of the network, whatever other links there are
@@ -91,14 +125,15 @@ free n w v i p c e at_v at_w = elim at_w [
   | inr f ↦ c.free_b i v e (subst (λ q. IsEnd q v) (sym f) at_v)
 ]
 
-pub link_added : (n : NetworkState) (w : Wire) → IsNetwork n → CanAddLink n w → IsNetwork (with_link w n)
-link_added n w h c = record {
+network_with_link : (n : NetworkState) (w : Wire) → IsNetwork n → CanAddLink n w → IsNetwork (with_link w n)
+network_with_link n w h c = record {
   params = h.params;
   few_systems = h.few_systems;
   few_links = let e = length_behind n.links w in let r = c.room in omega arith;
   systems = h.systems;
   identities = h.identities;
   clocks = h.clocks;
+  timed = h.timed;
   links = λ i x e. elim (behind n.links w x i e) [
     | inl f ↦ kept_wire n w x i (h.links i x f)
     | inr f ↦ subst (λ j. IsWire (with_link w n) j x) (sym f.0)
@@ -115,3 +150,8 @@ link_added n w h c = record {
     ]
   ];
 }
+
+pub link_added : (n : NetworkState) (w : Wire) (smallest largest : Option ℤ) → IsKept n smallest largest
+    → CanAddLink n w → IsKept (with_link w n) smallest largest
+link_added n w smallest largest h c =
+    record { network = network_with_link n w h.network c; smallest = h.smallest; largest = h.largest }

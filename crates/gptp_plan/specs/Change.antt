@@ -31,6 +31,7 @@ system_changed (changes.LinkSet clock port least greatest loss) own s = s
 system_changed (changes.Fail clock) own s = if clock == own then with_live false s else s
 system_changed (changes.Recover clock) own s = if clock == own then with_live true s else s
 system_changed (changes.Priority1 clock value) own s = if clock == own then with_priority1 value s else s
+system_changed (changes.Inject clock port octets) own s = s
 
 abbrev pub with_up : Bool → Wire → Wire
 with_up up w = record { a = w.a; b = w.b; bounds = w.bounds; up = up }
@@ -57,6 +58,7 @@ link_changed (changes.LinkSet clock port least greatest loss) w =
 link_changed (changes.Fail clock) w = w
 link_changed (changes.Recover clock) w = w
 link_changed (changes.Priority1 clock value) w = w
+link_changed (changes.Inject clock port octets) w = w
 
 -- frames and timers change no system and no link
 abbrev pub system_acted : Act → ℕ → Standing → Standing

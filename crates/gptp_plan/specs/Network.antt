@@ -1,17 +1,22 @@
 -- Networks: systems, and links that join two of their ports (profile).
-use Rattle.std.specs.Prelude.{◌≡◌, ◌≢◌, ◌<◌, ◌≤◌, ◌⊎◌, ℕ, ◌^◌, ℤ, Bool, not, ◌&&◌, ◌||◌, ◌==◌, nat_lt, nat_le, unsigned_abs, List, [], ◌∷◌, ◌++◌, length, Option, Some, slice_get}
-use Rattle.std.specs.List.{list_any}
+use Rattle.std.specs.Prelude.{◌≡◌, ◌≢◌, ◌<◌, ◌≤◌, ◌⊎◌, ℕ, ◌^◌, ℤ, ◌≤ℤ◌, Bool, not, ◌&&◌, ◌||◌, ◌==◌, nat_lt, nat_le, int_le, unsigned_abs, List, [], ◌∷◌, ◌++◌, length, Option, Some, slice_get}
+use Rattle.std.specs.Int.{int_max, int_min}
+use Rattle.std.specs.List.{All, flat_map, list_all, list_any, reduce}
+use Rattle.std.specs.Option.{unwrap_or}
+use Rattle.arrayvec.specs.ArrayVec.{ArrayVec}
+use Rattle.gptp_lists.specs.Members.{In}
 use Rattle.gptp_vector.specs.declared.port.PortId.{PortId}
 use Rattle.gptp_roles.specs.Selection.{clock_of}
 use Rattle.gptp_links.specs.Bounds.{Fit}
 use Rattle.gptp_links.specs.declared.bounds.Bounds.{Bounds}
 use Rattle.gptp_pdelay.specs.Clock.{IsDrift}
-use Rattle.gptp_setup.specs.Intervals.{announce_interval}
+use Rattle.gptp_setup.specs.Intervals.{interval_of, IsLog}
+use Rattle.gptp_setup.specs.Pace.{Pace}
 use Rattle.gptp_setup.specs.declared.setup.Params.{Params}
 use Rattle.gptp_plan.specs.Faults.{first_fault}
-use Rattle.gptp_plan.specs.Params.{is_between, KeepParams}
+use Rattle.gptp_plan.specs.Params.{is_between, is_log, KeepParams}
 use Rattle.gptp_plan.specs.declared.fault.NetworkFault.{NetworkFault}
-use Rattle.gptp_plan.specs.declared.fault.NetworkFault.TheVariants.{OutOfRange, DuplicateClock, SelfLink, PortTaken, NoSuchPort, DelayTooLong, TooMany}
+use Rattle.gptp_plan.specs.declared.fault.NetworkFault.TheVariants.{OutOfRange, DuplicateClock, SelfLink, PortTaken, NoSuchPort, DelayTooLong, TooMany, Timing}
 use Rattle.gptp_plan.specs.declared.network.Member.{Member}
 use Rattle.gptp_plan.specs.declared.network.Wire.{Wire}
 
@@ -24,9 +29,11 @@ pub record NetworkState : Type 0 where
 abbrev pub without_members : Params → NetworkState
 without_members params = record { params = params; systems = []; links = [] }
 
--- a system of this identity, with so many ports, whose clock has this phase and drift
-abbrev pub member : ℕ → ℕ → ℕ → ℤ → Member
-member identity ports phase drift = record { identity = identity; ports = ports; phase = phase; drift = drift }
+-- a system of this identity, with so many ports, whose clock has this phase and drift, and whose ports announce at
+-- these intervals
+abbrev pub member : ℕ → ℕ → ℕ → ℤ → ArrayVec ℤ → Member
+member identity ports phase drift intervals =
+    record { identity = identity; ports = ports; phase = phase; drift = drift; intervals = intervals }
 
 -- the link with this number
 abbrev pub wire : ℕ → PortId → PortId → ℕ → ℕ → ℕ → Bool → Wire
@@ -44,9 +51,37 @@ with_system m n = record { params = n.params; systems = n.systems ++ m ∷ []; l
 abbrev pub with_link : Wire → NetworkState → NetworkState
 with_link w n = record { params = n.params; systems = n.systems; links = n.links ++ w ∷ [] }
 
+-- what the ports of a network announce at, as logarithms to base 2 of seconds, in the order of systems and ports
+abbrev pub logs_of : NetworkState → List ℤ
+logs_of n = flat_map (λ (m : Member). m.intervals.items) n.systems
+
+-- the smallest and the largest of them; of a network without a port that of its parameters
+unfoldable pub smallest_of : NetworkState → ℤ
+smallest_of n = unwrap_or (reduce int_min (logs_of n)) n.params.announce
+
+unfoldable pub largest_of : NetworkState → ℤ
+largest_of n = unwrap_or (reduce int_max (logs_of n)) n.params.announce
+
+-- by what the settling of a network is counted
+abbrev pub pace_of : NetworkState → Pace
+pace_of n = record { params = n.params; largest = largest_of n }
+
+-- each value lies in its range, and there is an interval for each port
 abbrev pub is_member_in_range : Member → Bool
 is_member_in_range m =
-    nat_le m.ports 16 && nat_le m.phase 1000000000000000000 && nat_le (unsigned_abs m.drift) 219902325
+    nat_le m.ports 16
+    && nat_le m.phase 1000000000000000000
+    && nat_le (unsigned_abs m.drift) 219902325
+    && (length m.intervals.items == m.ports)
+    && list_all is_log m.intervals.items
+
+-- requests are no rarer than the announcements of any of its ports
+abbrev pub is_member_timed : Params → Member → Bool
+is_member_timed p m = list_all (λ log. int_le p.pdelay log) m.intervals.items
+
+-- the greatest delay of one of these links is above this interval
+abbrev pub is_any_slower : List Wire → ℤ → Bool
+is_any_slower links log = list_any (λ w. nat_lt (interval_of log) w.bounds.max) links
 
 -- a system has this clock
 abbrev pub has_clock : List Member → ℕ → Bool
@@ -57,7 +92,9 @@ abbrev pub system_fault : NetworkState → Member → Option NetworkFault
 system_fault n m = first_fault (
     (nat_le 512 (length n.systems), TooMany)
     ∷ (not (is_member_in_range m), OutOfRange)
+    ∷ (not (is_member_timed n.params m), Timing)
     ∷ (has_clock n.systems (clock_of m.identity), DuplicateClock)
+    ∷ (list_any (is_any_slower n.links) m.intervals.items, DelayTooLong)
     ∷ [])
 
 abbrev pub are_bounds_in_range : Bounds → Bool
@@ -87,7 +124,7 @@ link_fault n w = first_fault (
     ∷ (w.a.clock == w.b.clock, SelfLink)
     ∷ (not (has_port n.systems w.a && has_port n.systems w.b), NoSuchPort)
     ∷ (is_taken n.links w.a || is_taken n.links w.b, PortTaken)
-    ∷ (nat_lt (announce_interval n.params) w.bounds.max, DelayTooLong)
+    ∷ (nat_lt (interval_of (smallest_of n)) w.bounds.max, DelayTooLong)
     ∷ [])
 
 -- a system is within the limits
@@ -95,6 +132,16 @@ pub record IsMember (m : Member) : Type 0 where
   pub ports : m.ports ≤ 16
   pub phase : m.phase ≤ 10 ^ 18
   pub drift : IsDrift m.drift
+  pub many : length m.intervals.items ≡ m.ports
+  pub logs : All IsLog m.intervals.items
+
+-- requests are no rarer than the announcements of any of its ports
+abbrev pub IsMemberTimed : Params → Member → Type 0
+IsMemberTimed p m = All (λ log. p.pdelay ≤ℤ log) m.intervals.items
+
+-- each frame on one of these links arrives within this interval
+abbrev pub ArePrompt : List Wire → ℤ → Type 0
+ArePrompt links log = (i : ℕ) (w : Wire) → slice_get links i ≡ Some w → w.bounds.max ≤ interval_of log
 
 -- the port is one of a system of the network; ports are numbered from 1
 pub record IsPort (systems : List Member) (p : PortId) : Type 0 where
@@ -105,11 +152,12 @@ pub record IsPort (systems : List Member) (p : PortId) : Type 0 where
   pub first : 1 ≤ p.port
   pub last : p.port ≤ system.ports
 
--- a link of the network: it joins ports of two systems, and each of its frames arrives within an announce interval
+-- a link of the network: it joins ports of two systems, and each of its frames arrives within the announce interval of
+-- each port of the network
 pub record IsWire (n : NetworkState) (place : ℕ) (w : Wire) : Type 0 where
   pub number : w.bounds.link ≡ place
   pub fit : Fit w.bounds
-  pub prompt : w.bounds.max ≤ announce_interval n.params
+  pub prompt : (log : ℤ) → In log (logs_of n) → w.bounds.max ≤ interval_of log
   pub a : IsPort n.systems w.a
   pub b : IsPort n.systems w.b
   pub apart : w.a.clock ≢ w.b.clock
@@ -126,11 +174,14 @@ IsFresh systems clock = (i : ℕ) (m : Member) → slice_get systems i ≡ Some 
 abbrev pub IsFree : List Wire → PortId → Type 0
 IsFree links p = (i : ℕ) (w : Wire) → slice_get links i ≡ Some w → IsEnd p w → ⊥
 
--- such a system can be added: there is room, its values are within the limits, and no other system has its clock
+-- Such a system can be added: there is room, its values are within the limits, no other system has its clock, and its
+-- ports announce no more often than requests are sent, and no faster than frames cross the links.
 pub record CanAddSystem (n : NetworkState) (m : Member) : Type 0 where
   pub room : length n.systems < 512
   pub limits : IsMember m
+  pub timed : IsMemberTimed n.params m
   pub fresh : IsFresh n.systems (clock_of m.identity)
+  pub prompt : All (ArePrompt n.links) m.intervals.items
 
 -- such a link can be added: there is room, it is a link of the network, and no other link is at its ports
 pub record CanAddLink (n : NetworkState) (w : Wire) : Type 0 where
@@ -139,8 +190,9 @@ pub record CanAddLink (n : NetworkState) (w : Wire) : Type 0 where
   pub free_a : IsFree n.links w.a
   pub free_b : IsFree n.links w.b
 
--- What holds of every network: its values are within the limits, identities have fourteen octets, clocks differ, a link
--- joins ports of two systems, and a port has one link at most.
+-- What holds of every network: its values are within the limits, identities have fourteen octets, clocks differ,
+-- requests are no rarer than the announcements of any port, a link joins ports of two systems, and a port has one link
+-- at most.
 pub record IsNetwork (n : NetworkState) : Type 0 where
   pub params : KeepParams n.params
   pub few_systems : length n.systems ≤ 512
@@ -149,6 +201,13 @@ pub record IsNetwork (n : NetworkState) : Type 0 where
   pub identities : (i : ℕ) (m : Member) → slice_get n.systems i ≡ Some m → m.identity < 2 ^ 112
   pub clocks : (i j : ℕ) (l m : Member) → slice_get n.systems i ≡ Some l → slice_get n.systems j ≡ Some m
       → clock_of l.identity ≡ clock_of m.identity → i ≡ j
+  pub timed : (i : ℕ) (m : Member) → slice_get n.systems i ≡ Some m → IsMemberTimed n.params m
   pub links : (i : ℕ) (w : Wire) → slice_get n.links i ≡ Some w → IsWire n i w
   pub one_link : (i j : ℕ) (v w : Wire) (p : PortId) → slice_get n.links i ≡ Some v → slice_get n.links j ≡ Some w
       → IsEnd p v → IsEnd p w → i ≡ j
+
+-- what is kept of a network: beside its members the smallest and the largest of the intervals, where it has a port
+pub record IsKept (n : NetworkState) (least greatest : Option ℤ) : Type 0 where
+  pub network : IsNetwork n
+  pub smallest : least ≡ reduce int_min (logs_of n)
+  pub largest : greatest ≡ reduce int_max (logs_of n)

@@ -1,6 +1,7 @@
 -- The limits of what is the same for all systems of a network (profile).
 use Rattle.std.specs.Prelude.{◌<◌, ◌≤◌, ℕ, ◌+◌, ◌*◌, ℤ, pos, neg_ℤ, Bool, not, ◌&&◌, nat_lt, nat_le, int_le, [], ◌∷◌, Option}
-use Rattle.gptp_setup.specs.Intervals.{AreParams, announce_interval, interval_of}
+use Rattle.gptp_setup.specs.Intervals.{AreParams, interval_of, IsLog}
+use Rattle.gptp_setup.specs.Pace.{largest_interval, Pace}
 use Rattle.gptp_setup.specs.declared.setup.Params.{Params}
 use Rattle.gptp_plan.specs.Faults.{first_fault}
 use Rattle.gptp_plan.specs.declared.fault.NetworkFault.{NetworkFault}
@@ -33,7 +34,7 @@ are_in_range p = are_intervals_in_range p && are_counts_in_range p && are_times_
 abbrev pub is_timed : Params → Bool
 is_timed p =
     nat_lt (2 * p.threshold + p.turnaround) (interval_of p.pdelay)
-    && nat_le (interval_of p.pdelay) (announce_interval p)
+    && nat_le (interval_of p.pdelay) (interval_of p.announce)
     && nat_lt p.residence (interval_of p.sync)
 
 -- the first test that such values fail
@@ -51,5 +52,11 @@ pub record AreInRange (p : Params) : Type 0 where
 pub record KeepParams (p : Params) : Type 0 where
   pub ranges : AreInRange p
   pub answered : 2 * p.threshold + p.turnaround < interval_of p.pdelay
-  pub requests : interval_of p.pdelay ≤ announce_interval p
+  pub requests : interval_of p.pdelay ≤ interval_of p.announce
   pub relayed : p.residence < interval_of p.sync
+
+-- so do these with the largest announce interval of a network
+pub record KeepPace (p : Pace) : Type 0 where
+  pub params : KeepParams p.params
+  pub largest : IsLog p.largest
+  pub requests : interval_of p.params.pdelay ≤ largest_interval p

@@ -5,6 +5,7 @@ ghost use Rattle.gptp_plan.specs.Calm.{IsLive, IsUsed, IsQuiet, Rests, AllRest};
 ghost use Rattle.gptp_plan.specs.Change.{standing, is_at, system_changed, link_changed, system_acted, link_acted, system_after, link_after, live_after, joined_after};
 ghost use Rattle.gptp_plan.specs.Params.{KeepParams};
 ghost use Rattle.gptp_plan.specs.SettlingTime.{live_systems, settling_span};
+ghost use Rattle.gptp_setup.specs.Intervals.{IsLog};
 
 use crate::change::{Act, Change, Timed};
 use crate::network::{Member, Network, Wire};
@@ -19,50 +20,40 @@ pub(crate) struct Standing {
     pub live: bool,
 }
 
-/// What a change makes of the system with this clock.
-fn system_changed(change: &Change, own: ClockId, system: Standing) -> Standing
-    ensures { result ≡ system_changed change.now own system }
+/// Does to the system with this clock what a change does.
+fn change_system(change: &Change, own: ClockId, system: &mut Standing)
+    ensures { system.new ≡ system_changed change.now own system.old }
 {
     match *change {
         Change::Fail { clock } => {
             if clock == own {
-                Standing {
-                    live: false,
-                    ..system
-                }
-            } else {
-                system
+                system.live = false;
             }
         }
         Change::Recover { clock } => {
             if clock == own {
-                Standing {
-                    live: true,
-                    ..system
-                }
-            } else {
-                system
+                system.live = true;
             }
         }
         Change::Priority1 { clock, value } => {
             if clock == own {
-                Standing {
-                    identity: system.identity.with_priority1(value),
-                    ..system
-                }
-            } else {
-                system
+                system.identity = system.identity.with_priority1(value);
             }
         }
-        Change::LinkDown { clock: _, port: _ } => system,
-        Change::LinkUp { clock: _, port: _ } => system,
+        Change::LinkDown { clock: _, port: _ } => {}
+        Change::LinkUp { clock: _, port: _ } => {}
         Change::LinkSet {
             clock: _,
             port: _,
             min: _,
             max: _,
             loss: _,
-        } => system,
+        } => {}
+        Change::Inject {
+            clock: _,
+            port: _,
+            octets: _,
+        } => {}
     }
 }
 
@@ -74,23 +65,19 @@ fn is_at(clock: ClockId, port: u16, wire: &Wire) -> bool
     wire.a == port || wire.b == port
 }
 
-/// What a change makes of a link.
-fn link_changed(change: &Change, wire: Wire) -> Wire
-    ensures { result ≡ link_changed change.now wire }
+/// Does to a link what a change does.
+fn change_link(change: &Change, wire: &mut Wire)
+    ensures { wire.new ≡ link_changed change.now wire.old }
 {
     match *change {
         Change::LinkDown { clock, port } => {
-            if is_at(clock, port, &wire) {
-                Wire { up: false, ..wire }
-            } else {
-                wire
+            if is_at(clock, port, wire) {
+                wire.up = false;
             }
         }
         Change::LinkUp { clock, port } => {
-            if is_at(clock, port, &wire) {
-                Wire { up: true, ..wire }
-            } else {
-                wire
+            if is_at(clock, port, wire) {
+                wire.up = true;
             }
         }
         Change::LinkSet {
@@ -100,49 +87,48 @@ fn link_changed(change: &Change, wire: Wire) -> Wire
             max,
             loss,
         } => {
-            if is_at(clock, port, &wire) {
-                let bounds = Bounds {
-                    min,
-                    max,
-                    loss,
-                    ..wire.bounds
-                };
-                Wire { bounds, ..wire }
-            } else {
-                wire
+            if is_at(clock, port, wire) {
+                wire.bounds.min = min;
+                wire.bounds.max = max;
+                wire.bounds.loss = loss;
             }
         }
-        Change::Fail { clock: _ } => wire,
-        Change::Recover { clock: _ } => wire,
-        Change::Priority1 { clock: _, value: _ } => wire,
+        Change::Fail { clock: _ } => {}
+        Change::Recover { clock: _ } => {}
+        Change::Priority1 { clock: _, value: _ } => {}
+        Change::Inject {
+            clock: _,
+            port: _,
+            octets: _,
+        } => {}
     }
 }
 
-/// What an act makes of the system with this clock.
-fn system_acted(act: &Act, own: ClockId, system: Standing) -> Standing
-    ensures { result ≡ system_acted act.now own system }
+/// Does to the system with this clock what an act does.
+fn act_on_system(act: &Act, own: ClockId, system: &mut Standing)
+    ensures { system.new ≡ system_acted act.now own system.old }
 {
     match act {
-        Act::Change(change) => system_changed(change, own, system),
+        Act::Change(change) => change_system(change, own, system),
         Act::Deliver {
             link: _,
             direction: _,
-        } => system,
-        Act::Expire { clock: _, timer: _ } => system,
+        } => {}
+        Act::Expire { clock: _, timer: _ } => {}
     }
 }
 
-/// What an act makes of a link.
-fn link_acted(act: &Act, wire: Wire) -> Wire
-    ensures { result ≡ link_acted act.now wire }
+/// Does to a link what an act does.
+fn act_on_link(act: &Act, wire: &mut Wire)
+    ensures { wire.new ≡ link_acted act.now wire.old }
 {
     match act {
-        Act::Change(change) => link_changed(change, wire),
+        Act::Change(change) => change_link(change, wire),
         Act::Deliver {
             link: _,
             direction: _,
-        } => wire,
-        Act::Expire { clock: _, timer: _ } => wire,
+        } => {}
+        Act::Expire { clock: _, timer: _ } => {}
     }
 }
 
@@ -156,7 +142,7 @@ fn system_after(events: &[Timed], member: &Member) -> Standing
         live: true,
     };
     for event in events {
-        system = system_acted(&event.act, own, system);
+        act_on_system(&event.act, own, &mut system);
     }
     system
 }
@@ -167,7 +153,7 @@ fn link_after(events: &[Timed], wire: &Wire) -> Wire
 {
     let mut after = *wire;
     for event in events {
-        after = link_acted(&event.act, after);
+        act_on_link(&event.act, &mut after);
     }
     after
 }
@@ -227,7 +213,7 @@ fn rests(params: &Params, systems: &[Member], events: &[Timed], wire: &Wire) -> 
     ensures { IsTrue result ↔ Rests params.now systems.now events.now wire.now }
 {
     let after = link_after(events, wire);
-    !is_used(systems, events, &after) || is_quiet(params, &after)
+    is_quiet(params, &after) || !is_used(systems, events, &after)
 }
 
 /// Whether each link rests after these events.
@@ -252,16 +238,17 @@ pub(crate) fn live_systems(systems: &[Member], events: &[Timed]) -> u64
     count
 }
 
-/// How long a network takes at most to settle, in ns.
+/// How long a network of that largest announce interval takes at most to settle, in ns.
 #[tactic(auto, using(crate::proofs::SpanLemmas::few_systems))]
-pub(crate) fn settling_span(params: &Params, live: u64) -> u64
+pub(crate) fn settling_span(params: &Params, largest: i8, live: u64) -> u64
     requires params { KeepParams params.now }
+    requires largest { IsLog largest }
     requires live { live ≤ 512 }
-    ensures span { result ≡ settling_span params.now live }
+    ensures span { result ≡ settling_span (record { params = params.now; largest = largest }) live }
     ensures bound { result ≤ 160000000000000 }
 {
     let intervals = (u64::from(params.timeout) + 3) * live + u64::from(params.lost) + 5;
-    times(intervals, interval_of(params.announce))
+    times(intervals, interval_of(largest))
 }
 
 /// So many intervals.

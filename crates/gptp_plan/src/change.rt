@@ -1,11 +1,12 @@
 //! What happens in a world.
 
+use crate::octets::Octets;
 use gptp_links::Direction;
 use gptp_setup::Timer;
 use gptp_vector::ClockId;
 
 /// What is done to a network. A link is named by a port at one of its ends, and a system by its clock.
-#[derive(Clone, Copy, Debug, PartialEq, Eq)]
+#[derive(Debug, Drop, PartialEq, Eq)]
 pub enum Change {
     /// The link at that port goes down, and what is in flight on it is lost.
     LinkDown {
@@ -39,10 +40,17 @@ pub enum Change {
         clock: ClockId,
         value: u8,
     },
+    /// These octets enter the link at that port as a frame, as if its system had sent it. Where the link is down nothing
+    /// is sent.
+    Inject {
+        clock: ClockId,
+        port: u16,
+        octets: Octets,
+    },
 }
 
 /// What happens in a world at once.
-#[derive(Clone, Copy, Debug, PartialEq, Eq)]
+#[derive(Debug, Drop, PartialEq, Eq)]
 pub enum Act {
     /// The oldest frame in flight on the link with that number arrives.
     Deliver { link: usize, direction: Direction },
@@ -53,7 +61,7 @@ pub enum Act {
 }
 
 /// An act, and when it happens, in ns.
-#[derive(Clone, Copy, Debug, PartialEq, Eq)]
+#[derive(Debug, Drop, PartialEq, Eq)]
 pub struct Timed {
     pub at: u64,
     pub act: Act,

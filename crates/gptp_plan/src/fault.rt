@@ -17,7 +17,7 @@ pub enum NetworkFault {
     PortTaken = 7,
     /// No system has that port.
     NoSuchPort = 8,
-    /// The greatest delay is longer than the announce interval.
+    /// The greatest delay is longer than the announce interval of a port.
     DelayTooLong = 9,
     /// There are as many as a network can have.
     TooMany = 11,

@@ -10,10 +10,13 @@
 mod calm;
 mod change;
 mod fault;
+mod logs;
 mod network;
+mod octets;
 mod params;
 
 pub use change::{Act, Change, Timed};
 pub use fault::NetworkFault;
 pub use gptp_setup::Params;
 pub use network::Network;
+pub use octets::Octets;

@@ -1,33 +1,38 @@
 //! Networks.
 
-ghost use Rattle.std.specs.Prelude.{◌≡◌, ◌↔◌, ◌≤◌, IsTrue, ◌&&◌, ◌||◌, true, false, length, OnOk, OnErr, IfOk, option_copied, slice_get, None, Some, IfErr};
+ghost use Rattle.std.specs.Prelude.{◌≡◌, ◌↔◌, ◌≤◌, ◌≤ℤ◌, ℤ, IsTrue, ◌&&◌, ◌||◌, true, false, length, OnOk, OnErr, IfOk, option_copied, slice_get, None, Some, IfErr};
+ghost use Rattle.std.specs.List.{All, list_all, list_any};
 ghost use Rattle.std.specs.Option.{option_and_then, option_map};
+ghost use Rattle.gptp_lists.specs.Members.{In};
 ghost use Rattle.gptp_plan.specs.Faults.{IsRefusal};
-ghost use Rattle.gptp_plan.specs.Params.{params_fault};
-ghost use Rattle.gptp_plan.specs.Network.{member, wire, without_members, with_system, with_link, is_member_in_range, is_wire_in_range, are_bounds_in_range, has_clock, has_port, is_taken, same_port, system_fault, link_fault, IsNetwork, IsMember, IsPort, IsFree, IsFresh, CanAddSystem, CanAddLink};
+ghost use Rattle.gptp_plan.specs.Params.{is_log, params_fault};
+ghost use Rattle.gptp_plan.specs.Network.{member, wire, without_members, with_system, with_link, logs_of, smallest_of, largest_of, pace_of, is_member_in_range, is_member_timed, is_any_slower, is_wire_in_range, are_bounds_in_range, has_clock, has_port, is_taken, same_port, system_fault, link_fault, IsNetwork, IsMember, IsMemberTimed, IsPort, IsFree, IsFresh, CanAddSystem, CanAddLink};
 ghost use Rattle.gptp_links.specs.Bounds.{Fit};
 ghost use Rattle.gptp_plan.specs.Calm.{IsCalm};
 ghost use Rattle.gptp_plan.specs.Change.{joined_after, live_after};
 ghost use Rattle.gptp_plan.specs.SettlingTime.{live_systems, settling_span};
-ghost use Rattle.gptp_setup.specs.Intervals.{announce_interval, interval_of};
+ghost use Rattle.gptp_setup.specs.Intervals.{interval_of, IsLog};
 
 use crate::calm::{is_calm, joined_after, live_after, live_systems, settling_span};
 use crate::change::Timed;
 use crate::fault::NetworkFault;
-use crate::params::{is_between, params_fault};
+use crate::logs::{copy_intervals, largest_with, smallest_with};
+use crate::params::{is_between, is_log, params_fault};
+use arrayvec::ArrayVec;
 use gptp_links::Bounds;
 use gptp_setup::{Params, interval_of};
 use gptp_vector::{ClockId, Identity, PortId};
 use std::alloc::Global;
 use std::marker::Model;
 
-/// A system of a network.
-#[derive(Clone, Copy, Debug)]
+/// A system of a network, with the announce intervals of its ports.
+#[derive(Debug, Drop)]
 pub(crate) struct Member {
     pub identity: Identity,
     pub ports: u8,
     pub phase: u64,
     pub drift: i32,
+    pub intervals: ArrayVec<i8, 16>,
 }
 
 /// A link of a network: its ends, its bounds, and whether it is up at first.
@@ -46,6 +51,9 @@ pub struct Network {
     params: Params,
     systems: Vec<Member>,
     links: Vec<Wire>,
+    // The smallest and the largest announce interval of its ports, where it has any.
+    smallest: Option<i8>,
+    largest: Option<i8>,
 }
 
 impl Model for Network {
@@ -53,11 +61,11 @@ impl Model for Network {
 
     ghost Value = { NetworkState };
 
-    ghost use Rattle.gptp_plan.specs.Network.{IsNetwork};
+    ghost use Rattle.gptp_plan.specs.Network.{IsKept};
 
     ghost view = { λ n. record { params = n.params; systems = n.systems.items; links = n.links.items } };
 
-    ghost invariant = { λ n. IsNetwork (record { params = n.params; systems = n.systems.items; links = n.links.items }) };
+    ghost invariant = { λ n. IsKept (record { params = n.params; systems = n.systems.items; links = n.links.items }) n.smallest n.largest };
 }
 
 impl Network {
@@ -77,25 +85,31 @@ impl Network {
                 params,
                 systems: Vec::new(alloc),
                 links: Vec::new(alloc),
+                smallest: None,
+                largest: None,
             }),
         }
     }
 
     /// Adds a system with that identity and so many ports, 0 to 16, whose local clock is that phase ahead at time 0, 0 to
-    /// 10^18 ns, and runs faster by that drift, -219,902,325 to 219,902,325 in units of 2^-41.
+    /// 10^18 ns, and runs faster by that drift, -219,902,325 to 219,902,325 in units of 2^-41. Its ports announce at these
+    /// intervals, one for each in their order, as logarithms to base 2 of seconds, -4 to 4.
     ///
-    /// Refused, in this order, with `TooMany` where there are 512 systems, `OutOfRange`, `DuplicateClock` where another
-    /// system has that clock, and `OutOfMemory`. Then nothing changes.
+    /// Refused, in this order, with `TooMany` where there are 512 systems, `OutOfRange` also where the intervals aren't as
+    /// many as the ports, `Timing` where the interval of requests is above one of them, `DuplicateClock` where another
+    /// system has that clock, `DelayTooLong` where a link's greatest delay is above one of them, and `OutOfMemory`. Then
+    /// nothing changes.
     pub fn add_system(
         &mut self,
         identity: Identity,
         ports: u8,
         phase: u64,
         drift: i32,
+        intervals: ArrayVec<i8, 16>,
     ) -> Result<(), NetworkFault>
-        ensures passed { OnOk result (system_fault self.old (member identity ports phase drift) ≡ None) }
-        ensures refused { IfErr result (IsRefusal (system_fault self.old (member identity ports phase drift))) }
-        ensures added { OnOk result (self.new ≡ with_system (member identity ports phase drift) self.old) }
+        ensures passed { OnOk result (system_fault self.old (member identity ports phase drift intervals) ≡ None) }
+        ensures refused { IfErr result (IsRefusal (system_fault self.old (member identity ports phase drift intervals))) }
+        ensures added { OnOk result (self.new ≡ with_system (member identity ports phase drift intervals) self.old) }
         ensures kept { OnErr result (self.new ≡ self.old) }
     {
         let member = Member {
@@ -103,6 +117,7 @@ impl Network {
             ports,
             phase,
             drift,
+            intervals,
         };
         match self.system_fault(&member) {
             Some(fault) => Err(fault),
@@ -115,8 +130,8 @@ impl Network {
     ///
     /// Refused, in this order, with `TooMany` where there are 2,048 links, `OutOfRange` also where `min` is above `max`,
     /// `SelfLink` where both ports are of one clock, `NoSuchPort` where no system has one of them, `PortTaken` where
-    /// another link is at one of them, `DelayTooLong` where `max` is above the announce interval, and `OutOfMemory`. Then
-    /// nothing changes.
+    /// another link is at one of them, `DelayTooLong` where `max` is above the announce interval of a port of the network,
+    /// and `OutOfMemory`. Then nothing changes.
     pub fn add_link(
         &mut self,
         a: PortId,
@@ -170,12 +185,21 @@ impl Network {
         self.links.len()
     }
 
-    /// A system by its place from 0: its identity, ports, phase and drift, as they were given.
-    pub fn system_at(&self, place: usize) -> Option<(Identity, u8, u64, i32)>
-        ensures { result ≡ option_map (λ m. (m.identity, m.ports, m.phase, m.drift)) (slice_get self.now.systems place) }
+    /// A system by its place from 0: its identity, ports, phase, drift and the intervals of its ports, as they were given.
+    pub fn system_at(&self, place: usize) -> Option<(Identity, u8, u64, i32, ArrayVec<i8, 16>)>
+        ensures { result ≡ option_map (λ m. (m.identity, m.ports, m.phase, m.drift, m.intervals)) (slice_get self.now.systems place) }
     {
         match self.systems.as_slice().get(place) {
-            Some(member) => Some((member.identity, member.ports, member.phase, member.drift)),
+            Some(member) => {
+                let intervals = copy_intervals(member.intervals.as_slice());
+                Some((
+                    member.identity,
+                    member.ports,
+                    member.phase,
+                    member.drift,
+                    intervals,
+                ))
+            }
             None => None,
         }
     }
@@ -205,11 +229,25 @@ impl Network {
         is_taken(&self.links, port)
     }
 
-    /// The announce interval, in ns.
-    pub fn announce_interval(&self) -> u64
-        ensures { result ≡ announce_interval self.now.params }
+    /// The smallest announce interval of any port, in ns; that of the parameters where there is no port. No frame takes
+    /// longer.
+    pub fn least_interval(&self) -> u64
+        ensures is { result ≡ interval_of (smallest_of self.now) }
+        ensures least { (log : ℤ) → In log (logs_of self.now) → result ≤ interval_of log }
+        ensures bound { result ≤ 16000000000 }
     {
-        interval_of(self.params.announce)
+        interval_of(self.smallest())
+    }
+
+    /// The largest announce interval of any port, as a logarithm to base 2 of seconds, -4 to 4; that of the parameters
+    /// where there is no port. By it settling is counted.
+    #[tactic(auto, unfolding(crate::specs::Network::largest_of))]
+    pub fn largest(&self) -> i8
+        ensures is { result ≡ largest_of self.now }
+        ensures greatest { (log : ℤ) → In log (logs_of self.now) → log ≤ℤ result }
+        ensures range { IsLog result }
+    {
+        self.largest.unwrap_or(self.params.announce)
     }
 
     /// The system at a place, from 0, where it lives after these events: its identity then, and how many ports it has.
@@ -236,32 +274,47 @@ impl Network {
 
     /// How long the network takes at most to settle after these events, in ns.
     pub fn settling_span(&self, events: &[Timed]) -> u64
-        ensures span { result ≡ settling_span self.now.params (live_systems self.now.systems events.now) }
+        ensures span { result ≡ settling_span (pace_of self.now) (live_systems self.now.systems events.now) }
         ensures bound { result ≤ 160000000000000 }
     {
-        settling_span(&self.params, live_systems(&self.systems, events))
+        settling_span(
+            &self.params,
+            self.largest(),
+            live_systems(&self.systems, events),
+        )
     }
 
-    /// How long a network with these parameters takes at most to settle where no path over its live systems and the links
-    /// between them has more than so many systems, in ns: k + 3 announce intervals for each, and L + 5 more, with
-    /// announce receipt timeout k and L lost responses allowed.
+    /// How long the network takes at most to settle where no path over its live systems and the links between them has
+    /// more than so many systems, in ns: k + 3 of its largest announce intervals for each, and L + 5 more, with announce
+    /// receipt timeout k and L lost responses allowed.
     pub fn settling_span_over(&self, systems: usize) -> u64
         requires { systems ≤ 512 }
-        ensures span { result ≡ settling_span self.now.params systems }
+        ensures span { result ≡ settling_span (pace_of self.now) systems }
         ensures bound { result ≤ 160000000000000 }
     {
-        settling_span(&self.params, systems as u64)
+        settling_span(&self.params, self.largest(), systems as u64)
     }
 
-    /// Every network is within its limits, its clocks differ, its links join ports of two systems, and a port has one link
-    /// at most.
+    /// Every network is within its limits, its clocks differ, its intervals go together, its links join ports of two
+    /// systems, and a port has one link at most.
     pub fn well_formed(&self)
         ensures { IsNetwork self.now }
     {
         let _ = &self.params;
     }
 
+    /// The smallest announce interval of any port, as a logarithm to base 2 of seconds.
+    #[tactic(auto, unfolding(crate::specs::Network::smallest_of))]
+    fn smallest(&self) -> i8
+        ensures is { result ≡ smallest_of self.now }
+        ensures least { (log : ℤ) → In log (logs_of self.now) → result ≤ℤ log }
+        ensures range { IsLog result }
+    {
+        self.smallest.unwrap_or(self.params.announce)
+    }
+
     /// The first test that one more system fails.
+    #[tactic(auto, using(crate::proofs::LogLemmas::all_prompt))]
     fn system_fault(&self, member: &Member) -> Option<NetworkFault>
         ensures is { result ≡ system_fault self.now member.now }
         ensures fits { result ≡ None → CanAddSystem self.now member.now }
@@ -270,8 +323,12 @@ impl Network {
             Some(NetworkFault::TooMany)
         } else if !is_member_in_range(member) {
             Some(NetworkFault::OutOfRange)
+        } else if !is_member_timed(&self.params, member) {
+            Some(NetworkFault::Timing)
         } else if has_clock(&self.systems, member.identity.clock()) {
             Some(NetworkFault::DuplicateClock)
+        } else if are_any_slower(&self.links, member.intervals.as_slice()) {
+            Some(NetworkFault::DelayTooLong)
         } else {
             None
         }
@@ -293,7 +350,7 @@ impl Network {
             Some(NetworkFault::NoSuchPort)
         } else if are_taken(&self.links, wire) {
             Some(NetworkFault::PortTaken)
-        } else if interval_of(self.params.announce) < wire.bounds.max {
+        } else if self.least_interval() < wire.bounds.max {
             Some(NetworkFault::DelayTooLong)
         } else {
             None
@@ -307,7 +364,11 @@ impl Network {
         ensures kept { OnErr result (self.new ≡ self.old) }
         ensures memory { IfErr result (λ e. e ≡ NetworkFault.OutOfMemory) }
     {
+        let smallest = smallest_with(self.smallest, member.intervals.as_slice());
+        let largest = largest_with(self.largest, member.intervals.as_slice());
         self.systems.push(member)?;
+        self.smallest = smallest;
+        self.largest = largest;
         Ok(())
     }
 
@@ -331,6 +392,50 @@ fn is_member_in_range(member: &Member) -> bool
     member.ports <= 16
         && member.phase <= 1_000_000_000_000_000_000
         && member.drift.unsigned_abs() <= 219_902_325
+        && member.intervals.len() == usize::from(member.ports)
+        && are_logs(member.intervals.as_slice())
+}
+
+/// Whether each is the logarithm of an interval that a network can have.
+fn are_logs(intervals: &[i8]) -> bool
+    ensures is { result ≡ list_all is_log intervals.now }
+    ensures logs { result ≡ true → All IsLog intervals.now }
+{
+    intervals.iter().all(|interval| is_log(*interval))
+}
+
+/// Whether requests are no rarer than the announcements of any port of a system.
+fn is_member_timed(params: &Params, member: &Member) -> bool
+    ensures is { result ≡ is_member_timed params.now member.now }
+    ensures timed { result ≡ true → IsMemberTimed params.now member.now }
+{
+    member
+        .intervals
+        .as_slice()
+        .iter()
+        .all(|interval| params.pdelay <= *interval)
+}
+
+/// Whether the greatest delay of one of these links is above an interval.
+fn is_any_slower(links: &[Wire], interval: i8) -> bool
+    requires { IsLog interval }
+    ensures { result ≡ is_any_slower links.now interval }
+{
+    let longest = interval_of(interval);
+    links.iter().any(|wire| longest < wire.bounds.max)
+}
+
+/// Whether the greatest delay of one of these links is above one of these intervals.
+fn are_any_slower(links: &[Wire], intervals: &[i8]) -> bool
+    requires { All IsLog intervals.now }
+    ensures { result ≡ list_any (is_any_slower links.now) intervals.now }
+{
+    for interval in intervals {
+        if is_any_slower(links, *interval) {
+            return true;
+        }
+    }
+    false
 }
 
 /// Whether each value of a link lies in its range.

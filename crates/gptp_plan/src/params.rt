@@ -8,7 +8,7 @@ use crate::fault::NetworkFault;
 use gptp_setup::{Params, interval_of};
 
 /// Whether it is the logarithm of an interval that a network can have.
-fn is_log(log_interval: i8) -> bool
+pub(crate) fn is_log(log_interval: i8) -> bool
     ensures { result ≡ is_log log_interval }
 {
     -4 <= log_interval && log_interval <= 4

@@ -2,17 +2,16 @@
 use Rattle.std.proofs.Common.{◌⊎◌, ℕ, suc, List, [], ◌∷◌, Option, Some, None, sym, subst}
 use Rattle.std.proofs.lemmas.List.Sorted.{IsPermutation-sym}
 use Rattle.gptp_graph.specs.Best.{IsBest}
-use Rattle.gptp_graph.specs.Distance.{IsDistance, IsDistanceFrom, IsNear}
+use Rattle.gptp_graph.specs.Distance.{IsDistance, IsDistanceFrom}
 use Rattle.gptp_graph.specs.Labelling.{HasItsSystems, IsLineOf, SystemLine}
 use Rattle.gptp_lists.specs.Members.{In}
 use Rattle.gptp_graph.specs.Parent.{IsParent, LeadsNearer, ParentLink}
 use Rattle.gptp_graph.specs.Path.{IsPath, Reaches, Route}
-use Rattle.gptp_graph.specs.SettledChoice.{IsParentIfAny, IsSettledLine}
+use Rattle.gptp_graph.specs.SettledChoice.{IsParentIfAny, IsSettledChoice, IsSettledLine}
 use Rattle.gptp_graph.specs.SettledRole.{Disabled, IsMasterPort, IsSettledRole, IsSlavePort, Master, Passive, Role, Slave}
 use Rattle.gptp_graph.specs.Snapshot.{IsLinked, Joins, Link, PortIdentity, Snapshot, System, clocks, port_of}
 use Rattle.gptp_lists.proofs.MemberLemmas.{In-map, from_map}
 use Rattle.gptp_network.proofs.SnapshotLemmas.{In-permutation}
-use Rattle.gptp_certificate.specs.Settled.{AreNear, IsRight}
 use Rattle.gptp_kept.proofs.SystemLemmas.{clock_in}
 use Rattle.gptp_reached.specs.AlikeLaws.{AreAlike}
 
@@ -75,9 +74,6 @@ distance g h a v d is = record {
   is_best = best g h a v is.best is.is_best;
   from_best = distance_from g h a is.best.clock v d is.from_best;
 }
-
-near : (g h : Snapshot) → AreAlike g h → (v : ℕ) → IsNear g v → IsNear h v
-near g h a v (d, is, less) = (d, distance g h a v d is, less)
 
 -- ---- parents
 
@@ -152,14 +148,9 @@ its_systems g h a lines has =
       bare = has.bare;
     }
 
-pub same_choice : (g h : Snapshot) (lines : List SystemLine) → AreAlike g h → IsRight g lines → IsRight h lines
+pub same_choice : (g h : Snapshot) (lines : List SystemLine) → AreAlike g h → IsSettledChoice g lines
+    → IsSettledChoice h lines
 same_choice g h lines a right = record {
-  choice = record {
-    systems = its_systems g h a lines right.choice.systems;
-    settled = λ line member. settled_line g h a line (right.choice.settled line member);
-  };
-  near = right.near;
+  systems = its_systems g h a lines right.systems;
+  settled = λ line member. settled_line g h a line (right.settled line member);
 }
-
-pub same_near : (g h : Snapshot) → AreAlike g h → AreNear g → AreNear h
-same_near g h a all s member = near g h a s.clock (all s (among h g (turned g h a) s member))

@@ -11,9 +11,10 @@ use Rattle.gptp_plan.specs.declared.network.Wire.{Wire}
 use Rattle.gptp_acts.specs.declared.station.Station.{Station}
 use Rattle.gptp_plan.specs.Calm.{IsCalm, IsLive, IsQuiet, Rests}
 use Rattle.gptp_plan.specs.Change.{link_after, live_after, system_after}
-use Rattle.gptp_plan.specs.Network.{NetworkState}
+use Rattle.gptp_plan.specs.Network.{NetworkState, pace_of}
 use Rattle.gptp_plan.specs.SettlingTime as acts
 use Rattle.gptp_plan.specs.SettlingTime.{settling_span}
+use Rattle.gptp_acts.specs.Prompt.{HavePace}
 use Rattle.gptp_acts.specs.Sound.{IsSound}
 use Rattle.gptp_acts.specs.World.{WorldState}
 use Rattle.gptp_lists.proofs.MappedLemmas.{alike}
@@ -65,13 +66,13 @@ count_stands n events w so sound = ap length (systems_stand n events w so sound)
 record IsMemberAt (n : NetworkState) (events : List Timed) (place : ℕ) (station : Station) : Type 0 where
   pub member : Member
   pub there : slice_get n.systems place ≡ Some member
-  pub is : shape_after n.params events member ≡ shape station
+  pub is : shape_after (pace_of n) events member ≡ shape station
 
 member_at : (n : NetworkState) (events : List Timed) (w : WorldState) → StandsAs n events w → (place : ℕ)
     (station : Station) → slice_get w.stations place ≡ Some station → IsMemberAt n events place station
 member_at n events w so place station here =
-    let (m, there, is) = alike (shape_after n.params events) shape n.systems w.stations (sym so.systems) place station
-    here in
+    let (m, there, is) = alike (shape_after (pace_of n) events) shape n.systems w.stations (sym so.systems) place
+    station here in
     record { member = m; there = there; is = is }
 
 -- ---- links
@@ -115,22 +116,30 @@ quiet_stands n events w so calm link channel here used =
 
 -- ---- parameters
 
-pub set_stands : (n : NetworkState) (events : List Timed) (w : WorldState) → StandsAs n events w → Claimed w
-    → AreSet n.params w
-set_stands n events w so claimed place station here =
+pace_stands : (n : NetworkState) (events : List Timed) (w : WorldState) → StandsAs n events w → HavePace (pace_of n) w
+pace_stands n events w so place station here =
     let of = member_at n events w so place station here in
+    record {
+      params = ap (λ (x : Shape). x.setup.params) (sym of.is);
+      largest = ap (λ (x : Shape). x.setup.largest) (sym of.is);
+    }
+
+pub set_stands : (n : NetworkState) (events : List Timed) (w : WorldState) → StandsAs n events w → Claimed w
+    → AreSet (pace_of n) w
+set_stands n events w so claimed place station here =
     let set = claimed.is.world.known.set place station here in
-    let same : claimed.params ≡ n.params =
-    sym set.setup ∙ ap (λ (x : Shape). x.setup.params) (sym of.is) in
-    subst (λ p. IsSetTo p station) same set
+    let is = pace_stands n events w so place station here in
+    let params = sym set.starts.params ∙ is.params in
+    let largest = sym set.starts.largest ∙ is.largest in
+    subst (λ p. IsSetTo p station) (λ i. record { params = params i; largest = largest i }) set
 
 -- ---- a document
 
 pub document_calm : (d : DocumentState) (until : ℕ) (w : WorldState) → IsReached d until w → Claimed w
     → IsAtRest d until → IsCalmFor settling_span w
 document_calm d until w reached claimed rest = record {
-  params = n.params;
-  set = set_stands n events w so claimed;
+  pace = pace_of n;
+  set = pace_stands n events w so;
   quiet = quiet_stands n events w so rest.calm;
   late = late;
 }
@@ -144,7 +153,7 @@ document_calm d until w reached claimed rest = record {
     so : StandsAs n events w
     so = reached.stands
 
-    late : w.last_change + settling_span n.params (length (snapshot_of w).systems) ≤ w.time
+    late : w.last_change + settling_span (pace_of n) (length (snapshot_of w).systems) ≤ w.time
     late =
         let count = count_stands n events w so reached.sound in
         rw (so.last, count, reached.now) rest.settled

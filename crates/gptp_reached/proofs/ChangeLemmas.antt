@@ -11,7 +11,7 @@ use Rattle.gptp_system.specs.Input.{PortDown, PortUp}
 use Rattle.gptp_system.specs.State.{clock}
 use Rattle.gptp_plan.specs.declared.change.Act.TheVariants.{Change as Changing}
 use Rattle.gptp_plan.specs.declared.change.Change.{Change}
-use Rattle.gptp_plan.specs.declared.change.Change.TheVariants.{LinkDown, LinkUp, LinkSet, Fail, Recover, Priority1}
+use Rattle.gptp_plan.specs.declared.change.Change.TheVariants.{LinkDown, LinkUp, LinkSet, Fail, Recover, Priority1, Inject}
 use Rattle.gptp_plan.specs.declared.change.Timed.{Timed}
 use Rattle.gptp_acts.specs.declared.done.Done.{Done}
 use Rattle.gptp_plan.specs.declared.network.Member.{Member}
@@ -21,14 +21,14 @@ use Rattle.gptp_acts.specs.Acts.{Acts, Changes, at, set_to}
 use Rattle.gptp_plan.specs.Change.{is_at, link_acted, link_after, link_changed, system_acted, system_after, system_changed, standing, with_bounds, with_up}
 use Rattle.gptp_acts.specs.Changing.{ComesUpIf, GoesDownIf, IsChannel, IsStation, brought_up, lost, taken_down, with_setup}
 use Rattle.gptp_acts.specs.Initial.{setup_of}
-use Rattle.gptp_plan.specs.Network.{NetworkState, same_port}
+use Rattle.gptp_plan.specs.Network.{NetworkState, pace_of, same_port}
 use Rattle.gptp_acts.specs.Sound.{IsSound}
 use Rattle.gptp_acts.specs.World.{Channel, WorldState, port_id, sender}
 use Rattle.gptp_lists.proofs.MappedLemmas.{alike}
 use Rattle.gptp_lists.proofs.PlaceLemmas.{map-set, map-set_same}
 use Rattle.gptp_network.proofs.SnapshotLemmas.{clock_after}
 use Rattle.gptp_reached.specs.Reached.{Shape, StandsAs, shape, shape_after, wire_of}
-use Rattle.gptp_reached.proofs.KeptLemmas.{tells_keep}
+use Rattle.gptp_reached.proofs.KeptLemmas.{Keeps, injects_keep, tells_keep}
 use Rattle.gptp_reached.proofs.BeginLemmas.{SystemBecomes, of_setup}
 use Rattle.gptp_reached.proofs.EventLemmas.{last_behind, link_behind, map_each, set_one, system_behind}
 use Rattle.gptp_reached.proofs.SystemLemmas.{fails_becomes, prioritized_becomes, recovers_becomes}
@@ -127,27 +127,45 @@ module _ (n : NetworkState) (events : List Timed) (timed : Timed) (change : Chan
   wire_more : (v : Wire) → link_after more v ≡ link_changed change (link_after events v)
   wire_more v = link_behind events timed v ∙ ap (λ a. link_acted a (link_after events v)) act
 
-  shape_more : (m : Member) → shape_after n.params more m
+  shape_more : (m : Member) → shape_after (pace_of n) more m
       ≡ (let s = system_changed change (clock_of m.identity) (system_after events m) in
-      record { setup = record (setup_of n.params m) { identity = s.identity }; live = s.live; identity = s.identity })
+      record {
+        setup = record (setup_of (pace_of n) m) { identity = s.identity };
+        live = s.live;
+        identity = s.identity;
+      })
   shape_more m =
       ap (λ s. record {
-        setup = record (setup_of n.params m) { identity = s.identity };
+        setup = record (setup_of (pace_of n) m) { identity = s.identity };
         live = s.live;
         identity = s.identity;
       })
       (system_behind events timed (clock_of m.identity) (standing m)
       ∙ ap (λ a. system_acted a (clock_of m.identity) (system_after events m)) act)
 
+  -- no system and no link becomes another
+  stands_still : ((m : Member) → shape_after (pace_of n) more m ≡ shape_after (pace_of n) events m)
+      → ((v : Wire) → link_changed change v ≡ v) → Keeps (marked timed w) w' → StandsAs n more w'
+  stands_still still same k = record {
+    systems = k.systems ∙ so.systems
+        ∙ sym (map_each (shape_after (pace_of n) events) (shape_after (pace_of n) more) n.systems
+        (λ i m there. still m));
+    links = k.links ∙ so.links
+        ∙ sym (map_each (link_after events) (link_after more) n.links
+        (λ i v there. wire_more v ∙ same (link_after events v)));
+    last = k.last ∙ sym (last_behind events timed);
+  }
+
   -- a change of one link, at a port
   link_stands : (number port place : ℕ) (channel : Channel) (step : Wire → Wire)
       → IsChannel (port_id number port) place w.net channel
       → ((v : Wire) → link_changed change v ≡ (if is_at number port v then step v else v))
-      → ((m : Member) → shape_after n.params more m ≡ shape_after n.params events m)
+      → ((m : Member) → shape_after (pace_of n) more m ≡ shape_after (pace_of n) events m)
       → LinkBecomes place (step (wire_of channel)) (marked timed w) w' → StandsAs n more w'
   link_stands number port place channel step is does still k = record {
     systems = k.systems ∙ so.systems
-        ∙ sym (map_each (shape_after n.params events) (shape_after n.params more) n.systems (λ i m there. still m));
+        ∙ sym (map_each (shape_after (pace_of n) events) (shape_after (pace_of n) more) n.systems
+        (λ i m there. still m));
     links = links;
     last = k.last ∙ sym (last_behind events timed);
   }
@@ -188,12 +206,12 @@ module _ (n : NetworkState) (events : List Timed) (timed : Timed) (change : Chan
   record Found (place : ℕ) (station : Station) : Type 0 where
     member : Member
     there : slice_get n.systems place ≡ Some member
-    same : shape station ≡ shape_after n.params events member
+    same : shape station ≡ shape_after (pace_of n) events member
     named : clock_of member.identity ≡ clock station.system
 
   found : (place : ℕ) (station : Station) → slice_get w.stations place ≡ Some station → Found place station
   found place station here =
-      let (m, there, same) = alike (shape_after n.params events) shape n.systems w.stations (sym so.systems) place
+      let (m, there, same) = alike (shape_after (pace_of n) events) shape n.systems w.stations (sym so.systems) place
       station here in
       record {
         member = m;
@@ -206,15 +224,16 @@ module _ (n : NetworkState) (events : List Timed) (timed : Timed) (change : Chan
   -- a change of one system
   system_stands_so : (number place : ℕ) (station : Station) (new : Shape) → IsStation number place w station
       → ((m : Member) → (number == clock_of m.identity) ≡ false
-      → shape_after n.params more m ≡ shape_after n.params events m)
-      → ((m : Member) → (number == clock_of m.identity) ≡ true → shape station ≡ shape_after n.params events m
-      → new ≡ shape_after n.params more m)
+      → shape_after (pace_of n) more m ≡ shape_after (pace_of n) events m)
+      → ((m : Member) → (number == clock_of m.identity) ≡ true → shape station ≡ shape_after (pace_of n) events m
+      → new ≡ shape_after (pace_of n) more m)
       → ((v : Wire) → link_changed change v ≡ v)
       → SystemBecomes place new (marked timed w) w' → StandsAs n more w'
   system_stands_so number place station new is others becomes still k = record {
     systems = k.systems ∙ ap (λ ss. slice_set ss place new) so.systems
-        ∙ ap (slice_set (map (shape_after n.params events) n.systems) place) hit
-        ∙ set_one (shape_after n.params events) (shape_after n.params more) n.systems place own.member own.there miss;
+        ∙ ap (slice_set (map (shape_after (pace_of n) events) n.systems) place) hit
+        ∙ set_one (shape_after (pace_of n) events) (shape_after (pace_of n) more) n.systems place own.member own.there
+        miss;
     links = k.links ∙ so.links
         ∙ sym (map_each (link_after events) (link_after more) n.links
         (λ i v there. wire_more v ∙ still (link_after events v)));
@@ -224,14 +243,15 @@ module _ (n : NetworkState) (events : List Timed) (timed : Timed) (change : Chan
       own : Found place station
       own = found place station is.here
 
-      hit : new ≡ shape_after n.params more own.member
+      hit : new ≡ shape_after (pace_of n) more own.member
       hit = becomes own.member (eq-eqb number (clock_of own.member.identity) (sym is.named ∙ sym own.named)) own.same
 
       missed : (i : ℕ) (m : Member) → i ≢ place → slice_get n.systems i ≡ Some m → (b : Bool)
-          → (number == clock_of m.identity) ≡ b → shape_after n.params more m ≡ shape_after n.params events m
+          → (number == clock_of m.identity) ≡ b → shape_after (pace_of n) more m ≡ shape_after (pace_of n) events m
       missed i m apart there false off = others m off
       missed i m apart there true on =
-          let (at, here, same) = alike shape (shape_after n.params events) w.stations n.systems so.systems i m there in
+          let (at, here, same) = alike shape (shape_after (pace_of n) events) w.stations n.systems so.systems i m there
+          in
           let named : clock at.system ≡ clock_of m.identity =
           sym (sound.wired.setups i at here).named ∙ ap (λ (s : Shape). clock_of s.setup.identity) same
           ∙ clock_after events m in
@@ -239,7 +259,7 @@ module _ (n : NetworkState) (events : List Timed) (timed : Timed) (change : Chan
           absurd (apart (sound.wired.clocks i place at station here is.here (named ∙ sym one ∙ sym is.named)))
 
       miss : (i : ℕ) (m : Member) → i ≢ place → slice_get n.systems i ≡ Some m
-          → shape_after n.params more m ≡ shape_after n.params events m
+          → shape_after (pace_of n) more m ≡ shape_after (pace_of n) events m
       miss i m apart there = missed i m apart there (number == clock_of m.identity) refl
 
 changed_stands : (change : Change) (n : NetworkState) (events : List Timed) (timed : Timed) (w : WorldState)
@@ -298,6 +318,11 @@ changed_stands (Priority1 number value) n events timed w draws w' act sound so k
     (λ v. refl)
     (prioritized_becomes value k.place k.station (marked timed w) draws w' k.is.here
     (own.same ∙ ap (λ (s : Shape). of_setup s.live s.setup) (sym own.same)) k.so)
+changed_stands (Inject number port octets) n events timed w draws w' act sound so k =
+    let change = Inject number port octets in
+    stands_still n events timed change w w' act sound so (shape_more n events timed change w w' act sound so)
+    (λ v. refl)
+    (injects_keep k.channel.up (port_id number port) octets (marked timed w) draws w' k.so)
 
 pub changes_stand : (n : NetworkState) (events : List Timed) (timed : Timed) (change : Change) (w : WorldState)
     (draws : List Draw) (done : Done) (w' : WorldState) → timed.act ≡ Changing change → IsSound w

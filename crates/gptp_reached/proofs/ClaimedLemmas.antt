@@ -3,18 +3,20 @@ use Rattle.std.proofs.Common.{◌≡◌, ◌+◌, ℕ, zero, suc, Bool, true, fa
 use Rattle.std.specs.List.{AllByRecursion}
 use Rattle.std.proofs.lemmas.Option.{none-some, same_Some}
 use Rattle.gptp_links.specs.declared.bounds.Bounds.{Bounds}
-use Rattle.gptp_setup.specs.declared.setup.Params.{Params}
+use Rattle.gptp_setup.specs.Intervals.{interval_of}
+use Rattle.gptp_setup.specs.Pace.{Pace}
 use Rattle.gptp_plan.specs.declared.change.Act.{Act}
 use Rattle.gptp_plan.specs.declared.change.Timed.{Timed}
-use Rattle.gptp_acts.specs.declared.item.Item.{Item}
-use Rattle.gptp_acts.specs.declared.item.Item.TheVariants.{Expiry, Arrival}
 use Rattle.gptp_plan.specs.Allowed.{IsFitAct}
 use Rattle.gptp_acts.specs.Advancing.{Advanced, Advances, Told}
-use Rattle.gptp_plan.specs.Network.{IsNetwork}
+use Rattle.gptp_plan.specs.Network.{IsNetwork, pace_of, smallest_of}
+use Rattle.gptp_plan.proofs.LogLemmas.{smallest_log}
 use Rattle.gptp_plan.specs.Prompt.{IsPromptAct}
-use Rattle.gptp_acts.specs.Views.{IsActOf}
+use Rattle.gptp_acts.specs.Prompt.{NoneFaster}
 use Rattle.gptp_acts.specs.World.{WorldState}
 use Rattle.gptp_acts.proofs.AdvanceLemmas.{next_fits, nothing_sooner}
+use Rattle.gptp_acts.proofs.PromptLemmas.{begun_none_faster, next_prompt, prompt_within, stays_none_faster}
+use Rattle.gptp_acts.proofs.StayLemmas.{advanced_stays, done_stays}
 use Rattle.gptp_world.proofs.ClaimedLemmas.{next_octet, stopped_in_time}
 use Rattle.gptp_world.proofs.InitialLemmas.{initial_sound}
 use Rattle.gptp_network.specs.Document.{DocumentState}
@@ -49,10 +51,10 @@ up_to P until (event ∷ events) each =
     by true one rest = (one, rest)
     by false one rest = rest
 
--- an event that can be made: it sets no link to a delay above an announce interval, and no priority1 that is no octet
-record IsFitEvent (p : Params) (timed : Timed) : Type 0 where
+-- an event that can be made: it sets no link to a delay above this one, and no priority1 that is no octet
+record IsFitEvent (most : ℕ) (timed : Timed) : Type 0 where
   fit : IsFitAct timed.act
-  prompt : IsPromptAct p timed.act
+  prompt : IsPromptAct most timed.act
   octet : SetsAnOctet timed.act
 
 pub events_made : (d : DocumentState) (until : ℕ) → IsNetwork d.network → AreEvents d.network d.events
@@ -63,17 +65,21 @@ events_made d until network are = up_to IsMade until d.events each
     each place timed there =
         let event = each_there (IsEvent d.network) d.events are.each place timed there in
         let allowed =
-        events_allowed d.network d.events network.params.ranges.params.announce are place timed there in
+        events_allowed d.network d.events (smallest_log d.network network) are place timed there in
         record { change = event.change; act = event.act; fit = allowed.fit }
 
+-- the smallest announce interval of a document
+abbrev least_of : DocumentState → ℕ
+least_of d = interval_of (smallest_of d.network)
+
 events_fit : (d : DocumentState) (until : ℕ) → IsPlayable d
-    → AllByRecursion (IsFitEvent d.network.params) (events_by until d.events)
-events_fit d until is = up_to (IsFitEvent d.network.params) until d.events each
+    → AllByRecursion (IsFitEvent (least_of d)) (events_by until d.events)
+events_fit d until is = up_to (IsFitEvent (least_of d)) until d.events each
   where
-    each : (place : ℕ) (timed : Timed) → slice_get d.events place ≡ Some timed → IsFitEvent d.network.params timed
+    each : (place : ℕ) (timed : Timed) → slice_get d.events place ≡ Some timed → IsFitEvent (least_of d) timed
     each place timed there =
-        let allowed =
-        events_allowed d.network d.events is.network.params.ranges.params.announce is.events place timed there in
+        let allowed = events_allowed d.network d.events (smallest_log d.network is.network) is.events place timed there
+        in
         record {
           fit = allowed.fit;
           prompt = events_prompt d.network d.events is.events place timed there;
@@ -82,12 +88,7 @@ events_fit d until is = up_to (IsFitEvent d.network.params) until d.events each
 
 -- ---- what a world does by itself
 
--- what is pending sets no delay
-next_prompt : (p : Params) (item : Item) (act : Act) (w : WorldState) → IsActOf item w act → IsPromptAct p act
-next_prompt p (Arrival link direction) act w is = subst (IsPromptAct p) (sym is) tt
-next_prompt p (Expiry place timer) act w (station, here, is) = subst (IsPromptAct p) (sym is) tt
-
-module _ {F : Type 0} (answers : Bounds → ℕ → F → Option ℕ → F → Type 0) (p : Params) where
+module _ {F : Type 0} (answers : Bounds → ℕ → F → Option ℕ → F → Type 0) (p : Pace) where
   advances_claimed : (until : ℕ) (told : List Told) (fate fate_after : F) (w w' : WorldState)
       → Advances answers until told fate fate_after w w' → IsClaimed p w → IsClaimed p w'
   advances_claimed until [] fate fate_after w w' k is = subst (IsClaimed p) (sym k.1) is
@@ -95,8 +96,8 @@ module _ {F : Type 0} (answers : Bounds → ℕ → F → Option ℕ → F → T
       let timed = one.timed in
       let next = k.next in
       advances_claimed until told drawn fate_after between w' rest
-      (claim_kept answers p timed fate drawn w between one.done (next_fits w timed next)
-      (next_prompt p next.item timed.act w next.act) (next_octet next.item timed.act w next.act) k.was_done is)
+      (claim_kept answers p timed fate drawn w between one.done (next_fits w timed next) (next_prompt w timed next)
+      (next_octet next.item timed.act w next.act) k.was_done is)
 
   advanced_claimed : (until : ℕ) (told : List Told) (fate fate_after : F) (w w' : WorldState)
       → Advanced answers until told fate fate_after w w' → IsClaimed p w → IsClaimed p w'
@@ -107,24 +108,34 @@ module _ {F : Type 0} (answers : Bounds → ℕ → F → Option ℕ → F → T
       let first = nothing_sooner until (until + 1) k.between.net.pending (omega arith) k.nothing_left in
       subst (IsClaimed p) (sym k.is) (claim_later p k.between until early first on)
 
-  goes_claimed : (events : List Timed) (until : ℕ) (told : List Told) (fate fate_after : F) (w w' : WorldState)
-      → AllByRecursion (IsFitEvent p) events → Goes answers until events told fate fate_after w w' → IsClaimed p w
-      → IsClaimed p w'
-  goes_claimed [] until told fate fate_after w w' fit k is = advanced_claimed until told fate fate_after w w' k is
-  goes_claimed (event ∷ events) until told fate fate_after w w' fit (first, rest, drawn, between, k, goes, so) is =
+  goes_claimed : (least : ℕ) (events : List Timed) (until : ℕ) (told : List Told) (fate fate_after : F)
+      (w w' : WorldState) → AllByRecursion (IsFitEvent least) events
+      → Goes answers until events told fate fate_after w w' → NoneFaster least w → IsClaimed p w → IsClaimed p w'
+  goes_claimed least [] until told fate fate_after w w' fit k none is =
+      advanced_claimed until told fate fate_after w w' k is
+  goes_claimed least (event ∷ events) until told fate fate_after w w' fit (first, rest, drawn, between, k, goes, so)
+      none is =
       let on = advanced_claimed event.at first fate k.drawn w k.between k.advanced is in
+      let none_on =
+      stays_none_faster least w k.between
+      (advanced_stays answers event.at first fate k.drawn w k.between is.world.sound.wired.setups k.advanced) none in
+      let none_then =
+      stays_none_faster least k.between between
+      (done_stays answers event k.drawn drawn k.between between k.done on.world.sound.wired.setups k.changed) none_on
+      in
       let event_fit = fit.0 in
-      goes_claimed events until rest drawn fate_after between w' fit.1 goes
-      (claim_kept answers p event k.drawn drawn k.between between k.done event_fit.fit event_fit.prompt
-      event_fit.octet k.changed on)
+      goes_claimed least events until rest drawn fate_after between w' fit.1 goes none_then
+      (claim_kept answers p event k.drawn drawn k.between between k.done event_fit.fit
+      (prompt_within least event.act k.between none_on event_fit.prompt) event_fit.octet k.changed on)
 
 pub played_claimed : {F : Type 0} (answers : Bounds → ℕ → F → Option ℕ → F → Type 0) (d : DocumentState) (until : ℕ)
     (fate : F) (told : List Told) (w : WorldState) → IsPlayable d → Plays answers d until fate told w → Claimed w
 played_claimed answers d until fate told w is k =
-    let begins = claim_begins answers d.network fate k.started k.start is.network
-    (initial_sound d.network is.network) k.begun in
+    let sound = initial_sound d.network is.network in
+    let begins = claim_begins answers d.network fate k.started k.start is.network sound k.begun in
+    let none = begun_none_faster answers d.network fate k.started k.start sound.wired.setups k.begun in
     record {
-      params = d.network.params;
-      is = goes_claimed answers d.network.params (events_by until d.events) until told k.started k.drawn k.start w
-          (events_fit d until is) k.goes begins;
+      pace = pace_of d.network;
+      is = goes_claimed answers (pace_of d.network) (least_of d) (events_by until d.events) until told k.started
+          k.drawn k.start w (events_fit d until is) k.goes none begins;
     }

@@ -1,5 +1,6 @@
 -- What a delivery, an expiry and a call leave of how a world stands.
-use Rattle.std.proofs.Common.{◌≡◌, ◌≢◌, ℕ, List, map, Option, Some, None, refl, sym, subst, ◌∙◌, inl, inr}
+use Rattle.std.proofs.Common.{◌≡◌, ◌≢◌, ℕ, Bool, true, false, List, map, Option, Some, None, refl, sym, subst, ◌∙◌, inl, inr}
+use Rattle.gptp_vector.specs.declared.port.PortId.{PortId}
 use Rattle.gptp_links.specs.declared.link.Direction.{Direction}
 use Rattle.gptp_links.specs.Fate.{Draw}
 use Rattle.gptp_system.specs.declared.answer.Answer.{Answer}
@@ -14,10 +15,10 @@ use Rattle.gptp_acts.specs.declared.station.Station.{Station}
 use Rattle.gptp_acts.specs.Act.{Calls, Delivers, Expires, Hears, in_state}
 use Rattle.gptp_acts.specs.Acts.{Acts, at}
 use Rattle.gptp_acts.specs.Agrees.{stopped}
-use Rattle.gptp_acts.specs.Changing.{CallsIfLive, TellsEnds}
+use Rattle.gptp_acts.specs.Changing.{CallsIfLive, InjectsIf, TellsEnds}
 use Rattle.gptp_plan.specs.Network.{NetworkState}
 use Rattle.gptp_acts.specs.World.{Channel, WorldState, receiver}
-use Rattle.gptp_acts.proofs.BareLemmas.{DifferInFlight, calls_bare, same_but_flight, takes_bare}
+use Rattle.gptp_acts.proofs.BareLemmas.{DifferInFlight, calls_bare, same_but_flight, sends_one_bare, takes_bare}
 use Rattle.gptp_lists.proofs.PlaceLemmas.{map-set_same}
 use Rattle.gptp_kept.specs.SeenLaws.{IsNoChange}
 use Rattle.gptp_reached.specs.Reached.{StandsAs, shape, wire_of}
@@ -85,6 +86,19 @@ tells_keep input channel w draws w' other k =
     keeps_on w k.between w'
     (calls_if_live_keep k.place_a (input channel.a.port) w k.first k.between (other channel.a.port) k.at_a)
     (calls_if_live_keep k.place_b (input channel.b.port) k.between k.second w' (other channel.b.port) k.at_b)
+
+-- ---- octets that enter a link
+
+pub injects_keep : (up : Bool) (from : PortId) (octets : List ℕ) (w : WorldState) (draws : List Draw) (w' : WorldState)
+    → InjectsIf up from octets w draws w' → Keeps w w'
+injects_keep false from octets w draws w' k = same_keeps w w' k.1
+injects_keep true from octets w draws w' k =
+    subst (Keeps w) (sym k.is)
+    (record {
+      systems = refl;
+      links = bare_kept w.net.channels k.net.channels (sends_one_bare w.time from octets k.draw w.net k.net k.sent);
+      last = refl;
+    })
 
 -- ---- acts
 

@@ -11,3 +11,4 @@ pub mod SettleLemmas
 pub mod ClaimedLemmas
 pub mod OctetLemmas
 pub mod RestLemmas
+pub mod HeadlineLemmas

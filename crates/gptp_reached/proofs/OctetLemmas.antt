@@ -1,25 +1,30 @@
--- What a text means sets no priority1 that is no octet.
+-- What a text means sets no priority1 that is no octet, and injects octets alone.
 use Rattle.std.proofs.Common.{◌≡◌, ◌≤◌, ℕ, ℤ, pos, negsuc, Bool, true, false, codes, List, [], ◌∷◌, ◌++◌, Option, Some, None, Result, Ok, Err, nat_le, refl, subst, arith}
-use Rattle.std.specs.Prelude.{if◌then◌else◌, bytes_eq, nat_lt}
+use Rattle.std.specs.Prelude.{if◌then◌else◌, bytes_eq, length, nat_lt}
 use Rattle.std.specs.List.{AllByRecursion}
 use Rattle.std.proofs.lemmas.Bool.{and_parts, leb-true}
-use Rattle.toml.specs.Data.{Data, Items, Members, as_integer, as_table, get_member, item, no_items}
+use Rattle.toml.specs.Data.{Data, Items, Members, as_integer, as_str, as_table, get_member, item, no_items}
+use Rattle.hex.specs.Hex.{decode_of}
+use Rattle.hex.specs.declared.error.FromHexError.{FromHexError}
+use Rattle.hex.proofs.HexLemmas.{decode_of-ok}
 use Rattle.gptp_plan.specs.declared.change.Act.TheVariants.{Change as Changing}
 use Rattle.gptp_plan.specs.declared.change.Change.{Change}
-use Rattle.gptp_plan.specs.declared.change.Change.TheVariants.{LinkDown, LinkUp, LinkSet, Fail, Recover, Priority1}
+use Rattle.gptp_plan.specs.declared.change.Change.TheVariants.{LinkDown, LinkUp, LinkSet, Fail, Recover, Priority1, Inject}
 use Rattle.gptp_plan.specs.declared.change.Timed.{Timed}
 use Rattle.gptp_plan.specs.declared.fault.NetworkFault.{NetworkFault}
 use Rattle.gptp_plan.specs.Calm.{last_change}
 use Rattle.gptp_plan.specs.Network.{IsNetwork, NetworkState}
 use Rattle.gptp_plan.specs.Params.{is_between}
+use Rattle.gptp_plan.proofs.OctetLemmas.{each_below}
 use Rattle.gptp_network.specs.declared.fault.DocumentFault.{DocumentFault}
 use Rattle.gptp_network.specs.declared.fault.DocumentFault.TheVariants.{EventOrder, MissingKey, OutOfRange}
 use Rattle.gptp_network.specs.Document.{DocumentState, Means, document_of, whole_network_of}
-use Rattle.gptp_network.specs.Events.{AreEvents, change_fault, change_of, event_of, events_of, fail_of, link_down_of, link_set_of, link_up_of, not_before, priority1_of, recover_of, timed, with_event_of}
+use Rattle.gptp_network.specs.Events.{AreEvents, change_fault, change_of, event_of, events_of, fail_of, inject_of, link_down_of, link_set_of, link_up_of, not_before, priority1_of, recover_of, timed, with_event_of}
 use Rattle.gptp_network.specs.Faults.{◌>>=◌, tested}
 use Rattle.gptp_network.specs.Members.{each_of, limited}
-use Rattle.gptp_network.specs.Values.{array_at, clock, key_in, kind_of, natural, natural_of, text}
+use Rattle.gptp_network.specs.Values.{array_at, clock, key_in, kind_of, natural, natural_of, octets, octets_of_text, spelled_octets, text}
 use Rattle.gptp_certificate_text.proofs.SpellingLemmas.{same_ok}
+use Rattle.gptp_kept.specs.Legible.{AreOctets}
 use Rattle.gptp_kept.specs.LegibleLaws.{SetsAnOctet}
 use Rattle.gptp_reached.specs.PlayedLaws.{IsPlayable}
 use Rattle.gptp_reached.proofs.ClaimedLemmas.{each_there}
@@ -71,6 +76,25 @@ value_most key least greatest t = by (get_member key t)
         next (λ n. n ≤ greatest) (kind_of (as_integer d)) (natural_of least greatest)
         (λ z is. natural_most least greatest z)
 
+-- what digits spell is octets
+spelled_below : (digits : List ℕ) → Gives AreOctets (spelled_octets (decode_of digits))
+spelled_below digits = by (decode_of digits) refl
+  where
+    by : (r : Result (List ℕ) FromHexError) → decode_of digits ≡ r → Gives AreOctets (spelled_octets r)
+    by (Ok frame) is = given AreOctets frame (each_below frame (decode_of-ok digits frame is).3)
+    by (Err e) is = refused AreOctets OutOfRange
+
+octets_below : (key : List ℕ) (t : Members) → Gives AreOctets (octets key t)
+unfolding octets
+octets_below key t = by (get_member key t)
+  where
+    by : (o : Option Data) → Gives AreOctets (key_in as_str octets_of_text None o)
+    by None = refused AreOctets MissingKey
+    by (Some d) =
+        next AreOctets (kind_of (as_str d)) octets_of_text
+        (λ digits is. either AreOctets (is_between 1 4232 (length digits)) _ _ (spelled_below digits)
+        (refused AreOctets OutOfRange))
+
 -- ---- changes
 
 abbrev Sets : Change → Type 0
@@ -112,6 +136,13 @@ priority1_octet t =
     let most : value ≤ 255 = value_most (codes "value") 0 255 t value here in
     given Sets (Priority1 name value) (omega (arith, most))))
 
+inject_octet : (t : Members) → Gives Sets (inject_of t)
+unfolding inject_of
+inject_octet t =
+    next Sets (clock (codes "clock") t) _ (λ name is. next Sets (natural (codes "port") 1 16 None t) _ (λ port here.
+    next Sets (octets (codes "octets") t) _ (λ frame read.
+    given Sets (Inject name port frame) (octets_below (codes "octets") t frame read))))
+
 change_octet : (kind : List ℕ) (t : Members) → Gives Sets (change_of kind t)
 unfolding change_of
 change_octet kind t =
@@ -120,7 +151,8 @@ change_octet kind t =
     (either Sets (bytes_eq kind (codes "link_set")) _ _ (link_set_octet t)
     (either Sets (bytes_eq kind (codes "fail")) _ _ (fail_octet t)
     (either Sets (bytes_eq kind (codes "recover")) _ _ (recover_octet t)
-    (either Sets (bytes_eq kind (codes "priority1")) _ _ (priority1_octet t) (refused Sets OutOfRange))))))
+    (either Sets (bytes_eq kind (codes "priority1")) _ _ (priority1_octet t)
+    (either Sets (bytes_eq kind (codes "inject")) _ _ (inject_octet t) (refused Sets OutOfRange)))))))
 
 -- ---- events
 
@@ -177,8 +209,9 @@ DocumentSets d = AllOctets d.events
 document_octets : (t : Members) → Gives DocumentSets (document_of t)
 unfolding document_of
 document_octets t =
-    next DocumentSets (natural (codes "version") 1 1 None t) _ (λ version is.
-    next DocumentSets (whole_network_of t) _ (λ network of. next DocumentSets (events_of t network) _ (λ events read.
+    next DocumentSets (natural (codes "version") 1 2 None t) _ (λ version is.
+    next DocumentSets (whole_network_of version t) _ (λ network of.
+    next DocumentSets (events_of t network) _ (λ events read.
     given DocumentSets (record { network = network; events = events }) (events_octets t network events read))))
 
 pub documents_playable : (octets : List ℕ) (d : DocumentState) → Means octets d → IsNetwork d.network

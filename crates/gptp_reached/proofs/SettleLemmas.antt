@@ -1,6 +1,7 @@
--- What the live systems of a document's world say is the settled choice of the document's snapshot.
+-- What is stated of the live systems of a document's world is the settled choice of the document's snapshot.
 use Rattle.std.proofs.Common.{ℕ, List, Option}
 use Rattle.gptp_graph.specs.Labelling.{SystemLine}
+use Rattle.gptp_graph.specs.SettledChoice.{IsSettledChoice}
 use Rattle.gptp_graph.specs.Snapshot.{Snapshot}
 use Rattle.gptp_links.specs.declared.bounds.Bounds.{Bounds}
 use Rattle.gptp_acts.specs.Advancing.{Told}
@@ -10,32 +11,30 @@ use Rattle.gptp_network.specs.Snapshot.{IsSnapshot, events_by}
 use Rattle.gptp_report.specs.Run.{Plays}
 use Rattle.gptp_kept.specs.Claimed.{Claimed}
 use Rattle.gptp_kept.specs.Standing.{snapshot_of}
-use Rattle.gptp_certificate.specs.Settled.{AreNear, IsRight}
 use Rattle.gptp_certificate.specs.Stated.{States}
 use Rattle.gptp_certificate.proofs.SettledLemmas.{right_in_time}
 use Rattle.gptp_reached.specs.AlikeLaws.{AreAlike}
 use Rattle.gptp_reached.specs.PlayedLaws.{IsAtRest, IsPlayable, IsReached}
-use Rattle.gptp_reached.proofs.AlikeLemmas.{same_choice, same_near, turned}
+use Rattle.gptp_reached.proofs.AlikeLemmas.{same_choice}
 use Rattle.gptp_reached.proofs.CalmLemmas.{document_calm}
 use Rattle.gptp_reached.proofs.ClaimedLemmas.{events_made, played_claimed}
 use Rattle.gptp_reached.proofs.PlayedLemmas.{played_stands}
 use Rattle.gptp_reached.proofs.SnapshotLemmas.{snapshots_stand}
 
 pub documents_settle : (d : DocumentState) (until : ℕ) (w : WorldState) (lines : List SystemLine) (g : Snapshot)
-    → IsReached d until w → Claimed w → IsAtRest d until → States w lines → IsSnapshot d until g → AreNear g
-    → IsRight g lines
-documents_settle d until w lines g reached claimed rest states stands near =
+    → IsReached d until w → Claimed w → IsAtRest d until → States w lines → IsSnapshot d until g
+    → IsSettledChoice g lines
+documents_settle d until w lines g reached claimed rest states stands =
     let (systems, links) =
     snapshots_stand d.network (events_by until d.events) w g reached.stands reached.sound stands in
     let alike : AreAlike (snapshot_of w) g = record { systems = systems; links = links } in
-    let near_there = same_near g (snapshot_of w) (turned (snapshot_of w) g alike) near in
     let calm = document_calm d until w reached claimed rest in
-    same_choice (snapshot_of w) g lines alike (right_in_time w lines claimed states calm near_there)
+    same_choice (snapshot_of w) g lines alike (right_in_time w lines claimed states calm)
 
 pub played_settle : {F : Type 0} (answers : Bounds → ℕ → F → Option ℕ → F → Type 0) (d : DocumentState) (until : ℕ)
     (fate : F) (told : List Told) (w : WorldState) (lines : List SystemLine) (g : Snapshot) → IsPlayable d
-    → Plays answers d until fate told w → IsAtRest d until → States w lines → IsSnapshot d until g → AreNear g
-    → IsRight g lines
+    → Plays answers d until fate told w → IsAtRest d until → States w lines → IsSnapshot d until g
+    → IsSettledChoice g lines
 played_settle answers d until fate told w lines g is k =
     documents_settle d until w lines g
     (played_stands answers d until fate told w is.network (events_made d until is.network is.events) k)

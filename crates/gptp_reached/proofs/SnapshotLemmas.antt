@@ -7,17 +7,17 @@ use Rattle.std.proofs.lemmas.List.Sorted.{list_any-IsPermutation}
 use Rattle.gptp_graph.specs.Snapshot.{Link, Snapshot, System}
 use Rattle.gptp_vector.specs.declared.port.PortId.{PortId}
 use Rattle.gptp_roles.specs.Selection.{clock_of}
-use Rattle.gptp_setup.specs.declared.setup.Params.{Params}
+use Rattle.gptp_setup.specs.Pace.{Pace}
 use Rattle.gptp_plan.specs.declared.change.Act.{Act}
 use Rattle.gptp_plan.specs.declared.change.Act.TheVariants.{Deliver, Expire, Change as Changing}
 use Rattle.gptp_plan.specs.declared.change.Change.{Change}
-use Rattle.gptp_plan.specs.declared.change.Change.TheVariants.{LinkDown, LinkUp, LinkSet, Fail, Recover, Priority1}
+use Rattle.gptp_plan.specs.declared.change.Change.TheVariants.{LinkDown, LinkUp, LinkSet, Fail, Recover, Priority1, Inject}
 use Rattle.gptp_plan.specs.declared.change.Timed.{Timed}
 use Rattle.gptp_plan.specs.declared.network.Member.{Member}
 use Rattle.gptp_plan.specs.declared.network.Wire.{Wire}
 use Rattle.gptp_acts.specs.declared.station.Station.{Station}
 use Rattle.gptp_plan.specs.Change.{is_at, joined_after, link_acted, link_after, link_changed, live_after, system_after, with_bounds, with_up}
-use Rattle.gptp_plan.specs.Network.{NetworkState}
+use Rattle.gptp_plan.specs.Network.{NetworkState, pace_of}
 use Rattle.gptp_acts.specs.Sound.{IsSound}
 use Rattle.gptp_acts.specs.World.{Channel, WorldState}
 use Rattle.gptp_network.specs.Snapshot as network
@@ -69,7 +69,7 @@ world_living (first ∷ stations) have =
         } ∷ ss) rest
     by false ports rest = rest
 
-network_living : (p : Params) (events : List Timed) (members : List Member)
+network_living : (p : Pace) (events : List Timed) (members : List Member)
     → network.live_systems members events ≡ living (map (shape_after p events) members)
 network_living p events [] = refl
 network_living p events (m ∷ members) = by (system_after events m).live (network_living p events members)
@@ -88,7 +88,7 @@ pub systems_stand : (n : NetworkState) (events : List Timed) (w : WorldState) �
     → live_systems w.stations ≡ network.live_systems n.systems events
 systems_stand n events w so sound =
     world_living w.stations (λ place station here. (sound.wired.setups place station here).ports)
-    ∙ ap living so.systems ∙ sym (network_living n.params events n.systems)
+    ∙ ap living so.systems ∙ sym (network_living (pace_of n) events n.systems)
 
 -- ---- links
 
@@ -108,6 +108,7 @@ changed_ends (LinkSet number port least greatest loss) v =
 changed_ends (Fail number) v = refl
 changed_ends (Recover number) v = refl
 changed_ends (Priority1 number value) v = refl
+changed_ends (Inject number port octets) v = refl
 
 acted_ends : (act : Act) (v : Wire) → ends (link_acted act v) ≡ ends v
 acted_ends (Deliver link direction) v = refl

@@ -4,3 +4,5 @@ pub mod PlayedLaws
 pub mod StandingLaws
 pub mod AlikeLaws
 pub mod SettleLaws
+pub mod Headline
+pub mod HeadlineLaws

@@ -1,6 +1,6 @@
 -- How a world stands that a network and its events lead to.
 use Rattle.std.specs.Prelude.{◌≡◌, ℕ, Bool, if◌then◌else◌, List, map}
-use Rattle.gptp_setup.specs.declared.setup.Params.{Params}
+use Rattle.gptp_setup.specs.Pace.{Pace}
 use Rattle.gptp_setup.specs.declared.setup.Setup.{Setup}
 use Rattle.gptp_plan.specs.declared.change.Timed.{Timed}
 use Rattle.gptp_plan.specs.declared.network.Member.{Member}
@@ -9,7 +9,7 @@ use Rattle.gptp_acts.specs.declared.station.Station.{Station}
 use Rattle.gptp_plan.specs.Calm.{last_change}
 use Rattle.gptp_plan.specs.Change.{link_after, system_after}
 use Rattle.gptp_acts.specs.Initial.{setup_of}
-use Rattle.gptp_plan.specs.Network.{NetworkState}
+use Rattle.gptp_plan.specs.Network.{NetworkState, pace_of}
 use Rattle.gptp_acts.specs.World.{Channel, WorldState}
 
 -- ---- systems
@@ -29,7 +29,7 @@ shape station = record {
 }
 
 -- of a system of a network after events
-abbrev pub shape_after : Params → List Timed → Member → Shape
+abbrev pub shape_after : Pace → List Timed → Member → Shape
 shape_after p events m = record {
   setup = record (setup_of p m) { identity = (system_after events m).identity };
   live = (system_after events m).live;
@@ -46,6 +46,6 @@ wire_of channel = record { a = channel.a; b = channel.b; bounds = channel.bounds
 
 -- The world has the systems and links of the network after these events, and the last of them was the last change.
 pub record StandsAs (n : NetworkState) (events : List Timed) (w : WorldState) : Type 0 where
-  pub systems : map shape w.stations ≡ map (shape_after n.params events) n.systems
+  pub systems : map shape w.stations ≡ map (shape_after (pace_of n) events) n.systems
   pub links : map wire_of w.net.channels ≡ map (link_after events) n.links
   pub last : w.last_change ≡ last_change events

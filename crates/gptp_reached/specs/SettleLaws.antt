@@ -1,6 +1,7 @@
 -- The law of settling, on documents.
 use Rattle.std.specs.Prelude.{ℕ, List, Option}
 use Rattle.gptp_graph.specs.Labelling.{SystemLine}
+use Rattle.gptp_graph.specs.SettledChoice.{IsSettledChoice}
 use Rattle.gptp_graph.specs.Snapshot.{Snapshot}
 use Rattle.gptp_links.specs.declared.bounds.Bounds.{Bounds}
 use Rattle.gptp_acts.specs.Advancing.{Told}
@@ -9,21 +10,19 @@ use Rattle.gptp_network.specs.Document.{DocumentState}
 use Rattle.gptp_network.specs.Snapshot.{IsSnapshot}
 use Rattle.gptp_report.specs.Run.{Plays}
 use Rattle.gptp_kept.specs.Claimed.{Claimed}
-use Rattle.gptp_certificate.specs.Settled.{AreNear, IsRight}
 use Rattle.gptp_certificate.specs.Stated.{States}
 use Rattle.gptp_reached.specs.PlayedLaws.{IsAtRest, IsPlayable, IsReached}
 
--- Where a document is at rest at a time, and all systems of its snapshot are near, what the live systems of the world
--- that it leads to say is the settled choice of that snapshot, with all steps below 255.
+-- Where a document is at rest at a time, what is stated of the live systems of the world that it leads to is the
+-- settled choice of its snapshot.
 abbrev pub DocumentsSettle : Type 0
 DocumentsSettle = (d : DocumentState) (until : ℕ) (w : WorldState) (lines : List SystemLine) (g : Snapshot)
-    → IsReached d until w → Claimed w → IsAtRest d until → States w lines → IsSnapshot d until g → AreNear g
-    → IsRight g lines
+    → IsReached d until w → Claimed w → IsAtRest d until → States w lines → IsSnapshot d until g
+    → IsSettledChoice g lines
 
 -- so it is whatever is drawn for the frames meanwhile
 abbrev pub PlayedSettle : {F : Type 0} → (Bounds → ℕ → F → Option ℕ → F → Type 0) → Type 0
 PlayedSettle {F} answers = (d : DocumentState) (until : ℕ) (fate : F) (told : List Told) (w : WorldState)
     (lines : List SystemLine) (g : Snapshot)
     → IsPlayable d → Plays answers d until fate told w → IsAtRest d until → States w lines → IsSnapshot d until g
-    → AreNear g
-    → IsRight g lines
+    → IsSettledChoice g lines

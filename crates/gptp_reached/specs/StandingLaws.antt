@@ -4,7 +4,7 @@ use Rattle.std.specs.List.Sorted.{IsPermutation}
 use Rattle.gptp_graph.specs.Snapshot.{Snapshot}
 use Rattle.gptp_plan.specs.declared.change.Timed.{Timed}
 use Rattle.gptp_plan.specs.Calm.{IsCalm}
-use Rattle.gptp_plan.specs.Network.{NetworkState}
+use Rattle.gptp_plan.specs.Network.{NetworkState, pace_of}
 use Rattle.gptp_plan.specs.SettlingTime.{live_systems}
 use Rattle.gptp_acts.specs.Sound.{IsSound}
 use Rattle.gptp_acts.specs.World.{WorldState}
@@ -33,8 +33,8 @@ StandsQuiet = (n : NetworkState) (events : List Timed) (w : WorldState)
     → StandsAs n events w → IsCalm n events
     → IsQuietWorld n.params w
 
--- all its systems have the parameters of the network
+-- all its systems have the parameters of the network, and its largest announce interval
 abbrev pub StandsSet : Type 0
 StandsSet = (n : NetworkState) (events : List Timed) (w : WorldState)
     → StandsAs n events w → Claimed w
-    → AreSet n.params w
+    → AreSet (pace_of n) w

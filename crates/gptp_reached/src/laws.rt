@@ -1,6 +1,6 @@
 //! Laws on worlds that stand as a network does after its events.
 
-ghost use Rattle.gptp_reached.specs.AlikeLaws.{SameChoice, SameNear};
+ghost use Rattle.gptp_reached.specs.AlikeLaws.{SameChoice};
 ghost use Rattle.gptp_reached.specs.PlayedLaws.{CalmRests, DocumentIsCalm, DocumentsArePlayable, EventsAreMade, PlayedClaimed, PlayedStands};
 ghost use Rattle.gptp_reached.specs.ReachedLaws.{ActsStand, BegunStands, ChangesStand, TimeStands};
 ghost use Rattle.gptp_reached.specs.SettleLaws.{DocumentsSettle, PlayedSettle};
@@ -38,11 +38,9 @@ pub fn calm_stands()
     ensures set { StandsSet }
 {}
 
-/// Lines that are right of a snapshot are right of each that differs in the order of the systems alone; and where all
-/// systems of the one are near, so are those of the other.
+/// The settled choice of a snapshot is that of each that differs in the order of the systems alone.
 pub fn order_does_not_matter()
-    ensures choice { SameChoice }
-    ensures near { SameNear }
+    ensures { SameChoice }
 {}
 
 /// Every document that a text means can be played, where its network and its events are within their limits.
@@ -77,8 +75,8 @@ pub fn documents_are_calm()
     ensures { DocumentIsCalm }
 {}
 
-/// Where a document is at rest at a time, and all systems of its snapshot are near, what the live systems of the world
-/// that it leads to say is the settled choice of that snapshot, with all steps below 255.
+/// Where a document is at rest at a time, what is stated of the live systems of the world that it leads to is the settled
+/// choice of its snapshot.
 pub fn documents_settle()
     ensures { DocumentsSettle }
 {}

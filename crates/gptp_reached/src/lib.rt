@@ -10,11 +10,16 @@
 //! systems of a document's world say is then the settled choice of the document's snapshot (`specs/SettleLaws.antt`), on
 //! which the command `run` stands.
 //!
+//! The settling theorem as a whole stands on one page, `specs/Headline.antt`: what it asks of a world, and what every
+//! world then is. The module `headline` has its laws.
+//!
 //! Each function of this crate is a law: it does nothing, and its contract is a theorem about the definitions.
 #![tactic(auto)]
 
+mod headline;
 mod laws;
 
+pub use headline::{documents_lead_to_settled_worlds, worlds_settle};
 pub use laws::{
     calm_documents_rest, calm_stands, changes_stand, documents_are_calm, documents_are_playable,
     documents_keep, documents_settle, documents_stand, events_are_made, order_does_not_matter,

@@ -24,7 +24,8 @@ message_vector a port = record { root = a.body.root; steps = a.body.steps; sourc
 
 -- what a port receives by an Announce
 abbrev pub reception : AnnounceView → PortId → ℕ → Reception
-reception a own now = record { vector = message_vector a own.port; path = a.path; at = now }
+reception a own now =
+    record { vector = message_vector a own.port; path = a.path; interval = a.head.log_interval; at = now }
 
 -- two vectors have the same source port
 abbrev pub same_source : Vector → Vector → Bool

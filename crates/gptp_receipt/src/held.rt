@@ -30,6 +30,8 @@ pub struct Reception {
     pub vector: Vector,
     /// The path sequence.
     pub path: Trace,
+    /// The logMessageInterval of its Announce, as it came.
+    pub interval: i8,
     /// When that was, in ns.
     pub at: u64,
 }
@@ -71,6 +73,7 @@ impl Held {
             Held::Received(reception) => Held::Received(Reception {
                 vector: reception.vector,
                 path: reception.path.copy(),
+                interval: reception.interval,
                 at: reception.at,
             }),
         }
@@ -78,8 +81,8 @@ impl Held {
 }
 
 /// What a port does with a qualified Announce that it hears `now`, in ns; `own` is the port. `Superior`
-/// and `Repeated` put its message vector, its path and the time in place of what the port holds, and
-/// `Inferior` changes nothing (profile, for IEEE 802.1AS-2020, 10.3.11 and 10.3.12).
+/// and `Repeated` put its message vector, its path, its interval and the time in place of what the port
+/// holds, and `Inferior` changes nothing (profile, for IEEE 802.1AS-2020, 10.3.11 and 10.3.12).
 pub fn hear(held: &mut Held, own: PortId, announce: &AnnounceView<'_>, now: u64) -> Heard
     requires qualified { Qualified announce.now own.clock }
     requires enabled { held.old ≢ Held.Disabled }
@@ -90,7 +93,13 @@ pub fn hear(held: &mut Held, own: PortId, announce: &AnnounceView<'_>, now: u64)
     let vector = vector_of(announce, own.port);
     let heard = compare(held, own, &vector);
     if heard != Heard::Inferior {
-        store(held, vector, &announce.path, now);
+        store(
+            held,
+            vector,
+            &announce.path,
+            announce.head.log_interval,
+            now,
+        );
     }
     heard
 }
@@ -141,14 +150,15 @@ fn against(known: &Vector, vector: &Vector) -> Heard
 }
 
 /// Puts what was heard in place of what the port holds.
-fn store(held: &mut Held, vector: Vector, path: &PathView<'_>, now: u64)
+fn store(held: &mut Held, vector: Vector, path: &PathView<'_>, interval: i8, now: u64)
     requires { length path.now ≤ 255 }
-    ensures { held.new ≡ Held.Received (record { vector = vector; path = path.now; at = now }) }
+    ensures { held.new ≡ Held.Received (record { vector = vector; path = path.now; interval = interval; at = now }) }
 {
     match held {
         Held::Received(known) => {
             known.vector = vector;
             path.copy_to(&mut known.path).unwrap();
+            known.interval = interval;
             known.at = now;
         }
         _ => {
@@ -157,14 +167,15 @@ fn store(held: &mut Held, vector: Vector, path: &PathView<'_>, now: u64)
             *held = Held::Received(Reception {
                 vector,
                 path: trace,
+                interval,
                 at: now,
             });
         }
     }
 }
 
-/// When what the port received is too old, in ns, if it received anything: `span` after its receipt
-/// (announceReceiptTimeout times the announce interval; IEEE 802.1AS-2020, 10.7.3.2).
+/// When what the port received is too old, in ns, if it received anything: `span`, as `span_of` gives
+/// it, after its receipt (IEEE 802.1AS-2020, 10.7.3.2).
 pub fn due(held: &Held, span: u64) -> Option<u64>
     requires { ForSome (received held.now) (λ r. r.at + span < 2 ^ 64) }
     ensures { result ≡ option_map (λ r. r.at + span) (received held.now) }

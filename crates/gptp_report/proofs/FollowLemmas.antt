@@ -1,18 +1,18 @@
--- Acts one after another, and the lines of their frames.
-use Rattle.std.proofs.Common.{◌≡◌, ◌≤◌, ◌+◌, ℕ, true, List, [], ◌∷◌, ◌++◌, Option, refl, ap, sym, subst, ◌∙◌, append_assoc, append-nil, arith}
+-- Acts one after another, and what an observer tells of them.
+use Rattle.std.proofs.Common.{◌≡◌, ◌≤◌, ◌+◌, ℕ, List, [], ◌∷◌, ◌++◌, Option, refl, ap, sym, subst, ◌∙◌, append_assoc, append-nil, arith}
 use Rattle.std.proofs.lemmas.List.Concat.{flat_map-append}
 use Rattle.gptp_links.specs.declared.bounds.Bounds.{Bounds}
+use Rattle.gptp_plan.specs.declared.change.Timed.{Timed}
+use Rattle.gptp_acts.specs.declared.done.Done.{Done}
 use Rattle.gptp_acts.specs.Acts.{at}
-use Rattle.gptp_acts.specs.Advancing.{Advances, Advanced, Told}
+use Rattle.gptp_acts.specs.Advancing.{Advances, Advanced, Happens, Stopped, Told}
 use Rattle.gptp_acts.specs.Pending.{NothingBefore}
 use Rattle.gptp_acts.specs.World.{WorldState}
-use Rattle.gptp_acts.proofs.AdvanceLemmas.{advances-append, advances-later, nothing_happens, Happened}
-use Rattle.gptp_system.specs.declared.answer.Answer.{Answer}
-use Rattle.gptp_report.specs.declared.frame_line.FrameType.{FrameType}
-use Rattle.gptp_report.specs.FrameLine.{frame_line, IsOfType}
-use Rattle.gptp_report.specs.Following.{Follows, Showed}
+use Rattle.gptp_acts.proofs.AdvanceLemmas.{nothing_happens}
+use Rattle.gptp_report.specs.Following.{BreaksSeen, Follows, PassesSeen}
+use Rattle.gptp_report.specs.Observing.{Observed, Tells, TellsAct, TellsNothing}
+use Rattle.gptp_report.specs.Transitions.{Passes, Transition, transition}
 use Rattle.gptp_spelling.specs.Lines.{text_of}
-use Rattle.gptp_report.specs.Run.{ShowsDone, ShowsFrames}
 
 -- ---- texts
 
@@ -27,96 +27,207 @@ written_more xs ys before middle after first second =
     second ∙ ap (λ t. t ++ text_of ys) first ∙ append_assoc before (text_of xs) (text_of ys)
     ∙ ap (λ t. before ++ t) (sym (text_append xs ys))
 
--- the lines of what was told, and then of what was told behind it
-pub shows-append : (told more : List Told) (xs ys : List (List ℕ)) → ShowsFrames told xs → ShowsFrames more ys
-    → ShowsFrames (told ++ more) (xs ++ ys)
-shows-append [] more xs ys none rest = subst (λ zs. ShowsFrames more (zs ++ ys)) (sym none) rest
-shows-append (t ∷ ts) more xs ys (first, back, one, shows, is) rest = (
-  first,
-  back ++ ys,
-  one,
-  shows-append ts more back ys shows rest,
-  ap (λ zs. zs ++ ys) is ∙ append_assoc first back ys,
-)
+-- ---- what is told
 
--- the line of a frame that was heard
-pub heard_shown : (at clock port : ℕ) (answer : Option Answer) (frame octets before after : List ℕ) → octets ≡ frame
-    → (kind : FrameType) → IsOfType octets kind
-    → after ≡ before ++ (frame_line at clock port kind answer octets ++ 10 ∷ [])
-    → (lines : List (List ℕ))
-    × ((sort : FrameType) × IsOfType frame sort × (lines ≡ frame_line at clock port sort answer frame ∷ []))
-    × (after ≡ before ++ text_of lines)
-heard_shown at clock port answer frame octets before after same kind is written = (
-  frame_line at clock port kind answer frame ∷ [],
-  (kind, subst (λ o. IsOfType o kind) same is, refl),
-  written ∙ ap (λ o. before ++ (frame_line at clock port kind answer o ++ 10 ∷ [])) same
-      ∙ ap (λ t. before ++ t) (sym (append-nil (frame_line at clock port kind answer frame ++ 10 ∷ []))),
-)
+module _ {O : Type 0} (tells : Told → WorldState → O → O → List (List ℕ) → Type 0) where
+  -- of some acts and of more behind them
+  pub tells-append : (ts more : List Transition) (o between o_after : O) (xs ys : List (List ℕ))
+      → Tells tells ts o between xs → Tells tells more between o_after ys
+      → Tells tells (ts ++ more) o o_after (xs ++ ys)
+  tells-append [] more o between o_after xs ys (same, none) rest =
+      subst (λ zs. Tells tells more o o_after (zs ++ ys)) (sym none)
+      (subst (λ p. Tells tells more p o_after ys) same rest)
+  tells-append (t ∷ ts) more o between o_after xs ys (mid, first, back, one, others, is) rest = (
+    mid,
+    first,
+    back ++ ys,
+    one,
+    tells-append ts more mid between o_after back ys others rest,
+    ap (λ zs. zs ++ ys) is ∙ append_assoc first back ys,
+  )
 
--- ---- acts and their lines
+  pub observed_none : (o : O) (So : List ℕ → Type 0) → So [] → Observed tells [] o o So
+  observed_none o So so = record { lines = []; are = (refl, refl); so = so }
+
+  pub observed_one : (t : Transition) (o o_after : O) (So : List ℕ → Type 0)
+      → TellsAct tells t.told t.after o o_after So
+      → Observed tells (t ∷ []) o o_after So
+  observed_one t o o_after So (lines, one, so) =
+      record { lines = lines; are = (o_after, lines, [], one, (refl, refl), sym (append-nil lines)); so = so }
+
+  -- what follows from what is so of a text
+  pub observed_so : (ts : List Transition) (o o_after : O) (So More : List ℕ → Type 0)
+      → ((text : List ℕ) → So text → More text) → Observed tells ts o o_after So → Observed tells ts o o_after More
+  observed_so ts o o_after So More more observed =
+      record { lines = observed.lines; are = observed.are; so = more (text_of observed.lines) observed.so }
+
+  pub observed_more : (ts more : List Transition) (o between o_after : O) (First Second Both : List ℕ → Type 0)
+      → ((first second : List ℕ) → First first → Second second → Both (first ++ second))
+      → Observed tells ts o between First → Observed tells more between o_after Second
+      → Observed tells (ts ++ more) o o_after Both
+  observed_more ts more o between o_after First Second Both both front back = record {
+    lines = front.lines ++ back.lines;
+    are = tells-append ts more o between o_after front.lines back.lines front.are back.are;
+    so = subst Both (sym (text_append front.lines back.lines))
+        (both (text_of front.lines) (text_of back.lines) front.so back.so);
+  }
+
+  -- an observer that asks to see nothing is told nothing
+  pub tells_nothing : (o : O) → TellsNothing tells o → (ts : List Transition) → Tells tells ts o o []
+  tells_nothing o nothing [] = (refl, refl)
+  tells_nothing o nothing (t ∷ ts) = (o, [], [], nothing t.told t.after, tells_nothing o nothing ts, refl)
+
+-- ---- acts
 
 module _ {F : Type 0} (answers : Bounds → ℕ → F → Option ℕ → F → Type 0) where
-  -- one act, with its line
-  pub follows_one : (until : ℕ) (told : Told) (fate fate_after : F) (w w' : WorldState) (lines : List (List ℕ))
-      (before after : List ℕ) → Happened answers until told fate fate_after w w'
-      → ShowsDone told.timed.at told.done lines → after ≡ before ++ text_of lines
-      → Follows answers until fate fate_after w w' before after
-  follows_one until told fate fate_after w w' lines before after one shows is = record {
-    told = told ∷ [];
-    advances = one.advances;
-    lines = lines;
-    shows = (lines, [], shows, refl, sym (append-nil lines));
-    is = is;
-  }
+  pub passes-append : (until : ℕ) (ts more : List Transition) (fate drawn fate_after : F) (w between w' : WorldState)
+      → Passes answers until ts fate drawn w between → Passes answers until more drawn fate_after between w'
+      → Passes answers until (ts ++ more) fate fate_after w w'
+  passes-append until [] more fate drawn fate_after w between w' (same, is) rest =
+      subst (λ (f : F). Passes answers until more f fate_after w w') same
+      (subst (λ (x : WorldState). Passes answers until more drawn fate_after x w') is rest)
+  passes-append until (t ∷ ts) more fate drawn fate_after w between w' (f, is, happens, front) rest =
+      (f, is, happens, passes-append until ts more f drawn fate_after t.after between w' front rest)
 
-  pub follows_more : (until : ℕ) (fate drawn fate_after : F) (w between w' : WorldState) (before middle after : List ℕ)
-      → Follows answers until fate drawn w between before middle
-      → Follows answers until drawn fate_after between w' middle after
-      → Follows answers until fate fate_after w w' before after
-  follows_more until fate drawn fate_after w between w' before middle after front back = record {
-    told = front.told ++ back.told;
-    advances = advances-append answers until front.told back.told fate drawn fate_after w between w' front.advances
-        back.advances;
-    lines = front.lines ++ back.lines;
-    shows = shows-append front.told back.told front.lines back.lines front.shows back.shows;
-    is = written_more front.lines back.lines before middle after front.is back.is;
-  }
+  pub passes-later : (until later : ℕ) (ts : List Transition) (fate fate_after : F) (w w' : WorldState) → until ≤ later
+      → Passes answers until ts fate fate_after w w' → Passes answers later ts fate fate_after w w'
+  passes-later until later [] fate fate_after w w' less none = none
+  passes-later until later (t ∷ ts) fate fate_after w w' less (f, is, happens, rest) =
+      let early = happens.early in (
+        f,
+        is,
+        record { next = happens.next; early = omega (arith, less, early); was_done = happens.was_done },
+        passes-later until later ts f fate_after t.after w' less rest,
+      )
 
-  pub follows_later : (until later : ℕ) (fate fate_after : F) (w w' : WorldState) (before after : List ℕ)
-      → until ≤ later → Follows answers until fate fate_after w w' before after
-      → Follows answers later fate fate_after w w' before after
-  follows_later until later fate fate_after w w' before after less follows = record {
-    told = follows.told;
-    advances = advances-later answers until later follows.told fate fate_after w w' less follows.advances;
-    lines = follows.lines;
-    shows = follows.shows;
-    is = follows.is;
-  }
+  -- acts by what was told of them, with the worlds between them
+  pub record HasWorlds (until : ℕ) (told : List Told) (fate fate_after : F) (w w' : WorldState) : Type 0 where
+    pub ts : List Transition
+    pub passes : Passes answers until ts fate fate_after w w'
+
+  pub with_worlds : (until : ℕ) (told : List Told) (fate fate_after : F) (w w' : WorldState)
+      → Advances answers until told fate fate_after w w' → HasWorlds until told fate fate_after w w'
+  with_worlds until [] fate fate_after w w' none = record { ts = []; passes = none }
+  with_worlds until (one ∷ told) fate fate_after w w' (drawn, between, happens, rest) =
+      let more = with_worlds until told drawn fate_after between w' rest in record {
+        ts = record { told = one; before = w; after = between } ∷ more.ts;
+        passes = (drawn, refl, happens, more.passes);
+      }
 
   -- what goes on up to a time was no later before
-  starts_ahead : (until : ℕ) (told : List Told) (fate fate_after : F) (w w' : WorldState)
-      → Advances answers until told fate fate_after w w' → w'.time ≤ until → w.time ≤ until
+  starts_ahead : (until : ℕ) (ts : List Transition) (fate fate_after : F) (w w' : WorldState)
+      → Passes answers until ts fate fate_after w w' → w'.time ≤ until → w.time ≤ until
   starts_ahead until [] fate fate_after w w' (same, is) ahead = subst (λ (x : WorldState). x.time ≤ until) is ahead
-  starts_ahead until (t ∷ ts) fate fate_after w w' (f, x, happens, rest) ahead =
+  starts_ahead until (t ∷ ts) fate fate_after w w' (f, is, happens, rest) ahead =
       let now = happens.was_done.ready.timely.now in let early = happens.early in
       omega (arith, now, early)
 
-  -- It went on with its lines, until nothing was left, and then to its time without any act.
-  pub goes_on_shown : (until : ℕ) (fate drawn fate_after : F) (w between w' : WorldState) (before after : List ℕ)
-      (told : List Told) → Follows answers until fate drawn w between before after
+-- ---- acts and what is told of them
+
+module _ {F O : Type 0} (answers : Bounds → ℕ → F → Option ℕ → F → Type 0)
+    (tells : Told → WorldState → O → O → List (List ℕ) → Type 0) where
+  -- no act
+  pub follows_none : (until : ℕ) (fate : F) (w : WorldState) (o : O) (So : List ℕ → Type 0) → So []
+      → Follows answers tells until fate fate w w o o So
+  follows_none until fate w o So so =
+      record { ts = []; passes = (refl, refl); observed = observed_none tells o So so }
+
+  -- one act
+  pub follows_one : (until : ℕ) (timed : Timed) (done : Done) (fate fate_after : F) (w w' : WorldState) (o o_after : O)
+      (So : List ℕ → Type 0) → Happens answers until (record { timed = timed; done = done }) fate fate_after w w'
+      → TellsAct tells (record { timed = timed; done = done }) w' o o_after So
+      → Follows answers tells until fate fate_after w w' o o_after So
+  follows_one until timed done fate fate_after w w' o o_after So happens told = record {
+    ts = transition timed done w w' ∷ [];
+    passes = (fate_after, refl, happens, (refl, refl));
+    observed = observed_one tells (transition timed done w w') o o_after So told;
+  }
+
+  pub follows_so : (until : ℕ) (fate fate_after : F) (w w' : WorldState) (o o_after : O) (So More : List ℕ → Type 0)
+      → ((text : List ℕ) → So text → More text) → Follows answers tells until fate fate_after w w' o o_after So
+      → Follows answers tells until fate fate_after w w' o o_after More
+  follows_so until fate fate_after w w' o o_after So More more follows = record {
+    ts = follows.ts;
+    passes = follows.passes;
+    observed = observed_so tells follows.ts o o_after So More more follows.observed;
+  }
+
+  pub follows_more : (until : ℕ) (fate drawn fate_after : F) (w between w' : WorldState) (o mid o_after : O)
+      (First Second Both : List ℕ → Type 0)
+      → ((first second : List ℕ) → First first → Second second → Both (first ++ second))
+      → Follows answers tells until fate drawn w between o mid First
+      → Follows answers tells until drawn fate_after between w' mid o_after Second
+      → Follows answers tells until fate fate_after w w' o o_after Both
+  follows_more until fate drawn fate_after w between w' o mid o_after First Second Both both front back = record {
+    ts = front.ts ++ back.ts;
+    passes = passes-append answers until front.ts back.ts fate drawn fate_after w between w' front.passes back.passes;
+    observed = observed_more tells front.ts back.ts o mid o_after First Second Both both front.observed back.observed;
+  }
+
+  pub follows_later : (until later : ℕ) (fate fate_after : F) (w w' : WorldState) (o o_after : O) (So : List ℕ → Type 0)
+      → until ≤ later → Follows answers tells until fate fate_after w w' o o_after So
+      → Follows answers tells later fate fate_after w w' o o_after So
+  follows_later until later fate fate_after w w' o o_after So less follows = record {
+    ts = follows.ts;
+    passes = passes-later answers until later follows.ts fate fate_after w w' less follows.passes;
+    observed = follows.observed;
+  }
+
+  -- It went on before its observer, until nothing was left, and then to its time without any act.
+  pub goes_on_seen : (until : ℕ) (fate drawn fate_after : F) (w between w' : WorldState) (o o_after : O)
+      (So : List ℕ → Type 0) (told : List Told) → Follows answers tells until fate drawn w between o o_after So
       → NothingBefore (until + 1) between.net.pending → Advanced answers until told drawn fate_after between w'
-      → (all : List Told) × Advanced answers until all fate fate_after w w' × Showed true all before after
-  goes_on_shown until fate drawn fate_after w between w' before after told follows none advanced =
+      → PassesSeen answers tells until fate fate_after w w' o o_after So
+  goes_on_seen until fate drawn fate_after w between w' o o_after So told follows none advanced =
       let stayed = nothing_happens answers until told drawn fate_after between advanced.between none
       advanced.advances in
-      let fate_is : fate_after ≡ drawn = stayed.fate_is in (
-        follows.told,
-        record {
-          ahead = starts_ahead until follows.told fate drawn w between follows.advances advanced.ahead;
+      let fate_is : fate_after ≡ drawn = stayed.fate_is in record {
+        ts = follows.ts;
+        passes = record {
+          ahead = starts_ahead answers until follows.ts fate drawn w between follows.passes advanced.ahead;
           between = between;
-          advances = subst (λ f. Advances answers until follows.told fate f w between) (sym fate_is) follows.advances;
+          passes = subst (λ f. Passes answers until follows.ts fate f w between) (sym fate_is) follows.passes;
           nothing_left = none;
           is = subst (λ x. w' ≡ at until x) stayed.is advanced.is;
-        },
-        record { lines = follows.lines; shows = follows.shows; is = follows.is },
-      )
+        };
+        observed = follows.observed;
+      }
+
+  -- so it went before one that asks to see nothing
+  pub goes_on_unseen : (until : ℕ) (fate fate_after : F) (w w' : WorldState) (o : O) (So : List ℕ → Type 0)
+      (told : List Told) → TellsNothing tells o → Advanced answers until told fate fate_after w w' → So []
+      → PassesSeen answers tells until fate fate_after w w' o o So
+  goes_on_unseen until fate fate_after w w' o So told nothing advanced so =
+      let worlds = with_worlds answers until told fate fate_after w advanced.between advanced.advances in record {
+        ts = worlds.ts;
+        passes = record {
+          ahead = advanced.ahead;
+          between = advanced.between;
+          passes = worlds.passes;
+          nothing_left = advanced.nothing_left;
+          is = advanced.is;
+        };
+        observed = record { lines = []; are = tells_nothing tells o nothing worlds.ts; so = so };
+      }
+
+  -- ---- where it breaks off
+
+  pub breaks_seen : (until : ℕ) (fate fate_after : F) (w w' : WorldState) (o o_after : O) (So : List ℕ → Type 0)
+      → Follows answers tells until fate fate_after w w' o o_after So → BreaksSeen answers tells until fate w o So
+  breaks_seen until fate fate_after w w' o o_after So follows = record {
+    ts = follows.ts;
+    o_after = o_after;
+    breaks = record { fate_after = fate_after; after = w'; passes = follows.passes };
+    observed = follows.observed;
+  }
+
+  pub breaks_unseen : (until : ℕ) (fate fate_after : F) (w w' : WorldState) (o : O) (So : List ℕ → Type 0)
+      → TellsNothing tells o → Stopped answers until fate fate_after w w' → So []
+      → BreaksSeen answers tells until fate w o So
+  breaks_unseen until fate fate_after w w' o So nothing stopped so =
+      let worlds = with_worlds answers until stopped.told fate fate_after w w' stopped.advances in record {
+        ts = worlds.ts;
+        o_after = o;
+        breaks = record { fate_after = fate_after; after = w'; passes = worlds.passes };
+        observed = record { lines = []; are = tells_nothing tells o nothing worlds.ts; so = so };
+      }

@@ -10,6 +10,12 @@ use Rattle.gptp_spelling.specs.Lines.{text_of}
 one_line : (lines : List (List ℕ)) (line : List ℕ) → text_of lines ++ (line ++ 10 ∷ []) ≡ text_of (lines ++ line ∷ [])
 one_line lines line = rw (flat_map-append, append-nil) refl
 
+-- a line behind nothing is a text
+pub line_alone : (line before text : List ℕ) → before ≡ [] → text ≡ before ++ (line ++ 10 ∷ [])
+    → text ≡ text_of (line ∷ [])
+line_alone line before text none is =
+    is ∙ ap (λ t. t ++ (line ++ 10 ∷ [])) none ∙ sym (append-nil (line ++ 10 ∷ []))
+
 -- the lines of the numbers below the next, and then its own
 pub next_line : (line : ℕ → List ℕ) (before text after : List ℕ) (next : ℕ) → 1 ≤ next
     → text ≡ before ++ text_of (map line (range_with_len 1 (next - 1)))

@@ -1,30 +1,68 @@
--- A world that goes on, and the lines that are written meanwhile.
-use Rattle.std.specs.Prelude.{◌≡◌, ℕ, Bool, true, false, List, ◌++◌, [], Option}
+-- A world that goes on before an observer, and what is told meanwhile.
+use Rattle.std.specs.Prelude.{◌≡◌, ◌⊎◌, ℕ, Bool, true, false, List, [], Option}
 use Rattle.gptp_links.specs.declared.bounds.Bounds.{Bounds}
 use Rattle.gptp_plan.specs.declared.change.Timed.{Timed}
-use Rattle.gptp_acts.specs.Advancing.{Advances, Told}
+use Rattle.gptp_acts.specs.declared.done.Done.{Done}
+use Rattle.gptp_acts.specs.Advancing.{Told}
 use Rattle.gptp_acts.specs.World.{WorldState}
 use Rattle.gptp_spelling.specs.Lines.{text_of}
-use Rattle.gptp_report.specs.Run.{Changed, ShowsFrames, ShowsIf}
+use Rattle.gptp_report.specs.declared.frames.Frames.{Frames}
+use Rattle.gptp_report.specs.Observing.{Observed}
+use Rattle.gptp_report.specs.Run.{ShowsDone}
+use Rattle.gptp_report.specs.Transitions.{Breaks, Makes, Passes, PassesTo, Transition}
 
--- Acts were done, each the next that was pending then, none later than a time, and the lines of their frames were
--- written.
-pub record Follows {F : Type 0} (answers : Bounds → ℕ → F → Option ℕ → F → Type 0) (until : ℕ) (fate fate_after : F)
-    (w w' : WorldState) (before after : List ℕ) : Type 0 where
-  pub told : List Told
-  pub advances : Advances answers until told fate fate_after w w'
-  pub lines : List (List ℕ)
-  pub shows : ShowsFrames told lines
-  pub is : after ≡ before ++ text_of lines
+-- ---- before any observer
 
--- The lines of what was told were written, where they are asked for.
-pub record Showed (frames : Bool) (told : List Told) (before after : List ℕ) : Type 0 where
-  pub lines : List (List ℕ)
-  pub shows : ShowsIf frames told lines
-  pub is : after ≡ before ++ text_of lines
+-- Acts were done, each the next that was pending then, none later than a time, and this is so of the text that an
+-- observer told of them.
+pub record Follows {F O : Type 0} (answers : Bounds → ℕ → F → Option ℕ → F → Type 0)
+    (tells : Told → WorldState → O → O → List (List ℕ) → Type 0) (until : ℕ) (fate fate_after : F) (w w' : WorldState)
+    (o o_after : O) (So : List ℕ → Type 0) : Type 0 where
+  pub ts : List Transition
+  pub passes : Passes answers until ts fate fate_after w w'
+  pub observed : Observed tells ts o o_after So
 
--- an event was made, if it was due; otherwise nothing happened
-abbrev pub ChangedIf : {F : Type 0} → (Bounds → ℕ → F → Option ℕ → F → Type 0) → Bool → Timed → List Told → F → F
+-- so it went on to a time
+pub record PassesSeen {F O : Type 0} (answers : Bounds → ℕ → F → Option ℕ → F → Type 0)
+    (tells : Told → WorldState → O → O → List (List ℕ) → Type 0) (until : ℕ) (fate fate_after : F) (w w' : WorldState)
+    (o o_after : O) (So : List ℕ → Type 0) : Type 0 where
+  pub ts : List Transition
+  pub passes : PassesTo answers until ts fate fate_after w w'
+  pub observed : Observed tells ts o o_after So
+
+-- or broke off on its way there
+pub record BreaksSeen {F O : Type 0} (answers : Bounds → ℕ → F → Option ℕ → F → Type 0)
+    (tells : Told → WorldState → O → O → List (List ℕ) → Type 0) (until : ℕ) (fate : F) (w : WorldState) (o : O)
+    (So : List ℕ → Type 0) : Type 0 where
+  pub ts : List Transition
+  pub o_after : O
+  pub breaks : Breaks answers until ts fate w
+  pub observed : Observed tells ts o o_after So
+
+-- An event was made, if it was due; otherwise nothing happened.
+abbrev pub MakesIf : {F : Type 0} → (Bounds → ℕ → F → Option ℕ → F → Type 0) → Bool → Timed → List Transition → F → F
     → WorldState → WorldState → Type 0
-ChangedIf answers true event told fate fate_after w w' = Changed answers event told fate fate_after w w'
-ChangedIf answers false event told fate fate_after w w' = (told ≡ []) × (fate_after ≡ fate) × (w' ≡ w)
+MakesIf answers true event ts fate fate_after w w' = Makes answers event ts fate fate_after w w'
+MakesIf answers false event ts fate fate_after w w' = (ts ≡ []) × (fate_after ≡ fate) × (w' ≡ w)
+
+-- it broke off before an event, or behind it
+abbrev pub BreaksAbout : {F : Type 0} → (Bounds → ℕ → F → Option ℕ → F → Type 0) → Timed → List Transition → F
+    → WorldState → Type 0
+BreaksAbout {F} answers event ts fate w =
+    Breaks answers event.at ts fate w
+    ⊎ ((fate_after : F) × (w' : WorldState) × Makes answers event ts fate fate_after w w')
+
+-- ---- before one that writes the lines of frames
+
+-- where they are asked for
+abbrev pub ShowsDoneIf : Bool → ℕ → Done → List (List ℕ) → Type 0
+ShowsDoneIf true at done lines = ShowsDone at done lines
+ShowsDoneIf false at done lines = lines ≡ []
+
+-- what such an observer tells of an act; it stays as it is
+abbrev pub tells_frames : Told → WorldState → Frames → Frames → List (List ℕ) → Type 0
+tells_frames told w o o_after lines = (o_after ≡ o) × ShowsDoneIf o.asked told.timed.at told.done lines
+
+-- this is so of the text of what an act shows: that it was written, or some of it
+abbrev pub ShowsAct : ℕ → Done → (List ℕ → Type 0) → Type 0
+ShowsAct at done So = (lines : List (List ℕ)) × ShowsDone at done lines × So (text_of lines)

@@ -1,12 +1,12 @@
 -- What a document does up to a time, and the lines of the frames meanwhile (profile).
-use Rattle.std.specs.Prelude.{◌≡◌, ℕ, Bool, true, false, List, [], ◌∷◌, ◌++◌, Option}
+use Rattle.std.specs.Prelude.{◌≡◌, ◌⊎◌, ℕ, Bool, true, false, List, [], ◌∷◌, ◌++◌, Option}
 use Rattle.gptp_links.specs.declared.bounds.Bounds.{Bounds}
 use Rattle.gptp_network.specs.Document.{DocumentState}
 use Rattle.gptp_network.specs.Snapshot.{events_by}
 use Rattle.gptp_plan.specs.declared.change.Timed.{Timed}
 use Rattle.gptp_acts.specs.declared.done.Done.{Done}
 use Rattle.gptp_acts.specs.declared.done.Done.TheVariants.{Quiet, Heard}
-use Rattle.gptp_acts.specs.Advancing.{Advanced, Told}
+use Rattle.gptp_acts.specs.Advancing.{Advanced, Advances, Told}
 use Rattle.gptp_acts.specs.Course.{Begun, WasDone}
 use Rattle.gptp_acts.specs.World.{WorldState}
 use Rattle.gptp_report.specs.declared.frame_line.FrameType.{FrameType}
@@ -61,4 +61,35 @@ pub record LeadsTo {F : Type 0} (answers : Bounds → ℕ → F → Option ℕ �
     (frames : Bool) (fate : F) (w : WorldState) (lines : List (List ℕ)) : Type 0 where
   pub told : List Told
   pub plays : Plays answers d until fate told w
+  pub shows : ShowsIf frames told lines
+
+-- ---- as far as it gets
+
+-- Acts were done, each the next that was pending then, none later than a time. This was told of them; then it broke
+-- off.
+pub record BreaksOff {F : Type 0} (answers : Bounds → ℕ → F → Option ℕ → F → Type 0) (until : ℕ) (told : List Told)
+    (fate : F) (w : WorldState) : Type 0 where
+  pub fate_after : F
+  pub after : WorldState
+  pub advances : Advances answers until told fate fate_after w after
+
+-- Some of the changes are made, one after another, and behind them it breaks off. This is told until then.
+abbrev pub GoesSoFar : {F : Type 0} → (Bounds → ℕ → F → Option ℕ → F → Type 0) → ℕ → List Timed → List Told → F
+    → WorldState → Type 0
+GoesSoFar answers until [] told fate w = BreaksOff answers until told fate w
+GoesSoFar {F} answers until (event ∷ events) told fate w =
+    BreaksOff answers event.at told fate w
+    ⊎ ((first : List Told) × (rest : List Told) × (drawn : F) × (between : WorldState)
+    × Changed answers event first fate drawn w between × GoesSoFar answers until events rest drawn between
+    × (told ≡ first ++ rest))
+
+-- The world of a document begins and goes on until it breaks off, and these are the lines of the frames until then,
+-- where they are asked for.
+pub record LeadsSoFar {F : Type 0} (answers : Bounds → ℕ → F → Option ℕ → F → Type 0) (d : DocumentState) (until : ℕ)
+    (frames : Bool) (fate : F) (lines : List (List ℕ)) : Type 0 where
+  pub told : List Told
+  pub started : F
+  pub start : WorldState
+  pub begun : Begun answers d.network fate started start
+  pub goes : GoesSoFar answers until (events_by until d.events) told started start
   pub shows : ShowsIf frames told lines

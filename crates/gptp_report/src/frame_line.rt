@@ -1,13 +1,19 @@
 //! The line of a frame that reached a port.
 
-ghost use Rattle.std.specs.Prelude.{◌≡◌, List, ℕ, [], ◌∷◌, ◌++◌, OnOk, string_bytes};
+ghost use Rattle.std.specs.Prelude.{◌≡◌, ◌≢◌, [], ◌∷◌, ◌++◌, OnOk, string_bytes};
+ghost use Rattle.std.specs.Io.KnownBytes.{Appends};
+ghost use Rattle.gptp_spelling.specs.Lines.{text_of};
 ghost use Rattle.gptp_report.specs.FrameLine.{IsOfType, frame_line, refusal_number, type_of};
+ghost use Rattle.gptp_report.specs.Sink.{AppendsSome};
 
+use crate::cut::Cut;
+use crate::sink::Sink;
+use crate::writing::write_whole;
 use gptp_messages::{Message, Refused, decode};
 use gptp_spelling::{ClockDigits, OctetDigits};
 use gptp_system::Answer;
 use gptp_vector::ClockId;
-use std::alloc::AllocError;
+use std::alloc::{AllocError, Global};
 use std::fmt;
 
 /// What a frame is, by its octets alone.
@@ -107,27 +113,52 @@ impl fmt::Display for AnswerWord {
     }
 }
 
-/// Appends the line of a frame that reached a port: `at` is when, in ns; `clock` and `port` are those of the system
-/// that it reached; `answer` is what became of it there, `None` where that system had failed. The only error is that
-/// memory ran out; what is appended then may be cut.
-pub fn write_frame_line(
+/// Appends the line of a frame of this type.
+fn append_frame_line(
     text: &mut String,
+    at: u64,
+    clock: ClockId,
+    port: u16,
+    kind: FrameType,
+    answer: Option<Answer>,
+    frame: &[u8],
+) -> Result<(), AllocError>
+    ensures { OnOk result (string_bytes text.new
+        ≡ string_bytes text.old ++ (frame_line at clock port kind answer frame.now ++ 10 ∷ [])) }
+{
+    writeln!(
+        text,
+        "frame {at} {} {port} {kind} {} {}",
+        ClockDigits(clock),
+        AnswerWord(answer),
+        OctetDigits(frame)
+    )
+}
+
+/// Writes the line of a frame that reached a port: `at` is when, in ns; `clock` and `port` are those of the system that
+/// it reached; `answer` is what became of it there, `None` where that system had failed. After an error a front of the
+/// line stands written, which may be none of it or all.
+pub fn write_frame_line<K: Sink>(
+    alloc: Global,
+    sink: &mut K,
     at: u64,
     clock: ClockId,
     port: u16,
     answer: Option<Answer>,
     frame: &[u8],
-) -> Result<(), AllocError>
-    ensures line { OnOk result ((kind : FrameType) × IsOfType frame.now kind
-        × (string_bytes text.new
-        ≡ string_bytes text.old ++ (frame_line at clock port kind answer frame.now ++ 10 ∷ []))) }
+) -> Result<(), Cut>
+    ensures some { (kind : FrameType) × IsOfType frame.now kind
+        × AppendsSome (K.written sink.old) (K.written sink.new)
+        (text_of (frame_line at clock port kind answer frame.now ∷ [])) }
+    ensures whole { OnOk result ((kind : FrameType) × IsOfType frame.now kind
+        × Appends (K.written sink.old) (K.written sink.new)
+        (text_of (frame_line at clock port kind answer frame.now ∷ []))) }
+    ensures works { result ≢ Err Cut.Write → K.failures sink.new ≡ K.failures sink.old }
+    ensures fails { result ≡ Err Cut.Write → K.failures sink.new ≢ K.failures sink.old }
 {
-    writeln!(
-        text,
-        "frame {at} {} {port} {} {} {}",
-        ClockDigits(clock),
-        type_of(frame),
-        AnswerWord(answer),
-        OctetDigits(frame)
-    )
+    let kind = type_of(frame);
+    let mut line = String::new(alloc);
+    append_frame_line(&mut line, at, clock, port, kind, answer, frame)?;
+    write_whole(sink, line.as_bytes())?;
+    Ok(())
 }

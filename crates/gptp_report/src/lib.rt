@@ -4,17 +4,27 @@
 //! Numbers are decimal; clocks, identities and frames are hexadecimal, with lower-case letters; what is absent is
 //! `none`. A call appends whole lines to a text.
 //!
-//! [`run_document`] leads the world of a document through its events up to a time: `specs/Run.antt` says what that is.
+//! [`begin`] makes the world of a document, and [`play`] lets it go on with its events up to a time before an
+//! [`Observer`], which sees each act as it was done and writes its lines (`specs/Transitions.antt`). [`run_document`] is
+//! that with the lines of frames: `specs/Run.antt` says what it leads to.
 //! [`write_report`] tells of a world, by `specs/Report.antt`.
 #![tactic(auto)]
 
+mod cut;
 mod following;
 mod frame_line;
+mod frames;
+mod observer;
 mod report;
 mod run;
+pub mod sink;
 mod system_lines;
+mod writing;
 
+pub use cut::Cut;
 pub use frame_line::{AnswerWord, FrameType, type_of, write_frame_line};
+pub use observer::Observer;
 pub use report::write_report;
-pub use run::run_document;
+pub use run::{begin, play, run_document};
 pub use system_lines::{write_failed, write_system};
+pub use writing::write_whole;

@@ -1,109 +1,166 @@
 //! Runs of documents.
 
-ghost use Rattle.std.specs.Prelude.{◌≡◌, ◌++◌, ◌≤◌, ℕ, List, IfOk, OnOk, nat_le, string_bytes};
-ghost use Rattle.gptp_acts.specs.Advancing.{Told};
+ghost use Rattle.std.specs.Prelude.{◌≡◌, ◌≢◌, ◌⊎◌, ◌≤◌, [], true, List, ℕ, IfOk, OnErr, OnOk, nat_le};
+ghost use Rattle.std.specs.Io.KnownBytes.{Appends};
+ghost use Rattle.gptp_acts.specs.Course.{Begun, WasDone};
 ghost use Rattle.gptp_plan.specs.Allowed.{AreAllowed, IsAllowed};
-ghost use Rattle.gptp_acts.specs.Playing.{IsPlayed};
 ghost use Rattle.gptp_acts.specs.Prompt.{ArePromptIn, IsPromptIn};
-ghost use Rattle.gptp_report.specs.Following.{ChangedIf, Showed};
+ghost use Rattle.gptp_report.specs.Following.{BreaksAbout, MakesIf};
+ghost use Rattle.gptp_report.specs.Observing.{Observed};
 ghost use Rattle.gptp_spelling.specs.Lines.{text_of};
 ghost use Rattle.gptp_network.specs.Snapshot.{events_by};
-ghost use Rattle.gptp_report.specs.Run.{Changed, Goes, LeadsTo};
+ghost use Rattle.gptp_report.specs.Run.{LeadsSoFar, LeadsTo};
+ghost use Rattle.gptp_report.specs.Sink.{AppendsSome};
+ghost use Rattle.gptp_report.specs.Transitions.{Courses, CoursesSoFar, Makes, Transition};
 
-use crate::following::go_on;
+use crate::cut::Cut;
+use crate::following::{done_of, go_on};
+use crate::frames::Frames;
+use crate::observer::Observer;
+use crate::sink::Sink;
 use gptp_links::Fate;
 use gptp_network::Document;
 use gptp_world::{Timed, World};
 use std::alloc::{AllocError, Global};
 
-/// An event is made at its time.
-fn change<F: Fate + Drop>(world: &mut World<F>, event: Timed) -> Result<(), AllocError>
-    requires allowed { IsAllowed event }
-    requires prompt { IsPromptIn world.old.scene event.act }
-    ensures { OnOk result (IsPlayed F.answers event world.old.fate world.new.fate world.old.scene world.new.scene) }
-{
-    match world.act(event) {
-        Ok(_) => Ok(()),
-        // nothing is due before it, and what it is about is there
-        Err(_) => Err(AllocError),
-    }
-}
-
 /// The world goes on up to the time of an event, which is then made.
-fn make<F: Fate + Drop>(
+fn make<F: Fate + Drop, O: Observer, K: Sink>(
+    alloc: Global,
     world: &mut World<F>,
-    event: Timed,
-    frames: bool,
-    text: &mut String,
-) -> Result<(), AllocError>
-    requires allowed { IsAllowed event }
-    requires prompt { IsPromptIn world.old.scene event.act }
-    ensures { OnOk result ((told : List Told) × Changed F.answers event told world.old.fate world.new.fate world.old.scene world.new.scene × Showed frames told (string_bytes text.old) (string_bytes text.new)) }
+    event: &Timed,
+    observer: &mut O,
+    sink: &mut K,
+) -> Result<(), Cut>
+    requires allowed { IsAllowed event.now }
+    requires prompt { IsPromptIn world.old.scene event.now.act }
+    ensures made { OnOk result ((ts : List Transition)
+        × Makes F.answers event.now ts world.old.fate world.new.fate world.old.scene world.new.scene
+        × Observed O.tells ts observer.old observer.new (Appends (K.written sink.old) (K.written sink.new))) }
+    ensures broken { OnErr result ((ts : List Transition) × (o_after : O)
+        × BreaksAbout F.answers event.now ts world.old.fate world.old.scene
+        × Observed O.tells ts observer.old o_after (AppendsSome (K.written sink.old) (K.written sink.new))) }
+    ensures works { result ≢ Err Cut.Write → K.failures sink.new ≡ K.failures sink.old }
+    ensures fails { result ≡ Err Cut.Write → K.failures sink.new ≢ K.failures sink.old }
 {
     world.well_formed();
-    go_on(world, event.at, frames, text)?;
-    change(world, event)
+    go_on(alloc, world, event.at, observer, sink)?;
+    let done = done_of(world, event)?;
+    observer.observe(alloc, world, event, &done, sink)
 }
 
 /// So it is made where it is due by the end.
-fn make_if_due<F: Fate + Drop>(
+fn make_if_due<F: Fate + Drop, O: Observer, K: Sink>(
+    alloc: Global,
     world: &mut World<F>,
-    event: Timed,
+    event: &Timed,
     until: u64,
-    frames: bool,
-    text: &mut String,
-) -> Result<(), AllocError>
-    requires allowed { IsAllowed event }
-    requires prompt { IsPromptIn world.old.scene event.act }
-    ensures { OnOk result ((told : List Told) × ChangedIf F.answers (nat_le event.at until) event told world.old.fate world.new.fate world.old.scene world.new.scene × Showed frames told (string_bytes text.old) (string_bytes text.new)) }
+    observer: &mut O,
+    sink: &mut K,
+) -> Result<(), Cut>
+    requires allowed { IsAllowed event.now }
+    requires prompt { IsPromptIn world.old.scene event.now.act }
+    ensures made { OnOk result ((ts : List Transition) × MakesIf F.answers (nat_le event.now.at until) event.now ts
+        world.old.fate world.new.fate world.old.scene world.new.scene
+        × Observed O.tells ts observer.old observer.new (Appends (K.written sink.old) (K.written sink.new))) }
+    ensures due { OnErr result (nat_le event.now.at until ≡ true) }
+    ensures broken { OnErr result ((ts : List Transition) × (o_after : O)
+        × BreaksAbout F.answers event.now ts world.old.fate world.old.scene
+        × Observed O.tells ts observer.old o_after (AppendsSome (K.written sink.old) (K.written sink.new))) }
+    ensures works { result ≢ Err Cut.Write → K.failures sink.new ≡ K.failures sink.old }
+    ensures fails { result ≡ Err Cut.Write → K.failures sink.new ≢ K.failures sink.old }
 {
     match event.at <= until {
-        true => make(world, event, frames, text),
+        true => make(alloc, world, event, observer, sink),
         false => Ok(()),
     }
 }
 
-/// The world goes on up to a time, with the events up to then.
-fn play<F: Fate + Drop>(
+/// The world goes on up to a time, at most 10^15 ns, with the events up to then, before an observer, which sees each act as
+/// it was done: each that is due by the time of an event before that, the event, and what is due by the end behind the
+/// last.
+///
+/// Errors: [`Cut::Write`] exactly where a write failed, after which nothing more happens; [`Cut::Memory`] where the observer
+/// says so or an act was refused, which is meant to be for want of memory alone; that it is so isn't promised. What the
+/// observer told until then stands written, or a front of it.
+pub fn play<F: Fate + Drop, O: Observer, K: Sink>(
+    alloc: Global,
     world: &mut World<F>,
     events: &[Timed],
     until: u64,
-    frames: bool,
-    text: &mut String,
-) -> Result<(), AllocError>
+    observer: &mut O,
+    sink: &mut K,
+) -> Result<(), Cut>
     requires events { AreAllowed events.now }
     requires prompt { ArePromptIn world.old.scene events.now }
     requires moment { until ≤ 1000000000000000 }
-    ensures { OnOk result ((told : List Told) × Goes F.answers until (events_by until events.now) told world.old.fate world.new.fate world.old.scene world.new.scene × Showed frames told (string_bytes text.old) (string_bytes text.new)) }
+    ensures played { OnOk result ((ts : List Transition) × Courses F.answers until (events_by until events.now) ts
+        world.old.fate world.new.fate world.old.scene world.new.scene
+        × Observed O.tells ts observer.old observer.new (Appends (K.written sink.old) (K.written sink.new))) }
+    ensures broken { OnErr result ((ts : List Transition) × (o_after : O)
+        × CoursesSoFar F.answers until (events_by until events.now) ts world.old.fate world.old.scene
+        × Observed O.tells ts observer.old o_after (AppendsSome (K.written sink.old) (K.written sink.new))) }
+    ensures works { result ≢ Err Cut.Write → K.failures sink.new ≡ K.failures sink.old }
+    ensures fails { result ≡ Err Cut.Write → K.failures sink.new ≢ K.failures sink.old }
 {
     for place in 0..events.len() {
         world.well_formed();
-        make_if_due(world, events[place], until, frames, text)?;
+        make_if_due(alloc, world, &events[place], until, observer, sink)?;
     }
-    go_on(world, until, frames, text)
+    go_on(alloc, world, until, observer, sink)
+}
+
+/// The world of a document at time 0: all its systems have started, and it can be asked for each event of the document.
+/// Refused for want of memory alone.
+pub fn begin<F: Fate + Drop>(
+    alloc: Global,
+    document: &Document,
+    fate: F,
+) -> Result<World<F>, AllocError>
+    ensures begun { IfOk result (λ world. Begun F.answers document.now.network fate world.fate world.scene) }
+    ensures allowed { AreAllowed document.now.events }
+    ensures prompt { IfOk result (λ world. ArePromptIn world.scene document.now.events) }
+{
+    document.well_formed();
+    let network = document.network();
+    network.well_formed();
+    World::new(alloc, network, fate)
 }
 
 /// The world of a document as it is at a time, at most 10^15 ns: it begins at time 0, and goes on with the events of the
 /// document up to then. All that is due by the time of an event happens before it. Where frames are asked for, a line is
-/// appended to the text for each frame that reached a port, in order of delivery.
+/// written for each frame that reached a port, as it does.
 ///
-/// The error is that an act was refused, which is meant to be for want of memory alone; that it is so isn't promised. What
-/// is appended then may be cut.
-pub fn run_document<F: Fate + Drop>(
+/// Errors: [`Cut::Write`] exactly where a write failed, after which nothing more happens; [`Cut::Memory`] where an act was
+/// refused, which is meant to be for want of memory alone; that it is so isn't promised. The lines of the frames until
+/// then stand written, or a front of them.
+pub fn run_document<F: Fate + Drop, K: Sink>(
     alloc: Global,
     document: &Document,
     fate: F,
     until: u64,
     frames: bool,
-    text: &mut String,
-) -> Result<World<F>, AllocError>
+    sink: &mut K,
+) -> Result<World<F>, Cut>
     requires moment { until ≤ 1000000000000000 }
-    ensures { IfOk result (λ world. (lines : List (List ℕ)) × LeadsTo F.answers document.now until frames fate world.scene lines × (string_bytes text.new ≡ string_bytes text.old ++ text_of lines)) }
+    ensures led { IfOk result (λ world. (lines : List (List ℕ))
+        × LeadsTo F.answers document.now until frames fate world.scene lines
+        × Appends (K.written sink.old) (K.written sink.new) (text_of lines)) }
+    ensures broken { OnErr result ((lines : List (List ℕ))
+        × ((lines ≡ []) ⊎ LeadsSoFar F.answers document.now until frames fate lines)
+        × AppendsSome (K.written sink.old) (K.written sink.new) (text_of lines)) }
+    ensures works { result ≢ Err Cut.Write → K.failures sink.new ≡ K.failures sink.old }
+    ensures fails { result ≡ Err Cut.Write → K.failures sink.new ≢ K.failures sink.old }
 {
     document.well_formed();
-    let network = document.network();
-    network.well_formed();
-    let mut world = World::new(alloc, network, fate)?;
-    play(&mut world, document.events(), until, frames, text)?;
+    let mut world = begin(alloc, document, fate)?;
+    let mut observer = Frames { asked: frames };
+    play(
+        alloc,
+        &mut world,
+        document.events(),
+        until,
+        &mut observer,
+        sink,
+    )?;
     Ok(world)
 }

@@ -1,9 +1,12 @@
 //! Systems that a test drives by hand: it says which of them gets what, and when. Times are in ns.
 
-ghost use Rattle.std.specs.Prelude.{◌≡◌, [], true};
+ghost use Rattle.std.specs.Prelude.{◌≡◌, ◌≤◌, [], length, pos, true};
+ghost use Rattle.std.specs.List.{AllByRecursion};
+ghost use Rattle.gptp_setup.specs.Intervals.{IsLogUpTo};
 ghost use Rattle.gptp_system.specs.Steps.{IsPortOf, IsTimerOf};
 
 use crate::same::same_at;
+use arrayvec::ArrayVec;
 use gptp_messages::{FollowUp, Message, PdelayResp, PdelayRespFollowUp, encode, encode_announce};
 use gptp_samples::identity;
 use gptp_system::{Answer, Body, Outbox, Params, Sending, Setup, System, Timer};
@@ -66,6 +69,19 @@ impl Kind {
     }
 }
 
+/// The same announce interval for so many ports.
+fn alike(ports: u8) -> ArrayVec<i8, 16>
+    requires { ports ≤ 16 }
+    ensures many { length result.items ≡ ports }
+    ensures each { AllByRecursion (IsLogUpTo (pos 0)) result.items }
+{
+    let mut intervals = ArrayVec::new();
+    for _port in 0..ports {
+        intervals.push(DEFAULTS.announce);
+    }
+    intervals
+}
+
 /// A system that starts at 0, of a clock with all defaults but these.
 pub fn started(clock: u64, ports: u8, phase: u64, lost: u8) -> Result<System, Fail> {
     if ports > 16 || phase > 1_000_000_000 || lost == 0 {
@@ -76,6 +92,8 @@ pub fn started(clock: u64, ports: u8, phase: u64, lost: u8) -> Result<System, Fa
         ports,
         phase,
         drift: 0,
+        intervals: alike(ports),
+        largest: DEFAULTS.announce,
         params: Params { lost, ..DEFAULTS },
     };
     Ok(System::new(setup, 0))

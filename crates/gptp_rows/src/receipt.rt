@@ -2,7 +2,7 @@
 
 use crate::frames::read;
 use crate::same::{same, same_at};
-use gptp_receipt::{Heard, Held, Reception, Why, age, due, hear, qualify};
+use gptp_receipt::{Heard, Held, Reception, Why, age, due, hear, qualify, span_of};
 use gptp_samples::{FIRST_ANNOUNCE, frame, identity, port, trace};
 use gptp_vector::{ClockId, Full, Identity, PortId, Trace, Vector};
 use std::process::Abort;
@@ -166,6 +166,33 @@ fn what_is_not_received_has_no_age(rt: HostRuntime) {
     }
 }
 
+/// The interval that was heard, if anything was.
+fn interval_heard(held: &Held) -> Option<i8> {
+    match held {
+        Held::Received(reception) => Some(reception.interval),
+        Held::Disabled | Held::Aged | Held::Mine { .. } => None,
+    }
+}
+
+#[test]
+fn what_is_received_stays_for_the_interval_that_was_heard(rt: HostRuntime) {
+    let cases = [
+        (0x00, 0, 3_000_000_000),
+        (0x80, -128, 187_500_000),
+        (0x7f, 127, 3_000_000_000),
+    ];
+    let mut held = Held::Aged;
+    same(&rt, span_of(&held, 3, 0), None);
+    for (octet, interval, span) in cases {
+        let mut frame = FIRST_ANNOUNCE;
+        frame[33] = octet;
+        heard(&rt, &mut held, &frame, 1);
+        same_at(&rt, &interval, interval_heard(&held), Some(interval));
+        same_at(&rt, &interval, interval_heard(&held.copy()), Some(interval));
+        same_at(&rt, &interval, span_of(&held, 3, 0), Some(span));
+    }
+}
+
 #[test]
 fn the_held_sender_is_heard_also_where_it_is_worse(rt: HostRuntime) -> Result<(), Fail> {
     let path = trace(&[1])?;
@@ -287,6 +314,7 @@ fn copies_hold_the_same(rt: HostRuntime) -> Result<(), Fail> {
     let received = Held::Received(Reception {
         vector: vector(root, 1, 2),
         path: trace(&[1, 2])?,
+        interval: 0,
         at: 8,
     });
     assert_received(

@@ -29,6 +29,7 @@ fn heard(receiver: u16, root: Identity, steps: u16, source: (u64, u16)) -> Held
             receiver,
         },
         path: path_of(source.0),
+        interval: 0,
         at: 0,
     })
 }

@@ -9,7 +9,7 @@ use Rattle.gptp_settling.specs.Touch.{Touch, Hear, Grow, Mid}
 use Rattle.gptp_settling.specs.Reacts.{IsKept, IsOwn, IsMasterAt, PortStep}
 use Rattle.gptp_settling.specs.Acts.{LaneStep, Calls}
 use Rattle.gptp_settling.specs.Stage.{Wiring, from_port, IsFinal, AllFinal, IsSaid, Stays, Stage}
-use Rattle.gptp_settling.specs.Link.{TellsSettled, HearsSettled, IsLaneOf, Ends, Stand, LinkSettles}
+use Rattle.gptp_settling.specs.Link.{TellsSettled, IsTeller, HearsSettled, IsLaneOf, Ends, Stand, LinkSettles}
 use Rattle.gptp_settling.proofs.PlaceLemmas.{same_mine}
 use Rattle.gptp_settling.proofs.StageLemmas.{enters, tells, keeps, hears, young}
 use Rattle.gptp_settling.proofs.HearingLemmas.{mid_stays, final_taken, mid_on, final_kept}
@@ -35,14 +35,15 @@ module _ (says : Says) (k : Wiring) (touch : Touch) (w w' : State) (call : Calls
       → says x.octets a → IsFinal k a
   sent_final x a at from said = go (call.reacts.tells x a at said)
     where
-      teller : call.s.clock ≡ k.teller
-      teller = ap (λ (p : PortIdentity). p.clock) (sym from)
+      clock : call.s.clock ≡ k.teller
+      clock = ap (λ (p : PortIdentity). p.clock) (sym from)
 
       go : IsOwn call.s' x.port a × IsMasterAt call.s' x.port → IsFinal k a
       go (own, (i, q, number, port, mine)) = record {
         root = own.root ∙ sym same.0;
         steps = own.steps ∙ sym same.1;
         source = source;
+        log = own.log k.teller_port q number' port' ∙ teller.log;
         qualified = record {
           foreign = λ e. ends.apart (ap (λ (p : PortIdentity). p.clock) (sym source) ∙ e);
           near = subst (λ n. n < 255) (same.1 ∙ sym own.steps) tells.near;
@@ -55,17 +56,22 @@ module _ (says : Says) (k : Wiring) (touch : Touch) (w w' : State) (call : Calls
           source = own.source ∙ (λ j. port_of (call.reacts.clock j) x.port) ∙ sym from
 
           here : slice_get w'.stations k.teller_place ≡ Some call.s'
-          here = subst (λ n. slice_get w'.stations n ≡ Some call.s') (answers_teller teller) call.there
+          here = subst (λ n. slice_get w'.stations n ≡ Some call.s') (answers_teller clock) call.there
 
-          place : i ≡ k.teller_port
-          place = suc_injective (sym number ∙ ap (λ (p : PortIdentity). p.port) (sym from))
+          number' : x.port ≡ suc k.teller_port
+          number' = ap (λ (p : PortIdentity). p.port) (sym from)
+
+          port' : slice_get call.s'.ports k.teller_port ≡ Some q
+          port' = subst (λ n. slice_get call.s'.ports n ≡ Some q) (suc_injective (sym number ∙ number')) port
             where
               suc_injective : {m n : ℕ} → suc m ≡ suc n → m ≡ n
               suc_injective e = omega arith
 
+          teller : IsTeller k w'.time call.s' q
+          teller = ends'.teller call.s' q here port'
+
           tells : TellsSettled k call.s' q
-          tells =
-              (ends'.teller call.s' q here (subst (λ n. slice_get call.s'.ports n ≡ Some q) place port)).settled since'
+          tells = teller.settled since'
 
           same : (k.root ≡ call.s'.root) × (k.steps ≡ call.s'.steps)
           same = same_mine k.root k.steps call.s'.root call.s'.steps (sym tells.mine ∙ mine)
@@ -203,7 +209,7 @@ module _ (says : Says) (k : Wiring) (touch : Touch) (w w' : State) (call : Calls
           young says k w.time pv.announce pu.held l.frames stays
           (timer_left stand.v pv stand.teller stand.teller_port)
           (λ f h. (ends.frames l f stand.lane h).left)
-          ((ends.hearer stand.u pu stand.hearer stand.hearer_port since).long stays.what stays.holds stays.came) in
+          ((ends.hearer stand.u pu stand.hearer stand.hearer_port since).long stays.what stays.holds stays.final.log) in
           absurd (omega arith)
 
   -- what the teller's timer and the lane come to
@@ -287,7 +293,7 @@ module _ (says : Says) (k : Wiring) (touch : Touch) (w w' : State) (call : Calls
   heard f a touched said place link =
       answered (λ pv pu pu' l stood settles' hearing. elim hearing [
         | inl (other, same) ↦ absurd (other place)
-        | inr (here, is, answer) ↦ hears says k w.time pv.announce pu.held pu'.held f l.frames a said since
+        | inr (here, is, answer) ↦ hears says k w.time pv.announce pu.held pu'.held f l.frames a said
             (timer_soon stood.v pv stood.teller stood.teller_port) (taken pv pu pu' l stood settles' answer)
             (link pv pu l stood)
       ])

@@ -231,16 +231,13 @@ module _ (n : Network) (net : IsNetwork n) (w : State) (calm : Calm n w)
             on = is_port.capable started (port_of v (suc p), back);
             weaker = λ root steps mine. hears_weaker s pu root steps at port mine;
             source = source;
-            long = λ r e came. is_port.long r (port_of v (suc p)) e (began r came) leads.joins (source r e);
+            long = λ r e log. is_port.long r (port_of v (suc p)) e leads.joins (source r e) log;
           }
             where
               is_port : IsCalmPort n w.time (port_of u (suc q)) pu
               is_port =
                   subst (λ c. IsCalmPort n w.time (port_of c (suc q)) pu) clock
                   ((calm.stations (n.place u) s at live).ports q pu port)
-
-              began : (r : Reception) → since n d ≤ r.at → n.start ≤ r.at
-              began r came = omega arith
 
               source : (r : Reception) → pu.held ≡ Received r → r.said.source ≡ port_of v (suc p)
               source r e =
@@ -267,6 +264,7 @@ module _ (n : Network) (net : IsNetwork n) (w : State) (calm : Calm n w)
           subst (λ c. IsCalmPort n w.time (port_of c (suc p)) pv) clock
           ((calm.stations (n.place v) s at live).ports p pv port) in
           record {
+            log = is_port.log;
             interval = is_port.interval;
             timer = is_port.timer;
             settled = λ late. tells_settled late s pv at port;

@@ -1,5 +1,5 @@
 -- The example run is one: each of its states is calm, and each follows by a step.
-use Rattle.std.proofs.Common.{◌≡◌, ◌≢◌, pred, ◌⊎◌, ◌≤◌, ◌<◌, ◌+◌, ℕ, zero, suc, true, List, [], ◌∷◌, Some, slice_get, refl, sym, ap, subst, ◌∙◌, inl, inr, arith}
+use Rattle.std.proofs.Common.{◌≡◌, ◌≢◌, pred, ◌⊎◌, ◌≤◌, ◌<◌, ◌+◌, ℕ, zero, suc, pos, true, List, [], ◌∷◌, Some, slice_get, refl, sym, ap, subst, ◌∙◌, inl, inr, arith}
 use native.Mathlib.Decide.{ℕ_discrete, dec_le, dec_lt}
 use Rattle.gptp_lists.specs.Members.{In}
 use Rattle.gptp_graph.specs.Order.{IsLower}
@@ -69,7 +69,7 @@ module _ (now clock identity timer : ℕ) (early : now ≤ timer) (soon : timer 
   -- a system that is its own root received nothing
   lone_holds : {A : Type 0} (i : ℕ) (r : Reception) → HoldsAt (lone clock identity timer) i r → A
   lone_holds i r (q, at, e) = absurd (each_of_one (λ i (q : Port). q.held ≡ Received r → ⊥)
-      (record { held = Mine identity 0; interval = 4; announce = timer })
+      (record { held = Mine identity 0; log = pos 2; interval = 4; announce = timer })
       (λ holds. mine_received identity 0 r holds) i q at e)
 
   pub lone_station : IsStation (setting network) now (lone clock identity timer)
@@ -88,10 +88,11 @@ module _ (now clock identity timer : ℕ) (early : now ≤ timer) (soon : timer 
     source = clock ∷ 0 ∷ 0 ∷ [];
     is = refl;
     fresh = λ i q at e. each_of_one (λ i (q : Port). q.held ≡ Aged → ⊥)
-        (record { held = Mine identity 0; interval = 4; announce = timer }) (λ h. mine_aged identity 0 h) i q at e;
+        (record { held = Mine identity 0; log = pos 2; interval = 4; announce = timer }) (λ h. mine_aged identity 0 h)
+        i q at e;
     mine = λ i q root steps at e.
         each_of_one (λ i (q : Port). q.held ≡ Mine root steps → (root ≡ identity) × (steps ≡ 0))
-        (record { held = Mine identity 0; interval = 4; announce = timer })
+        (record { held = Mine identity 0; log = pos 2; interval = 4; announce = timer })
         (λ h. same_mine root steps identity 0 (sym h)) i q at e;
     passive = λ i r holds. lone_holds i r holds;
   }
@@ -100,26 +101,27 @@ module _ (now clock identity timer : ℕ) (early : now ≤ timer) (soon : timer 
   lone_calm = record {
     at_rest = lone_rests;
     ports = each_of_one (λ i q. IsCalmPort network now (port_of clock (suc i)) q)
-        (record { held = Mine identity 0; interval = 4; announce = timer })
+        (record { held = Mine identity 0; log = pos 2; interval = 4; announce = timer })
         (record {
+          log = refl;
           interval = refl;
           timer = λ root steps e. (early, soon);
           capable = λ started is_linked e. mine_disabled identity 0 e;
           unlinked = λ started out. absurd (out linked);
-          long = λ r from e since joins source. mine_received identity 0 r e;
+          long = λ r from e joins source log. mine_received identity 0 r e;
         });
   }
 
 module _ (now at : ℕ) (came : at ≤ now) (stays : now ≤ at + 8) where
   -- what the second system's port received
   holds : HoldsAt (following at) 0 (heard at)
-  holds = (record { held = Received (heard at); interval = 4; announce = 4 }, refl, refl)
+  holds = (record { held = Received (heard at); log = pos 2; interval = 4; announce = 4 }, refl, refl)
 
   -- it received nothing else
   only_heard : (P : ℕ → Reception → Type 0) → P 0 (heard at) → (i : ℕ) (r : Reception) → HoldsAt (following at) i r
       → P i r
   only_heard P p i r (q, there, e) = each_of_one (λ i (q : Port). (r : Reception) → q.held ≡ Received r → P i r)
-      (record { held = Received (heard at); interval = 4; announce = 4 })
+      (record { held = Received (heard at); log = pos 2; interval = 4; announce = 4 })
       (λ r e. subst (P 0) (received_injective (heard at) r e) p) i q there r e
 
   pub following_station : IsStation (setting network) now (following at)
@@ -144,10 +146,10 @@ module _ (now at : ℕ) (came : at ≤ now) (stays : now ≤ at + 8) where
     source = 1 ∷ 1 ∷ 1 ∷ [];
     is = refl;
     fresh = each_of_one (λ i (q : Port). q.held ≢ Aged)
-        (record { held = Received (heard at); interval = 4; announce = 4 }) (λ e. absurd cc);
+        (record { held = Received (heard at); log = pos 2; interval = 4; announce = 4 }) (λ e. absurd cc);
     mine = λ i q root steps there e.
         each_of_one (λ i (q : Port). q.held ≡ Mine root steps → (root ≡ first_identity) × (steps ≡ 1))
-        (record { held = Received (heard at); interval = 4; announce = 4 })
+        (record { held = Received (heard at); log = pos 2; interval = 4; announce = 4 })
         (λ h. mine_received root steps (heard at) (sym h)) i q there e;
     passive = only_heard (λ i r. (Some 1 ≡ Some (suc i))
         ⊎ (IsLower (master first_identity 1 2 (suc i)) (message r.said (suc i)) → ⊥)) (inl refl);
@@ -157,13 +159,14 @@ module _ (now at : ℕ) (came : at ≤ now) (stays : now ≤ at + 8) where
   following_calm = record {
     at_rest = following_rests;
     ports = each_of_one (λ i q. IsCalmPort network now (port_of 2 (suc i)) q)
-        (record { held = Received (heard at); interval = 4; announce = 4 })
+        (record { held = Received (heard at); log = pos 2; interval = 4; announce = 4 })
         (record {
+          log = refl;
           interval = refl;
           timer = λ root steps e. mine_received root steps (heard at) (sym e);
           capable = λ started is_linked e. absurd cc;
           unlinked = λ started out. absurd (out (port_of 1 1, inr (inl refl)));
-          long = λ r from e since joins source.
+          long = λ r from e joins source log.
               subst (λ (x : Reception). 5 < x.span) (received_injective (heard at) r e) (omega arith);
         });
   }

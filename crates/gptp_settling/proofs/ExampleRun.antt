@@ -1,5 +1,5 @@
 -- The steps of the example run.
-use Rattle.std.proofs.Common.{◌≡◌, ◌≢◌, ◌⊎◌, ◌≤◌, ◌+◌, ℕ, zero, suc, true, List, [], ◌∷◌, Some, slice_get, append-nil, refl, sym, ap, subst, inl, inr, arith}
+use Rattle.std.proofs.Common.{◌≡◌, ◌≢◌, ◌⊎◌, ◌≤◌, ◌+◌, ℕ, zero, suc, pos, true, List, [], ◌∷◌, Some, slice_get, append-nil, refl, sym, ap, subst, inl, inr, arith}
 use Rattle.gptp_lists.specs.Members.{In}
 use Rattle.gptp_graph.specs.Snapshot.{PortIdentity, port_of, IsLinked}
 use Rattle.gptp_settling.specs.Frame.{Announce, Frame, Lane, Send}
@@ -24,7 +24,7 @@ abbrev sent : Send
 sent = record { port = 1; octets = octets }
 
 abbrev first_port : ℕ → Port
-first_port timer = record { held = Mine first_identity 0; interval = 4; announce = timer }
+first_port timer = record { held = Mine first_identity 0; log = pos 2; interval = 4; announce = timer }
 
 module _ (now : ℕ) (second : Station) where
   -- the first system's timer expires, and it announces itself
@@ -52,11 +52,14 @@ module _ (now : ℕ) (second : Station) where
     tells = tells;
   }
     where
+      own_log : (i : ℕ) (q : Port) → 1 ≡ suc i → slice_get (first (4 + now)).ports i ≡ Some q → pos 2 ≡ q.log
+      own_log i q number = each_of_one (λ i (q : Port). pos 2 ≡ q.log) (first_port (4 + now)) refl i q
+
       own : (x : Send) (a : Announce) → x ≡ sent → a ≡ announce
           → IsOwn (first (4 + now)) x.port a × IsMasterAt (first (4 + now)) x.port
       own x a e f = subst (λ (y : Send). IsOwn (first (4 + now)) y.port a × IsMasterAt (first (4 + now)) y.port) (sym e)
           (subst (λ b. IsOwn (first (4 + now)) 1 b × IsMasterAt (first (4 + now)) 1) (sym f) (
-            record { root = refl; steps = refl; source = refl; path = refl },
+            record { root = refl; steps = refl; source = refl; log = own_log; path = refl },
             (0, first_port (4 + now), refl, refl, refl),
           ))
 
@@ -161,7 +164,7 @@ hears now timer second q live clock ports interval on replaces = inr (inl (recor
       live = sym live;
       ports = each_of_one (λ i q'. (q : Port) × (slice_get second.ports i ≡ Some q)
           × PortStep says second.clock (suc i) now (Hear 1 announce) first_identity 1 q q' [])
-          (record { held = Received (heard now); interval = 4; announce = 4 }) (
+          (record { held = Received (heard now); log = pos 2; interval = 4; announce = 4 }) (
             q,
             ap (λ (xs : List Port). slice_get xs 0) ports,
             record {
@@ -272,8 +275,9 @@ turns_run at (suc count) = (
       (
         following_is_calm (4 + at) at (7 + at) (frame (4 + at) ∷ []) (omega arith) (omega arith) (omega arith)
             (omega arith) (one_in_flight (4 + at) (4 + at) (omega arith) (omega arith)),
-        hears (4 + at) (7 + at) (following at) (record { held = Received (heard at); interval = 4; announce = 4 }) refl
-            refl refl refl (λ e. absurd cc) (inl refl),
+        hears (4 + at) (7 + at) (following at)
+            (record { held = Received (heard at); log = pos 2; interval = 4; announce = 4 }) refl refl refl refl
+            (λ e. absurd cc) (inl refl),
         subst (λ t. IsRun says network (state (4 + at) t (following (4 + at)) []) (turns (4 + at) count))
             (let same : 3 + (4 + at) ≡ 7 + at = omega arith in same) (turns_run (4 + at) count),
       ),
@@ -296,8 +300,8 @@ example_runs = (
       (
         alone_calm 2 5 (frame 2 ∷ []) (omega arith) (omega arith) (omega arith)
             (one_in_flight 2 2 (omega arith) (omega arith)),
-        hears 2 5 alone (record { held = Mine second_identity 0; interval = 4; announce = 4 }) refl refl refl refl
-            (mine_disabled second_identity 0) (inl (omega arith)),
+        hears 2 5 alone (record { held = Mine second_identity 0; log = pos 2; interval = 4; announce = 4 }) refl refl
+            refl refl (mine_disabled second_identity 0) (inl (omega arith)),
         turns_run 2 10,
       ),
     ),

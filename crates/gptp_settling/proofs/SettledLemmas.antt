@@ -3,7 +3,8 @@ use Rattle.std.proofs.Common.{◌≡◌, ◌≢◌, ◌⊎◌, ◌≤◌, ◌<�
 use native.Mathlib.Decide.{ℕ_discrete, dec_lt}
 use native.Mathlib.Nat.{mul-le-mul_right}
 use Rattle.gptp_graph.specs.Order.{IsLower}
-use Rattle.gptp_graph.specs.Snapshot.{PortIdentity, port_of, Joins, IsLinked, Adjacent}
+use Rattle.gptp_graph.specs.Snapshot.{System, PortIdentity, port_of, Joins, IsLinked, Adjacent}
+use Rattle.gptp_graph.specs.Best.{IsBest}
 use Rattle.gptp_graph.specs.Distance.{IsDistance, IsNear}
 use Rattle.gptp_graph.specs.Parent.{ParentLink, key, LeadsNearer, IsParent}
 use Rattle.gptp_graph.specs.SettledRole.{Role, Master, Slave, Passive, IsSlavePort, IsMasterPort, IsSettledRole}
@@ -26,7 +27,7 @@ use Rattle.gptp_settling.specs.Calm.{IsCalmPort, Calm}
 use Rattle.gptp_settling.specs.Levels.{LeadsFarther, Invariant}
 use Rattle.gptp_settling.specs.Settled.{Plays, IsSlaveOf, FollowsBest, HasSettledRoles}
 use Rattle.gptp_settling.proofs.PlaceLemmas.{same_there}
-use Rattle.gptp_settling.proofs.RestLemmas.{Chooses, IsClear, joined, held_steps, chosen_port, chosen_itself, chosen_said, is_master}
+use Rattle.gptp_settling.proofs.RestLemmas.{Chooses, IsClear, joined, held_steps, chosen_port, chosen_itself, chosen_said, root_above, steps_above, is_master}
 use Rattle.gptp_settling.proofs.EndsLemmas.{clear_at}
 use Rattle.gptp_settling.proofs.LevelLemmas.{places_of, told, chooses, whole_from}
 
@@ -362,3 +363,13 @@ network_settles says n w i s net calm invariant at live (d, here, near) late =
         let bounded : d < n.reach = IsDistance-within n.graph n.reach s.clock d net.paths here in
         let grows : since n (suc d) ≤ since n n.reach = since_grows n (suc d) n.reach bounded in
         omega arith
+
+-- once all that is held is wholly clean, a system's root is no better than its best, and for that its steps are no
+-- fewer than its distance
+pub systems_bounded : (says : Says) (n : Network) (w : State) (i : ℕ) (s : Station) (best : System) → IsNetwork n
+    → Calm n w → Invariant says n w → slice_get w.stations i ≡ Some s → s.live ≡ true → IsBest n.graph s.clock best
+    → clean_from n ≤ w.time
+    → (best.identity ≤ s.root) × ((d : ℕ) → IsDistance n.graph s.clock d → s.root ≡ best.identity → d ≤ s.steps)
+systems_bounded says n w i s best net calm invariant at live is_best late =
+    let clear = clear_at n net w calm (whole_from says n net w calm invariant) i s at live late in
+    (root_above n.graph net.graph s clear best is_best, steps_above n.graph net.graph s clear best is_best)

@@ -53,7 +53,6 @@ module _ (says : Says) (k : Wiring) where
     what = stays.what;
     holds = stays.holds;
     final = stays.final;
-    came = stays.came;
     flight = all_final_on fs news stays.flight new;
     next = elim stays.next [
       | inl timer ↦ inl timer
@@ -74,7 +73,6 @@ module _ (says : Says) (k : Wiring) where
     what = stays.what;
     holds = stays.holds;
     final = stays.final;
-    came = stays.came;
     flight = all_final_on fs news stays.flight new;
     next = elim stays.next [
       | inl by ↦ inr (f, In-right f fs news at, said, omega arith)
@@ -92,7 +90,6 @@ module _ (says : Says) (k : Wiring) where
     what = stays.what;
     holds = same stays;
     final = stays.final;
-    came = stays.came;
     flight = stays.flight;
     next = stays.next;
   }))
@@ -107,7 +104,6 @@ module _ (says : Says) (k : Wiring) where
     what = stays.what;
     holds = stays.holds;
     final = stays.final;
-    came = stays.came;
     flight = λ g a at. stays.flight g a (inr at);
     next = elim stays.next [
       | inl timer ↦ inl timer
@@ -118,10 +114,10 @@ module _ (says : Says) (k : Wiring) where
 
   -- the oldest frame is heard as the Announce a, and is taken if that is final
   pub hears : (now announce : ℕ) (held held' : Held) (f : Frame) (fs : List Frame) (a : Announce) → says f.octets a
-      → k.since ≤ now → announce ≤ now + k.interval
+      → announce ≤ now + k.interval
       → (IsFinal k a → (span : ℕ) × (held' ≡ Received (record { said = a; at = now; span = span })))
       → Stage says k announce held (f ∷ fs) → Stage says k announce held' fs
-  hears now announce held held' f fs a said since timer taken stage = go stage
+  hears now announce held held' f fs a said timer taken stage = go stage
     where
       received : AllFinal says k (f ∷ fs) → Stays says k announce held' fs
       received all =
@@ -131,7 +127,6 @@ module _ (says : Says) (k : Wiring) where
             what = record { said = a; at = now; span = span };
             holds = is;
             final = final;
-            came = since;
             flight = λ g b at. all g b (inr at);
             next = inl timer;
           }
@@ -142,7 +137,7 @@ module _ (says : Says) (k : Wiring) where
       go (inr (inl (inr tail))) = inr (inl tail)
       go (inr (inr stays)) = inr (inr (received stays.flight))
 
-  -- what is held since then, and will be told again in time, hasn't grown too old
+  -- what is held, and will be told again in time, hasn't grown too old
   pub young : (now announce : ℕ) (held : Held) (fs : List Frame) (stays : Stays says k announce held fs)
       → now ≤ announce → ((f : Frame) → In f fs → now ≤ f.due)
       → k.interval + k.most < stays.what.span → now < stays.what.at + stays.what.span

@@ -10,15 +10,16 @@ use Rattle.gptp_settling.specs.AtRest.{IsAtRest}
 use Rattle.gptp_settling.specs.Network.{Network, setting}
 
 -- What is known of port p of a live system. Its interval is the one it has in the network, and its timer is due within
--- that while it is master. From the start it is disabled exactly where no link is at it. What came over its link since
--- then stays for longer than the other port's interval and the largest delay.
+-- that while it is master. From the start it is disabled exactly where no link is at it. What came over its link and
+-- names the other port's interval stays for longer than that and the largest delay.
 pub record IsCalmPort (n : Network) (now : ℕ) (p : PortIdentity) (q : Port) : Type 0 where
+  pub log : q.log ≡ n.log_of p
   pub interval : q.interval ≡ n.interval_of p
   pub timer : (root steps : ℕ) → q.held ≡ Mine root steps → (now ≤ q.announce) × (q.announce ≤ now + n.interval_of p)
   pub capable : n.start ≤ now → IsLinked n.graph p → q.held ≢ Disabled
   pub unlinked : n.start ≤ now → (IsLinked n.graph p → ⊥) → q.held ≡ Disabled
-  pub long : (r : Reception) (from : PortIdentity) → q.held ≡ Received r → n.start ≤ r.at → Joins n.graph from p
-      → r.said.source ≡ from → n.interval_of from + n.most < r.span
+  pub long : (r : Reception) (from : PortIdentity) → q.held ≡ Received r → Joins n.graph from p
+      → r.said.source ≡ from → r.said.log ≡ n.log_of from → n.interval_of from + n.most < r.span
 
 -- what is known of a live system: it is at rest, and each of its ports is such a one
 pub record IsCalmStation (n : Network) (now : ℕ) (s : Station) : Type 0 where

@@ -1,5 +1,5 @@
 -- An example run: two systems and a link, over which the better one announces itself again and again.
-use Rattle.std.specs.Prelude.{◌≡◌, ◌+◌, ℕ, zero, suc, pred, true, List, [], ◌∷◌, ◌++◌, Some, None}
+use Rattle.std.specs.Prelude.{◌≡◌, ◌+◌, ℕ, zero, suc, pred, pos, true, List, [], ◌∷◌, ◌++◌, Some, None}
 use Rattle.gptp_graph.specs.Snapshot.{port_of}
 use Rattle.gptp_settling.specs.Frame.{Announce, Frame, Lane}
 use Rattle.gptp_settling.specs.Station.{Reception, Mine, Received, Station, State}
@@ -12,8 +12,8 @@ first_identity = 0xf6f8fe436af80000000000000001
 abbrev pub second_identity : ℕ
 second_identity = 0xf6f8fe436af80000000000000002
 
--- The link joins port 1 of each. The announce interval is 4 everywhere, the receipt timeout two of them, and the link's
--- delay 1; claims are made from time 1 on.
+-- The link joins port 1 of each. The announce interval is 4 everywhere, and its logarithm 2; the receipt timeout is two
+-- intervals, and the link's delay 1; claims are made from time 1 on.
 abbrev pub network : Network
 network = record {
   graph = record {
@@ -26,6 +26,7 @@ network = record {
   reach = 2;
   place = pred;
   lane = λ p. pred p.clock;
+  log_of = λ p. pos 2;
   interval_of = λ p. 4;
   interval = 4;
   most = 1;
@@ -35,7 +36,7 @@ network = record {
 
 -- what the first system announces, and the octets that say so; no others say anything
 abbrev pub announce : Announce
-announce = record { root = first_identity; steps = 0; source = port_of 1 1; path = 1 ∷ [] }
+announce = record { root = first_identity; steps = 0; source = port_of 1 1; log = pos 2; path = 1 ∷ [] }
 
 abbrev pub octets : List ℕ
 octets = 11 ∷ []
@@ -49,7 +50,7 @@ lone clock identity timer = record {
   live = true;
   clock = clock;
   identity = identity;
-  ports = record { held = Mine identity 0; interval = 4; announce = timer } ∷ [];
+  ports = record { held = Mine identity 0; log = pos 2; interval = 4; announce = timer } ∷ [];
   root = identity;
   steps = 0;
   slave = None;
@@ -72,7 +73,7 @@ following at = record {
   live = true;
   clock = 2;
   identity = second_identity;
-  ports = record { held = Received (heard at); interval = 4; announce = 4 } ∷ [];
+  ports = record { held = Received (heard at); log = pos 2; interval = 4; announce = 4 } ∷ [];
   root = first_identity;
   steps = 1;
   slave = Some 1;

@@ -1,13 +1,14 @@
 -- Announces, the frames that carry them, and the lanes that the frames travel.
-use Rattle.std.specs.Prelude.{ℕ, Bool, List}
+use Rattle.std.specs.Prelude.{ℕ, ℤ, Bool, List}
 use Rattle.gptp_graph.specs.Snapshot.{PortIdentity}
 
--- what an Announce says: root and steps of its sender, the port that sent it, and the path trace
--- (IEEE 802.1AS-2020, 10.6.3)
+-- What an Announce says: root and steps of its sender, the port that sent it, the logarithm of that port's announce
+-- interval, and the path trace (IEEE 802.1AS-2020, 10.6.3).
 pub record Announce : Type 0 where
   pub root : ℕ
   pub steps : ℕ
   pub source : PortIdentity
+  pub log : ℤ
   pub path : List ℕ
 
 -- Which octets say which Announce. Every law is over all such relations: nothing of the message grammar is used, and

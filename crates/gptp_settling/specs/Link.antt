@@ -24,19 +24,20 @@ pub record TellsSettled (k : Wiring) (s : Station) (q : Port) : Type 0 where
 
 -- the port that tells: while it is master its timer is due within its interval
 pub record IsTeller (k : Wiring) (now : ℕ) (s : Station) (q : Port) : Type 0 where
+  pub log : q.log ≡ k.log
   pub interval : q.interval ≡ k.interval
   pub timer : (root steps : ℕ) → q.held ≡ Mine root steps → (now ≤ q.announce) × (q.announce ≤ now + k.interval)
   pub settled : k.since ≤ now → TellsSettled k s q
 
 -- The port that hears, once the teller has settled: it isn't disabled, its own master vector would be worse than what
--- is told, and whatever it received came from the teller and, if it came since, stays longer than the interval and the
--- delay.
+-- is told, and whatever it received came from the teller and, if it names the teller's interval, stays longer than that
+-- and the delay.
 pub record HearsSettled (k : Wiring) (q : Port) : Type 0 where
   pub on : q.held ≢ Disabled
   pub weaker : (root steps : ℕ) → q.held ≡ Mine root steps
       → IsLower (final_vector k) (master root steps k.hearer (suc k.hearer_port))
   pub source : (r : Reception) → q.held ≡ Received r → r.said.source ≡ from_port k
-  pub long : (r : Reception) → q.held ≡ Received r → k.since ≤ r.at → k.interval + k.most < r.span
+  pub long : (r : Reception) → q.held ≡ Received r → r.said.log ≡ k.log → k.interval + k.most < r.span
 
 -- the lane is the one between the two ports, up and without loss
 pub record IsLaneOf (k : Wiring) (l : Lane) : Type 0 where

@@ -1,19 +1,20 @@
 -- A network whose last change is past, and the times from which claims are made.
-use Rattle.std.specs.Prelude.{◌≤◌, ◌+◌, ◌*◌, ℕ, suc}
+use Rattle.std.specs.Prelude.{◌≤◌, ◌+◌, ◌*◌, ℕ, suc, ℤ}
 use Rattle.gptp_graph.specs.Snapshot.{System, PortIdentity, Snapshot, port_of, IsLinked, IsWellFormed}
 use Rattle.gptp_graph.specs.PathBound.{BoundsPaths}
 use Rattle.gptp_settling.specs.Facts.{Setting, turn}
 use Rattle.gptp_settling.specs.Stage.{Wiring}
 
 -- The live systems and their links; how many systems a path of them has at most; at which place a system stands, by its
--- clock, and a lane, by the port that it leads from; the announce interval of each port and the largest of them; the
--- largest delay of a link; the announce receipt timeout, in intervals; and when every port on a link is capable and all
--- others are disabled.
+-- clock, and a lane, by the port that it leads from; the announce interval of each port, first its logarithm, and the
+-- largest of them; the largest delay of a link; the announce receipt timeout, in intervals; and when every port on a
+-- link is capable and all others are disabled.
 pub record Network : Type 0 where
   pub graph : Snapshot
   pub reach : ℕ
   pub place : ℕ → ℕ
   pub lane : PortIdentity → ℕ
+  pub log_of : PortIdentity → ℤ
   pub interval_of : PortIdentity → ℕ
   pub interval : ℕ
   pub most : ℕ
@@ -56,6 +57,7 @@ wiring n d best v p u q = record {
   hearer_place = n.place u;
   hearer_port = q;
   lane = n.lane (port_of v (suc p));
+  log = n.log_of (port_of v (suc p));
   interval = n.interval_of (port_of v (suc p));
   most = n.most;
   root = best.identity;

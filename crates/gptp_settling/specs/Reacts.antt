@@ -38,11 +38,13 @@ pub record PortStep (says : Says) (c n now : ℕ) (touch : Touch) (root steps : 
   pub before : Mid c n touch now q.held mid
   pub after : ((q'.held ≡ mid) × IsKept mid) ⊎ BecomesMaster says c n now root steps mid q q' sends
 
--- the Announce is the system's own, as it is sent from port n (IEEE 802.1AS-2020, 10.6.3 and 10.3.9.23)
+-- the Announce is the system's own, as it is sent from port n, and names that port's interval
+-- (IEEE 802.1AS-2020, 10.6.3 and 10.3.9.23)
 pub record IsOwn (s : Station) (n : ℕ) (a : Announce) : Type 0 where
   pub root : a.root ≡ s.root
   pub steps : a.steps ≡ s.steps
   pub source : a.source ≡ port_of s.clock n
+  pub log : (i : ℕ) (q : Port) → n ≡ suc i → slice_get s.ports i ≡ Some q → a.log ≡ q.log
   pub path : a.path ≡ s.trace
 
 -- port n is a master port

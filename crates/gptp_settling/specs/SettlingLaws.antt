@@ -1,10 +1,12 @@
 -- Laws on networks: they settle.
 use Rattle.std.specs.Prelude.{◌≡◌, ◌<◌, ◌≤◌, ℕ, suc, true, Some, slice_get}
+use Rattle.gptp_graph.specs.Snapshot.{System}
+use Rattle.gptp_graph.specs.Best.{IsBest}
 use Rattle.gptp_graph.specs.Distance.{IsDistance, IsNear}
 use Rattle.gptp_settling.specs.Frame.{Says}
 use Rattle.gptp_settling.specs.Station.{Station, State}
 use Rattle.gptp_settling.specs.Acts.{Steps}
-use Rattle.gptp_settling.specs.Network.{Network, IsNetwork, since, settled_from}
+use Rattle.gptp_settling.specs.Network.{Network, IsNetwork, clean_from, since, settled_from}
 use Rattle.gptp_settling.specs.Calm.{Calm}
 use Rattle.gptp_settling.specs.Levels.{Invariant}
 use Rattle.gptp_settling.specs.Settled.{FollowsBest, HasSettledRoles}
@@ -45,3 +47,13 @@ NetworkSettles says = (n : Network) (w : State) (i : ℕ) (s : Station)
     → slice_get w.stations i ≡ Some s → s.live ≡ true → IsNear n.graph s.clock
     → settled_from n ≤ w.time
     → FollowsBest n.graph s × HasSettledRoles n.graph s
+
+-- Once all that is held is wholly clean, no system, near or far, has a root below the identity of its component's best,
+-- nor that identity as its root over fewer steps than its distance.
+abbrev pub SystemsAreBounded : Says → Type 0
+SystemsAreBounded says = (n : Network) (w : State) (i : ℕ) (s : Station) (best : System)
+    → IsNetwork n → Calm n w → Invariant says n w
+    → slice_get w.stations i ≡ Some s → s.live ≡ true → IsBest n.graph s.clock best
+    → clean_from n ≤ w.time
+    → (best.identity ≤ s.root)
+    × ((d : ℕ) → IsDistance n.graph s.clock d → s.root ≡ best.identity → d ≤ s.steps)

@@ -1,5 +1,5 @@
 -- The stages through which a link comes to tell what the system at its one end has settled at.
-use Rattle.std.specs.Prelude.{◌≡◌, ◌⊎◌, ◌<◌, ◌≤◌, ◌+◌, ℕ, suc, List, [], ◌∷◌}
+use Rattle.std.specs.Prelude.{◌≡◌, ◌⊎◌, ◌<◌, ◌≤◌, ◌+◌, ℕ, suc, ℤ, List, [], ◌∷◌}
 use Rattle.gptp_lists.specs.Members.{In}
 use Rattle.gptp_graph.specs.Snapshot.{PortIdentity, port_of}
 use Rattle.gptp_settling.specs.Frame.{Announce, Says, Frame}
@@ -7,8 +7,9 @@ use Rattle.gptp_settling.specs.Station.{Reception, Held, Received}
 use Rattle.gptp_settling.specs.Touch.{Qualified}
 
 -- One direction of a link: the clock of the system that tells, its place among the systems and that of its port, which
--- is numbered one higher; the same of the system that hears; the place of the lane; the announce interval of the port
--- that tells and the largest delay of the link; the root and steps that are told, and from when on they are settled.
+-- is numbered one higher; the same of the system that hears; the place of the lane; the logarithm of the announce
+-- interval of the port that tells, that interval, and the largest delay of the link; the root and steps that are told,
+-- and from when on they are settled.
 pub record Wiring : Type 0 where
   pub teller : ℕ
   pub teller_place : ℕ
@@ -17,6 +18,7 @@ pub record Wiring : Type 0 where
   pub hearer_place : ℕ
   pub hearer_port : ℕ
   pub lane : ℕ
+  pub log : ℤ
   pub interval : ℕ
   pub most : ℕ
   pub root : ℕ
@@ -31,11 +33,12 @@ from_port k = port_of k.teller (suc k.teller_port)
 abbrev pub to_port : Wiring → PortIdentity
 to_port k = port_of k.hearer (suc k.hearer_port)
 
--- the Announce tells what is settled, and the system that hears it can use it
+-- the Announce tells what is settled and the teller's interval, and the system that hears it can use it
 pub record IsFinal (k : Wiring) (a : Announce) : Type 0 where
   pub root : a.root ≡ k.root
   pub steps : a.steps ≡ k.steps
   pub source : a.source ≡ from_port k
+  pub log : a.log ≡ k.log
   pub qualified : Qualified k.hearer a
 
 -- every Announce among the frames is final
@@ -52,13 +55,12 @@ FinalTail says k before [] = ⊥
 FinalTail says k before (f ∷ fs) =
     ((f.due < before) × IsSaid says f × AllFinal says k (f ∷ fs)) ⊎ FinalTail says k before fs
 
--- The port holds a final Announce, received since all was settled, every Announce in flight is final, and the next one
--- comes in time: the teller's timer is due by then, or a frame in flight says it.
+-- The port holds a final Announce, every Announce in flight is final, and the next one comes in time: the teller's
+-- timer is due by then, or a frame in flight says it.
 pub record Stays (says : Says) (k : Wiring) (announce : ℕ) (held : Held) (fs : List Frame) : Type 0 where
   pub what : Reception
   pub holds : held ≡ Received what
   pub final : IsFinal k what.said
-  pub came : k.since ≤ what.at
   pub flight : AllFinal says k fs
   pub next : (announce ≤ what.at + k.interval)
       ⊎ ((f : Frame) × In f fs × IsSaid says f × (f.due ≤ what.at + k.interval + k.most))

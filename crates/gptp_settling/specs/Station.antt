@@ -1,5 +1,5 @@
 -- The state of the machine: systems with what their ports hold, and the lanes between them.
-use Rattle.std.specs.Prelude.{◌≡◌, ℕ, Bool, List, Option, Some, slice_get}
+use Rattle.std.specs.Prelude.{◌≡◌, ℕ, ℤ, Bool, List, Option, Some, slice_get}
 use Rattle.gptp_settling.specs.Frame.{Announce, Lane}
 
 -- an Announce that was received: what it said, when, and for how long it stays if nothing replaces it
@@ -16,9 +16,10 @@ pub data Held : Type 0 where
   Mine : (root steps : ℕ) → Held
   Received : Reception → Held
 
--- a port: what it holds, its announce interval, and when its Announce timer is due
+-- a port: what it holds, the logarithm of its announce interval, that interval, and when its Announce timer is due
 pub record Port : Type 0 where
   pub held : Held
+  pub log : ℤ
   pub interval : ℕ
   pub announce : ℕ
 

@@ -28,6 +28,8 @@ mod traces;
 pub use coding::Coding;
 pub use held::{no_loop_is_taken, ports_stay_selected};
 pub use link::{link_becomes_settled, link_stays_at_a_stage};
-pub use network::{invariant_is_kept, network_settles, ports_settle, system_settles};
+pub use network::{
+    invariant_is_kept, network_settles, ports_settle, system_settles, systems_are_bounded,
+};
 pub use runs::{example_run, run_settles};
 pub use traces::{clean_is_by_last_members, traces_become_clean, traces_stay_clean};

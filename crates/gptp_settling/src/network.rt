@@ -1,7 +1,7 @@
 //! Laws on networks: they settle.
 
 ghost use Rattle.gptp_settling.specs.SettlingLaws.{InvariantBegins, InvariantIsKept};
-ghost use Rattle.gptp_settling.specs.SettlingLaws.{SystemSettles, PortsSettle, NetworkSettles};
+ghost use Rattle.gptp_settling.specs.SettlingLaws.{NetworkSettles, PortsSettle, SystemSettles, SystemsAreBounded};
 
 use crate::coding::Coding;
 
@@ -31,4 +31,10 @@ pub fn ports_settle<C: Coding>()
 /// has happened. How many systems live is such an m, and so is the bound that gptp_graph reads off the links.
 pub fn network_settles<C: Coding>()
     ensures { NetworkSettles C.says }
+{}
+
+/// Once all that is held is wholly clean, which is m·(k+1)·I after the start, no system, near or far, has a root below
+/// the identity of its component's best, nor that identity as its root over fewer steps than its distance.
+pub fn systems_are_bounded<C: Coding>()
+    ensures { SystemsAreBounded C.says }
 {}

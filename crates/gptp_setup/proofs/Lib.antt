@@ -1,1 +1,2 @@
 pub mod IntervalLemmas
+pub mod PaceLemmas

@@ -1,6 +1,8 @@
 -- Intervals of messages (IEEE 802.1AS-2020, 10.7.2 and 11.5.2).
-use Rattle.std.specs.Prelude.{◌≤◌, ℕ, ◌+◌, ◌*◌, ◌/◌, ◌^◌, ℤ, pos, negsuc, neg_ℤ, ◌≤ℤ◌}
+use Rattle.std.specs.Prelude.{◌≡◌, ◌≤◌, ℕ, ◌+◌, ◌*◌, ◌/◌, ◌^◌, ℤ, pos, negsuc, neg_ℤ, ◌≤ℤ◌, length}
+use Rattle.std.specs.List.{AllByRecursion}
 use Rattle.gptp_setup.specs.declared.setup.Params.{Params}
+use Rattle.gptp_setup.specs.declared.setup.Setup.{Setup}
 
 -- the interval whose logarithm to base 2 is this, in ns
 abbrev pub interval_of : ℤ → ℕ
@@ -12,21 +14,16 @@ pub record IsLog (log : ℤ) : Type 0 where
   pub low : neg_ℤ (pos 4) ≤ℤ log
   pub high : log ≤ℤ pos 4
 
--- what each port of a network announces at, in ns (10.7.2.2)
-abbrev pub announce_interval : Params → ℕ
-announce_interval p = interval_of p.announce
+-- an interval that a port announces at: within these limits, and not above the largest of its network
+pub record IsLogUpTo (largest log : ℤ) : Type 0 where
+  pub within : IsLog log
+  pub most : log ≤ℤ largest
 
--- the largest announce interval of the ports of a network, in ns: all have the same (profile)
-abbrev pub largest_interval : Params → ℕ
-largest_interval p = interval_of p.announce
-
--- how long what a port receives stays there, in ns: announceReceiptTimeout times its announce interval (10.7.3.2)
-abbrev pub receipt_span : Params → ℕ
-receipt_span p = p.timeout * announce_interval p
-
--- the longest of these spans in a network, in ns
-abbrev pub longest_span : Params → ℕ
-longest_span p = p.timeout * largest_interval p
+-- what a system is set up to announce at: each of its ports at an interval of its own, none of them above the largest
+pub record AreIntervals (setup : Setup) : Type 0 where
+  pub many : length setup.intervals.items ≡ setup.ports
+  pub each : AllByRecursion (IsLogUpTo setup.largest) setup.intervals.items
+  pub largest : IsLog setup.largest
 
 -- the range of each parameter of a network (profile)
 pub record AreParams (p : Params) : Type 0 where

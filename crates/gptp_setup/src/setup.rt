@@ -1,12 +1,15 @@
 //! What a system is set up with.
 
+ghost use Rattle.std.specs.Prelude.{◌≡◌, ◌≤◌, length};
+
+use arrayvec::ArrayVec;
 use gptp_vector::Identity;
 
 /// What is the same for all systems of a network. Intervals are given as the logarithm to base 2 of their seconds, as
 /// logMessageInterval is (IEEE 802.1AS-2020, 10.7.2 and 11.5.2).
 #[derive(Clone, Copy, Debug, PartialEq, Eq)]
 pub struct Params {
-    /// The announce interval, -4 to 4.
+    /// The announce interval of a port that is given none of its own, -4 to 4.
     pub announce: i8,
     /// The sync interval, -4 to 4.
     pub sync: i8,
@@ -25,7 +28,7 @@ pub struct Params {
 }
 
 /// What one system is set up with.
-#[derive(Clone, Copy, Debug, PartialEq, Eq)]
+#[derive(Debug, Drop)]
 pub struct Setup {
     /// Its system identity.
     pub identity: Identity,
@@ -35,6 +38,37 @@ pub struct Setup {
     pub phase: u64,
     /// How much faster its local clock runs, in units of 2^-41, -219,902,325 to 219,902,325: 100 parts in a million.
     pub drift: i32,
+    /// The announce interval of each of its ports, the first of which has the number 1, -4 to `largest`.
+    pub intervals: ArrayVec<i8, 16>,
+    /// The largest announce interval of any port of the network, -4 to 4.
+    pub largest: i8,
     /// What is the same for all systems.
     pub params: Params,
+}
+
+/// The intervals, again.
+fn copy_intervals(intervals: &[i8]) -> ArrayVec<i8, 16>
+    requires { length intervals.now ≤ 16 }
+    ensures { result.items ≡ intervals.now }
+{
+    let mut copies = ArrayVec::new();
+    let _ = copies.try_extend_from_slice(intervals);
+    copies
+}
+
+impl Setup {
+    /// The same setup again. It takes no memory.
+    pub fn copy(&self) -> Setup
+        ensures { result ≡ self.now }
+    {
+        Setup {
+            identity: self.identity,
+            ports: self.ports,
+            phase: self.phase,
+            drift: self.drift,
+            intervals: copy_intervals(self.intervals.as_slice()),
+            largest: self.largest,
+            params: self.params,
+        }
+    }
 }

@@ -25,11 +25,11 @@ calm_on touched s t u a b = record {
 
 -- only what is known of time changes
 pub calm_apart : (touched : Timer → Bool) (s t : SystemState) → t.ports ≡ s.ports → t.held ≡ s.held
-    → t.params ≡ s.params → (touched timers.Sync ≡ false → t.sync ≡ s.sync)
+    → t.params ≡ s.params → t.largest ≡ s.largest → (touched timers.Sync ≡ false → t.sync ≡ s.sync)
     → (touched timers.Relay ≡ false → t.relay ≡ s.relay)
     → Calm touched s t
-calm_apart touched s t ports held params sync relay =
-    record { leaves = apart_leaves touched s t ports held params sync relay; counts = counted_same s t ports }
+calm_apart touched s t ports held params largest sync relay =
+    record { leaves = apart_leaves touched s t ports held params largest sync relay; counts = counted_same s t ports }
 
 pub calm_port : (touched : Timer → Bool) (p : ℕ) (f : Port → Port) (s : SystemState) → Spares touched p f
     → ((q : Port) → (f q).announces ≡ q.announces) → ((q : Port) → (f q).syncs ≡ q.syncs)
@@ -47,7 +47,6 @@ calm_held touched covers s hs =
 peer_spares : (touched : Timer → Bool) (p : ℕ) (step : PeerState → PeerState)
     → Spares touched p (λ (q : Port). record q { peer = step q.peer })
 peer_spares touched p step = record {
-  log = λ q. refl;
   announce = λ off q. refl;
   pdelay = λ off q. refl;
   respond = λ off q. refl;

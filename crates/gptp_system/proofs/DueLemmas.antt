@@ -5,7 +5,6 @@ use Rattle.gptp_receipt.specs.declared.held.Held.{Held}
 use Rattle.gptp_receipt.specs.declared.held.Held.TheVariants as helds
 use Rattle.gptp_system.specs.declared.port.Port.{Port}
 use Rattle.gptp_system.specs.declared.sending.Sending.{Sending}
-use Rattle.gptp_setup.specs.declared.setup.Params.{Params}
 use Rattle.gptp_setup.specs.declared.timer.Timer.{Timer}
 use Rattle.gptp_setup.specs.declared.timer.Timer.TheVariants as timers
 use Rattle.gptp_system.specs.State.{SystemState, age_due, announce_due, change, change_at, held_at, number, on_port}
@@ -54,13 +53,8 @@ same_announce q q' helds.Aged same = refl
 same_announce q q' (helds.Mine root steps) same = rw same refl
 same_announce q q' (helds.Received r) same = refl
 
-same_age : (params : Params) (q q' : Port) (h : Held) → q'.log_interval ≡ q.log_interval
-    → age_due params q' h ≡ age_due params q h
-same_age params q q' h same = rw same refl
-
 -- a change of port p that leaves these timers
 pub record Spares (touched : Timer → Bool) (p : ℕ) (f : Port → Port) : Type 0 where
-  pub log : (q : Port) → (f q).log_interval ≡ q.log_interval
   pub announce : touched (timers.Announce p) ≡ false → (q : Port) → (f q).announce ≡ q.announce
   pub pdelay : touched (timers.Pdelay p) ≡ false → (q : Port) → (f q).pdelay ≡ q.pdelay
   pub respond : touched (timers.Respond p) ≡ false → (q : Port) → (f q).respond ≡ q.respond
@@ -72,8 +66,7 @@ on_port_leaves touched p f k s (timers.Announce n) off =
     (λ q here. same_announce q (f q) (held_at s n)
     (k.announce (subst (λ m. touched (timers.Announce m) ≡ false) here off) q))
 on_port_leaves touched p f k s (timers.Age n) off =
-    changed_number (λ q. age_due s.params q (held_at s n)) f p s.ports n
-    (λ q here. same_age s.params q (f q) (held_at s n) (k.log q))
+    changed_number (λ (q : Port). age_due s.params s.largest (held_at s n)) f p s.ports n (λ q here. refl)
 on_port_leaves touched p f k s (timers.Pdelay n) off =
     changed_number (λ (q : Port). q.pdelay) f p s.ports n
     (λ q here. k.pdelay (subst (λ m. touched (timers.Pdelay m) ≡ false) here off) q)
@@ -87,16 +80,17 @@ on_port_leaves touched p f k s timers.Relay off = refl
 
 -- two timers of the system may differ
 pub apart_leaves : (touched : Timer → Bool) (s s' : SystemState) → s'.ports ≡ s.ports → s'.held ≡ s.held
-    → s'.params ≡ s.params
+    → s'.params ≡ s.params → s'.largest ≡ s.largest
     → (touched timers.Sync ≡ false → s'.sync ≡ s.sync)
     → (touched timers.Relay ≡ false → s'.relay ≡ s.relay)
     → Leaves touched s s'
-apart_leaves touched s s' ports held params sync relay (timers.Announce n) off = rw (ports, held) refl
-apart_leaves touched s s' ports held params sync relay (timers.Age n) off = rw (ports, held, params) refl
-apart_leaves touched s s' ports held params sync relay (timers.Pdelay n) off = rw ports refl
-apart_leaves touched s s' ports held params sync relay (timers.Respond n) off = rw ports refl
-apart_leaves touched s s' ports held params sync relay timers.Sync off = rw (sync off) refl
-apart_leaves touched s s' ports held params sync relay timers.Relay off = relay off
+apart_leaves touched s s' ports held params largest sync relay (timers.Announce n) off = rw (ports, held) refl
+apart_leaves touched s s' ports held params largest sync relay (timers.Age n) off =
+    rw (ports, held, params, largest) refl
+apart_leaves touched s s' ports held params largest sync relay (timers.Pdelay n) off = rw ports refl
+apart_leaves touched s s' ports held params largest sync relay (timers.Respond n) off = rw ports refl
+apart_leaves touched s s' ports held params largest sync relay timers.Sync off = rw (sync off) refl
+apart_leaves touched s s' ports held params largest sync relay timers.Relay off = relay off
 
 pub leaves_on : (touched : Timer → Bool) (s t u : SystemState) → Leaves touched s t → Leaves touched t u
     → Leaves touched s u
@@ -139,7 +133,7 @@ telling_leaves touched s (timers.Announce n) off =
     same_number g (counted s.held s.ports) s.ports
     (counted-map g (λ q. same_announce q (with_sync q) (held_at s n) refl) s.held s.ports) n
 telling_leaves touched s (timers.Age n) off =
-    let g : Port → Option ℕ = λ q. age_due s.params q (held_at s n) in
+    let g : Port → Option ℕ = λ q. age_due s.params s.largest (held_at s n) in
     same_number g (counted s.held s.ports) s.ports (counted-map g (λ q. refl) s.held s.ports) n
 telling_leaves touched s (timers.Pdelay n) off =
     same_number (λ (q : Port). q.pdelay) (counted s.held s.ports) s.ports

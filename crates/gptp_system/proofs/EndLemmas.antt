@@ -259,6 +259,9 @@ choosing_concludes v now t = record { same_clock = refl; ports = ports; tells = 
               (λ e. absurd (stale (flag mid held ∙ ap (λ b. Some b) e)), λ e. ap (λ (x : Port). x.announce) old));
         }
 
+    same_log : (p q : Port) → Some p ≡ Some q → p.log_interval ≡ q.log_interval
+    same_log p q same = ap (λ (y : Port). y.log_interval) (same_Some p q same)
+
     tells : (x : Sending) → In x sent → IsAnnounce x.body → IsOwnAnnounce (choosing v now t) x
     tells x member announce =
         let (i, q, fresh, there, is) =
@@ -272,7 +275,16 @@ choosing_concludes v now t = record { same_clock = refl; ports = ports; tells = 
           holds = each_port-there (held_after v (clock t)) t.held i h stands
               ∙ ap (λ y. Some y) (fresh_mine v (clock t) (suc i) h (sym flagged));
           is = is ∙ ap (λ m. announcement (record { clock = clock t; port = m }) v.root v.steps q) number;
+          log = λ q' there'. names i q q' there (all_announced-get now (fresh_ports v t) t.ports i q' there');
         }
+      where
+        names : (i : ℕ) (q q' : Port) → slice_get t.ports i ≡ Some q
+            → Marked (announced now) (slice_get (fresh_ports v t) i ≡ Some true) t.ports i q'
+            → q'.log_interval ≡ q.log_interval
+        names i q q' there (p, was, inl (fresh, new)) =
+            ap (λ (y : Port). y.log_interval) new ∙ same_log p q (sym was ∙ there)
+        names i q q' there (p, was, inr (stale, old)) =
+            ap (λ (y : Port). y.log_interval) old ∙ same_log p q (sym was ∙ there)
 
 -- a system that selects
 pub selects_concludes : (now : ℕ) (t u : SystemState) (sends : List Sending) → Selects now t u sends

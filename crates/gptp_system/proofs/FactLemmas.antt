@@ -30,6 +30,7 @@ length-map f (x ∷ xs) = let ih = length-map f xs in omega arith
 pub keeps_on : (s t u : SystemState) → Keeps s t → Keeps t u → Keeps s u
 keeps_on s t u a b = record {
   params = b.params ∙ a.params;
+  largest = b.largest ∙ a.largest;
   phase = b.phase ∙ a.phase;
   drift = b.drift ∙ a.drift;
   same_clock = b.same_clock ∙ a.same_clock;
@@ -79,6 +80,7 @@ steady_on s t u a b = record {
 -- nothing that selection reads or that a port shows has changed
 pub record Quiet (s s' : SystemState) : Type 0 where
   pub params : s'.params ≡ s.params
+  pub largest : s'.largest ≡ s.largest
   pub phase : s'.phase ≡ s.phase
   pub drift : s'.drift ≡ s.drift
   pub identity : s'.identity ≡ s.identity
@@ -93,6 +95,7 @@ pub record Quiet (s s' : SystemState) : Type 0 where
 pub quiet_keeps : (s s' : SystemState) → Quiet s s' → Keeps s s'
 quiet_keeps s s' k = record {
   params = k.params;
+  largest = k.largest;
   phase = k.phase;
   drift = k.drift;
   same_clock = ap clock_of k.identity;
@@ -143,6 +146,7 @@ pub ports_quiet : (s : SystemState) (qs : List Port) → map (λ (q : Port). q.l
     → Quiet s (record s { ports = qs })
 ports_quiet s qs logs alike = record {
   params = refl;
+  largest = refl;
   phase = refl;
   drift = refl;
   identity = refl;
@@ -189,6 +193,7 @@ shown_after v c p h q a = record {
 choosing_keeps : (v : Vector) (now : ℕ) (s : SystemState) → Keeps s (choosing v now s)
 choosing_keeps v now s = record {
   params = refl;
+  largest = refl;
   phase = refl;
   drift = refl;
   same_clock = refl;

@@ -2,6 +2,7 @@ pub mod PlaceLemmas
 pub mod ChangedLemmas
 pub mod WrittenLemmas
 pub mod AnnouncementLemmas
+pub mod StartLemmas
 pub mod ReadyLemmas
 pub mod SelectionLemmas
 pub mod MeasuringLemmas

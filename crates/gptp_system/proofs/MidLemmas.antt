@@ -8,16 +8,17 @@ use Rattle.gptp_lists.specs.Members.{In}
 use Rattle.gptp_messages.specs.declared.announce.AnnounceView.{AnnounceView}
 use Rattle.gptp_receipt.specs.declared.held.Held.{Held}
 use Rattle.gptp_receipt.specs.declared.held.Held.TheVariants as helds
-use Rattle.gptp_receipt.specs.Held.{aged, comparison, held_after, reception}
+use Rattle.gptp_receipt.specs.Held.{comparison, held_after, reception}
 use Rattle.gptp_receipt.specs.Qualification.{Qualified}
 use Rattle.gptp_pdelay.specs.Peer.{PeerState, is_capable}
 use Rattle.gptp_system.specs.declared.port.Port.{Port}
 use Rattle.gptp_system.specs.declared.sending.Sending.{Sending}
 use Rattle.gptp_setup.specs.declared.timer.Timer.TheVariants as timers
 use Rattle.gptp_setup.specs.Intervals.{interval_of}
-use Rattle.gptp_system.specs.State.{SystemState, age_due, clock, due, held_at, is_capable_at, number, on_held, on_port, own, span_of}
+use Rattle.gptp_setup.specs.Pace.{span_by}
+use Rattle.gptp_system.specs.State.{SystemState, age_due, clock, due, held_at, is_capable_at, number, on_port, own}
 use Rattle.gptp_system.specs.Measuring.{down, held_if, held_turned, is_turned, silenced, turned}
-use Rattle.gptp_system.specs.Announcing.{aged_at, compared, with_priority}
+use Rattle.gptp_system.specs.Announcing.{aged_at, aged_by, compared, with_priority}
 use Rattle.gptp_system.specs.Facts.{AreShown, IsShown}
 use Rattle.gptp_system.specs.Touch.{Touch, Hear, Tick, Grow, Enable, Disable, Other, IsTurn, Mid}
 use Rattle.gptp_system.specs.Reacts.{IsAnnounce, IsOwnAnnounce, PlaceReacts, PortEnds, Reacts, Tells}
@@ -128,37 +129,37 @@ unheard_mids p a now s shown on unqualified = record {
 -- what is held grew too old
 pub aged_mids : (p now t : ℕ) (s : SystemState) → due (timers.Age p) s ≡ Some t → t ≤ now
     → Mids s (Grow p) now (aged_at p now s)
-aged_mids p now t s is past = go (number s.ports p) refl is
+aged_mids p now t s is past = record {
+  same_clock = refl;
+  held = λ i mid stands. at i mid (change-get ages p s.held i mid stands);
+  ports = λ i x stands. (x, stands, refl, refl);
+}
   where
-    ages : Option Port → Held → Held
-    ages o h = option_map_or (λ (q : Port). aged h (span_of s.params q) now) o h
+    ages : Held → Held
+    ages = aged_by s.params s.largest now
 
-    grown : (q : Port) (h : Held) → age_due s.params q h ≡ Some t → aged h (span_of s.params q) now ≡ helds.Aged
-    grown q helds.Disabled e = absurd (none-some t e)
-    grown q helds.Aged e = absurd (none-some t e)
-    grown q (helds.Mine root steps) e = absurd (none-some t e)
-    grown q (helds.Received r) e =
-        let moment : r.at + span_of s.params q ≡ t = same_Some (r.at + span_of s.params q) t e in
-        let late : nat_le (r.at + span_of s.params q) now ≡ true =
-        le-leb (r.at + span_of s.params q) now (subst (λ x. x ≤ now) (sym moment) past) in
+    grown : (h : Held) → age_due s.params s.largest h ≡ Some t → ages h ≡ helds.Aged
+    grown helds.Disabled e = absurd (none-some t e)
+    grown helds.Aged e = absurd (none-some t e)
+    grown (helds.Mine root steps) e = absurd (none-some t e)
+    grown (helds.Received r) e =
+        let end : ℕ = r.at + span_by s.params.timeout s.largest r.interval in
+        let late : nat_le end now ≡ true = le-leb end now (subst (λ x. x ≤ now) (sym (same_Some end t e)) past) in
         rw late refl
 
-    go : (o : Option Port) → number s.ports p ≡ o → option_and_then (λ q. age_due s.params q (held_at s p)) o ≡ Some t
-        → Mids s (Grow p) now (on_held p (ages o) s)
-    go None there e = absurd (none-some t e)
-    go (Some q) there e = record {
-      same_clock = refl;
-      held = λ i mid stands. at i mid (change-get (ages (Some q)) p s.held i mid stands);
-      ports = λ i x stands. (x, stands, refl, refl);
-    }
-      where
-        at : (i : ℕ) (mid : Held) → Changed (ages (Some q)) (p ≡ suc i) s.held i mid
-            → (h : Held) × (slice_get s.held i ≡ Some h) × Mid (clock s) (suc i) (Grow p) now h mid
-        at i mid (h, was, inl (here, new)) =
-            let holds : held_at s p ≡ h =
-            ap (λ x. option_map_or (λ y. y) x helds.Disabled) (number-get s.held p i h here was) in
-            (h, was, inl (sym here, new ∙ grown q h (ap (λ x. age_due s.params q x) (sym holds) ∙ e)))
-        at i mid (h, was, inr (elsewhere, old)) = (h, was, inr ((λ x. elsewhere (sym x)), old))
+    held_due : (o : Option Port) → option_and_then (λ (q : Port). age_due s.params s.largest (held_at s p)) o ≡ Some t
+        → age_due s.params s.largest (held_at s p) ≡ Some t
+    held_due None e = absurd (none-some t e)
+    held_due (Some q) e = e
+
+    at : (i : ℕ) (mid : Held) → Changed ages (p ≡ suc i) s.held i mid
+        → (h : Held) × (slice_get s.held i ≡ Some h) × Mid (clock s) (suc i) (Grow p) now h mid
+    at i mid (h, was, inl (here, new)) =
+        let holds : held_at s p ≡ h =
+        ap (λ x. option_map_or (λ y. y) x helds.Disabled) (number-get s.held p i h here was) in
+        let end = ap (age_due s.params s.largest) (sym holds) ∙ held_due (number s.ports p) is in
+        (h, was, inl (sym here, new ∙ grown h end))
+    at i mid (h, was, inr (elsewhere, old)) = (h, was, inr ((λ x. elsewhere (sym x)), old))
 
 -- the measuring ends or begins
 abbrev turn_of : ℕ → Bool → Touch
@@ -261,6 +262,7 @@ concludes_on t now u s' sends more c l m = record {
       number_is = o.number_is;
       holds = rw (l.held, l.root, l.steps) o.holds;
       is = rw (l.same_clock, l.root, l.steps) o.is;
+      log = λ q there. let (p, was, same, announce) = l.ports o.place q there in same ∙ o.log p was;
     }
 
     still : (n : ℕ) (mid h' : Held) (q p q' : Port) → q'.log_interval ≡ p.log_interval → q'.announce ≡ p.announce

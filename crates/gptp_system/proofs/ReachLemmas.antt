@@ -59,7 +59,7 @@ becomes r touched s t s' sends calm b = record {
 rests : (r : Reach) (touched : Timer → Bool) (s s' : SystemState) (sends : List Sending) → Becomes s s' sends
     → Goes r touched s s' sends
 rests r touched s s' sends b =
-    becomes r touched s s s' sends (calm_apart touched s s refl refl refl (λ off. refl) (λ off. refl)) b
+    becomes r touched s s s' sends (calm_apart touched s s refl refl refl refl (λ off. refl) (λ off. refl)) b
 
 -- what is changed before it is selected keeps all ports and spares the other timers
 selects : (touched : Timer → Bool) → CoversSelection touched → (now : ℕ) (s t u : SystemState) (sends : List Sending)
@@ -132,7 +132,6 @@ turns_and_asks stops p step now s s' sends is k = record {
 
     spares : Spares touched p (asking (local_time k.between now) (now + interval_of k.between.params.pdelay))
     spares = record {
-      log = λ q. refl;
       announce = λ off q. refl;
       pdelay = λ off q. absurd (first_touched p _ off);
       respond = λ off q. refl;
@@ -201,7 +200,6 @@ goes_down p now s s' sends k =
 
     spares : Spares touched p silenced
     spares = record {
-      log = λ q. refl;
       announce = λ off q. refl;
       pdelay = λ off q. absurd (first_touched p _ off);
       respond = λ off q. absurd (first_touched p _ off);
@@ -232,7 +230,7 @@ keeps_if : (b : Bool) (r : Reach) (touched : Timer → Bool) (head : Head) (now 
     (sends : List Sending) (answer : Answer)
     → KeepsIf b head now s s' sends answer → Goes r touched s s' sends
 keeps_if true r touched head now s s' sends answer k =
-    becomes r touched s _ s' sends (calm_apart touched s _ refl refl refl (λ off. refl) (λ off. refl)) k.becomes
+    becomes r touched s _ s' sends (calm_apart touched s _ refl refl refl refl (λ off. refl) (λ off. refl)) k.becomes
 keeps_if false r touched head now s s' sends answer k = rests r touched s s' sends k.becomes
 
 hears_sync : (b : Bool) (r : Reach) (touched : Timer → Bool) (p : ℕ) (head : Head) (now : ℕ) (s s' : SystemState)
@@ -249,10 +247,10 @@ knows_if : (said : Option SyncInfo) (delay rate : ℤ) (now : ℕ) (s s' : Syste
 knows_if None delay rate now s s' sends answer k = rests reaches.Nothing (same_timer timers.Relay) s s' sends k.becomes
 knows_if (Some info) delay rate now s s' sends answer (inl k) =
     becomes reaches.Nothing (same_timer timers.Relay) s _ s' sends
-    (calm_apart (same_timer timers.Relay) s _ refl refl refl (λ off. refl) (λ off. absurd cc)) k.becomes
+    (calm_apart (same_timer timers.Relay) s _ refl refl refl refl (λ off. refl) (λ off. absurd cc)) k.becomes
 knows_if (Some info) delay rate now s s' sends answer (inr k) =
     becomes reaches.Nothing (same_timer timers.Relay) s _ s' sends
-    (calm_apart (same_timer timers.Relay) s _ refl refl refl (λ off. refl) (λ off. refl)) k.becomes
+    (calm_apart (same_timer timers.Relay) s _ refl refl refl refl (λ off. refl) (λ off. refl)) k.becomes
 
 hears_follow_up : (b : Bool) (p : ℕ) (m : FollowUp) (now : ℕ) (s s' : SystemState) (sends : List Sending)
     (answer : Answer)
@@ -263,10 +261,10 @@ hears_follow_up true p m now s s' sends answer k =
     knows_if (said_on p m s) (delay_at s p) (rate_at s p) now s s' sends answer k
 
 restarted_calm : (now : ℕ) (s : SystemState) → Calm (same_timer timers.Sync) s (restarted now s)
-restarted_calm now s = calm_apart (same_timer timers.Sync) s _ refl refl refl (λ off. absurd cc) (λ off. refl)
+restarted_calm now s = calm_apart (same_timer timers.Sync) s _ refl refl refl refl (λ off. absurd cc) (λ off. refl)
 
 stopped_calm : (s : SystemState) → Calm (same_timer timers.Relay) s (stopped s)
-stopped_calm s = calm_apart (same_timer timers.Relay) s _ refl refl refl (λ off. refl) (λ off. absurd cc)
+stopped_calm s = calm_apart (same_timer timers.Relay) s _ refl refl refl refl (λ off. refl) (λ off. absurd cc)
 
 -- all Master ports tell time
 tells : (touched : Timer → Bool) (told : Relayed) (s t s' : SystemState) (sends : List Sending) → Calm touched s t
@@ -307,7 +305,6 @@ hears_message p (messages.PdelayReq head) now s s' sends answer k =
     becomes reaches.Nothing (same_timer (timers.Respond p)) s (owes p head now s) s' sends
     (calm_port (same_timer (timers.Respond p)) p (owing _ _) s
     (record {
-      log = λ q. refl;
       announce = λ off q. refl;
       pdelay = λ off q. refl;
       respond = λ off q. absurd (itself_touched p off);
@@ -348,7 +345,6 @@ expires (timers.Announce p) now s s' sends k = record {
   leaves = subst (Leaves (same_timer (timers.Announce p)) s) (sym k.state)
       (on_port_leaves (same_timer (timers.Announce p)) p (announced now)
       (record {
-        log = λ q. refl;
         announce = λ off q. absurd (itself_touched p off);
         pdelay = λ off q. refl;
         respond = λ off q. refl;
@@ -366,7 +362,6 @@ expires (timers.Respond p) now s s' sends k = record {
   leaves = subst (Leaves (same_timer (timers.Respond p)) s) (sym k.state)
       (on_port_leaves (same_timer (timers.Respond p)) p answering_done
       (record {
-        log = λ q. refl;
         announce = λ off q. refl;
         pdelay = λ off q. refl;
         respond = λ off q. absurd (itself_touched p off);
@@ -389,4 +384,4 @@ steps_reach (Frame p octets) now s s' sends answer k = hears_frame p octets now 
 steps_reach (Expires timer) now s s' sends answer k = expires timer now s s' sends k
 steps_reach (Priority value) now s s' sends answer k =
     selects is_selected no_cover now s (with_priority value s) s' sends
-    (calm_apart is_selected s (with_priority value s) refl refl refl (λ off. refl) (λ off. refl)) refl k
+    (calm_apart is_selected s (with_priority value s) refl refl refl refl (λ off. refl) (λ off. refl)) refl k

@@ -292,5 +292,12 @@ announce_expires (suc j) now t s s' sends r is k =
           number_is = ap (λ (z : Sending). z.port) here;
           holds = held_mine;
           is = here;
+          log = λ q' new. names q' (change-get (announced now) (suc j) s.ports j q' new);
         }
+          where
+            names : (q' : Port) → Changed (announced now) (suc j ≡ suc j) s.ports j q'
+                → q'.log_interval ≡ q.log_interval
+            names q' (p, was, inl (same, new)) =
+                ap (λ (z : Port). z.log_interval) (new ∙ ap (announced now) (same_Some p q (sym was ∙ there)))
+            names q' (p, was, inr (elsewhere, old)) = absurd (elsewhere refl)
         tells y (inr later) announce = absurd later

@@ -1,7 +1,7 @@
 -- A state that is ready stays so.
-use Rattle.std.proofs.Common.{◌≡◌, ℕ, zero, suc, ◌+◌, ◌≤◌, Bool, true, false, if◌then◌else◌, List, [], ◌∷◌, length, refl, sym, ◌∙◌, arith}
+use Rattle.std.proofs.Common.{◌≡◌, ℕ, zero, suc, ◌+◌, ◌≤◌, ℤ, Bool, true, false, if◌then◌else◌, List, [], ◌∷◌, length, Option, Some, None, refl, sym, ◌∙◌, arith}
 use Rattle.std.specs.List.{AllByRecursion}
-use Rattle.std.specs.Option.{ForSome}
+use Rattle.std.specs.Option.{ForSome, option_map_or}
 use Rattle.gptp_vector.specs.declared.vector.Vector.{Vector}
 use Rattle.gptp_receipt.specs.declared.held.Held.{Held}
 use Rattle.gptp_receipt.specs.declared.held.Held.TheVariants as helds
@@ -18,21 +18,23 @@ use Rattle.gptp_roles.specs.Role.{each_from, held_after, is_fresh, is_master, ro
 use Rattle.gptp_roles.proofs.EachLemmas.{length-each_from}
 use Rattle.std.specs.Prelude.{map}
 use Rattle.std.specs.List.{range_with_len}
-use Rattle.std.proofs.lemmas.List.FromFn.{length-map-range_with_len}
 use Rattle.gptp_roles.specs.Selection.{clock_of}
 use Rattle.gptp_pdelay.specs.Clock.{IsDrift}
 use Rattle.gptp_setup.specs.declared.setup.Params.{Params}
 use Rattle.gptp_setup.specs.declared.setup.Setup.{Setup}
-use Rattle.gptp_system.specs.Start.{new_port, new_ports, all_disabled, started}
+use Rattle.gptp_system.specs.Start.{new_ports, started}
 use Rattle.gptp_system.specs.declared.port.Port.{Port}
 use Rattle.gptp_system.specs.declared.sending.Sending.{Sending}
-use Rattle.gptp_setup.specs.Intervals.{AreParams, IsLog, IsMoment}
+use Rattle.gptp_setup.specs.Intervals.{AreIntervals, AreParams, IsLogUpTo, IsMoment}
+use Rattle.gptp_receipt.specs.Span.{span_of}
+use Rattle.gptp_system.specs.Announcing.{aged_by}
 use Rattle.gptp_system.specs.State.{SystemState, clock, change, change_at}
 use Rattle.gptp_system.specs.Selection.{announced, all_announced, fresh_ports, choosing, Selects}
 use Rattle.gptp_system.specs.Ready.{IsReady, IsRecent, IsPort}
 use Rattle.gptp_system.proofs.ChangedLemmas.{change-length}
 use Rattle.gptp_system.proofs.PlaceLemmas.{all_change}
 use Rattle.gptp_system.proofs.AnnouncementLemmas.{length-all_announced}
+use Rattle.gptp_system.proofs.StartLemmas.{length-all_disabled, length-new_ports}
 
 -- what a port holds after selection was received before, or is its own
 recent_after : (v : Vector) (clock p : ℕ) (h : Held) (b : Bool) → is_master (role_of v clock p h) ≡ b → IsRecent h
@@ -69,6 +71,7 @@ selects_ready now s s' sends ready placed selects =
     let placed-again : ArePlaced 1 (choosing v now s).held = rw selects.state at placed in
     rw selects.state (record {
       params = ready.params;
+      largest = ready.largest;
       phase = ready.phase;
       drift = ready.drift;
       places = helds-length ∙ ready.places ∙ sym ports-length;
@@ -108,6 +111,7 @@ pub held_ready : (s : SystemState) (p : ℕ) (f : Held → Held) (held : List He
 held_ready s p f held ready keeps is =
     rw is (record {
       params = ready.params;
+      largest = ready.largest;
       phase = ready.phase;
       drift = ready.drift;
       places = change-length f p s.held ∙ ready.places;
@@ -148,11 +152,23 @@ aged_placed : (p : ℕ) (h : Held) (b : Bool) → ForSome (received h) (IsPlaced
 aged_placed p h true placed = λ x none. absurd cc
 aged_placed p h false placed = placed
 
-pub ageing_keeps : (p span now : ℕ) → KeepsHeld p (λ h. aged h span now)
-ageing_keeps p span now = record {
-  recent = λ h recent. aged_recent h (is_due h span now) recent;
-  placed = λ h placed. aged_placed p h (is_due h span now) placed;
+pub ageing_keeps : (p : ℕ) (params : Params) (largest : ℤ) (now : ℕ) → KeepsHeld p (aged_by params largest now)
+ageing_keeps p params largest now = record {
+  recent = λ h recent. by_recent h (span_of h params.timeout largest) recent;
+  placed = λ h placed. by_placed h (span_of h params.timeout largest) placed;
 }
+  where
+    ages : Held → Option ℕ → Held
+    ages h o = option_map_or (λ span. aged h span now) o h
+
+    by_recent : (h : Held) (o : Option ℕ) → IsRecent h → IsRecent (ages h o)
+    by_recent h None recent = recent
+    by_recent h (Some span) recent = aged_recent h (is_due h span now) recent
+
+    by_placed : (h : Held) (o : Option ℕ) → ForSome (received h) (IsPlaced p)
+        → ForSome (received (ages h o)) (IsPlaced p)
+    by_placed h None placed = placed
+    by_placed h (Some span) placed = aged_placed p h (is_due h span now) placed
 
 -- ---- one port changes beside what it holds
 
@@ -163,6 +179,7 @@ ports_ready s p f ports ready keeps is =
     let size = change-length f p s.ports in
     rw is (record {
       params = ready.params;
+      largest = ready.largest;
       phase = ready.phase;
       drift = ready.drift;
       places = ready.places ∙ sym size;
@@ -174,18 +191,14 @@ ports_ready s p f ports ready keeps is =
 
 -- ---- a new system
 
-pub length-new_ports : (clock : ℕ) (params : Params) (n : ℕ) → length (new_ports clock params n) ≡ n
-length-new_ports clock params n =
-    length-map-range_with_len (λ p. new_port (record { clock = clock; port = p }) params) 1 n
-
-pub length-all_disabled : (n : ℕ) → length (all_disabled n) ≡ n
-length-all_disabled n = length-map-range_with_len (λ p. helds.Disabled) 1 n
-
-new_ports_are : (clock : ℕ) (params : Params) (a n : ℕ) → IsLog params.announce
-    → AllByRecursion IsPort (map (λ p. new_port (record { clock = clock; port = p }) params) (range_with_len a n))
-new_ports_are clock params a zero log = tt
-new_ports_are clock params a (suc n) log =
-    (record { log_interval = log; waiting = λ owed none. absurd cc }, new_ports_are clock params (a + 1) n log)
+new_ports_are : (clock : ℕ) (params : Params) (largest : ℤ) (n : ℕ) (logs : List ℤ)
+    → AllByRecursion (IsLogUpTo largest) logs
+    → AllByRecursion IsPort (new_ports clock params n logs)
+new_ports_are clock params largest n [] all = tt
+new_ports_are clock params largest n (log ∷ logs) all = (
+  record { log_interval = all.0.within; waiting = λ owed none. absurd cc },
+  new_ports_are clock params largest (n + 1) logs all.1,
+)
 
 disabled_recent : (a n : ℕ) → AllByRecursion IsRecent (map (λ p. helds.Disabled) (range_with_len a n))
 disabled_recent a zero = tt
@@ -195,18 +208,21 @@ disabled_placed : (q a n : ℕ) → ArePlaced q (map (λ p. helds.Disabled) (ran
 disabled_placed q a zero = tt
 disabled_placed q a (suc n) = ((λ r none. absurd cc), disabled_placed (q + 1) (a + 1) n)
 
-pub started_ready : (setup : Setup) (now : ℕ) → setup.ports ≤ 16 → AreParams setup.params
+pub started_ready : (setup : Setup) (now : ℕ) → setup.ports ≤ 16 → AreParams setup.params → AreIntervals setup
     → setup.phase ≤ 1000000000000000000 → IsDrift setup.drift
     → IsReady (started setup now)
-started_ready setup now few params phase drift =
-    let ports = length-new_ports (clock_of setup.identity) setup.params setup.ports in
+started_ready setup now few params intervals phase drift =
+    let logs = setup.intervals.items in
+    let ports = length-new_ports (clock_of setup.identity) setup.params 1 logs in
+    let many = intervals.many in
     record {
       params = params;
+      largest = intervals.largest;
       phase = phase;
       drift = drift;
-      places = length-all_disabled setup.ports ∙ sym ports;
-      few = omega (arith, ports);
-      placed = disabled_placed 1 1 setup.ports;
-      recent = disabled_recent 1 setup.ports;
-      ports = new_ports_are (clock_of setup.identity) setup.params 1 setup.ports params.announce;
+      places = length-all_disabled (length logs) ∙ sym ports;
+      few = omega (arith, ports, many);
+      placed = disabled_placed 1 1 (length logs);
+      recent = disabled_recent 1 (length logs);
+      ports = new_ports_are (clock_of setup.identity) setup.params setup.largest 1 logs intervals.each;
     }

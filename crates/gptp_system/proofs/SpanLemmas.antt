@@ -1,8 +1,8 @@
 -- How far ahead the timers of a system are due, and those of a new one.
-use Rattle.std.proofs.Common.{◌≡◌, ◌≤◌, ℕ, zero, suc, ◌+◌, ◌*◌, ℤ, true, List, [], ◌∷◌, get_or, Option, Some, None, slice_get, refl, sym, ap, subst, ◌∙◌, arith, mul-le-mul}
-use Rattle.std.specs.List.{AllByRecursion, range_with_len}
+use Rattle.std.proofs.Common.{◌≡◌, ◌≤◌, ℕ, zero, suc, ◌+◌, ℤ, true, List, [], ◌∷◌, length, get_or, Option, Some, None, slice_get, refl, sym, ap, subst, ◌∙◌, arith}
+use Rattle.std.specs.List.{AllByRecursion}
 use Rattle.std.specs.Option.{option_map, option_map_or}
-use Rattle.std.proofs.lemmas.Option.{none-some, same_Some, slice_get-get_or, slice_get-map, slice_get_within}
+use Rattle.std.proofs.lemmas.Option.{none-some, same_Some, slice_get-get_or, slice_get_within}
 use Rattle.gptp_receipt.specs.declared.held.Held.{Held}
 use Rattle.gptp_receipt.specs.declared.held.Held.TheVariants as helds
 use Rattle.gptp_receipt.specs.declared.held.Reception.{Reception}
@@ -12,12 +12,15 @@ use Rattle.gptp_system.specs.declared.port.Port.{Port}
 use Rattle.gptp_setup.specs.declared.setup.Setup.{Setup}
 use Rattle.gptp_setup.specs.declared.timer.Timer.{Timer}
 use Rattle.gptp_setup.specs.declared.timer.Timer.TheVariants as timers
-use Rattle.gptp_setup.specs.Intervals.{IsLog, interval_of}
-use Rattle.gptp_system.specs.State.{SystemState, age_due, announce_due, due, held_at, is_mine, number, span_of}
+use Rattle.gptp_setup.specs.Intervals.{AreIntervals, IsLog, IsLogUpTo, interval_of}
+use Rattle.gptp_setup.specs.Pace.{span_by}
+use Rattle.gptp_system.specs.State.{SystemState, age_due, announce_due, due, held_at, is_mine, number}
 use Rattle.gptp_system.specs.Ready.{IsPort, IsReady}
-use Rattle.gptp_system.specs.Start.{all_disabled, new_port, new_ports, started}
+use Rattle.gptp_system.specs.Start.{all_disabled, new_port, started}
 use Rattle.gptp_system.specs.Times.{IsInTime, IsPortInTime}
 use Rattle.gptp_setup.proofs.IntervalLemmas.{interval_most}
+use Rattle.gptp_setup.proofs.PaceLemmas.{span_within}
+use Rattle.gptp_system.proofs.StartLemmas.{disabled_at, new_port_at}
 use Rattle.gptp_system.proofs.StartedLemmas.{at_number, mine_due}
 
 all_at : {X : Type 0} (P : X → Type 0) (xs : List X) (i : ℕ) (x : X) → AllByRecursion P xs → slice_get xs i ≡ Some x
@@ -43,16 +46,18 @@ module _ (s : SystemState) (now : ℕ) (ready : IsReady s) (k : IsInTime s now) 
   interval_few i q there = interval_most q.log_interval (all_at IsPort s.ports i q ready.ports there).log_interval
 
   age_few : (i : ℕ) (q : Port) → slice_get s.ports i ≡ Some q → (t : ℕ)
-      → age_due s.params q (held_at s (suc i)) ≡ Some t → t ≤ now + 160000000000
+      → age_due s.params s.largest (held_at s (suc i)) ≡ Some t → t ≤ now + 160000000000
   age_few i q there t is = go (received (held_at s (suc i))) refl is
     where
       go : (o : Option Reception) → received (held_at s (suc i)) ≡ o
-          → option_map (λ (r : Reception). r.at + span_of s.params q) o ≡ Some t → t ≤ now + 160000000000
+          → option_map (λ (r : Reception). r.at + span_by s.params.timeout s.largest r.interval) o ≡ Some t
+          → t ≤ now + 160000000000
       go None none e = absurd (none-some t e)
       go (Some r) got e =
           let came = (port_in_time i q there).1.came r got in
-          let span : span_of s.params q ≤ 10 * 16000000000 = mul-le-mul ready.params.timeout (interval_few i q there) in
-          let same = same_Some (r.at + span_of s.params q) t e in
+          let span = (span_within s.params.timeout s.largest r.interval ready.params.timeout-least ready.params.timeout
+          ready.largest).1 in
+          let same = same_Some (r.at + span_by s.params.timeout s.largest r.interval) t e in
           omega arith
 
   -- each timer is due within ten announce intervals of sixteen seconds
@@ -71,8 +76,9 @@ module _ (s : SystemState) (now : ℕ) (ready : IsReady s) (k : IsInTime s now) 
       let few = interval_few i q there in
       omega arith
   due_within (timers.Age p) t is =
-      let (i, q, number_is, there, e) = at_number (λ q. age_due s.params q (held_at s p)) s.ports p t is in
-      age_few i q there t (subst (λ n. age_due s.params q (held_at s n) ≡ Some t) number_is e)
+      let ages : Port → Option ℕ = λ q. age_due s.params s.largest (held_at s p) in
+      let (i, q, number_is, there, e) = at_number ages s.ports p t is in
+      age_few i q there t (subst (λ n. age_due s.params s.largest (held_at s n) ≡ Some t) number_is e)
   due_within (timers.Pdelay p) t is =
       let (i, q, number_is, there, e) = at_number (λ (q : Port). q.pdelay) s.ports p t is in
       let soon = (port_in_time i q there).1.pdelay t e in
@@ -86,47 +92,38 @@ module _ (s : SystemState) (now : ℕ) (ready : IsReady s) (k : IsInTime s now) 
 
 -- ---- the start
 
-mapped : {X Y : Type 0} (f : X → Y) (o : Option X) (y : Y) → option_map f o ≡ Some y → (x : X) × (y ≡ f x)
-mapped f None y is = absurd (none-some y is)
-mapped f (Some x) y is = (x, sym (same_Some (f x) y is))
-
 -- the ports of a new system are new, and hold nothing
-abbrev new_of : Setup → ℕ → Port
-new_of setup p = new_port (record { clock = clock_of setup.identity; port = p }) setup.params
+abbrev new_of : Setup → ℕ → ℤ → Port
+new_of setup p log = new_port (record { clock = clock_of setup.identity; port = p }) setup.params log
 
-port_is : (setup : Setup) (i : ℕ) (q : Port)
-    → slice_get (new_ports (clock_of setup.identity) setup.params setup.ports) i ≡ Some q
-    → (p : ℕ) × (q ≡ new_of setup p)
-port_is setup i q there =
-    mapped (new_of setup) (slice_get (range_with_len 1 setup.ports) i) q
-    (sym (slice_get-map (new_of setup) (range_with_len 1 setup.ports) i) ∙ there)
-
-held_is : (n i : ℕ) (h : Held) → slice_get (all_disabled n) i ≡ Some h → h ≡ helds.Disabled
-held_is n i h stands =
-    let silent : ℕ → Held = λ p. helds.Disabled in
-    (mapped silent (slice_get (range_with_len 1 n) i) h (sym (slice_get-map silent (range_with_len 1 n) i) ∙ stands)).1
+port_is : (setup : Setup) (now i : ℕ) (q : Port) → slice_get (started setup now).ports i ≡ Some q
+    → (log : ℤ) × (slice_get setup.intervals.items i ≡ Some log) × (q ≡ new_of setup (suc i) log)
+port_is setup now i q there = new_port_at (clock_of setup.identity) setup.params setup.intervals.items i q there
 
 pub starts_in_time : (setup : Setup) (now : ℕ) → IsInTime (started setup now) now
 starts_in_time setup now = record { each = each; sync = omega arith; relay = λ t is. absurd (none-some t is) }
   where
-    quiet : (p : ℕ) → IsPortInTime setup.params now helds.Disabled (new_of setup p)
-    quiet p = record {
+    quiet : (p : ℕ) (log : ℤ) → IsPortInTime setup.params now helds.Disabled (new_of setup p log)
+    quiet p log = record {
       announce = λ mine. absurd cc;
       came = λ r is. absurd (none-some r is);
       pdelay = λ t is. absurd (none-some t is);
       respond = λ t is. absurd (none-some t is);
     }
 
-    each : (i : ℕ) (h : Held) (q : Port) → slice_get (all_disabled setup.ports) i ≡ Some h
-        → slice_get (new_ports (clock_of setup.identity) setup.params setup.ports) i ≡ Some q
-        → IsPortInTime setup.params now h q
+    each : (i : ℕ) (h : Held) (q : Port) → slice_get (started setup now).held i ≡ Some h
+        → slice_get (started setup now).ports i ≡ Some q → IsPortInTime setup.params now h q
     each i h q stands there =
-        let off = held_is setup.ports i h stands in let (n, is) = port_is setup i q there in rw (off, is) (quiet n)
+        let off = disabled_at (length setup.intervals.items) i h stands in
+        let (log, here, is) = port_is setup now i q there in
+        rw (off, is) (quiet (suc i) log)
 
--- its ports announce at the interval of the network
-pub starts_logs : (setup : Setup) (now : ℕ) → IsLog setup.params.announce → (i : ℕ) (q : Port)
+-- its ports announce at the intervals of its setup
+pub starts_logs : (setup : Setup) (now : ℕ) → AreIntervals setup → (i : ℕ) (q : Port)
     → slice_get (started setup now).ports i ≡ Some q → IsLog q.log_interval
-starts_logs setup now log i q there = let (p, is) = port_is setup i q there in rw is log
+starts_logs setup now intervals i q there =
+    let (log, here, is) = port_is setup now i q there in
+    rw is (all_at (IsLogUpTo setup.largest) setup.intervals.items i log intervals.each here).within
 
 -- what stands at its numbers is Disabled
 off_at : (n p : ℕ) → option_map_or (λ h. h) (number (all_disabled n) p) helds.Disabled ≡ helds.Disabled
@@ -136,27 +133,28 @@ off_at n (suc i) = go (slice_get (all_disabled n) i) refl
     go : (o : Option Held) → slice_get (all_disabled n) i ≡ o
         → option_map_or (λ h. h) o helds.Disabled ≡ helds.Disabled
     go None there = refl
-    go (Some h) there = held_is n i h there
+    go (Some h) there = disabled_at n i h there
 
 -- only its Sync timer runs, and none of its timers is due before now
 pub starts_ahead : (setup : Setup) (now : ℕ) (timer : Timer) (t : ℕ) → due timer (started setup now) ≡ Some t → now ≤ t
 starts_ahead setup now (timers.Announce p) t is =
     let s = started setup now in
     let (i, q, here, there, e) = at_number (λ q. announce_due q (held_at s p)) s.ports p t is in
-    absurd (none-some t (sym (ap (announce_due q) (off_at setup.ports p)) ∙ e))
+    absurd (none-some t (sym (ap (announce_due q) (off_at (length setup.intervals.items) p)) ∙ e))
 starts_ahead setup now (timers.Age p) t is =
     let s = started setup now in
-    let (i, q, here, there, e) = at_number (λ q. age_due s.params q (held_at s p)) s.ports p t is in
-    absurd (none-some t (sym (ap (age_due s.params q) (off_at setup.ports p)) ∙ e))
+    let ages : Port → Option ℕ = λ q. age_due s.params s.largest (held_at s p) in
+    let (i, q, here, there, e) = at_number ages s.ports p t is in
+    absurd (none-some t (sym (ap (age_due s.params s.largest) (off_at (length setup.intervals.items) p)) ∙ e))
 starts_ahead setup now (timers.Pdelay p) t is =
     let s = started setup now in
     let (i, q, here, there, e) = at_number (λ (q : Port). q.pdelay) s.ports p t is in
-    let (n, new) = port_is setup i q there in
+    let (log, interval, new) = port_is setup now i q there in
     absurd (none-some t (sym (ap (λ (x : Port). x.pdelay) new) ∙ e))
 starts_ahead setup now (timers.Respond p) t is =
     let s = started setup now in
     let (i, q, here, there, e) = at_number (λ (q : Port). q.respond) s.ports p t is in
-    let (n, new) = port_is setup i q there in
+    let (log, interval, new) = port_is setup now i q there in
     absurd (none-some t (sym (ap (λ (x : Port). x.respond) new) ∙ e))
 starts_ahead setup now timers.Sync t is =
     let same = same_Some (now + interval_of setup.params.sync) t is in omega arith

@@ -1,9 +1,8 @@
 -- Every timer that a step starts is due after now, and so is a timer that ran out, where it runs at all.
-use Rattle.std.proofs.Common.{◌≡◌, ◌≢◌, ◌⊎◌, ◌≤◌, ◌<◌, ℕ, zero, suc, ◌+◌, ◌*◌, ℤ, pos, negsuc, Bool, true, false, List, Option, Some, None, slice_get, refl, sym, ap, subst, ◌∙◌, inl, inr, arith, mul-pos}
+use Rattle.std.proofs.Common.{◌≡◌, ◌≢◌, ◌⊎◌, ◌≤◌, ◌<◌, ℕ, zero, suc, ◌+◌, ℤ, Bool, true, false, List, Option, Some, None, slice_get, refl, sym, ap, subst, ◌∙◌, inl, inr, arith}
 use Rattle.std.specs.Prelude.{if◌then◌else◌, ◌==◌}
 use Rattle.std.specs.Option.{option_map, option_map_or, option_and_then}
 use Rattle.std.proofs.lemmas.Bool.Decides.{nat_tests}
-use Rattle.std.proofs.lemmas.Int.{ints}
 use Rattle.std.proofs.lemmas.Option.{none-some, same_Some}
 use Rattle.gptp_messages.specs.declared.message.Message.{Message}
 use Rattle.gptp_messages.specs.declared.message.Message.TheVariants as messages
@@ -18,8 +17,10 @@ use Rattle.gptp_system.specs.declared.sending.Sending.{Sending}
 use Rattle.gptp_setup.specs.declared.timer.Timer.{Timer}
 use Rattle.gptp_setup.specs.declared.timer.Timer.TheVariants as timers
 use Rattle.gptp_setup.specs.Intervals.{AreParams, IsLog, interval_of}
+use Rattle.gptp_setup.specs.Pace.{span_by}
 use Rattle.gptp_setup.proofs.IntervalLemmas.{interval_positive}
-use Rattle.gptp_system.specs.State.{SystemState, age_due, announce_due, clock, due, held_at, is_mine, number, span_of}
+use Rattle.gptp_setup.proofs.PaceLemmas.{span_within}
+use Rattle.gptp_system.specs.State.{SystemState, age_due, announce_due, clock, due, held_at, is_mine, number}
 use Rattle.gptp_system.specs.Input.{Input, IsTimely, Steps, PortUp, PortDown, Frame, Expires, Priority}
 use Rattle.gptp_system.specs.Facts.{AreShown, IsAtRest, Keeps}
 use Rattle.gptp_system.specs.Selection.{announced}
@@ -123,13 +124,13 @@ mine_due q (helds.Mine root steps) u e = (refl, same_Some q.announce u e)
 
 -- the Announce timer and the Age timer of one port, by what it holds
 port_runs : (s s' : SystemState) (touch : Touch) (now : ℕ) (sends : List Sending) (i : ℕ) (h' : Held) (q' : Port)
-    → Keeps s s'
-    → 1 ≤ s.params.timeout → ((q : Port) → slice_get s.ports i ≡ Some q → IsLog q.log_interval)
+    → Keeps s s' → AreParams s.params → IsLog s.largest
+    → ((q : Port) → slice_get s.ports i ≡ Some q → IsLog q.log_interval)
     → PlaceReacts s touch now s' sends i h' q'
     → (t : ℕ)
     → (announce_due q' h' ≡ Some t → (due (timers.Announce (suc i)) s ≡ Some t) ⊎ (now < t))
-    × (age_due s'.params q' h' ≡ Some t → (due (timers.Age (suc i)) s ≡ Some t) ⊎ (now < t))
-port_runs s s' touch now sends i h' q' kept kept_long logs r t = (announces, ages)
+    × (age_due s'.params s'.largest h' ≡ Some t → (due (timers.Age (suc i)) s ≡ Some t) ⊎ (now < t))
+port_runs s s' touch now sends i h' q' kept params largest logs r t = (announces, ages)
   where
     middle : IsMid now r.held r.reacts.mid
     middle = mid_is (clock s) (suc i) touch now r.held r.reacts.mid r.reacts.before
@@ -169,35 +170,39 @@ port_runs s s' touch now sends i h' q' kept kept_long logs r t = (announces, age
                 let p = positive in
                 inr (omega arith)
 
-    ages : age_due s'.params q' h' ≡ Some t → (due (timers.Age (suc i)) s ≡ Some t) ⊎ (now < t)
+    ages : age_due s'.params s'.largest h' ≡ Some t → (due (timers.Age (suc i)) s ≡ Some t) ⊎ (now < t)
     ages e = by (received h') refl e
       where
-        span : span_of s'.params q' ≡ span_of s.params r.port
-        span = rw (kept.params, r.reacts.log) refl
+        span : Reception → ℕ
+        span reception = span_by s.params.timeout s.largest reception.interval
 
-        old_due : (reception : Reception) → received r.held ≡ Some reception → reception.at + span_of s'.params q' ≡ t
-            → age_due s.params r.port r.held ≡ Some t
-        old_due reception got is = rw got (ap (λ x. Some x) (ap (λ x. reception.at + x) (sym span) ∙ is))
+        same_span : (reception : Reception) → span_by s'.params.timeout s'.largest reception.interval ≡ span reception
+        same_span reception = rw (kept.params, kept.largest) refl
 
-        later : (reception : Reception) → reception.at + span_of s'.params q' ≡ t → reception.at ≡ now → now < t
+        old_due : (reception : Reception) → received r.held ≡ Some reception → reception.at + span reception ≡ t
+            → age_due s.params s.largest r.held ≡ Some t
+        old_due reception got is = rw got (ap (λ x. Some x) is)
+
+        later : (reception : Reception) → reception.at + span reception ≡ t → reception.at ≡ now → now < t
         later reception is new =
-            let long : 1 ≤ s.params.timeout * interval_of r.port.log_interval = mul-pos kept_long positive in
-            let sum : t ≡ now + s.params.timeout * interval_of r.port.log_interval =
-            sym is ∙ ap (λ x. x + span_of s'.params q') new ∙ ap (λ x. now + x) span in
+            let long =
+            (span_within s.params.timeout s.largest reception.interval params.timeout-least params.timeout largest).0 in
             omega arith
 
         by : (o : Option Reception) → received h' ≡ o
-            → option_map (λ (x : Reception). x.at + span_of s'.params q') o ≡ Some t
+            → option_map (λ (x : Reception). x.at + span_by s'.params.timeout s'.largest x.interval) o ≡ Some t
             → (due (timers.Age (suc i)) s ≡ Some t) ⊎ (now < t)
         by None got is = absurd (none-some t is)
         by (Some reception) got is = ends r.reacts.after
           where
-            sum : reception.at + span_of s'.params q' ≡ t
-            sum = same_Some (reception.at + span_of s'.params q') t is
+            sum : reception.at + span reception ≡ t
+            sum = ap (λ x. reception.at + x) (sym (same_span reception))
+                ∙ same_Some (reception.at + span_by s'.params.timeout s'.largest reception.interval) t is
 
             earlier_or_now : (received r.held ≡ Some reception) ⊎ (reception.at ≡ now)
                 → (due (timers.Age (suc i)) s ≡ Some t) ⊎ (now < t)
-            earlier_or_now (inl earlier) = inl (was_due (age_due s.params) (old_due reception earlier sum))
+            earlier_or_now (inl earlier) =
+                inl (was_due (λ q h. age_due s.params s.largest h) (old_due reception earlier sum))
             earlier_or_now (inr new) = inr (later reception sum new)
 
             ends : PortEnds (clock s) (suc i) now s'.root s'.steps r.reacts.mid h' r.port q' sends
@@ -222,19 +227,16 @@ at_number {X} f qs (suc i) x is = go (slice_get qs i) refl is
 announce_on : (q : Port) (h : Held) (t : ℕ) → announce_due q h ≡ Some t → h ≢ helds.Disabled
 announce_on q h t is e = none-some t (ap (announce_due q) (sym e) ∙ is)
 
-age_on : (params : Params) (q : Port) (h : Held) (t : ℕ) → age_due params q h ≡ Some t → h ≢ helds.Disabled
-age_on params q h t is e = none-some t (ap (age_due params q) (sym e) ∙ is)
+age_on : (params : Params) (largest : ℤ) (h : Held) (t : ℕ) → age_due params largest h ≡ Some t → h ≢ helds.Disabled
+age_on params largest h t is e = none-some t (ap (age_due params largest) (sym e) ∙ is)
 
 pub started_later : (input : Input) (now : ℕ) (s s' : SystemState) (sends : List Sending) (answer : Answer)
-    → AreParams s.params
+    → AreParams s.params → IsLog s.largest
     → ((i : ℕ) (q : Port) → slice_get s.ports i ≡ Some q → IsLog q.log_interval) → IsTimely s now input
     → AreShown s → IsAtRest s → Steps input now s s' sends answer
     → (timer : Timer) (t : ℕ) → due timer s' ≡ Some t → (due timer s ≡ Some t) ⊎ (now < t)
-started_later input now s s' sends answer params logs calm shown rest step = go
+started_later input now s s' sends answer params largest logs calm shown rest step = go
   where
-    kept_long : 1 ≤ s.params.timeout
-    kept_long = let least = params.timeout-least in omega arith
-
     reacts : Answers (IsSeenAs s input) s now s' sends
     reacts = steps_react input now s s' sends answer calm shown rest step
 
@@ -250,9 +252,9 @@ started_later input now s s' sends answer params logs calm shown rest step = go
     at_place : (i : ℕ) (h' : Held) (q' : Port) → slice_get s'.held i ≡ Some h' → slice_get s'.ports i ≡ Some q'
         → (t : ℕ)
         → (announce_due q' h' ≡ Some t → (due (timers.Announce (suc i)) s ≡ Some t) ⊎ (now < t))
-        × (age_due s'.params q' h' ≡ Some t → (due (timers.Age (suc i)) s ≡ Some t) ⊎ (now < t))
+        × (age_due s'.params s'.largest h' ≡ Some t → (due (timers.Age (suc i)) s ≡ Some t) ⊎ (now < t))
     at_place i h' q' stands there t =
-        port_runs s s' reacts.touch now sends i h' q' kept kept_long (logs i)
+        port_runs s s' reacts.touch now sends i h' q' kept params largest (logs i)
         (reacts.reacts.ports i h' q' stands there) t
 
     sync : (t : ℕ) → Some s'.sync ≡ Some t → (s'.sync ≡ s.sync) ⊎ (s'.sync ≡ now + interval_of s.params.sync)
@@ -278,10 +280,11 @@ started_later input now s s' sends answer params logs calm shown rest step = go
         subst (λ n. (due (timers.Announce n) s ≡ Some t) ⊎ (now < t)) (sym number_is)
         ((at_place i (held_at s' p) q' stands there t).0 e)
     go (timers.Age p) t is =
-        let (i, q', number_is, there, e) = at_number (λ q. age_due s'.params q (held_at s' p)) s'.ports p t is in
+        let ages : Port → Option ℕ = λ q. age_due s'.params s'.largest (held_at s' p) in
+        let (i, q', number_is, there, e) = at_number ages s'.ports p t is in
         let stands =
         held_stands s'.held i (held_at s' p) (ap (held_at s') (sym number_is))
-        (age_on s'.params q' (held_at s' p) t e) in
+        (age_on s'.params s'.largest (held_at s' p) t e) in
         subst (λ n. (due (timers.Age n) s ≡ Some t) ⊎ (now < t)) (sym number_is)
         ((at_place i (held_at s' p) q' stands there t).1 e)
     go (timers.Pdelay p) t is =
@@ -351,15 +354,18 @@ ran_out_later (timers.Announce p) now s s' sends answer params logs timely shown
     announced_later p now s i q' t logs here (subst (λ (x : SystemState). slice_get x.ports i ≡ Some q') k.state there)
     (mine_due q' (held_at s' p) t e).1
 ran_out_later (timers.Age p) now s s' sends answer params logs timely shown rest k t is =
-    let (i, q', here, there, e) = at_number (λ q. age_due s'.params q (held_at s' p)) s'.ports p t is in
+    let ages : Port → Option ℕ = λ q. age_due s'.params s'.largest (held_at s' p) in
+    let (i, q', here, there, e) = at_number ages s'.ports p t is in
     let stands =
-    held_stands s'.held i (held_at s' p) (ap (held_at s') (sym here)) (age_on s'.params q' (held_at s' p) t e) in
+    held_stands s'.held i (held_at s' p) (ap (held_at s') (sym here))
+    (age_on s'.params s'.largest (held_at s' p) t e) in
     let reacts : Answers (IsSeenAs s (Expires (timers.Age p))) s now s' sends =
     steps_react (Expires (timers.Age p)) now s s' sends answer timely shown rest k in
     let none : received (held_at s' p) ≡ None =
     aged_off s s' reacts.touch p now sends i (held_at s' p) q' reacts.seen here
     (reacts.reacts.ports i (held_at s' p) q' stands there) in
-    absurd (none-some t (sym (ap (option_map (λ (r : Reception). r.at + span_of s'.params q')) none) ∙ e))
+    let end : Reception → ℕ = λ r. r.at + span_by s'.params.timeout s'.largest r.interval in
+    absurd (none-some t (sym (ap (option_map end) none) ∙ e))
 ran_out_later (timers.Pdelay p) now s s' sends answer params logs timely shown rest k t is =
     let (i, q', here, there, e) = at_number (λ (q : Port). q.pdelay) s'.ports p t is in
     let (q, was, after) = steps_measure (Expires (timers.Pdelay p)) now s s' sends answer k i q' there in

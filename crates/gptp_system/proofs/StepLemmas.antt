@@ -37,6 +37,7 @@ apart : (s : SystemState) (sync_in : Option KeptSync) (known : Option SyncInfo) 
     → Quiet s (record s { sync_in = sync_in; known = known; offset = offset; sync = sync; relay = relay })
 apart s sync_in known offset sync relay = record {
   params = refl;
+  largest = refl;
   phase = refl;
   drift = refl;
   identity = refl;

@@ -102,6 +102,7 @@ telling_ready s ready =
     let kept = length-counted s.held s.ports few in
     record {
       params = ready.params;
+      largest = ready.largest;
       phase = ready.phase;
       drift = ready.drift;
       places = ready.places ∙ sym kept;

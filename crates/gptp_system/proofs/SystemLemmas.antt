@@ -1,9 +1,8 @@
 -- What is true of every system between its calls stays true.
-use Rattle.std.proofs.Common.{◌≡◌, ◌≢◌, ◌≤◌, ℕ, zero, suc, ◌+◌, true, false, List, [], ◌∷◌, length, map, Option, Some, None, slice_get, refl, sym, ap, ◌∙◌, arith}
+use Rattle.std.proofs.Common.{◌≡◌, ◌≢◌, ◌≤◌, ℕ, zero, suc, true, false, ℤ, List, [], ◌∷◌, length, Option, Some, None, slice_get, refl, sym, ap, ◌∙◌, arith}
 use Rattle.std.specs.Prelude.{IsSome}
-use Rattle.std.specs.List.{range_with_len}
 use Rattle.std.specs.Option.{option_and_then, option_map_or}
-use Rattle.std.proofs.lemmas.Option.{none-some, same_Some}
+use Rattle.std.proofs.lemmas.Option.{none-some}
 use Rattle.gptp_receipt.specs.declared.held.Held.{Held}
 use Rattle.gptp_receipt.specs.declared.held.Held.TheVariants as helds
 use Rattle.gptp_roles.specs.Selection.{clock_of}
@@ -12,16 +11,15 @@ use Rattle.gptp_roles.proofs.SlaveLemmas.{slave_received}
 use Rattle.gptp_system.specs.declared.answer.Answer.{Answer}
 use Rattle.gptp_system.specs.declared.port.Port.{Port}
 use Rattle.gptp_system.specs.declared.sending.Sending.{Sending}
-use Rattle.gptp_setup.specs.declared.setup.Params.{Params}
 use Rattle.gptp_setup.specs.declared.setup.Setup.{Setup}
 use Rattle.gptp_pdelay.specs.Peer.{is_capable}
 use Rattle.gptp_system.specs.Facts.{AreShown, IsNew, IsSystem}
 use Rattle.gptp_system.specs.Input.{Input, Steps}
 use Rattle.gptp_system.specs.Ready.{IsReady}
-use Rattle.gptp_system.specs.Start.{new_port, started}
+use Rattle.gptp_system.specs.Start.{started}
 use Rattle.gptp_system.specs.State.{SystemState, number, held_at, is_capable_at}
 use Rattle.gptp_system.specs.Steps.{IsPortOf, IsUp}
-use Rattle.gptp_system.proofs.ReadyLemmas.{length-all_disabled, length-new_ports}
+use Rattle.gptp_system.proofs.StartLemmas.{disabled_at, length-all_disabled, length-new_ports, new_port_at}
 use Rattle.gptp_system.proofs.RestLemmas.{new_held, new_rest, new_shown}
 use Rattle.gptp_system.proofs.StepLemmas.{steps_sound}
 
@@ -34,29 +32,23 @@ stays_system input now s s' sends answer is ready k =
     record { ready = ready; rest = sound.rest is.held is.rest; shown = sound.shown is.shown; held = sound.held is.held }
 
 -- all ports of a new system are disabled, and have measured nothing
-all_off : (a n i : ℕ) (h : Held) → slice_get (map (λ p. helds.Disabled) (range_with_len a n)) i ≡ Some h
-    → h ≡ helds.Disabled
-all_off a zero i h is = absurd (none-some h is)
-all_off a (suc n) zero h is = sym (same_Some helds.Disabled h is)
-all_off a (suc n) (suc i) h is = all_off (a + 1) n i h is
-
-all_new : (clock : ℕ) (params : Params) (a n i : ℕ) (q : Port)
-    → slice_get (map (λ p. new_port (record { clock = clock; port = p }) params) (range_with_len a n)) i ≡ Some q
-    → q.peer.last ≡ None
-all_new clock params a zero i q is = absurd (none-some q is)
-all_new clock params a (suc n) zero q is =
-    ap (λ (x : Port). x.peer.last) (sym (same_Some (new_port (record { clock = clock; port = a }) params) q is))
-all_new clock params a (suc n) (suc i) q is = all_new clock params (a + 1) n i q is
-
 pub is_new : (setup : Setup) (now : ℕ) → IsNew (started setup now)
 is_new setup now = record {
-  places = length-all_disabled setup.ports ∙ sym (length-new_ports (clock_of setup.identity) setup.params setup.ports);
-  silent = all_off 1 setup.ports;
-  unmeasured = all_new (clock_of setup.identity) setup.params 1 setup.ports;
+  places = length-all_disabled (length logs) ∙ sym (length-new_ports (clock_of setup.identity) setup.params 1 logs);
+  silent = disabled_at (length logs);
+  unmeasured = unmeasured;
   root = refl;
   steps = refl;
   slave = refl;
 }
+  where
+    logs : List ℤ
+    logs = setup.intervals.items
+
+    unmeasured : (i : ℕ) (q : Port) → slice_get (started setup now).ports i ≡ Some q → q.peer.last ≡ None
+    unmeasured i q there =
+        let (log, here, is) = new_port_at (clock_of setup.identity) setup.params logs i q there in
+        ap (λ (x : Port). x.peer.last) is
 
 -- and at the start
 pub starts_system : (setup : Setup) (now : ℕ) → IsReady (started setup now) → IsSystem (started setup now)

@@ -40,7 +40,7 @@ port_due runs s p time is = by (number s.ports p) refl
 -- a timer that runs is one of the system
 pub due_timer : (timer : Timer) (s : SystemState) (time : ℕ) → due timer s ≡ Some time → IsTimerOf s timer
 due_timer (timers.Announce p) s time is = port_due (λ q. announce_due q (held_at s p)) s p time is
-due_timer (timers.Age p) s time is = port_due (λ q. age_due s.params q (held_at s p)) s p time is
+due_timer (timers.Age p) s time is = port_due (λ (q : Port). age_due s.params s.largest (held_at s p)) s p time is
 due_timer (timers.Pdelay p) s time is = port_due (λ (q : Port). q.pdelay) s p time is
 due_timer (timers.Respond p) s time is = port_due (λ (q : Port). q.respond) s p time is
 due_timer timers.Sync s time is = tt

@@ -12,11 +12,12 @@ use Rattle.gptp_receipt.specs.declared.held.Heard.TheVariants as heards
 use Rattle.gptp_receipt.specs.declared.held.Reception.{Reception}
 use Rattle.gptp_receipt.specs.Held.{CameTo, HoldsFor, aged, comparison, held_after, is_due, reception}
 use Rattle.gptp_receipt.specs.Qualification.{Qualified}
+use Rattle.gptp_receipt.specs.Span.{span_of}
 use Rattle.gptp_pdelay.specs.Peer.{PeerState, is_capable}
 use Rattle.gptp_system.specs.declared.port.Port.{Port}
-use Rattle.gptp_system.specs.State.{SystemState, change, clock, held_at, number, on_held, on_port, own, span_of}
+use Rattle.gptp_system.specs.State.{SystemState, change, clock, held_at, number, on_held, on_port, own}
 use Rattle.gptp_system.specs.Measuring.{down, held_if, held_turned, is_turned, silenced, turned}
-use Rattle.gptp_system.specs.Announcing.{aged_at, compared, is_taken, with_priority}
+use Rattle.gptp_system.specs.Announcing.{aged_at, aged_by, compared, is_taken, with_priority}
 use Rattle.gptp_system.specs.Facts.{AreHeld, AreShown, IsShown, Keeps}
 use Rattle.gptp_system.proofs.ChangedLemmas.{Changed, change-get, change-length, change-map, change-same, number-get}
 use Rattle.gptp_system.proofs.FactLemmas.{Touched}
@@ -47,6 +48,7 @@ touches p g f s k = record { kept = kept; held = λ a. still_held p g s k.came a
     kept : Keeps s (on_held p g (on_port p f s))
     kept = record {
       params = refl;
+      largest = refl;
       phase = refl;
       drift = refl;
       same_clock = refl;
@@ -80,6 +82,7 @@ holds_touches p g s came off on = record {
       record {
         params =
             refl;
+        largest = refl;
         phase = refl;
         drift = refl;
         same_clock = refl;
@@ -171,18 +174,22 @@ aged_on h span now on = go (is_due h span now)
     go false = on
 
 pub aged_touches : (p now : ℕ) (s : SystemState) → Touched s (aged_at p now s)
-aged_touches p now s = go (number s.ports p)
+aged_touches p now s =
+    holds_touches p (aged_by s.params s.largest now) s
+    (λ h before. came h (span_of h s.params.timeout s.largest) before)
+    (λ h e. rw e refl)
+    (λ h on. shows h (span_of h s.params.timeout s.largest) on)
   where
-    ages : Option Port → Held → Held
-    ages q h = option_map_or (λ (q : Port). aged h (span_of s.params q) now) q h
+    ages : Held → Option ℕ → Held
+    ages h o = option_map_or (λ span. aged h span now) o h
 
-    go : (q : Option Port) → Touched s (on_held p (ages q) s)
-    go None = holds_touches p (ages None) s (λ h before. before) (λ h e. e) (λ h on. on)
-    go (Some q) =
-        holds_touches p (ages (Some q)) s
-        (λ h before. aged_came (own s p) h (span_of s.params q) now before)
-        (λ h e. rw e refl)
-        (λ h on. aged_on h (span_of s.params q) now on)
+    came : (h : Held) (o : Option ℕ) → HoldsFor (own s p) h → HoldsFor (own s p) (ages h o)
+    came h None before = before
+    came h (Some span) before = aged_came (own s p) h span now before
+
+    shows : (h : Held) (o : Option ℕ) → h ≢ helds.Disabled → ages h o ≢ helds.Disabled
+    shows h None on = on
+    shows h (Some span) on = aged_on h span now on
 
 -- ---- measuring
 
@@ -246,6 +253,7 @@ priority_touches value s = record {
       record {
         params =
             refl;
+        largest = refl;
         phase = refl;
         drift = refl;
         same_clock = priority_clock value s;

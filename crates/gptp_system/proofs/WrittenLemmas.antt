@@ -75,6 +75,7 @@ port_ready p f s keeps ready =
     let kept = change-length f p s.ports in
     record {
       params = ready.params;
+      largest = ready.largest;
       phase = ready.phase;
       drift = ready.drift;
       places = ready.places ∙ sym kept;
@@ -102,6 +103,7 @@ held_ready p f s empty ready =
     let kept = change-length f p s.held in
     record {
       params = ready.params;
+      largest = ready.largest;
       phase = ready.phase;
       drift = ready.drift;
       places = kept ∙ ready.places;

@@ -1,5 +1,5 @@
 -- Announces: what hearing one, ageing one and sending one make of a system (IEEE 802.1AS-2020, 10.3.10 to 10.3.16).
-use Rattle.std.specs.Prelude.{◌≡◌, ℕ, ◌+◌, ◌*◌, ◌^◌, ◌%◌, Bool, true, false, List, [], ◌∷◌, Some}
+use Rattle.std.specs.Prelude.{◌≡◌, ℕ, ℤ, ◌+◌, ◌*◌, ◌^◌, ◌%◌, Bool, true, false, List, [], ◌∷◌, Some}
 use Rattle.std.specs.Option.{option_map, option_map_or}
 use Rattle.gptp_vector.specs.declared.port.PortId.{PortId}
 use Rattle.gptp_messages.specs.declared.announce.AnnounceView.{AnnounceView}
@@ -11,11 +11,13 @@ use Rattle.gptp_receipt.specs.declared.qualification.Why.TheVariants as whys
 use Rattle.gptp_receipt.specs.declared.held.Reception.{Reception}
 use Rattle.gptp_receipt.specs.Held.{aged, comparison, held_after, message_vector, received, reception}
 use Rattle.gptp_receipt.specs.Qualification.{Qualified, FirstFailure}
+use Rattle.gptp_receipt.specs.Span.{span_of}
+use Rattle.gptp_setup.specs.declared.setup.Params.{Params}
 use Rattle.gptp_system.specs.declared.answer.Answer.{Answer}
 use Rattle.gptp_system.specs.declared.answer.Answer.TheVariants as answers
 use Rattle.gptp_system.specs.declared.port.Port.{Port}
 use Rattle.gptp_system.specs.declared.sending.Sending.{Sending}
-use Rattle.gptp_system.specs.State.{SystemState, number, clock, own, held_at, is_capable_at, span_of, on_port, on_held}
+use Rattle.gptp_system.specs.State.{SystemState, number, clock, own, held_at, is_capable_at, on_port, on_held}
 use Rattle.gptp_system.specs.Sends.{announcement}
 use Rattle.gptp_system.specs.Selection.{announced, Selects, SelectsIf, Becomes}
 
@@ -70,10 +72,12 @@ pub record HearsQualified (p : ℕ) (a : AnnounceView) (now : ℕ) (s s' : Syste
 
 -- ---- timers
 
--- what a port received is too old
+-- what a port received is dropped where it is too old
+abbrev pub aged_by : Params → ℤ → ℕ → Held → Held
+aged_by params largest now h = option_map_or (λ span. aged h span now) (span_of h params.timeout largest) h
+
 abbrev pub aged_at : ℕ → ℕ → SystemState → SystemState
-aged_at p now s =
-    on_held p (λ h. option_map_or (λ (q : Port). aged h (span_of s.params q) now) (number s.ports p) h) s
+aged_at p now s = on_held p (aged_by s.params s.largest now) s
 
 abbrev pub AgeExpires : ℕ → ℕ → SystemState → SystemState → List Sending → Type 0
 AgeExpires p now s s' sends = Selects now (aged_at p now s) s' sends

@@ -121,7 +121,7 @@ RunsOnLaw = (input : Input) (now : ℕ) (s s' : SystemState) (sends : List Sendi
 -- every timer that a step starts is due after now
 abbrev pub StartedLaw : Type 0
 StartedLaw = (input : Input) (now : ℕ) (s s' : SystemState) (sends : List Sending) (answer : Answer)
-    → AreParams s.params
+    → AreParams s.params → IsLog s.largest
     → ((i : ℕ) (q : Port) → slice_get s.ports i ≡ Some q → IsLog q.log_interval)
     → IsTimely s now input → AreShown s → IsAtRest s → Steps input now s s' sends answer
     → (timer : Timer) (t : ℕ) → due timer s' ≡ Some t → (due timer s ≡ Some t) ⊎ (now < t)

@@ -60,13 +60,15 @@ pub record PlaceReacts (s : SystemState) (touch : Touch) (now : ℕ) (s' : Syste
   pub port_there : slice_get s.ports i ≡ Some port
   pub reacts : PortReacts (clock s) (suc i) touch now s'.root s'.steps held h' port q' sends
 
--- an Announce is that of a Master port, with the chosen root and the own steps; its path is the trace of this state
+-- an Announce is that of a Master port, with the chosen root and the own steps, and names the interval of that port;
+-- its path is the trace of this state
 pub record IsOwnAnnounce (s : SystemState) (x : Sending) : Type 0 where
   pub place : ℕ
   pub port : Port
   pub number_is : x.port ≡ suc place
   pub holds : slice_get s.held place ≡ Some (helds.Mine s.root s.steps)
   pub is : x ≡ announcement (own s (suc place)) s.root s.steps port
+  pub log : (q : Port) → slice_get s.ports place ≡ Some q → q.log_interval ≡ port.log_interval
 
 -- the system answers the touch: each port takes its part, and each Announce sent is the system's own
 pub record Reacts (s : SystemState) (touch : Touch) (now : ℕ) (s' : SystemState) (sends : List Sending) : Type 0 where

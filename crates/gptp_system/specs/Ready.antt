@@ -17,6 +17,7 @@ use Rattle.gptp_system.specs.State.{SystemState}
 abbrev pub state_of : State → SystemState
 state_of s = record {
   params = s.params;
+  largest = s.largest;
   phase = s.phase;
   drift = s.drift;
   identity = s.identity;
@@ -43,6 +44,7 @@ pub record IsPort (q : Port) : Type 0 where
 
 pub record IsReady (s : SystemState) : Type 0 where
   pub params : AreParams s.params
+  pub largest : IsLog s.largest
   pub phase : s.phase ≤ 1000000000000000000
   pub drift : IsDrift s.drift
   pub places : length s.held ≡ length s.ports

@@ -1,5 +1,5 @@
 -- A system as it starts, and what it is asked (IEEE 802.1AS-2020, 10.3.4 and 10.3.5).
-use Rattle.std.specs.Prelude.{ℕ, ◌+◌, ◌==◌, Bool, false, if◌then◌else◌, List, None, map}
+use Rattle.std.specs.Prelude.{ℕ, ℤ, ◌+◌, ◌==◌, Bool, false, if◌then◌else◌, List, [], ◌∷◌, None, length, map}
 use Rattle.std.specs.List.{range_with_len}
 use Rattle.std.specs.Option.{option_map_or}
 use Rattle.gptp_vector.specs.declared.port.PortId.{PortId}
@@ -15,10 +15,10 @@ use Rattle.gptp_setup.specs.declared.setup.Setup.{Setup}
 use Rattle.gptp_setup.specs.Intervals.{interval_of}
 use Rattle.gptp_system.specs.State.{SystemState, held_at}
 
--- a port that has measured nothing, sent nothing, and whose link is down
-abbrev pub new_port : PortId → Params → Port
-new_port own params = record {
-  log_interval = params.announce;
+-- a port that announces at this interval, has measured nothing, sent nothing, and whose link is down
+abbrev pub new_port : PortId → Params → ℤ → Port
+new_port own params log = record {
+  log_interval = log;
   peer = new_peer own params.threshold params.lost;
   pdelay = None;
   respond = None;
@@ -27,9 +27,11 @@ new_port own params = record {
   syncs = 0;
 }
 
--- the ports of a system, the first of which has the number 1
-abbrev pub new_ports : ℕ → Params → ℕ → List Port
-new_ports clock params n = map (λ p. new_port (record { clock = clock; port = p }) params) (range_with_len 1 n)
+-- ports that announce at these intervals, the first of which has this number
+abbrev pub new_ports : ℕ → Params → ℕ → List ℤ → List Port
+new_ports clock params n [] = []
+new_ports clock params n (log ∷ logs) =
+    new_port (record { clock = clock; port = n }) params log ∷ new_ports clock params (n + 1) logs
 
 abbrev pub all_disabled : ℕ → List Held
 all_disabled n = map (λ (p : ℕ). helds.Disabled) (range_with_len 1 n)
@@ -38,11 +40,12 @@ all_disabled n = map (λ (p : ℕ). helds.Disabled) (range_with_len 1 n)
 abbrev pub started : Setup → ℕ → SystemState
 started setup now = record {
   params = setup.params;
+  largest = setup.largest;
   phase = setup.phase;
   drift = setup.drift;
   identity = setup.identity;
-  held = all_disabled setup.ports;
-  ports = new_ports (clock_of setup.identity) setup.params setup.ports;
+  held = all_disabled (length setup.intervals.items);
+  ports = new_ports (clock_of setup.identity) setup.params 1 setup.intervals.items;
   root = setup.identity;
   steps = 0;
   slave = None;

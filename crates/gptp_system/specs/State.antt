@@ -1,5 +1,5 @@
 -- The state of one system (IEEE 802.1AS-2020, 10.2.4 and 10.3.9: its per-instance and per-port variables).
-use Rattle.std.specs.Prelude.{ℕ, zero, suc, ◌+◌, ◌*◌, ℤ, Bool, true, false, List, [], ◌∷◌, Option, Some, None}
+use Rattle.std.specs.Prelude.{ℕ, zero, suc, ◌+◌, ℤ, Bool, true, false, List, [], ◌∷◌, Option, Some, None}
 use Rattle.std.specs.Prelude.{slice_get}
 use Rattle.std.specs.Option.{option_map, option_map_or, option_and_then}
 use Rattle.gptp_vector.specs.declared.port.PortId.{PortId}
@@ -17,11 +17,13 @@ use Rattle.gptp_system.specs.declared.port.Port.{Port}
 use Rattle.gptp_setup.specs.declared.setup.Params.{Params}
 use Rattle.gptp_setup.specs.declared.timer.Timer.{Timer}
 use Rattle.gptp_setup.specs.declared.timer.Timer.TheVariants as timers
-use Rattle.gptp_setup.specs.Intervals.{interval_of}
+use Rattle.gptp_setup.specs.Pace.{span_by}
 
--- What a system knows. The first port stands first in both lists, and has the number 1. Times of timers are in ns.
+-- What a system knows; `largest` is the largest announce interval of its network. The first port stands first in both
+-- lists, and has the number 1. Times of timers are in ns.
 pub record SystemState : Type 0 where
   pub params : Params
+  pub largest : ℤ
   pub phase : ℕ
   pub drift : ℤ
   pub identity : ℕ
@@ -95,23 +97,20 @@ abbrev pub is_mine : Held → Bool
 is_mine (helds.Mine root steps) = true
 is_mine _ = false
 
--- how long what a port received is kept: announceReceiptTimeout intervals (10.7.3.2)
-abbrev pub span_of : Params → Port → ℕ
-span_of params q = params.timeout * interval_of q.log_interval
-
 -- the Announce timer runs on Master ports alone
 abbrev pub announce_due : Port → Held → Option ℕ
 announce_due q (helds.Mine root steps) = Some q.announce
 announce_due q _ = None
 
--- and the Age timer on ports that received
-abbrev pub age_due : Params → Port → Held → Option ℕ
-age_due params q h = option_map (λ (r : Reception). r.at + span_of params q) (received h)
+-- and the Age timer on ports that received, by the interval that was heard (10.7.3.2)
+abbrev pub age_due : Params → ℤ → Held → Option ℕ
+age_due params largest h =
+    option_map (λ (r : Reception). r.at + span_by params.timeout largest r.interval) (received h)
 
 -- when a timer runs out, where it runs
 abbrev pub due : Timer → SystemState → Option ℕ
 due (timers.Announce p) s = option_and_then (λ q. announce_due q (held_at s p)) (number s.ports p)
-due (timers.Age p) s = option_and_then (λ q. age_due s.params q (held_at s p)) (number s.ports p)
+due (timers.Age p) s = option_and_then (λ (q : Port). age_due s.params s.largest (held_at s p)) (number s.ports p)
 due (timers.Pdelay p) s = option_and_then (λ (q : Port). q.pdelay) (number s.ports p)
 due (timers.Respond p) s = option_and_then (λ (q : Port). q.respond) (number s.ports p)
 due timers.Sync s = Some s.sync

@@ -3,14 +3,14 @@
 ghost use Rattle.std.specs.Prelude.{◌≡◌, ◌≢◌, ◌↔◌, ◌≤◌, ◌&&◌, ◌∷◌, [], length, not, IsTrue};
 ghost use Rattle.std.specs.Option.{option_map_or};
 ghost use Rattle.std.specs.List.{AllByRecursion};
-ghost use Rattle.gptp_receipt.specs.Held.{aged, comparison, held_after, reception};
+ghost use Rattle.gptp_receipt.specs.Held.{comparison, held_after, reception};
 ghost use Rattle.gptp_receipt.specs.Qualification.{Qualified};
-ghost use Rattle.gptp_system.specs.Announcing.{answer_to_heard, answer_to_why, is_taken, SaysAgain};
-ghost use Rattle.gptp_setup.specs.Intervals.{IsLog, IsMoment};
+ghost use Rattle.gptp_system.specs.Announcing.{aged_by, answer_to_heard, answer_to_why, is_taken, SaysAgain};
+ghost use Rattle.gptp_setup.specs.Intervals.{AreParams, IsLog, IsMoment};
 ghost use Rattle.gptp_system.specs.Ready.{IsPort, IsRecent};
 ghost use Rattle.gptp_system.specs.Selection.{announced};
 ghost use Rattle.gptp_system.specs.Sends.{announcement};
-ghost use Rattle.gptp_system.specs.State.{change, number, span_of};
+ghost use Rattle.gptp_system.specs.State.{change, number};
 
 use crate::answer::Answer;
 use crate::port::Port;
@@ -18,8 +18,8 @@ use crate::selection::announce;
 use crate::sending::Outbox;
 use crate::state::State;
 use gptp_messages::AnnounceView;
-use gptp_receipt::{Heard, Held, Why, age, hear, qualify};
-use gptp_setup::{Params, interval_of};
+use gptp_receipt::{Heard, Held, Why, age, hear, qualify, span_of};
+use gptp_setup::Params;
 use gptp_vector::{Identity, PortId, Vector};
 
 /// How it is answered that an Announce isn't taken for heard.
@@ -92,25 +92,28 @@ fn hear_at(held: &mut [Held], own: PortId, announce: &AnnounceView<'_>, now: u64
     hear(&mut held[usize::from(own.port) - 1], own, announce, now)
 }
 
-/// A port drops what it received where that is too old.
-fn age_at(held: &mut [Held], port: u8, span: u64, now: u64)
-    requires least { 1 ≤ port }
-    requires most { port ≤ length held.old }
-    requires recent { AllByRecursion IsRecent held.old }
-    requires short { span ≤ 160000000000 }
-    ensures { held.new ≡ change (λ h. aged h span now) port held.old }
+/// What a port received is dropped where it is too old, by the interval that was heard (IEEE 802.1AS-2020, 10.7.3.2).
+fn age_held(held: &mut Held, params: &Params, largest: i8, now: u64)
+    requires params { AreParams params.now }
+    requires largest { IsLog largest }
+    requires recent { IsRecent held.old }
+    ensures { held.new ≡ aged_by params.now largest now held.old }
 {
-    let _ = age(&mut held[usize::from(port) - 1], span, now);
+    if let Some(span) = span_of(held, params.timeout, largest) {
+        let _ = age(held, span, now);
+    }
 }
 
-/// How long what a port received is kept, in ns (IEEE 802.1AS-2020, 10.7.3.2).
-pub(crate) fn span_of(params: &Params, port: &Port) -> u64
-    requires timeout { params.now.timeout ≤ 10 }
-    requires log { IsLog port.now.log_interval }
-    ensures span { result ≡ span_of params.now port.now }
-    ensures short { result ≤ 160000000000 }
+/// One of the ports drops what it received where that is too old.
+fn age_at(held: &mut [Held], port: u8, params: &Params, largest: i8, now: u64)
+    requires least { 1 ≤ port }
+    requires most { port ≤ length held.old }
+    requires params { AreParams params.now }
+    requires largest { IsLog largest }
+    requires recent { AllByRecursion IsRecent held.old }
+    ensures { held.new ≡ change (aged_by params.now largest now) port held.old }
 {
-    u64::from(params.timeout) * interval_of(port.log_interval)
+    age_held(&mut held[usize::from(port) - 1], params, largest, now);
 }
 
 /// One of the ports announces, and does so again one announce interval later.
@@ -237,8 +240,13 @@ impl State {
         ensures step { AgeExpires port now (state_of self.old) (state_of self.new) outbox.new.items }
         ensures ready { IsReady (state_of self.new) }
     {
-        let span = span_of(&self.params, &self.ports[usize::from(port) - 1]);
-        age_at(self.held.as_mut_slice(), port, span, now);
+        age_at(
+            self.held.as_mut_slice(),
+            port,
+            &self.params,
+            self.largest,
+            now,
+        );
         self.select(now, outbox);
     }
 

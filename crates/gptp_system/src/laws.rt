@@ -36,7 +36,7 @@ pub fn keeps_its_setup()
 
 /// Every step is the answer to what it does to the ports: each port keeps what it then holds or becomes Master, and a
 /// port announces at once where it is newly Master or its root or steps changed. Each Announce that is sent is that of
-/// a Master port, with the chosen root and the own steps.
+/// a Master port, with the chosen root and the own steps, and names the interval of that port.
 pub fn answers_touches()
     ensures { ReactsLaw }
 {}

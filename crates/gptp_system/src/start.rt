@@ -1,9 +1,7 @@
 //! How a system starts.
 
-ghost use Rattle.std.specs.Prelude.{◌≡◌, ◌≤◌, ◌+◌};
-ghost use Rattle.gptp_pdelay.specs.Clock.{IsDrift};
-ghost use Rattle.gptp_setup.specs.Intervals.{AreParams, IsMoment};
-ghost use Rattle.gptp_system.specs.Start.{new_port};
+ghost use Rattle.std.specs.Prelude.{◌≡◌, ◌≤◌, length};
+ghost use Rattle.gptp_system.specs.Start.{all_disabled, new_port, new_ports};
 
 use crate::port::Port;
 use crate::state::State;
@@ -12,14 +10,14 @@ use gptp_correction::SyncIn;
 use gptp_pdelay::Peer;
 use gptp_receipt::Held;
 use gptp_setup::{Params, Setup, interval_of};
-use gptp_vector::PortId;
+use gptp_vector::{ClockId, PortId};
 
-/// A port that has measured and sent nothing, and whose link is down.
-fn new_port(own: PortId, params: &Params) -> Port
-    ensures { result ≡ new_port own params.now }
+/// A port that announces at this interval, has measured and sent nothing, and whose link is down.
+fn new_port(own: PortId, params: &Params, log_interval: i8) -> Port
+    ensures { result ≡ new_port own params.now log_interval }
 {
     Port {
-        log_interval: params.announce,
+        log_interval,
         peer: Peer::new(own, params.threshold, params.lost),
         pdelay: None,
         respond: None,
@@ -29,10 +27,38 @@ fn new_port(own: PortId, params: &Params) -> Port
     }
 }
 
+/// The ports of a new system, which announce at these intervals.
+fn new_ports(clock: ClockId, params: &Params, intervals: &[i8]) -> ArrayVec<Port, 16>
+    requires { length intervals.now ≤ 16 }
+    ensures { result.items ≡ new_ports clock params.now 1 intervals.now }
+{
+    let mut ports = ArrayVec::new();
+    for log_interval in intervals {
+        let own = PortId {
+            clock,
+            port: ports.len() as u16 + 1,
+        };
+        ports.push(new_port(own, params, *log_interval));
+    }
+    ports
+}
+
+/// What that many ports of a new system hold.
+fn all_disabled(count: usize) -> ArrayVec<Held, 16>
+    requires { count ≤ 16 }
+    ensures { result.items ≡ all_disabled count }
+{
+    let mut held = ArrayVec::new();
+    for _ in 0..count {
+        held.push(Held::Disabled);
+    }
+    held
+}
+
 impl State {
     ghost use Rattle.std.specs.Prelude.{◌≡◌, ◌≤◌};
     ghost use Rattle.gptp_pdelay.specs.Clock.{IsDrift};
-    ghost use Rattle.gptp_setup.specs.Intervals.{AreParams, IsMoment};
+    ghost use Rattle.gptp_setup.specs.Intervals.{AreIntervals, AreParams, IsMoment};
     ghost use Rattle.gptp_system.specs.Ready.{IsReady, state_of};
     ghost use Rattle.gptp_system.specs.Start.{started};
 
@@ -40,25 +66,19 @@ impl State {
     pub(crate) fn new(setup: Setup, now: u64) -> State
         requires ports { setup.ports ≤ 16 }
         requires params { AreParams setup.params }
+        requires intervals { AreIntervals setup }
         requires phase { setup.phase ≤ 1000000000000000000 }
         requires drift { IsDrift setup.drift }
         requires moment { IsMoment now }
         ensures started { state_of result ≡ started setup now }
         ensures ready { IsReady (state_of result) }
     {
-        let clock = setup.identity.clock();
-        let mut ports = ArrayVec::new();
-        let mut held = ArrayVec::new();
-        for place in 0..u16::from(setup.ports) {
-            let own = PortId {
-                clock,
-                port: place + 1,
-            };
-            ports.push(new_port(own, &setup.params));
-            held.push(Held::Disabled);
-        }
+        let intervals = setup.intervals.as_slice();
+        let ports = new_ports(setup.identity.clock(), &setup.params, intervals);
+        let held = all_disabled(intervals.len());
         State {
             params: setup.params,
+            largest: setup.largest,
             phase: setup.phase,
             drift: setup.drift,
             identity: setup.identity,

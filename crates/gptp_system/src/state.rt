@@ -14,6 +14,7 @@ use gptp_vector::Identity;
 #[derive(Debug, Drop)]
 pub struct State {
     pub(crate) params: Params,
+    pub(crate) largest: i8,
     pub(crate) phase: u64,
     pub(crate) drift: i32,
     pub(crate) identity: Identity,
@@ -62,6 +63,7 @@ impl State {
     {
         State {
             params: self.params,
+            largest: self.largest,
             phase: self.phase,
             drift: self.drift,
             identity: self.identity,

@@ -36,7 +36,7 @@ impl System {
     ghost use Rattle.gptp_pdelay.specs.Clock.{IsDrift};
     ghost use Rattle.gptp_system.specs.Announcing.{ChangesPriority};
     ghost use Rattle.gptp_system.specs.Input.{given, IsTimely, Steps};
-    ghost use Rattle.gptp_setup.specs.Intervals.{AreParams, IsMoment};
+    ghost use Rattle.gptp_setup.specs.Intervals.{AreIntervals, AreParams, IsMoment};
     ghost use Rattle.gptp_system.specs.Measuring.{ComesUp, GoesDown};
     ghost use Rattle.std.specs.Option.{option_and_then};
     ghost use Rattle.gptp_pdelay.specs.Peer.{delay_of};
@@ -46,11 +46,12 @@ impl System {
     ghost use Rattle.gptp_system.specs.Steps.{Expires, HearsFrame, IsDue, IsPortOf, IsTimerOf, IsUp};
     ghost use Rattle.gptp_system.specs.Touched.{Touches};
 
-    /// A system as it starts at `now`, in ns: its own root, with all ports Disabled until their links come up. The setup
-    /// keeps its limits.
+    /// A system as it starts at `now`, in ns: its own root, with all ports Disabled until their links come up, each of
+    /// which announces at its own interval. The setup keeps its limits.
     pub fn new(setup: Setup, now: u64) -> System
         requires ports { setup.ports ≤ 16 }
         requires params { AreParams setup.params }
+        requires intervals { AreIntervals setup }
         requires phase { setup.phase ≤ 1000000000000000000 }
         requires drift { IsDrift setup.drift }
         requires moment { IsMoment now }

@@ -3,14 +3,14 @@
 ghost use Rattle.std.specs.Prelude.{◌≡◌, ◌≤◌, ◌==◌, false, length};
 ghost use Rattle.std.specs.List.{AllByRecursion};
 ghost use Rattle.std.specs.Option.{option_and_then, option_map_or};
-ghost use Rattle.gptp_system.specs.Ready.{IsPort, IsRecent};
+ghost use Rattle.gptp_setup.specs.Intervals.{AreParams, IsLog};
+ghost use Rattle.gptp_system.specs.Ready.{IsRecent};
 ghost use Rattle.gptp_system.specs.Start.{role_by};
 ghost use Rattle.gptp_system.specs.State.{age_due, announce_due, number, source_of};
 
-use crate::announcing::span_of;
 use crate::port::Port;
 use crate::state::State;
-use gptp_receipt::{Held, due};
+use gptp_receipt::{Held, due, span_of};
 use gptp_roles::{Role, slave_trace};
 use gptp_scaled::ScaledNs;
 use gptp_setup::{Params, Timer};
@@ -40,6 +40,17 @@ fn announce_due(port: &Port, held: &Held) -> Option<u64>
     }
 }
 
+/// When what a port received is too old, if it received anything, by the interval that was heard.
+fn age_due(params: &Params, largest: i8, held: &Held) -> Option<u64>
+    requires params { AreParams params.now }
+    requires largest { IsLog largest }
+    requires recent { IsRecent held.now }
+    ensures { result ≡ age_due params.now largest held.now }
+{
+    let span = span_of(held, params.timeout, largest)?;
+    due(held, span)
+}
+
 /// Whether the Slave port, if there is one, is this.
 fn is_port(slave: Option<u8>, port: u8) -> bool
     ensures { result ≡ option_map_or (λ q. q == port) slave false }
@@ -62,17 +73,15 @@ fn announce_at(ports: &[Port], held: &[Held], port: u8) -> Option<u64>
 }
 
 /// When what one of the ports received is too old, if it received anything.
-fn age_at(params: &Params, ports: &[Port], held: &[Held], port: u8) -> Option<u64>
-    requires timeout { params.now.timeout ≤ 10 }
+fn age_at(params: &Params, largest: i8, held: &[Held], port: u8) -> Option<u64>
+    requires params { AreParams params.now }
+    requires largest { IsLog largest }
     requires least { 1 ≤ port }
-    requires most { port ≤ length ports.now }
-    requires places { length held.now ≡ length ports.now }
-    requires ports { AllByRecursion IsPort ports.now }
+    requires most { port ≤ length held.now }
     requires recent { AllByRecursion IsRecent held.now }
-    ensures { result ≡ option_and_then (λ q. age_due params.now q (option_map_or (λ h. h) (number held.now port) Held.Disabled)) (number ports.now port) }
+    ensures { result ≡ age_due params.now largest (option_map_or (λ h. h) (number held.now port) Held.Disabled) }
 {
-    let place = usize::from(port) - 1;
-    due(&held[place], span_of(params, &ports[place]))
+    age_due(params, largest, &held[usize::from(port) - 1])
 }
 
 /// The port that what is held came from.
@@ -147,12 +156,7 @@ impl State {
     {
         match timer {
             Timer::Announce(port) => announce_at(self.ports.as_slice(), self.held.as_slice(), port),
-            Timer::Age(port) => age_at(
-                &self.params,
-                self.ports.as_slice(),
-                self.held.as_slice(),
-                port,
-            ),
+            Timer::Age(port) => age_at(&self.params, self.largest, self.held.as_slice(), port),
             Timer::Pdelay(port) => self.ports[usize::from(port) - 1].pdelay,
             Timer::Respond(port) => self.ports[usize::from(port) - 1].respond,
             Timer::Sync => Some(self.sync),

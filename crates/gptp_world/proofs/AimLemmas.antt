@@ -20,7 +20,7 @@ use Rattle.gptp_acts.specs.Pending.{IsNext}
 use Rattle.gptp_acts.specs.Sound.{IsSound}
 use Rattle.gptp_acts.specs.Views.{IsActOf}
 use Rattle.gptp_acts.specs.Acts.{AnyLink, AnySystem, AtLink, AtSystem, IsOldestDue}
-use Rattle.gptp_world.specs.Aim.{aim_of, IsAimOf, IsLinkAt, IsSystemAt, IsTimerAt}
+use Rattle.gptp_world.specs.Aim.{aim_of, IsAimOf, IsLaneAt, IsSystemAt, IsTimerAt}
 use Rattle.gptp_world.specs.Cable.{channel_of}
 use Rattle.gptp_acts.specs.Changing.{IsChannel}
 use Rattle.gptp_world.specs.Directory.{start_of, BeginsAt, DirectoryState, IsDirectory, IsPlaced}
@@ -40,17 +40,20 @@ at_end : (port : PortId) (direction : Direction) (channel : Channel) → sender 
 at_end port FromA channel begins = inl begins
 at_end port FromB channel begins = inr begins
 
-pub link_found : (stage : Stage) (port : PortId) (lane : Lane) → IsStage stage
+-- the link of a lane that begins at a port is at that port
+pub lane_joins : (port : PortId) (w : WorldState) (lane : Lane) (at : IsLaneAt port w lane)
+    → IsChannel port lane.link w.net at.channel
+lane_joins port w lane at = record { here = at.here; joined = at_end port lane.direction at.channel at.begins }
+
+pub lane_found : (stage : Stage) (port : PortId) (lane : Lane) → IsStage stage
     → BeginsAt stage.net.directory.joins port lane
-    → IsLinkAt port (world_of stage) lane.link
-link_found stage port lane is begins =
+    → IsLaneAt port (world_of stage) lane
+lane_found stage port lane is begins =
     let known = known_cable stage.net port lane is.net begins in
     record {
       channel = channel_of known.0;
-      is = record {
-        here = mapped_there channel_of stage.net.cables.items lane.link known.0 known.1;
-        joined = at_end port lane.direction (channel_of known.0) known.2;
-      };
+      here = mapped_there channel_of stage.net.cables.items lane.link known.0 known.1;
+      begins = known.2;
     }
 
 -- a link at a port has a lane that begins there

@@ -17,8 +17,8 @@ use Rattle.gptp_world.specs.Aim.{IsAimOf, IsAimOfChange}
 use Rattle.gptp_world.specs.Directory.{IsDirectory}
 use Rattle.gptp_acts.specs.Pending.{Entry, entry, IsNext}
 use Rattle.gptp_world.specs.Stage.{world_of, IsStage}
-use Rattle.gptp_acts.specs.World.{Channel, WorldState, station_due}
-use Rattle.gptp_world.proofs.AimLemmas.{system_clock}
+use Rattle.gptp_acts.specs.World.{Channel, WorldState, port_id, station_due}
+use Rattle.gptp_world.proofs.AimLemmas.{lane_joins, system_clock}
 
 -- ---- something is due earlier
 
@@ -45,6 +45,7 @@ change_there (changes.LinkDown number port) w (aims.LinkSet at bounds) is = absu
 change_there (changes.LinkDown number port) w (aims.Fail at) is = absurd is
 change_there (changes.LinkDown number port) w (aims.Recover at) is = absurd is
 change_there (changes.LinkDown number port) w (aims.Priority1 at set) is = absurd is
+change_there (changes.LinkDown number port) w (aims.Inject lane) is = absurd is
 change_there (changes.LinkUp number port) w (aims.Arrival lane) is = absurd is
 change_there (changes.LinkUp number port) w (aims.Timer place set) is = absurd is
 change_there (changes.LinkUp number port) w (aims.LinkDown at) is = absurd is
@@ -54,6 +55,7 @@ change_there (changes.LinkUp number port) w (aims.LinkSet at bounds) is = absurd
 change_there (changes.LinkUp number port) w (aims.Fail at) is = absurd is
 change_there (changes.LinkUp number port) w (aims.Recover at) is = absurd is
 change_there (changes.LinkUp number port) w (aims.Priority1 at set) is = absurd is
+change_there (changes.LinkUp number port) w (aims.Inject lane) is = absurd is
 change_there (changes.LinkSet number port min max loss) w (aims.Arrival lane) is = absurd is
 change_there (changes.LinkSet number port min max loss) w (aims.Timer place set) is = absurd is
 change_there (changes.LinkSet number port min max loss) w (aims.LinkDown at) is = absurd is
@@ -63,6 +65,7 @@ change_there (changes.LinkSet number port min max loss) w (aims.LinkSet at bound
 change_there (changes.LinkSet number port min max loss) w (aims.Fail at) is = absurd is
 change_there (changes.LinkSet number port min max loss) w (aims.Recover at) is = absurd is
 change_there (changes.LinkSet number port min max loss) w (aims.Priority1 at set) is = absurd is
+change_there (changes.LinkSet number port min max loss) w (aims.Inject lane) is = absurd is
 change_there (changes.Fail number) w (aims.Arrival lane) is = absurd is
 change_there (changes.Fail number) w (aims.Timer place set) is = absurd is
 change_there (changes.Fail number) w (aims.LinkDown at) is = absurd is
@@ -72,6 +75,7 @@ change_there (changes.Fail number) w (aims.Fail at) is =
     record { place = at; station = is.station; is = is.is; so = tt }
 change_there (changes.Fail number) w (aims.Recover at) is = absurd is
 change_there (changes.Fail number) w (aims.Priority1 at set) is = absurd is
+change_there (changes.Fail number) w (aims.Inject lane) is = absurd is
 change_there (changes.Recover number) w (aims.Arrival lane) is = absurd is
 change_there (changes.Recover number) w (aims.Timer place set) is = absurd is
 change_there (changes.Recover number) w (aims.LinkDown at) is = absurd is
@@ -81,6 +85,7 @@ change_there (changes.Recover number) w (aims.Fail at) is = absurd is
 change_there (changes.Recover number) w (aims.Recover at) is =
     record { place = at; station = is.station; is = is.is; so = tt }
 change_there (changes.Recover number) w (aims.Priority1 at set) is = absurd is
+change_there (changes.Recover number) w (aims.Inject lane) is = absurd is
 change_there (changes.Priority1 number value) w (aims.Arrival lane) is = absurd is
 change_there (changes.Priority1 number value) w (aims.Timer place set) is = absurd is
 change_there (changes.Priority1 number value) w (aims.LinkDown at) is = absurd is
@@ -90,6 +95,17 @@ change_there (changes.Priority1 number value) w (aims.Fail at) is = absurd is
 change_there (changes.Priority1 number value) w (aims.Recover at) is = absurd is
 change_there (changes.Priority1 number value) w (aims.Priority1 at set) is =
     record { place = at; station = is.0.station; is = is.0.is; so = tt }
+change_there (changes.Priority1 number value) w (aims.Inject lane) is = absurd is
+change_there (changes.Inject number port octets) w (aims.Arrival lane) is = absurd is
+change_there (changes.Inject number port octets) w (aims.Timer place set) is = absurd is
+change_there (changes.Inject number port octets) w (aims.LinkDown at) is = absurd is
+change_there (changes.Inject number port octets) w (aims.LinkUp at) is = absurd is
+change_there (changes.Inject number port octets) w (aims.LinkSet at bounds) is = absurd is
+change_there (changes.Inject number port octets) w (aims.Fail at) is = absurd is
+change_there (changes.Inject number port octets) w (aims.Recover at) is = absurd is
+change_there (changes.Inject number port octets) w (aims.Priority1 at set) is = absurd is
+change_there (changes.Inject number port octets) w (aims.Inject lane) is =
+    record { place = lane.link; channel = is.channel; is = lane_joins (port_id number port) w lane is; so = tt }
 
 pub aim_there : (act : Act) (w : WorldState) (aim : Aim) → IsAimOf act w aim → IsThere act w
 aim_there (Deliver link direction) w (aims.Arrival lane) is = is.1.1
@@ -100,6 +116,7 @@ aim_there (Deliver link direction) w (aims.LinkSet at bounds) is = absurd is
 aim_there (Deliver link direction) w (aims.Fail at) is = absurd is
 aim_there (Deliver link direction) w (aims.Recover at) is = absurd is
 aim_there (Deliver link direction) w (aims.Priority1 at set) is = absurd is
+aim_there (Deliver link direction) w (aims.Inject lane) is = absurd is
 aim_there (Expire number timer) w (aims.Arrival lane) is = absurd is
 aim_there (Expire number timer) w (aims.Timer place set) is =
     record { place = place; station = is.0.station; is = is.0.is; so = is.0.timer_of }
@@ -109,6 +126,7 @@ aim_there (Expire number timer) w (aims.LinkSet at bounds) is = absurd is
 aim_there (Expire number timer) w (aims.Fail at) is = absurd is
 aim_there (Expire number timer) w (aims.Recover at) is = absurd is
 aim_there (Expire number timer) w (aims.Priority1 at set) is = absurd is
+aim_there (Expire number timer) w (aims.Inject lane) is = absurd is
 aim_there (Changing c) w aim is = change_there c w aim is
 
 -- ---- whether it is due
@@ -120,6 +138,7 @@ no_arrival_of (changes.LinkSet number port min max loss) w lane is = is
 no_arrival_of (changes.Fail number) w lane is = is
 no_arrival_of (changes.Recover number) w lane is = is
 no_arrival_of (changes.Priority1 number value) w lane is = is
+no_arrival_of (changes.Inject number port octets) w lane is = is
 
 no_timer_of : (c : Change) (w : WorldState) (place : ℕ) (timer : Timer) → IsAimOfChange c w (aims.Timer place timer) → ⊥
 no_timer_of (changes.LinkDown number port) w place timer is = is
@@ -128,6 +147,7 @@ no_timer_of (changes.LinkSet number port min max loss) w place timer is = is
 no_timer_of (changes.Fail number) w place timer is = is
 no_timer_of (changes.Recover number) w place timer is = is
 no_timer_of (changes.Priority1 number value) w place timer is = is
+no_timer_of (changes.Inject number port octets) w place timer is = is
 
 pub arrival_due : (act : Act) (time : ℕ) (w : WorldState) (lane : Lane) (test : Bool)
     → IsAimOf act w (aims.Arrival lane)

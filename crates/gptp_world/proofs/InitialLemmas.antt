@@ -1,15 +1,19 @@
 -- The world that a network makes is sound before its systems start, and the code can keep it.
-use Rattle.std.proofs.Common.{◌≡◌, ◌≤◌, ℕ, ℤ, Bool, false, List, [], ◌∷◌, map, length, Option, Some, None, option_map, slice_get, refl, sym, ap, subst, ◌∙◌, inl, inr, to_z, of_z, w32, arith}
+use Rattle.std.proofs.Common.{◌≡◌, ◌≤◌, ℕ, ℤ, Bool, false, List, [], ◌∷◌, map, length, Option, Some, None, option_map, slice_get, refl, sym, ap, subst, ◌∙◌, inl, inr, to_z, of_z, w8, w32, arith}
 use Rattle.std.proofs.lemmas.Int.{ints, to_z-of_z}
 use Rattle.std.proofs.lemmas.List.{length-map}
 use Rattle.std.proofs.lemmas.Option.{same_Some}
+use Rattle.arrayvec.specs.ArrayVec.{ArrayVec}
+use Rattle.gptp_setup.specs.Intervals.{AreIntervals, IsLog}
+use Rattle.gptp_setup.specs.declared.setup.Params.{Params}
+use Rattle.gptp_setup.specs.declared.setup.Setup.{Setup}
 use Rattle.gptp_links.specs.Bounds.{Fit}
 use Rattle.gptp_links.specs.declared.bounds.Bounds.{Bounds}
 use Rattle.gptp_links.specs.declared.link.Direction.{Direction}
 use Rattle.gptp_links.specs.declared.link.Direction.TheVariants.{FromA, FromB}
 use Rattle.gptp_pdelay.specs.Clock.{IsDrift}
 use Rattle.gptp_roles.specs.Selection.{clock_of}
-use Rattle.gptp_system.proofs.ReadyLemmas.{length-new_ports}
+use Rattle.gptp_system.proofs.StartLemmas.{length-new_ports}
 use Rattle.gptp_system.specs.State.{clock}
 use Rattle.gptp_vector.specs.declared.port.PortId.{PortId}
 use Rattle.gptp_world.specs.declared.cable.Cable.{Cable}
@@ -26,7 +30,8 @@ use Rattle.gptp_world.specs.Directory.{Join, clocks_of, joins_of, start_of, Begi
 use Rattle.gptp_acts.specs.Initial.{channel_from, channels_of, initial, setup_of, station_of, stations_of}
 use Rattle.gptp_world.specs.Net.{IsNet}
 use Rattle.gptp_acts.specs.World.{port_id}
-use Rattle.gptp_plan.specs.Network.{member, NetworkState, IsEnd, IsNetwork, IsPort, IsWire}
+use Rattle.gptp_plan.specs.Network.{largest_of, member, pace_of, NetworkState, IsEnd, IsNetwork, IsPort, IsWire}
+use Rattle.gptp_plan.proofs.LogLemmas.{largest_log, logs_up_to}
 use Rattle.gptp_acts.specs.Sound.{AllFlow, AreApart, AreLinked, Flows, HaveOwnClocks, HaveTheirSetups, IsItsSetup, IsSound, JoinPorts}
 use Rattle.gptp_world.specs.Stage.{clock_at, IsStage}
 use Rattle.gptp_acts.specs.World.{Channel, queue, sender}
@@ -38,10 +43,10 @@ use Rattle.gptp_acts.proofs.SteadyLemmas.{started_none_late, started_steady}
 
 -- what is true of each system of the network as it is before it starts is true of each of the world
 each_station : (n : NetworkState) (P : Station → Type 0)
-    → ((place : ℕ) (m : Member) → slice_get n.systems place ≡ Some m → P (station_of n.params m))
+    → ((place : ℕ) (m : Member) → slice_get n.systems place ≡ Some m → P (station_of (pace_of n) m))
     → (place : ℕ) (station : Station) → slice_get (stations_of n) place ≡ Some station → P station
 each_station n P so place station there =
-    let x = mapped (station_of n.params) n.systems place station there in subst P x.2 (so place x.0 x.1)
+    let x = mapped (station_of (pace_of n)) n.systems place station there in subst P x.2 (so place x.0 x.1)
 
 -- and so it is with links
 each_channel : (n : NetworkState) (P : Channel → Type 0)
@@ -58,17 +63,39 @@ told_of f None told e = absurd cc
 told_of f (Some x) told e = (x, refl, same_Some (f x) told e)
 
 -- the system that is told of
-pub member_told : (n : NetworkState) (place : ℕ) (found : Option (ℕ × ℕ × ℕ × ℤ)) (told : ℕ × ℕ × ℕ × ℤ)
-    → found ≡ option_map (λ (m : Member). (m.identity, m.ports, m.phase, m.drift)) (slice_get n.systems place)
-    → found ≡ Some told → slice_get n.systems place ≡ Some (member told.0 told.1 told.2 told.3)
+pub member_told : (n : NetworkState) (place : ℕ) (found : Option (ℕ × ℕ × ℕ × ℤ × ArrayVec ℤ))
+    (told : ℕ × ℕ × ℕ × ℤ × ArrayVec ℤ)
+    → found ≡ option_map (λ (m : Member). (m.identity, m.ports, m.phase, m.drift, m.intervals))
+    (slice_get n.systems place)
+    → found ≡ Some told → slice_get n.systems place ≡ Some (member told.0 told.1 told.2 told.3 told.4)
 member_told n place found told is some =
-    let tells : Member → ℕ × ℕ × ℕ × ℤ = λ m. (m.identity, m.ports, m.phase, m.drift) in
+    let tells : Member → ℕ × ℕ × ℕ × ℤ × ArrayVec ℤ = λ m. (m.identity, m.ports, m.phase, m.drift, m.intervals) in
     let x = told_of tells (slice_get n.systems place) told (sym is ∙ some) in
-    x.1 ∙ ap (λ (v : ℕ × ℕ × ℕ × ℤ). Some (member v.0 v.1 v.2 v.3)) x.2
+    x.1 ∙ ap (λ (v : ℕ × ℕ × ℕ × ℤ × ArrayVec ℤ). Some (member v.0 v.1 v.2 v.3 v.4)) x.2
 
 -- its drift fits the machine's number
 pub drift_back : (drift : ℤ) → IsDrift drift → to_z w32 (of_z w32 drift) ≡ drift
 drift_back drift is = let low = is.low in let high = is.high in to_z-of_z w32 drift (omega (arith, ints))
+
+-- so does an interval
+log_back : (log : ℤ) → IsLog log → to_z w8 (of_z w8 log) ≡ log
+log_back log is = let low = is.low in let high = is.high in to_z-of_z w8 log (omega (arith, ints))
+
+-- what is made of a member told of, of the largest interval and the parameters is what it starts with
+pub set_up : (n : NetworkState) (m : Member) (made : Setup) (largest : ℤ) (params : Params) → IsDrift m.drift
+    → IsLog largest → largest ≡ largest_of n → params ≡ n.params
+    → made ≡ record {
+      identity = m.identity;
+      ports = m.ports;
+      phase = m.phase;
+      drift = to_z w32 (of_z w32 m.drift);
+      intervals = m.intervals;
+      largest = to_z w8 (of_z w8 largest);
+      params = params;
+    }
+    → made ≡ setup_of (pace_of n) m
+set_up n m made largest params drift log is same so =
+    rw (drift_back m.drift drift, log_back largest log, is, same) at so
 
 -- a link with these ends and bounds
 abbrev pub joining : PortId → PortId → Bounds → Bool → Wire
@@ -86,16 +113,28 @@ wire_told n place found told is some =
 
 -- ---- the world is sound
 
-ports_counted : (n : NetworkState) (m : Member) → length (station_of n.params m).system.ports ≡ m.ports
-ports_counted n m = length-new_ports (clock_of m.identity) n.params m.ports
+ports_counted : (n : NetworkState) → IsNetwork n → (place : ℕ) (m : Member) → slice_get n.systems place ≡ Some m
+    → length (station_of (pace_of n) m).system.ports ≡ m.ports
+ports_counted n is place m there =
+    length-new_ports (clock_of m.identity) n.params 1 m.intervals.items ∙ (is.systems place m there).many
+
+-- a system's ports announce at its intervals, none of which is above the largest of the network
+pub intervals_within : (n : NetworkState) → IsNetwork n → (place : ℕ) (m : Member)
+    → slice_get n.systems place ≡ Some m → AreIntervals (setup_of (pace_of n) m)
+intervals_within n is place m there = record {
+  many = (is.systems place m there).many;
+  each = logs_up_to n (λ i k at. (is.systems i k at).logs) place m there;
+  largest = largest_log n is;
+}
 
 pub initial_setups : (n : NetworkState) → IsNetwork n → HaveTheirSetups (initial n)
 initial_setups n is = each_station n IsItsSetup (λ place m there.
     let limits = is.systems place m there in record {
-      ports = ports_counted n m;
+      ports = ports_counted n is place m there;
       few = limits.ports;
       phase = limits.phase;
       drift = limits.drift;
+      intervals = intervals_within n is place m there;
       named = refl;
     })
 
@@ -133,8 +172,8 @@ initial_on_time-station : (n : NetworkState) → IsNetwork n → (place : ℕ) (
     → slice_get (stations_of n) place ≡ Some station → IsOnTime 0 station
 initial_on_time-station n is = each_station n (IsOnTime 0) (λ place m there. record {
   setup = is.params.ranges.params;
-  steady = started_steady (setup_of n.params m) 0 is.params.ranges.params;
-  timers = λ live. started_none_late (setup_of n.params m) 0;
+  steady = started_steady (setup_of (pace_of n) m) 0 is.params.ranges.params (intervals_within n is place m there);
+  timers = λ live. started_none_late (setup_of (pace_of n) m) 0;
 })
 
 pub initial_on_time : (n : NetworkState) → IsNetwork n → IsWorldOnTime (initial n)
@@ -156,9 +195,9 @@ initial_agrees n = silent_agrees (initial n) (initial_silent n)
 -- no two systems have one clock
 pub initial_clocks : (n : NetworkState) → IsNetwork n → HaveOwnClocks (initial n)
 initial_clocks n is place other station at here there same =
-    let x = mapped (station_of n.params) n.systems place station here in
-    let y = mapped (station_of n.params) n.systems other at there in
-    let one : clock (station_of n.params x.0).system ≡ clock (station_of n.params y.0).system =
+    let x = mapped (station_of (pace_of n)) n.systems place station here in
+    let y = mapped (station_of (pace_of n)) n.systems other at there in
+    let one : clock (station_of (pace_of n) x.0).system ≡ clock (station_of (pace_of n) y.0).system =
     ap (λ (s : Station). clock s.system) x.2 ∙ same ∙ sym (ap (λ (s : Station). clock s.system) y.2) in
     is.clocks place other x.0 y.0 x.1 y.1 one
 
@@ -171,7 +210,7 @@ end_port n FromB w i is = is.b
 pub initial_ports : (n : NetworkState) → IsNetwork n → JoinPorts (initial n)
 initial_ports n is link place direction channel station here there named =
     let x = mapped channel_from n.links link channel here in
-    let y = mapped (station_of n.params) n.systems place station there in
+    let y = mapped (station_of (pace_of n)) n.systems place station there in
     let port = subst (λ c. IsPort n.systems (sender direction c)) x.2
     (end_port n direction x.0 link (is.links link x.0 x.1)) in
     let one : clock_of y.0.identity ≡ clock_of port.system.identity =
@@ -181,7 +220,7 @@ initial_ports n is link place direction channel station here there named =
     same_Some y.0 port.system (sym y.1 ∙ (ap (slice_get n.systems) same ∙ port.there)) in
     let count : length station.system.ports ≡ port.system.ports =
     ap (λ (s : Station). length s.system.ports) (sym y.2)
-    ∙ (ports_counted n y.0 ∙ ap (λ (m : Member). m.ports) members) in
+    ∙ (ports_counted n is place y.0 y.1 ∙ ap (λ (m : Member). m.ports) members) in
     let last = port.last in
     record { least = port.first; most = rw count last }
 
@@ -228,7 +267,7 @@ idle_net n net cables joins links = record {
 }
 
 clocks_kept : (n : NetworkState) (systems : List Member)
-    → map clock_at (map (station_of n.params) systems) ≡ clocks_of systems
+    → map clock_at (map (station_of (pace_of n)) systems) ≡ clocks_of systems
 clocks_kept n [] = refl
 clocks_kept n (m ∷ systems) = ap (λ rest. clock_of m.identity ∷ rest) (clocks_kept n systems)
 
@@ -259,14 +298,14 @@ HasItsLanes n station = (p : ℕ) (lane : Lane) → BeginsAt (joins_of n.links) 
 have_lanes : (n : NetworkState) → IsNetwork n → (place : ℕ) (station : Station)
     → slice_get (stations_of n) place ≡ Some station → HasItsLanes n station
 have_lanes n is = each_station n (HasItsLanes n) (λ place m there p lane begins.
-    let count = ports_counted n m in
+    let count = ports_counted n is place m there in
     let within = port_counted n is place m p lane there begins in
     (within.0, rw count within.1))
 
 have_few : (n : NetworkState) → IsNetwork n → (place : ℕ) (station : Station)
     → slice_get (stations_of n) place ≡ Some station → length station.system.ports ≤ 16
 have_few n is = each_station n (λ (station : Station). length station.system.ports ≤ 16) (λ place m there.
-    let count = ports_counted n m in rw count (is.systems place m there).ports)
+    let count = ports_counted n is place m there in rw count (is.systems place m there).ports)
 
 pub initial_stage : (n : NetworkState) (stage : Stage) → IsNetwork n → IsNet stage.net
     → stage.stations.items ≡ stations_of n → stage.net.directory.clocks ≡ clocks_of n.systems
@@ -280,7 +319,8 @@ initial_stage n stage is net stations clocks joins systems empty now =
       net = net;
       clocks = ap (map clock_at) stations ∙ clocks_kept n n.systems ∙ sym clocks;
       systems =
-          let count = ap length stations ∙ length-map n.systems (station_of n.params) in omega (arith, count, systems);
+          let count = ap length stations ∙ length-map n.systems (station_of (pace_of n)) in
+          omega (arith, count, systems);
       few = λ place station e. have_few n is place station (there place station e);
       ports = λ place station p lane e begins. have_lanes n is place station (there place station e) p lane
           (subst (λ (all : List Join). BeginsAt all (port_id (clock station.system) p) lane) joins begins);

@@ -29,6 +29,7 @@ change_later (changes.LinkDown number port) w time (aims.LinkSet link bounds) is
 change_later (changes.LinkDown number port) w time (aims.Fail place) is = is
 change_later (changes.LinkDown number port) w time (aims.Recover place) is = is
 change_later (changes.LinkDown number port) w time (aims.Priority1 place set) is = is
+change_later (changes.LinkDown number port) w time (aims.Inject lane) is = is
 change_later (changes.LinkUp number port) w time (aims.Arrival lane) is = is
 change_later (changes.LinkUp number port) w time (aims.Timer place set) is = is
 change_later (changes.LinkUp number port) w time (aims.LinkDown link) is = is
@@ -38,6 +39,7 @@ change_later (changes.LinkUp number port) w time (aims.LinkSet link bounds) is =
 change_later (changes.LinkUp number port) w time (aims.Fail place) is = is
 change_later (changes.LinkUp number port) w time (aims.Recover place) is = is
 change_later (changes.LinkUp number port) w time (aims.Priority1 place set) is = is
+change_later (changes.LinkUp number port) w time (aims.Inject lane) is = is
 change_later (changes.LinkSet number port min max loss) w time (aims.Arrival lane) is = is
 change_later (changes.LinkSet number port min max loss) w time (aims.Timer place set) is = is
 change_later (changes.LinkSet number port min max loss) w time (aims.LinkDown link) is = is
@@ -47,6 +49,7 @@ change_later (changes.LinkSet number port min max loss) w time (aims.LinkSet lin
 change_later (changes.LinkSet number port min max loss) w time (aims.Fail place) is = is
 change_later (changes.LinkSet number port min max loss) w time (aims.Recover place) is = is
 change_later (changes.LinkSet number port min max loss) w time (aims.Priority1 place set) is = is
+change_later (changes.LinkSet number port min max loss) w time (aims.Inject lane) is = is
 change_later (changes.Fail number) w time (aims.Arrival lane) is = is
 change_later (changes.Fail number) w time (aims.Timer place set) is = is
 change_later (changes.Fail number) w time (aims.LinkDown link) is = is
@@ -56,6 +59,7 @@ change_later (changes.Fail number) w time (aims.Fail place) is =
     record { station = is.station; is = record { here = is.is.here; named = is.is.named } }
 change_later (changes.Fail number) w time (aims.Recover place) is = is
 change_later (changes.Fail number) w time (aims.Priority1 place set) is = is
+change_later (changes.Fail number) w time (aims.Inject lane) is = is
 change_later (changes.Recover number) w time (aims.Arrival lane) is = is
 change_later (changes.Recover number) w time (aims.Timer place set) is = is
 change_later (changes.Recover number) w time (aims.LinkDown link) is = is
@@ -65,6 +69,7 @@ change_later (changes.Recover number) w time (aims.Fail place) is = is
 change_later (changes.Recover number) w time (aims.Recover place) is =
     record { station = is.station; is = record { here = is.is.here; named = is.is.named } }
 change_later (changes.Recover number) w time (aims.Priority1 place set) is = is
+change_later (changes.Recover number) w time (aims.Inject lane) is = is
 change_later (changes.Priority1 number value) w time (aims.Arrival lane) is = is
 change_later (changes.Priority1 number value) w time (aims.Timer place set) is = is
 change_later (changes.Priority1 number value) w time (aims.LinkDown link) is = is
@@ -74,6 +79,17 @@ change_later (changes.Priority1 number value) w time (aims.Fail place) is = is
 change_later (changes.Priority1 number value) w time (aims.Recover place) is = is
 change_later (changes.Priority1 number value) w time (aims.Priority1 place set) is =
     (record { station = is.0.station; is = record { here = is.0.is.here; named = is.0.is.named } }, is.1)
+change_later (changes.Priority1 number value) w time (aims.Inject lane) is = is
+change_later (changes.Inject number port octets) w time (aims.Arrival lane) is = is
+change_later (changes.Inject number port octets) w time (aims.Timer place set) is = is
+change_later (changes.Inject number port octets) w time (aims.LinkDown link) is = is
+change_later (changes.Inject number port octets) w time (aims.LinkUp link) is = is
+change_later (changes.Inject number port octets) w time (aims.LinkSet link bounds) is = is
+change_later (changes.Inject number port octets) w time (aims.Fail place) is = is
+change_later (changes.Inject number port octets) w time (aims.Recover place) is = is
+change_later (changes.Inject number port octets) w time (aims.Priority1 place set) is = is
+change_later (changes.Inject number port octets) w time (aims.Inject lane) is =
+    record { channel = is.channel; here = is.here; begins = is.begins }
 
 pub aim_later : (act : Act) (w : WorldState) (time : ℕ) (aim : Aim) → IsAimOf act w aim → IsAimOf act (at time w) aim
 aim_later (Deliver on direction) w time (aims.Arrival lane) is = is
@@ -84,6 +100,7 @@ aim_later (Deliver on direction) w time (aims.LinkSet link bounds) is = is
 aim_later (Deliver on direction) w time (aims.Fail place) is = is
 aim_later (Deliver on direction) w time (aims.Recover place) is = is
 aim_later (Deliver on direction) w time (aims.Priority1 place set) is = is
+aim_later (Deliver on direction) w time (aims.Inject lane) is = is
 aim_later (Expire number timer) w time (aims.Arrival lane) is = is
 aim_later (Expire number timer) w time (aims.Timer place set) is = (
   record {
@@ -99,6 +116,7 @@ aim_later (Expire number timer) w time (aims.LinkSet link bounds) is = is
 aim_later (Expire number timer) w time (aims.Fail place) is = is
 aim_later (Expire number timer) w time (aims.Recover place) is = is
 aim_later (Expire number timer) w time (aims.Priority1 place set) is = is
+aim_later (Expire number timer) w time (aims.Inject lane) is = is
 aim_later (Changing c) w time aim is = change_later c w time aim is
 
 -- time that passes takes no room
@@ -140,6 +158,7 @@ room_later (aims.LinkSet link bounds) stage time has = has
 room_later (aims.Fail place) stage time has = room_at reaches.All place stage time has
 room_later (aims.Recover place) stage time has = start_at place stage time has
 room_later (aims.Priority1 place set) stage time has = room_at reaches.All place stage time has
+room_later (aims.Inject lane) stage time has = has
 
 pub stage_later : (stage : Stage) (time : ℕ) → time ≤ 1000000000000000 → IsStage stage → IsStage (at_time time stage)
 stage_later stage time early is = record {

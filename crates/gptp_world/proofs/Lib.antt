@@ -28,3 +28,4 @@ pub mod SceneLemmas
 pub mod LaterLemmas
 pub mod ViewLemmas
 pub mod TakenLemmas
+pub mod UsedLemmas

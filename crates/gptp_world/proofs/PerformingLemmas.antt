@@ -25,21 +25,23 @@ use Rattle.gptp_plan.specs.declared.change.Change.{Change}
 use Rattle.gptp_plan.specs.declared.change.Change.TheVariants as changes
 use Rattle.gptp_acts.specs.declared.done.Done.{Done}
 use Rattle.gptp_acts.specs.declared.done.Done.TheVariants.{Quiet}
+use Rattle.gptp_world.specs.declared.net.Net.{Net as Between}
 use Rattle.gptp_world.specs.declared.stage.Stage.{Stage}
 use Rattle.gptp_acts.specs.declared.station.Station.{Station}
 use Rattle.gptp_acts.specs.Acts.{Acts, AtPlace, Changes, IsOldestDue, Tells}
 use Rattle.gptp_plan.specs.Allowed.{IsFitAct}
 use Rattle.gptp_world.specs.Aim.{IsAimOf, IsAimOfChange}
-use Rattle.gptp_world.specs.Cable.{channel_of, join_of}
-use Rattle.gptp_acts.specs.Changing.{with_bounds, with_setup, with_station, CallsIfLive}
+use Rattle.gptp_world.specs.Cable.{channel_of, join_of, SentOne}
+use Rattle.gptp_acts.specs.Changing.{with_bounds, with_setup, with_station, CallsIfLive, InjectsIf}
 use Rattle.gptp_world.specs.Delivering.{Delivered, MayHear}
 use Rattle.gptp_world.specs.Directory.{end_of, Join}
-use Rattle.gptp_world.specs.Net.{IsFrameDue}
-use Rattle.gptp_world.specs.Performing.{Acted, CanChange, HasRoomForAim, OfLink, OfSystem, Turned, Turns}
+use Rattle.gptp_world.specs.Net.{between, IsFrameDue}
+use Rattle.gptp_world.specs.Performing.{octets_of, Acted, CanChange, HasRoomForAim, Injected, OfLink, OfSystem, Turned, Turns}
 use Rattle.gptp_acts.specs.Sound.{AreLinked, Flows, IsSound, IsWired}
 use Rattle.gptp_world.specs.Stage.{clock_at, world_of, HasRoomWithin, HasTimerAt, IsStage}
 use Rattle.gptp_world.specs.Telling.{HasRoomAtEnds}
-use Rattle.gptp_acts.specs.World.{Channel, WorldState, queue, receiver}
+use Rattle.gptp_acts.specs.World.{Channel, WorldState, port_id, queue, receiver, sender}
+use Rattle.gptp_world.proofs.AimLemmas.{lane_joins}
 use Rattle.gptp_world.proofs.EndLemmas.{end_same, known_join}
 use Rattle.gptp_world.proofs.NetLemmas.{from_map}
 use Rattle.gptp_lists.proofs.MappedLemmas.{mapped_there}
@@ -58,6 +60,7 @@ IsWithin (aims.LinkSet link bounds) stage = link < length stage.net.cables.items
 IsWithin (aims.Fail place) stage = place < length stage.stations.items
 IsWithin (aims.Recover place) stage = place < length stage.stations.items
 IsWithin (aims.Priority1 place value) stage = place < length stage.stations.items
+IsWithin (aims.Inject lane) stage = lane.link < length stage.net.cables.items
 
 link_within : (stage : Stage) (link : ℕ) (channel : Channel)
     → slice_get (world_of stage).net.channels link ≡ Some channel
@@ -79,6 +82,8 @@ change_within (changes.Recover number) (aims.Recover place) stage at =
     slice_get_within stage.stations.items place at.station at.is.here
 change_within (changes.Priority1 number value) (aims.Priority1 place set) stage (at, is) =
     slice_get_within stage.stations.items place at.station at.is.here
+change_within (changes.Inject number port octets) (aims.Inject lane) stage at =
+    link_within stage lane.link at.channel at.here
 change_within change aim stage at = absurd at
 
 pub aim_within : (act : Act) (aim : Aim) (stage : Stage) → IsAimOf act (world_of stage) aim → IsWithin aim stage
@@ -211,6 +216,41 @@ pub of_that : (w : WorldState) (place : ℕ) (one : Station) (So : Station → T
     → So one → OfSystem place w So
 of_that w place one So there so = λ station here. subst So (same_Some one station (sym there ∙ here)) so
 
+-- ---- an injection, by place
+
+-- a frame went onto a lane whose link is up
+pub injected : {F : Type 0} (answers : Bounds → ℕ → F → Option ℕ → F → Type 0) (lane : Lane) (octets : List ℕ)
+    (fate fate_after : F) (stage : Stage) (net : Between) (cable : Cable)
+    → slice_get stage.net.cables.items lane.link ≡ Some cable → cable.link.up ≡ true
+    → SentOne answers stage.now (sender lane.direction (channel_of cable)) octets fate fate_after (between stage.net)
+    (between net)
+    → Injected answers lane octets fate fate_after stage (record stage { net = net })
+injected answers lane octets fate fate_after stage net cable here up sent =
+    let w = world_of stage in let w' = world_of (record stage { net = net }) in let draws = sent.draw ∷ [] in
+    record {
+      draws = draws;
+      drawn = (fate_after, sent.drawn, refl);
+      injects = of_this w lane.link (channel_of cable)
+          (λ channel. InjectsIf channel.up (sender lane.direction channel) octets w draws w')
+          (mapped_there channel_of stage.net.cables.items lane.link cable here)
+          (subst (λ b. InjectsIf b (sender lane.direction (channel_of cable)) octets w draws w') (sym up)
+          (record { draw = sent.draw; net = between net; drawn_once = refl; sent = sent.sends; is = refl }));
+    }
+
+-- none went onto one whose link is down
+pub not_injected : {F : Type 0} (answers : Bounds → ℕ → F → Option ℕ → F → Type 0) (lane : Lane) (octets : List ℕ)
+    (fate : F) (stage : Stage)
+    → ((cable : Cable) → slice_get stage.net.cables.items lane.link ≡ Some cable → false ≡ cable.link.up)
+    → Injected answers lane octets fate fate stage stage
+not_injected answers lane octets fate stage down =
+    let w = world_of stage in
+    record {
+      draws = [];
+      drawn = refl;
+      injects = of_link stage lane.link false (λ up channel. InjectsIf up (sender lane.direction channel) octets w [] w)
+          down (λ channel here. (refl, refl));
+    }
+
 -- ---- a change, by name
 
 -- the world in which now is the time of the last change
@@ -254,30 +294,34 @@ changes_so (changes.Priority1 number value) (aims.Priority1 place set) stage dra
       so = subst (λ v. CallsIfLive place (Priority v) (with_station place (with_setup v at.station) w) draws w') is
           (turns at.station at.is.here);
     }
+changes_so (changes.Inject number port octets) (aims.Inject lane) stage draws w' at turns = absurd turns
 changes_so change aim stage draws w' at turns = absurd at
 
 -- what is changed can be changed
 pub can_change : (change : Change) (aim : Aim) (stage : Stage) → IsSound (world_of stage) → IsFitAct (Changing change)
-    → IsAimOfChange change (world_of stage) aim → CanChange aim (changed_now stage)
-can_change (changes.LinkDown number port) (aims.LinkDown link) stage sound fit at =
+    → ((lane : Lane) → aim ≢ aims.Inject lane) → IsAimOfChange change (world_of stage) aim
+    → CanChange aim (changed_now stage)
+can_change (changes.LinkDown number port) (aims.LinkDown link) stage sound fit other at =
     link_within stage link at.channel at.is.here
-can_change (changes.LinkUp number port) (aims.LinkUp link) stage sound fit at =
+can_change (changes.LinkUp number port) (aims.LinkUp link) stage sound fit other at =
     link_within stage link at.channel at.is.here
-can_change (changes.LinkSet number port min max loss) (aims.LinkSet link bounds) stage sound fit (at, is) = (
+can_change (changes.LinkSet number port min max loss) (aims.LinkSet link bounds) stage sound fit other (at, is) = (
   link_within stage link at.channel at.is.here,
   rw is (record { positive = fit.positive; ordered = fit.ordered; short = fit.short; share = fit.share }),
 )
-can_change (changes.Fail number) (aims.Fail place) stage sound fit at =
+can_change (changes.Fail number) (aims.Fail place) stage sound fit other at =
     slice_get_within stage.stations.items place at.station at.is.here
-can_change (changes.Recover number) (aims.Recover place) stage sound fit at = record {
+can_change (changes.Recover number) (aims.Recover place) stage sound fit other at = record {
   station = at.station;
   here = at.is.here;
   setup = sound.wired.setups place at.station at.is.here;
   params = (sound.on_time.stations place at.station at.is.here).setup;
 }
-can_change (changes.Priority1 number value) (aims.Priority1 place set) stage sound fit (at, is) =
+can_change (changes.Priority1 number value) (aims.Priority1 place set) stage sound fit other (at, is) =
     slice_get_within stage.stations.items place at.station at.is.here
-can_change change aim stage sound fit at = absurd at
+can_change (changes.Inject number port octets) (aims.Inject lane) stage sound fit other at =
+    absurd (other lane refl)
+can_change change aim stage sound fit other at = absurd at
 
 -- the time of the last change takes no room
 pub same_stage : (stage : Stage) → IsStage stage → IsStage (changed_now stage)
@@ -322,6 +366,7 @@ same_room (aims.LinkSet link bounds) stage has = has
 same_room (aims.Fail place) stage has = same_room_within reaches.All place stage has
 same_room (aims.Recover place) stage has = record { station = has.station; here = has.here; room = has.room }
 same_room (aims.Priority1 place value) stage has = same_room_within reaches.All place stage has
+same_room (aims.Inject lane) stage has = has
 
 -- an act that is neither a delivery nor an expiry is a change
 pub record IsSomeChange (act : Act) (aim : Aim) (w : WorldState) : Type 0 where
@@ -347,3 +392,27 @@ change_told answers act aim fate fate_after stage stage' is turned = record {
   acts = subst (λ x. Acts x (world_of stage) turned.draws Quiet (world_of stage')) (sym is.act_is)
       (refl, changes_so is.change aim stage turned.draws (world_of stage') is.at turned.turns);
 }
+
+-- an injection on a lane is that of a change
+pub injection_told : {F : Type 0} (answers : Bounds → ℕ → F → Option ℕ → F → Type 0) (act : Act) (lane : Lane)
+    (fate fate_after : F) (stage stage' : Stage) → IsAimOf act (world_of stage) (aims.Inject lane)
+    → Injected answers lane (octets_of act) fate fate_after (changed_now stage) stage'
+    → Acted answers act Quiet fate fate_after stage stage'
+injection_told answers (Changing (changes.Inject number port octets)) lane fate fate_after stage stage' at was =
+    record {
+      draws = was.draws;
+      drawn = was.drawn;
+      acts = (
+        refl,
+        record {
+          place = lane.link;
+          channel = at.channel;
+          is = lane_joins (port_id number port) (world_of stage) lane at;
+          so = subst
+              (λ from. InjectsIf at.channel.up from octets (world_of (changed_now stage)) was.draws (world_of stage'))
+              at.begins (was.injects at.channel at.here);
+        },
+      );
+    }
+injection_told answers (Changing (changes.LinkDown number port)) lane fate fate_after stage stage' at was = absurd at
+injection_told answers act lane fate fate_after stage stage' at was = absurd at

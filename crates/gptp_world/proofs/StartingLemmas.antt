@@ -7,7 +7,7 @@ use Rattle.gptp_roles.specs.Selection.{clock_of}
 use Rattle.gptp_system.specs.declared.answer.Answer.{Answer}
 use Rattle.gptp_system.specs.Input.{PortUp, Priority}
 use Rattle.gptp_system.specs.State.{clock}
-use Rattle.gptp_system.proofs.ReadyLemmas.{length-new_ports}
+use Rattle.gptp_system.proofs.StartLemmas.{length-new_ports}
 use Rattle.gptp_world.specs.declared.net.Net.{Net as Between}
 use Rattle.gptp_world.specs.declared.stage.Stage.{Stage}
 use Rattle.gptp_acts.specs.declared.station.Station.{Station}
@@ -102,7 +102,8 @@ room_for_timers place stage has = record {
 pub fresh_ports : (station : Station) (now : ℕ) → IsItsSetup station
     → length (fresh now station).system.ports ≡ length station.system.ports
 fresh_ports station now is =
-    length-new_ports (clock_of station.setup.identity) station.setup.params station.setup.ports ∙ sym is.ports
+    length-new_ports (clock_of station.setup.identity) station.setup.params 1 station.setup.intervals.items
+    ∙ is.intervals.many ∙ sym is.ports
 
 -- the needs of a new system are those of the old one
 pub fresh_need : (station : Station) (now : ℕ) → IsItsSetup station

@@ -124,20 +124,23 @@ room_at_ends stage stage' link a b is is' world ends room =
 
 -- ---- the link changes
 
--- what is between the systems becomes another that has no less room
+-- what is between the systems becomes another of the same systems and links
+pub net_becomes : (stage : Stage) (net : Between) → IsStage stage → IsNet net → net.directory ≡ stage.net.directory
+    → net.pending.systems ≡ stage.net.pending.systems → IsStage (record stage { net = net })
+net_becomes stage net is after directory systems = record {
+  net = after;
+  clocks = rw directory is.clocks;
+  systems = rw systems is.systems;
+  few = is.few;
+  ports = rw directory is.ports;
+  empty = is.empty;
+  moment = is.moment;
+}
+
+-- so it is where it has no less room
 pub net_changes : (stage : Stage) (net : Between) → IsStage stage → IsNet net → Uses nothing stage.net net
     → IsStage (record stage { net = net })
-net_changes stage net is after uses =
-    let directory = uses.directory in let systems = uses.systems in
-    record {
-      net = after;
-      clocks = rw directory is.clocks;
-      systems = rw systems is.systems;
-      few = is.few;
-      ports = rw directory is.ports;
-      empty = is.empty;
-      moment = is.moment;
-    }
+net_changes stage net is after uses = net_becomes stage net is after uses.directory uses.systems
 
 -- where a link only changes, there is as much room
 room_stays : (need : Need) (net net' : Between) → Uses nothing net net' → HasRoom need net → HasRoom need net'

@@ -5,6 +5,7 @@ use Rattle.gptp_system.specs.Steps.{IsTimerOf}
 use Rattle.gptp_vector.specs.declared.port.PortId.{PortId}
 use Rattle.gptp_world.specs.declared.aim.Aim.{Aim}
 use Rattle.gptp_world.specs.declared.aim.Aim.TheVariants as aims
+use Rattle.gptp_world.specs.declared.cable.Lane.{Lane}
 use Rattle.gptp_plan.specs.declared.change.Act.{Act}
 use Rattle.gptp_plan.specs.declared.change.Act.TheVariants.{Deliver, Expire, Change as Changing}
 use Rattle.gptp_plan.specs.declared.change.Change.{Change}
@@ -15,12 +16,18 @@ use Rattle.gptp_acts.specs.declared.station.Station.{Station}
 use Rattle.gptp_acts.specs.Acts.{set_to, AtPlace}
 use Rattle.gptp_acts.specs.Changing.{IsChannel, IsStation}
 use Rattle.gptp_acts.specs.World.{port_id}
-use Rattle.gptp_acts.specs.World.{Channel, WorldState, station_due}
+use Rattle.gptp_acts.specs.World.{Channel, WorldState, sender, station_due}
 
 -- the link at this place is at the port
 pub record IsLinkAt (port : PortId) (w : WorldState) (place : ℕ) : Type 0 where
   pub channel : Channel
   pub is : IsChannel port place w.net channel
+
+-- the lane begins at the port
+pub record IsLaneAt (port : PortId) (w : WorldState) (lane : Lane) : Type 0 where
+  pub channel : Channel
+  pub here : slice_get w.net.channels lane.link ≡ Some channel
+  pub begins : sender lane.direction channel ≡ port
 
 -- the system at this place has the clock
 pub record IsSystemAt (number : ℕ) (w : WorldState) (place : ℕ) : Type 0 where
@@ -36,6 +43,7 @@ IsAimOfChange (changes.LinkSet number port min max loss) w (aims.LinkSet link bo
 IsAimOfChange (changes.Fail number) w (aims.Fail place) = IsSystemAt number w place
 IsAimOfChange (changes.Recover number) w (aims.Recover place) = IsSystemAt number w place
 IsAimOfChange (changes.Priority1 number value) w (aims.Priority1 place set) = IsSystemAt number w place × (set ≡ value)
+IsAimOfChange (changes.Inject number port octets) w (aims.Inject lane) = IsLaneAt (port_id number port) w lane
 IsAimOfChange change w aim = ⊥
 
 -- the system with a clock and a timer

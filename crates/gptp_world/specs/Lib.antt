@@ -12,3 +12,4 @@ pub mod Stage
 pub mod Starting
 pub mod Telling
 pub mod Timing
+pub mod Used

@@ -7,18 +7,22 @@ use Rattle.gptp_setup.specs.declared.timer.Timer.{Timer}
 use Rattle.gptp_system.specs.Input.{Expires as TimerExpires, Priority}
 use Rattle.gptp_world.specs.declared.aim.Aim.{Aim}
 use Rattle.gptp_world.specs.declared.aim.Aim.TheVariants as aims
+use Rattle.gptp_world.specs.declared.cable.Lane.{Lane}
 use Rattle.gptp_plan.specs.declared.change.Act.{Act}
+use Rattle.gptp_plan.specs.declared.change.Act.TheVariants.{Change as Changing}
+use Rattle.gptp_plan.specs.declared.change.Change.TheVariants as changes
 use Rattle.gptp_acts.specs.declared.done.Done.{Done}
 use Rattle.gptp_world.specs.declared.stage.Stage.{Stage}
 use Rattle.gptp_acts.specs.declared.station.Station.{Station}
 use Rattle.gptp_acts.specs.Act.{Expires}
 use Rattle.gptp_acts.specs.Acts.{Acts}
-use Rattle.gptp_acts.specs.Changing.{with_bounds, with_setup, with_station, CallsIfLive, ComesUpIf, FailsIf, GoesDownIf, RecoversIf}
+use Rattle.gptp_acts.specs.Changing.{with_bounds, with_setup, with_station, CallsIfLive, ComesUpIf, FailsIf, GoesDownIf, InjectsIf, RecoversIf}
 use Rattle.gptp_world.specs.Delivering.{HasRoomToHear}
+use Rattle.gptp_world.specs.Room.{HasRoomToInject}
 use Rattle.gptp_world.specs.Stage.{world_of, HasRoomToCall, HasRoomToGive}
 use Rattle.gptp_world.specs.Starting.{CanStart, HasRoomToStart}
 use Rattle.gptp_world.specs.Telling.{HasRoomAtEnds}
-use Rattle.gptp_acts.specs.World.{Channel, WorldState}
+use Rattle.gptp_acts.specs.World.{Channel, WorldState, sender}
 
 -- ---- room for what an act can leave
 
@@ -31,6 +35,7 @@ HasRoomForAim (aims.LinkSet link bounds) stage = ⊤
 HasRoomForAim (aims.Fail place) stage = HasRoomToCall place stage
 HasRoomForAim (aims.Recover place) stage = HasRoomToStart place stage
 HasRoomForAim (aims.Priority1 place value) stage = HasRoomToCall place stage
+HasRoomForAim (aims.Inject lane) stage = HasRoomToInject lane stage.net
 
 -- ---- what is done, by place
 
@@ -68,6 +73,19 @@ pub record Turned {F : Type 0} (answers : Bounds → ℕ → F → Option ℕ �
   pub draws : List Draw
   pub drawn : Draws answers fate draws fate_after
   pub turns : Turns aim (world_of stage) draws (world_of stage_after)
+
+-- these octets were injected on a lane: where its link is up the fate drew once for them
+pub record Injected {F : Type 0} (answers : Bounds → ℕ → F → Option ℕ → F → Type 0) (lane : Lane) (octets : List ℕ)
+    (fate fate_after : F) (stage stage_after : Stage) : Type 0 where
+  pub draws : List Draw
+  pub drawn : Draws answers fate draws fate_after
+  pub injects : OfLink lane.link (world_of stage) (λ channel.
+      InjectsIf channel.up (sender lane.direction channel) octets (world_of stage) draws (world_of stage_after))
+
+-- what an act injects; nothing but an injection does
+abbrev pub octets_of : Act → List ℕ
+octets_of (Changing (changes.Inject number port octets)) = octets
+octets_of act = []
 
 -- a timer of the system at a place expired
 pub record Expired {F : Type 0} (answers : Bounds → ℕ → F → Option ℕ → F → Type 0)

@@ -99,6 +99,12 @@ abbrev pub KeepsRoomOn : List Cable → PendingState → List Cable → PendingS
 KeepsRoomOn cables pending cables' pending' =
     (more : ℕ) (lane : Lane) → HasRoomOn more lane cables pending → HasRoomOn more lane cables' pending'
 
+-- there is room for a frame that is injected on a lane
+pub record HasRoomToInject (lane : Lane) (net : Between) : Type 0 where
+  pub entry : 1 ≤ net.pending.room
+  pub buffer : 1 ≤ net.buffers.ready
+  pub frame : HasRoomOn 1 lane net.cables.items net.pending
+
 -- nothing changes but the room that there is, and there is no less of it
 pub record OnlyRoom (net net' : Between) : Type 0 where
   pub same : between net' ≡ between net

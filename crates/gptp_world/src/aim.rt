@@ -29,6 +29,8 @@ pub(crate) enum Aim {
     Recover(usize),
     /// A system gets another priority1.
     Priority1 { place: usize, value: u8 },
+    /// A frame goes onto a lane, as if the system at its beginning had sent it.
+    Inject(Lane),
 }
 
 impl Stage {
@@ -38,14 +40,14 @@ impl Stage {
     ghost use Rattle.gptp_acts.specs.declared.station.Station.{Station};
     ghost use Rattle.gptp_acts.specs.World.{Channel};
     ghost use Rattle.gptp_acts.specs.Acts.{set_to, AtLink, AnyLink, AtSystem, AnySystem, IsThere, IsThereToChange};
-    ghost use Rattle.gptp_world.specs.Aim.{IsAimOf, IsAimOfChange, IsLinkAt, IsSystemAt};
+    ghost use Rattle.gptp_world.specs.Aim.{IsAimOf, IsAimOfChange, IsLaneAt, IsLinkAt, IsSystemAt};
     ghost use Rattle.gptp_acts.specs.World.{port_id};
     ghost use Rattle.gptp_world.specs.Stage.{world_of, IsStage};
 
-    /// The place of the link at a port, if there is one.
-    fn link_at(&self, clock: ClockId, port: u16) -> Option<usize>
+    /// The lane that begins at a port, if there is a link at it.
+    fn lane_at(&self, clock: ClockId, port: u16) -> Option<Lane>
         requires { IsStage self.now }
-        ensures some { IfSome result (IsLinkAt (port_id clock port) (world_of self.entry.now)) }
+        ensures some { IfSome result (IsLaneAt (port_id clock port) (world_of self.entry.now)) }
         ensures none { IfNone result (AtLink (port_id clock port) (world_of self.entry.now).net AnyLink → ⊥) }
     {
         self.net.directory.well_formed();
@@ -54,9 +56,21 @@ impl Stage {
         }
         match self.net.directory.place_of(clock) {
             Some(place) => match self.net.directory.lane_from(place, narrowed(port)) {
-                Some(lane) => Some(lane.link),
+                Some(lane) => Some(lane),
                 None => None,
             },
+            None => None,
+        }
+    }
+
+    /// The place of the link at a port, if there is one.
+    fn link_at(&self, clock: ClockId, port: u16) -> Option<usize>
+        requires { IsStage self.now }
+        ensures some { IfSome result (IsLinkAt (port_id clock port) (world_of self.entry.now)) }
+        ensures none { IfNone result (AtLink (port_id clock port) (world_of self.entry.now).net AnyLink → ⊥) }
+    {
+        match self.lane_at(clock, port) {
+            Some(lane) => Some(lane.link),
             None => None,
         }
     }
@@ -113,6 +127,14 @@ impl Stage {
                 Some(place) => Some(Aim::Priority1 { place, value }),
                 None => None,
             },
+            Change::Inject {
+                clock,
+                port,
+                octets: _,
+            } => match self.lane_at(clock, port) {
+                Some(lane) => Some(Aim::Inject(lane)),
+                None => None,
+            },
         }
     }
 
@@ -151,10 +173,10 @@ impl Stage {
         ensures some { IfSome result (IsAimOf act.now (world_of self.entry.now)) }
         ensures none { IfNone result (IsThere act.now (world_of self.entry.now) → ⊥) }
     {
-        match *act {
-            Act::Deliver { link, direction } => self.arrival(link, direction),
-            Act::Expire { clock, timer } => self.timer_at(clock, timer),
-            Act::Change(change) => self.aim_of_change(&change),
+        match act {
+            Act::Deliver { link, direction } => self.arrival(*link, *direction),
+            Act::Expire { clock, timer } => self.timer_at(*clock, *timer),
+            Act::Change(change) => self.aim_of_change(change),
         }
     }
 

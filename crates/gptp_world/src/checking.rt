@@ -6,12 +6,29 @@ use crate::aim::Aim;
 use crate::stage::Stage;
 use gptp_acts::{Act, Change, Refused, Timed};
 
-/// A priority1 that is set is an octet.
+/// A priority1 that a change sets is an octet, and so is each that it injects.
+fn change_sets_an_octet(change: &Change)
+    ensures { SetsAnOctet (Act.Change change.now) }
+{
+    match change {
+        Change::Priority1 { clock: _, value } => {
+            let _value = *value;
+        }
+        Change::Inject {
+            clock: _,
+            port: _,
+            octets,
+        } => octets.well_formed(),
+        _ => {}
+    }
+}
+
+/// So are those of any act.
 pub(crate) fn sets_an_octet(act: &Act)
     ensures { SetsAnOctet act.now }
 {
-    if let Act::Change(Change::Priority1 { clock: _, value }) = act {
-        let _value = *value;
+    if let Act::Change(change) = act {
+        change_sets_an_octet(change);
     }
 }
 
@@ -50,6 +67,7 @@ impl Stage {
             Aim::Fail(_) => true,
             Aim::Recover(_) => true,
             Aim::Priority1 { place: _, value: _ } => true,
+            Aim::Inject(_) => true,
         }
     }
 

@@ -182,7 +182,7 @@ fn clock_in(network: &Network, place: usize) -> ClockId
     requires { place < length network.now.systems }
     ensures { slice_get (clocks_of network.now.systems) place ≡ Some result }
 {
-    let (identity, _, _, _) = network.system_at(place).unwrap();
+    let (identity, _, _, _, _) = network.system_at(place).unwrap();
     identity.clock()
 }
 

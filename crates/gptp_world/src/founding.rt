@@ -83,19 +83,21 @@ fn station_in(network: &Network, place: usize) -> Station
     ensures { slice_get (stations_of network.now) place ≡ Some result }
 {
     network.well_formed();
-    let (identity, ports, phase, drift) = network.system_at(place).unwrap();
+    let (identity, ports, phase, drift, intervals) = network.system_at(place).unwrap();
+    let largest = network.largest();
     let setup = Setup {
         identity,
         ports,
         phase,
         drift,
+        intervals,
+        largest,
         params: network.params(),
     };
-    // A copy is started, since the borrow checker takes a setup that was passed on as moved.
-    let started = setup;
+    let system = System::new(setup.copy(), 0);
     Station {
         setup,
-        system: System::new(started, 0),
+        system,
         live: false,
     }
 }

@@ -28,8 +28,9 @@ mod stage;
 mod starting;
 mod telling;
 mod timing;
+mod used;
 mod views;
 mod world;
 
-pub use gptp_acts::{Act, Change, Done, Network, NetworkFault, Params, Refused, Timed};
+pub use gptp_acts::{Act, Change, Done, Network, NetworkFault, Octets, Params, Refused, Timed};
 pub use world::World;

@@ -3,7 +3,7 @@
 use crate::buffers::Buffers;
 use crate::cable::{Cable, Lane};
 use crate::directory::Directory;
-use crate::octets::write_send;
+use crate::octets::{write_octets, write_send};
 use crate::pending::Pending;
 use crate::sending::send_one;
 use gptp_links::Fate;
@@ -19,14 +19,15 @@ pub(crate) struct Net {
 }
 
 impl Net {
-    ghost use Rattle.std.specs.Prelude.{◌≡◌, ℕ, ◌+◌, ◌*◌, ◌^◌, ◌<◌, ◌≤◌, List, [], ◌∷◌, length, Some, slice_get, IfSome, IfNone};
+    ghost use Rattle.std.specs.Prelude.{◌≡◌, ℕ, ◌+◌, ◌*◌, ◌^◌, ◌<◌, ◌≤◌, List, [], ◌∷◌, length, Some, slice_get, IfSome, IfNone, true};
     ghost use Rattle.gptp_system.specs.State.{clock, own};
     ghost use Rattle.gptp_world.specs.declared.cable.Cable.{Cable};
     ghost use Rattle.gptp_acts.specs.Sends.{written, IsUnlinked};
-    ghost use Rattle.gptp_world.specs.Cable.{SentAll};
+    ghost use Rattle.gptp_acts.specs.World.{sender};
+    ghost use Rattle.gptp_world.specs.Cable.{channel_of, SentAll, SentOne};
     ghost use Rattle.gptp_world.specs.Net.{between, IsNet, IsUpLane, SentNext};
     ghost use Rattle.gptp_acts.specs.World.{port_id};
-    ghost use Rattle.gptp_world.specs.Room.{for_sends, HasRoom, Uses};
+    ghost use Rattle.gptp_world.specs.Room.{for_sends, HasRoom, HasRoomToInject, Uses};
 
     /// The lane that begins at a port of the system at a place, where that link is up.
     pub(crate) fn up_lane(&self, place: usize, port: u8) -> Option<Lane>
@@ -48,6 +49,30 @@ impl Net {
         ensures { (cable : Cable) → slice_get self.now.cables.items link ≡ Some cable → result ≡ cable.link.up }
     {
         self.cables[link].link.is_up()
+    }
+
+    /// A frame with these octets goes onto a lane whose link is up, as if the port at its beginning had sent it.
+    pub(crate) fn inject<F: Fate>(&mut self, lane: Lane, octets: &[u8], now: u64, fate: &mut F)
+        requires net { IsNet self.old }
+        requires early { now ≤ 10 ^ 15 }
+        requires few { length octets.now ≤ 2116 }
+        requires room { HasRoomToInject lane self.old }
+        requires up { (cable : Cable) → slice_get self.old.cables.items lane.link ≡ Some cable → cable.link.up ≡ true }
+        ensures net { IsNet self.new }
+        ensures directory { self.new.directory ≡ self.old.directory }
+        ensures systems { self.new.pending.systems ≡ self.old.pending.systems }
+        ensures sent { (cable : Cable) → slice_get self.old.cables.items lane.link ≡ Some cable → SentOne F.answers now (sender lane.direction (channel_of cable)) octets.now fate.old fate.new (between self.old) (between self.new) }
+    {
+        let mut frame = self.buffers.take();
+        write_octets(octets, &mut frame);
+        send_one(
+            self.cables.as_mut_slice(),
+            &mut self.pending,
+            fate,
+            lane,
+            frame,
+            now,
+        );
     }
 
     /// One send of the system at a place goes onto its link, where that is up.

@@ -1,4 +1,4 @@
-//! The octets of what a system sends.
+//! The octets of what is sent.
 
 ghost use Rattle.std.specs.Prelude.{◌≡◌, ◌≤◌, [], length, vec_capacity};
 ghost use Rattle.gptp_messages.specs.Grammar.{PathHasRoom, Written};
@@ -31,6 +31,15 @@ fn write_message(message: &Message<'_>, out: &mut Vec<u8>)
     ensures { out.new.items ≡ Written message.now }
 {
     let _ = encode(message, out);
+}
+
+/// Writes octets into an empty buffer that has room for them.
+pub(crate) fn write_octets(octets: &[u8], out: &mut Vec<u8>)
+    requires empty { out.old.items ≡ [] }
+    requires room { length octets.now ≤ vec_capacity out.old }
+    ensures { out.new.items ≡ octets.now }
+{
+    let _ = out.extend_from_slice(octets);
 }
 
 /// Writes what a system sends into an empty buffer that has room for each message: the message in its one spelling, an

@@ -1,24 +1,45 @@
 //! Acts that are carried out.
 
+ghost use Rattle.std.specs.Prelude.{◌≡◌, ◌≤◌, length};
+ghost use Rattle.gptp_world.specs.Performing.{octets_of};
+
 use crate::aim::Aim;
 use crate::cable::Lane;
 use crate::delivering::Reached;
 use crate::stage::Stage;
-use gptp_acts::{Act, Done};
+use gptp_acts::{Act, Change, Done};
 use gptp_links::{Bounds, Fate};
 use gptp_system::Reach;
 use std::alloc::AllocError;
 
+/// What an act injects; no other injects anything.
+fn octets_of(act: &Act) -> &[u8]
+    ensures is { result.now ≡ octets_of act.now }
+    ensures few { length result.now ≤ 2116 }
+{
+    match act {
+        Act::Change(
+            Change::Inject {
+                clock: _,
+                port: _,
+                octets,
+            },
+        ) => octets.as_slice(),
+        _ => &[],
+    }
+}
+
 impl Stage {
-    ghost use Rattle.std.specs.Prelude.{◌≡◌, ◌<◌, [], length};
+    ghost use Rattle.std.specs.Prelude.{◌≡◌, ◌<◌, ◌≤◌, [], length};
     ghost use Rattle.gptp_links.specs.Bounds.{Fit};
     ghost use Rattle.gptp_world.specs.declared.aim.Aim.TheVariants.{LinkDown, LinkUp, LinkSet, Fail, Recover};
     ghost use Rattle.gptp_plan.specs.declared.change.Act.TheVariants.{Deliver};
     ghost use Rattle.gptp_acts.specs.Acts.{AtPlace, IsOldestDue};
     ghost use Rattle.gptp_acts.specs.Agrees.{Agrees};
     ghost use Rattle.gptp_world.specs.Delivering.{HasRoomToHear};
-    ghost use Rattle.gptp_world.specs.Performing.{Acted, CanChange, HasRoomForAim, Turned, Turns};
+    ghost use Rattle.gptp_world.specs.Performing.{Acted, CanChange, HasRoomForAim, Injected, Turned, Turns};
     ghost use Rattle.gptp_acts.specs.Sound.{IsWired};
+    ghost use Rattle.gptp_world.specs.Room.{HasRoomToInject};
     ghost use Rattle.gptp_world.specs.Stage.{world_of, HasRoomToCall, IsStage};
     ghost use Rattle.gptp_world.specs.Starting.{CanStart, HasRoomToStart};
     ghost use Rattle.gptp_world.specs.Telling.{HasRoomAtEnds};
@@ -104,6 +125,20 @@ impl Stage {
         }
     }
 
+    /// A frame with these octets goes onto a lane, where its link is up, as if the system at its beginning had sent it.
+    fn inject<F: Fate>(&mut self, lane: Lane, octets: &[u8], fate: &mut F)
+        requires stage { IsStage self.old }
+        requires link { lane.link < length self.old.net.cables.items }
+        requires few { length octets.now ≤ 2116 }
+        requires room { HasRoomToInject lane self.old.net }
+        ensures stage { IsStage self.new }
+        ensures injected { Injected F.answers lane octets.now fate.old fate.new self.old self.new }
+    {
+        if self.net.is_up(lane.link) {
+            self.net.inject(lane, octets, self.now, fate);
+        }
+    }
+
     /// What a change is about is changed.
     fn change<F: Fate>(&mut self, aim: Aim, fate: &mut F)
         requires stage { IsStage self.old }
@@ -121,6 +156,7 @@ impl Stage {
             Aim::Priority1 { place, value } => self.set_priority1(place, value, fate),
             Aim::Arrival(_) => {}
             Aim::Timer { place: _, timer: _ } => {}
+            Aim::Inject(_) => {}
         }
     }
 }
@@ -152,6 +188,7 @@ impl Stage {
             Aim::Fail(place) => self.make_room(place, Reach::All),
             Aim::Recover(place) => self.make_room_to_start(place),
             Aim::Priority1 { place, value: _ } => self.make_room(place, Reach::All),
+            Aim::Inject(lane) => self.make_room_to_inject(lane),
         }
     }
 
@@ -170,6 +207,11 @@ impl Stage {
             Aim::Arrival(lane) => self.arrive(lane, fate),
             Aim::Timer { place, timer } => {
                 self.run_out(place, timer, fate);
+                Done::Quiet
+            }
+            Aim::Inject(lane) => {
+                self.last_change = self.now;
+                self.inject(lane, octets_of(act), fate);
                 Done::Quiet
             }
             _ => {

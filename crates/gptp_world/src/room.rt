@@ -4,7 +4,7 @@ ghost use Rattle.std.specs.Prelude.{◌≡◌, ◌≤◌, ◌<◌, length, map, 
 ghost use Rattle.gptp_world.specs.Cable.{channel_of, join_of};
 ghost use Rattle.gptp_world.specs.Room.{HasRoomBothWays, KeepsRoomOn};
 
-use crate::cable::Cable;
+use crate::cable::{Cable, Lane};
 use crate::net::Net;
 use crate::pending::Pending;
 use crate::stage::Stage;
@@ -35,7 +35,7 @@ impl Net {
     ghost use Rattle.std.specs.Prelude.{◌≡◌, ◌≤◌, ◌<◌, ◌+◌, ◌*◌, ℕ, length, Some, slice_get, OnOk};
     ghost use Rattle.gptp_world.specs.Net.{IsNet};
     ghost use Rattle.gptp_acts.specs.World.{port_id};
-    ghost use Rattle.gptp_world.specs.Room.{HasRoomAtPorts, HasRoomAtReach, HasRoomFrom, OnlyRoom};
+    ghost use Rattle.gptp_world.specs.Room.{HasRoomAtPorts, HasRoomAtReach, HasRoomBothWays, HasRoomFrom, OnlyRoom};
 
     /// Makes room for so many more frames that a port of the system at a place sends. Refused where there is no memory for
     /// them.
@@ -99,6 +99,18 @@ impl Net {
         }
     }
 
+    /// Makes room for one more frame in each direction of a link. Refused where there is no memory for it. Nothing changes but
+    /// the room that there is.
+    fn make_room_on_link(&mut self, link: usize) -> Result<(), AllocError>
+        requires net { IsNet self.old }
+        requires link { link < length self.old.cables.items }
+        ensures net { IsNet self.new }
+        ensures only { OnlyRoom self.old self.new }
+        ensures ok { OnOk result (HasRoomBothWays 1 link self.new.cables.items self.new.pending) }
+    {
+        make_room_on(self.cables.as_mut_slice(), &mut self.pending, link, 1)
+    }
+
     /// Makes room for so many more entries, and buffers until so many stand ready. Refused where there is no memory for
     /// them. Nothing changes but the room that there is.
     fn reserve(&mut self, entries: usize, buffers: usize) -> Result<(), AllocError>
@@ -115,6 +127,7 @@ impl Net {
 
 impl Stage {
     ghost use Rattle.std.specs.Prelude.{◌≡◌, ◌≢◌, ◌≤◌, ◌<◌, length, OnOk};
+    ghost use Rattle.gptp_world.specs.Room.{HasRoomToInject};
     ghost use Rattle.gptp_world.specs.Stage.{world_of, HasRoomToCallBoth, HasRoomWithin, IsStage};
     ghost use Rattle.gptp_world.specs.Starting.{HasRoomToStart};
 
@@ -170,5 +183,17 @@ impl Stage {
         self.net.reserve(6 * count + 4, 2 * count)?;
         self.net.make_room_at_ports(first, near, 2)?;
         self.net.make_room_at_ports(second, far, 2)
+    }
+    /// Makes room for a frame that is injected on a lane: an entry, a buffer, and a place behind those in flight. Refused
+    /// where there is no memory for it. The state of the world doesn't change.
+    pub(crate) fn make_room_to_inject(&mut self, lane: Lane) -> Result<(), AllocError>
+        requires stage { IsStage self.old }
+        requires link { lane.link < length self.old.net.cables.items }
+        ensures stage { IsStage self.new }
+        ensures world { world_of self.new ≡ world_of self.old }
+        ensures room { OnOk result (HasRoomToInject lane self.new.net) }
+    {
+        self.net.reserve(1, 1)?;
+        self.net.make_room_on_link(lane.link)
     }
 }

@@ -62,7 +62,7 @@ impl Stage {
     {
         let now = self.now;
         let station = &mut self.stations[place];
-        station.system = System::new(station.setup, now);
+        station.system = System::new(station.setup.copy(), now);
         station.live = true;
     }
 

@@ -16,15 +16,16 @@ use gptp_system::System;
 use gptp_vector::{ClockId, Identity};
 
 impl Scene {
-    ghost use Rattle.std.specs.Prelude.{◌≡◌, ◌↔◌, [], IfNone, IfSome, IsTrue, length, slice_get, true};
+    ghost use Rattle.std.specs.Prelude.{◌≡◌, ◌≤◌, ◌↔◌, [], IfNone, IfSome, IsTrue, length, slice_get, true};
     ghost use Rattle.gptp_acts.specs.Acts.{AtSystem};
     ghost use Rattle.gptp_plan.specs.Allowed.{IsFitAct};
     ghost use Rattle.gptp_acts.specs.Prompt.{IsPromptIn};
     ghost use Rattle.gptp_acts.specs.Sound.{IsSound};
     ghost use Rattle.gptp_acts.specs.Views.{Follows, HasPort, HasRole, IsLiveSystem, IsNextAct, ShowsLive, rising_clocks};
     ghost use Rattle.gptp_kept.specs.Claimed.{Claimed};
-    ghost use Rattle.gptp_kept.specs.Shown.{FollowsByPaths, FollowsInTime, IsCapableInTime, IsEnabledInTime, PlaysByPaths, PlaysInTime};
-    ghost use Rattle.gptp_kept.specs.Traces.{AreHeldCleanInTime, IsCleanInTime};
+    ghost use Rattle.gptp_kept.specs.Shown.{FollowsByDistance, FollowsByPaths, FollowsInTime, IsCapableInTime, IsEnabledInTime};
+    ghost use Rattle.gptp_kept.specs.Shown.{PlaysByDistance, PlaysByPaths, PlaysInTime};
+    ghost use Rattle.gptp_kept.specs.Traces.{AreHeldCleanInTime, AreHeldWholeInTime, IsCleanInTime};
 
     /// The time, in ns.
     pub(crate) fn now(&self) -> u64
@@ -42,8 +43,10 @@ impl Scene {
 
     /// How many systems there are, live or not.
     pub(crate) fn count(&self) -> usize
-        ensures { result ≡ length self.now.stations }
+        ensures count { result ≡ length self.now.stations }
+        ensures few { result ≤ 512 }
     {
+        self.stage.net.directory.well_formed();
         self.stage.stations.len()
     }
 
@@ -77,6 +80,7 @@ impl Scene {
         ensures capable { IfSome result (λ system. IsCapableInTime self.now system.now) }
         ensures clean { IfSome result (λ system. IsCleanInTime self.now system.now) }
         ensures held { IfSome result (λ system. AreHeldCleanInTime self.now system.now) }
+        ensures whole { IfSome result (λ system. AreHeldWholeInTime self.now system.now) }
     {
         self.well_formed();
         self.live_system(clock)
@@ -116,6 +120,7 @@ impl Scene {
         ensures none { IfNone result (AtSystem clock self.now IsLiveSystem → ⊥) }
         ensures settled { IfSome result (λ f. FollowsInTime clock self.now f.0 f.1 f.2) }
         ensures by_paths { IfSome result (λ f. FollowsByPaths clock self.now f.0 f.1 f.2) }
+        ensures by_distance { IfSome result (λ f. FollowsByDistance clock self.now f.0 f.1 f.2) }
     {
         self.well_formed();
         match self.live_system(clock) {
@@ -140,6 +145,7 @@ impl Scene {
         ensures enabled { IfSome result (λ role. IsEnabledInTime clock port self.now role) }
         ensures settled { IfSome result (λ role. PlaysInTime clock port self.now role) }
         ensures by_paths { IfSome result (λ role. PlaysByPaths clock port self.now role) }
+        ensures by_distance { IfSome result (λ role. PlaysByDistance clock port self.now role) }
     {
         self.well_formed();
         match self.live_system(clock) {

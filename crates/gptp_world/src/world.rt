@@ -5,7 +5,7 @@ use gptp_acts::{Done, Network, Refused, Timed};
 use gptp_links::Fate;
 use gptp_roles::Role;
 use gptp_system::System;
-use gptp_vector::{ClockId, Identity};
+use gptp_vector::{ClockId, Identity, PortId};
 use std::alloc::{AllocError, Global};
 
 /// A simulated world: the systems of a network, what is between them, and the fate that draws for each frame that is sent.
@@ -17,7 +17,7 @@ pub struct World<F> {
 }
 
 impl<F: Fate + Drop> World<F> {
-    ghost use Rattle.std.specs.Prelude.{◌≡◌, ◌≤◌, ◌↔◌, IsTrue, IfErr, IfNone, IfOk, IfSome, List, OnErr, OnOk, length, slice_get, []};
+    ghost use Rattle.std.specs.Prelude.{◌≡◌, ◌≤◌, ◌↔◌, IsTrue, IfErr, IfNone, IfOk, IfSome, List, OnErr, OnOk, length, map, option_map, slice_get, []};
     ghost use Rattle.gptp_acts.specs.Acts.{AtSystem, Refuses};
     ghost use Rattle.gptp_plan.specs.Allowed.{IsFitAct};
     ghost use Rattle.gptp_plan.specs.Allowed.{AreAllowed, IsAllowed};
@@ -27,9 +27,12 @@ impl<F: Fate + Drop> World<F> {
     ghost use Rattle.gptp_acts.specs.Course.{Begun, WasDone};
     ghost use Rattle.gptp_acts.specs.Sound.{IsSound};
     ghost use Rattle.gptp_kept.specs.Claimed.{Claimed};
-    ghost use Rattle.gptp_kept.specs.Shown.{FollowsByPaths, FollowsInTime, IsCapableInTime, IsEnabledInTime, PlaysByPaths, PlaysInTime};
-    ghost use Rattle.gptp_kept.specs.Traces.{AreHeldCleanInTime, IsCleanInTime, IsHeardClean};
+    ghost use Rattle.gptp_kept.specs.Standing.{snapshot_of};
+    ghost use Rattle.gptp_kept.specs.Shown.{FollowsByDistance, FollowsByPaths, FollowsInTime, IsCapableInTime, IsEnabledInTime};
+    ghost use Rattle.gptp_kept.specs.Shown.{PlaysByDistance, PlaysByPaths, PlaysInTime};
+    ghost use Rattle.gptp_kept.specs.Traces.{AreHeldCleanInTime, AreHeldWholeInTime, IsCleanInTime, IsHeardClean};
     ghost use Rattle.gptp_acts.specs.Views.{Follows, HasPort, HasRole, IsLiveSystem, IsNextAct, ShowsLive, rising_clocks};
+    ghost use Rattle.gptp_world.specs.Used.{link_of};
 
     /// The world of a network at time 0: all its systems have started, in their order, and their first frames are in flight.
     /// Refused for want of memory alone; then the fate is dropped.
@@ -57,7 +60,20 @@ impl<F: Fate + Drop> World<F> {
         ensures refused { IfErr result (Refuses timed.act timed.at self.old.scene) }
         ensures kept { OnErr result (self.new ≡ self.old) }
     {
-        self.scene.act(&timed, &mut self.fate)
+        self.carry_out(&timed)
+    }
+
+    /// An act that is lent is done at its time, or refused, as by [`act`](Self::act), and within its limits.
+    pub fn carry_out(&mut self, timed: &Timed) -> Result<Done, Refused>
+        requires moment { timed.now.at ≤ 1000000000000000 }
+        requires fit { IsFitAct timed.now.act }
+        requires prompt { IsPromptIn self.old.scene timed.now.act }
+        ensures done { IfOk result (WasDone F.answers timed.now self.old.fate self.new.fate self.old.scene self.new.scene) }
+        ensures clean { IfOk result (IsHeardClean self.old.scene timed.now.at) }
+        ensures refused { IfErr result (Refuses timed.now.act timed.now.at self.old.scene) }
+        ensures kept { OnErr result (self.new ≡ self.old) }
+    {
+        self.scene.act(timed, &mut self.fate)
     }
 
     /// The acts of a list are done, one after another, up to the first that is refused: answered with its place, from 0, and
@@ -71,21 +87,21 @@ impl<F: Fate + Drop> World<F> {
     {
         for place in 0..acts.len() {
             self.well_formed();
-            self.play_next(place, acts[place])?;
+            self.play_next(place, &acts[place])?;
         }
         Ok(())
     }
 
     /// The act at a place of a list is done, or refused with its place.
-    fn play_next(&mut self, place: usize, timed: Timed) -> Result<(), (usize, Refused)>
-        requires allowed { IsAllowed timed }
-        requires prompt { IsPromptIn self.old.scene timed.act }
-        ensures played { OnOk result (IsPlayed F.answers timed self.old.fate self.new.fate self.old.scene self.new.scene) }
+    fn play_next(&mut self, place: usize, timed: &Timed) -> Result<(), (usize, Refused)>
+        requires allowed { IsAllowed timed.now }
+        requires prompt { IsPromptIn self.old.scene timed.now.act }
+        ensures played { OnOk result (IsPlayed F.answers timed.now self.old.fate self.new.fate self.old.scene self.new.scene) }
         ensures place { IfErr result (λ e. e.0 ≡ place) }
-        ensures refused { IfErr result (λ e. Refuses timed.act timed.at self.old.scene e.1) }
+        ensures refused { IfErr result (λ e. Refuses timed.now.act timed.now.at self.old.scene e.1) }
         ensures kept { OnErr result (self.new ≡ self.old) }
     {
-        match self.act(timed) {
+        match self.carry_out(timed) {
             Ok(_) => Ok(()),
             Err(refused) => Err((place, refused)),
         }
@@ -118,9 +134,10 @@ impl<F: Fate + Drop> World<F> {
         self.scene.last_change()
     }
 
-    /// How many systems there are, live or not.
+    /// How many systems there are, live or not: at most 512.
     pub fn count(&self) -> usize
-        ensures { result ≡ length self.now.scene.stations }
+        ensures count { result ≡ length self.now.scene.stations }
+        ensures few { result ≤ 512 }
     {
         self.scene.count()
     }
@@ -130,6 +147,29 @@ impl<F: Fate + Drop> World<F> {
         ensures { result ≡ slice_get (rising_clocks self.now.scene) place }
     {
         self.scene.clock_at(place)
+    }
+
+    /// How many links are up between two live systems. Takes no memory.
+    pub fn links(&self) -> usize
+        ensures { result ≡ length (snapshot_of self.now.scene).links }
+    {
+        self.scene.links()
+    }
+
+    /// The two ports of the link at a place, from 0, among those that are up between two live systems, in the order in which
+    /// the network took them: that of its end a first. `None` past the last. Takes no memory, and counts from the first of
+    /// all links on; [`list_links`](Self::list_links) gives all of them in one pass.
+    pub fn link_at(&self, place: usize) -> Option<(PortId, PortId)>
+        ensures { option_map link_of result ≡ slice_get (snapshot_of self.now.scene).links place }
+    {
+        self.scene.link_at(place)
+    }
+
+    /// The two ports of each of these links, in that order. Refused for want of memory alone.
+    pub fn list_links(&self, alloc: Global) -> Result<Vec<(PortId, PortId)>, AllocError>
+        ensures { IfOk result (λ links. map link_of links.items ≡ (snapshot_of self.now.scene).links) }
+    {
+        self.scene.list_links(alloc)
     }
 
     /// The next act that is due: of all that is pending one of least time, and of those the first that was put. `None` where
@@ -150,13 +190,16 @@ impl<F: Fate + Drop> World<F> {
     /// capable exactly where such a link is at it. From then on traces become clean, by one member in each turn of k + 1
     /// announce intervals, k being the announce receipt timeout: after c turns the last c + 1 members of the trace that the
     /// system announces, and of each that its ports hold and that was sent by then, are different live systems, each linked
-    /// with the next; or the trace is so as a whole, from the root that it names.
+    /// with the next; or the trace is so as a whole, from the root that it names. No trace that a port holds names the
+    /// system itself. After m turns, where no path over live systems and the links between them has more than m systems,
+    /// each trace that is held, sent by then or not, is so as a whole, and has as many links as its steps say.
     pub fn system(&self, clock: ClockId) -> Option<&System>
         ensures some { IfSome result (λ system. ShowsLive clock self.now.scene system.now) }
         ensures none { IfNone result (AtSystem clock self.now.scene IsLiveSystem → ⊥) }
         ensures capable { IfSome result (λ system. IsCapableInTime self.now.scene system.now) }
         ensures clean { IfSome result (λ system. IsCleanInTime self.now.scene system.now) }
         ensures held { IfSome result (λ system. AreHeldCleanInTime self.now.scene system.now) }
+        ensures whole { IfSome result (λ system. AreHeldWholeInTime self.now.scene system.now) }
     {
         self.scene.system(clock)
     }
@@ -184,12 +227,14 @@ impl<F: Fate + Drop> World<F> {
     /// Once the world has been calm for (k+3)n + L + 5 announce intervals since the last change, with n systems that live,
     /// these are the identity of the best system of its component, the least number of steps to that, and the own port of
     /// the parent, where the system is near: fewer than 255 steps away. The best has no Slave port. So they are after
-    /// (k+3)m + L + 5 intervals already, where no path over live systems and the links between them has more than m.
+    /// (k+3)m + L + 5 intervals already, where no path over live systems and the links between them has more than m; and
+    /// at a distance of d steps after (k+1)m + 2d + L + 5.
     pub fn follows(&self, clock: ClockId) -> Option<(Identity, u16, Option<u8>)>
         ensures some { IfSome result (λ f. AtSystem clock self.now.scene (Follows f.0 f.1 f.2)) }
         ensures none { IfNone result (AtSystem clock self.now.scene IsLiveSystem → ⊥) }
         ensures settled { IfSome result (λ f. FollowsInTime clock self.now.scene f.0 f.1 f.2) }
         ensures by_paths { IfSome result (λ f. FollowsByPaths clock self.now.scene f.0 f.1 f.2) }
+        ensures by_distance { IfSome result (λ f. FollowsByDistance clock self.now.scene f.0 f.1 f.2) }
     {
         self.scene.follows(clock)
     }
@@ -200,13 +245,14 @@ impl<F: Fate + Drop> World<F> {
     /// Once the world has been calm for L + 5 announce intervals since the last change, the port is Disabled exactly where no
     /// link that is up leads from it to a live system; and once it has been for (k+3)n + L + 5, each port of a near system
     /// has the role that the tree of fewest steps to the best gives it. So it has after (k+3)m + L + 5 already, where no
-    /// path has more than m systems.
+    /// path has more than m systems; and at a distance of d steps after (k+1)m + 2(d+1) + L + 5.
     pub fn role(&self, clock: ClockId, port: u16) -> Option<Role>
         ensures some { IfSome result (λ role. AtSystem clock self.now.scene (HasRole port role)) }
         ensures none { IfNone result (AtSystem clock self.now.scene (HasPort port) → ⊥) }
         ensures enabled { IfSome result (λ role. IsEnabledInTime clock port self.now.scene role) }
         ensures settled { IfSome result (λ role. PlaysInTime clock port self.now.scene role) }
         ensures by_paths { IfSome result (λ role. PlaysByPaths clock port self.now.scene role) }
+        ensures by_distance { IfSome result (λ role. PlaysByDistance clock port self.now.scene role) }
     {
         self.scene.role(clock, port)
     }

@@ -1,7 +1,7 @@
 //! What becomes of a snapshot, a certificate and its text where memory is refused.
 
 use crate::same::same;
-use gptp_certificate::{Certificate, parse, print, write_certificate};
+use gptp_certificate::{Certificate, parse, print, print_line, write_certificate};
 use gptp_links::PcgFate;
 use gptp_network::{Document, Snapshot};
 use gptp_world::World;
@@ -22,12 +22,11 @@ min = 500
 max = 500
 ";
 
-/// What both say at first.
-const AT_FIRST: &str = "gptp-certificate 1
+/// What is stated of both at first: each follows itself, so that the second is far beside a better root.
+const AT_FIRST: &str = "gptp-certificate 2
 system 0000000000000001 root f6f8fe436af80000000000000001 steps 0 parent none
 port 0000000000000001 1 disabled
-system 0000000000000002 root f6f8fe436af80000000000000002 steps 0 parent none
-port 0000000000000002 1 disabled
+system 0000000000000002 far 255 root f6f8fe436af80000000000000001
 end
 ";
 
@@ -86,6 +85,40 @@ fn spell(rt: &HostRuntime, certificate: &Certificate) -> Result<(Vec<u8>, usize)
     Ok((text, stood))
 }
 
+/// So one line of it: whether there is one, and whether nothing was appended at a refusal.
+fn spell_line(
+    rt: &HostRuntime,
+    certificate: &Certificate,
+    place: usize,
+    text: &mut Vec<u8>,
+) -> Result<(bool, bool), Fail> {
+    let before = text.len();
+    if let Ok(more) = print_line(certificate, place, text) {
+        return Ok((more, true));
+    }
+    tell(rt, "print_line")?;
+    let kept = text.len() == before;
+    Ok((print_line(certificate, place, text)?, kept))
+}
+
+/// So its lines up to a place: the text, how many there are, and whether nothing was appended at a refusal.
+fn spell_lines(
+    rt: &HostRuntime,
+    certificate: &Certificate,
+    most: usize,
+) -> Result<(Vec<u8>, usize, bool), Fail> {
+    let mut text = Vec::new(rt.alloc());
+    let mut kept = true;
+    for place in 0..most {
+        let (more, same) = spell_line(rt, certificate, place, &mut text)?;
+        kept = kept && same;
+        if !more {
+            return Ok((text, place, kept));
+        }
+    }
+    Ok((text, most, kept))
+}
+
 /// So the certificate of a text.
 fn read_back(rt: &HostRuntime, text: &[u8]) -> Result<Certificate, Fail> {
     if let Ok(certificate) = parse(rt.alloc(), text) {
@@ -115,6 +148,9 @@ fn a_refused_allocation_leaves_the_certificate(rt: HostRuntime) -> Result<(), Fa
 #[test]
 fn a_refused_allocation_leaves_the_text_of_a_certificate(rt: HostRuntime) -> Result<(), Fail> {
     let certificate = read_back(&rt, AT_FIRST.as_bytes())?;
+    let (lines, count, kept) = spell_lines(&rt, &certificate, 7)?;
+    same(&rt, (count, kept), (5, true));
+    same(&rt, lines.as_slice(), AT_FIRST.as_bytes());
     let (text, stood) = spell(&rt, &certificate)?;
     same(&rt, stood, 0);
     same(&rt, text.as_slice(), AT_FIRST.as_bytes());

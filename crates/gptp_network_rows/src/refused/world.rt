@@ -1,11 +1,17 @@
 //! What a world is where memory is refused. Times are in ns.
 
+ghost use Rattle.std.specs.Prelude.{◌≤◌};
+ghost use Rattle.gptp_acts.specs.Prompt.{IsPromptIn};
+ghost use Rattle.gptp_plan.specs.Allowed.{IsFitAct};
+
+use crate::intervals::intervals;
 use crate::same::same;
 use gptp_links::{Direction, PcgFate};
 use gptp_samples::{identity, port};
 use gptp_vector::{ClockId, Identity};
-use gptp_world::{Act, Network, NetworkFault, Params, Timed, World};
-use std::alloc::Global;
+use gptp_world::{Act, Change, Network, NetworkFault, Octets, Params, Timed, World};
+use std::alloc::{AllocError, Global};
+use std::process::Abort;
 use std::test::Fail;
 
 /// What both systems have: intervals of 1 s, and of 125 ms for time.
@@ -26,16 +32,17 @@ const SETTLED: u64 = 10_000_000_000;
 /// Two systems, whose first ports a link joins; each frame takes 500 ns.
 fn two(alloc: Global) -> Result<Network, NetworkFault> {
     let mut network = Network::new(alloc, PARAMS)?;
-    network.add_system(identity(246, 1), 1, 0, 0)?;
-    network.add_system(identity(246, 2), 1, 0, 0)?;
+    network.add_system(identity(246, 1), 1, 0, 0, intervals(&[0]))?;
+    network.add_system(identity(246, 2), 1, 0, 0, intervals(&[0]))?;
     network.add_link(port(1, 1), port(2, 1), 500, 500, 0, true)?;
     Ok(network)
 }
 
-/// What a world shows: its time, what is next, and what its systems follow.
-#[derive(Clone, Copy, Debug, PartialEq, Eq)]
+/// What a world shows: its time and that of the last change, what is next, and what its systems follow.
+#[derive(Debug, Drop, PartialEq, Eq)]
 struct Shown {
     now: u64,
+    last_change: u64,
     next: Option<Timed>,
     first: Option<(Identity, u16, Option<u8>)>,
     second: Option<(Identity, u16, Option<u8>)>,
@@ -44,6 +51,7 @@ struct Shown {
 fn look_at(world: &World<PcgFate>) -> Shown {
     Shown {
         now: world.now(),
+        last_change: world.last_change(),
         next: world.next(),
         first: world.follows(ClockId::from(1)),
         second: world.follows(ClockId::from(2)),
@@ -61,40 +69,106 @@ fn do_next(world: &mut World<PcgFate>) -> bool {
     }
 }
 
-#[test]
-fn a_refused_allocation_leaves_the_world(rt: HostRuntime) -> Result<(), Fail> {
-    let alloc = rt.alloc();
-    let network = match two(alloc) {
-        Ok(network) => network,
-        Err(_) => {
-            println!(rt; "refused: network")?;
-            two(alloc)?
-        }
-    };
-    let mut world = match World::new(alloc, &network, PcgFate::new(0)) {
-        Ok(world) => world,
-        Err(_) => {
-            println!(rt; "refused: new")?;
-            World::new(alloc, &network, PcgFate::new(0))?
-        }
-    };
-    for _ in 0..20 {
-        let before = look_at(&world);
-        if !do_next(&mut world) {
-            println!(rt; "refused: act")?;
-            same(&rt, look_at(&world), before);
-            assert!(rt; do_next(&mut world));
-        }
+/// How many frames are injected in a row: more than there is room for.
+const INJECTIONS: u32 = 20;
+
+/// A frame of one octet.
+fn one_octet(alloc: Global) -> Result<Octets, AllocError> {
+    Octets::new([0].to_vec(alloc)?).ok_or(AllocError)
+}
+
+/// Tells which call was refused.
+fn tell(rt: &HostRuntime, call: &str) -> Result<(), Fail> {
+    println!(rt; "refused: {call}")?;
+    Ok(())
+}
+
+/// The network, asked for again where memory is refused.
+fn build(rt: &HostRuntime) -> Result<Network, Fail> {
+    if let Ok(network) = two(rt.alloc()) {
+        return Ok(network);
     }
-    if world.advance(SETTLED).is_err() {
-        println!(rt; "refused: advance")?;
-        assert!(rt; world.now() <= SETTLED);
-        same(&rt, world.advance(SETTLED), Ok(()));
+    tell(rt, "network")?;
+    Ok(two(rt.alloc())?)
+}
+
+/// So its world.
+fn begin(rt: &HostRuntime, network: &Network) -> Result<World<PcgFate>, Fail> {
+    if let Ok(world) = World::new(rt.alloc(), network, PcgFate::new(0)) {
+        return Ok(world);
     }
-    let after = look_at(&world);
-    same(&rt, after.now, SETTLED);
+    tell(rt, "new")?;
+    Ok(World::new(rt.alloc(), network, PcgFate::new(0))?)
+}
+
+/// So the next act: whether it was done in the end, and a world in which it was refused was as before.
+fn act(rt: &HostRuntime, world: &mut World<PcgFate>) -> Result<bool, Fail> {
+    let before = look_at(world);
+    if do_next(world) {
+        return Ok(true);
+    }
+    tell(rt, "act")?;
+    let kept = look_at(world) == before;
+    Ok(do_next(world) && kept)
+}
+
+/// So the way to the time at which it has settled: whether it got there, and no further where it was refused.
+fn settle(rt: &HostRuntime, world: &mut World<PcgFate>) -> Result<bool, Fail> {
+    if world.advance(SETTLED).is_ok() {
+        return Ok(true);
+    }
+    tell(rt, "advance")?;
+    let short = world.now() <= SETTLED;
+    Ok(world.advance(SETTLED).is_ok() && short)
+}
+
+/// So the octets of a frame.
+fn frame(rt: &HostRuntime) -> Result<Octets, Fail> {
+    if let Ok(octets) = one_octet(rt.alloc()) {
+        return Ok(octets);
+    }
+    tell(rt, "octets")?;
+    Ok(one_octet(rt.alloc())?)
+}
+
+/// So an injection: whether it was done in the end, and a world in which it was refused was as before.
+fn inject(rt: &HostRuntime, world: &mut World<PcgFate>, injection: &Timed) -> Result<bool, Fail>
+    requires moment { injection.now.at ≤ 1000000000000000 }
+    requires fit { IsFitAct injection.now.act }
+    requires prompt { IsPromptIn world.old.scene injection.now.act }
+{
+    let before = look_at(world);
+    if world.carry_out(injection).is_ok() {
+        return Ok(true);
+    }
+    tell(rt, "carry_out")?;
+    let kept = look_at(world) == before;
+    Ok(world.carry_out(injection).is_ok() && kept)
+}
+
+/// So several in a row, of these octets.
+fn inject_all(rt: &HostRuntime, world: &mut World<PcgFate>, octets: Octets) -> Result<bool, Fail> {
+    let injection = Timed {
+        at: SETTLED,
+        act: Act::Change(Change::Inject {
+            clock: ClockId::from(1),
+            port: 1,
+            octets,
+        }),
+    };
+    let mut done = true;
+    for _ in 0..INJECTIONS {
+        done = inject(rt, world, &injection)? && done;
+    }
+    Ok(done)
+}
+
+/// Expects what the world has come to.
+fn expect_settled(rt: &impl Abort, world: &World<PcgFate>) {
+    let after = look_at(world);
+    same(rt, after.now, SETTLED);
     same(
-        &rt,
+        rt,
         after.next,
         Some(Timed {
             at: 10_000_000_500,
@@ -104,7 +178,21 @@ fn a_refused_allocation_leaves_the_world(rt: HostRuntime) -> Result<(), Fail> {
             },
         }),
     );
-    same(&rt, after.first, Some((identity(246, 1), 0, None)));
-    same(&rt, after.second, Some((identity(246, 1), 1, Some(1))));
+    same(rt, after.first, Some((identity(246, 1), 0, None)));
+    same(rt, after.second, Some((identity(246, 1), 1, Some(1))));
+}
+
+#[test]
+fn a_refused_allocation_leaves_the_world(rt: HostRuntime) -> Result<(), Fail> {
+    let network = build(&rt)?;
+    let mut world = begin(&rt, &network)?;
+    for _ in 0..20 {
+        assert!(rt; act(&rt, &mut world)?);
+    }
+    assert!(rt; settle(&rt, &mut world)?);
+    expect_settled(&rt, &world);
+    let octets = frame(&rt)?;
+    assert!(rt; inject_all(&rt, &mut world, octets)?);
+    same(&rt, world.last_change(), SETTLED);
     Ok(())
 }

@@ -6,7 +6,7 @@ use Rattle.gptp_certificate_text.proofs.reading.parse.Given as goal
 
 -- the lines that are read stand before the rest
 abbrev pub invariant-loop-rest : goal.invariant-loop-rest
-invariant-loop-rest l = StandBefore (entries_of (lines_of l.lines.items)) l.rest l.text
+invariant-loop-rest l = StandBefore l.version (entries_of (lines_of l.lines.items)) l.rest l.text
 
 abbrev pub decreases-loop-rest : goal.decreases-loop-rest
 decreases-loop-rest l = length l.rest

@@ -5,4 +5,6 @@ use Rattle.gptp_checker.proofs.acceptance.accepts.Given as goal
 
 -- the faults before are absent
 abbrev pub invariant-loop-fault : goal.invariant-loop-fault
-invariant-loop-fault l = HoldBefore (IsAbsent l.fn.snapshot l.fn.certificate) later_faults l.fault-index
+invariant-loop-fault l =
+    HoldBefore (IsAbsent l.fn.certificate.version l.fn.snapshot l.fn.certificate.lines) later_faults
+    l.fault-index

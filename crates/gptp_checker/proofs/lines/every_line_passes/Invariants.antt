@@ -4,4 +4,5 @@ use Rattle.gptp_checker.proofs.lines.every_line_passes.Given as goal
 
 -- the lines before pass
 abbrev pub invariant-loop-place : goal.invariant-loop-place
-invariant-loop-place l = HoldBefore (PassesLine l.fn.test l.fn.snapshot l.fn.certificate) l.fn.certificate l.place
+invariant-loop-place l =
+    HoldBefore (PassesLine l.fn.test l.fn.snapshot l.fn.certificate.lines) l.fn.certificate.lines l.place

@@ -5,4 +5,4 @@ use Rattle.gptp_checker.proofs.lines.passes_at.Goals as goal
 
 pub passes-requires-clause-stated : goal.passes-requires-clause-stated
 passes-requires-clause-stated c =
-    In-slice_get (line_of c.in-Some.line.now) c.args.certificate.now c.args.place (sym c.in-Some.ensures)
+    In-slice_get (line_of c.in-Some.line.now) c.args.certificate.now.lines c.args.place (sym c.in-Some.ensures)

@@ -7,5 +7,6 @@ use Rattle.gptp_checker.proofs.links.agree_at.Goals as goal
 pub returns-in-Some : goal.returns-in-Some
 returns-in-Some c =
     of_that c.args.snapshot.now.links c.args.place (link_of (c.in-Some.a, c.in-Some.b))
-    (λ (link : Link). AgreeOver c.args.certificate.now link.a.clock link.b.clock) c.agree_over.result c.in-Some.ensures
+    (λ (link : Link). AgreeOver c.args.certificate.now.lines link.a.clock link.b.clock) c.agree_over.result
+    c.in-Some.ensures
     c.agree_over.ensures

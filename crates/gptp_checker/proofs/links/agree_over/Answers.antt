@@ -8,7 +8,7 @@ returns-in_default c = ((λ t one other i j. absurd (c.in_default.ensures.none o
 
 pub returns-in-Some-line_of : goal.returns-in-Some-line_of
 returns-in-Some-line_of c =
-    agree_by c.args.snapshot.now c.args.certificate.now c.args.one c.args.other (line_of c.in-Some.here.now)
+    agree_by c.args.snapshot.now c.args.certificate.now.lines c.args.one c.args.other (line_of c.in-Some.here.now)
     (line_of c.in-Some-line_of.there.now) c.agree_across.result c.requires c.in-Some.ensures.some
     c.in-Some-line_of.ensures.some c.agree_across.ensures
 

@@ -8,7 +8,7 @@ pub returns-then-not-agree_at : goal.returns-then-not-agree_at
 returns-then-not-agree_at c = (
   (λ t. absurd cc),
   (λ h.
-      let each = (link_by_link c.args.snapshot.now c.args.certificate.now).1 h in
+      let each = (link_by_link c.args.snapshot.now c.args.certificate.now.lines).1 h in
       let t = c.if-not-agree_at.ensures.1 (λ link there.
       each link (In-slice_get link c.args.snapshot.now.links c.loop-place.place there)) in
       absurd cc),
@@ -20,7 +20,7 @@ loop-place-preserved c =
 
 pub returns : goal.returns
 returns c = (
-  (λ t. (link_by_link c.args.snapshot.now c.args.certificate.now).0
+  (λ t. (link_by_link c.args.snapshot.now c.args.certificate.now.lines).0
       (all_hold _ c.args.snapshot.now.links c.loop-place.place c.loop-place.invariant
       (let e = c.loop-place-test.false in let n = c.links-place-end.ensures in omega arith))),
   (λ h. refl),

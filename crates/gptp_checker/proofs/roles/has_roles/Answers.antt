@@ -9,7 +9,7 @@ use Rattle.gptp_checker.proofs.roles.has_roles.Goals as goal
 pub returns-then-ne : goal.returns-then-ne
 returns-then-ne c =
     let line = line_of c.args.line.now in
-    let has = HasStatedRole c.args.snapshot.now c.args.certificate.now line in
+    let has = HasStatedRole c.args.snapshot.now c.args.certificate.now.lines line in
     let P = λ (port : PortLine). has port.number port.role in
     let port = port_at c.deref-port-items.result.now c.loop-port.port-index in (
       (λ t. absurd cc),
@@ -27,13 +27,13 @@ loop-port-preserved c =
     let port = port_at c.deref-port-items.result.now c.loop-port.port-index in
     next_port _ c.deref-port-items.result.now c.args.line.now.ports.items c.loop-port.port-index
     c.deref-port-items.ensures.value c.loop-port-test.true c.loop-port.invariant
-    (subst (λ role. HasStatedRole c.args.snapshot.now c.args.certificate.now line port.0 (role_of role))
+    (subst (λ role. HasStatedRole c.args.snapshot.now c.args.certificate.now.lines line port.0 (role_of role))
     (roles_agree c.role_at.result port.1 c.if-ne.ensures) c.role_at.ensures)
 
 pub returns : goal.returns
 returns c =
     let line = line_of c.args.line.now in
-    let has = HasStatedRole c.args.snapshot.now c.args.certificate.now line in
+    let has = HasStatedRole c.args.snapshot.now c.args.certificate.now.lines line in
     let P = λ (port : PortLine). has port.number port.role in (
       (λ t. all_ports P c.deref-port-items.result.now c.args.line.now.ports.items c.loop-port.port-index
           c.deref-port-items.ensures.value c.loop-port.invariant c.loop-port-test.false),

@@ -8,5 +8,5 @@ use Rattle.gptp_checker.proofs.roles.has_roles.Given as goal
 abbrev pub invariant-loop-port : goal.invariant-loop-port
 invariant-loop-port l =
     HoldBefore (λ (port : PortLine).
-    HasStatedRole l.fn.snapshot l.fn.certificate (line_of l.fn.line) port.number port.role)
+    HasStatedRole l.fn.snapshot l.fn.certificate.lines (line_of l.fn.line) port.number port.role)
     (line_of l.fn.line).ports l.port-index

@@ -17,6 +17,6 @@ pub returns-clause-only : goal.returns-clause-only
 returns-clause-only c = λ d (line, stated, has, e).
     let at = c.in_ok-line_of.ensures.some in
     let same =
-    same_line c.args.snapshot.now c.args.certificate.now (line_of c.in_ok-line_of.field-0.now) line c.requires
+    same_line c.args.snapshot.now c.args.certificate.now.lines (line_of c.in_ok-line_of.field-0.now) line c.requires
     at.stated stated (at.has ∙ sym has) in
     ap (λ n. Some n) (ap (λ (l : SystemLine). l.steps) same ∙ e)

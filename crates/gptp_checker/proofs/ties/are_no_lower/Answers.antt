@@ -9,7 +9,7 @@ pub returns-then-not-is_no_lower : goal.returns-then-not-is_no_lower
 returns-then-not-is_no_lower c =
     let line = line_of c.args.line.now in
     let parent = parent_of (c.args.own_port, c.args.parent) in
-    let P = λ (port : PortLine). IsNoLower c.args.snapshot.now c.args.certificate.now line parent port.number in (
+    let P = λ (port : PortLine). IsNoLower c.args.snapshot.now c.args.certificate.now.lines line parent port.number in (
       (λ t. absurd cc),
       port_fails P c.deref-port-items.result.now c.args.line.now.ports.items c.loop-port.port-index
           c.deref-port-items.ensures.value c.loop-port-test.true
@@ -26,7 +26,7 @@ pub returns : goal.returns
 returns c =
     let line = line_of c.args.line.now in
     let parent = parent_of (c.args.own_port, c.args.parent) in
-    let P = λ (port : PortLine). IsNoLower c.args.snapshot.now c.args.certificate.now line parent port.number in (
+    let P = λ (port : PortLine). IsNoLower c.args.snapshot.now c.args.certificate.now.lines line parent port.number in (
       (λ t. all_ports P c.deref-port-items.result.now c.args.line.now.ports.items c.loop-port.port-index
           c.deref-port-items.ensures.value c.loop-port.invariant c.loop-port-test.false),
       (λ h. refl),

@@ -6,7 +6,7 @@ use Rattle.gptp_checker.proofs.ties.is_no_lower.Goals as goal
 
 pub returns-in_default-steps_of : goal.returns-in_default-steps_of
 returns-in_default-steps_of c = (
-  (λ t. no_lower_elsewhere c.args.snapshot.now c.args.certificate.now (line_of c.args.line.now) c.args.number
+  (λ t. no_lower_elsewhere c.args.snapshot.now c.args.certificate.now.lines (line_of c.args.line.now) c.args.number
       (port_identity c.in-Some.other) c.well_formed-2.ensures.network c.in-Some.ensures.some
       (parent_of (c.args.own_port, c.args.parent.now)) None c.in_default-steps_of.ensures.only (λ d e less. absurd cc)),
   (λ h. refl),
@@ -14,7 +14,7 @@ returns-in_default-steps_of c = (
 
 pub returns-then-from : goal.returns-then-from
 returns-then-from c = (
-  (λ t. no_lower_elsewhere c.args.snapshot.now c.args.certificate.now (line_of c.args.line.now) c.args.number
+  (λ t. no_lower_elsewhere c.args.snapshot.now c.args.certificate.now.lines (line_of c.args.line.now) c.args.number
       (port_identity c.in-Some.other) c.well_formed-2.ensures.network c.in-Some.ensures.some
       (parent_of (c.args.own_port, c.args.parent.now)) (Some c.in-Some-steps_of.steps) c.in-Some-steps_of.ensures.only
       (λ d e less. let same : c.in-Some-steps_of.steps ≡ d = cc in c.if-from.true (omega arith))),
@@ -23,7 +23,7 @@ returns-then-from c = (
 
 pub returns : goal.returns
 returns c =
-    no_lower_by c.args.snapshot.now c.args.certificate.now (line_of c.args.line.now) c.args.number
+    no_lower_by c.args.snapshot.now c.args.certificate.now.lines (line_of c.args.line.now) c.args.number
     (port_identity c.in-Some.other) c.well_formed-2.ensures.network c.in-Some.ensures.some
     (parent_of (c.args.own_port, c.args.parent.now)) c.in-Some-steps_of.steps _ c.in-Some-steps_of.ensures.some
     c.in-Some-steps_of.ensures.only (omega arith) (not_by c.is_lower.result c.is_lower.ensures)

@@ -1,5 +1,5 @@
 use Rattle.std.specs.Io.KnownBytes.{Appends}
-use Rattle.gptp_commands.specs.Sink.{AppendsFront}
+use Rattle.gptp_report.specs.Sink.{AppendsFront}
 use Rattle.gptp_commands.proofs.CheckLemmas.{check_holds}
 use Rattle.gptp_commands.proofs.LimitedLemmas.{if_some}
 use Rattle.gptp_commands.proofs.check.check.Goals as goal

@@ -1,23 +1,28 @@
-use Rattle.std.specs.Io.KnownBytes.{Appends}
-use Rattle.gptp_commands.specs.CompareText.{size_limit, AnswersLines, RefusesSize}
-use Rattle.gptp_commands.specs.Sink.{AppendsFront}
-use Rattle.gptp_commands.proofs.LimitedLemmas.{text_holds}
+use Rattle.std.proofs.Common.{◌≢◌}
+use Rattle.gptp_report.proofs.SinkLemmas.{after_error}
+use Rattle.std.proofs.lemmas.Result.{on_err_weaker}
+use Rattle.gptp_commands.specs.declared.failure.SimError.TheVariants.{Read}
+use Rattle.gptp_commands.specs.CompareText.{size_limit, AnswersLines, AnswersSome, RefusesSize}
+use Rattle.gptp_commands.proofs.LimitedLemmas.{if_error, none_holds, some_holds, writes_holds}
+use Rattle.gptp_commands.proofs.RunLemmas.{if_ok_more}
 use Rattle.gptp_commands.proofs.compare.compare_lines.Goals as goal
 
-pub returns-clause-done : goal.returns-clause-done
-returns-clause-done g c =
-    text_holds size_limit AnswersLines RefusesSize _ _ c.in_ok-input.input.items c.in_ok-output.output.text.items
-    c.in_ok-output.output.status
-    (λ text. Appends (g.K.Sink.written c.args.sink.now) (g.K.Sink.written c.write_whole.new.sink) text)
-    c.in_ok-input.ensures.whole (rw c.deref.ensures.value at c.in_ok-output.ensures.text)
-    (rw c.deref-2.ensures.value at c.in_ok-write_whole.ensures.whole)
+-- nothing was written
+pub returns-in_err-input-clause-front : goal.returns-in_err-input-clause-front
+returns-in_err-input-clause-front g c =
+    if_error _ (λ e. e ≢ Read) c.from_residual.result (after_error c.from_residual.result
+    (none_holds size_limit AnswersLines RefusesSize AnswersSome (g.S.Source.left c.args.source.now)
+    (g.K.Sink.written c.args.sink.now)))
 
-pub returns-in_err-write_whole-clause-front : goal.returns-in_err-write_whole-clause-front
-returns-in_err-write_whole-clause-front g c failed = (
-  c.in_ok-output.output.status,
-  text_holds size_limit AnswersLines RefusesSize _ _ c.in_ok-input.input.items c.in_ok-output.output.text.items
-      c.in_ok-output.output.status
-      (λ text. AppendsFront (g.K.Sink.written c.args.sink.now) (g.K.Sink.written c.write_whole.new.sink) text)
-      c.in_ok-input.ensures.whole (rw c.deref.ensures.value at c.in_ok-output.ensures.text)
-      (rw c.deref-2.ensures.value at c.in_err-write_whole.ensures.front),
-)
+pub returns-clause-done : goal.returns-clause-done
+returns-clause-done g c = if_ok_more _ _ (λ status text.
+    writes_holds size_limit AnswersLines RefusesSize (g.S.Source.left c.args.source.now) _ c.in_ok-input.input.items
+    (g.K.Sink.written c.args.sink.now) (g.K.Sink.written c.answer_input.new.sink) status c.in_ok-input.ensures.whole
+    text) c.answer_input.result (rw c.deref.ensures.value at c.answer_input.ensures.text)
+
+pub returns-clause-front : goal.returns-clause-front
+returns-clause-front g c =
+    if_error _ (λ e. e ≢ Read) c.answer_input.result (on_err_weaker c.answer_input.result
+    (some_holds size_limit AnswersLines RefusesSize AnswersSome (g.S.Source.left c.args.source.now) _
+    c.in_ok-input.input.items (g.K.Sink.written c.args.sink.now) (g.K.Sink.written c.answer_input.new.sink)
+    c.in_ok-input.ensures.whole) (rw c.deref.ensures.value at c.answer_input.ensures.begun))

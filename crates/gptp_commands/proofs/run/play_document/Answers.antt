@@ -1,23 +1,26 @@
-use Rattle.std.proofs.Common.{◌≡◌, ◌++◌, [], ap, refl, ◌∙◌}
-use Rattle.gptp_spelling.specs.Lines.{text_of}
-use Rattle.gptp_report.proofs.FollowLemmas.{written_more}
+use Rattle.std.proofs.lemmas.Result.{on_err_weaker, on_ok_weaker}
+use Rattle.gptp_report.proofs.SinkLemmas.{after_error}
+use Rattle.gptp_commands.proofs.RunSoFarLemmas.{plays_all, plays_front, plays_some}
 use Rattle.gptp_commands.proofs.run.play_document.Goals as goal
 
-pub returns-clause-plays : goal.returns-clause-plays
-returns-clause-plays c =
-    let told = c.in_ok-world.ensures.reports in let said = c.in_ok-certify.ensures.certifies in
-    let first : c.into_bytes-text.result.items ≡ text_of told.0 =
-    ap (λ v. v.items) c.into_bytes-text.ensures.value
-    ∙ (told.2 ∙ ap (λ t. t ++ text_of told.0) c.new-text.ensures.bytes) in (
-      told.0 ++ said.0,
-      record {
-        world = c.in_ok-world.world.scene;
-        report = told.0;
-        reports = told.1;
-        certificate = said.0;
-        certifies = said.1;
-        lines = refl;
-        status_is = refl;
-      },
-      written_more told.0 said.0 [] c.into_bytes-text.result.items c.certify.new.text.items first said.2,
-    )
+pub returns-in_err-world-clause-some : goal.returns-in_err-world-clause-some
+returns-in_err-world-clause-some g c = after_error c.from_residual.result
+    (plays_front c.args.document.now c.args.options.now (g.K.Sink.written c.args.sink.now)
+    (g.K.Sink.written c.run_document.new.sink)
+    (rw (c.until_of-until.ensures.is, c.new-fate.ensures) at c.in_err-world.ensures.broken))
+
+pub returns-clause-some : goal.returns-clause-some
+returns-clause-some g c =
+    let until = c.until_of-until.ensures.is in let led = c.in_ok-world.ensures.led in
+    on_err_weaker c.tell.result (plays_some c.args.document.now c.args.options.now c.in_ok-world.world.scene led.0
+    (rw (until, c.new-fate.ensures) at led.1) (g.K.Sink.written c.args.sink.now)
+    (g.K.Sink.written c.run_document.new.sink) (g.K.Sink.written c.tell.new.sink) led.2)
+    (rw until at c.tell.ensures.some)
+
+pub returns-clause-whole : goal.returns-clause-whole
+returns-clause-whole g c =
+    let until = c.until_of-until.ensures.is in let led = c.in_ok-world.ensures.led in
+    on_ok_weaker c.tell.result (plays_all c.args.document.now c.args.options.now c.in_ok-world.world.scene led.0
+    (rw (until, c.new-fate.ensures) at led.1) (g.K.Sink.written c.args.sink.now)
+    (g.K.Sink.written c.run_document.new.sink) (g.K.Sink.written c.tell.new.sink) led.2)
+    (rw until at c.tell.ensures.whole)

@@ -7,5 +7,5 @@ use Rattle.gptp_network.proofs.systems.add_each.Given as goal
 
 abbrev pub invariant-loop-system : goal.invariant-loop-system
 invariant-loop-system l =
-    each_of with_system_of (items_view (drop l.system-index l.systems)) l.network
-    ≡ each_of with_system_of (items_view l.systems) l.initial.network
+    each_of (with_system_of l.version) (items_view (drop l.system-index l.systems)) l.network
+    ≡ each_of (with_system_of l.version) (items_view l.systems) l.initial.network

@@ -1,12 +1,40 @@
-use Rattle.std.specs.Prelude.{string_bytes}
-use Rattle.gptp_report.proofs.FollowLemmas.{follows_more}
+use Rattle.std.proofs.Common.{◌∙◌}
+use Rattle.std.specs.Io.KnownBytes.{Appends}
+use Rattle.gptp_report.specs.Sink.{AppendsSome}
+use Rattle.gptp_report.proofs.FollowLemmas.{follows_more, follows_so}
+use Rattle.gptp_report.proofs.SinkLemmas.{all_of, appends_both, some_behind}
 use Rattle.gptp_report.proofs.following.follow.Goals as goal
 
 pub loop-from-preserved : goal.loop-from-preserved
-loop-from-preserved g c = record {
-  followed = follows_more g.F.Fate.answers c.args.until c.args.world.now.fate c.loop-from.world.fate
-      c.follow_next.new.world.fate c.args.world.now.scene c.loop-from.world.scene c.follow_next.new.world.scene
-      (string_bytes c.args.text.now) (string_bytes c.loop-from.text) (string_bytes c.follow_next.new.text)
-      c.loop-from.invariant.followed c.in_ok-from.ensures.followed;
-  first = c.in_ok-from.ensures.done;
-}
+loop-from-preserved g c =
+    let old = g.K.Sink.written c.args.sink.now in let between = g.K.Sink.written c.loop-from.sink in
+    let new = g.K.Sink.written c.follow_next.new.sink in
+    record {
+      followed = follows_more g.F.Fate.answers g.O.Observer.tells c.args.until c.args.world.now.fate
+          c.loop-from.world.fate c.follow_next.new.world.fate c.args.world.now.scene c.loop-from.world.scene
+          c.follow_next.new.world.scene c.args.observer.now c.loop-from.observer c.follow_next.new.observer
+          (Appends old between) (Appends between new) (Appends old new) (appends_both old between new)
+          c.loop-from.invariant.followed c.in_ok-from.ensures.followed;
+      first = c.in_ok-from.ensures.done;
+      works = c.in_ok-from.ensures.works (λ no. absurd cc) ∙ c.loop-from.invariant.works;
+    }
+
+pub returns-in_err-from-clause-went : goal.returns-in_err-from-clause-went
+returns-in_err-from-clause-went g c =
+    let old = g.K.Sink.written c.args.sink.now in let between = g.K.Sink.written c.loop-from.sink in
+    let new = g.K.Sink.written c.follow_next.new.sink in let went = c.in_err-from.ensures.went in (
+      went.0,
+      follows_more g.F.Fate.answers g.O.Observer.tells c.args.until c.args.world.now.fate c.loop-from.world.fate
+          c.follow_next.new.world.fate c.args.world.now.scene c.loop-from.world.scene c.follow_next.new.world.scene
+          c.args.observer.now c.loop-from.observer went.0 (Appends old between) (AppendsSome between new)
+          (AppendsSome old new) (some_behind old between new) c.loop-from.invariant.followed went.1,
+    )
+
+pub returns-clause-went : goal.returns-clause-went
+returns-clause-went g c =
+    let old = g.K.Sink.written c.args.sink.now in let new = g.K.Sink.written c.loop-from.sink in (
+      c.loop-from.observer,
+      follows_so g.F.Fate.answers g.O.Observer.tells c.args.until c.args.world.now.fate c.loop-from.world.fate
+          c.args.world.now.scene c.loop-from.world.scene c.args.observer.now c.loop-from.observer (Appends old new)
+          (AppendsSome old new) (all_of old new) c.loop-from.invariant.followed,
+    )

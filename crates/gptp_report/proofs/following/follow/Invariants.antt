@@ -1,14 +1,17 @@
-use Rattle.std.specs.Prelude.{string_bytes, ◌+◌, ◌-◌}
+use Rattle.std.specs.Prelude.{◌≡◌, ◌+◌, ◌-◌}
+use Rattle.std.specs.Io.KnownBytes.{Appends}
 use Rattle.gptp_acts.specs.Pending.{NothingBefore}
 use Rattle.gptp_report.specs.Following.{Follows}
 use Rattle.gptp_report.proofs.following.follow.Given as goal
 
--- it went on so far, and nothing is pending before the time from which it goes on
+-- it went on so far, nothing is pending before the time from which it goes on, and no write has failed
 abbrev pub invariant-loop-from : goal.invariant-loop-from
 invariant-loop-from g l = record {
-  followed : Follows g.F.Fate.answers l.until l.initial.world.fate l.world.fate l.initial.world.scene l.world.scene
-      (string_bytes l.initial.text) (string_bytes l.text);
+  followed : Follows g.F.Fate.answers g.O.Observer.tells l.until l.initial.world.fate l.world.fate l.initial.world.scene
+      l.world.scene l.initial.observer l.observer
+      (Appends (g.K.Sink.written l.initial.sink) (g.K.Sink.written l.sink));
   first : NothingBefore l.from l.world.scene.net.pending;
+  works : g.K.Sink.failures l.sink ≡ g.K.Sink.failures l.initial.sink;
 }
 
 abbrev pub decreases-loop-from : goal.decreases-loop-from

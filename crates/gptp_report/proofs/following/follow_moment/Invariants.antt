@@ -1,15 +1,18 @@
-use Rattle.std.specs.Prelude.{string_bytes}
+use Rattle.std.specs.Prelude.{◌≡◌}
+use Rattle.std.specs.Io.KnownBytes.{Appends}
 use Rattle.gptp_acts.specs.Ahead.{due_by}
 use Rattle.gptp_acts.specs.Pending.{NothingBefore}
 use Rattle.gptp_report.specs.Following.{Follows}
 use Rattle.gptp_report.proofs.following.follow_moment.Given as goal
 
--- it went on so far, and nothing is pending before the time
+-- it went on so far, nothing is pending before the time, and no write has failed
 abbrev pub invariant-loop-timed : goal.invariant-loop-timed
 invariant-loop-timed g l = record {
-  followed : Follows g.F.Fate.answers l.time l.initial.world.fate l.world.fate l.initial.world.scene l.world.scene
-      (string_bytes l.initial.text) (string_bytes l.text);
+  followed : Follows g.F.Fate.answers g.O.Observer.tells l.time l.initial.world.fate l.world.fate l.initial.world.scene
+      l.world.scene l.initial.observer l.observer
+      (Appends (g.K.Sink.written l.initial.sink) (g.K.Sink.written l.sink));
   first : NothingBefore l.time l.world.scene.net.pending;
+  works : g.K.Sink.failures l.sink ≡ g.K.Sink.failures l.initial.sink;
 }
 
 abbrev pub decreases-loop-timed : goal.decreases-loop-timed

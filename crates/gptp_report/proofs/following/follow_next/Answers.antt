@@ -1,14 +1,40 @@
-use Rattle.std.proofs.Common.{arith}
-use Rattle.std.specs.Prelude.{string_bytes}
+use Rattle.std.proofs.Common.{[], arith}
+use Rattle.std.specs.Io.KnownBytes.{Appends}
 use Rattle.gptp_acts.proofs.AdvanceLemmas.{next_not_before}
-use Rattle.gptp_report.proofs.FollowLemmas.{follows_later}
+use Rattle.gptp_report.specs.Sink.{AppendsSome}
+use Rattle.gptp_report.proofs.FollowLemmas.{follows_later, follows_none}
+use Rattle.gptp_report.proofs.SinkLemmas.{appends_none, none_of}
 use Rattle.gptp_report.proofs.following.follow_next.Goals as goal
+
+pub returns-in_err-follow_moment-in-Some-clause-went : goal.returns-in_err-follow_moment-in-Some-clause-went
+returns-in_err-follow_moment-in-Some-clause-went g c =
+    let went = c.follow_moment.ensures.went in (
+      went.0,
+      follows_later g.F.Fate.answers g.O.Observer.tells c.in-Some.timed.at c.args.until c.args.world.now.fate
+          c.follow_moment.new.world.fate c.args.world.now.scene c.follow_moment.new.world.scene
+          c.args.observer.now went.0
+          (AppendsSome (g.K.Sink.written c.args.sink.now) (g.K.Sink.written c.follow_moment.new.sink))
+          c.in-Some.ensures.early went.1,
+    )
+
+pub returns-in_ok-follow_moment-in-Some-clause-went : goal.returns-in_ok-follow_moment-in-Some-clause-went
+returns-in_ok-follow_moment-in-Some-clause-went g c =
+    let went = c.in_ok-follow_moment-in-Some.ensures.went in (
+      went.0,
+      follows_later g.F.Fate.answers g.O.Observer.tells c.in-Some.timed.at c.args.until c.args.world.now.fate
+          c.follow_moment.new.world.fate c.args.world.now.scene c.follow_moment.new.world.scene
+          c.args.observer.now went.0
+          (AppendsSome (g.K.Sink.written c.args.sink.now) (g.K.Sink.written c.follow_moment.new.sink))
+          c.in-Some.ensures.early went.1,
+    )
 
 pub returns-in_ok-follow_moment-in-Some-clause-followed : goal.returns-in_ok-follow_moment-in-Some-clause-followed
 returns-in_ok-follow_moment-in-Some-clause-followed g c =
-    follows_later g.F.Fate.answers c.in-Some.timed.at c.args.until c.args.world.now.fate c.follow_moment.new.world.fate
-    c.args.world.now.scene c.follow_moment.new.world.scene (string_bytes c.args.text.now)
-    (string_bytes c.follow_moment.new.text) c.in-Some.ensures.early c.in_ok-follow_moment-in-Some.ensures.followed
+    follows_later g.F.Fate.answers g.O.Observer.tells c.in-Some.timed.at c.args.until c.args.world.now.fate
+    c.follow_moment.new.world.fate c.args.world.now.scene c.follow_moment.new.world.scene c.args.observer.now
+    c.follow_moment.new.observer
+    (Appends (g.K.Sink.written c.args.sink.now) (g.K.Sink.written c.follow_moment.new.sink))
+    c.in-Some.ensures.early c.in_ok-follow_moment-in-Some.ensures.followed
 
 pub returns-in_ok-follow_moment-in-Some-clause-later : goal.returns-in_ok-follow_moment-in-Some-clause-later
 returns-in_ok-follow_moment-in-Some-clause-later g c =
@@ -16,3 +42,17 @@ returns-in_ok-follow_moment-in-Some-clause-later g c =
     let late = next_not_before c.args.from c.args.world.now.scene.net.pending c.in-Some.timed.at next.item next.next
     c.requires.first in
     omega (arith, late)
+
+pub returns-in-None-clause-went : goal.returns-in-None-clause-went
+returns-in-None-clause-went g c = (
+  c.args.observer.now,
+  follows_none g.F.Fate.answers g.O.Observer.tells c.args.until c.args.world.now.fate c.args.world.now.scene
+      c.args.observer.now (AppendsSome (g.K.Sink.written c.args.sink.now) (g.K.Sink.written c.args.sink.now))
+      (none_of (g.K.Sink.written c.args.sink.now) []),
+)
+
+pub returns-in-None-clause-followed : goal.returns-in-None-clause-followed
+returns-in-None-clause-followed g c =
+    follows_none g.F.Fate.answers g.O.Observer.tells c.args.until c.args.world.now.fate c.args.world.now.scene
+    c.args.observer.now (Appends (g.K.Sink.written c.args.sink.now) (g.K.Sink.written c.args.sink.now))
+    (appends_none (g.K.Sink.written c.args.sink.now))

@@ -1,10 +1,63 @@
+use Rattle.std.proofs.Common.{inl, inr}
+use Rattle.std.specs.Io.KnownBytes.{Appends}
+use Rattle.std.proofs.lemmas.Result.{on_ok_weaker}
 use Rattle.gptp_acts.proofs.PromptLemmas.{stays_prompt}
-use Rattle.gptp_acts.proofs.StayLemmas.{advanced_stays}
+use Rattle.gptp_report.specs.Sink.{AppendsSome}
+use Rattle.gptp_report.proofs.FollowLemmas.{observed_so}
+use Rattle.gptp_report.proofs.RunLemmas.{makes_seen, passed_stays}
+use Rattle.gptp_report.proofs.SinkLemmas.{after_error, all_of, appends_both, some_behind}
 use Rattle.gptp_report.proofs.run.make.Goals as goal
 
-pub change-requires-clause-prompt : goal.change-requires-clause-prompt
-change-requires-clause-prompt g c =
-    let went = c.in_ok-go_on.ensures in
-    stays_prompt c.args.event.act c.args.world.now.scene c.go_on.new.world.scene
-    (advanced_stays g.F.Fate.answers c.args.event.at went.0 c.args.world.now.fate c.go_on.new.world.fate
-    c.args.world.now.scene c.go_on.new.world.scene c.well_formed-2.ensures.sound.wired.setups went.1) c.requires.prompt
+pub done_of-requires-clause-prompt : goal.done_of-requires-clause-prompt
+done_of-requires-clause-prompt g c =
+    let went = c.in_ok-go_on.ensures.gone in
+    stays_prompt c.args.event.now.act c.args.world.now.scene c.go_on.new.world.scene
+    (passed_stays g.F.Fate.answers c.args.event.now.at went.ts c.args.world.now.fate c.go_on.new.world.fate
+    c.args.world.now.scene c.go_on.new.world.scene c.well_formed-2.ensures.sound.wired.setups went.passes)
+    c.requires.prompt
+
+-- it broke off before the event
+pub returns-in_err-go_on-clause-broken : goal.returns-in_err-go_on-clause-broken
+returns-in_err-go_on-clause-broken g c =
+    let broken = c.in_err-go_on.ensures.broken in
+    after_error c.from_residual.result (broken.ts, broken.o_after, inl broken.breaks, broken.observed)
+
+-- behind all that is due before it
+pub returns-in_err-done-clause-broken : goal.returns-in_err-done-clause-broken
+returns-in_err-done-clause-broken g c =
+    let went = c.in_ok-go_on.ensures.gone in
+    let old = g.K.Sink.written c.args.sink.now in let new = g.K.Sink.written c.go_on.new.sink in
+    after_error c.from_residual-in_err-done.result (
+      went.ts,
+      c.go_on.new.observer,
+      inl (record {
+        fate_after = c.go_on.new.world.fate;
+        after = went.passes.between;
+        passes = went.passes.passes;
+      }),
+      observed_so g.O.Observer.tells went.ts c.args.observer.now c.go_on.new.observer (Appends old new)
+          (AppendsSome old new) (all_of old new) went.observed,
+    )
+
+-- or behind the event
+pub returns-clause-broken : goal.returns-clause-broken
+returns-clause-broken g c =
+    let went = c.in_ok-go_on.ensures.gone in let some = c.observe.ensures.some in
+    let old = g.K.Sink.written c.args.sink.now in let between = g.K.Sink.written c.go_on.new.sink in
+    let new = g.K.Sink.written c.observe.new.sink in
+    let seen = makes_seen g.F.Fate.answers g.O.Observer.tells c.args.event.now c.in_ok-done.done c.args.world.now.fate
+    c.go_on.new.world.fate c.done_of.new.world.fate c.args.world.now.scene c.go_on.new.world.scene
+    c.done_of.new.world.scene c.args.observer.now c.go_on.new.observer some.0 (Appends old between)
+    (AppendsSome between new) (AppendsSome old new) (some_behind old between new) went c.in_ok-done.ensures.done some.1
+    in after_error c.observe.result
+    (seen.0, some.0, inr (c.done_of.new.world.fate, c.done_of.new.world.scene, seen.1), seen.2)
+
+pub returns-clause-made : goal.returns-clause-made
+returns-clause-made g c = on_ok_weaker c.observe.result (λ whole.
+    let old = g.K.Sink.written c.args.sink.now in let between = g.K.Sink.written c.go_on.new.sink in
+    let new = g.K.Sink.written c.observe.new.sink in
+    makes_seen g.F.Fate.answers g.O.Observer.tells c.args.event.now c.in_ok-done.done c.args.world.now.fate
+    c.go_on.new.world.fate c.done_of.new.world.fate c.args.world.now.scene c.go_on.new.world.scene
+    c.done_of.new.world.scene c.args.observer.now c.go_on.new.observer c.observe.new.self (Appends old between)
+    (Appends between new) (Appends old new) (appends_both old between new) c.in_ok-go_on.ensures.gone
+    c.in_ok-done.ensures.done whole) c.observe.ensures.whole

@@ -1,30 +1,63 @@
-use Rattle.gptp_acts.specs.Initial.{station_of}
-use Rattle.gptp_world.proofs.InitialLemmas.{drift_back, member_told}
+-- What is told of the system at a place is what it starts with.
+use Rattle.std.proofs.Common.{false, Some, ap, sym, ◌∙◌}
+use Rattle.gptp_setup.specs.declared.setup.Setup.{Setup}
+use Rattle.gptp_system.specs.Start.{started}
+use Rattle.gptp_system.specs.State.{SystemState}
+use Rattle.gptp_plan.specs.Network.{member, pace_of}
+use Rattle.gptp_plan.specs.declared.network.Member.{Member}
+use Rattle.gptp_acts.specs.declared.station.Station.{Station}
+use Rattle.gptp_acts.specs.Initial.{setup_of, station_of}
+use Rattle.gptp_world.proofs.InitialLemmas.{intervals_within, member_told, set_up}
 use Rattle.gptp_lists.proofs.MappedLemmas.{mapped_there}
 use Rattle.gptp_world.proofs.founding.station_in.Goals as goal
 
-pub new-requires-clause-ports : goal.new-requires-clause-ports
-new-requires-clause-ports c =
-    let here = member_told c.args.network.now c.args.place _ _ c.system_at.ensures c.unwrap-ports.ensures in
-    (c.well_formed-2.ensures.systems c.args.place _ here).ports
+pub new-system-requires-clause-ports : goal.new-system-requires-clause-ports
+new-system-requires-clause-ports c =
+    let n = c.args.network.now in
+    let here = member_told n c.args.place _ _ c.system_at.ensures c.unwrap-identity.ensures in
+    let limits = c.well_formed-2.ensures.systems c.args.place _ here in
+    let most = c.largest-largest.ensures in
+    let made = set_up n _ c.copy.result _ _ limits.drift most.range most.is c.params.ensures c.copy.ensures in
+    rw made limits.ports
 
-pub new-requires-clause-phase : goal.new-requires-clause-phase
-new-requires-clause-phase c =
-    let here = member_told c.args.network.now c.args.place _ _ c.system_at.ensures c.unwrap-ports.ensures in
-    (c.well_formed-2.ensures.systems c.args.place _ here).phase
+pub new-system-requires-clause-phase : goal.new-system-requires-clause-phase
+new-system-requires-clause-phase c =
+    let n = c.args.network.now in
+    let here = member_told n c.args.place _ _ c.system_at.ensures c.unwrap-identity.ensures in
+    let limits = c.well_formed-2.ensures.systems c.args.place _ here in
+    let most = c.largest-largest.ensures in
+    let made = set_up n _ c.copy.result _ _ limits.drift most.range most.is c.params.ensures c.copy.ensures in
+    rw made limits.phase
 
-pub new-requires-clause-drift : goal.new-requires-clause-drift
-new-requires-clause-drift c =
-    let here = member_told c.args.network.now c.args.place _ _ c.system_at.ensures c.unwrap-ports.ensures in
-    let drift = (c.well_formed-2.ensures.systems c.args.place _ here).drift in
-    let back = drift_back _ drift in
-    rw back drift
+pub new-system-requires-clause-drift : goal.new-system-requires-clause-drift
+new-system-requires-clause-drift c =
+    let n = c.args.network.now in
+    let here = member_told n c.args.place _ _ c.system_at.ensures c.unwrap-identity.ensures in
+    let limits = c.well_formed-2.ensures.systems c.args.place _ here in
+    let most = c.largest-largest.ensures in
+    let made = set_up n _ c.copy.result _ _ limits.drift most.range most.is c.params.ensures c.copy.ensures in
+    rw made limits.drift
+
+pub new-system-requires-clause-intervals : goal.new-system-requires-clause-intervals
+new-system-requires-clause-intervals c =
+    let n = c.args.network.now in
+    let here = member_told n c.args.place _ _ c.system_at.ensures c.unwrap-identity.ensures in
+    let limits = c.well_formed-2.ensures.systems c.args.place _ here in
+    let most = c.largest-largest.ensures in
+    let made = set_up n _ c.copy.result _ _ limits.drift most.range most.is c.params.ensures c.copy.ensures in
+    rw made (intervals_within n c.well_formed-2.ensures c.args.place _ here)
 
 pub returns : goal.returns
 returns c =
     let n = c.args.network.now in
-    let here = member_told n c.args.place _ _ c.system_at.ensures c.unwrap-ports.ensures in
-    let back = drift_back _ (c.well_formed-2.ensures.systems c.args.place _ here).drift in
-    let params = c.params.ensures in
-    let started = c.new.ensures in
-    rw (started, params, back) (mapped_there (station_of n.params) n.systems c.args.place _ here)
+    let here = member_told n c.args.place _ _ c.system_at.ensures c.unwrap-identity.ensures in
+    let limits = c.well_formed-2.ensures.systems c.args.place _ here in
+    let most = c.largest-largest.ensures in
+    let told = c.unwrap-identity.result in
+    let member : Member = member told.0 told.1 told.2 told.3 told.4 in
+    let made = set_up n member c.copy.result _ _ limits.drift most.range most.is c.params.ensures c.copy.ensures in
+    let station : Setup → SystemState → Station =
+    λ setup system. record { setup = setup; system = system; live = false } in
+    mapped_there (station_of (pace_of n)) n.systems c.args.place _ here
+    ∙ sym (ap (λ s. Some (station s c.new-system.result)) (sym c.copy.ensures ∙ made)
+    ∙ ap (λ s. Some (station (setup_of (pace_of n) member) s)) (c.new-system.ensures ∙ ap (λ s. started s 0) made))

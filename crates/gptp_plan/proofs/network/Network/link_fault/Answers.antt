@@ -2,8 +2,8 @@
 use Rattle.std.proofs.Common.{rules}
 use Rattle.gptp_plan.proofs.network.Network.link_fault.Goals as goal
 
-pub returns-else-interval_of-wire-clause-fits : goal.returns-else-interval_of-wire-clause-fits
-returns-else-interval_of-wire-clause-fits c = λ _. record {
+pub returns-else-least_interval-wire-clause-fits : goal.returns-else-least_interval-wire-clause-fits
+returns-else-least_interval-wire-clause-fits c = λ _. record {
   room = search rules;
   limits = record {
     number = c.requires;

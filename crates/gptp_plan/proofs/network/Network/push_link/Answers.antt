@@ -7,5 +7,5 @@ use Rattle.gptp_plan.proofs.network.Network.push_link.Goals as goal
 pub invariant_of-self-2 : goal.invariant_of-self-2
 invariant_of-self-2 c =
     rw c.in_ok-push.ensures.items
-    (link_added _ c.args.wire c.self.invariant
+    (link_added _ c.args.wire _ _ c.self.invariant
     (subst (λ n. CanAddLink n c.args.wire) (sym c.self.view_is) c.requires))

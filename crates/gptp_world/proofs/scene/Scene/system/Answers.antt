@@ -1,6 +1,6 @@
 use Rattle.std.proofs.lemmas.Option.{IfSome_then}
 use Rattle.gptp_kept.proofs.ShownLemmas.{capable_shown}
-use Rattle.gptp_kept.proofs.TraceLemmas.{held_becomes_clean, traces_become_clean}
+use Rattle.gptp_kept.proofs.TraceLemmas.{held_becomes_clean, held_becomes_whole, traces_become_clean}
 use Rattle.gptp_world.proofs.scene.Scene.system.Goals as goal
 
 pub returns-clause-capable : goal.returns-clause-capable
@@ -17,3 +17,8 @@ pub returns-clause-held : goal.returns-clause-held
 returns-clause-held c =
     IfSome_then c.live_system.result c.live_system.ensures.some
     (λ system shows. held_becomes_clean c.args.clock c.args.self.now system.now c.well_formed-2.ensures.claimed shows)
+
+pub returns-clause-whole : goal.returns-clause-whole
+returns-clause-whole c =
+    IfSome_then c.live_system.result c.live_system.ensures.some
+    (λ system shows. held_becomes_whole c.args.clock c.args.self.now system.now c.well_formed-2.ensures.claimed shows)

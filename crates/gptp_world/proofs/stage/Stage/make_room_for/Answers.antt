@@ -39,3 +39,8 @@ pub make_room-requires-in-Priority1-clause-place : goal.make_room-requires-in-Pr
 make_room-requires-in-Priority1-clause-place c =
     let stage = c.args.self.now in
     subst (λ aim. IsWithin aim stage) c.in-Priority1.is (aim_within c.args.act.now c.args.aim stage c.requires.aim)
+
+pub make_room_to_inject-requires-clause-link : goal.make_room_to_inject-requires-clause-link
+make_room_to_inject-requires-clause-link c =
+    let stage = c.args.self.now in
+    subst (λ aim. IsWithin aim stage) c.in-Inject.is (aim_within c.args.act.now c.args.aim stage c.requires.aim)

@@ -1,7 +1,9 @@
 use Rattle.std.proofs.Common.{subst}
 use Rattle.gptp_plan.specs.Allowed.{IsFitAct}
+use Rattle.gptp_world.specs.Aim.{IsAimOf}
+use Rattle.gptp_world.specs.Performing.{HasRoomForAim}
 use Rattle.gptp_world.specs.Stage.{world_of}
-use Rattle.gptp_world.proofs.PerformingLemmas.{can_change, change_told, is_change, same_room, same_stage}
+use Rattle.gptp_world.proofs.PerformingLemmas.{aim_within, can_change, change_told, injection_told, is_change, same_room, same_stage, IsWithin}
 use Rattle.gptp_world.proofs.stage.Stage.perform.Goals as goal
 
 pub change-requires : goal.change-requires
@@ -11,8 +13,30 @@ change-requires g c =
     c.requires.aim in
     record {
       stage = same_stage stage c.requires.stage;
-      can = can_change is.change c.args.aim stage c.requires.sound (subst IsFitAct is.act_is c.requires.fit) is.at;
+      can = can_change is.change c.args.aim stage c.requires.sound (subst IsFitAct is.act_is c.requires.fit)
+          c.in_default.not-Inject is.at;
       room = same_room c.args.aim stage c.requires.room;
+    }
+
+pub inject-requires : goal.inject-requires
+inject-requires g c =
+    let stage = c.args.self.now in
+    record {
+      stage = same_stage stage c.requires.stage;
+      link = subst (λ aim. IsWithin aim stage) c.in-Inject.is
+          (aim_within c.args.act.now c.args.aim stage c.requires.aim);
+      few = c.octets_of.ensures.few;
+      room = subst (λ aim. HasRoomForAim aim stage) c.in-Inject.is c.requires.room;
+    }
+
+pub returns-in-Inject : goal.returns-in-Inject
+returns-in-Inject g c =
+    let stage = c.args.self.now in let lane = c.in-Inject.lane in let act = c.args.act.now in
+    record {
+      stage = c.inject.ensures.stage;
+      acted = injection_told g.F.Fate.answers act lane c.args.fate.now c.inject.new.fate stage c.inject.new.self
+          (subst (IsAimOf act (world_of stage)) c.in-Inject.is c.requires.aim)
+          (rw c.octets_of.ensures.is at c.inject.ensures.injected);
     }
 
 pub returns-in_default : goal.returns-in_default

@@ -1,0 +1,168 @@
+-- The text of `run`, part after part.
+use Rattle.std.proofs.Common.{◌≡◌, ◌⊎◌, ◌≤◌, ℕ, nat_le, true, false, List, [], ◌++◌, length, Option, inl, inr, refl, sym, ap, subst, ◌∙◌, append_assoc, append-nil}
+use Rattle.std.specs.Io.KnownBytes.{Appends}
+use Rattle.std.proofs.lemmas.Bool.{le-leb}
+use Rattle.gptp_acts.specs.World.{WorldState}
+use Rattle.gptp_certificate.specs.Stated.{States}
+use Rattle.gptp_certificate_text.specs.CertificateText.{certificate_lines}
+use Rattle.gptp_graph.specs.Labelling.{SystemLine}
+use Rattle.gptp_network.specs.Document.{DocumentState, Means}
+use Rattle.gptp_network.specs.Events.{AreEvents}
+use Rattle.gptp_plan.specs.Network.{IsNetwork}
+use Rattle.gptp_report.specs.Report.{Reports}
+use Rattle.gptp_report.specs.Run.{LeadsSoFar, LeadsTo}
+use Rattle.gptp_report.specs.Sink.{AppendsSome}
+use Rattle.gptp_report.proofs.FollowLemmas.{text_append}
+use Rattle.gptp_report.proofs.RunLemmas.{led_so_far}
+use Rattle.gptp_report.proofs.SinkLemmas.{appends_both, some_before, some_behind}
+use Rattle.gptp_spelling.specs.Lines.{text_of}
+use Rattle.gptp_commands.specs.declared.failure.Status.TheVariants.{Done}
+use Rattle.gptp_commands.specs.declared.run.RunOptions.{RunOptions}
+use Rattle.gptp_commands.specs.RunText.{BeginsRun, PlaysDocument, RunText, document_limit, draws, generator, until_of}
+use Rattle.gptp_commands.specs.RunSoFar.{AnswersSome, PlaysSome, Tells}
+use Rattle.gptp_commands.proofs.RunLemmas.{run_answers}
+
+-- ---- the report and the certificate
+
+-- the report alone, where no certificate is asked for
+tells_report : (d : DocumentState) (until : ℕ) (w : WorldState) (lines : List (List ℕ)) → Reports d until w lines
+    → Tells d until false w lines
+tells_report d until w lines reports = record {
+  report = lines;
+  reports = reports;
+  certificate = [];
+  certifies = refl;
+  are = sym (append-nil lines);
+}
+
+pub tells_alone : (d : DocumentState) (until : ℕ) (w : WorldState) (old new : Option (List ℕ))
+    → (lines : List (List ℕ)) × Reports d until w lines × Appends old new (text_of lines)
+    → (lines : List (List ℕ)) × Tells d until false w lines × Appends old new (text_of lines)
+tells_alone d until w old new (lines, reports, written) = (lines, tells_report d until w lines reports, written)
+
+pub tells_alone_some : (d : DocumentState) (until : ℕ) (w : WorldState) (old new : Option (List ℕ))
+    → (lines : List (List ℕ)) × ((lines ≡ []) ⊎ Reports d until w lines) × AppendsSome old new (text_of lines)
+    → (lines : List (List ℕ)) × ((lines ≡ []) ⊎ Tells d until false w lines) × AppendsSome old new (text_of lines)
+tells_alone_some d until w old new (lines, inl none, some) = (lines, inl none, some)
+tells_alone_some d until w old new (lines, inr reports, some) =
+    (lines, inr (tells_report d until w lines reports), some)
+
+module _ (d : DocumentState) (until : ℕ) (w : WorldState) (stated : List SystemLine) (states : States w stated) where
+  tells_both : (report : List (List ℕ)) → Reports d until w report
+      → Tells d until true w (report ++ certificate_lines 2 stated)
+  tells_both report reports = record {
+    report = report;
+    reports = reports;
+    certificate = certificate_lines 2 stated;
+    certifies = (stated, states, refl);
+    are = refl;
+  }
+
+  -- some of the report was written
+  pub tells_some : (old new : Option (List ℕ))
+      → (lines : List (List ℕ)) × ((lines ≡ []) ⊎ Reports d until w lines) × AppendsSome old new (text_of lines)
+      → (lines : List (List ℕ)) × ((lines ≡ []) ⊎ Tells d until true w lines) × AppendsSome old new (text_of lines)
+  tells_some old new (lines, inl none, some) = (lines, inl none, some)
+  tells_some old new (report, inr reports, some) = (
+    report ++ certificate_lines 2 stated,
+    inr (tells_both report reports),
+    rw text_append (some_before old new (text_of report) (text_of (certificate_lines 2 stated)) some),
+  )
+
+  -- all of it, and some of the certificate
+  pub tells_part : (old between new : Option (List ℕ))
+      → (report : List (List ℕ)) × Reports d until w report × Appends old between (text_of report)
+      → AppendsSome between new (text_of (certificate_lines 2 stated))
+      → (lines : List (List ℕ)) × ((lines ≡ []) ⊎ Tells d until true w lines) × AppendsSome old new (text_of lines)
+  tells_part old between new (report, reports, written) some = (
+    report ++ certificate_lines 2 stated,
+    inr (tells_both report reports),
+    rw text_append (some_behind old between new (text_of report) (text_of (certificate_lines 2 stated)) written some),
+  )
+
+  pub tells_all : (old between new : Option (List ℕ))
+      → (report : List (List ℕ)) × Reports d until w report × Appends old between (text_of report)
+      → Appends between new (text_of (certificate_lines 2 stated))
+      → (lines : List (List ℕ)) × Tells d until true w lines × Appends old new (text_of lines)
+  tells_all old between new (report, reports, written) behind = (
+    report ++ certificate_lines 2 stated,
+    tells_both report reports,
+    rw text_append
+        (appends_both old between new (text_of report) (text_of (certificate_lines 2 stated)) written behind),
+  )
+
+-- ---- the lines of the frames, and what is told behind them
+
+module _ (d : DocumentState) (options : RunOptions) (w : WorldState) (frames : List (List ℕ))
+    (leads : LeadsTo draws d (until_of options d) options.frames (generator options.seed) w frames) where
+  plays : (told : List (List ℕ)) → Tells d (until_of options d) options.certificate w told
+      → PlaysDocument d options (frames ++ told) Done
+  plays told tells = record {
+    world = w;
+    report = frames ++ tells.report;
+    reports = record { frames = frames; leads = leads; report = tells.report; reports = tells.reports; are = refl };
+    certificate = tells.certificate;
+    certifies = tells.certifies;
+    lines = ap (λ ls. frames ++ ls) tells.are ∙ sym (append_assoc frames tells.report tells.certificate);
+    status_is = refl;
+  }
+
+  pub plays_all : (old between new : Option (List ℕ)) → Appends old between (text_of frames)
+      → (told : List (List ℕ)) × Tells d (until_of options d) options.certificate w told
+      × Appends between new (text_of told)
+      → (lines : List (List ℕ)) × PlaysDocument d options lines Done × Appends old new (text_of lines)
+  plays_all old between new written (told, tells, behind) = (
+    frames ++ told,
+    plays told tells,
+    rw text_append (appends_both old between new (text_of frames) (text_of told) written behind),
+  )
+
+  pub plays_some : (old between new : Option (List ℕ)) → Appends old between (text_of frames)
+      → (told : List (List ℕ)) × ((told ≡ []) ⊎ Tells d (until_of options d) options.certificate w told)
+      × AppendsSome between new (text_of told)
+      → (lines : List (List ℕ)) × PlaysSome d options lines × AppendsSome old new (text_of lines)
+  plays_some old between new written (told, inl none, behind) =
+      let alone : text_of frames ++ text_of told ≡ text_of frames =
+      ap (λ ls. text_of frames ++ text_of ls) none ∙ append-nil (text_of frames) in (
+        frames,
+        inr (inl (led_so_far draws d (until_of options d) options.frames (generator options.seed) w frames leads)),
+        subst (AppendsSome old new) alone
+            (some_behind old between new (text_of frames) (text_of told) written behind),
+      )
+  plays_some old between new written (told, inr tells, behind) = (
+    frames ++ told,
+    inr (inr (plays told tells)),
+    rw text_append (some_behind old between new (text_of frames) (text_of told) written behind),
+  )
+
+-- the frames so far
+pub plays_front : (d : DocumentState) (options : RunOptions) (old new : Option (List ℕ))
+    → (lines : List (List ℕ)) × ((lines ≡ [])
+    ⊎ LeadsSoFar draws d (until_of options d) options.frames (generator options.seed) lines)
+    × AppendsSome old new (text_of lines)
+    → (lines : List (List ℕ)) × PlaysSome d options lines × AppendsSome old new (text_of lines)
+plays_front d options old new (lines, inl none, some) = (lines, inl none, some)
+plays_front d options old new (lines, inr leads, some) = (lines, inr (inl leads), some)
+
+-- ---- a document within its size, and one past it
+
+pub answers_some : (octets : List ℕ) (d : DocumentState) (options : RunOptions) → Means octets d
+    → IsNetwork d.network → AreEvents d.network d.events → (old new : Option (List ℕ))
+    → (lines : List (List ℕ)) × PlaysSome d options lines × AppendsSome old new (text_of lines)
+    → (lines : List (List ℕ)) × AnswersSome options octets lines × AppendsSome old new (text_of lines)
+answers_some octets d options means network events old new (lines, inl none, some) = (lines, inl none, some)
+answers_some octets d options means network events old new (lines, inr (inl leads), some) =
+    (lines, inr (inl (d, means, leads)), some)
+answers_some octets d options means network events old new (lines, inr (inr all), some) =
+    (lines, inr (inr (Done, run_answers octets d options means network events lines Done all)), some)
+
+pub begins_within : (options : RunOptions) (octets : List ℕ) → length octets ≤ document_limit
+    → (old new : Option (List ℕ))
+    → (lines : List (List ℕ)) × AnswersSome options octets lines × AppendsSome old new (text_of lines)
+    → (lines : List (List ℕ)) × BeginsRun options octets lines × AppendsSome old new (text_of lines)
+begins_within options octets within old new (lines, inl none, some) = (lines, inl none, some)
+begins_within options octets within old new (lines, inr (inl so_far), some) =
+    (lines, inr (inl (within, so_far)), some)
+begins_within options octets within old new (lines, inr (inr (status, answers)), some) =
+    let fits : nat_le (length octets) document_limit ≡ true = le-leb (length octets) document_limit within in
+    let text : RunText options octets lines status = rw fits answers in (lines, inr (inr (status, text)), some)

@@ -1,0 +1,26 @@
+-- What is written for a question about a document, which is answered without a run, and the status (profile).
+use Rattle.std.specs.Prelude.{◌⊎◌, ℕ, List}
+use Rattle.gptp_network.specs.declared.fault.DocumentFault.{DocumentFault}
+use Rattle.gptp_network.specs.declared.fault.DocumentFault.TheVariants.{TooMany}
+use Rattle.gptp_network.specs.Document.{DocumentState, Fails, Means}
+use Rattle.gptp_commands.specs.declared.failure.Status.{Status}
+use Rattle.gptp_commands.specs.declared.question.Question.{Question}
+use Rattle.gptp_commands.specs.declared.question.Question.TheVariants.{Accuracy, Choice}
+use Rattle.gptp_commands.specs.AccuracyText.{TellsAccuracy}
+use Rattle.gptp_commands.specs.ChoiceText.{ChoosesAt}
+use Rattle.gptp_commands.specs.Limited.{Limited}
+use Rattle.gptp_commands.specs.RunText.{document_limit, RefusesFault}
+
+-- the answer for a document, by what is asked
+abbrev pub Answers : Question → DocumentState → List (List ℕ) → Status → Type 0
+Answers (Choice until) d output status = ChoosesAt d until output status
+Answers (Accuracy until max_error) d output status = TellsAccuracy d until max_error output status
+
+-- an input is a document, of which the question is answered, or fails a test
+abbrev pub AnswersInput : Question → List ℕ → List (List ℕ) → Status → Type 0
+AnswersInput question input output status =
+    ((d : DocumentState) × Means input d × Answers question d output status)
+    ⊎ ((fault : DocumentFault) × Fails input fault × RefusesFault fault output status)
+
+abbrev pub QuestionText : Question → List ℕ → List (List ℕ) → Status → Type 0
+QuestionText question = Limited document_limit (AnswersInput question) (RefusesFault TooMany)

@@ -1,0 +1,43 @@
+//! The command `accuracy`: how exact the time is that each system of a document gets.
+
+ghost use Rattle.std.specs.Prelude.{◌≡◌, IfErr, IfOk};
+ghost use Rattle.gptp_spelling.specs.Lines.{text_of};
+ghost use Rattle.gptp_time_error.specs.AccuracyText.{accuracy_lines, is_exceeded};
+ghost use Rattle.gptp_commands.specs.AccuracyText.{TellsAccuracy};
+ghost use Rattle.gptp_commands.specs.Failure.{status_by};
+ghost use Rattle.gptp_commands.specs.Output.{IsOutput};
+
+use crate::check::moment_of;
+use crate::choice::refuse_choice;
+use crate::failure::{SimError, Status};
+use crate::output::Output;
+use gptp_network::Document;
+use gptp_time_error::{TimeErrors, time_errors, write_accuracy};
+use std::alloc::Global;
+
+/// The text of time errors.
+fn show(alloc: Global, errors: &TimeErrors, max_error: Option<u64>) -> Result<Output, SimError>
+    ensures shows { IfOk result (λ o. (o.status ≡ status_by (is_exceeded max_error errors.now.systems.items))
+        × (o.text.items ≡ text_of (accuracy_lines max_error errors.now))) }
+    ensures memory { IfErr result (λ e. e ≡ SimError.Memory) }
+{
+    let mut text = String::new(alloc);
+    let exceeded = write_accuracy(&mut text, max_error, errors)?;
+    Ok(Output::of(text, Status::of_refusal(exceeded)))
+}
+
+/// The text for a document.
+pub(crate) fn tell_accuracy(
+    alloc: Global,
+    document: &Document,
+    until: Option<u64>,
+    max_error: Option<u64>,
+) -> Result<Output, SimError>
+    ensures tells { IfOk result (IsOutput (TellsAccuracy document.now until max_error)) }
+    ensures memory { IfErr result (λ e. e ≡ SimError.Memory) }
+{
+    match time_errors(alloc, document, moment_of(document, until)) {
+        Ok(errors) => show(alloc, &errors, max_error),
+        Err(fault) => refuse_choice(alloc, fault),
+    }
+}

@@ -1,0 +1,8 @@
+use Rattle.gptp_kept.proofs.BoundedLemmas.{bounded_by_paths, claimed_bounded}
+use Rattle.gptp_kept.proofs.bounded.worlds_are_bounded.Goals as goal
+
+pub returns-clause-systems : goal.returns-clause-systems
+returns-clause-systems c = claimed_bounded
+
+pub returns-clause-by_paths : goal.returns-clause-by_paths
+returns-clause-by_paths c = bounded_by_paths

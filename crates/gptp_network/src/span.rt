@@ -1,0 +1,41 @@
+//! How long the network of a document takes at most to settle from a time on.
+
+use crate::document::Document;
+use crate::events::events_by;
+use std::alloc::{AllocError, Global};
+
+impl Document {
+    ghost use Rattle.std.specs.Prelude.{◌≡◌, ◌↔◌, ◌≤◌, ℕ, IfOk, IsTrue, Option};
+    ghost use Rattle.gptp_network.specs.Span.{IsBound, IsCalmAt, IsSpan};
+
+    /// Whether the network is calm after the events up to a time, in ns: each link that then is up between two live systems
+    /// loses nothing, and its greatest delay is short enough for the threshold.
+    pub fn calm_at(&self, at: u64) -> bool
+        ensures { IsTrue result ↔ IsCalmAt self.now at }
+    {
+        self.well_formed();
+        self.network().is_calm(events_by(self.events(), at))
+    }
+
+    /// How long the network, as it stands after the events up to a time, takes at most to settle if it is calm, in ns: by how
+    /// many systems a path over the live systems and the links between them has. Refused for want of memory alone.
+    pub fn span_at(&self, alloc: Global, at: u64) -> Result<u64, AllocError>
+        ensures span { IfOk result (IsSpan self.now at) }
+        ensures bound { IfOk result (λ span. span ≤ 160000000000000) }
+    {
+        let snapshot = self.snapshot(alloc, at)?;
+        Ok(self.network().settling_span_over(snapshot.path_bound()))
+    }
+
+    /// That span where the network is calm then; `None` where it isn't. Refused for want of memory alone.
+    pub fn bound_at(&self, alloc: Global, at: u64) -> Result<Option<u64>, AllocError>
+        ensures bound { IfOk result (IsBound self.now at) }
+        ensures there { (bound : Option ℕ) × IsBound self.now at bound }
+    {
+        self.network().well_formed();
+        match self.calm_at(at) {
+            true => Ok(Some(self.span_at(alloc, at)?)),
+            false => Ok(None),
+        }
+    }
+}

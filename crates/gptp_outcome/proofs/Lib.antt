@@ -1,0 +1,10 @@
+pub mod StepLemmas
+pub mod NameLemmas
+pub mod SendLemmas
+pub mod CallLemmas
+pub mod ActLemmas
+pub mod CourseLemmas
+pub mod LineLemmas
+pub mod RunLemmas
+pub mod MeantLemmas
+pub mod SoFarLemmas

@@ -1,0 +1,6 @@
+pub mod StepLaws
+pub mod Named
+pub mod ActLaws
+pub mod CourseLaws
+pub mod RunLaws
+pub mod SoFar

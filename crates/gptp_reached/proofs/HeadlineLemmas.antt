@@ -1,0 +1,111 @@
+-- The settling theorem from its parts.
+use Rattle.std.proofs.Common.{◌≡◌, ◌≤◌, ◌+◌, ◌*◌, ℕ, true, List, Option, Some, length, slice_get, arith}
+use Rattle.gptp_lists.proofs.MemberLemmas.{In-slice_get}
+use Rattle.gptp_graph.specs.Labelling.{SystemLine, line_clocks}
+use Rattle.gptp_graph.specs.Order.{IsRising}
+use Rattle.gptp_graph.specs.PathBound.{BoundsPaths, path_bound}
+use Rattle.gptp_graph.specs.SettledChoice.{IsSettledChoice}
+use Rattle.gptp_graph.specs.Snapshot.{IsWellFormed}
+use Rattle.gptp_graph.proofs.ChoiceLemmas.{same_choice}
+use Rattle.gptp_graph.proofs.PathBoundLemmas.{paths_within}
+use Rattle.gptp_links.specs.declared.bounds.Bounds.{Bounds}
+use Rattle.gptp_setup.specs.Pace.{Pace}
+use Rattle.gptp_acts.specs.Prompt.{HavePace}
+use Rattle.gptp_acts.specs.Advancing.{Told}
+use Rattle.gptp_acts.specs.World.{Channel, WorldState}
+use Rattle.gptp_network.specs.Document.{DocumentState}
+use Rattle.gptp_network.specs.Snapshot.{events_by}
+use Rattle.gptp_report.specs.Run.{Plays}
+use Rattle.gptp_kept.specs.Bounded.{IsBoundedWorld}
+use Rattle.gptp_kept.specs.CalmFor.{IsCalmFor, span_over}
+use Rattle.gptp_kept.specs.Claimed.{Claimed}
+use Rattle.gptp_kept.specs.Known.{AreSet}
+use Rattle.gptp_kept.specs.Settled.{Settled}
+use Rattle.gptp_kept.specs.Standing.{is_used, live_systems, snapshot_of}
+use Rattle.gptp_kept.proofs.BoundedLemmas.{bounded_by_paths}
+use Rattle.gptp_kept.proofs.ClaimedLemmas.{settled_by_paths}
+use Rattle.gptp_kept.proofs.HoldsLemmas.{systems_bound}
+use Rattle.gptp_kept.proofs.StandsLemmas.{stands_well}
+use Rattle.gptp_kept.proofs.TreeLemmas.{settled_is_tree}
+use Rattle.gptp_certificate.specs.Stated.{States}
+use Rattle.gptp_certificate.proofs.SettledLemmas.{settled_choice}
+use Rattle.gptp_reached.specs.Headline.{Headline, HeadlineByNeighbours, HeadlineBySystems, HasPassed, IsCalm, IsCertified, IsSettled}
+use Rattle.gptp_reached.specs.HeadlineLaws.{HasSnapshotOf}
+use Rattle.gptp_reached.specs.PlayedLaws.{IsAtRest, IsPlayable}
+use Rattle.gptp_reached.proofs.CalmLemmas.{document_calm}
+use Rattle.gptp_reached.proofs.ClaimedLemmas.{events_made, played_claimed}
+use Rattle.gptp_reached.proofs.PlayedLemmas.{played_stands}
+use Rattle.gptp_reached.proofs.SnapshotLemmas.{snapshots_stand}
+
+-- ---- of a world
+
+-- what is asked on the page is what the laws of gptp_kept ask
+calm_for : (p : Pace) (m : ℕ) (w : WorldState) → IsCalm p w → HasPassed p m w → IsCalmFor (span_over m) w
+calm_for p m w calm passed = record {
+  pace = p;
+  set = calm.of;
+  quiet = λ link channel here used.
+      let (lossless, good) = calm.links channel (In-slice_get channel w.net.channels link here) used in
+      record { lossless = lossless; good = good };
+  late = passed;
+}
+
+-- a settled world, of which what the systems state is bounded
+module _ (w : WorldState) (claimed : Claimed w) (settled : Settled w) (bounded : IsBoundedWorld w) where
+  wf : IsWellFormed (snapshot_of w)
+  wf =
+      let is = claimed.is.world in
+      stands_well w is.sound is.between is.legible
+
+  certified : (lines : List SystemLine) → States w lines → IsCertified w lines
+  certified lines states =
+      let right = settled_choice w wf settled bounded lines claimed.is.world.sound.wired.clocks states in
+      record {
+        right = right;
+        only = λ other rising choice. same_choice (snapshot_of w) other lines wf choice right rising states.rising;
+      }
+
+  is_settled : IsSettled w
+  is_settled = record { tree = settled_is_tree w claimed settled; certified = certified }
+
+-- a calm one is such
+pub settled_for : (m : ℕ) (w : WorldState) → Claimed w → BoundsPaths (snapshot_of w) m → IsCalmFor (span_over m) w
+    → IsSettled w
+settled_for m w claimed paths calm =
+    is_settled w claimed (settled_by_paths m w claimed paths calm) (bounded_by_paths m w claimed paths calm)
+
+pub worlds_settle : (w : WorldState) → Claimed w → Headline w
+worlds_settle w claimed p m calm paths passed = settled_for m w claimed paths (calm_for p m w calm passed)
+
+pub by_systems : (w : WorldState) → Claimed w → HeadlineBySystems w
+by_systems w claimed p calm passed =
+    worlds_settle w claimed p (length (snapshot_of w).systems) calm
+    (systems_bound claimed.pace w claimed.is.world) passed
+
+pub by_neighbours : (w : WorldState) → Claimed w → HeadlineByNeighbours w
+by_neighbours w claimed p calm passed =
+    let is = claimed.is.world in
+    worlds_settle w claimed p (path_bound (snapshot_of w)) calm
+    (paths_within (snapshot_of w) (stands_well w is.sound is.between is.legible)) passed
+
+pub of_a_network : (w : WorldState) → Claimed w → (p : Pace) × HavePace p w × AreSet p w
+of_a_network w claimed =
+    let set = claimed.is.world.known.set in (claimed.pace, λ place station here. (set place station here).starts, set)
+
+-- ---- of a document
+
+pub documents_lead : {F : Type 0} (answers : Bounds → ℕ → F → Option ℕ → F → Type 0) (d : DocumentState) (until : ℕ)
+    (fate : F) (told : List Told) (w : WorldState) → IsPlayable d → Plays answers d until fate told w
+    → IsAtRest d until → IsSettled w × HasSnapshotOf d until w
+documents_lead answers d until fate told w is plays rest =
+    let reached = played_stands answers d until fate told w is.network (events_made d until is.network is.events) plays
+    in
+    let claimed = played_claimed answers d until fate told w is plays in
+    let calm = document_calm d until w reached claimed rest in (
+      settled_for (length (snapshot_of w).systems) w claimed (systems_bound claimed.pace w claimed.is.world)
+          (record { pace = calm.pace; set = calm.set; quiet = calm.quiet; late = calm.late }),
+      λ g stands.
+          let (systems, links) =
+          snapshots_stand d.network (events_by until d.events) w g reached.stands reached.sound stands in
+          record { systems = systems; links = links },
+    )

@@ -1,0 +1,68 @@
+-- The settling theorem on one page: what it asks of a world, and what every world then is.
+--
+-- A world of gptp_world is any that its public calls reach, whatever its network, the acts done in it, the draws of
+-- delays and losses and the order of what happens at one moment. Its *snapshot* is its live systems and the links that
+-- are up between two of them; the *best* of a component has the lowest identity (IEEE 802.1AS-2020, 10.3.2), the
+-- *distance* of a system is the least number of links from it to the best, and a system is *near* where that is below
+-- 255.
+use Rattle.std.specs.Prelude.{◌≡◌, ◌≤◌, ◌+◌, ◌*◌, ℕ, true, List, length}
+use Rattle.gptp_lists.specs.Members.{In}
+use Rattle.gptp_graph.specs.Labelling.{SystemLine, line_clocks}
+use Rattle.gptp_graph.specs.Order.{IsRising}
+use Rattle.gptp_graph.specs.PathBound.{BoundsPaths, path_bound}
+use Rattle.gptp_graph.specs.SettledChoice.{IsSettledChoice}
+use Rattle.gptp_pdelay.specs.GoodLink.{ceil_div}
+use Rattle.gptp_setup.specs.Pace.{Pace, largest_interval}
+use Rattle.gptp_acts.specs.Prompt.{HavePace}
+use Rattle.gptp_acts.specs.World.{Channel, WorldState}
+use Rattle.gptp_kept.specs.Standing.{is_used, live_systems, snapshot_of}
+use Rattle.gptp_kept.specs.Tree.{IsTree}
+use Rattle.gptp_certificate.specs.Stated.{States}
+
+-- ---- what is asked
+
+-- Each link of the snapshot loses nothing and is good: its largest delay leaves room below the threshold of
+-- neighborPropDelay for the drift of two clocks (law of good links). All systems start with the parameters of one
+-- network and with the largest announce interval of any of its ports, as those of every world do.
+pub record IsCalm (p : Pace) (w : WorldState) : Type 0 where
+  pub of : HavePace p w
+  pub links : (link : Channel) → In link w.net.channels → is_used (live_systems w.stations) link ≡ true
+      → (link.bounds.loss ≡ 0)
+      × (link.bounds.max + ceil_div link.bounds.max 1000 + ceil_div p.params.turnaround 2000 + 2 ≤ p.params.threshold)
+
+-- ((k + 3)m + L + 5) intervals have passed since the last change: k is the announce receipt timeout, L how many peer
+-- delay requests in a row may be lost, and the interval the largest announce interval of any port
+abbrev pub HasPassed : Pace → ℕ → WorldState → Type 0
+HasPassed p m w = w.last_change + ((p.params.timeout + 3) * m + p.params.lost + 5) * largest_interval p ≤ w.time
+
+-- ---- what is said
+
+-- the lines are the settled choice of the snapshot, and so no others in rising order of their clocks are
+pub record IsCertified (w : WorldState) (lines : List SystemLine) : Type 0 where
+  pub right : IsSettledChoice (snapshot_of w) lines
+  pub only : (other : List SystemLine) → IsRising (line_clocks other) → IsSettledChoice (snapshot_of w) other
+      → other ≡ lines
+
+-- Every near system follows its component's best by fewest steps over its parent, its ports have their settled roles,
+-- and so they form a tree; and what is stated of all systems, far ones too, is what the checker accepts, and no other.
+pub record IsSettled (w : WorldState) : Type 0 where
+  pub tree : IsTree w
+  pub certified : (lines : List SystemLine) → States w lines → IsCertified w lines
+
+-- The theorem: a calm world is settled once (k+3)m + L + 5 intervals have passed since its last change, where no path
+-- of its snapshot has more than m systems.
+abbrev pub Headline : WorldState → Type 0
+Headline w = (p : Pace) (m : ℕ)
+    → IsCalm p w → BoundsPaths (snapshot_of w) m → HasPassed p m w
+    → IsSettled w
+
+-- such an m is the number of live systems, and such is 2 more than there are systems with two neighbours or more
+abbrev pub HeadlineBySystems : WorldState → Type 0
+HeadlineBySystems w = (p : Pace)
+    → IsCalm p w → HasPassed p (length (snapshot_of w).systems) w
+    → IsSettled w
+
+abbrev pub HeadlineByNeighbours : WorldState → Type 0
+HeadlineByNeighbours w = (p : Pace)
+    → IsCalm p w → HasPassed p (path_bound (snapshot_of w)) w
+    → IsSettled w

@@ -1,0 +1,43 @@
+-- The settling theorem as laws: of every world, and of the worlds that documents lead to.
+use Rattle.std.specs.Prelude.{ℕ, List, Option}
+use Rattle.gptp_graph.specs.Snapshot.{Snapshot}
+use Rattle.gptp_links.specs.declared.bounds.Bounds.{Bounds}
+use Rattle.gptp_setup.specs.Pace.{Pace}
+use Rattle.gptp_acts.specs.Advancing.{Told}
+use Rattle.gptp_acts.specs.Prompt.{HavePace}
+use Rattle.gptp_acts.specs.World.{WorldState}
+use Rattle.gptp_network.specs.Document.{DocumentState}
+use Rattle.gptp_network.specs.Snapshot.{IsSnapshot}
+use Rattle.gptp_report.specs.Run.{Plays}
+use Rattle.gptp_kept.specs.Claimed.{Claimed}
+use Rattle.gptp_kept.specs.Known.{AreSet}
+use Rattle.gptp_kept.specs.Standing.{snapshot_of}
+use Rattle.gptp_reached.specs.AlikeLaws.{AreAlike}
+use Rattle.gptp_reached.specs.Headline.{Headline, HeadlineByNeighbours, HeadlineBySystems, IsSettled}
+use Rattle.gptp_reached.specs.PlayedLaws.{IsAtRest, IsPlayable}
+
+-- what `World::well_formed` shows of every world is all that the theorem asks beside calm and the time
+abbrev pub WorldsSettle : Type 0
+WorldsSettle = (w : WorldState) → Claimed w → Headline w
+
+abbrev pub WorldsSettleBySystems : Type 0
+WorldsSettleBySystems = (w : WorldState) → Claimed w → HeadlineBySystems w
+
+abbrev pub WorldsSettleByNeighbours : Type 0
+WorldsSettleByNeighbours = (w : WorldState) → Claimed w → HeadlineByNeighbours w
+
+-- and its systems always have the parameters of one network, and none of their ports an announce interval above its
+-- largest
+abbrev pub WorldsAreOfANetwork : Type 0
+WorldsAreOfANetwork = (w : WorldState) → Claimed w → (p : Pace) × HavePace p w × AreSet p w
+
+-- the snapshot of the world is that of the document at a time, but for the order of the systems
+abbrev pub HasSnapshotOf : DocumentState → ℕ → WorldState → Type 0
+HasSnapshotOf d until w = (g : Snapshot) → IsSnapshot d until g → AreAlike (snapshot_of w) g
+
+-- A document that is calm after its events up to a time, and has settled by then, leads to a settled world, whatever is
+-- drawn for the frames meanwhile, and its snapshot is the document's.
+abbrev pub DocumentsLeadToSettled : {F : Type 0} → (Bounds → ℕ → F → Option ℕ → F → Type 0) → Type 0
+DocumentsLeadToSettled {F} answers = (d : DocumentState) (until : ℕ) (fate : F) (told : List Told) (w : WorldState)
+    → IsPlayable d → Plays answers d until fate told w → IsAtRest d until
+    → IsSettled w × HasSnapshotOf d until w

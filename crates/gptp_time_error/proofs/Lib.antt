@@ -1,0 +1,11 @@
+pub mod SumLemmas
+mod MachineLemmas
+mod OptionLemmas
+pub mod DelayLemmas
+pub mod StandingLemmas
+pub mod PassLemmas
+mod EventLemmas
+pub mod ExactLemmas
+mod TextLemmas
+pub mod WayLemmas
+mod OneLemmas

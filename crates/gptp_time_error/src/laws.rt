@@ -1,0 +1,19 @@
+//! What time errors promise beyond single calls. Each function does nothing, and its contract is the law.
+
+ghost use Rattle.gptp_time_error.specs.Laws.{OneAccuracy, OneWay, WaysAreDocumented};
+
+/// A system of a network has one way, and its distance is how many links that has.
+pub fn a_system_has_one_way()
+    ensures { OneWay }
+{}
+
+/// The numbers of each way are within the limits of a document, as `carry_is_within` and `offset_of_way_is_within` of
+/// gptp_accuracy ask. So a Sync that goes over the way brings the root's time within the time error that is said.
+pub fn ways_are_documented()
+    ensures { WaysAreDocumented }
+{}
+
+/// A document has one text at a time, and one answer to whether a greatest error is exceeded.
+pub fn a_document_has_one_accuracy()
+    ensures { OneAccuracy }
+{}

@@ -1,0 +1,178 @@
+-- The links that are up between two live systems, counted and listed one after another.
+use Rattle.std.proofs.Common.{◌≡◌, ◌≤◌, ◌+◌, ℕ, zero, suc, Bool, true, false, List, [], ◌∷◌, ◌++◌, map, length, take, Some, None, slice_get, refl, sym, ap, subst, ◌∙◌, arith, append-nil, length-append}
+use Rattle.std.specs.Prelude.{if◌then◌else◌}
+use Rattle.std.proofs.lemmas.Option.{none-some, same_Some}
+use Rattle.gptp_graph.specs.Snapshot.{Link, System}
+use Rattle.gptp_vector.specs.declared.port.PortId.{PortId}
+use Rattle.std.proofs.lemmas.List.{length-map, take_all}
+use Rattle.gptp_lists.proofs.MappedLemmas.{mapped_there, taken}
+use Rattle.gptp_lists.proofs.MemberLemmas.{In-map}
+use Rattle.gptp_acts.specs.World.{Channel, receiver}
+use Rattle.gptp_acts.specs.declared.station.Station.{Station}
+use Rattle.gptp_system.specs.State.{clock}
+use Rattle.gptp_kept.specs.Standing.{has_clock, is_used, joined, live_systems, standing, used_links}
+use Rattle.gptp_kept.proofs.SystemLemmas.{OwnClocks, clock_in, clock_lives, clock_there, live_from, live_there}
+use Rattle.gptp_world.specs.declared.cable.Cable.{Cable}
+use Rattle.gptp_world.specs.declared.cable.Lane.{Lane}
+use Rattle.gptp_world.specs.declared.stage.Stage.{Stage}
+use Rattle.gptp_world.specs.Cable.{channel_of, join_of}
+use Rattle.gptp_world.specs.Directory.{end_of}
+use Rattle.gptp_world.specs.Scene.{IsFounded}
+use Rattle.gptp_world.specs.Used.{link_of, used, used_if, used_in}
+use Rattle.gptp_world.proofs.DeliveringLemmas.{IsReceiver}
+use Rattle.gptp_world.proofs.EndLemmas.{end_same, known_join, station_at}
+
+-- ---- live systems
+
+-- a clock is that of a live system exactly where the system that has it lives
+lives_by : (stations : List Station) (place number : ℕ) (station : Station) (live has : Bool) → OwnClocks stations
+    → slice_get stations place ≡ Some station → clock station.system ≡ number → station.live ≡ live
+    → has_clock (live_systems stations) number ≡ has → live ≡ has
+lives_by stations place number station true true own here named lives known = refl
+lives_by stations place number station true false own here named lives known =
+    let member = subst (λ n. has_clock (live_systems stations) n ≡ true) named
+    (clock_there (live_systems stations) (clock station.system)
+    (In-map clock_in (standing station) (live_systems stations) (live_there stations place station here lives))) in
+    absurd cc
+lives_by stations place number station false true own here named lives known =
+    let (s, member, same) = clock_lives stations number known in
+    let at = live_from stations s member in
+    let clocks : clock at.station.system ≡ clock station.system = ap clock_in (sym at.is) ∙ (same ∙ sym named) in
+    let place_is = own at.place place at.station station at.here here clocks in
+    let one : at.station ≡ station =
+    same_Some at.station station (sym at.here ∙ (ap (slice_get stations) place_is ∙ here)) in
+    let live : station.live ≡ true = subst (λ (x : Station). x.live ≡ true) one at.live in
+    absurd cc
+lives_by stations place number station false false own here named lives known = refl
+
+-- so it is of the system at the end of a lane
+pub lives_there : (stage : Stage) (lane : Lane) (place : ℕ) (cable : Cable) → IsFounded stage
+    → slice_get stage.net.cables.items lane.link ≡ Some cable → IsReceiver lane place stage.net.directory
+    → (station : Station) → slice_get stage.stations.items place ≡ Some station
+    → station.live ≡ has_clock (live_systems stage.stations.items) (receiver lane.direction (channel_of cable)).clock
+lives_there stage lane place cable is here receives station there =
+    let known = receives (join_of cable) (known_join stage.net lane.link cable is.stage_kept.net here) in
+    let at = station_at stage place (end_of lane.direction (join_of cable)).clock is.stage_kept known in
+    let one : at.station ≡ station = same_Some at.station station (sym at.here ∙ there) in
+    let named : clock station.system ≡ (receiver lane.direction (channel_of cable)).clock =
+    ap (λ (x : Station). clock x.system) (sym one) ∙ (at.named
+    ∙ ap (λ port. port.clock) (end_same lane.direction cable)) in
+    lives_by stage.stations.items place (receiver lane.direction (channel_of cable)).clock station station.live _
+    is.sound.wired.clocks there named refl refl
+
+-- ---- one link more
+
+used_append : (systems : List System) (xs : List Channel) (channel : Channel)
+    → used_links systems (xs ++ channel ∷ []) ≡ used_links systems xs ++ used_if systems channel
+used_append systems [] channel = refl
+used_append systems (x ∷ xs) channel = by (is_used systems x) refl (used_append systems xs channel)
+  where
+    by : (is : Bool) → is_used systems x ≡ is
+        → used_links systems (xs ++ channel ∷ []) ≡ used_links systems xs ++ used_if systems channel
+        → used_links systems (x ∷ xs ++ channel ∷ []) ≡ used_links systems (x ∷ xs) ++ used_if systems channel
+    by true is more = rw is (ap (λ ls. joined x ∷ ls) more)
+    by false is more = rw is more
+
+pub used_more : (systems : List System) (channels : List Channel) (link : ℕ) (channel : Channel)
+    → slice_get channels link ≡ Some channel
+    → used_links systems (take (link + 1) channels)
+    ≡ used_links systems (take link channels) ++ used_if systems channel
+used_more systems channels link channel here =
+    ap (used_links systems) (taken channels link channel here) ∙ used_append systems (take link channels) channel
+
+-- ---- the place of a link among those that are used
+
+pub used_here : (systems : List System) (channels : List Channel) (link : ℕ) (channel : Channel)
+    → slice_get channels link ≡ Some channel → is_used systems channel ≡ true
+    → slice_get (used_links systems channels) (length (used_links systems (take link channels)))
+    ≡ Some (joined channel)
+used_here systems [] link channel here is = absurd (none-some channel here)
+used_here systems (x ∷ xs) zero channel here is =
+    let same = same_Some x channel here in
+    let used : is_used systems x ≡ true = ap (is_used systems) same ∙ is in
+    rw used (ap (λ c. Some (joined c)) same)
+used_here systems (x ∷ xs) (suc link) channel here is =
+    by (is_used systems x) refl (used_here systems xs link channel here is)
+  where
+    by : (used : Bool) → is_used systems x ≡ used
+        → slice_get (used_links systems xs) (length (used_links systems (take link xs))) ≡ Some (joined channel)
+        → slice_get (used_links systems (x ∷ xs)) (length (used_links systems (take (suc link) (x ∷ xs))))
+        ≡ Some (joined channel)
+    by true used later = rw used later
+    by false used later = rw used later
+
+-- ---- by whether it is used
+
+pub used_yes : (systems : List System) (channel : Channel) → is_used systems channel ≡ true
+    → used systems channel ≡ Some (joined channel)
+used_yes systems channel is = rw is refl
+
+pub used_no : (systems : List System) (channel : Channel) → is_used systems channel ≡ false
+    → used systems channel ≡ None
+used_no systems channel is = rw is refl
+
+-- what the one is, is put behind
+pub used_some : (systems : List System) (channel : Channel) (ports : PortId × PortId)
+    → Some (link_of ports) ≡ used systems channel → used_if systems channel ≡ link_of ports ∷ []
+used_some systems channel ports same = by (is_used systems channel) refl
+  where
+    by : (is : Bool) → is_used systems channel ≡ is → used_if systems channel ≡ link_of ports ∷ []
+    by true is =
+        let one : joined channel ≡ link_of ports =
+        same_Some (joined channel) (link_of ports) (sym (same ∙ used_yes systems channel is)) in
+        rw is (ap (λ l. l ∷ []) one)
+    by false is = absurd (none-some (link_of ports) (sym (same ∙ used_no systems channel is)))
+
+pub used_none : (systems : List System) (channel : Channel) → None ≡ used systems channel
+    → used_if systems channel ≡ []
+used_none systems channel same = by (is_used systems channel) refl
+  where
+    by : (is : Bool) → is_used systems channel ≡ is → used_if systems channel ≡ []
+    by true is = absurd (none-some (joined channel) (same ∙ used_yes systems channel is))
+    by false is = rw is refl
+
+-- ---- the links of a stage, one after another
+
+-- those before a place
+abbrev pub used_before : Stage → ℕ → List Link
+used_before stage link =
+    used_links (live_systems stage.stations.items) (take link (map channel_of stage.net.cables.items))
+
+module _ (stage : Stage) (link : ℕ) (cable : Cable) (here : slice_get stage.net.cables.items link ≡ Some cable) where
+  abbrev systems : List System
+  systems = live_systems stage.stations.items
+
+  there : slice_get (map channel_of stage.net.cables.items) link ≡ Some (channel_of cable)
+  there = mapped_there channel_of stage.net.cables.items link cable here
+
+  pub one_more : used_before stage (link + 1) ≡ used_before stage link ++ used_if systems (channel_of cable)
+  one_more = used_more systems (map channel_of stage.net.cables.items) link (channel_of cable) there
+
+  pub counted_more : is_used systems (channel_of cable) ≡ true
+      → length (used_before stage (link + 1)) ≡ length (used_before stage link) + 1
+  counted_more is =
+      let if_used : used_if systems (channel_of cable) ≡ joined (channel_of cable) ∷ [] = rw is refl in
+      let more = ap (λ (ls : List Link). length ls)
+      (one_more ∙ ap (λ (ls : List Link). used_before stage link ++ ls) if_used) in
+      omega (arith, more, length-append (used_before stage link) (joined (channel_of cable) ∷ []))
+
+  pub counted_same : is_used systems (channel_of cable) ≡ false
+      → length (used_before stage (link + 1)) ≡ length (used_before stage link)
+  counted_same is =
+      let if_used : used_if systems (channel_of cable) ≡ [] = rw is refl in
+      ap (λ (ls : List Link). length ls) (one_more
+      ∙ (ap (λ (ls : List Link). used_before stage link ++ ls) if_used ∙ append-nil (used_before stage link)))
+
+  pub stands_here : is_used systems (channel_of cable) ≡ true
+      → slice_get (used_in stage) (length (used_before stage link)) ≡ used systems (channel_of cable)
+  stands_here is =
+      used_here systems (map channel_of stage.net.cables.items) link (channel_of cable) there is
+      ∙ sym (used_yes systems (channel_of cable) is)
+
+-- before the end all stand
+pub used_all : (stage : Stage) (link : ℕ) → length stage.net.cables.items ≤ link
+    → used_before stage link ≡ used_in stage
+used_all stage link past =
+    ap (used_links (live_systems stage.stations.items))
+    (take_all link (map channel_of stage.net.cables.items)
+    (let long = length-map stage.net.cables.items channel_of in omega arith))

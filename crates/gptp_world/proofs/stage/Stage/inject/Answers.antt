@@ -1,0 +1,24 @@
+use Rattle.std.proofs.Common.{sym, ◌∙◌}
+use Rattle.gptp_world.proofs.PerformingLemmas.{injected, not_injected}
+use Rattle.gptp_world.proofs.TellingLemmas.{net_becomes}
+use Rattle.gptp_world.proofs.stage.Stage.inject.Goals as goal
+
+pub inject-requires-clause-up : goal.inject-requires-clause-up
+inject-requires-clause-up g c = λ cable here. sym (c.is_up.ensures cable here) ∙ c.if-is_up.true
+
+pub returns-then-is_up-clause-stage : goal.returns-then-is_up-clause-stage
+returns-then-is_up-clause-stage g c =
+    let e = c.inject.ensures in
+    net_becomes c.args.self.now c.inject.new.self c.requires.stage e.net e.directory e.systems
+
+pub returns-then-is_up-clause-injected : goal.returns-then-is_up-clause-injected
+returns-then-is_up-clause-injected g c =
+    let frame = c.requires.room.frame in
+    injected g.F.Fate.answers c.args.lane c.args.octets.now c.args.fate.now c.inject.new.fate c.args.self.now
+    c.inject.new.self frame.cable frame.here (sym (c.is_up.ensures frame.cable frame.here) ∙ c.if-is_up.true)
+    (c.inject.ensures.sent frame.cable frame.here)
+
+pub returns-else-is_up-clause-injected : goal.returns-else-is_up-clause-injected
+returns-else-is_up-clause-injected g c =
+    not_injected g.F.Fate.answers c.args.lane c.args.octets.now c.args.fate.now c.args.self.now
+    (λ cable here. sym c.if-is_up.false ∙ c.is_up.ensures cable here)

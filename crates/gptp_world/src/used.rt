@@ -1,0 +1,158 @@
+//! The links of a world's snapshot: those that are up between two live systems.
+
+ghost use Rattle.std.specs.Prelude.{◌≡◌, ◌<◌, ◌++◌, length, map, option_map, slice_get, IfOk, OnOk, Some};
+ghost use Rattle.gptp_kept.specs.Standing.{snapshot_of};
+
+use crate::cable::Lane;
+use crate::scene::Scene;
+use crate::stage::Stage;
+use gptp_links::Direction;
+use gptp_vector::PortId;
+use std::alloc::{AllocError, Global};
+
+impl Stage {
+    ghost use Rattle.std.specs.Prelude.{◌≡◌, ◌<◌, ◌++◌, ◌&&◌, length, map, option_map, slice_get, IfOk, OnOk, Some};
+    ghost use Rattle.gptp_acts.specs.World.{receiver};
+    ghost use Rattle.gptp_kept.specs.Standing.{has_clock, is_used, live_systems};
+    ghost use Rattle.gptp_world.specs.declared.cable.Cable.{Cable};
+    ghost use Rattle.gptp_world.specs.Cable.{channel_of};
+    ghost use Rattle.gptp_world.specs.Scene.{IsFounded};
+    ghost use Rattle.gptp_world.specs.Used.{link_of, used, used_if, used_in};
+
+    /// Whether the system lives at which a lane ends.
+    fn lives_behind(&self, lane: Lane) -> bool
+        requires founded { IsFounded self.now }
+        requires lane { lane.link < length self.now.net.cables.items }
+        ensures { (cable : Cable) → slice_get self.entry.now.net.cables.items lane.link ≡ Some cable
+            → result ≡ has_clock (live_systems self.entry.now.stations.items) (receiver lane.direction (channel_of cable)).clock }
+    {
+        self.stations[self.net.directory.receiver(lane)].live
+    }
+
+    /// Whether both systems that a link joins live.
+    fn joins_live(&self, link: usize) -> bool
+        requires founded { IsFounded self.now }
+        requires link { link < length self.now.net.cables.items }
+        ensures { (cable : Cable) → slice_get self.entry.now.net.cables.items link ≡ Some cable
+            → result ≡ (has_clock (live_systems self.entry.now.stations.items) cable.a.clock
+            && has_clock (live_systems self.entry.now.stations.items) cable.b.clock) }
+    {
+        let direction = Direction::FromB;
+        if !self.lives_behind(Lane { link, direction }) {
+            return false;
+        }
+        let direction = Direction::FromA;
+        self.lives_behind(Lane { link, direction })
+    }
+
+    /// Whether a link is up between two live systems.
+    fn is_in_use(&self, link: usize) -> bool
+        requires founded { IsFounded self.now }
+        requires link { link < length self.now.net.cables.items }
+        ensures { (cable : Cable) → slice_get self.entry.now.net.cables.items link ≡ Some cable
+            → result ≡ is_used (live_systems self.entry.now.stations.items) (channel_of cable) }
+    {
+        if !self.net.is_up(link) {
+            return false;
+        }
+        self.joins_live(link)
+    }
+
+    /// The two ports of a link that is up between two live systems; none of another.
+    fn used_link(&self, link: usize) -> Option<(PortId, PortId)>
+        requires founded { IsFounded self.now }
+        requires link { link < length self.now.net.cables.items }
+        ensures { (cable : Cable) → slice_get self.entry.now.net.cables.items link ≡ Some cable
+            → option_map link_of result ≡ used (live_systems self.entry.now.stations.items) (channel_of cable) }
+    {
+        if !self.is_in_use(link) {
+            return None;
+        }
+        let cable = &self.net.cables[link];
+        Some((cable.a, cable.b))
+    }
+
+    /// How many such links there are.
+    fn count_used(&self) -> usize
+        requires { IsFounded self.now }
+        ensures { result ≡ length (used_in self.entry.now) }
+    {
+        let mut count = 0;
+        for link in 0..self.net.cables.len() {
+            if self.is_in_use(link) {
+                count += 1;
+            }
+        }
+        count
+    }
+
+    /// The one at a place among them.
+    fn used_at(&self, place: usize) -> Option<(PortId, PortId)>
+        requires { IsFounded self.now }
+        ensures { option_map link_of result ≡ slice_get (used_in self.entry.now) place }
+    {
+        let mut before = 0;
+        for link in 0..self.net.cables.len() {
+            if self.is_in_use(link) {
+                if before == place {
+                    return self.used_link(link);
+                }
+                before += 1;
+            }
+        }
+        None
+    }
+
+    /// Puts a link behind others, where it is up between two live systems.
+    fn push_used(&self, link: usize, links: &mut Vec<(PortId, PortId)>) -> Result<(), AllocError>
+        requires founded { IsFounded self.now }
+        requires link { link < length self.now.net.cables.items }
+        ensures { (cable : Cable) → slice_get self.entry.now.net.cables.items link ≡ Some cable
+            → OnOk result (map link_of links.new.items ≡ map link_of links.old.items
+            ++ used_if (live_systems self.entry.now.stations.items) (channel_of cable)) }
+    {
+        match self.used_link(link) {
+            Some(ports) => Ok(links.push(ports)?),
+            None => Ok(()),
+        }
+    }
+
+    /// All of them.
+    fn list_used(&self, alloc: Global) -> Result<Vec<(PortId, PortId)>, AllocError>
+        requires { IsFounded self.now }
+        ensures { IfOk result (λ links. map link_of links.items ≡ used_in self.entry.now) }
+    {
+        let mut links = Vec::new(alloc);
+        for link in 0..self.net.cables.len() {
+            self.push_used(link, &mut links)?;
+        }
+        Ok(links)
+    }
+}
+
+impl Scene {
+    ghost use Rattle.std.specs.Prelude.{◌≡◌, length, map, option_map, slice_get, IfOk};
+    ghost use Rattle.gptp_kept.specs.Standing.{snapshot_of};
+    ghost use Rattle.gptp_world.specs.Used.{link_of};
+
+    /// How many links are up between two live systems.
+    pub(crate) fn links(&self) -> usize
+        ensures { result ≡ length (snapshot_of self.now).links }
+    {
+        self.stage.count_used()
+    }
+
+    /// The ports of the one at a place among them, in order of the links. Past the last there is none.
+    pub(crate) fn link_at(&self, place: usize) -> Option<(PortId, PortId)>
+        ensures { option_map link_of result ≡ slice_get (snapshot_of self.now).links place }
+    {
+        self.stage.used_at(place)
+    }
+
+    /// Those of all of them, in order of the links. Refused for want of memory alone.
+    pub(crate) fn list_links(&self, alloc: Global) -> Result<Vec<(PortId, PortId)>, AllocError>
+        ensures { IfOk result (λ links. map link_of links.items ≡ (snapshot_of self.now).links) }
+    {
+        self.stage.list_used(alloc)
+    }
+}
