@@ -1,23 +1,26 @@
 -- The world of two systems as it stands, and what it shows once they have settled.
 use Rattle.std.proofs.Common.{◌≡◌, ◌≢◌, ◌<◌, ◌≤◌, ◌+◌, ℕ, zero, suc, true, false, List, [], ◌∷◌, Option, Some, None, length, slice_get, refl, sym, ap, ap₂, subst, ◌∙◌, inl, inr, arith}
-use Rattle.std.specs.Prelude.{IfNone, IfSome}
+use Rattle.std.specs.Prelude.{◌⊎◌, IfNone, IfSome, reverse}
+use Rattle.std.proofs.lemmas.List.{reverse-reverse}
 use Rattle.std.proofs.lemmas.Option.{same_Some}
 use Rattle.std.proofs.lemmas.List.Sorted.{IsPermutation-refl}
 use native.Mathlib.Decide.{ℕ_discrete, dec_le, dec_lt}
 use Rattle.gptp_lists.specs.Members.{In}
 use Rattle.gptp_graph.specs.Distance.{IsDistance, IsNear}
 use Rattle.gptp_graph.specs.Labelling.{SystemLine}
+use Rattle.gptp_graph.specs.Path.{IsPath}
 use Rattle.gptp_graph.specs.Parent.{ParentLink}
 use Rattle.gptp_graph.specs.SettledChoice.{IsBestIdentity, IsSettledChoice, IsSettledLine}
 use Rattle.gptp_graph.specs.SettledRole as settled
 use Rattle.gptp_graph.specs.SettledRole.{IsMasterPort, IsSettledRole, IsSlavePort}
-use Rattle.gptp_graph.specs.Snapshot.{IsLinked, IsWellFormed, Link, Snapshot, System, port_of}
+use Rattle.gptp_graph.specs.Snapshot.{Adjacent, IsLinked, IsWellFormed, Link, Snapshot, System, port_of}
 use Rattle.gptp_graph.proofs.BestLemmas.{IsBest-unique}
 use Rattle.gptp_graph.proofs.DecisionLemmas.{dec_both, dec_either}
 use Rattle.gptp_graph.proofs.DistanceLemmas.{IsDistance-unique}
 use Rattle.gptp_graph.proofs.LinkDecisions.{PortIdentity-dec}
 use Rattle.gptp_graph.proofs.OrderLemmas.{IsLower-dec}
 use Rattle.gptp_graph.proofs.ParentLemmas.{IsParent-unique}
+use Rattle.gptp_graph.proofs.PathLemmas.{path_bounded}
 use Rattle.gptp_graph.proofs.RoleLemmas.{RoleBy-unique}
 use Rattle.gptp_graph.proofs.SoundLemmas.{sound}
 use Rattle.gptp_graph.proofs.SureTests.{sure_well_formed, sure_passes}
@@ -28,20 +31,25 @@ use Rattle.gptp_plan.specs.SettlingTime.{settling_span}
 use Rattle.gptp_acts.specs.Acts.{AtSystem}
 use Rattle.gptp_acts.specs.Advancing.{Advanced, Told}
 use Rattle.gptp_acts.specs.Prompt.{HavePace}
-use Rattle.gptp_acts.specs.Views.{HasPort, IsLiveSystem, ShowsLive}
+use Rattle.gptp_acts.specs.declared.station.Station.{Station}
+use Rattle.gptp_acts.specs.Sound.{IsSound}
+use Rattle.gptp_acts.specs.Views.{Follows, HasPort, IsLiveSystem, ShowsLive}
 use Rattle.gptp_acts.specs.World.{WorldState}
 use Rattle.gptp_network.specs.Document.{DocumentState}
 use Rattle.gptp_network.specs.Snapshot.{StandsAfter}
 use Rattle.gptp_roles.specs.declared.role.Role.{Role}
 use Rattle.gptp_roles.specs.declared.role.Role.TheVariants as roles
+use Rattle.gptp_settling.specs.Clean.{Clean, Whole}
+use Rattle.gptp_settling.specs.Frame.{Announce}
 use Rattle.gptp_settling.specs.Settled.{IsSlaveOf}
-use Rattle.gptp_system.specs.State.{SystemState, clock, is_capable_at}
+use Rattle.gptp_system.specs.State.{SystemState, clock, is_capable_at, trace}
 use Rattle.gptp_system.specs.Steps.{IsPortOf}
 use Rattle.gptp_kept.specs.Claimed.{Claimed}
 use Rattle.gptp_kept.specs.Settled.{role_of}
 use Rattle.gptp_kept.specs.Shown.{AreCapable, FollowsInTime, IsCapableInTime, IsEnabledInTime, IsSettledFor, PlaysInTime}
 use Rattle.gptp_kept.specs.CalmFor.{capable_span}
 use Rattle.gptp_kept.specs.Standing.{snapshot_of, standing}
+use Rattle.gptp_kept.specs.Traces.{IsCleanInTime, IsTraceClean, announced, turns_span}
 use Rattle.gptp_kept.proofs.SystemLemmas.{live_from, live_there}
 use Rattle.gptp_reached.specs.PlayedLaws.{IsReached}
 use Rattle.gptp_reached.specs.Reached.{StandsAs}
@@ -327,3 +335,51 @@ pub has_role : (w : WorldState) (found : Option Role) → IsPairAt 14000000000 w
     → IfNone found (AtSystem 2 w (HasPort 1) → ⊥) → found ≢ None
 has_role w None at none same = absurd (none (second_there 14000000000 w at))
 has_role w (Some role) at none same = absurd cc
+
+-- ---- what it announces
+
+-- the first alone is joined to the second
+only_neighbour : (other : ℕ) → Adjacent pair_snapshot 2 other → other ≡ 1
+only_neighbour other (m, n, inl (inl same)) =
+    absurd (let clock : 2 ≡ 1 = ap (λ (l : Link). l.a.clock) same in omega (arith, clock))
+only_neighbour other (m, n, inl (inr none)) = absurd none
+only_neighbour other (m, n, inr (inl same)) = ap (λ (l : Link). l.a.clock) same
+only_neighbour other (m, n, inr (inr none)) = absurd none
+
+-- a way of one link from the second leads to the first
+one_link : (end : ℕ) (others : List ℕ) → IsPath pair_snapshot 2 end others → length others ≡ 1 → others ≡ 1 ∷ []
+one_link end [] way long = absurd (omega (arith, long))
+one_link end (other ∷ []) way long = ap (λ x. x ∷ []) (only_neighbour other way.route.0)
+one_link end (other ∷ (more ∷ rest)) way long = absurd (omega (arith, long))
+
+announces : (trace : List ℕ) (s : Announce) → s.path ≡ trace → s.steps ≡ 1
+    → Clean pair_snapshot 4 2 trace ⊎ Whole pair_snapshot 2 s → trace ≡ 1 ∷ 2 ∷ []
+announces trace s same steps (inl clean) =
+    let few : length clean.others < 2 = path_bounded pair_snapshot 2 clean.end clean.others well_formed clean.way in
+    let long = clean.long in
+    absurd (omega (arith, few, long))
+announces trace s same steps (inr whole) =
+    let others : whole.others ≡ 1 ∷ [] = one_link whole.first.clock whole.others whole.way (whole.steps ∙ steps) in
+    let back : reverse trace ≡ 2 ∷ 1 ∷ [] =
+    ap reverse (sym same) ∙ whole.is ∙ ap (λ xs. 2 ∷ xs) others in
+    sym (reverse-reverse trace) ∙ ap reverse back
+
+pub second_announces : (w : WorldState) (s : SystemState) (root steps : ℕ) (port : Option ℕ) → IsPairAt 26000000000 w
+    → IsSound w → AtSystem 2 w (Follows root steps port) → FollowsInTime 2 w root steps port → ShowsLive 2 w s
+    → IsCleanInTime w s → trace s ≡ 1 ∷ 2 ∷ []
+second_announces w s root steps port at sound found settled shows shown =
+    let place : found.place ≡ shows.place =
+    sound.wired.clocks found.place shows.place found.station shows.station found.is.here shows.is.here
+    (found.is.named ∙ sym shows.is.named) in
+    let station : found.station ≡ shows.station =
+    same_Some found.station shows.station
+    (sym found.is.here ∙ ap (λ i. slice_get w.stations i) place ∙ shows.is.here) in
+    let (root_same, steps_same, port_same) = second_follows w root steps port at settled in
+    let one : s.steps ≡ 1 =
+    ap (λ (x : SystemState). x.steps) shows.state
+    ∙ ap (λ (x : Station). x.system.steps) (sym station) ∙ sym found.so.steps_are ∙ steps_same in
+    let named : clock s ≡ 2 = ap clock shows.state ∙ shows.is.named in
+    let is : IsTraceClean (snapshot_of w) 3 s = shown 3 (at.calm (turns_span 3) (omega arith)) in
+    let in_pair : IsTraceClean pair_snapshot 3 s = subst (λ g. IsTraceClean g 3 s) at.snapshot is in
+    announces (trace s) (announced s) refl one
+    (subst (λ v. Clean pair_snapshot 4 v (trace s) ⊎ Whole pair_snapshot v (announced s)) named in_pair)

@@ -1,11 +1,18 @@
 //! What is proved of two systems at rest, seen.
 
-use crate::drawn::{capable_in_time, enabled_in_time, follow_at_rest, play_at_rest};
+use crate::drawn::{
+    announce_at_rest, capable_in_time, enabled_in_time, follow_at_rest, play_at_rest,
+};
 use crate::same::same;
 use gptp_links::PcgFate;
 use gptp_roles::Role;
-use gptp_vector::Identity;
+use gptp_vector::{ClockId, Identity, Trace};
 use std::test::Fail;
+
+/// The clocks of a trace of two.
+fn clocks(trace: &Trace) -> (usize, Option<ClockId>, Option<ClockId>) {
+    (trace.len(), trace.get(0), trace.get(1))
+}
 
 #[test]
 fn two_systems_at_rest_are_as_proved(rt: HostRuntime) -> Result<(), Fail> {
@@ -19,6 +26,12 @@ fn two_systems_at_rest_are_as_proved(rt: HostRuntime) -> Result<(), Fail> {
         &rt,
         play_at_rest(rt.alloc(), PcgFate::new(1))?,
         (Some(Role::Master), Some(Role::Slave)),
+    );
+    let trace = announce_at_rest(rt.alloc(), PcgFate::new(1))?;
+    same(
+        &rt,
+        trace.as_ref().map(clocks),
+        Some((2, Some(ClockId::from(1)), Some(ClockId::from(2)))),
     );
     same(
         &rt,

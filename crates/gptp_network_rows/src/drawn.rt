@@ -1,7 +1,7 @@
 //! What two systems show once they have settled, as functions whose contracts follow from those of their world's calls:
 //! from what these say of every world that has been calm for long enough. Times are in ns.
 
-ghost use Rattle.std.specs.Prelude.{◌≡◌, ◌≢◌, ◌≤◌, true, IfOk, None, OnOk, Some};
+ghost use Rattle.std.specs.Prelude.{◌≡◌, ◌≢◌, ◌≤◌, ◌∷◌, [], true, IfOk, None, OnOk, Some};
 ghost use Rattle.gptp_acts.specs.Views.{ShowsLive};
 ghost use Rattle.gptp_kept.specs.Shown.{IsCapableInTime};
 ghost use Rattle.gptp_roles.specs.declared.role.Role.TheVariants.{Disabled, Master, Slave};
@@ -11,7 +11,7 @@ use arrayvec::ArrayVec;
 use gptp_links::Fate;
 use gptp_roles::Role;
 use gptp_system::System;
-use gptp_vector::{ClockId, Identity, PortId};
+use gptp_vector::{ClockId, Identity, PortId, Trace};
 use gptp_world::{Network, NetworkFault, Params, World};
 use std::alloc::Global;
 
@@ -157,6 +157,30 @@ pub fn play_at_rest<F: Fate + Drop>(
 {
     let world = pair_at(alloc, fate, SETTLED)?;
     Ok((first_plays(&world), second_plays(&world)))
+}
+
+/// The trace that the second system announces.
+#[tactic(auto, using(crate::proofs::PairLemmas::second_announces, crate::proofs::PairLemmas::second_lives))]
+fn second_announces<F: Fate + Drop>(world: &World<F>) -> Option<Trace>
+    requires { IsPairAt 26000000000 world.now.scene }
+    ensures { result ≡ Some (1 ∷ 2 ∷ []) }
+{
+    world.well_formed();
+    let _followed = world.follows(ClockId::from(2))?;
+    let system = world.system(ClockId::from(2))?;
+    Some(system.trace())
+}
+
+/// It announces, once all has settled, that the time came from the first, over nothing between. Refused for want of memory
+/// alone.
+pub fn announce_at_rest<F: Fate + Drop>(
+    alloc: Global,
+    fate: F,
+) -> Result<Option<Trace>, NetworkFault>
+    ensures { IfOk result (λ trace. trace ≡ Some (1 ∷ 2 ∷ [])) }
+{
+    let world = pair_at(alloc, fate, SETTLED)?;
+    Ok(second_announces(&world))
 }
 
 /// Whether the port of a system, which is the second, is capable.
