@@ -159,7 +159,7 @@ fn document_of(alloc: Global, line: &Line) -> Result<String, AllocError> {
     let mut text = format!(in alloc; "version = 1\n[network]\n{network}")?;
     for place in 0..line.systems {
         let drift = if place % 2 == 0 {
-            -line.drift
+            line.drift.saturating_neg()
         } else {
             line.drift
         };

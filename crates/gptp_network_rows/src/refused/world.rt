@@ -131,22 +131,23 @@ fn frame(rt: &HostRuntime) -> Result<Octets, Fail> {
     Ok(one_octet(rt.alloc())?)
 }
 
-/// So an injection: whether it was done in the end, and a world in which it was refused was as before.
-fn inject(rt: &HostRuntime, world: &mut World<PcgFate>, injection: &Timed) -> Result<bool, Fail>
+/// So an injection that was refused: whether it is done now, and the world was as before.
+fn inject_again(
+    rt: &HostRuntime,
+    world: &mut World<PcgFate>,
+    injection: &Timed,
+    before: &Shown,
+) -> Result<bool, Fail>
     requires moment { injection.now.at ≤ 1000000000000000 }
     requires fit { IsFitAct injection.now.act }
     requires prompt { IsPromptIn world.old.scene injection.now.act }
 {
-    let before = look_at(world);
-    if world.carry_out(injection).is_ok() {
-        return Ok(true);
-    }
     tell(rt, "carry_out")?;
-    let kept = look_at(world) == before;
+    let kept = look_at(world) == *before;
     Ok(world.carry_out(injection).is_ok() && kept)
 }
 
-/// So several in a row, of these octets.
+/// So several injections in a row, of these octets.
 fn inject_all(rt: &HostRuntime, world: &mut World<PcgFate>, octets: Octets) -> Result<bool, Fail> {
     let injection = Timed {
         at: SETTLED,
@@ -158,7 +159,10 @@ fn inject_all(rt: &HostRuntime, world: &mut World<PcgFate>, octets: Octets) -> R
     };
     let mut done = true;
     for _ in 0..INJECTIONS {
-        done = inject(rt, world, &injection)? && done;
+        let before = look_at(world);
+        if world.carry_out(&injection).is_err() {
+            done = inject_again(rt, world, &injection, &before)? && done;
+        }
     }
     Ok(done)
 }
