@@ -633,6 +633,6 @@ plain_with_clock words rows rows_are lacks (inr (inr (inr (inr (inr accuracy))))
 
 pub refused_order : (parsed : App) (words : List Text) (m : ArgMatches) (error : CommandLineError) → parsed ≡ program
     → HasMatchesOf parsed words m → (error ≡ Memory) ⊎ RefusesClock m → IsPlain words → error ≡ Memory
-refused_order parsed words m error is matches (inl memory) plain = memory
-refused_order parsed words m error is matches (inr (rows, rows_are, lacks)) plain =
-    absurd (plain_with_clock words rows (sym (rows_of_words parsed words m is matches) ∙ rows_are) lacks plain)
+refused_order parsed words m error is matches (inl memory) named = memory
+refused_order parsed words m error is matches (inr (rows, rows_are, lacks)) named =
+    absurd (plain_with_clock words rows (sym (rows_of_words parsed words m is matches) ∙ rows_are) lacks named)

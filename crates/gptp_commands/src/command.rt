@@ -474,6 +474,14 @@ fn clock_word<'a>(matches: &ArgMatches<'a>) -> &'a str
     matches.get_str("clock").unwrap_or("")
 }
 
+/// The error for a word that isn't a clock.
+fn refuse_clock(alloc: Global, word: &str) -> CommandLineError {
+    match String::from_str(alloc, word) {
+        Ok(word) => CommandLineError::NotClock(word),
+        Err(_) => CommandLineError::Memory,
+    }
+}
+
 /// What `explain` is asked for: the clock of the system, and the time of the network.
 fn explain_in(
     alloc: Global,
@@ -485,7 +493,7 @@ fn explain_in(
     let text = clock_word(matches);
     match clock_of(text) {
         Some(clock) => Ok((clock, until_in(matches))),
-        None => Err(CommandLineError::NotClock(String::from_str(alloc, text)?)),
+        None => Err(refuse_clock(alloc, text)),
     }
 }
 
