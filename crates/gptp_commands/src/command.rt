@@ -129,9 +129,7 @@ enum CommandLineError {
     #[error("{0}")]
     NotRead(clap::Error),
     /// A word isn't the clock that it ought to be.
-    #[error(
-        "error: invalid value '{0}' for '<CLOCK>': a clock is 16 hexadecimal digits\n\nFor more information, try '--help'.\n"
-    )]
+    #[error("error: invalid value '{0}' for '<CLOCK>': a clock is 16 hexadecimal digits\n\nFor more information, try '--help'.\n")]
     NotClock(String),
 }
 
