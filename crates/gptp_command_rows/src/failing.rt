@@ -1,11 +1,13 @@
 //! Devices of which each call fails in turn, for every command: a read that fails leaves nothing written, a write that
 //! fails a front of the text.
 
+use crate::far::clock;
 use crate::run::TWO;
 use crate::same::same_at;
 use gptp_commands::check::check;
 use gptp_commands::compare::compare_lines;
 use gptp_commands::failure::{SimError, Status};
+use gptp_commands::question::{Question, answer_question};
 use gptp_commands::run::{RunOptions, run};
 use gptp_commands::sink::{Sink, WriteFailed};
 use gptp_commands::source::{ReadFailed, Source};
@@ -92,13 +94,15 @@ enum Command {
     Compare,
     Run,
     Check,
+    Explain,
 }
 
 /// What each reads.
-const COMMANDS: [(Command, &str); 3] = [
+const COMMANDS: [(Command, &str); 4] = [
     (Command::Compare, "one two\n\none\n"),
     (Command::Run, TWO),
     (Command::Check, TWO),
+    (Command::Explain, TWO),
 ];
 
 /// How many calls pass: of the first source, of the second, and of the sink.
@@ -130,6 +134,13 @@ fn ended(
         Command::Compare => compare_lines(alloc, &mut source, &mut sink),
         Command::Run => run(alloc, &mut source, &mut sink, &OPTIONS),
         Command::Check => check(alloc, &mut source, &mut other, &mut sink, None),
+        Command::Explain => {
+            let question = Question::Explain {
+                clock: clock(2),
+                until: None,
+            };
+            answer_question(alloc, &mut source, &mut sink, question)
+        }
     };
     (outcome, sink.device)
 }

@@ -39,7 +39,7 @@ fn write_link(text: &mut String, number: u16, next: u16) -> Result<(), AllocErro
 }
 
 /// So many systems in a line, with clocks from 1; Syncs are rare.
-fn line(alloc: Global, systems: u16) -> Result<String, AllocError> {
+pub fn line(alloc: Global, systems: u16) -> Result<String, AllocError> {
     let mut text = String::from_str(alloc, "version = 1\n[network]\nsync = 4\n")?;
     for number in 1..systems {
         write_system(&mut text, number)?;

@@ -1,10 +1,10 @@
 -- The words that the parser takes of the program's command line: what it finds wrong with any others.
-use Rattle.std.proofs.Common.{◌≡◌, ◌⊎◌, inl, inr, ℕ, suc, Bool, true, false, ◌==◌, List, [], ◌∷◌, Option, Some, None, length, codes, bytes_eq, refl, sym, subst, ap, ap₂, ◌∙◌, arith, chars, slice_get, drop}
+use Rattle.std.proofs.Common.{◌≡◌, ◌⊎◌, inl, inr, ℕ, suc, Bool, true, false, ◌==◌, List, [], ◌∷◌, Option, Some, None, Result, Ok, Err, length, codes, bytes_eq, refl, sym, subst, ap, ap₂, ◌∙◌, arith, chars, slice_get, slice_index, drop}
 use Rattle.std.proofs.lemmas.Slice.Eq.{bytes_eq-Decides}
 use Rattle.std.specs.Option.{option_map_or}
 use Rattle.std.specs.Prelude.{Box, cond, is_some, option_and_then, option_map, unwrap_or}
 use Rattle.std.specs.Box.{box_value}
-use Rattle.clap.specs.Words.{App, HasKind, HasMatchesOf, Kinds, Row, kind_of, subcommand_name_of, subcommand_of, subcommand_rows, subcommand_rows_of}
+use Rattle.clap.specs.Words.{App, HasKind, HasMatchesOf, Kinds, Row, kind_of, first_of, subcommand_name_of, subcommand_of, subcommand_rows, subcommand_rows_of}
 use Rattle.clap.specs.declared.parser.matches.ArgMatches.{ArgMatches}
 use Rattle.clap.specs.declared.parser.matches.ArgMatches.TheViews.{out-ArgMatches, out-SubCommand}
 use Rattle.clap.specs.declared.parser.matches.SubCommand.{SubCommand}
@@ -18,11 +18,16 @@ use Rattle.clap.specs.Simple.{Shape, built, built_leaf, entered, filled_from, he
 use Rattle.clap.specs.Faults.{built_fault, check_fault, defaults_fault, level_fault, settle_fault, word_fault, bundle_fault, bundle_step_fault, entered_fault, flag_word_fault, fault_of, flags_fault, is_simple_and_free, long_fault, short_fault, step_fault, stray_fault, turn_fault, walk_fault}
 use Rattle.clap.proofs.WalkLemmas.{walk_stopped}
 use Rattle.clap.proofs.OnLiterals.{clap_on_literals}
-use Rattle.gptp_commands.specs.Command.{AsksFor, BeginsWith, Enters, IsCompare, IsNoOption, IsPlain, OrderIsInRange, QuestionIsInRange, ReadsQuestion, check_command, name_of, program}
+use Rattle.gptp_network.specs.Values.{clock_of_text}
+use Rattle.gptp_network.specs.declared.fault.DocumentFault.{DocumentFault}
+use Rattle.gptp_network.specs.declared.fault.DocumentFault.TheVariants.{OutOfRange}
+use Rattle.gptp_commands.specs.Command.{AsksFor, BeginsWith, Enters, IsCompare, IsNoOption, IsPlain, LacksClock, OrderIsInRange, QuestionIsInRange, ReadsQuestion, RefusesClock, check_command, explain_command, name_of, program}
+use Rattle.gptp_commands.specs.declared.command.CommandLineError.{CommandLineError}
+use Rattle.gptp_commands.specs.declared.command.CommandLineError.TheVariants.{Memory}
 use Rattle.gptp_commands.specs.declared.command.Order.{Order}
 use Rattle.gptp_commands.specs.declared.command.Order.TheVariants.{Ask, Check, Compare, Run}
 use Rattle.gptp_commands.specs.declared.question.Question.{Question}
-use Rattle.gptp_commands.specs.declared.question.Question.TheVariants.{Accuracy, Choice}
+use Rattle.gptp_commands.specs.declared.question.Question.TheVariants.{Accuracy, Choice, Explain}
 
 -- ---- faults, of which the first that there is counts
 
@@ -186,6 +191,12 @@ stops_at_accuracy words =
     ap (λ (w : Walk). w.stopped)
     (sym (walk_stopped help_rules names (walk_from nothing_held) (codes "accuracy") [] words))
 
+stops_at_explain : (words : List Text) → stop (codes "explain" ∷ words) ≡ Some (codes "explain", words)
+unfolding walked
+stops_at_explain words =
+    ap (λ (w : Walk). w.stopped)
+    (sym (walk_stopped help_rules names (walk_from nothing_held) (codes "explain") [] words))
+
 -- the words behind `compare` are left to it
 words_behind : (words : List Text) → fault (codes "compare" ∷ words) ≡ [] → (words ≡ []) ⊎ (words ≡ codes "--" ∷ [])
 words_behind words none =
@@ -217,7 +228,8 @@ named words (inr mark) = inr (rw mark refl)
 -- the commands with options
 abbrev IsOther : Text → Type 0
 IsOther name =
-    (name ≡ codes "run") ⊎ ((name ≡ codes "check") ⊎ ((name ≡ codes "choice") ⊎ (name ≡ codes "accuracy")))
+    (name ≡ codes "run") ⊎ ((name ≡ codes "check") ⊎ ((name ≡ codes "choice")
+    ⊎ ((name ≡ codes "accuracy") ⊎ (name ≡ codes "explain"))))
 
 -- one of the commands is named
 abbrev NamesOne : List Text → Type 0
@@ -229,32 +241,40 @@ begins name word words other same =
     inr (name, other, (words, ap (λ first. first ∷ words) (sym ((bytes_eq-Decides name word).0 same))))
 
 -- by what the first word is
-first_word : (is_compare is_run is_check is_choice is_accuracy is_help is_mark : Bool) (word : Text) (words : List Text)
+first_word : (is_compare is_run is_check is_choice is_accuracy is_explain is_help is_mark : Bool) (word : Text)
+    (words : List Text)
     → bytes_eq (codes "compare") word ≡ is_compare → bytes_eq (codes "run") word ≡ is_run
     → bytes_eq (codes "check") word ≡ is_check → bytes_eq (codes "choice") word ≡ is_choice
-    → bytes_eq (codes "accuracy") word ≡ is_accuracy → bytes_eq (codes "help") word ≡ is_help
+    → bytes_eq (codes "accuracy") word ≡ is_accuracy → bytes_eq (codes "explain") word ≡ is_explain
+    → bytes_eq (codes "help") word ≡ is_help
     → bytes_eq word (codes "--") ≡ is_mark → fault (word ∷ words) ≡ [] → NamesOne (word ∷ words)
 unfolding walk_fault
-first_word true is_run is_check is_choice is_accuracy is_help is_mark word words compare run check choice accuracy help
-    mark none =
+first_word true is_run is_check is_choice is_accuracy is_explain is_help is_mark word words compare run check choice
+    accuracy explain help mark none =
     let word_is : codes "compare" ≡ word = (bytes_eq-Decides (codes "compare") word).0 compare in
     inl (rw (← word_is) (named words (words_behind words (rw (← word_is) at none))))
-first_word false true is_check is_choice is_accuracy is_help is_mark word words compare run check choice accuracy help
-    mark none = begins (codes "run") word words (inl refl) run
-first_word false false true is_choice is_accuracy is_help is_mark word words compare run check choice accuracy help mark
-    none = begins (codes "check") word words (inr (inl refl)) check
-first_word false false false true is_accuracy is_help is_mark word words compare run check choice accuracy help mark
-    none = begins (codes "choice") word words (inr (inr (inl refl))) choice
-first_word false false false false true is_help is_mark word words compare run check choice accuracy help mark none =
-    begins (codes "accuracy") word words (inr (inr (inr refl))) accuracy
-first_word false false false false false true is_mark word words compare run check choice accuracy help mark none =
+first_word false true is_check is_choice is_accuracy is_explain is_help is_mark word words compare run check choice
+    accuracy explain help mark none = begins (codes "run") word words (inl refl) run
+first_word false false true is_choice is_accuracy is_explain is_help is_mark word words compare run check choice
+    accuracy explain help mark none = begins (codes "check") word words (inr (inl refl)) check
+first_word false false false true is_accuracy is_explain is_help is_mark word words compare run check choice accuracy
+    explain help mark none = begins (codes "choice") word words (inr (inr (inl refl))) choice
+first_word false false false false true is_explain is_help is_mark word words compare run check choice accuracy explain
+    help mark none = begins (codes "accuracy") word words (inr (inr (inr (inl refl)))) accuracy
+first_word false false false false false true is_help is_mark word words compare run check choice accuracy explain help
+    mark none = begins (codes "explain") word words (inr (inr (inr (inr refl)))) explain
+first_word false false false false false false true is_mark word words compare run check choice accuracy explain help
+    mark none =
     let word_is : codes "help" ≡ word = (bytes_eq-Decides (codes "help") word).0 help in
     absurd (help_asked words (rw (← word_is) at none))
-first_word false false false false false false true word words compare run check choice accuracy help mark none =
+first_word false false false false false false false true word words compare run check choice accuracy explain help mark
+    none =
     let word_is : word ≡ codes "--" = (bytes_eq-Decides word (codes "--")).0 mark in
     absurd (mark_alone words (rw word_is at none))
-first_word false false false false false false false word words compare run check choice accuracy help mark none =
-    let no_name : subcommand_met names idle word ≡ None = rw (compare, run, check, choice, accuracy, help) refl in
+first_word false false false false false false false false word words compare run check choice accuracy explain help
+    mark none =
+    let no_name : subcommand_met names idle word ≡ None =
+    rw (compare, run, check, choice, accuracy, explain, help) refl in
     absurd (strange top names word no_name mark (first_none _ _ (walk_finds_none (word ∷ words) none)))
 
 -- no word at all
@@ -266,9 +286,9 @@ words_named : (words : List Text) → fault words ≡ [] → NamesOne words
 words_named [] none = absurd (nothing_named none)
 words_named (word ∷ words) none =
     first_word (bytes_eq (codes "compare") word) (bytes_eq (codes "run") word) (bytes_eq (codes "check") word)
-    (bytes_eq (codes "choice") word) (bytes_eq (codes "accuracy") word) (bytes_eq (codes "help") word)
-    (bytes_eq word (codes "--")) word words
-    refl refl refl refl refl refl refl none
+    (bytes_eq (codes "choice") word) (bytes_eq (codes "accuracy") word) (bytes_eq (codes "explain") word)
+    (bytes_eq (codes "help") word) (bytes_eq word (codes "--")) word words
+    refl refl refl refl refl refl refl refl none
 
 -- ---- the command that the parser enters is the one that is named
 
@@ -288,7 +308,8 @@ enters_other : (words : List Text) (name : Text) → IsOther name → BeginsWith
 enters_other words name (inl is) (others, begins) = rw (begins, is, stops_at_run others) refl
 enters_other words name (inr (inl is)) (others, begins) = rw (begins, is, stops_at_check others) refl
 enters_other words name (inr (inr (inl is))) (others, begins) = rw (begins, is, stops_at_choice others) refl
-enters_other words name (inr (inr (inr is))) (others, begins) = rw (begins, is, stops_at_accuracy others) refl
+enters_other words name (inr (inr (inr (inl is)))) (others, begins) = rw (begins, is, stops_at_accuracy others) refl
+enters_other words name (inr (inr (inr (inr is)))) (others, begins) = rw (begins, is, stops_at_explain others) refl
 
 -- it enters one command only
 one_name : (words : List Text) (name other : Text) → entered_name words ≡ Some name → entered_name words ≡ Some other
@@ -306,8 +327,11 @@ not_compare name (inr (inl is)) same =
 not_compare name (inr (inr (inl is))) same =
     let count : ◌≡◌ {A = ℕ} 7 6 = ap length (same ∙ is) in
     absurd (omega arith)
-not_compare name (inr (inr (inr is))) same =
+not_compare name (inr (inr (inr (inl is)))) same =
     let count : ◌≡◌ {A = ℕ} 7 8 = ap length (same ∙ is) in
+    absurd (omega arith)
+not_compare name (inr (inr (inr (inr is)))) same =
+    let last : ◌≡◌ {A = ℕ} 101 110 = ap (λ text. slice_index text 6) (same ∙ is) in
     absurd (omega arith)
 
 -- `compare`, where the parser entered none of the others
@@ -353,7 +377,8 @@ accepted_words parsed words is accepted = words_named (drop 1 words) (rw is at a
 -- the command of a question is one of the others
 question_other : (question : Question) → IsOther (name_of question)
 question_other (Choice until) = inr (inr (inl refl))
-question_other (Accuracy until max_error) = inr (inr (inr refl))
+question_other (Accuracy until max_error) = inr (inr (inr (inl refl)))
+question_other (Explain clock until) = inr (inr (inr (inr refl)))
 
 -- what the matches ask for is what the words ask for
 pub asked : (parsed : App) (words : List Text) (m : ArgMatches) (order : Order) → parsed ≡ program
@@ -368,7 +393,10 @@ asked parsed words m Compare is matches accepted entered =
         | inl check ↦ entered.1 (same ∙ entered_is ∙ ap Some check)
         | inr l ↦ elim l [
           | inl choice ↦ entered.2 (same ∙ entered_is ∙ ap Some choice)
-          | inr accuracy ↦ entered.3 (same ∙ entered_is ∙ ap Some accuracy)
+          | inr j ↦ elim j [
+            | inl accuracy ↦ entered.3 (same ∙ entered_is ∙ ap Some accuracy)
+            | inr explain ↦ entered.4 (same ∙ entered_is ∙ ap Some explain)
+          ]
         ]
       ]
     ])
@@ -395,6 +423,7 @@ question_in_range : (rows : List Row) (question : Question) → ReadsQuestion ro
     → QuestionIsInRange question
 question_in_range rows (Choice until) reads = reads.range
 question_in_range rows (Accuracy until max_error) reads = (reads.0.range, reads.1.range)
+question_in_range rows (Explain clock until) reads = reads.1.range
 
 pub asked_in_range : (words : List Text) (order : Order) → AsksFor words order → OrderIsInRange order
 asked_in_range words Compare asks = tt
@@ -402,7 +431,8 @@ asked_in_range words (Run options) asks = (asks.1.2.until.range, asks.1.2.seed.r
 asked_in_range words (Check options) asks = asks.1.2.until.range
 asked_in_range words (Ask question) asks = question_in_range asks.1.0 question asks.1.2
 
--- `check` with a file alone
+-- ---- a command whose one value is a word: `check` with a file, `explain` with a clock
+
 no_mark : (word : Text) → IsNoOption word → bytes_eq word (codes "--") ≡ false
 no_mark [] no_option = refl
 no_mark (x ∷ xs) no_option = no_hyphen (x == 45) refl
@@ -434,65 +464,95 @@ value_passes s word no_option =
     ∙ ap (λ short. option_map_or (λ flags. bundle_fault s.rules s.args_override_self flags nothing_held) short [])
     (no_short word no_option)
 
+-- the walk over it
+value_walked : (s : Shape) (word : Text) → IsNoOption word
+    → walked s.rules [] (walk_from nothing_held) word
+    ≡ after_step s.rules word (walk_from nothing_held) nothing_held value_step
+unfolding walked
+value_walked s word no_option =
+    ap (λ (met : Held × Step). after_step s.rules word (walk_from nothing_held) met.0 met.1)
+    (value_met s.rules word no_option)
+
+-- nothing is wrong with it where the command takes a value
+value_taken : (s : Shape) (word : Text) → IsNoOption word → step_fault s 1 nothing_held value_step ≡ []
+    → walk_fault s [] (walk_from nothing_held) (word ∷ []) ≡ []
+unfolding walk_fault
+value_taken s word no_option takes =
+    ap₂ (λ (as_flag : Kinds) (met : Held × Step). or_else (or_else as_flag (step_fault s 1 met.0 met.1)) [])
+    (value_passes s word no_option) (value_met s.rules word no_option)
+    ∙ ap (λ stray. or_else stray []) takes
+
+-- where the walk stands behind it
+abbrev behind : Shape → Text → Walk
+behind s word = after_step s.rules word (walk_from nothing_held) nothing_held value_step
+
+-- what is wrong behind the command, by what is wrong in the walk and by its end
+abbrev wrong_behind : Shape → Kinds → Walk → Kinds
+wrong_behind s in_walk end =
+    or_else in_walk (or_else [] (or_else (settle_fault s.rules s.args_override_self end.held)
+    (or_else (defaults_fault (settled s.rules end.held).rows s.rules)
+    (check_fault s (finished s.rules end.held) false))))
+
+value_behind : (s : Shape) (word : Text) → IsNoOption word → step_fault s 1 nothing_held value_step ≡ []
+    → wrong_behind s [] (behind s word) ≡ [] → level_fault s [] nothing_held (word ∷ []) false [] ≡ []
+value_behind s word no_option takes none =
+    ap₂ (wrong_behind s) (value_taken s word no_option takes) (value_walked s word no_option) ∙ none
+
+-- the command with its name, by what is wrong behind that and above it
+plain_value : (name word : Text) → stop (name ∷ word ∷ []) ≡ Some (name, word ∷ [])
+    → entered_fault (built program) (Some (name, word ∷ [])) ≡ []
+    → is_some (entered (built program) (Some (name, word ∷ []))) ≡ true
+    → level_fault (built program).top names nothing_held (name ∷ word ∷ []) true [] ≡ []
+    → fault (name ∷ word ∷ []) ≡ []
+plain_value name word stops right has above =
+    ap₂ (level_fault (built program).top names nothing_held (name ∷ word ∷ []))
+    (ap (λ stopped. is_some (entered (built program) stopped)) stops ∙ has)
+    (ap (entered_fault (built program)) stops ∙ right)
+    ∙ above
+
 abbrev checking : Shape
 checking = built_leaf check_command.top
 
--- the walk over it
-file_walked : (file : Text) → IsNoOption file → walked checking.rules [] (walk_from nothing_held) file
-    ≡ after_step checking.rules file (walk_from nothing_held) nothing_held value_step
-unfolding walked
-file_walked file no_option =
-    ap (λ (met : Held × Step). after_step checking.rules file (walk_from nothing_held) met.0 met.1)
-    (value_met checking.rules file no_option)
-
-file_passes : (file : Text) → IsNoOption file → walk_fault checking [] (walk_from nothing_held) (file ∷ []) ≡ []
-unfolding walk_fault
-file_passes file no_option =
-    ap₂ (λ (as_flag : Kinds) (met : Held × Step). or_else (or_else as_flag (step_fault checking 1 met.0 met.1)) [])
-    (value_passes checking file no_option) (value_met checking.rules file no_option)
-
--- what is wrong behind `check`, by what is wrong in the walk and by its end
-abbrev wrong_behind : Kinds → Walk → Kinds
-wrong_behind in_walk end =
-    or_else in_walk (or_else [] (or_else (settle_fault checking.rules checking.args_override_self end.held)
-    (or_else (defaults_fault (settled checking.rules end.held).rows checking.rules)
-    (check_fault checking (finished checking.rules end.held) false))))
-
-nothing_wrong : (file : Text)
-    → wrong_behind [] (after_step checking.rules file (walk_from nothing_held) nothing_held value_step) ≡ []
+file_right : (file : Text) → wrong_behind checking [] (behind checking file) ≡ []
 unfolding clap_on_literals
-nothing_wrong file = refl
-
-file_behind : (file : Text) → IsNoOption file → level_fault checking [] nothing_held (file ∷ []) false [] ≡ []
-file_behind file no_option =
-    ap₂ wrong_behind (file_passes file no_option) (file_walked file no_option) ∙ nothing_wrong file
-
-file_entered : (file : Text) → IsNoOption file → entered_fault (built program) (stop (codes "check" ∷ file ∷ [])) ≡ []
-file_entered file no_option =
-    ap (entered_fault (built program)) (stops_at_check (file ∷ [])) ∙ file_behind file no_option
+file_right file = refl
 
 above_check : (file : Text) → level_fault (built program).top names nothing_held (codes "check" ∷ file ∷ []) true []
     ≡ []
 unfolding clap_on_literals
 above_check file = refl
 
-has_check : (file : Text) → is_some (entered (built program) (stop (codes "check" ∷ file ∷ []))) ≡ true
-has_check file = ap (λ stopped. is_some (entered (built program) stopped)) (stops_at_check (file ∷ []))
-
 plain_file : (file : Text) → IsNoOption file → fault (codes "check" ∷ file ∷ []) ≡ []
 plain_file file no_option =
-    ap₂ (level_fault (built program).top names nothing_held (codes "check" ∷ file ∷ [])) (has_check file)
-    (file_entered file no_option)
-    ∙ above_check file
+    plain_value (codes "check") file (stops_at_check (file ∷ []))
+    (value_behind checking file no_option refl (file_right file)) refl (above_check file)
+
+abbrev explaining : Shape
+explaining = built_leaf explain_command.top
+
+clock_right : (clock : Text) → wrong_behind explaining [] (behind explaining clock) ≡ []
+unfolding clap_on_literals
+clock_right clock = refl
+
+above_explain : (clock : Text)
+    → level_fault (built program).top names nothing_held (codes "explain" ∷ clock ∷ []) true [] ≡ []
+unfolding clap_on_literals
+above_explain clock = refl
+
+plain_clock : (clock : Text) → IsNoOption clock → fault (codes "explain" ∷ clock ∷ []) ≡ []
+plain_clock clock no_option =
+    plain_value (codes "explain") clock (stops_at_explain (clock ∷ []))
+    (value_behind explaining clock no_option refl (clock_right clock)) refl (above_explain clock)
 
 none_wrong : (words : List Text) → IsPlain words → fault_of program words ≡ []
 unfolding clap_on_literals
 none_wrong words (inl (inl compare)) = rw compare refl
 none_wrong words (inl (inr compare)) = rw compare refl
 none_wrong words (inr (inl check)) = rw check.1.0 (plain_file check.0 check.1.1)
-none_wrong words (inr (inr (inl run))) = rw run refl
-none_wrong words (inr (inr (inr (inl choice)))) = rw choice refl
-none_wrong words (inr (inr (inr (inr accuracy)))) = rw accuracy refl
+none_wrong words (inr (inr (inl explain))) = rw explain.1.0 (plain_clock explain.0 explain.1.1)
+none_wrong words (inr (inr (inr (inl run)))) = rw run refl
+none_wrong words (inr (inr (inr (inr (inl choice))))) = rw choice refl
+none_wrong words (inr (inr (inr (inr (inr accuracy))))) = rw accuracy refl
 
 no_kind : (error : Error) → HasKind [] error → kind_of error ≡ OutOfMemory
 no_kind error (inl memory) = memory
@@ -505,3 +565,74 @@ pub refused_words : (parsed : App) (words : List Text) (error : Error) → parse
 refused_words parsed words error is refused named =
     let kinds : HasKind (fault_of program words) error = rw is at refused refl in
     no_kind error (rw (none_wrong words named) at kinds)
+
+-- ---- a clock that isn't one
+
+-- what is found for the clock of the command that is entered
+abbrev clock_in : Option (Text × List Row) → Option Text
+clock_in = option_and_then (λ p. first_of (codes "clock") p.1)
+
+clock_walked : (clock : Text) → first_of (codes "clock") (finished explaining.rules (behind explaining clock).held)
+    ≡ Some clock
+unfolding clap_on_literals
+clock_walked clock = refl
+
+-- it is the word behind `explain`, where nothing else is
+clock_found : (clock : Text) → IsNoOption clock
+    → clock_in (entered (built program) (stop (codes "explain" ∷ clock ∷ []))) ≡ Some clock
+clock_found clock no_option =
+    ap (λ stopped. clock_in (entered (built program) stopped)) (stops_at_explain (clock ∷ []))
+    ∙ ap (λ (end : Walk). first_of (codes "clock") (finished explaining.rules end.held))
+    (value_walked explaining clock no_option)
+    ∙ clock_walked clock
+
+-- a text can't be both
+abbrev is_read : Result ℕ DocumentFault → ℕ
+is_read (Ok clock) = 1
+is_read (Err fault) = 0
+
+clock_or_not : (text : Text) (clock : ℕ) (fault : DocumentFault) → clock_of_text text ≡ Ok clock
+    → clock_of_text text ≡ Err fault → ⊥
+clock_or_not text clock fault is isn't =
+    let count : ◌≡◌ {A = ℕ} 1 0 = ap is_read (sym is ∙ isn't) in
+    absurd (omega arith)
+
+-- a command that is entered has its own name
+same_length : (words : List Text) (name : Text) → IsOther name → BeginsWith name words
+    → entered_name words ≡ Some (codes "explain") → length name ≡ 7
+same_length words name other begins entered_is =
+    ap length (one_name words name (codes "explain") (enters_other words name other begins) entered_is)
+
+-- the words that name a command and nothing that may be left out don't lack a clock
+plain_with_clock : (words : List Text) (rows : List Row) → subcommand_of program words ≡ Some (codes "explain", rows)
+    → LacksClock rows → IsPlain words → ⊥
+plain_with_clock words rows rows_are lacks (inl compare) =
+    not_compare (codes "explain") (inr (inr (inr (inr refl))))
+    (one_name (drop 1 words) (codes "compare") (codes "explain") (enters_compare (drop 1 words) compare)
+    (ap name_in rows_are))
+plain_with_clock words rows rows_are lacks (inr (inl (file, check))) =
+    let count : ◌≡◌ {A = ℕ} 5 7 = same_length (drop 1 words) (codes "check") (inr (inl refl)) (file ∷ [], check.0)
+    (ap name_in rows_are) in
+    absurd (omega arith)
+plain_with_clock words rows rows_are lacks (inr (inr (inl (clock, explain)))) =
+    let found : clock_in (subcommand_of program words) ≡ Some clock =
+    ap (λ after. clock_in (entered (built program) (stop after))) explain.0 ∙ clock_found clock explain.1 in
+    let first : first_of (codes "clock") rows ≡ Some clock = sym (ap clock_in rows_are) ∙ found in
+    clock_or_not clock explain.2.0 OutOfRange explain.2.1 (lacks clock first)
+plain_with_clock words rows rows_are lacks (inr (inr (inr (inl run)))) =
+    let count : ◌≡◌ {A = ℕ} 3 7 = same_length (drop 1 words) (codes "run") (inl refl) ([], run) (ap name_in rows_are) in
+    absurd (omega arith)
+plain_with_clock words rows rows_are lacks (inr (inr (inr (inr (inl choice))))) =
+    let count : ◌≡◌ {A = ℕ} 6 7 = same_length (drop 1 words) (codes "choice") (inr (inr (inl refl))) ([], choice)
+    (ap name_in rows_are) in
+    absurd (omega arith)
+plain_with_clock words rows rows_are lacks (inr (inr (inr (inr (inr accuracy))))) =
+    let count : ◌≡◌ {A = ℕ} 8 7 = same_length (drop 1 words) (codes "accuracy") (inr (inr (inr (inl refl))))
+    ([], accuracy) (ap name_in rows_are) in
+    absurd (omega arith)
+
+pub refused_order : (parsed : App) (words : List Text) (m : ArgMatches) (error : CommandLineError) → parsed ≡ program
+    → HasMatchesOf parsed words m → (error ≡ Memory) ⊎ RefusesClock m → IsPlain words → error ≡ Memory
+refused_order parsed words m error is matches (inl memory) named = memory
+refused_order parsed words m error is matches (inr (rows, rows_are, lacks)) named =
+    absurd (plain_with_clock words rows (sym (rows_of_words parsed words m is matches) ∙ rows_are) lacks named)

@@ -1,5 +1,5 @@
 -- Command lines that are read: what the parser is told, and the words that it takes then.
-use Rattle.std.specs.Prelude.{◌≡◌, ◌≢◌, ◌⊎◌, ◌<◌, ◌≤◌, ◌^◌, ⊤, IfSome, ℕ, Bool, true, false, List, [], ◌∷◌, Option, Some, None, drop, codes, string_bytes}
+use Rattle.std.specs.Prelude.{◌≡◌, ◌≢◌, ◌⊎◌, ◌<◌, ◌≤◌, ◌^◌, ⊤, IfSome, ℕ, Bool, true, false, List, [], ◌∷◌, Option, Some, None, Ok, Err, drop, codes, string_bytes}
 use Rattle.std.specs.Str.Parse.{IsNumeral, digits_value, without_leading_plus}
 use Rattle.clap.specs.Words.{App, Row, Rule, first_of, new_app, new_rule, one_of, subcommand_name_of, subcommand_of, subcommand_rows_of, with_rule, with_subcommand}
 use Rattle.clap.specs.Lexer.{strip_byte}
@@ -7,13 +7,15 @@ use Rattle.clap.specs.declared.builder.action.ArgAction.TheVariants.{Set, SetTru
 use Rattle.clap.specs.declared.builder.value_parser.ValueParser.TheVariants.{Unsigned}
 use Rattle.clap.specs.declared.parser.matches.ArgMatches.{ArgMatches}
 use Rattle.clap.specs.Simple.{on_top}
+use Rattle.gptp_network.specs.Values.{clock_of_text}
+use Rattle.gptp_network.specs.declared.fault.DocumentFault.TheVariants.{OutOfRange}
 use Rattle.gptp_commands.specs.declared.command.CheckOptions.{CheckOptions}
 use Rattle.gptp_commands.specs.declared.command.CommandLineError.{CommandLineError}
-use Rattle.gptp_commands.specs.declared.command.CommandLineError.TheVariants.{Memory, NotText, NotRead}
+use Rattle.gptp_commands.specs.declared.command.CommandLineError.TheVariants.{Memory, NotText, NotRead, NotClock}
 use Rattle.gptp_commands.specs.declared.command.Order.{Order}
 use Rattle.gptp_commands.specs.declared.command.Order.TheVariants.{Ask, Check, Compare, Run}
 use Rattle.gptp_commands.specs.declared.question.Question.{Question}
-use Rattle.gptp_commands.specs.declared.question.Question.TheVariants.{Accuracy, Choice}
+use Rattle.gptp_commands.specs.declared.question.Question.TheVariants.{Accuracy, Choice, Explain}
 use Rattle.gptp_commands.specs.declared.run.RunOptions.{RunOptions}
 
 -- `--until NS`, at most 10^15
@@ -57,8 +59,13 @@ certificate_rule =
 abbrev pub file_rule : Rule
 file_rule = record (new_rule (codes "file")) { action = Some Set; value_names = 1; required = true }
 
+-- `CLOCK`, which has to be given
+abbrev pub clock_rule : Rule
+clock_rule = record (new_rule (codes "clock")) { action = Some Set; value_names = 1; required = true }
+
 -- the command `compare`, which has no options, the command `run`, which has four, the command `check`, which has a file
--- and one option, the command `choice`, which has one option, and the command `accuracy`, which has two
+-- and one option, the command `choice`, which has one option, the command `accuracy`, which has two, and the command
+-- `explain`, which has a clock and one option
 abbrev pub compare_command : App
 compare_command = new_app (codes "compare")
 
@@ -78,6 +85,9 @@ choice_command = with_rule (new_app (codes "choice")) until_rule
 abbrev pub accuracy_command : App
 accuracy_command = with_rule (with_rule (new_app (codes "accuracy")) until_rule) max_error_rule
 
+abbrev pub explain_command : App
+explain_command = with_rule (with_rule (new_app (codes "explain")) clock_rule) until_rule
+
 -- the program with its commands, of which one has to be named; first with `compare` alone
 abbrev pub first_program : App
 first_program =
@@ -89,7 +99,9 @@ abbrev pub simulating_program : App
 simulating_program = with_subcommand (with_subcommand first_program run_command.top) check_command.top
 
 abbrev pub program : App
-program = with_subcommand (with_subcommand simulating_program choice_command.top) accuracy_command.top
+program =
+    with_subcommand (with_subcommand (with_subcommand simulating_program choice_command.top) accuracy_command.top)
+    explain_command.top
 
 -- ---- the words that name a command
 
@@ -119,6 +131,14 @@ IsNoOption text = strip_byte 45 text ≡ None
 abbrev pub ChecksOnly : List ℕ → List (List ℕ) → Type 0
 ChecksOnly file words = (drop 1 words ≡ codes "check" ∷ file ∷ []) × IsNoOption file
 
+-- 16 hexadecimal digits, of either case, as in documents
+abbrev pub IsClock : List ℕ → Type 0
+IsClock text = (clock : ℕ) × (clock_of_text text ≡ Ok clock)
+
+-- `explain` with a clock and nothing else
+abbrev pub ExplainsOnly : List ℕ → List (List ℕ) → Type 0
+ExplainsOnly clock words = (drop 1 words ≡ codes "explain" ∷ clock ∷ []) × IsNoOption clock × IsClock clock
+
 -- a command by its name alone
 abbrev pub IsBare : List ℕ → List (List ℕ) → Type 0
 IsBare name words = drop 1 words ≡ name ∷ []
@@ -126,8 +146,8 @@ IsBare name words = drop 1 words ≡ name ∷ []
 -- a command with nothing that may be left out: such a command line is read
 abbrev pub IsPlain : List (List ℕ) → Type 0
 IsPlain words =
-    NamesCompare words ⊎ (((file : List ℕ) × ChecksOnly file words)
-    ⊎ (IsBare (codes "run") words ⊎ (IsBare (codes "choice") words ⊎ IsBare (codes "accuracy") words)))
+    NamesCompare words ⊎ (((file : List ℕ) × ChecksOnly file words) ⊎ (((clock : List ℕ) × ExplainsOnly clock words)
+    ⊎ (IsBare (codes "run") words ⊎ (IsBare (codes "choice") words ⊎ IsBare (codes "accuracy") words))))
 
 -- ---- the options, by the texts that the parser finds
 
@@ -170,16 +190,25 @@ pub record ReadsCheck (rows : List Row) (options : CheckOptions) : Type 0 where
   pub file : (text : List ℕ) → first_of (codes "file") rows ≡ Some text → string_bytes options.file ≡ text
   pub until : IsUntil (one_of (codes "until") rows) options.until
 
+-- the clock of `explain` is one, by its text, or isn't
+abbrev pub ReadsClock : List Row → ℕ → Type 0
+ReadsClock rows clock = (text : List ℕ) → first_of (codes "clock") rows ≡ Some text → clock_of_text text ≡ Ok clock
+
+abbrev pub LacksClock : List Row → Type 0
+LacksClock rows = (text : List ℕ) → first_of (codes "clock") rows ≡ Some text → clock_of_text text ≡ Err OutOfRange
+
 -- what a question asks, by what was found for the arguments of its command
 abbrev pub ReadsQuestion : List Row → Question → Type 0
 ReadsQuestion rows (Choice until) = IsUntil (one_of (codes "until") rows) until
 ReadsQuestion rows (Accuracy until max_error) =
     IsUntil (one_of (codes "until") rows) until × IsUntil (one_of (codes "max-error") rows) max_error
+ReadsQuestion rows (Explain clock until) = ReadsClock rows clock × IsUntil (one_of (codes "until") rows) until
 
 -- the command that asks it
 abbrev pub name_of : Question → List ℕ
 name_of (Choice until) = codes "choice"
 name_of (Accuracy until max_error) = codes "accuracy"
+name_of (Explain clock until) = codes "explain"
 
 -- ---- what a command line asks for
 
@@ -201,9 +230,14 @@ abbrev pub Enters : ArgMatches → Order → Type 0
 Enters m Compare =
     (subcommand_name_of m ≢ Some (codes "run")) × (subcommand_name_of m ≢ Some (codes "check"))
     × (subcommand_name_of m ≢ Some (codes "choice")) × (subcommand_name_of m ≢ Some (codes "accuracy"))
+    × (subcommand_name_of m ≢ Some (codes "explain"))
 Enters m (Run options) = IsRunOf (subcommand_rows_of m) options
 Enters m (Check options) = IsCheckOf (subcommand_rows_of m) options
 Enters m (Ask question) = IsQuestionOf (subcommand_rows_of m) question
+
+-- the command that was entered is `explain`, with no clock
+abbrev pub RefusesClock : ArgMatches → Type 0
+RefusesClock m = (rows : List Row) × (subcommand_rows_of m ≡ Some (codes "explain", rows)) × LacksClock rows
 
 -- what its words ask for: the command that they name, with what the parser finds behind its name
 abbrev pub AsksFor : List (List ℕ) → Order → Type 0
@@ -221,6 +255,7 @@ AreInRange options = IsEndInRange options.until × (options.seed < 2 ^ 32)
 abbrev pub QuestionIsInRange : Question → Type 0
 QuestionIsInRange (Choice until) = IsEndInRange until
 QuestionIsInRange (Accuracy until max_error) = IsEndInRange until × IsEndInRange max_error
+QuestionIsInRange (Explain clock until) = IsEndInRange until
 
 -- the numbers of the options of a command are in their ranges
 abbrev pub OrderIsInRange : Order → Type 0
@@ -240,3 +275,4 @@ abbrev pub command_line_status : CommandLineError → ℕ
 command_line_status Memory = 3
 command_line_status (NotText error) = 2
 command_line_status (NotRead error) = 2
+command_line_status (NotClock text) = 2

@@ -5,9 +5,10 @@ use Rattle.gptp_network.specs.declared.fault.DocumentFault.TheVariants.{TooMany}
 use Rattle.gptp_network.specs.Document.{DocumentState, Fails, Means}
 use Rattle.gptp_commands.specs.declared.failure.Status.{Status}
 use Rattle.gptp_commands.specs.declared.question.Question.{Question}
-use Rattle.gptp_commands.specs.declared.question.Question.TheVariants.{Accuracy, Choice}
+use Rattle.gptp_commands.specs.declared.question.Question.TheVariants.{Accuracy, Choice, Explain}
 use Rattle.gptp_commands.specs.AccuracyText.{TellsAccuracy}
 use Rattle.gptp_commands.specs.ChoiceText.{ChoosesAt}
+use Rattle.gptp_commands.specs.ExplainText.{ExplainsAt}
 use Rattle.gptp_commands.specs.Limited.{Limited}
 use Rattle.gptp_commands.specs.RunText.{document_limit, RefusesFault}
 
@@ -15,6 +16,7 @@ use Rattle.gptp_commands.specs.RunText.{document_limit, RefusesFault}
 abbrev pub Answers : Question → DocumentState → List (List ℕ) → Status → Type 0
 Answers (Choice until) d output status = ChoosesAt d until output status
 Answers (Accuracy until max_error) d output status = TellsAccuracy d until max_error output status
+Answers (Explain clock until) d output status = ExplainsAt d until clock output status
 
 -- an input is a document, of which the question is answered, or fails a test
 abbrev pub AnswersInput : Question → List ℕ → List (List ℕ) → Status → Type 0

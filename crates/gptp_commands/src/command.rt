@@ -1,16 +1,18 @@
 //! The command line: which command runs, and how the process ends.
 
-ghost use Rattle.std.specs.Prelude.{◌≡◌, ◌⊎◌, ◌≤◌, IfErr, IfOk, codes, false, map, string_bytes};
+ghost use Rattle.std.specs.Prelude.{◌≡◌, ◌⊎◌, ◌≤◌, List, ℕ, Err, IfErr, IfNone, IfOk, IfSome, Ok, Some, codes, false, map, string_bytes};
 ghost use Rattle.std.specs.Process.{exit_status as process_status};
-ghost use Rattle.clap.specs.Words.{app_of, found_of, one_text, rows_of, rule_of};
+ghost use Rattle.clap.specs.Words.{app_of, first_of, found_of, one_text, rows_of, rule_of};
 ghost use Rattle.clap.specs.declared.builder.command.Command.TheViews.{out-Command as fields_of};
-ghost use Rattle.gptp_commands.specs.Command.{AsksFor, Enters, IsPlain, IsUntil, IsSeed, OrderIsInRange, ReadsCheck, ReadsQuestion, ReadsRun};
+ghost use Rattle.gptp_commands.specs.Command.{AsksFor, Enters, IsPlain, IsUntil, IsSeed, LacksClock, OrderIsInRange, ReadsCheck, ReadsQuestion, ReadsRun, RefusesClock};
 ghost use Rattle.gptp_commands.specs.Command.{IsEndInRange, command_line_status, program};
-ghost use Rattle.gptp_commands.specs.Command.{certificate_rule, file_rule, frames_rule, max_error_rule, seed_rule, until_rule};
-ghost use Rattle.gptp_commands.specs.Command.{accuracy_command, check_command, choice_command, first_program, played_command, run_command};
+ghost use Rattle.gptp_commands.specs.Command.{certificate_rule, clock_rule, file_rule, frames_rule, max_error_rule, seed_rule, until_rule};
+ghost use Rattle.gptp_commands.specs.Command.{accuracy_command, check_command, choice_command, explain_command, first_program, played_command, run_command};
 ghost use Rattle.gptp_commands.specs.Command.{simulating_program};
 ghost use Rattle.gptp_commands.specs.declared.command.CommandLineError.TheVariants.{Memory};
-ghost use Rattle.gptp_commands.specs.declared.question.Question.TheVariants.{Accuracy, Choice};
+ghost use Rattle.gptp_network.specs.Values.{clock_of_text};
+ghost use Rattle.gptp_network.specs.declared.fault.DocumentFault.TheVariants.{OutOfRange};
+ghost use Rattle.gptp_commands.specs.declared.question.Question.TheVariants.{Accuracy, Choice, Explain};
 
 use crate::check::check;
 use crate::compare::compare_lines;
@@ -21,6 +23,8 @@ use crate::source::{CountedReader, Source};
 use clap::error::ErrorKind;
 use clap::{Arg, ArgAction, ArgMatches, Command};
 use gptp_report::sink::{CountedWriter, Sink};
+use gptp_vector::ClockId;
+use hex::FromHex;
 use std::alloc::{AllocError, Global};
 use std::env::{self, Env};
 use std::fs;
@@ -82,6 +86,13 @@ Output: the time from which on it holds, and each system with its root, its step
 time may be from the root's, in ns, rounded up. Where links lose frames or are too long it is none.
 Example: gptp_sim accuracy --max-error 1000 < examples/ring.toml";
 
+/// What help says of the input of `explain`.
+const EXPLAIN_HELP: &str = "\
+Input: standard input, a document in TOML of at most 32 MiB (33,554,432 octets).
+Output: what the system with this clock follows once the network has settled and why that is better, over which
+systems, why each of its ports has its role, and the systems by rank: who would be next.
+Example: gptp_sim explain 0080e1fffe00000c < examples/ring.toml";
+
 /// What is asked of `check`.
 #[derive(Debug, Drop, PartialEq, Eq)]
 pub struct CheckOptions {
@@ -117,6 +128,9 @@ enum CommandLineError {
     /// The words name no command. The parser's text has its own line feeds.
     #[error("{0}")]
     NotRead(clap::Error),
+    /// A word isn't the clock that it ought to be.
+    #[error("error: invalid value '{0}' for '<CLOCK>': a clock is 16 hexadecimal digits\n\nFor more information, try '--help'.\n")]
+    NotClock(String),
 }
 
 impl CommandLineError {
@@ -126,7 +140,9 @@ impl CommandLineError {
     {
         match self {
             CommandLineError::Memory => exit_status(&Err(SimError::Memory)),
-            CommandLineError::NotText(_) | CommandLineError::NotRead(_) => NOT_READ,
+            CommandLineError::NotText(_)
+            | CommandLineError::NotRead(_)
+            | CommandLineError::NotClock(_) => NOT_READ,
         }
     }
 }
@@ -249,6 +265,18 @@ fn file_argument<'a>(alloc: Global) -> Arg<'a>
         .help("The file that holds the certificate")
 }
 
+/// The argument of `explain` that says which system is meant.
+fn clock_argument<'a>(alloc: Global) -> Arg<'a>
+    ensures rule { rule_of result ≡ clock_rule }
+    ensures local { result.global ≡ false }
+{
+    Arg::new(alloc, "clock")
+        .required(true)
+        .action(ArgAction::Set)
+        .value_name("CLOCK")
+        .help("The clock of the system that is meant, 16 hexadecimal digits")
+}
+
 /// The command `run` with the options that say how the network runs.
 fn played_grammar<'a>(alloc: Global) -> Result<Command<'a>, AllocError>
     ensures app { IfOk result (λ command. app_of command ≡ played_command) }
@@ -309,6 +337,18 @@ fn accuracy_grammar<'a>(alloc: Global) -> Result<Command<'a>, AllocError>
         .arg(max_error_option(alloc))
 }
 
+/// The command `explain` with its clock and its option.
+fn explain_grammar<'a>(alloc: Global) -> Result<Command<'a>, AllocError>
+    ensures app { IfOk result (λ command. app_of command ≡ explain_command) }
+    ensures local { IfOk result (λ command. (fields_of command).has_globals ≡ false) }
+{
+    Command::new(alloc, "explain")
+        .about("Says why a system follows whom it follows, without a run")
+        .after_help(EXPLAIN_HELP)
+        .arg(clock_argument(alloc))?
+        .arg(until_option(alloc, MOMENT_HELP))
+}
+
 /// The program with its first command, of which one has to be named.
 fn first_grammar<'a>(alloc: Global) -> Result<Command<'a>, AllocError>
     ensures app { IfOk result (λ command. app_of command ≡ first_program) }
@@ -339,7 +379,8 @@ fn grammar<'a>(alloc: Global) -> Result<Command<'a>, AllocError>
 {
     simulating_grammar(alloc)?
         .subcommand(choice_grammar(alloc)?)?
-        .subcommand(accuracy_grammar(alloc)?)
+        .subcommand(accuracy_grammar(alloc)?)?
+        .subcommand(explain_grammar(alloc)?)
 }
 
 /// The number of ns that an option gives. The parser lets no number through that is above the most.
@@ -412,9 +453,52 @@ fn accuracy_in(matches: &ArgMatches) -> (Option<u64>, Option<u64>)
     (until_in(matches), max_error_in(matches))
 }
 
+/// The clock that a text spells: 16 hexadecimal digits of either case, as in documents.
+fn clock_of(text: &str) -> Option<ClockId>
+    ensures some { IfSome result (λ clock. clock_of_text text.now ≡ Ok clock) }
+    ensures none { IfNone result (clock_of_text text.now ≡ Err OutOfRange) }
+{
+    match <[u8; 8] as FromHex>::from_hex(text) {
+        Ok(octets) => Some(ClockId::of_octets(octets)),
+        Err(_) => None,
+    }
+}
+
+/// The word that `explain` has for a clock. The parser lets no command line through that has none.
+fn clock_word<'a>(matches: &ArgMatches<'a>) -> &'a str
+    ensures { (text : List ℕ) → first_of (codes "clock") (rows_of (found_of matches.now)) ≡ Some text
+        → result.now ≡ text }
+{
+    matches.get_str("clock").unwrap_or("")
+}
+
+/// The error for a word that isn't a clock.
+fn refuse_clock(alloc: Global, word: &str) -> CommandLineError {
+    match String::from_str(alloc, word) {
+        Ok(word) => CommandLineError::NotClock(word),
+        Err(_) => CommandLineError::Memory,
+    }
+}
+
+/// What `explain` is asked for: the clock of the system, and the time of the network.
+fn explain_in(
+    alloc: Global,
+    matches: &ArgMatches,
+) -> Result<(ClockId, Option<u64>), CommandLineError>
+    ensures asks { IfOk result (λ asked. ReadsQuestion (rows_of (found_of matches.now)) (Explain asked.0 asked.1)) }
+    ensures refused { IfErr result (λ e. (e ≡ Memory) ⊎ LacksClock (rows_of (found_of matches.now))) }
+{
+    let text = clock_word(matches);
+    match clock_of(text) {
+        Some(clock) => Ok((clock, until_in(matches))),
+        None => Err(refuse_clock(alloc, text)),
+    }
+}
+
 /// What is asked for, by the command that the parser entered.
-fn order_in(alloc: Global, matches: &ArgMatches) -> Result<Order, AllocError>
-    ensures { IfOk result (Enters matches.now) }
+fn order_in(alloc: Global, matches: &ArgMatches) -> Result<Order, CommandLineError>
+    ensures asks { IfOk result (Enters matches.now) }
+    ensures refused { IfErr result (λ e. (e ≡ Memory) ⊎ RefusesClock matches.now) }
 {
     match matches.subcommand() {
         Some(("run", matches)) => Ok(Order::Run(options_in(matches))),
@@ -426,6 +510,10 @@ fn order_in(alloc: Global, matches: &ArgMatches) -> Result<Order, AllocError>
             let (until, max_error) = accuracy_in(matches);
             Ok(Order::Ask(Question::Accuracy { until, max_error }))
         }
+        Some(("explain", matches)) => match explain_in(alloc, matches) {
+            Ok((clock, until)) => Ok(Order::Ask(Question::Explain { clock, until })),
+            Err(error) => Err(error),
+        },
         _ => Ok(Order::Compare),
     }
 }
@@ -434,13 +522,13 @@ fn order_in(alloc: Global, matches: &ArgMatches) -> Result<Order, AllocError>
 /// options.
 ///
 /// NotRead where they name no command, or anything that the command doesn't take, or ask for help;
-/// Memory.
+/// NotClock where a word isn't the clock that it ought to be; Memory.
 fn read_words(alloc: Global, words: &[String]) -> Result<Order, CommandLineError>
     ensures asks { IfOk result (AsksFor (map string_bytes words.now)) }
     ensures refused { IfErr result (λ e. IsPlain (map string_bytes words.now) → e ≡ Memory) }
 {
     let matches = grammar(alloc)?.try_get_matches_from(words)?;
-    Ok(order_in(alloc, &matches)?)
+    order_in(alloc, &matches)
 }
 
 /// Reads the command line.

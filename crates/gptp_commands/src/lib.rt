@@ -19,6 +19,7 @@ mod choice;
 pub mod command;
 pub mod compare;
 mod documents;
+mod explain;
 pub mod failure;
 pub mod laws;
 mod lines;

@@ -11,6 +11,7 @@ ghost use Rattle.gptp_commands.specs.Written.{Writes, WritesFront};
 use crate::accuracy::tell_accuracy;
 use crate::choice::choose_at;
 use crate::documents::{DOCUMENT_LIMIT, refuse};
+use crate::explain::explain_at;
 use crate::failure::{SimError, Status};
 use crate::output::Output;
 use crate::reading::read_whole;
@@ -18,6 +19,7 @@ use crate::source::Source;
 use gptp_network::{Document, DocumentFault};
 use gptp_report::sink::Sink;
 use gptp_report::write_whole;
+use gptp_vector::ClockId;
 use std::alloc::Global;
 
 /// What is asked of a document. Each has the time of the network that is meant, in ns, at most 10^15: the network as it
@@ -35,6 +37,12 @@ pub enum Question {
         until: Option<u64>,
         max_error: Option<u64>,
     },
+    /// `explain`: why the live system with a clock follows whom it follows at that choice, over which systems, why each of
+    /// its ports has its role, and who would be next.
+    Explain {
+        clock: ClockId,
+        until: Option<u64>,
+    },
 }
 
 /// The text for a document.
@@ -51,6 +59,7 @@ fn answer_document(
         Question::Accuracy { until, max_error } => {
             tell_accuracy(alloc, document, until, max_error)
         }
+        Question::Explain { clock, until } => explain_at(alloc, document, until, clock),
     }
 }
 
