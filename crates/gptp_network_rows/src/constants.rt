@@ -352,7 +352,7 @@ fn settles_in_time(
 
 #[test]
 fn constants(rt: HostRuntime) -> Result<(), Fail> {
-    for seed in 1..=12 {
+    for seed in 1..=20 {
         let world = begun(rt.alloc(), BOUNDS, seed)?;
         assert!(rt; settles_in_time(world, &ALIKE_BEFORE, &ALIKE_AFTER)?);
         let world = mixed(rt.alloc(), BOUNDS, seed)?;
