@@ -48,7 +48,7 @@ use Rattle.gptp_kept.specs.Claimed.{Claimed}
 use Rattle.gptp_kept.specs.Settled.{role_of}
 use Rattle.gptp_kept.specs.Shown.{AreCapable, FollowsInTime, IsCapableInTime, IsEnabledInTime, IsSettledFor, PlaysInTime}
 use Rattle.gptp_kept.specs.CalmFor.{capable_span}
-use Rattle.gptp_kept.specs.Standing.{snapshot_of, standing}
+use Rattle.gptp_kept.specs.Standing.{live_systems, snapshot_of, standing}
 use Rattle.gptp_kept.specs.Traces.{IsCleanInTime, IsTraceClean, announced, turns_span}
 use Rattle.gptp_kept.proofs.SystemLemmas.{live_from, live_there}
 use Rattle.gptp_reached.specs.PlayedLaws.{IsReached}
@@ -61,7 +61,7 @@ use Rattle.gptp_network_rows.specs.Pair.{HasBegun, IsPairAt, first, pair_network
 -- ---- the network
 
 -- nothing happens to it
-document : DocumentState
+abbrev document : DocumentState
 document = record { network = pair_network; events = [] }
 
 pace_is : pace_of pair_network ≡ pair_pace
@@ -79,7 +79,7 @@ stands_after = record {
   links = refl;
 }
   where
-    later : (y : ℕ) → _
+    later : (y : ℕ) → In y (2 ∷ []) → 1 < y
     later y (inl same) = omega arith
     later y (inr none) = absurd none
 
@@ -101,9 +101,11 @@ module _ {F : Type 0} (answers : Bounds → ℕ → F → Option ℕ → F → T
   so : StandsAs pair_network [] w
   so = reached.stands
 
+  systems : live_systems w.stations ≡ pair_snapshot.systems
+  systems = systems_stand pair_network [] w so reached.sound
+
   snapshot : snapshot_of w ≡ pair_snapshot
-  snapshot = ap₂ (λ (ss : List System) (ls : List Link). record { systems = ss; links = ls })
-      (systems_stand pair_network [] w so reached.sound)
+  snapshot = ap₂ (λ (ss : List System) (ls : List Link). record { systems = ss; links = ls }) systems
       (snapshots_stand pair_network [] w pair_snapshot so reached.sound stands_after).1
 
   have_pace : HavePace (pace_of pair_network) w
@@ -116,7 +118,7 @@ module _ {F : Type 0} (answers : Bounds → ℕ → F → Option ℕ → F → T
       pace = pair_pace;
       set = subst (λ p. HavePace p w) pace_is have_pace;
       quiet = quiet_stands pair_network [] w so calm;
-      late = rw (so.last, snapshot, reached.now) early;
+      late = rw (so.last, systems, reached.now) (omega (arith, early));
     };
   }
 
@@ -308,13 +310,24 @@ first_plays w role at shown = is_master role (role_shown w 1 role at near_first 
 
 -- ---- what its calls answer
 
-pub followed : (w : WorldState) (found : Option (ℕ × ℕ × Option ℕ)) → IsPairAt 26000000000 w
+followed_second : (w : WorldState) (found : Option (ℕ × ℕ × Option ℕ)) → IsPairAt 26000000000 w
     → IfSome found (λ f. FollowsInTime 2 w f.0 f.1 f.2) → IfNone found (AtSystem 2 w IsLiveSystem → ⊥)
     → found ≡ Some (first, 1, Some 1)
-followed w None at some none = absurd (none (second_lives 26000000000 w at))
-followed w (Some (root, steps, port)) at some none =
+followed_second w None at some none = absurd (none (second_lives 26000000000 w at))
+followed_second w (Some (root, steps, port)) at some none =
     let (root_same, steps_same, port_same) = second_follows w root steps port at some in
     rw (root_same, steps_same, port_same) refl
+
+pub followed : (w : WorldState) (clock : ℕ) (found : Option (ℕ × ℕ × Option ℕ)) → clock ≡ 2
+    → IsPairAt 26000000000 w → IfSome found (λ f. FollowsInTime clock w f.0 f.1 f.2)
+    → IfNone found (AtSystem clock w IsLiveSystem → ⊥) → found ≡ Some (first, 1, Some 1)
+followed w clock found named at some none =
+    followed_second w found at (subst (λ c. IfSome found (λ f. FollowsInTime c w f.0 f.1 f.2)) named some)
+    (subst (λ c. IfNone found (AtSystem c w IsLiveSystem → ⊥)) named none)
+
+-- the second lives, by a clock that is its
+pub lives : (time : ℕ) (w : WorldState) (clock : ℕ) → clock ≡ 2 → IsPairAt time w → AtSystem clock w IsLiveSystem
+lives time w clock named at = subst (λ c. AtSystem c w IsLiveSystem) (sym named) (second_lives time w at)
 
 pub first_played : (w : WorldState) (found : Option Role) → IsPairAt 26000000000 w → IfSome found (PlaysInTime 1 1 w)
     → IfNone found (AtSystem 1 w (HasPort 1) → ⊥) → found ≡ Some roles.Master
