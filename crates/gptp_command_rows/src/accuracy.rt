@@ -208,10 +208,6 @@ residence = 1_000_000_000
 #[test]
 fn bridges_cost_the_error_of_the_rate(rt: HostRuntime) -> Result<(), Fail> {
     let alloc = rt.alloc();
-    let question = Question::Accuracy {
-        until: None,
-        max_error: None,
-    };
     for (line, want) in [
         (THREE, "time 0 calm yes from 32030002400\n"),
         (
@@ -240,6 +236,10 @@ system 0000000000000100 root f6f8fe436af80000000000000001 far 255 error none
         ),
     ] {
         let document = document_of(alloc, &line)?;
+        let question = Question::Accuracy {
+            until: None,
+            max_error: None,
+        };
         let (text, status) = asked(alloc, document.as_bytes(), question)?;
         let text = str::from_utf8(text.as_slice())?;
         same_at(&rt, &want, text.contains(want), true);
