@@ -3,8 +3,8 @@
 ghost use Rattle.std.specs.Prelude.{◌≤◌};
 
 use crate::ring::{
-    CAPABLE, FAILS, FOLLOWED_BEFORE, INTERVAL, SETTLED, begun, clock, fail, follow, is_settled,
-    mixed,
+    FAILS, FOLLOWED, FOLLOWED_BEFORE, Followed, Played, ROLES, ROLES_BEFORE, begun, clock, fail,
+    follow, identity, mixed, play,
 };
 use gptp_links::PcgFate;
 use gptp_messages::{AnnounceView, Message, PathView, decode};
@@ -14,64 +14,129 @@ use gptp_world::{Done, Refused, World};
 use std::alloc::Global;
 use std::test::Fail;
 
-/// How many acts a run may have from the failure on.
+/// How many acts a stretch may have.
 const ACTS: u32 = 100_000;
 
-/// From when on an Announce that arrives was sent since ports are capable: one announce interval later.
-const SENT_SINCE: u64 = CAPABLE + INTERVAL;
+/// So many ns.
+const SECOND: u64 = 1_000_000_000;
 
-/// A turn: k + 1 announce intervals, k being 3.
-const TURN: u64 = 4 * INTERVAL;
-
-/// From when on what holds.
+/// From when on what holds, in a stretch between two changes. All is counted from the earlier one, or from the start, in
+/// announce intervals, of which the largest in the network counts.
 struct Times {
-    /// Ports are capable, where they can be.
+    /// Ports are capable, where they can be: after L + 5 intervals, L being 9.
     capable: u64,
-    /// So many clocks at the end of a trace are clean: one more with each turn. Only three live, so from the fourth on a
-    /// trace is clean as a whole.
-    clean: [(usize, u64); 4],
-    /// Everything has settled.
+    /// So many clocks at the end of a trace are clean: one, of those that arrive an interval later, and one more with each
+    /// turn of k + 1 intervals, k being 3; or the trace is clean as a whole. Where fewer live, it is so as a whole.
+    clean: [(usize, u64); 5],
+    /// Everything has settled: after (k + 3) n + L + 5 intervals, where n systems live.
     settled: u64,
-    /// A run ends, a while later.
+    /// The stretch ends.
     end: u64,
 }
 
-/// Where all ports have the same interval.
-const ALIKE: Times = Times {
-    capable: CAPABLE,
+/// From the start on, where all ports announce each second.
+const ALIKE_BEFORE: Times = Times {
+    capable: 14 * SECOND,
     clean: [
-        (4, SENT_SINCE + 3 * TURN),
-        (3, SENT_SINCE + 2 * TURN),
-        (2, SENT_SINCE + TURN),
-        (1, SENT_SINCE),
+        (5, 31 * SECOND),
+        (4, 27 * SECOND),
+        (3, 23 * SECOND),
+        (2, 19 * SECOND),
+        (1, 15 * SECOND),
     ],
-    settled: SETTLED,
-    end: SETTLED + 2 * TURN,
+    settled: 38 * SECOND,
+    end: FAILS - 1,
 };
 
-/// Where some have twice that: it is the largest, and so all takes twice as long from the failure on.
-const MIXED: Times = Times {
-    capable: 2 * CAPABLE - FAILS,
+/// From the failure on.
+const ALIKE_AFTER: Times = Times {
+    capable: 54 * SECOND,
     clean: [
-        (4, 2 * (SENT_SINCE + 3 * TURN) - FAILS),
-        (3, 2 * (SENT_SINCE + 2 * TURN) - FAILS),
-        (2, 2 * (SENT_SINCE + TURN) - FAILS),
-        (1, 2 * SENT_SINCE - FAILS),
+        (5, 71 * SECOND),
+        (4, 67 * SECOND),
+        (3, 63 * SECOND),
+        (2, 59 * SECOND),
+        (1, 55 * SECOND),
     ],
-    settled: 2 * SETTLED - FAILS,
-    end: 2 * (SETTLED + 2 * TURN) - FAILS,
+    settled: 72 * SECOND,
+    end: 80 * SECOND,
 };
 
-/// A clock, a port, and whether a live system is at the other end of its link.
-const LINKED: [(u8, u8, bool); 7] = [
-    (2, 1, false),
-    (2, 2, true),
-    (2, 3, true),
-    (3, 1, true),
-    (3, 2, true),
-    (4, 1, true),
-    (4, 2, true),
-];
+/// From the start on, where some ports announce each two seconds: then all takes twice as long, some longer than there is
+/// until the failure.
+const MIXED_BEFORE: Times = Times {
+    capable: 28 * SECOND,
+    clean: [
+        (5, 62 * SECOND),
+        (4, 54 * SECOND),
+        (3, 46 * SECOND),
+        (2, 38 * SECOND),
+        (1, 30 * SECOND),
+    ],
+    settled: 76 * SECOND,
+    end: FAILS - 1,
+};
+
+/// From the failure on.
+const MIXED_AFTER: Times = Times {
+    capable: 68 * SECOND,
+    clean: [
+        (5, 102 * SECOND),
+        (4, 94 * SECOND),
+        (3, 86 * SECOND),
+        (2, 78 * SECOND),
+        (1, 70 * SECOND),
+    ],
+    settled: 104 * SECOND,
+    end: 120 * SECOND,
+};
+
+/// What lives in a stretch, and what it settles at.
+struct Live<'a> {
+    /// Whether clock 1 does.
+    first: bool,
+    /// The clocks of the live systems that links join.
+    joined: &'a [(u8, u8)],
+    /// A clock, a port, and whether a live system is at the other end of its link.
+    linked: &'a [(u8, u8, bool)],
+    followed: &'a [Followed],
+    played: &'a [Played],
+}
+
+/// All four systems, before the failure.
+const BEFORE: Live<'static> = Live {
+    first: true,
+    joined: &[(1, 2), (2, 3), (2, 4), (3, 4)],
+    linked: &[
+        (1, 1, true),
+        (2, 1, true),
+        (2, 2, true),
+        (2, 3, true),
+        (3, 1, true),
+        (3, 2, true),
+        (4, 1, true),
+        (4, 2, true),
+    ],
+    followed: &FOLLOWED_BEFORE,
+    played: &ROLES_BEFORE,
+};
+
+/// The ring that is left.
+const AFTER: Live<'static> = Live {
+    first: false,
+    joined: &[(2, 3), (2, 4), (3, 4)],
+    linked: &[
+        (2, 1, false),
+        (2, 2, true),
+        (2, 3, true),
+        (3, 1, true),
+        (3, 2, true),
+        (4, 1, true),
+        (4, 2, true),
+    ],
+    followed: &FOLLOWED,
+    played: &ROLES,
+};
 
 /// Whether a port of a system is capable.
 fn is_capable(world: &World<PcgFate>, number: u8, port: u8) -> Option<bool> {
@@ -89,16 +154,21 @@ fn is_enabled(world: &World<PcgFate>, number: u8, port: u8) -> Option<bool> {
 }
 
 /// Whether the ports beside live systems, and no others, are capable and enabled.
-fn are_capable(world: &World<PcgFate>) -> bool {
-    for (number, port, linked) in LINKED {
-        if is_capable(world, number, port) != Some(linked) {
+fn are_capable(world: &World<PcgFate>, live: &Live<'_>) -> bool {
+    for (number, port, linked) in live.linked {
+        if is_capable(world, *number, *port) != Some(*linked) {
             return false;
         }
-        if is_enabled(world, number, port) != Some(linked) {
+        if is_enabled(world, *number, *port) != Some(*linked) {
             return false;
         }
     }
     true
+}
+
+/// Whether all follow what they should, in their roles, and no other lives.
+fn is_settled(world: &World<PcgFate>, live: &Live<'_>) -> bool {
+    world.live(clock(1)) == live.first && follow(world, live.followed) && play(world, live.played)
 }
 
 /// The clock so many places from the end of a path, the last being 1.
@@ -106,12 +176,43 @@ fn from_end(path: &PathView<'_>, places: usize) -> Option<ClockId> {
     path.get(path.len().checked_sub(places)?)
 }
 
-/// Whether a clock lives once clock 1 has failed. Each two of these are joined.
-fn is_live(member: ClockId) -> bool {
-    member == clock(2) || member == clock(3) || member == clock(4)
+/// Whether a link joins the live systems with these clocks.
+fn are_joined(live: &Live<'_>, member: ClockId, other: ClockId) -> bool {
+    for (one, two) in live.joined {
+        let (one, two) = (clock(*one), clock(*two));
+        if (member == one && other == two) || (member == two && other == one) {
+            return true;
+        }
+    }
+    false
 }
 
-/// Whether the clock so many places from the end lives, and doesn't come again behind.
+/// Whether a clock lives: each live system is joined to one.
+fn is_live(live: &Live<'_>, member: ClockId) -> bool {
+    for (one, two) in live.joined {
+        if member == clock(*one) || member == clock(*two) {
+            return true;
+        }
+    }
+    false
+}
+
+/// Whether the clock so many places from the end lives, and is joined to the next, if there is one.
+fn is_led_on(live: &Live<'_>, path: &PathView<'_>, places: usize) -> bool {
+    let member = match from_end(path, places) {
+        Some(member) => member,
+        None => return false,
+    };
+    if places <= 1 {
+        return is_live(live, member);
+    }
+    match from_end(path, places - 1) {
+        Some(next) => are_joined(live, member, next),
+        None => false,
+    }
+}
+
+/// Whether it doesn't come again behind.
 fn is_new(path: &PathView<'_>, places: usize) -> bool {
     let member = from_end(path, places);
     for later in 1..places {
@@ -119,63 +220,68 @@ fn is_new(path: &PathView<'_>, places: usize) -> bool {
             return false;
         }
     }
-    match member {
-        Some(member) => is_live(member),
+    true
+}
+
+/// How many clocks at the end of a path are different live ones, each joined to the next.
+fn clean_end(live: &Live<'_>, path: &PathView<'_>) -> usize {
+    for (clean, places) in [(0, 1), (1, 2), (2, 3), (3, 4)] {
+        if !is_led_on(live, path, places) || !is_new(path, places) {
+            return clean;
+        }
+    }
+    4
+}
+
+/// Whether an Announce names as root the identity of the system at which its path begins.
+fn is_from_root(announce: &AnnounceView<'_>) -> bool {
+    match announce.path.get(0) {
+        Some(first) => announce.body.root == identity(first),
         None => false,
     }
 }
 
-/// How many clocks at the end of a path are different live ones.
-fn clean_end(path: &PathView<'_>) -> usize {
-    for (clean, places) in [(0, 1), (1, 2), (2, 3)] {
-        if !is_new(path, places) {
-            return clean;
-        }
-    }
-    3
-}
-
 /// Whether the whole path is clean, from the root on, in as many steps.
-fn is_whole(announce: &AnnounceView<'_>) -> bool {
+fn is_whole(live: &Live<'_>, announce: &AnnounceView<'_>) -> bool {
     let count = announce.path.len();
-    count == clean_end(&announce.path)
+    count == clean_end(live, &announce.path)
         && count == usize::from(announce.body.steps) + 1
-        && announce.path.get(0) == Some(announce.body.root.clock())
+        && is_from_root(announce)
 }
 
 /// Whether so many clocks at the end of an Announce's path are clean, up to its sender; or the whole path is.
-fn is_clean(announce: &AnnounceView<'_>, clocks: usize) -> bool {
+fn is_clean(live: &Live<'_>, announce: &AnnounceView<'_>, clocks: usize) -> bool {
     from_end(&announce.path, 1) == Some(announce.head.source.clock)
-        && (clocks <= clean_end(&announce.path) || is_whole(announce))
+        && (clocks <= clean_end(live, &announce.path) || is_whole(live, announce))
 }
 
 /// Whether a frame that arrives at a time is as clean as it should be, where it is an Announce.
-fn is_frame_clean(times: &Times, at: u64, frame: &[u8]) -> bool {
+fn is_frame_clean(live: &Live<'_>, times: &Times, at: u64, frame: &[u8]) -> bool {
     let announce = match decode(frame) {
         Ok(Message::Announce(announce)) => announce,
         _ => return true,
     };
     for (clocks, since) in times.clean {
         if since <= at {
-            return is_clean(&announce, clocks);
+            return is_clean(live, &announce, clocks);
         }
     }
     true
 }
 
 /// Whether what an act at a time told is so.
-fn is_told_clean(times: &Times, at: u64, done: &Done) -> bool {
+fn is_told_clean(live: &Live<'_>, times: &Times, at: u64, done: &Done) -> bool {
     match done {
-        Done::Heard { frame, .. } => is_frame_clean(times, at, frame.as_slice()),
+        Done::Heard { frame, .. } => is_frame_clean(live, times, at, frame.as_slice()),
         Done::Quiet => true,
     }
 }
 
 /// Whether all holds that should after an act at a time.
-fn holds(world: &World<PcgFate>, times: &Times, at: u64, done: &Done) -> bool {
-    (at < times.capable || are_capable(world))
-        && is_told_clean(times, at, done)
-        && (at < times.settled || is_settled(world))
+fn holds(world: &World<PcgFate>, live: &Live<'_>, times: &Times, at: u64, done: &Done) -> bool {
+    (at < times.capable || are_capable(world, live))
+        && is_told_clean(live, times, at, done)
+        && (at < times.settled || is_settled(world, live))
 }
 
 /// The next act, where it comes by a time: when it came, and what it told.
@@ -194,8 +300,12 @@ fn next_act(world: &mut World<PcgFate>, end: u64) -> Result<Option<(u64, Done)>,
     Ok(Some((at, done)))
 }
 
-/// It goes on from the failure to the end. Answers whether all held after each act.
-fn holds_through(world: &mut World<PcgFate>, times: &Times) -> Result<bool, Refused>
+/// It goes on to the end of a stretch. Answers whether all held after each act.
+fn holds_through(
+    world: &mut World<PcgFate>,
+    live: &Live<'_>,
+    times: &Times,
+) -> Result<bool, Refused>
     requires moment { times.now.end ≤ 1000000000000000 }
 {
     for _ in 0..ACTS {
@@ -203,42 +313,50 @@ fn holds_through(world: &mut World<PcgFate>, times: &Times) -> Result<bool, Refu
             Some(told) => told,
             None => return Ok(true),
         };
-        if !holds(world, times, at, &done) {
+        if !holds(world, live, times, at, &done) {
             return Ok(false);
         }
     }
     Ok(false)
 }
 
-/// It goes on until clock 1 fails. Answers whether all follow what they should by then.
-fn comes_to_failure(world: &mut World<PcgFate>) -> Result<bool, Refused> {
-    world.advance(FAILS - 1)?;
-    let is_followed = follow(world, &FOLLOWED_BEFORE);
+/// It goes on until clock 1 fails. Answers whether all held after each act, and all follow what they should by then.
+fn holds_before(world: &mut World<PcgFate>, times: &Times) -> Result<bool, Refused>
+    requires moment { times.now.end ≤ 1000000000000000 }
+{
+    Ok(holds_through(world, &BEFORE, times)? && is_settled(world, &BEFORE))
+}
+
+/// Clock 1 fails, and it goes on to the end. Answers whether all held after each act, and what should settle had time to.
+fn holds_after(world: &mut World<PcgFate>, times: &Times) -> Result<bool, Refused>
+    requires moment { times.now.end ≤ 1000000000000000 }
+{
     fail(world)?;
-    Ok(is_followed)
+    Ok(holds_through(world, &AFTER, times)? && times.settled < world.now())
 }
 
 /// The bounds of all links.
 const BOUNDS: &str = "min = 100\nmax = 500\n";
 
-/// Answers whether a world settles in time.
-fn settles_in_time(mut world: World<PcgFate>, times: &Times) -> Result<bool, Refused>
-    requires moment { times.now.end ≤ 1000000000000000 }
+/// Answers whether a world settles in time, before the failure and after it.
+fn settles_in_time(
+    mut world: World<PcgFate>,
+    before: &Times,
+    after: &Times,
+) -> Result<bool, Refused>
+    requires before { before.now.end ≤ 1000000000000000 }
+    requires after { after.now.end ≤ 1000000000000000 }
 {
-    Ok(
-        comes_to_failure(&mut world)?
-            && holds_through(&mut world, times)?
-            && times.settled < world.now(),
-    )
+    Ok(holds_before(&mut world, before)? && holds_after(&mut world, after)?)
 }
 
 #[test]
 fn constants(rt: HostRuntime) -> Result<(), Fail> {
     for seed in 1..=20 {
         let world = begun(rt.alloc(), BOUNDS, seed)?;
-        assert!(rt; settles_in_time(world, &ALIKE)?);
+        assert!(rt; settles_in_time(world, &ALIKE_BEFORE, &ALIKE_AFTER)?);
         let world = mixed(rt.alloc(), BOUNDS, seed)?;
-        assert!(rt; settles_in_time(world, &MIXED)?);
+        assert!(rt; settles_in_time(world, &MIXED_BEFORE, &MIXED_AFTER)?);
     }
     Ok(())
 }

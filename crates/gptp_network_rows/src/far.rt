@@ -56,7 +56,7 @@ pub(crate) fn line(alloc: Global, systems: u16) -> Result<Network, NetworkFault>
 
 /// What a line states of a system: whether it is far, whether it has a parent, and how many ports.
 #[derive(Clone, Copy, Debug, PartialEq, Eq)]
-struct Stated {
+pub(crate) struct Stated {
     clock: ClockId,
     root: Identity,
     steps: u16,
@@ -65,7 +65,7 @@ struct Stated {
     ports: usize,
 }
 
-fn told(line: Option<&SystemLine>) -> Option<Stated> {
+pub(crate) fn told(line: Option<&SystemLine>) -> Option<Stated> {
     let line = line?;
     Some(Stated {
         clock: line.clock,
@@ -78,7 +78,7 @@ fn told(line: Option<&SystemLine>) -> Option<Stated> {
 }
 
 /// What is stated of a system that follows the first over so many steps.
-fn near(number: u16, steps: u16) -> Option<Stated> {
+pub(crate) fn near(number: u16, steps: u16) -> Option<Stated> {
     Some(Stated {
         clock: clock(number),
         root: identity(1),
@@ -90,7 +90,7 @@ fn near(number: u16, steps: u16) -> Option<Stated> {
 }
 
 /// What is stated of a system that is too far to follow the first.
-fn too_far(number: u16, steps: u16) -> Option<Stated> {
+pub(crate) fn too_far(number: u16, steps: u16) -> Option<Stated> {
     Some(Stated {
         clock: clock(number),
         root: identity(1),

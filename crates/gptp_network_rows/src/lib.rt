@@ -1,15 +1,19 @@
 //! Worked rows of networks, worlds and documents, as an outside caller sees them: also that whatever the order of acts
 //! and the fate of frames, a calm network settles in time, and that a refused allocation leaves things as they were.
 //!
-//! What they expect was written down before the code.
+//! What they expect was written down before the code. What is in `drawn` is no test: its contracts follow from those of
+//! the crates below.
 #![tactic(auto)]
 
+#[cfg(test)]
+mod at_rest;
 #[cfg(test)]
 mod backwards;
 #[cfg(test)]
 mod constants;
 #[cfg(test)]
 mod document;
+pub mod drawn;
 #[cfg(test)]
 mod far;
 #[cfg(test)]

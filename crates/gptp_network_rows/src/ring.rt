@@ -30,13 +30,7 @@ const EVENT: &str = "[[event]]\nat = 40000000000\nkind = \"fail\"\nclock = \"000
 /// When it fails.
 pub(crate) const FAILS: u64 = 40_000_000_000;
 
-/// From when on ports are capable, where they can be: L + 5 announce intervals after that, L being 9.
-pub(crate) const CAPABLE: u64 = FAILS + 14 * INTERVAL;
-
-/// The announce interval.
-pub(crate) const INTERVAL: u64 = 1_000_000_000;
-
-/// By when everything has settled: n systems live, so it takes another (k + 3) n announce intervals, n and k being 3.
+/// By when everything has settled then: in (k + 3) n + L + 5 announce intervals of 1 s, n and k being 3, and L 9.
 pub(crate) const SETTLED: u64 = 72_000_000_000;
 
 /// The text of that network, with these systems and links of these bounds.
@@ -75,9 +69,10 @@ pub(crate) fn clock(number: u8) -> ClockId {
     ClockId::of_octets([0, 0, 0, 0, 0, 0, 0, number])
 }
 
-/// The identity with this clock, and all defaults.
-fn identity(number: u8) -> Identity {
-    Identity::of_octets([246, 248, 254, 0x43, 0x6a, 248, 0, 0, 0, 0, 0, 0, 0, number])
+/// The identity of a system with this clock, and all defaults.
+pub(crate) fn identity(clock: ClockId) -> Identity {
+    let [a, b, c, d, e, f, g, h] = clock.octets();
+    Identity::of_octets([246, 248, 254, 0x43, 0x6a, 248, a, b, c, d, e, f, g, h])
 }
 
 /// Clock 1 fails. Nothing is due before that any more.
@@ -92,7 +87,10 @@ pub(crate) fn fail(world: &mut World<PcgFate>) -> Result<(), Refused> {
 }
 
 /// A clock, the clock of the root that it follows, how many steps away that is, and its Slave port.
-type Followed = (u8, u8, u16, Option<u8>);
+pub(crate) type Followed = (u8, u8, u16, Option<u8>);
+
+/// A clock, a port and the port's role.
+pub(crate) type Played = (u8, u16, Role);
 
 /// What all follow before clock 1 fails.
 pub(crate) const FOLLOWED_BEFORE: [Followed; 4] = [
@@ -102,6 +100,18 @@ pub(crate) const FOLLOWED_BEFORE: [Followed; 4] = [
     (4, 1, 2, Some(1)),
 ];
 
+/// The roles of their ports before that.
+pub(crate) const ROLES_BEFORE: [Played; 8] = [
+    (1, 1, Role::Master),
+    (2, 1, Role::Slave),
+    (2, 2, Role::Master),
+    (2, 3, Role::Master),
+    (3, 1, Role::Slave),
+    (3, 2, Role::Master),
+    (4, 1, Role::Slave),
+    (4, 2, Role::Passive),
+];
+
 /// What they follow once they have settled without it.
 pub(crate) const FOLLOWED: [Followed; 3] = [
     (2, 2, 0, None),
@@ -109,8 +119,8 @@ pub(crate) const FOLLOWED: [Followed; 3] = [
     (4, 2, 1, Some(1)),
 ];
 
-/// A clock, a port and the port's role once they have settled.
-pub(crate) const ROLES: [(u8, u16, Role); 7] = [
+/// The roles of their ports then.
+pub(crate) const ROLES: [Played; 7] = [
     (2, 1, Role::Disabled),
     (2, 2, Role::Master),
     (2, 3, Role::Master),
@@ -123,7 +133,17 @@ pub(crate) const ROLES: [(u8, u16, Role); 7] = [
 /// Whether each of these clocks follows what stands beside it.
 pub(crate) fn follow(world: &World<PcgFate>, rows: &[Followed]) -> bool {
     for (number, root, steps, slave) in rows {
-        if world.follows(clock(*number)) != Some((identity(*root), *steps, *slave)) {
+        if world.follows(clock(*number)) != Some((identity(clock(*root)), *steps, *slave)) {
+            return false;
+        }
+    }
+    true
+}
+
+/// Whether each of these ports has its role.
+pub(crate) fn play(world: &World<PcgFate>, rows: &[Played]) -> bool {
+    for (number, port, role) in rows {
+        if world.role(clock(*number), *port) != Some(*role) {
             return false;
         }
     }
@@ -132,13 +152,5 @@ pub(crate) fn follow(world: &World<PcgFate>, rows: &[Followed]) -> bool {
 
 /// Whether clock 1 is gone, and the others follow what they should, in their roles.
 pub(crate) fn is_settled(world: &World<PcgFate>) -> bool {
-    if world.follows(clock(1)).is_some() || !follow(world, &FOLLOWED) {
-        return false;
-    }
-    for (number, port, role) in ROLES {
-        if world.role(clock(number), port) != Some(role) {
-            return false;
-        }
-    }
-    true
+    world.follows(clock(1)).is_none() && follow(world, &FOLLOWED) && play(world, &ROLES)
 }

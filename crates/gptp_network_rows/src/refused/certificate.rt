@@ -1,6 +1,7 @@
 //! What becomes of a snapshot, a certificate and its text where memory is refused.
 
-use crate::same::same;
+use crate::far::{near, told, too_far};
+use crate::same::{same, same_at};
 use gptp_certificate::{Certificate, parse, print, print_line, write_certificate};
 use gptp_links::PcgFate;
 use gptp_network::{Document, Snapshot};
@@ -22,6 +23,33 @@ min = 500
 max = 500
 ";
 
+/// Three systems in a line, each with its second port linked to the first of the next.
+const LINE: &str = "version = 1
+[[system]]
+clock = \"0000000000000001\"
+ports = 2
+[[system]]
+clock = \"0000000000000002\"
+ports = 2
+[[system]]
+clock = \"0000000000000003\"
+ports = 2
+[[link]]
+a = \"0000000000000001\"
+a_port = 2
+b = \"0000000000000002\"
+b_port = 1
+min = 500
+max = 500
+[[link]]
+a = \"0000000000000002\"
+a_port = 2
+b = \"0000000000000003\"
+b_port = 1
+min = 500
+max = 500
+";
+
 /// What is stated of both at first: each follows itself, so that the second is far beside a better root.
 const AT_FIRST: &str = "gptp-certificate 2
 system 0000000000000001 root f6f8fe436af80000000000000001 steps 0 parent none
@@ -36,13 +64,13 @@ fn tell(rt: &HostRuntime, call: &str) -> Result<(), Fail> {
     Ok(())
 }
 
-/// The document, asked for again where memory is refused.
-fn read(rt: &HostRuntime) -> Result<Document, Fail> {
-    if let Ok(document) = Document::read(rt.alloc(), TWO.as_bytes()) {
+/// The document of a text, asked for again where memory is refused.
+fn read(rt: &HostRuntime, text: &str) -> Result<Document, Fail> {
+    if let Ok(document) = Document::read(rt.alloc(), text.as_bytes()) {
         return Ok(document);
     }
     tell(rt, "read")?;
-    Ok(Document::read(rt.alloc(), TWO.as_bytes())?)
+    Ok(Document::read(rt.alloc(), text.as_bytes())?)
 }
 
 /// So its snapshot at first.
@@ -130,7 +158,7 @@ fn read_back(rt: &HostRuntime, text: &[u8]) -> Result<Certificate, Fail> {
 
 #[test]
 fn a_refused_allocation_leaves_the_network(rt: HostRuntime) -> Result<(), Fail> {
-    let document = read(&rt)?;
+    let document = read(&rt, TWO)?;
     let snapshot = look(&rt, &document)?;
     same(&rt, (snapshot.systems(), snapshot.links()), (2, 1));
     Ok(())
@@ -138,10 +166,22 @@ fn a_refused_allocation_leaves_the_network(rt: HostRuntime) -> Result<(), Fail> 
 
 #[test]
 fn a_refused_allocation_leaves_the_certificate(rt: HostRuntime) -> Result<(), Fail> {
-    let document = read(&rt)?;
+    let document = read(&rt, TWO)?;
     let world = begin(&rt, &document)?;
     let certificate = certify(&rt, &world)?;
     same(&rt, certificate.len(), 2);
+    Ok(())
+}
+
+#[test]
+fn a_refused_allocation_leaves_the_marks_of_far_systems(rt: HostRuntime) -> Result<(), Fail> {
+    let document = read(&rt, LINE)?;
+    let world = begin(&rt, &document)?;
+    let certificate = certify(&rt, &world)?;
+    same(&rt, (certificate.version(), certificate.len()), (2, 3));
+    for (place, wanted) in [(0, near(1, 0)), (1, too_far(2, 255)), (2, too_far(3, 256))] {
+        same_at(&rt, &place, told(certificate.line(place)), wanted);
+    }
     Ok(())
 }
 

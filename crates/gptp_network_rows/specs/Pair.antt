@@ -1,0 +1,83 @@
+-- Two end stations and the link between them: their network, its snapshot, and their world once it has been calm for
+-- long enough.
+use Rattle.std.specs.Prelude.{◌≡◌, ◌≤◌, ℕ, ℤ, pos, negsuc, true, List, [], ◌∷◌, Option}
+use Rattle.arrayvec.specs.ArrayVec.{ArrayVec}
+use Rattle.gptp_vector.specs.declared.port.PortId.{PortId}
+use Rattle.gptp_setup.specs.Pace.{Pace}
+use Rattle.gptp_setup.specs.declared.setup.Params.{Params}
+use Rattle.gptp_links.specs.declared.bounds.Bounds.{Bounds}
+use Rattle.gptp_graph.specs.Snapshot.{Snapshot, port_of}
+use Rattle.gptp_plan.specs.Network.{IsNetwork, NetworkState, member, wire}
+use Rattle.gptp_plan.specs.declared.network.Member.{Member}
+use Rattle.gptp_acts.specs.Course.{Begun}
+use Rattle.gptp_acts.specs.World.{WorldState, port_id}
+use Rattle.gptp_kept.specs.CalmFor.{IsCalmFor}
+use Rattle.gptp_kept.specs.Standing.{snapshot_of}
+
+-- ---- the network
+
+-- what both have: intervals of 1 s, and of 125 ms for time; three announcements may be missed, and nine responses
+abbrev pub params : Params
+params = record {
+  announce = pos 0;
+  sync = negsuc 2;
+  pdelay = pos 0;
+  timeout = 3;
+  lost = 9;
+  threshold = 800;
+  turnaround = 1000;
+  residence = 1000;
+}
+
+-- priority1 246, clockClass 248, clockAccuracy 254, offsetScaledLogVariance 436a, priority2 248, and clock 1
+abbrev pub first : ℕ
+first = 0xf6f8fe436af80000000000000001
+
+-- the same with clock 2
+abbrev pub second : ℕ
+second = 0xf6f8fe436af80000000000000002
+
+-- one port announces each second
+abbrev pub each_second : ArrayVec ℤ
+each_second = record { items = pos 0 ∷ [] }
+
+-- the system of this identity has one port, and its clock is exact
+abbrev pub end_station : ℕ → Member
+end_station identity = member identity 1 0 (pos 0) each_second
+
+-- Both have one port, and a link joins them. It loses nothing, and each of its frames takes 500 ns.
+abbrev pub pair_network : NetworkState
+pair_network = record {
+  params = params;
+  systems = end_station first ∷ end_station second ∷ [];
+  links = wire 0 (port_id 1 1) (port_id 2 1) 500 500 0 true ∷ [];
+}
+
+-- by what its settling is counted
+abbrev pub pair_pace : Pace
+pair_pace = record { params = params; largest = pos 0 }
+
+-- both live, and the link is up
+abbrev pub pair_snapshot : Snapshot
+pair_snapshot = record {
+  systems =
+      record { clock = 1; identity = first; ports = 1 }
+      ∷ record { clock = 2; identity = second; ports = 1 }
+      ∷ [];
+  links = record { a = port_of 1 1; b = port_of 2 1 } ∷ [];
+}
+
+-- ---- their world
+
+-- the world of this network begins, whatever is drawn for its frames
+pub record HasBegun {F : Type 0} (answers : Bounds → ℕ → F → Option ℕ → F → Type 0) (fate : F)
+    (w : WorldState) : Type 0 where
+  pub network : IsNetwork pair_network
+  pub before : F
+  pub begun : Begun answers pair_network before fate w
+
+-- The world of both at this time. It has been calm for each span, by the pace of the network and the two systems, that
+-- is no longer.
+pub record IsPairAt (time : ℕ) (w : WorldState) : Type 0 where
+  pub snapshot : snapshot_of w ≡ pair_snapshot
+  pub calm : (span : Pace → ℕ → ℕ) → span pair_pace 2 ≤ time → IsCalmFor span w

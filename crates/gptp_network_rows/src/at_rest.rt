@@ -1,0 +1,47 @@
+//! What is proved of two systems at rest, seen.
+
+use crate::drawn::{
+    announce_at_rest, capable_in_time, enabled_in_time, follow_at_rest, play_at_rest,
+};
+use crate::same::same;
+use gptp_links::PcgFate;
+use gptp_roles::Role;
+use gptp_vector::{ClockId, Identity, Trace};
+use std::test::Fail;
+
+/// The clocks of a trace of two.
+fn clocks(trace: &Trace) -> (usize, Option<ClockId>, Option<ClockId>) {
+    (trace.len(), trace.get(0), trace.get(1))
+}
+
+#[test]
+fn two_systems_at_rest_are_as_proved(rt: HostRuntime) -> Result<(), Fail> {
+    let first = Identity::of_octets([246, 248, 254, 0x43, 0x6a, 248, 0, 0, 0, 0, 0, 0, 0, 1]);
+    same(
+        &rt,
+        follow_at_rest(rt.alloc(), PcgFate::new(1))?,
+        Some((first, 1, Some(1))),
+    );
+    same(
+        &rt,
+        play_at_rest(rt.alloc(), PcgFate::new(1))?,
+        (Some(Role::Master), Some(Role::Slave)),
+    );
+    let trace = announce_at_rest(rt.alloc(), PcgFate::new(1))?;
+    same(
+        &rt,
+        trace.as_ref().map(clocks),
+        Some((2, Some(ClockId::from(1)), Some(ClockId::from(2)))),
+    );
+    same(
+        &rt,
+        capable_in_time(rt.alloc(), PcgFate::new(1))?,
+        Some(true),
+    );
+    same(
+        &rt,
+        enabled_in_time(rt.alloc(), PcgFate::new(1))?.is_some_and(|role| role != Role::Disabled),
+        true,
+    );
+    Ok(())
+}

@@ -1,0 +1,234 @@
+//! What two systems show once they have settled, as functions whose contracts follow from those of their world's calls:
+//! from what these say of every world that has been calm for long enough. Times are in ns.
+
+ghost use Rattle.std.specs.Prelude.{◌≡◌, ◌≢◌, ◌≤◌, ◌∷◌, [], true, IfOk, None, OnOk, Some};
+ghost use Rattle.gptp_acts.specs.Views.{ShowsLive};
+ghost use Rattle.gptp_kept.specs.Shown.{IsCapableInTime};
+ghost use Rattle.gptp_roles.specs.declared.role.Role.TheVariants.{Disabled, Master, Slave};
+ghost use Rattle.gptp_network_rows.specs.Pair.{HasBegun, IsPairAt, each_second, first, pair_network, second};
+
+use arrayvec::ArrayVec;
+use gptp_links::Fate;
+use gptp_roles::Role;
+use gptp_system::System;
+use gptp_vector::{ClockId, Identity, PortId, Trace};
+use gptp_world::{Network, NetworkFault, Params, World};
+use std::alloc::Global;
+
+/// What both systems have: intervals of 1 s, and of 125 ms for time.
+const PARAMS: Params = Params {
+    announce: 0,
+    sync: -3,
+    pdelay: 0,
+    timeout: 3,
+    lost: 9,
+    threshold: 800,
+    turnaround: 1_000,
+    residence: 1_000,
+};
+
+/// When their ports are capable: after L + 5 announce intervals, L being 9.
+const CAPABLE: u64 = 14_000_000_000;
+
+/// When all has settled: after (k + 3) n + L + 5, k being 3, and n 2.
+const SETTLED: u64 = 26_000_000_000;
+
+/// The identity with this clock, and all defaults.
+fn identity(clock: u8) -> Identity
+    ensures first { clock ≡ 1 → result ≡ first }
+    ensures second { clock ≡ 2 → result ≡ second }
+{
+    Identity::of_octets([246, 248, 254, 0x43, 0x6a, 248, 0, 0, 0, 0, 0, 0, 0, clock])
+}
+
+/// The interval of the one port of a system.
+fn intervals() -> ArrayVec<i8, 16>
+    ensures { result ≡ each_second }
+{
+    let mut intervals = ArrayVec::new();
+    let _ = intervals.try_extend_from_slice(&[0]);
+    intervals
+}
+
+/// The first port of the system with a clock.
+fn port(clock: u64) -> PortId
+    ensures { result ≡ record { clock = clock; port = 1 } }
+{
+    PortId {
+        clock: ClockId::from(clock),
+        port: 1,
+    }
+}
+
+/// The network of two systems, of clocks 1 and 2, that a link joins.
+fn pair(alloc: Global) -> Result<Network, NetworkFault>
+    ensures { IfOk result (λ network. network ≡ pair_network) }
+{
+    let mut network = Network::new(alloc, PARAMS)?;
+    network.add_system(identity(1), 1, 0, 0, intervals())?;
+    network.add_system(identity(2), 1, 0, 0, intervals())?;
+    network.add_link(port(1), port(2), 500, 500, 0, true)?;
+    Ok(network)
+}
+
+/// Their world as it begins.
+fn begun<F: Fate + Drop>(alloc: Global, fate: F) -> Result<World<F>, NetworkFault>
+    ensures { IfOk result (λ world. HasBegun F.answers world.fate world.scene) }
+{
+    let network = pair(alloc)?;
+    network.well_formed();
+    match World::new(alloc, &network, fate) {
+        Ok(world) => Ok(world),
+        Err(_) => Err(NetworkFault::OutOfMemory),
+    }
+}
+
+/// It goes on from there to a time.
+#[tactic(auto, using(crate::proofs::PairLemmas::comes_to))]
+fn go_on<F: Fate + Drop>(world: &mut World<F>, time: u64) -> Result<(), NetworkFault>
+    requires begun { HasBegun F.answers world.old.fate world.old.scene }
+    requires moment { time ≤ 1000000000000000 }
+    ensures { OnOk result (IsPairAt time world.new.scene) }
+{
+    match world.advance(time) {
+        Ok(()) => {
+            world.well_formed();
+            Ok(())
+        }
+        Err(_) => Err(NetworkFault::OutOfMemory),
+    }
+}
+
+/// Their world at a time.
+fn pair_at<F: Fate + Drop>(alloc: Global, fate: F, time: u64) -> Result<World<F>, NetworkFault>
+    requires moment { time ≤ 1000000000000000 }
+    ensures { IfOk result (λ world. IsPairAt time world.scene) }
+{
+    let mut world = begun(alloc, fate)?;
+    go_on(&mut world, time)?;
+    Ok(world)
+}
+
+/// What the second system follows.
+#[tactic(auto, using(crate::proofs::PairLemmas::followed))]
+fn second_follows<F: Fate + Drop>(world: &World<F>) -> Option<(Identity, u16, Option<u8>)>
+    requires { IsPairAt 26000000000 world.now.scene }
+    ensures { result ≡ Some (first, 1, Some 1) }
+{
+    world.follows(ClockId::from(2))
+}
+
+/// What it follows once all has settled, whatever is drawn for frames: the first, one step away, by its one port. Refused
+/// for want of memory alone.
+pub fn follow_at_rest<F: Fate + Drop>(
+    alloc: Global,
+    fate: F,
+) -> Result<Option<(Identity, u16, Option<u8>)>, NetworkFault>
+    ensures { IfOk result (λ followed. followed ≡ Some (first, 1, Some 1)) }
+{
+    let world = pair_at(alloc, fate, SETTLED)?;
+    Ok(second_follows(&world))
+}
+
+/// The role of the first system's port.
+#[tactic(auto, using(crate::proofs::PairLemmas::first_played))]
+fn first_plays<F: Fate + Drop>(world: &World<F>) -> Option<Role>
+    requires { IsPairAt 26000000000 world.now.scene }
+    ensures { result ≡ Some Master }
+{
+    world.role(ClockId::from(1), 1)
+}
+
+/// That of the second's.
+#[tactic(auto, using(crate::proofs::PairLemmas::second_played))]
+fn second_plays<F: Fate + Drop>(world: &World<F>) -> Option<Role>
+    requires { IsPairAt 26000000000 world.now.scene }
+    ensures { result ≡ Some Slave }
+{
+    world.role(ClockId::from(2), 1)
+}
+
+/// The roles of both ports once all has settled. Refused for want of memory alone.
+pub fn play_at_rest<F: Fate + Drop>(
+    alloc: Global,
+    fate: F,
+) -> Result<(Option<Role>, Option<Role>), NetworkFault>
+    ensures { IfOk result (λ roles. roles ≡ (Some Master, Some Slave)) }
+{
+    let world = pair_at(alloc, fate, SETTLED)?;
+    Ok((first_plays(&world), second_plays(&world)))
+}
+
+/// The trace that the second system announces.
+#[tactic(auto, using(crate::proofs::PairLemmas::second_announces, crate::proofs::PairLemmas::second_lives))]
+fn second_announces<F: Fate + Drop>(world: &World<F>) -> Option<Trace>
+    requires { IsPairAt 26000000000 world.now.scene }
+    ensures { result ≡ Some (1 ∷ 2 ∷ []) }
+{
+    world.well_formed();
+    let _followed = world.follows(ClockId::from(2))?;
+    let system = world.system(ClockId::from(2))?;
+    Some(system.trace())
+}
+
+/// It announces, once all has settled, that the time came from the first, over nothing between. Refused for want of memory
+/// alone.
+pub fn announce_at_rest<F: Fate + Drop>(
+    alloc: Global,
+    fate: F,
+) -> Result<Option<Trace>, NetworkFault>
+    ensures { IfOk result (λ trace. trace ≡ Some (1 ∷ 2 ∷ [])) }
+{
+    let world = pair_at(alloc, fate, SETTLED)?;
+    Ok(second_announces(&world))
+}
+
+/// Whether the port of a system, which is the second, is capable.
+#[tactic(auto, using(crate::proofs::PairLemmas::second_has_port, crate::proofs::PairLemmas::second_is_capable))]
+fn is_capable<F: Fate + Drop>(world: &World<F>, system: &System) -> bool
+    requires at { IsPairAt 14000000000 world.now.scene }
+    requires second { ShowsLive 2 world.now.scene system.now }
+    requires capable { IsCapableInTime world.now.scene system.now }
+    ensures { result ≡ true }
+{
+    system.capable(1)
+}
+
+/// Whether its port is, where it lives.
+#[tactic(auto, using(crate::proofs::PairLemmas::second_lives))]
+fn second_is_capable<F: Fate + Drop>(world: &World<F>) -> Option<bool>
+    requires { IsPairAt 14000000000 world.now.scene }
+    ensures { result ≡ Some true }
+{
+    match world.system(ClockId::from(2)) {
+        Some(system) => Some(is_capable(world, system)),
+        None => None,
+    }
+}
+
+/// Whether it is L + 5 announce intervals after the start. Refused for want of memory alone.
+pub fn capable_in_time<F: Fate + Drop>(alloc: Global, fate: F) -> Result<Option<bool>, NetworkFault>
+    ensures { IfOk result (λ capable. capable ≡ Some true) }
+{
+    let world = pair_at(alloc, fate, CAPABLE)?;
+    Ok(second_is_capable(&world))
+}
+
+/// Its role, where it has one.
+#[tactic(auto, using(crate::proofs::PairLemmas::has_role, crate::proofs::PairLemmas::not_disabled))]
+fn second_is_enabled<F: Fate + Drop>(world: &World<F>) -> Option<Role>
+    requires { IsPairAt 14000000000 world.now.scene }
+    ensures some { result ≢ None }
+    ensures enabled { result ≢ Some Disabled }
+{
+    world.role(ClockId::from(2), 1)
+}
+
+/// Its role by then: it has one other than Disabled. Refused for want of memory alone.
+pub fn enabled_in_time<F: Fate + Drop>(alloc: Global, fate: F) -> Result<Option<Role>, NetworkFault>
+    ensures some { IfOk result (λ role. role ≢ None) }
+    ensures enabled { IfOk result (λ role. role ≢ Some Disabled) }
+{
+    let world = pair_at(alloc, fate, CAPABLE)?;
+    Ok(second_is_enabled(&world))
+}
