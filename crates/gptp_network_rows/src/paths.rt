@@ -1,9 +1,12 @@
 //! How many systems paths have at most, and how long a network takes to settle by that. Times are in ns.
 
-use crate::ring;
-use crate::same::same_at;
+use crate::ring::{self, Followed};
+use crate::same::{same, same_at};
+use gptp_links::PcgFate;
 use gptp_network::Document;
-use std::alloc::Global;
+use gptp_world::World;
+use std::alloc::{AllocError, Global};
+use std::fmt::Write;
 use std::test::Fail;
 
 /// Clock 1 alone.
@@ -53,5 +56,58 @@ fn short_paths_settle_sooner(rt: HostRuntime) -> Result<(), Fail> {
     ] {
         same_at(&rt, &systems, found, span);
     }
+    Ok(())
+}
+
+/// A bridge of clock 0x20 = 32, which is worse than all end stations.
+const BRIDGE: &str = "version = 1\n[[system]]\nclock = \"0000000000000020\"\nports = 8\n";
+
+/// The document of that bridge and eight end stations, one at each of its ports.
+fn hall(alloc: Global) -> Result<String, AllocError> {
+    let mut text = String::new(alloc);
+    text.push_str(BRIDGE)?;
+    for number in 1..9 {
+        write!(text, "[[system]]\nclock = \"000000000000000{number}\"\n")?;
+    }
+    for number in 1..9 {
+        write!(
+            text,
+            "[[link]]\na = \"0000000000000020\"\na_port = {number}\n"
+        )?;
+        write!(
+            text,
+            "b = \"000000000000000{number}\"\nb_port = 1\nmin = 100\nmax = 500\n"
+        )?;
+    }
+    Ok(text)
+}
+
+/// The first end station is best, and reaches all others over the bridge.
+const HALL: [Followed; 9] = [
+    (1, 1, 0, None),
+    (2, 1, 2, Some(1)),
+    (3, 1, 2, Some(1)),
+    (4, 1, 2, Some(1)),
+    (5, 1, 2, Some(1)),
+    (6, 1, 2, Some(1)),
+    (7, 1, 2, Some(1)),
+    (8, 1, 2, Some(1)),
+    (32, 1, 1, Some(1)),
+];
+
+#[test]
+fn a_hall_settles_by_its_paths(rt: HostRuntime) -> Result<(), Fail> {
+    let alloc = rt.alloc();
+    let document = Document::read(alloc, hall(alloc)?.as_bytes())?;
+    same(&rt, path_bound(alloc, &document, 0)?, 3);
+    // by how many live it would be 68 s
+    same(
+        &rt,
+        document.network().settling_span_over(3),
+        32_000_000_000,
+    );
+    let mut world = World::new(alloc, document.network(), PcgFate::new(1))?;
+    same(&rt, world.advance(32_000_000_000), Ok(()));
+    same(&rt, ring::follow(&world, &HALL), true);
     Ok(())
 }
