@@ -9,8 +9,9 @@ ghost use Rattle.gptp_commands.specs.Command.{IsEndInRange, command_line_status,
 ghost use Rattle.gptp_commands.specs.Command.{certificate_rule, file_rule, frames_rule, max_error_rule, seed_rule, until_rule};
 ghost use Rattle.gptp_commands.specs.Command.{accuracy_command, check_command, choice_command, first_program, played_command, run_command};
 ghost use Rattle.gptp_commands.specs.Command.{simulating_program};
+ghost use Rattle.gptp_commands.specs.Command.{lint_command, strict_rule};
 ghost use Rattle.gptp_commands.specs.declared.command.CommandLineError.TheVariants.{Memory};
-ghost use Rattle.gptp_commands.specs.declared.question.Question.TheVariants.{Accuracy, Choice};
+ghost use Rattle.gptp_commands.specs.declared.question.Question.TheVariants.{Accuracy, Choice, Lint};
 
 use crate::check::check;
 use crate::compare::compare_lines;
@@ -81,6 +82,15 @@ Input: standard input, a document in TOML of at most 32 MiB (33,554,432 octets).
 Output: the time from which on it holds, and each system with its root, its steps from it, and how far its
 time may be from the root's, in ns, rounded up. Where links lose frames or are too long it is none.
 Example: gptp_sim accuracy --max-error 1000 < examples/ring.toml";
+
+/// What help says of the input of `lint`.
+const LINT_HELP: &str = "\
+Input: standard input, a document in TOML of at most 32 MiB (33,554,432 octets).
+Output: where a document is refused, the test, the place and the reason. Otherwise a line for each key that
+isn't read, link that is too long or loses frames, system without a link, time at which the network falls
+apart, choice that a MAC address decides, and component that nobody leads; and for each time whether the
+network is calm, and how long it takes at most to settle, in ns.
+Example: gptp_sim lint --strict < examples/ring.toml";
 
 /// What is asked of `check`.
 #[derive(Debug, Drop, PartialEq, Eq)]
@@ -309,6 +319,28 @@ fn accuracy_grammar<'a>(alloc: Global) -> Result<Command<'a>, AllocError>
         .arg(max_error_option(alloc))
 }
 
+/// The option of `lint` that asks for a status.
+fn strict_option<'a>(alloc: Global) -> Arg<'a>
+    ensures rule { rule_of result ≡ strict_rule }
+    ensures local { result.global ≡ false }
+{
+    Arg::new(alloc, "strict")
+        .long("strict")
+        .action(ArgAction::SetTrue)
+        .help("End with status 1 where there is any line but on calm")
+}
+
+/// The command `lint` with its option.
+fn lint_grammar<'a>(alloc: Global) -> Result<Command<'a>, AllocError>
+    ensures app { IfOk result (λ command. app_of command ≡ lint_command) }
+    ensures local { IfOk result (λ command. (fields_of command).has_globals ≡ false) }
+{
+    Command::new(alloc, "lint")
+        .about("Says what isn't as it should be in a document, without a run")
+        .after_help(LINT_HELP)
+        .arg(strict_option(alloc))
+}
+
 /// The program with its first command, of which one has to be named.
 fn first_grammar<'a>(alloc: Global) -> Result<Command<'a>, AllocError>
     ensures app { IfOk result (λ command. app_of command ≡ first_program) }
@@ -339,7 +371,8 @@ fn grammar<'a>(alloc: Global) -> Result<Command<'a>, AllocError>
 {
     simulating_grammar(alloc)?
         .subcommand(choice_grammar(alloc)?)?
-        .subcommand(accuracy_grammar(alloc)?)
+        .subcommand(accuracy_grammar(alloc)?)?
+        .subcommand(lint_grammar(alloc)?)
 }
 
 /// The number of ns that an option gives. The parser lets no number through that is above the most.
@@ -412,6 +445,13 @@ fn accuracy_in(matches: &ArgMatches) -> (Option<u64>, Option<u64>)
     (until_in(matches), max_error_in(matches))
 }
 
+/// Whether `lint` is strict.
+fn strict_in(matches: &ArgMatches) -> bool
+    ensures { ReadsQuestion (rows_of (found_of matches.now)) (Lint result) }
+{
+    matches.get_flag("strict")
+}
+
 /// What is asked for, by the command that the parser entered.
 fn order_in(alloc: Global, matches: &ArgMatches) -> Result<Order, AllocError>
     ensures { IfOk result (Enters matches.now) }
@@ -426,6 +466,9 @@ fn order_in(alloc: Global, matches: &ArgMatches) -> Result<Order, AllocError>
             let (until, max_error) = accuracy_in(matches);
             Ok(Order::Ask(Question::Accuracy { until, max_error }))
         }
+        Some(("lint", matches)) => Ok(Order::Ask(Question::Lint {
+            strict: strict_in(matches),
+        })),
         _ => Ok(Order::Compare),
     }
 }

@@ -22,6 +22,7 @@ mod documents;
 pub mod failure;
 pub mod laws;
 mod lines;
+mod lint;
 mod output;
 pub mod question;
 mod reading;

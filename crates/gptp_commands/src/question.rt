@@ -12,6 +12,7 @@ use crate::accuracy::tell_accuracy;
 use crate::choice::choose_at;
 use crate::documents::{DOCUMENT_LIMIT, refuse};
 use crate::failure::{SimError, Status};
+use crate::lint::{refuse_at_place, tell_findings};
 use crate::output::Output;
 use crate::reading::read_whole;
 use crate::source::Source;
@@ -35,12 +36,18 @@ pub enum Question {
         until: Option<u64>,
         max_error: Option<u64>,
     },
+    /// `lint`: what isn't as it should be in the document: where and why it is refused, or what a planner may have overlooked.
+    /// Where it is strict, the answer also says whether there is any of that.
+    Lint {
+        strict: bool,
+    },
 }
 
 /// The text for a document.
 fn answer_document(
     alloc: Global,
     document: &Document,
+    input: &[u8],
     question: Question,
 ) -> Result<Output, SimError>
     ensures answers { IfOk result (IsOutput (Answers question document.now)) }
@@ -51,6 +58,21 @@ fn answer_document(
         Question::Accuracy { until, max_error } => {
             tell_accuracy(alloc, document, until, max_error)
         }
+        Question::Lint { strict } => tell_findings(alloc, document, input, strict),
+    }
+}
+
+/// The line of an input within its size that is refused as a document.
+fn refuse_document(
+    alloc: Global,
+    input: &[u8],
+    question: Question,
+    fault: DocumentFault,
+) -> Result<Output, SimError>
+{
+    match question {
+        Question::Lint { strict: _ } => refuse_at_place(alloc, input, fault),
+        _ => refuse(alloc, fault),
     }
 }
 
@@ -60,9 +82,9 @@ fn answer_input(alloc: Global, input: &[u8], question: Question) -> Result<Outpu
     ensures memory { IfErr result (λ e. e ≡ SimError.Memory) }
 {
     match Document::read(alloc, input) {
-        Ok(document) => answer_document(alloc, &document, question),
+        Ok(document) => answer_document(alloc, &document, input, question),
         Err(DocumentFault::OutOfMemory) => Err(SimError::Memory),
-        Err(fault) => refuse(alloc, fault),
+        Err(fault) => refuse_document(alloc, input, question, fault),
     }
 }
 

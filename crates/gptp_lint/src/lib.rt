@@ -1,0 +1,28 @@
+//! What isn't as it should be in the document of a network, without a run: where and why it is refused, or what a planner
+//! may have overlooked.
+#![tactic(auto)]
+
+mod components;
+mod course;
+mod diagnosis;
+mod escaped;
+mod findings;
+mod graph;
+mod keys;
+mod moments;
+mod nearest;
+mod outline;
+mod place;
+mod refusal;
+mod scanner;
+mod seen;
+mod text;
+mod trouble;
+mod unknown;
+mod values;
+mod why;
+
+pub use findings::{CalmTime, Findings, find};
+pub use trouble::{Long, Lossy};
+pub use refusal::write_refusal;
+pub use text::write_findings;
