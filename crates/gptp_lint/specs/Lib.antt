@@ -1,0 +1,4 @@
+pub mod Times
+pub mod Course
+pub mod Trouble
+pub mod Findings

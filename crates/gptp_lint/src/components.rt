@@ -1,27 +1,26 @@
 //! What the components of a network show at its times: how many there are, and which systems are their best.
 
 use crate::graph::{Best, Graph};
-use crate::moments::Moment;
 use gptp_plan::{Network, Timed};
 use gptp_vector::Identity;
 use std::alloc::{AllocError, Global};
 
 /// A time after which the live systems are in several components.
-#[derive(Clone, Copy, Debug)]
+#[derive(Clone, Copy)]
 pub(crate) struct Apart {
     pub at: u64,
     pub components: usize,
 }
 
 /// A time after which the best of a component can't be grandmaster.
-#[derive(Clone, Copy, Debug)]
+#[derive(Clone, Copy)]
 pub(crate) struct Nobody {
     pub at: u64,
     pub best: Identity,
 }
 
 /// What the components of a network show at its times.
-#[derive(Debug, Drop)]
+#[derive(Drop)]
 pub(crate) struct Components {
     /// By time.
     pub apart: Vec<Apart>,
@@ -62,6 +61,13 @@ fn incapable(alloc: Global, bests: &[Best]) -> Result<Vec<Identity>, AllocError>
     Ok(incapable)
 }
 
+/// What is known of the components at the time before.
+#[derive(Drop)]
+struct Before {
+    count: usize,
+    nobody: Vec<Identity>,
+}
+
 impl Components {
     /// Before the first time.
     fn new(alloc: Global) -> Self {
@@ -95,9 +101,26 @@ impl Components {
         Ok(())
     }
 
+    /// Notes what there is at a time, after all its events.
+    fn note(
+        &mut self,
+        alloc: Global,
+        before: &mut Before,
+        at: u64,
+        graph: &Graph,
+    ) -> Result<(), AllocError> {
+        let bests = graph.bests(alloc)?;
+        let nobody = incapable(alloc, &bests)?;
+        self.note_apart(at, before.count, bests.len())?;
+        self.note_nobody(at, &before.nobody, &nobody)?;
+        before.count = bests.len();
+        before.nobody = nobody;
+        Ok(())
+    }
+
     /// Notes between which systems a clock decides.
-    fn note_chance(&mut self, bests: &[Best]) -> Result<(), AllocError> {
-        for best in bests {
+    fn note_chance(&mut self, alloc: Global, graph: &Graph) -> Result<(), AllocError> {
+        for best in &graph.bests(alloc)? {
             if let Some(second) = chance_of(best) {
                 self.chance.push((best.best, second))?;
             }
@@ -112,26 +135,22 @@ pub(crate) fn components_of(
     alloc: Global,
     network: &Network,
     events: &[Timed],
-    moments: &[Moment],
 ) -> Result<Components, AllocError> {
     let mut components = Components::new(alloc);
+    let mut before = Before {
+        count: 0,
+        nobody: Vec::new(alloc),
+    };
     let mut graph = Graph::first(alloc, network)?;
-    let mut done = 0;
-    let mut count = 0;
-    let mut nobody = Vec::new(alloc);
-    let mut bests = Vec::new(alloc);
-    for moment in moments {
-        for event in events.get(done..moment.events).unwrap_or(&[]) {
-            graph.act(&event.act);
+    let mut at = 0;
+    for event in events {
+        if event.at != at {
+            components.note(alloc, &mut before, at, &graph)?;
+            at = event.at;
         }
-        done = moment.events;
-        bests = graph.bests(alloc)?;
-        components.note_apart(moment.at, count, bests.len())?;
-        count = bests.len();
-        let now = incapable(alloc, &bests)?;
-        components.note_nobody(moment.at, &nobody, &now)?;
-        nobody = now;
+        graph.act(&event.act);
     }
-    components.note_chance(&bests)?;
+    components.note(alloc, &mut before, at, &graph)?;
+    components.note_chance(alloc, &graph)?;
     Ok(components)
 }

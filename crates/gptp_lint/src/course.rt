@@ -1,124 +1,160 @@
 //! How one link stands at each time.
 
-use crate::moments::Moment;
+ghost use Rattle.std.specs.Prelude.{◌≡◌, IfOk};
+ghost use Rattle.gptp_plan.specs.Change.{link_acted, link_changed, system_acted, system_changed};
+ghost use Rattle.gptp_lint.specs.Course.{acted, course_from, is_used, lives_acted, wire_of};
+
 use gptp_links::Bounds;
 use gptp_plan::{Act, Change, Timed};
 use gptp_vector::{ClockId, PortId};
 use std::alloc::{AllocError, Global};
 
-/// A link with its ends: whether it is up, whether the systems at its ends live, its greatest delay, in ns, and how many of
-/// a thousand frames it loses.
-#[derive(Clone, Copy, Debug)]
-pub(crate) struct Standing {
+/// A link: its ends, its bounds, and whether it is up.
+#[derive(Clone, Copy)]
+pub(crate) struct Cable {
     pub a: PortId,
     pub b: PortId,
+    pub bounds: Bounds,
     pub up: bool,
+}
+
+/// How a link stands at a time, in ns, and whether the systems at its ends live.
+#[derive(Clone, Copy)]
+pub(crate) struct Standing {
+    pub at: u64,
+    pub cable: Cable,
     pub a_lives: bool,
     pub b_lives: bool,
-    pub max: u64,
-    pub loss: u16,
 }
 
-impl Standing {
-    /// A link at first.
-    pub(crate) fn first(a: PortId, b: PortId, bounds: &Bounds, up: bool) -> Self {
-        Standing {
-            a,
-            b,
-            up,
-            a_lives: true,
-            b_lives: true,
-            max: bounds.max,
-            loss: bounds.loss,
-        }
-    }
+/// Whether a link is up between two live systems.
+pub(crate) fn is_used(standing: &Standing) -> bool
+    ensures { result ≡ is_used standing.now }
+{
+    standing.cable.up && (standing.a_lives && standing.b_lives)
+}
 
-    /// Whether the link is up between two live systems.
-    pub(crate) fn is_used(&self) -> bool {
-        self.up && self.a_lives && self.b_lives
-    }
-
-    /// Whether the link is at a port.
-    fn is_at(&self, clock: ClockId, port: u16) -> bool {
-        let port = PortId { clock, port };
-        self.a == port || self.b == port
-    }
-
-    /// The system with a clock lives or not.
-    fn set_live(&mut self, clock: ClockId, lives: bool) {
-        if self.a.clock == clock {
-            self.a_lives = lives;
-        }
-        if self.b.clock == clock {
-            self.b_lives = lives;
-        }
-    }
-
-    /// Does what a change does.
-    fn change(&mut self, change: &Change) {
-        match *change {
-            Change::LinkDown { clock, port } => {
-                if self.is_at(clock, port) {
-                    self.up = false;
-                }
+/// Does to a link what a change does.
+fn change_cable(change: &Change, cable: &mut Cable)
+    ensures { wire_of cable.new ≡ link_changed change.now (wire_of cable.old) }
+{
+    match *change {
+        Change::LinkDown { clock, port } => {
+            let port = PortId { clock, port };
+            if cable.a == port || cable.b == port {
+                cable.up = false;
             }
-            Change::LinkUp { clock, port } => {
-                if self.is_at(clock, port) {
-                    self.up = true;
-                }
-            }
-            Change::LinkSet {
-                clock,
-                port,
-                min: _,
-                max,
-                loss,
-            } => {
-                if self.is_at(clock, port) {
-                    self.max = max;
-                    self.loss = loss;
-                }
-            }
-            Change::Fail { clock } => self.set_live(clock, false),
-            Change::Recover { clock } => self.set_live(clock, true),
-            Change::Priority1 { clock: _, value: _ } => {}
-            Change::Inject {
-                clock: _,
-                port: _,
-                octets: _,
-            } => {}
         }
-    }
-
-    /// Does what an act does.
-    pub(crate) fn act(&mut self, act: &Act) {
-        match act {
-            Act::Change(change) => self.change(change),
-            Act::Deliver {
-                link: _,
-                direction: _,
-            } => {}
-            Act::Expire { clock: _, timer: _ } => {}
+        Change::LinkUp { clock, port } => {
+            let port = PortId { clock, port };
+            if cable.a == port || cable.b == port {
+                cable.up = true;
+            }
         }
+        Change::LinkSet {
+            clock,
+            port,
+            min,
+            max,
+            loss,
+        } => {
+            let port = PortId { clock, port };
+            if cable.a == port || cable.b == port {
+                cable.bounds.min = min;
+                cable.bounds.max = max;
+                cable.bounds.loss = loss;
+            }
+        }
+        Change::Fail { clock: _ } => {}
+        Change::Recover { clock: _ } => {}
+        Change::Priority1 { clock: _, value: _ } => {}
+        Change::Inject {
+            clock: _,
+            port: _,
+            octets: _,
+        } => {}
     }
 }
 
-/// How a link stands at each of these times.
-pub(crate) fn course_of(
+/// Does to a link what an act does.
+fn act_on_cable(act: &Act, cable: &mut Cable)
+    ensures { wire_of cable.new ≡ link_acted act.now (wire_of cable.old) }
+{
+    match act {
+        Act::Change(change) => change_cable(change, cable),
+        Act::Deliver {
+            link: _,
+            direction: _,
+        } => {}
+        Act::Expire { clock: _, timer: _ } => {}
+    }
+}
+
+/// Whether the system with this clock lives after a change.
+fn lives_changed(change: &Change, own: ClockId, lives: bool) -> bool
+    ensures { result ≡ (system_changed change.now own (record { identity = 0; live = lives })).live }
+{
+    match *change {
+        Change::Fail { clock } => lives && clock != own,
+        Change::Recover { clock } => lives || clock == own,
+        Change::LinkDown { clock: _, port: _ } => lives,
+        Change::LinkUp { clock: _, port: _ } => lives,
+        Change::LinkSet {
+            clock: _,
+            port: _,
+            min: _,
+            max: _,
+            loss: _,
+        } => lives,
+        Change::Priority1 { clock: _, value: _ } => lives,
+        Change::Inject {
+            clock: _,
+            port: _,
+            octets: _,
+        } => lives,
+    }
+}
+
+/// Whether the system with this clock lives after an act.
+fn lives_acted(act: &Act, own: ClockId, lives: bool) -> bool
+    ensures { result ≡ lives_acted act.now own lives }
+{
+    match act {
+        Act::Change(change) => lives_changed(change, own, lives),
+        Act::Deliver {
+            link: _,
+            direction: _,
+        } => lives,
+        Act::Expire { clock: _, timer: _ } => lives,
+    }
+}
+
+/// What an act makes of a link and of the systems at its ends.
+fn act(act: &Act, standing: &mut Standing)
+    ensures { standing.new ≡ acted act.now standing.old }
+{
+    standing.a_lives = lives_acted(act, standing.cable.a.clock, standing.a_lives);
+    standing.b_lives = lives_acted(act, standing.cable.b.clock, standing.b_lives);
+    act_on_cable(act, &mut standing.cable);
+}
+
+/// How a link stands at the time of this standing, and at those of events behind it.
+pub(crate) fn course_from(
     alloc: Global,
-    first: Standing,
+    first: &Standing,
     events: &[Timed],
-    moments: &[Moment],
-) -> Result<Vec<Standing>, AllocError> {
+) -> Result<Vec<Standing>, AllocError>
+    ensures { IfOk result (λ course. course.items ≡ course_from first.now events.now) }
+{
     let mut course = Vec::new(alloc);
-    let mut standing = first;
-    let mut done = 0;
-    for moment in moments {
-        for event in events.get(done..moment.events).unwrap_or(&[]) {
-            standing.act(&event.act);
+    let mut standing = *first;
+    for event in events {
+        if event.at != standing.at {
+            course.push(standing)?;
+            standing.at = event.at;
         }
-        done = moment.events;
-        course.push(standing)?;
+        act(&event.act, &mut standing);
     }
+    course.push(standing)?;
     Ok(course)
 }

@@ -16,7 +16,7 @@ use std::alloc::{AllocFailed, Global};
 use toml::{Table, Value};
 
 /// Why the tests end before their end.
-#[derive(Debug, Drop)]
+#[derive(Drop)]
 pub(crate) enum Stop {
     /// One fails.
     Fault(Why),
@@ -195,7 +195,7 @@ fn test_bounds(min: u64, max: u64) -> Result<(), Why> {
 }
 
 /// The ends of a link must be there, and free.
-fn test_ends(seen: &Seen, a: PortId, b: PortId) -> Result<(), Why> {
+fn test_ends(seen: &Seen, a: &PortId, b: &PortId) -> Result<(), Why> {
     if a.clock == b.clock {
         return Err(Why::BothEnds { clock: a.clock });
     }
@@ -224,7 +224,7 @@ fn test_link(seen: &mut Seen, params: &Params, table: &Table) -> Result<(), Stop
         clock: b,
         port: b_port,
     };
-    test_ends(seen, a, b)?;
+    test_ends(seen, &a, &b)?;
     test_short(seen, params, max)?;
     match seen.push_link(a, b) {
         Ok(()) => Ok(()),
@@ -255,7 +255,7 @@ fn port_of(table: &Table) -> Result<PortId, Why> {
 fn test_link_event(seen: &mut Seen, at: u64, table: &Table) -> Result<(), Why> {
     let port = port_of(table)?;
     test_order(seen, at)?;
-    seen.test_linked(port)
+    seen.test_linked(&port)
 }
 
 /// An event of a link that gets other bounds.
@@ -266,7 +266,7 @@ fn test_link_set(seen: &mut Seen, params: &Params, at: u64, table: &Table) -> Re
     natural(table, "loss", 0, 1000)?;
     test_order(seen, at)?;
     test_bounds(min, max)?;
-    seen.test_linked(port)?;
+    seen.test_linked(&port)?;
     test_short(seen, params, max)
 }
 
@@ -290,7 +290,7 @@ fn test_inject(seen: &mut Seen, at: u64, table: &Table) -> Result<(), Why> {
     let port = port_of(table)?;
     test_octets(table, "octets")?;
     test_order(seen, at)?;
-    seen.test_linked(port)
+    seen.test_linked(&port)
 }
 
 /// An event.
@@ -311,7 +311,7 @@ fn test_event(seen: &mut Seen, params: &Params, table: &Table) -> Result<(), Why
 }
 
 /// What members are tested by.
-#[derive(Clone, Copy, Debug)]
+#[derive(Clone, Copy)]
 struct Context {
     params: Params,
     version: u64,
@@ -348,7 +348,7 @@ fn test_member(
 }
 
 /// Where the tests stop: there is no memory, or this fails.
-#[derive(Debug, Drop)]
+#[derive(Drop)]
 pub(crate) enum Halt {
     Fault(Refusal),
     Memory,

@@ -8,7 +8,7 @@ use std::fmt;
 const SHOWN: usize = 64;
 
 /// The front of a text of a document, and how many octets the text has.
-#[derive(Debug, Drop)]
+#[derive(Drop)]
 pub(crate) struct Front {
     pub octets: ArrayVec<u8, 64>,
     pub length: usize,

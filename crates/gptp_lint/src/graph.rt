@@ -5,14 +5,14 @@ use gptp_vector::{ClockId, Identity, PortId};
 use std::alloc::{AllocError, Global};
 
 /// A system: its identity, and whether it lives.
-#[derive(Clone, Copy, Debug)]
+#[derive(Clone, Copy)]
 struct Node {
     identity: Identity,
     lives: bool,
 }
 
 /// A link: its ends, whether it is up, and the places of its systems.
-#[derive(Clone, Copy, Debug)]
+#[derive(Clone, Copy)]
 struct Edge {
     a: PortId,
     b: PortId,
@@ -22,21 +22,21 @@ struct Edge {
 }
 
 /// The systems and links of a network as they stand.
-#[derive(Debug, Drop)]
+#[derive(Drop)]
 pub(crate) struct Graph {
     nodes: Vec<Node>,
     edges: Vec<Edge>,
 }
 
 /// The two best systems of a component, the second where there is one.
-#[derive(Clone, Copy, Debug)]
+#[derive(Clone, Copy)]
 pub(crate) struct Best {
     pub best: Identity,
     pub second: Option<Identity>,
 }
 
 /// Which systems are known to be joined: each is below another of its component, or is the one above all.
-#[derive(Debug, Drop)]
+#[derive(Drop)]
 struct Forest {
     above: Vec<usize>,
     sizes: Vec<usize>,

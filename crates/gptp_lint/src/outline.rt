@@ -5,7 +5,7 @@ use crate::scanner::{Quote, Scanner, Span, Token};
 use std::alloc::{AllocError, Global};
 
 /// A key at a place.
-#[derive(Debug, Drop)]
+#[derive(Drop)]
 pub(crate) struct Entry {
     pub place: Place,
     pub key: Vec<u8>,
@@ -13,7 +13,7 @@ pub(crate) struct Entry {
 
 /// The keys at the top, in `[network]` and in each member of the other sections, in the order of the text; and the lines,
 /// from 1, of the headers of these members. A key may stand there several times.
-#[derive(Debug, Drop)]
+#[derive(Drop)]
 pub(crate) struct Outline {
     pub entries: Vec<Entry>,
     pub systems: Vec<usize>,
@@ -66,14 +66,14 @@ impl Outline {
 }
 
 /// A part of a key, as the text spells it.
-#[derive(Clone, Copy, Debug)]
+#[derive(Clone, Copy)]
 struct Part {
     span: Span,
     escapes: bool,
 }
 
 /// What the next word is.
-#[derive(Clone, Copy, Debug, PartialEq, Eq)]
+#[derive(Clone, Copy)]
 enum Expects {
     /// The first part of a key, or a header.
     Line,
@@ -88,7 +88,7 @@ enum Expects {
 }
 
 /// What a value has whose keys count.
-#[derive(Clone, Copy, Debug, PartialEq, Eq)]
+#[derive(Clone, Copy)]
 enum Holds {
     Nothing,
     Network,
@@ -96,7 +96,7 @@ enum Holds {
 }
 
 /// What is known behind some tokens.
-#[derive(Debug, Drop)]
+#[derive(Drop)]
 struct Walk {
     outline: Outline,
     expects: Expects,
@@ -148,7 +148,7 @@ fn digit_value(octet: u8) -> u32 {
 }
 
 /// What is open in a text with escapes.
-#[derive(Clone, Copy, Debug)]
+#[derive(Clone, Copy)]
 enum Escape {
     None,
     Begun,

@@ -3,7 +3,7 @@
 use std::fmt;
 
 /// A section that is an array, by its order in a document.
-#[derive(Clone, Copy, Debug, PartialEq, Eq, PartialOrd, Ord)]
+#[derive(Clone, Copy, PartialEq, Eq, PartialOrd, Ord)]
 pub(crate) enum Section {
     System,
     Link,
@@ -41,7 +41,7 @@ impl Section {
 }
 
 /// Where a key stands: at the top, in `[network]`, or in a member of another section, by its number from 0.
-#[derive(Clone, Copy, Debug, PartialEq, Eq, PartialOrd, Ord)]
+#[derive(Clone, Copy, PartialEq, Eq, PartialOrd, Ord)]
 pub(crate) enum Place {
     Top,
     Network,

@@ -1,7 +1,7 @@
 //! The words and marks of a text that is TOML.
 
 /// A part of a text.
-#[derive(Clone, Copy, Debug, PartialEq, Eq)]
+#[derive(Clone, Copy)]
 pub(crate) enum Token {
     /// A line ends.
     Feed,
@@ -14,14 +14,14 @@ pub(crate) enum Token {
 }
 
 /// From a place in a text, from 0, to before another.
-#[derive(Clone, Copy, Debug, PartialEq, Eq)]
+#[derive(Clone, Copy)]
 pub(crate) struct Span {
     pub from: usize,
     pub to: usize,
 }
 
 /// How a text is quoted: by `"`, with escapes, or by `'`.
-#[derive(Clone, Copy, Debug, PartialEq, Eq)]
+#[derive(Clone, Copy, PartialEq, Eq)]
 pub(crate) enum Quote {
     Basic,
     Literal,
@@ -38,7 +38,7 @@ impl Quote {
 }
 
 /// What the octets so far leave open.
-#[derive(Clone, Copy, Debug)]
+#[derive(Clone, Copy)]
 enum Open {
     Nothing,
     Comment,
@@ -54,7 +54,7 @@ enum Open {
 }
 
 /// Goes through a text octet by octet.
-#[derive(Debug, Drop)]
+#[derive(Drop)]
 pub(crate) struct Scanner {
     open: Open,
 }
@@ -111,7 +111,7 @@ fn ends_word(octet: u8) -> bool {
 }
 
 /// What is known behind one octet more: what it ends, and what it is by itself.
-#[derive(Clone, Copy, Debug)]
+#[derive(Clone, Copy)]
 pub(crate) struct Step {
     pub ended: Option<Token>,
     pub own: Option<Token>,

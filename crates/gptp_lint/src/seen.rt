@@ -5,7 +5,7 @@ use gptp_vector::{ClockId, PortId};
 use std::alloc::{AllocError, Global};
 
 /// The systems and links so far, and the least announce interval of any port, as a logarithm to base 2 of seconds.
-#[derive(Debug, Drop)]
+#[derive(Drop)]
 pub(crate) struct Seen {
     systems: Vec<(ClockId, u8)>,
     links: Vec<(PortId, PortId)>,
@@ -35,9 +35,9 @@ impl Seen {
     }
 
     /// The number of the link at a port.
-    pub(crate) fn link_at(&self, port: PortId) -> Option<usize> {
+    pub(crate) fn link_at(&self, port: &PortId) -> Option<usize> {
         for (number, (a, b)) in self.links.iter().enumerate() {
-            if *a == port || *b == port {
+            if a == port || b == port {
                 return Some(number);
             }
         }
@@ -65,12 +65,12 @@ impl Seen {
     }
 
     /// A port must be there.
-    pub(crate) fn test_port(&self, port: PortId) -> Result<(), Why> {
+    pub(crate) fn test_port(&self, port: &PortId) -> Result<(), Why> {
         match self.system_of(port.clock) {
             None => Err(Why::UnknownClock { clock: port.clock }),
             Some((_, ports)) => {
                 if u16::from(ports) < port.port {
-                    return Err(Why::Beyond { port, ports });
+                    return Err(Why::Beyond { port: *port, ports });
                 }
                 Ok(())
             }
@@ -78,20 +78,20 @@ impl Seen {
     }
 
     /// No link may be at a port.
-    pub(crate) fn test_free(&self, port: PortId) -> Result<(), Why> {
+    pub(crate) fn test_free(&self, port: &PortId) -> Result<(), Why> {
         match self.link_at(port) {
-            Some(link) => Err(Why::Taken { port, link }),
+            Some(link) => Err(Why::Taken { port: *port, link }),
             None => Ok(()),
         }
     }
 
     /// A link must be at a port.
-    pub(crate) fn test_linked(&self, port: PortId) -> Result<(), Why> {
+    pub(crate) fn test_linked(&self, port: &PortId) -> Result<(), Why> {
         if self.link_at(port).is_some() {
             return Ok(());
         }
         self.test_port(port)?;
-        Err(Why::Unlinked { port })
+        Err(Why::Unlinked { port: *port })
     }
 
     /// A system must have a clock.

@@ -1,7 +1,10 @@
 //! Links that aren't good, or lose frames, while they are in use.
 
-use crate::course::Standing;
-use crate::moments::Moment;
+ghost use Rattle.std.specs.Prelude.{◌≡◌, ◌++◌, OnOk};
+ghost use Rattle.gptp_setup.specs.declared.setup.Params.{Params};
+ghost use Rattle.gptp_lint.specs.Trouble.{ended, is_long, long_at, long_of, loss_in_use, needed, stretches};
+
+use crate::course::{Standing, is_used};
 use gptp_plan::Params;
 use std::alloc::AllocError;
 
@@ -15,7 +18,7 @@ pub struct Long {
     /// Its greatest delay then, in ns.
     pub max: u64,
     /// The least threshold at which it would be good, in ns.
-    pub needs: u64,
+    pub needs: u128,
 }
 
 /// A stretch of times at which a link is in use and loses as many of a thousand frames.
@@ -32,73 +35,95 @@ pub struct Lossy {
 }
 
 /// The least threshold at which a link of this greatest delay is good, in ns.
-pub(crate) fn needed_threshold(params: &Params, max: u64) -> u64 {
-    max.saturating_add(max.div_ceil(1000))
-        .saturating_add(params.turnaround.div_ceil(2000))
-        .saturating_add(2)
+fn needed(params: &Params, max: u64) -> u128
+    ensures { result ≡ needed params.now max }
+{
+    u128::from(max)
+        + u128::from(max.div_ceil(1000))
+        + u128::from(params.turnaround.div_ceil(2000))
+        + 2
 }
 
 /// Whether a link is in use and isn't good.
-fn is_long(params: &Params, standing: &Standing) -> bool {
-    standing.is_used() && params.threshold < needed_threshold(params, standing.max)
+fn is_long(params: &Params, standing: &Standing) -> bool
+    ensures { result ≡ is_long params.now standing.now }
+{
+    is_used(standing) && u128::from(params.threshold) < needed(params, standing.cable.bounds.max)
+}
+
+/// A link that isn't good.
+fn long_at(params: &Params, standing: &Standing) -> Long
+    ensures { result ≡ long_at params.now standing.now }
+{
+    Long {
+        link: standing.cable.bounds.link,
+        at: standing.at,
+        max: standing.cable.bounds.max,
+        needs: needed(params, standing.cable.bounds.max),
+    }
 }
 
 /// The first time at which a link is in use and isn't good.
-pub(crate) fn long_of(
-    params: &Params,
-    link: usize,
-    moments: &[Moment],
-    course: &[Standing],
-) -> Option<Long> {
-    for (moment, standing) in moments.iter().zip(course) {
+pub(crate) fn long_of(params: &Params, course: &[Standing]) -> Option<Long>
+    ensures { result ≡ long_of params.now course.now }
+{
+    for standing in course {
         if is_long(params, standing) {
-            return Some(Long {
-                link,
-                at: moment.at,
-                max: standing.max,
-                needs: needed_threshold(params, standing.max),
-            });
+            return Some(long_at(params, standing));
         }
     }
     None
 }
 
 /// How many of a thousand frames a link loses in use.
-fn loss_in_use(standing: &Standing) -> u16 {
-    if standing.is_used() { standing.loss } else { 0 }
+fn loss_in_use(standing: &Standing) -> u16
+    ensures { result ≡ loss_in_use standing.now }
+{
+    if is_used(standing) {
+        standing.cable.bounds.loss
+    } else {
+        0
+    }
+}
+
+/// Puts a stretch that ends behind others, where one has begun.
+fn push_ended(
+    lossy: &mut Vec<Lossy>,
+    link: usize,
+    loss: u16,
+    from: u64,
+    to: Option<u64>,
+) -> Result<(), AllocError>
+    ensures { OnOk result (lossy.new.items ≡ lossy.old.items ++ ended link loss from to) }
+{
+    if loss != 0 {
+        lossy.push(Lossy {
+            link,
+            loss,
+            from,
+            to,
+        })?;
+    }
+    Ok(())
 }
 
 /// Puts the stretches of a link behind others.
 pub(crate) fn push_stretches(
     lossy: &mut Vec<Lossy>,
     link: usize,
-    moments: &[Moment],
     course: &[Standing],
-) -> Result<(), AllocError> {
+) -> Result<(), AllocError>
+    ensures { OnOk result (lossy.new.items ≡ lossy.old.items ++ stretches link 0 0 course.now) }
+{
     let mut loss = 0;
     let mut from = 0;
-    for (moment, standing) in moments.iter().zip(course) {
+    for standing in course {
         let now = loss_in_use(standing);
         if now != loss {
-            if loss != 0 {
-                lossy.push(Lossy {
-                    link,
-                    loss,
-                    from,
-                    to: Some(moment.at),
-                })?;
-            }
+            push_ended(lossy, link, loss, from, Some(standing.at))?;
             loss = now;
-            from = moment.at;
+            from = standing.at;
         }
     }
-    if loss != 0 {
-        lossy.push(Lossy {
-            link,
-            loss,
-            from,
-            to: None,
-        })?;
-    }
-    Ok(())
+    push_ended(lossy, link, loss, from, None)
 }

@@ -9,7 +9,7 @@ use std::alloc::{AllocError, Global};
 use toml::Table;
 
 /// A key that isn't read at its place, and its number among all keys of the text.
-#[derive(Debug, Drop, PartialEq, Eq, PartialOrd, Ord)]
+#[derive(Drop, PartialEq, Eq, PartialOrd, Ord)]
 struct Unknown {
     place: Place,
     key: Vec<u8>,

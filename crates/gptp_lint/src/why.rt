@@ -9,7 +9,7 @@ use gptp_vector::{ClockId, PortId};
 use std::fmt;
 
 /// The test that fails, with what it saw.
-#[derive(Debug, Drop)]
+#[derive(Drop)]
 pub(crate) enum Why {
     /// A key is missing.
     Missing { key: &'static str },
@@ -54,7 +54,7 @@ pub(crate) enum Why {
 }
 
 /// A fault, and where it stands.
-#[derive(Debug, Drop)]
+#[derive(Drop)]
 pub(crate) struct Refusal {
     pub place: Place,
     pub why: Why,
