@@ -1,0 +1,4 @@
+mod LivesLemmas
+mod CourseLemmas
+mod TroubleLemmas
+mod QuietLemmas
