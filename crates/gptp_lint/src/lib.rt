@@ -9,6 +9,7 @@ mod escaped;
 mod findings;
 mod graph;
 mod keys;
+mod lines;
 mod nearest;
 mod outline;
 mod place;

@@ -1,5 +1,7 @@
 //! Which keys stand where in a text that is TOML, in its order, and at which lines members begin.
 
+ghost use Rattle.std.specs.Prelude.{◌≡◌, slice_get};
+
 use crate::place::{Place, Section};
 use crate::scanner::{Quote, Scanner, Span, Token};
 use std::alloc::{AllocError, Global};
@@ -38,6 +40,13 @@ impl Outline {
             Place::Network => None,
             Place::Member(section, number) => self.lines(section).get(number).copied(),
         }
+    }
+
+    /// The line of the header of a link, if it has one.
+    pub(crate) fn link_line(&self, link: usize) -> Option<usize>
+        ensures { result ≡ slice_get self.now.links.items link }
+    {
+        self.links.as_slice().get(link).copied()
     }
 
     /// Puts the header of a member behind the others, and answers which member that is.

@@ -53,6 +53,11 @@ pub(crate) enum Place {
 pub(crate) struct LineWords(pub Option<usize>);
 
 impl fmt::Display for LineWords {
+    ghost use Rattle.std.specs.Prelude.{Some};
+    ghost use Rattle.gptp_lint.specs.LintText.{line_words};
+
+    ghost output = { λ words. Some (line_words words.0) };
+
     fn fmt<W: fmt::Write>(&self, f: &mut fmt::Formatter<W>) -> fmt::Result {
         match self.0 {
             Some(line) => write!(f, " line {line}"),

@@ -1,5 +1,9 @@
 //! The line of a document that is refused.
 
+ghost use Rattle.std.specs.Prelude.{◌≡◌, ◌++◌, ◌∷◌, [], List, ℕ, OnOk, string_bytes};
+ghost use Rattle.gptp_spelling.specs.Lines.{text_of};
+ghost use Rattle.gptp_lint.specs.LintText.{refused_line};
+
 use crate::diagnosis::{Halt, test_document};
 use crate::escaped::Escaped;
 use crate::keys::{is_known, keys_at};
@@ -128,8 +132,13 @@ pub fn write_refusal(
     text: &mut String,
     input: &[u8],
     fault: DocumentFault,
-) -> Result<(), AllocError> {
+) -> Result<(), AllocError>
+    ensures { OnOk result ((place : List ℕ)
+        × (string_bytes text.new ≡ string_bytes text.old ++ text_of (refused_line fault place ∷ []))) }
+{
+    let mut place = String::new(alloc);
+    write_place(alloc, &mut place, input)?;
     write!(text, "refused {fault}")?;
-    write_place(alloc, text, input)?;
+    text.push_str(place.as_str())?;
     text.push_str("\n")
 }

@@ -1,7 +1,11 @@
 //! Keys that aren't read.
 
+ghost use Rattle.std.specs.Prelude.{◌≡◌, OnOk, string_bytes};
+ghost use Rattle.gptp_lint.specs.LintText.{AppendsLines};
+
 use crate::escaped::Escaped;
 use crate::keys::{is_known, keys_at, table_at};
+use crate::lines::push_line;
 use crate::nearest::{is_nearer, near};
 use crate::outline::{Entry, Outline, outline_of};
 use crate::place::{Place, PlaceWords};
@@ -86,9 +90,9 @@ fn meant(document: &Table, place: Place, key: &[u8]) -> Option<&'static str> {
     found
 }
 
-/// Appends the line of a key that isn't read.
+/// Appends what is told of a key that isn't read.
 fn write_unknown(
-    text: &mut String,
+    line: &mut String,
     document: &Table,
     outline: &Outline,
     entry: &Entry,
@@ -97,10 +101,10 @@ fn write_unknown(
         place: entry.place,
         line: outline.line(entry.place),
     };
-    write!(text, "unknown {place} key {}", Escaped(&entry.key))?;
+    write!(line, "unknown {place} key {}", Escaped(&entry.key))?;
     match meant(document, entry.place, &entry.key) {
-        Some(known) => writeln!(text, " near {known}"),
-        None => text.push_str("\n"),
+        Some(known) => write!(line, " near {known}"),
+        None => Ok(()),
     }
 }
 
@@ -110,12 +114,17 @@ pub(crate) fn write_unknown_keys(
     text: &mut String,
     document: &Table,
     outline: &Outline,
-) -> Result<(), AllocError> {
+) -> Result<(), AllocError>
+    ensures { OnOk result (AppendsLines (string_bytes text.old) (string_bytes text.new)) }
+{
     let unknown = unknown_keys(alloc, document, outline)?;
-    for (_, number) in firsts(alloc, &unknown)? {
-        if let Some(entry) = outline.entries.get(number) {
-            write_unknown(text, document, outline, entry)?;
+    let firsts = firsts(alloc, &unknown)?;
+    for (_, number) in &firsts {
+        let mut line = String::new(alloc);
+        if let Some(entry) = outline.entries.get(*number) {
+            write_unknown(&mut line, document, outline, entry)?;
         }
+        push_line(text, line.as_str())?;
     }
     Ok(())
 }
