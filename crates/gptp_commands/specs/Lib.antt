@@ -12,6 +12,7 @@ pub mod RunSoFar
 pub mod CheckText
 pub mod ChoiceText
 pub mod AccuracyText
+pub mod LintText
 pub mod QuestionText
 pub mod Certified
 pub mod Command

@@ -1,5 +1,9 @@
 //! The command `lint`: what isn't as it should be in a document.
 
+ghost use Rattle.std.specs.Prelude.{◌≡◌, IfErr, IfOk};
+ghost use Rattle.gptp_commands.specs.LintText.{RefusesAtPlace, TellsFindings};
+ghost use Rattle.gptp_commands.specs.Output.{IsOutput};
+
 use crate::failure::{SimError, Status};
 use crate::output::Output;
 use gptp_lint::{find, write_findings, write_refusal};
@@ -11,7 +15,10 @@ pub(crate) fn refuse_at_place(
     alloc: Global,
     input: &[u8],
     fault: DocumentFault,
-) -> Result<Output, SimError> {
+) -> Result<Output, SimError>
+    ensures refuses { IfOk result (IsOutput (RefusesAtPlace fault)) }
+    ensures memory { IfErr result (λ e. e ≡ SimError.Memory) }
+{
     let mut text = String::new(alloc);
     write_refusal(alloc, &mut text, input, fault)?;
     Ok(Output::of(text, Status::Refused))
@@ -23,7 +30,10 @@ pub(crate) fn tell_findings(
     document: &Document,
     input: &[u8],
     strict: bool,
-) -> Result<Output, SimError> {
+) -> Result<Output, SimError>
+    ensures tells { IfOk result (IsOutput (TellsFindings document.now strict)) }
+    ensures memory { IfErr result (λ e. e ≡ SimError.Memory) }
+{
     let findings = find(alloc, document)?;
     let threshold = document.network().params().threshold;
     let mut text = String::new(alloc);

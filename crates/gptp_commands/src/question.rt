@@ -3,7 +3,7 @@
 ghost use Rattle.std.specs.Prelude.{◌≡◌, ◌≢◌, ◌+◌, List, ℕ, IfErr, IfOk, OnOk};
 ghost use Rattle.std.specs.Io.KnownBytes.{Keeps};
 ghost use Rattle.gptp_commands.specs.Output.{IsOutput};
-ghost use Rattle.gptp_commands.specs.QuestionText.{Answers, AnswersInput, QuestionText};
+ghost use Rattle.gptp_commands.specs.QuestionText.{Answers, AnswersInput, QuestionText, RefusesInput};
 ghost use Rattle.gptp_commands.specs.RunText.{document_limit};
 ghost use Rattle.gptp_commands.specs.Source.{ReadsWhole, TakesAtMost};
 ghost use Rattle.gptp_commands.specs.Written.{Writes, WritesFront};
@@ -69,10 +69,16 @@ fn refuse_document(
     question: Question,
     fault: DocumentFault,
 ) -> Result<Output, SimError>
+    ensures refuses { IfOk result (IsOutput (RefusesInput question fault)) }
+    ensures memory { IfErr result (λ e. e ≡ SimError.Memory) }
 {
     match question {
+        Question::Choice { until: _ } => refuse(alloc, fault),
+        Question::Accuracy {
+            until: _,
+            max_error: _,
+        } => refuse(alloc, fault),
         Question::Lint { strict: _ } => refuse_at_place(alloc, input, fault),
-        _ => refuse(alloc, fault),
     }
 }
 

@@ -51,9 +51,13 @@ found_lines threshold f unread others header =
 
 -- The findings of a document of this threshold: the keys that aren't read, the links that are too long or lose frames, each
 -- with the line of its header, the other findings, and the times; and whether there is a line but those of the times.
-pub record FindingsText (threshold : ℕ) (f : Findings) (old new : List ℕ) (found : Bool) : Type 0 where
+pub record AreLines (threshold : ℕ) (f : Findings) (lines : List (List ℕ)) (found : Bool) : Type 0 where
   pub unread : List (List ℕ)
   pub others : List (List ℕ)
   pub header : ℕ → Option ℕ
-  pub text : new ≡ old ++ text_of (found_lines threshold f unread others header ++ map calm_line f.calm.items)
+  pub lines_are : lines ≡ found_lines threshold f unread others header ++ map calm_line f.calm.items
   pub found_is : found ≡ not (length (found_lines threshold f unread others header) == 0)
+
+abbrev pub AppendsFindings : ℕ → Findings → List ℕ → List ℕ → Bool → Type 0
+AppendsFindings threshold f old new found =
+    (lines : List (List ℕ)) × AreLines threshold f lines found × (new ≡ old ++ text_of lines)

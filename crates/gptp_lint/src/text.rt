@@ -2,7 +2,7 @@
 
 ghost use Rattle.std.specs.Prelude.{◌≡◌, ◌++◌, ◌∷◌, ◌↔◌, [], Bool, List, ℕ, IfOk, IsTrue, OnOk, map, slice_get, string_bytes};
 ghost use Rattle.gptp_spelling.specs.Lines.{text_of};
-ghost use Rattle.gptp_lint.specs.LintText.{AppendsLines, FindingsText, calm_line, long_line, lossy_line};
+ghost use Rattle.gptp_lint.specs.LintText.{AppendsFindings, AppendsLines, calm_line, long_line, lossy_line};
 
 use crate::components::Components;
 use crate::findings::{CalmTime, Findings};
@@ -217,7 +217,7 @@ pub fn write_findings(
     threshold: u64,
     findings: &Findings,
 ) -> Result<bool, AllocError>
-    ensures { IfOk result (FindingsText threshold findings.now (string_bytes text.old) (string_bytes text.new)) }
+    ensures { IfOk result (AppendsFindings threshold findings.now (string_bytes text.old) (string_bytes text.new)) }
 {
     let before = text.len();
     let outline = outline_of(alloc, input)?;
