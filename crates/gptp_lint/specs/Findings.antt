@@ -11,7 +11,7 @@ use Rattle.gptp_lint.specs.declared.findings.Findings.{Findings}
 
 -- each time of a document, with its bound
 pub record AreCalmTimes (d : DocumentState) (times : List CalmTime) : Type 0 where
-  pub times : map (λ (t : CalmTime). t.at) times ≡ times_of d.events
+  pub times_are : map (λ (t : CalmTime). t.at) times ≡ times_of d.events
   pub bounds : AllByRecursion (λ (t : CalmTime). IsBound d t.at t.bound) times
 
 -- each time of a document is calm
