@@ -20,6 +20,8 @@ mod far;
 #[cfg(test)]
 mod inject;
 #[cfg(test)]
+mod lint;
+#[cfg(test)]
 mod refusals;
 #[cfg(test)]
 mod run;

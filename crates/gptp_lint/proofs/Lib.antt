@@ -2,3 +2,4 @@ mod LivesLemmas
 mod CourseLemmas
 mod TroubleLemmas
 mod QuietLemmas
+mod TextLemmas
