@@ -150,22 +150,25 @@ stood events s at = at_time at (after (events_by at events) s)
 course_behind : (s : Standing) (done ts : List Timed) (at : ℕ) → past_by at done → not_before at ts → AreInOrder ts
     → course_from (at_time at (after done s)) ts ≡ map (stood (done ++ ts) s) (times_from at ts)
 
-course_step : (s : Standing) (done : List Timed) (t : Timed) (ts : List Timed) (at : ℕ) (test : Bool)
-    → (t.at == at) ≡ test → past_by at done → not_before at (t ∷ ts) → AreInOrder (t ∷ ts)
-    → cond test (course_from (acted t.act (at_time at (after done s))) ts)
-    (at_time at (after done s) ∷ course_from (acted t.act (at_time t.at (after done s))) ts)
-    ≡ map (stood (done ++ t ∷ ts) s) (cond test (times_from at ts) (at ∷ times_from t.at ts))
-course_step s done t ts at true same past come order =
-    let is : t.at ≡ at = eqb-true t.at at same in
-    let here : t.at ≤ at = omega (arith, is) in
+course_step : (s : Standing) (done : List Timed) (t : Timed) (ts : List Timed) (at : ℕ) (same : Bool)
+    → (at == t.at) ≡ same → past_by at done → not_before at (t ∷ ts) → AreInOrder (t ∷ ts)
+    → (cond same [] (at_time at (after done s) ∷ [])) ++ course_from (acted t.act (at_time t.at (after done s))) ts
+    ≡ map (stood (done ++ t ∷ ts) s) (times_from at (t ∷ ts))
+course_step s done t ts at true is past come order =
+    let same : at ≡ t.at = eqb-true at t.at is in
+    let here : t.at ≤ at = omega (arith, same) in
     let joined : (done ++ t ∷ []) ++ ts ≡ done ++ t ∷ ts = simp append_assoc in
-    ap (λ r. course_from (at_time at r) ts) (one_more done t s)
+    let other : (t.at == at) ≡ true = grind (arith, nat_tests) in
+    ap (λ u. course_from (acted t.act (at_time u (after done s))) ts) (sym same)
+    ∙ ap (λ r. course_from (at_time at r) ts) (one_more done t s)
     ∙ course_behind s (done ++ t ∷ []) ts at (past_more at done t past here) come.1 (order_behind t ts order)
     ∙ ap (λ es. map (stood es s) (times_from at ts)) joined
-course_step s done t ts at false other past come order =
+    ∙ ap (λ test. map (stood (done ++ t ∷ ts) s) (cond test (times_from at ts) (at ∷ times_from t.at ts))) (sym other)
+course_step s done t ts at false is past come order =
     let least = come.0 in
     let here : at < t.at = grind (arith, nat_tests) in
     let earlier : at ≤ t.at = omega (arith, here) in
+    let other : (t.at == at) ≡ false = grind (arith, nat_tests) in
     let rest = behind t ts order in
     let now : events_by at (done ++ t ∷ ts) ≡ done = only_past at done (t ∷ ts) past (here, all_later at t ts here rest) in
     let joined : (done ++ t ∷ []) ++ ts ≡ done ++ t ∷ ts = simp append_assoc in
@@ -178,11 +181,12 @@ course_step s done t ts at false other past come order =
     ap (λ r. r ∷ course_from (acted t.act (at_time t.at (after done s))) ts)
     (ap (λ es. at_time at (after es s)) (sym now))
     ∙ ap (λ rs. stood (done ++ t ∷ ts) s at ∷ rs) later
+    ∙ ap (λ test. map (stood (done ++ t ∷ ts) s) (cond test (times_from at ts) (at ∷ times_from t.at ts))) (sym other)
 
 course_behind s done [] at past come order =
     ap (λ es. at_time at (after es s) ∷ []) (sym (only_past at done [] past tt))
 course_behind s done (t ∷ ts) at past come order =
-    course_step s done t ts at (t.at == at) refl past come order
+    course_step s done t ts at (at == t.at) refl past come order
 
 all_from_0 : (ts : List Timed) → not_before 0 ts
 all_from_0 [] = tt

@@ -3,3 +3,4 @@ mod CourseLemmas
 mod TroubleLemmas
 mod QuietLemmas
 mod TextLemmas
+mod FoundLemmas

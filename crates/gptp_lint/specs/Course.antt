@@ -1,5 +1,5 @@
 -- How a link stands at each time of a document (profile).
-use Rattle.std.specs.Prelude.{ℕ, Bool, true, ◌&&◌, ◌==◌, if◌then◌else◌, List, [], ◌∷◌}
+use Rattle.std.specs.Prelude.{ℕ, Bool, true, ◌&&◌, ◌==◌, if◌then◌else◌, List, [], ◌∷◌, ◌++◌}
 use Rattle.gptp_plan.specs.Change.{link_acted, system_acted}
 use Rattle.gptp_plan.specs.declared.change.Act.{Act}
 use Rattle.gptp_plan.specs.declared.change.Timed.{Timed}
@@ -30,11 +30,14 @@ acted act s = record {
 abbrev pub at_time : ℕ → Standing → Standing
 at_time at s = record { at = at; cable = s.cable; a_lives = s.a_lives; b_lives = s.b_lives }
 
+-- how it stood so far, where the time is another: this is the last of that
+abbrev pub past : ℕ → Standing → List Standing → List Standing
+past at s ss = if s.at == at then ss else ss ++ s ∷ []
+
 -- how a link stands at the time of this standing and at those of the events behind it
 abbrev pub course_from : Standing → List Timed → List Standing
 course_from s [] = s ∷ []
-course_from s (t ∷ ts) =
-    if t.at == s.at then course_from (acted t.act s) ts else s ∷ course_from (acted t.act (at_time t.at s)) ts
+course_from s (t ∷ ts) = past t.at s [] ++ course_from (acted t.act (at_time t.at s)) ts
 
 -- a link at first
 abbrev pub first : Wire → Standing

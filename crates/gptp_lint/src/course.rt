@@ -1,8 +1,8 @@
 //! How one link stands at each time.
 
-ghost use Rattle.std.specs.Prelude.{◌≡◌, IfOk};
+ghost use Rattle.std.specs.Prelude.{◌≡◌, IfOk, OnOk};
 ghost use Rattle.gptp_plan.specs.Change.{link_acted, link_changed, system_acted, system_changed};
-ghost use Rattle.gptp_lint.specs.Course.{acted, course_from, is_used, lives_acted, wire_of};
+ghost use Rattle.gptp_lint.specs.Course.{acted, at_time, course_from, is_used, lives_acted, past, wire_of};
 
 use gptp_links::Bounds;
 use gptp_plan::{Act, Change, Timed};
@@ -138,6 +138,22 @@ fn act(act: &Act, standing: &mut Standing)
     act_on_cable(act, &mut standing.cable);
 }
 
+/// Goes on to a time: where it is another, how the link stood until then is put behind the others.
+fn go_on(
+    course: &mut Vec<Standing>,
+    standing: &mut Standing,
+    at: u64,
+) -> Result<(), AllocError>
+    ensures course { OnOk result (course.new.items ≡ past at standing.old course.old.items) }
+    ensures standing { OnOk result (standing.new ≡ at_time at standing.old) }
+{
+    if standing.at != at {
+        course.push(*standing)?;
+    }
+    standing.at = at;
+    Ok(())
+}
+
 /// How a link stands at the time of this standing, and at those of events behind it.
 pub(crate) fn course_from(
     alloc: Global,
@@ -149,10 +165,7 @@ pub(crate) fn course_from(
     let mut course = Vec::new(alloc);
     let mut standing = *first;
     for event in events {
-        if event.at != standing.at {
-            course.push(standing)?;
-            standing.at = event.at;
-        }
+        go_on(&mut course, &mut standing, event.at)?;
         act(&event.act, &mut standing);
     }
     course.push(standing)?;
