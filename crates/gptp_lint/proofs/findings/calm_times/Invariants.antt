@@ -7,5 +7,5 @@ use Rattle.gptp_lint.proofs.findings.calm_times.Given as goal
 
 abbrev pub invariant-loop-at : goal.invariant-loop-at
 invariant-loop-at l =
-    (map (λ (t : CalmTime). t.at) l.calm.items ≡ take l.at-index l.times.items)
+    (map (λ (t : CalmTime). t.at) l.calm.items ≡ take l.at-index l.at-items)
     × AllByRecursion (λ (t : CalmTime). IsBound l.document t.at t.bound) l.calm.items
