@@ -60,7 +60,7 @@ same_b events w = (after_keeps events w).b
 
 -- ---- what events make of a link and of the systems at its ends
 
-pub after : List Timed → Standing → Standing
+abbrev pub after : List Timed → Standing → Standing
 after [] s = s
 after (t ∷ ts) s = after ts (acted t.act s)
 
@@ -91,10 +91,10 @@ one_more (u ∷ done) t s = one_more done t (acted u.act s)
 
 -- ---- events up to a time
 
-past_by : ℕ → List Timed → Type 0
+abbrev past_by : ℕ → List Timed → Type 0
 past_by at = AllByRecursion (λ (t : Timed). t.at ≤ at)
 
-not_before : ℕ → List Timed → Type 0
+abbrev not_before : ℕ → List Timed → Type 0
 not_before at = AllByRecursion (λ (t : Timed). at ≤ t.at)
 
 still_past : (at later : ℕ) (done : List Timed) → at ≤ later → past_by at done → past_by later done
@@ -144,38 +144,40 @@ all_later at t (u ∷ ts) here come =
 -- ---- the course of a link
 
 -- how it stands at a time
-pub stood : List Timed → Standing → ℕ → Standing
+abbrev pub stood : List Timed → Standing → ℕ → Standing
 stood events s at = at_time at (after (events_by at events) s)
 
-course_behind : (s : Standing) (done ts : List Timed) (at : ℕ) → past_by at done → not_before at ts → AreInOrder ts
+-- how it stands behind these events, at a time and at those of the events behind them
+abbrev StandsSo : Standing → List Timed → Type 0
+StandsSo s ts = (done : List Timed) (at : ℕ) → past_by at done → not_before at ts → AreInOrder ts
     → course_from (at_time at (after done s)) ts ≡ map (stood (done ++ ts) s) (times_from at ts)
 
-course_step : (s : Standing) (done : List Timed) (t : Timed) (ts : List Timed) (at : ℕ) (same : Bool)
+course_step : (s : Standing) (t : Timed) (ts : List Timed) → StandsSo s ts → (done : List Timed) (at : ℕ) (same : Bool)
     → (at == t.at) ≡ same → past_by at done → not_before at (t ∷ ts) → AreInOrder (t ∷ ts)
     → (cond same [] (at_time at (after done s) ∷ [])) ++ course_from (acted t.act (at_time t.at (after done s))) ts
     ≡ map (stood (done ++ t ∷ ts) s) (times_from at (t ∷ ts))
-course_step s done t ts at true is past come order =
+course_step s t ts behind_it done at true is past come order =
     let same : at ≡ t.at = eqb-true at t.at is in
     let here : t.at ≤ at = omega (arith, same) in
-    let joined : (done ++ t ∷ []) ++ ts ≡ done ++ t ∷ ts = simp append_assoc in
+    let joined : (done ++ t ∷ []) ++ ts ≡ done ++ t ∷ ts = append_assoc done (t ∷ []) ts in
     let other : (t.at == at) ≡ true = grind (arith, nat_tests) in
     ap (λ u. course_from (acted t.act (at_time u (after done s))) ts) (sym same)
     ∙ ap (λ r. course_from (at_time at r) ts) (one_more done t s)
-    ∙ course_behind s (done ++ t ∷ []) ts at (past_more at done t past here) come.1 (order_behind t ts order)
+    ∙ behind_it (done ++ t ∷ []) at (past_more at done t past here) come.1 (order_behind t ts order)
     ∙ ap (λ es. map (stood es s) (times_from at ts)) joined
     ∙ ap (λ test. map (stood (done ++ t ∷ ts) s) (cond test (times_from at ts) (at ∷ times_from t.at ts))) (sym other)
-course_step s done t ts at false is past come order =
+course_step s t ts behind_it done at false is past come order =
     let least = come.0 in
     let here : at < t.at = grind (arith, nat_tests) in
     let earlier : at ≤ t.at = omega (arith, here) in
     let other : (t.at == at) ≡ false = grind (arith, nat_tests) in
     let rest = behind t ts order in
     let now : events_by at (done ++ t ∷ ts) ≡ done = only_past at done (t ∷ ts) past (here, all_later at t ts here rest) in
-    let joined : (done ++ t ∷ []) ++ ts ≡ done ++ t ∷ ts = simp append_assoc in
+    let joined : (done ++ t ∷ []) ++ ts ≡ done ++ t ∷ ts = append_assoc done (t ∷ []) ts in
     let self : t.at ≤ t.at = omega arith in
     let later =
     ap (λ r. course_from (at_time t.at r) ts) (one_more done t s)
-    ∙ course_behind s (done ++ t ∷ []) ts t.at (past_more t.at done t (still_past at t.at done earlier past) self) rest
+    ∙ behind_it (done ++ t ∷ []) t.at (past_more t.at done t (still_past at t.at done earlier past) self) rest
     (order_behind t ts order)
     ∙ ap (λ es. map (stood es s) (times_from t.at ts)) joined in
     ap (λ r. r ∷ course_from (acted t.act (at_time t.at (after done s))) ts)
@@ -183,10 +185,11 @@ course_step s done t ts at false is past come order =
     ∙ ap (λ rs. stood (done ++ t ∷ ts) s at ∷ rs) later
     ∙ ap (λ test. map (stood (done ++ t ∷ ts) s) (cond test (times_from at ts) (at ∷ times_from t.at ts))) (sym other)
 
-course_behind s done [] at past come order =
+stands_so : (s : Standing) (ts : List Timed) → StandsSo s ts
+stands_so s [] done at past come order =
     ap (λ es. at_time at (after es s) ∷ []) (sym (only_past at done [] past tt))
-course_behind s done (t ∷ ts) at past come order =
-    course_step s done t ts at (at == t.at) refl past come order
+stands_so s (t ∷ ts) done at past come order =
+    course_step s t ts (stands_so s ts) done at (at == t.at) refl past come order
 
 all_from_0 : (ts : List Timed) → not_before 0 ts
 all_from_0 [] = tt
@@ -195,4 +198,4 @@ all_from_0 (t ∷ ts) = (omega arith, all_from_0 ts)
 -- it stands at each time as the events up to then leave it
 pub course_is : (events : List Timed) (w : Wire) → AreInOrder events
     → course_of events w ≡ map (stood events (first w)) (times_of events)
-course_is events w order = course_behind (first w) [] events 0 tt (all_from_0 events) order
+course_is events w order = stands_so (first w) events [] 0 tt (all_from_0 events) order

@@ -4,7 +4,7 @@ use Rattle.std.specs.List.{flat_map}
 use Rattle.std.specs.Option.{option_map, option_to_list}
 use Rattle.std.proofs.Math.Seq.{take-length}
 use Rattle.std.proofs.lemmas.List.Concat.{flat_map-append}
-use Rattle.std.proofs.lemmas.Option.{slice_get-get_or}
+use Rattle.std.proofs.lemmas.Option.{same_Some, slice_get-get_or}
 use Rattle.gptp_lists.proofs.MappedLemmas.{taken}
 use Rattle.gptp_vector.specs.declared.port.PortId.{PortId}
 use Rattle.gptp_links.specs.declared.bounds.Bounds.{Bounds}
@@ -35,19 +35,25 @@ lossies_more d place w there =
     (take place d.network.links) (w ∷ []))
     ∙ ap (lossies_of d) (sym (taken d.network.links place w there))
 
--- the link at a place, by its parts
+-- a link by its parts
+abbrev pub Parts : Type 0
+Parts = PortId × PortId × Bounds × Bool
+
+abbrev pub parts_of : Wire → Parts
+parts_of w = (w.a, w.b, w.bounds, w.up)
+
+-- the link at a place
 pub link_there : (links : List Wire) (place : ℕ) (a b : PortId) (bounds : Bounds) (up : Bool)
-    → Some (a, b, bounds, up) ≡ option_map (λ (w : Wire). (w.a, w.b, w.bounds, w.up)) (slice_get links place)
+    → ◌≡◌ {A = Option Parts} (Some (a, b, bounds, up)) (option_map parts_of (slice_get links place))
     → slice_get links place ≡ Some (record { a = a; b = b; bounds = bounds; up = up })
 link_there links place a b bounds up is = by (slice_get links place) is
   where
-    by : (o : Option Wire) → Some (a, b, bounds, up) ≡ option_map (λ (w : Wire). (w.a, w.b, w.bounds, w.up)) o
+    by : (o : Option Wire) → ◌≡◌ {A = Option Parts} (Some (a, b, bounds, up)) (option_map parts_of o)
         → o ≡ Some (record { a = a; b = b; bounds = bounds; up = up })
     by None is = absurd cc
     by (Some w) is =
-        let parts : ◌≡◌ {A = PortId × PortId × Bounds × Bool} (a, b, bounds, up) (w.a, w.b, w.bounds, w.up) = cc in
-        ap (λ (t : PortId × PortId × Bounds × Bool). Some (record { a = t.0; b = t.1; bounds = t.2; up = t.3 }))
-        (sym parts)
+        let parts : ◌≡◌ {A = Parts} (a, b, bounds, up) (parts_of w) = same_Some (a, b, bounds, up) (parts_of w) is in
+        ap (λ (t : Parts). Some (record { a = t.0; b = t.1; bounds = t.2; up = t.3 })) (sym parts)
 
 pub no_link_there : {X : Type 0} (f : Wire → X) (links : List Wire) (place : ℕ) → place < length links
     → None ≡ option_map f (slice_get links place) → ⊥

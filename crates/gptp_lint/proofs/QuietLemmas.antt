@@ -119,7 +119,7 @@ none_told None none = refl
 none_told (Some x) none = absurd cc
 
 module _ (d : DocumentState) (network : IsNetwork d.network) (order : AreInOrder d.events) where
-  params : Params
+  abbrev params : Params
   params = d.network.params
 
   calm_where_quiet : longs_of d d.network.links ≡ [] → lossies_of d d.network.links ≡ [] → IsAlwaysCalm d
@@ -141,7 +141,7 @@ module _ (d : DocumentState) (network : IsNetwork d.network) (order : AreInOrder
       let wire = network.links place w there in
       subst (λ r. (is_long params r ≡ false) × (loss_in_use r ≡ 0)) is
       (rests_to params d.network.systems (events_by at d.events) w wire.a wire.b
-      (all_in _ w d.network.links (calm at time) member))
+      (all_in (Rests params d.network.systems (events_by at d.events)) w d.network.links (calm at time) member))
 
   no_long_where_calm : IsAlwaysCalm d → longs_of d d.network.links ≡ []
   no_long_where_calm calm = none_at_all _ d.network.links (λ w member.

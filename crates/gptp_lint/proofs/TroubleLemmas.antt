@@ -5,6 +5,7 @@ use Rattle.gptp_lists.specs.Members.{In}
 use Rattle.gptp_setup.specs.declared.setup.Params.{Params}
 use Rattle.gptp_lint.specs.Trouble.{ended, is_long, long_at, long_of, loss_in_use, stretches}
 use Rattle.gptp_lint.specs.declared.course.Standing.{Standing}
+use Rattle.gptp_lint.specs.declared.trouble.Lossy.{Lossy}
 
 -- none of a list that is nothing
 pub nothing_left : {X : Type 0} (xs ys : List X) → xs ++ ys ≡ [] → xs ≡ []
@@ -48,31 +49,38 @@ no_long p (s ∷ ss) none =
 -- ---- links that lose frames
 
 none_ended : (link loss from : ℕ) (to : Option ℕ) (test : Bool) → (loss == 0) ≡ test
-    → cond test [] (record { link = link; loss = loss; from = from; to = to } ∷ []) ≡ [] → loss ≡ 0
+    → cond {A = List Lossy} test [] (record { link = link; loss = loss; from = from; to = to } ∷ []) ≡ []
+    → loss ≡ 0
 none_ended link loss from to true is none = eqb-true loss 0 is
 none_ended link loss from to false is none = absurd cc
 
-no_stretch : (link loss from : ℕ) (ss : List Standing) → stretches link loss from ss ≡ []
-    → (loss ≡ 0) × ((s : Standing) → In s ss → loss_in_use s ≡ 0)
+-- what is known of a course where there is no stretch
+abbrev IsFree : List Standing → ℕ → Type 0
+IsFree ss loss = (loss ≡ 0) × ((s : Standing) → In s ss → loss_in_use s ≡ 0)
 
-no_stretch_step : (link loss from : ℕ) (s : Standing) (ss : List Standing) (test : Bool)
-    → (loss_in_use s == loss) ≡ test
+free_with : (s : Standing) (ss : List Standing) → loss_in_use s ≡ 0 → ((r : Standing) → In r ss → loss_in_use r ≡ 0)
+    → (r : Standing) → In r (s ∷ ss) → loss_in_use r ≡ 0
+free_with s ss here rest r (inl is) = ap loss_in_use is ∙ here
+free_with s ss here rest r (inr behind) = rest r behind
+
+no_stretch_step : (link loss from : ℕ) (s : Standing) (ss : List Standing)
+    → ((l f : ℕ) → stretches link l f ss ≡ [] → IsFree ss l) → (test : Bool) → (loss_in_use s == loss) ≡ test
     → cond test (stretches link loss from ss)
     (ended link loss from (Some s.at) ++ stretches link (loss_in_use s) s.at ss) ≡ []
-    → (loss ≡ 0) × ((loss_in_use s ≡ 0) × ((r : Standing) → In r ss → loss_in_use r ≡ 0))
-no_stretch_step link loss from s ss true is none =
-    let rest = no_stretch link loss from ss none in
-    (rest.0, (eqb-true (loss_in_use s) loss is ∙ rest.0, rest.1))
-no_stretch_step link loss from s ss false is none =
+    → IsFree (s ∷ ss) loss
+no_stretch_step link loss from s ss rest true is none =
+    let behind = rest loss from none in
+    (behind.0, free_with s ss (eqb-true (loss_in_use s) loss is ∙ behind.0) behind.1)
+no_stretch_step link loss from s ss rest false is none =
     let before = nothing_left (ended link loss from (Some s.at)) (stretches link (loss_in_use s) s.at ss) none in
     let later = nothing_right (ended link loss from (Some s.at)) (stretches link (loss_in_use s) s.at ss) none in
-    let rest = no_stretch link (loss_in_use s) s.at ss later in
-    (none_ended link loss from (Some s.at) (loss == 0) refl before, (rest.0, rest.1))
+    let behind = rest (loss_in_use s) s.at later in
+    (none_ended link loss from (Some s.at) (loss == 0) refl before, free_with s ss behind.0 behind.1)
 
+no_stretch : (link loss from : ℕ) (ss : List Standing) → stretches link loss from ss ≡ [] → IsFree ss loss
 no_stretch link loss from [] none = (none_ended link loss from None (loss == 0) refl none, λ s member. absurd member)
 no_stretch link loss from (s ∷ ss) none =
-    let (now, here, rest) = no_stretch_step link loss from s ss (loss_in_use s == loss) refl none in
-    (now, λ r member. elim member [ inl is ↦ ap loss_in_use is ∙ here | inr behind ↦ rest r behind ])
+    no_stretch_step link loss from s ss (λ l f. no_stretch link l f ss) (loss_in_use s == loss) refl none
 
 pub not_lossy : (link : ℕ) (ss : List Standing) → stretches link 0 0 ss ≡ [] → (s : Standing) → In s ss
     → loss_in_use s ≡ 0
