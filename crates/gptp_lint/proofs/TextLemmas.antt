@@ -1,9 +1,10 @@
 -- Lines behind one another are lines.
-use Rattle.std.proofs.Common.{◌≡◌, ◌==◌, ℕ, Bool, true, false, not, nat_lt, List, [], ◌∷◌, ◌++◌, Option, length, map, append_assoc, refl, sym, ap, subst, ◌∙◌, arith}
+use Rattle.std.proofs.Common.{◌≡◌, ◌==◌, ℕ, Bool, true, false, not, nat_lt, List, [], ◌∷◌, ◌++◌, Option, Some, slice_get, take, ◌+◌, length, map, append_assoc, refl, sym, ap, subst, ◌∙◌, arith}
 use Rattle.std.specs.List.{flat_map}
 use Rattle.std.proofs.lemmas.Bool.Decides.{nat_tests}
-use Rattle.std.proofs.lemmas.List.{append-nil, length-append}
+use Rattle.std.proofs.lemmas.List.{append-nil, length-append, map-append}
 use Rattle.std.proofs.lemmas.List.Concat.{flat_map-append}
+use Rattle.gptp_lists.proofs.MappedLemmas.{taken}
 use Rattle.gptp_spelling.specs.Lines.{text_of}
 use Rattle.gptp_lint.specs.LintText.{AppendsLines, found_lines, long_line, lossy_line}
 use Rattle.gptp_lint.specs.declared.findings.Findings.{Findings}
@@ -35,6 +36,15 @@ one_line old new line is = (line ∷ [], is ∙ ap (λ t. old ++ t) (sym (append
 
 pub line_more : (old mid new line : List ℕ) → AppendsLines old mid → new ≡ mid ++ (line ++ 10 ∷ []) → AppendsLines old new
 line_more old mid new line so_far is = more_lines old mid new so_far (one_line mid new line is)
+
+-- the lines of some, and of one more
+pub mapped_more : {X : Type 0} (line : X → List ℕ) (xs : List X) (i : ℕ) (x : X) (old text new : List ℕ)
+    → slice_get xs i ≡ Some x → text ≡ old ++ text_of (map line (take i xs)) → new ≡ text ++ (line x ++ 10 ∷ [])
+    → new ≡ old ++ text_of (map line (take (i + 1) xs))
+mapped_more line xs i x old text new there so_far is =
+    joined old text new (map line (take i xs)) (line x ∷ []) so_far
+    (is ∙ ap (λ t. text ++ t) (sym (append-nil (line x ++ 10 ∷ []))))
+    ∙ ap (λ ys. old ++ text_of ys) (sym (ap (map line) (taken xs i x there) ∙ map-append line (take i xs) (x ∷ [])))
 
 -- a text is longer exactly where there are lines behind it
 pub longer : (old : List ℕ) (lines : List (List ℕ))

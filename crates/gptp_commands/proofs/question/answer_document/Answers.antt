@@ -6,3 +6,6 @@ returns-in-Choice-clause-answers c = rw c.in-Choice.is c.choose_at.ensures.choos
 
 pub returns-in-Accuracy-clause-answers : goal.returns-in-Accuracy-clause-answers
 returns-in-Accuracy-clause-answers c = rw c.in-Accuracy.is c.tell_accuracy.ensures.tells
+
+pub returns-in-Lint-clause-answers : goal.returns-in-Lint-clause-answers
+returns-in-Lint-clause-answers c = rw c.in-Lint.is c.tell_findings.ensures.tells
