@@ -66,6 +66,6 @@ pub all_lines : (threshold : ℕ) (f : Findings) (t0 t1 t2 t3 t4 : List ℕ) (un
 all_lines threshold f t0 t1 t2 t3 t4 unread others header first second third fourth =
     let longs = map (λ (l : Long). long_line threshold (header l.link) l) f.long.items in
     let lossies = map (λ (l : Lossy). lossy_line (header l.link) l) f.lossy.items in
-    let behind_long = joined t2 t3 t4 lossies others third fourth in
-    let behind_unread = joined t1 t2 t4 longs (lossies ++ others) second behind_long in
-    joined t0 t1 t4 unread (longs ++ (lossies ++ others)) first behind_unread
+    let two = joined t0 t1 t2 unread longs first second in
+    let three = joined t0 t2 t3 (unread ++ longs) lossies two third in
+    joined t0 t3 t4 (unread ++ longs ++ lossies) others three fourth

@@ -87,6 +87,7 @@ fn write_lossy(text: &mut String, line: Option<usize>, lossy: &Lossy) -> Result<
 }
 
 /// Appends the lines of stretches at which links lose frames.
+#[tactic(auto, using(crate::proofs::TextLemmas::mapped_more))]
 fn write_stretches(
     text: &mut String,
     outline: &Outline,
