@@ -86,8 +86,15 @@ fn write_lossy(text: &mut String, line: Option<usize>, lossy: &Lossy) -> Result<
     )
 }
 
+/// Appends the line of a stretch, with the line of its link's header.
+fn write_stretch(text: &mut String, outline: &Outline, lossy: &Lossy) -> Result<(), AllocError>
+    ensures { OnOk result (string_bytes text.new ≡ string_bytes text.old
+        ++ (lossy_line (slice_get outline.now.links.items lossy.now.link) lossy.now ++ 10 ∷ [])) }
+{
+    write_lossy(text, outline.link_line(lossy.link), lossy)
+}
+
 /// Appends the lines of stretches at which links lose frames.
-#[tactic(auto, using(crate::proofs::TextLemmas::mapped_more))]
 fn write_stretches(
     text: &mut String,
     outline: &Outline,
@@ -97,7 +104,7 @@ fn write_stretches(
         ++ text_of (map (λ (l : Lossy). lossy_line (slice_get outline.now.links.items l.link) l) stretches.now)) }
 {
     for lossy in stretches {
-        write_lossy(text, outline.link_line(lossy.link), lossy)?;
+        write_stretch(text, outline, lossy)?;
     }
     Ok(())
 }
@@ -220,13 +227,13 @@ pub fn write_findings(
 ) -> Result<bool, AllocError>
     ensures { IfOk result (AppendsFindings threshold findings.now (string_bytes text.old) (string_bytes text.new)) }
 {
-    let before = text.len();
+    let before = text.as_bytes().len();
     let outline = outline_of(alloc, input)?;
     write_unread(alloc, text, input, &outline)?;
     write_longs(text, threshold, &outline, &findings.long)?;
     write_stretches(text, &outline, &findings.lossy)?;
     write_others(alloc, text, findings)?;
-    let found = before < text.len();
+    let found = before < text.as_bytes().len();
     write_calm_times(text, &findings.calm)?;
     Ok(found)
 }
