@@ -27,8 +27,8 @@ returns c =
         others = others;
         header = header;
         lines_are = refl;
-        found_is = ap₂ nat_lt (c.len-before.ensures ∙ ap length c.as_bytes.ensures.value)
-            (c.len.ensures ∙ ap length c.as_bytes-2.ensures.value) ∙ ap (λ t. nat_lt (length old) (length t)) mid
+        found_is = ap₂ nat_lt (ap length c.as_bytes-before.ensures.value) (ap length c.as_bytes.ensures.value)
+            ∙ ap (λ t. nat_lt (length old) (length t)) mid
             ∙ longer old lines;
       },
       joined old t4 (string_bytes c.write_calm_times.new.text) lines (map calm_line f.calm.items) mid
