@@ -140,5 +140,6 @@ pub fn write_refusal(
     write_place(alloc, &mut place, input)?;
     write!(text, "refused {fault}")?;
     text.push_str(place.as_str())?;
-    text.push_str("\n")
+    text.push_str("\n")?;
+    Ok(())
 }
