@@ -47,12 +47,7 @@ max = 500
 ";
 
 /// What is written for two texts that are one document, and its status.
-fn linted(
-    alloc: Global,
-    front: &str,
-    end: &str,
-    strict: bool,
-) -> Result<(Vec<u8>, Status), Fail> {
+fn linted(alloc: Global, front: &str, end: &str, strict: bool) -> Result<(Vec<u8>, Status), Fail> {
     let document = format!(in alloc; "{front}{end}")?;
     Ok(asked(alloc, document.as_bytes(), Question::Lint { strict })?)
 }
@@ -85,7 +80,11 @@ fn faults_at_the_top(rt: HostRuntime) -> Result<(), Fail> {
                 "",
                 "2 MissingKey top key version missing near Version",
             ),
-            ("version = \"1\"", "", "3 WrongKind top key version kind text"),
+            (
+                "version = \"1\"",
+                "",
+                "3 WrongKind top key version kind text",
+            ),
             (
                 "version = 3",
                 "",

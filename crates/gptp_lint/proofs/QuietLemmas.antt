@@ -107,10 +107,10 @@ rests_to p members events w a b rests =
     let s = after events (first w) in
     let same = cable_after events (first w) in
     quiet_by p s (is_used s) refl (λ used.
-        let quiet = rests (used_to members events w a b used) in (
-          ap (λ c. c.bounds.loss) same ∙ quiet.lossless,
-          subst (λ most. needed p most ≤ p.threshold) (sym (ap (λ c. c.bounds.max) same)) quiet.good,
-        ))
+    let quiet = rests (used_to members events w a b used) in (
+      ap (λ c. c.bounds.loss) same ∙ quiet.lossless,
+      subst (λ most. needed p most ≤ p.threshold) (sym (ap (λ c. c.bounds.max) same)) quiet.good,
+    ))
 
 -- ---- all links at all times
 

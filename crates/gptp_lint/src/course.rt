@@ -139,11 +139,7 @@ fn act(act: &Act, standing: &mut Standing)
 }
 
 /// Goes on to a time: where it is another, how the link stood until then is put behind the others.
-fn go_on(
-    course: &mut Vec<Standing>,
-    standing: &mut Standing,
-    at: u64,
-) -> Result<(), AllocError>
+fn go_on(course: &mut Vec<Standing>, standing: &mut Standing, at: u64) -> Result<(), AllocError>
     ensures course { OnOk result (course.new.items ≡ past at standing.old course.old.items) }
     ensures standing { OnOk result (standing.new ≡ at_time at standing.old) }
 {

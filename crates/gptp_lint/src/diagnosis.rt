@@ -52,13 +52,7 @@ fn log_interval(table: &Table, key: &'static str, default: i64) -> Result<i8, Wh
 }
 
 /// A count.
-fn count(
-    table: &Table,
-    key: &'static str,
-    least: i64,
-    most: i64,
-    default: i64,
-) -> Result<u8, Why> {
+fn count(table: &Table, key: &'static str, least: i64, most: i64, default: i64) -> Result<u8, Why> {
     let number = natural_or(table, key, least, most, default)?;
     Ok(u8::try_from(number).unwrap_or(0))
 }

@@ -91,11 +91,7 @@ fn unlinked_clocks(alloc: Global, network: &Network) -> Result<Vec<ClockId>, All
 }
 
 /// How a link stands at each time.
-fn course_of(
-    alloc: Global,
-    document: &Document,
-    cable: &Cable,
-) -> Result<Vec<Standing>, AllocError>
+fn course_of(alloc: Global, document: &Document, cable: &Cable) -> Result<Vec<Standing>, AllocError>
     ensures { IfOk result (λ course. course.items ≡ course_of document.now.events (wire_of cable.now)) }
 {
     let first = Standing {

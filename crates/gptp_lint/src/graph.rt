@@ -122,11 +122,7 @@ fn first_nodes(alloc: Global, network: &Network) -> Result<Vec<Node>, AllocError
 }
 
 /// The links of a network, at first.
-fn first_edges(
-    alloc: Global,
-    network: &Network,
-    nodes: &[Node],
-) -> Result<Vec<Edge>, AllocError> {
+fn first_edges(alloc: Global, network: &Network, nodes: &[Node]) -> Result<Vec<Edge>, AllocError> {
     let mut edges = Vec::new(alloc);
     for place in 0..network.links() {
         if let Some((a, b, _, up)) = network.link_at(place) {

@@ -24,6 +24,6 @@ mod values;
 mod why;
 
 pub use findings::{CalmTime, Findings, find};
-pub use trouble::{Long, Lossy};
 pub use refusal::write_refusal;
 pub use text::write_findings;
+pub use trouble::{Long, Lossy};

@@ -121,11 +121,7 @@ fn write_unlinked(alloc: Global, text: &mut String, clocks: &[ClockId]) -> Resul
 }
 
 /// Appends the lines of times at which there are several components.
-fn write_apart(
-    alloc: Global,
-    text: &mut String,
-    components: &Components,
-) -> Result<(), AllocError>
+fn write_apart(alloc: Global, text: &mut String, components: &Components) -> Result<(), AllocError>
     ensures { OnOk result (AppendsLines (string_bytes text.old) (string_bytes text.new)) }
 {
     for apart in &components.apart {
@@ -136,26 +132,22 @@ fn write_apart(
 }
 
 /// Appends the lines of systems between which a clock decides.
-fn write_chance(
-    alloc: Global,
-    text: &mut String,
-    components: &Components,
-) -> Result<(), AllocError>
+fn write_chance(alloc: Global, text: &mut String, components: &Components) -> Result<(), AllocError>
     ensures { OnOk result (AppendsLines (string_bytes text.old) (string_bytes text.new)) }
 {
     for (one, other) in &components.chance {
-        let line = format!(in alloc; "chance {} {}", IdentityDigits(*one), IdentityDigits(*other))?;
+        let line = format!(in alloc;
+            "chance {} {}",
+            IdentityDigits(*one),
+            IdentityDigits(*other)
+        )?;
         push_line(text, line.as_str())?;
     }
     Ok(())
 }
 
 /// Appends the lines of bests that can't be grandmaster.
-fn write_nobody(
-    alloc: Global,
-    text: &mut String,
-    components: &Components,
-) -> Result<(), AllocError>
+fn write_nobody(alloc: Global, text: &mut String, components: &Components) -> Result<(), AllocError>
     ensures { OnOk result (AppendsLines (string_bytes text.old) (string_bytes text.new)) }
 {
     for nobody in &components.nobody {

@@ -42,12 +42,7 @@ fn whole_of(key: &'static str, least: i64, most: i64, number: i64) -> Result<i64
 }
 
 /// A number in a range; none where the key is absent.
-fn whole_if(
-    table: &Table,
-    key: &'static str,
-    least: i64,
-    most: i64,
-) -> Result<Option<i64>, Why> {
+fn whole_if(table: &Table, key: &'static str, least: i64, most: i64) -> Result<Option<i64>, Why> {
     match table.get(key) {
         None => Ok(None),
         Some(value) => match value.as_integer() {
@@ -87,12 +82,7 @@ pub(crate) fn natural_or(
 }
 
 /// A number in a range of numbers from 0, whose key must be there.
-pub(crate) fn natural(
-    table: &Table,
-    key: &'static str,
-    least: i64,
-    most: i64,
-) -> Result<u64, Why> {
+pub(crate) fn natural(table: &Table, key: &'static str, least: i64, most: i64) -> Result<u64, Why> {
     match whole_if(table, key, least, most) {
         Ok(Some(number)) => Ok(u64::try_from(number).unwrap_or(0)),
         Ok(None) => Err(Why::Missing { key }),
@@ -196,10 +186,7 @@ fn intervals_in(ports: u8, values: &[Value]) -> Result<ArrayVec<i8, 16>, Why> {
 }
 
 /// The announce intervals that a system has of its own, if it has any.
-pub(crate) fn own_intervals(
-    table: &Table,
-    ports: u8,
-) -> Result<Option<ArrayVec<i8, 16>>, Why> {
+pub(crate) fn own_intervals(table: &Table, ports: u8) -> Result<Option<ArrayVec<i8, 16>>, Why> {
     match table.get("announce") {
         None => Ok(None),
         Some(value) => match value.as_array() {

@@ -12,7 +12,9 @@ use std::fmt;
 #[derive(Drop)]
 pub(crate) enum Why {
     /// A key is missing.
-    Missing { key: &'static str },
+    Missing {
+        key: &'static str,
+    },
     /// What stands at a key is of this kind.
     Kind {
         key: &'static str,
@@ -26,31 +28,67 @@ pub(crate) enum Why {
         most: i64,
     },
     /// There are so many intervals, and so many ports.
-    Intervals { count: usize, ports: u8 },
+    Intervals {
+        count: usize,
+        ports: u8,
+    },
     /// A text doesn't spell what it should.
-    Text { key: &'static str, front: Front },
+    Text {
+        key: &'static str,
+        front: Front,
+    },
     /// The least delay is above the greatest.
-    Above { min: u64, max: u64 },
+    Above {
+        min: u64,
+        max: u64,
+    },
     /// There are too many members.
-    TooMany { count: usize, most: usize },
+    TooMany {
+        count: usize,
+        most: usize,
+    },
     /// An earlier system has that clock.
-    Duplicate { clock: ClockId, system: usize },
+    Duplicate {
+        clock: ClockId,
+        system: usize,
+    },
     /// A link would join a system with itself.
-    BothEnds { clock: ClockId },
+    BothEnds {
+        clock: ClockId,
+    },
     /// No system has that clock.
-    UnknownClock { clock: ClockId },
+    UnknownClock {
+        clock: ClockId,
+    },
     /// The system has only so many ports.
-    Beyond { port: PortId, ports: u8 },
+    Beyond {
+        port: PortId,
+        ports: u8,
+    },
     /// No link is at that port.
-    Unlinked { port: PortId },
+    Unlinked {
+        port: PortId,
+    },
     /// An earlier link is at that port.
-    Taken { port: PortId, link: usize },
+    Taken {
+        port: PortId,
+        link: usize,
+    },
     /// The greatest delay is above the least announce interval.
-    TooLong { max: u64, most: u64 },
+    TooLong {
+        max: u64,
+        most: u64,
+    },
     /// An event is earlier than the one before it.
-    Before { at: u64, before: u64 },
+    Before {
+        at: u64,
+        before: u64,
+    },
     /// The intervals don't go together, of which that of announcements is this, in ns.
-    Timing { params: Params, announce: u64 },
+    Timing {
+        params: Params,
+        announce: u64,
+    },
 }
 
 /// A fault, and where it stands.
