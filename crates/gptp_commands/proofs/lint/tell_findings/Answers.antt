@@ -15,7 +15,7 @@ returns-clause-tells c =
         findings = f;
         are = c.in_ok-findings.ensures;
         found = c.in_ok-found.found;
-        text = rw (c.params.ensures, c.network.ensures) at are;
+        text = rw (c.params-threshold.ensures, c.network.ensures) at are;
         status_is = c.of.ensures.status ∙ c.of_refusal.ensures;
       },
       c.of.ensures.text ∙ is ∙ ap (λ t. t ++ text_of lines) c.new-text.ensures.bytes,
