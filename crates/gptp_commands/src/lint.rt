@@ -1,6 +1,6 @@
 //! The command `lint`: what isn't as it should be in a document.
 
-ghost use Rattle.std.specs.Prelude.{◌≡◌, IfErr, IfOk};
+ghost use Rattle.std.specs.Prelude.{◌≡◌, ◌&&◌, IfErr, IfOk};
 ghost use Rattle.gptp_commands.specs.LintText.{RefusesAtPlace, TellsFindings};
 ghost use Rattle.gptp_commands.specs.Output.{IsOutput};
 
@@ -24,6 +24,13 @@ pub(crate) fn refuse_at_place(
     Ok(Output::of(text, Status::Refused))
 }
 
+/// Whether a document is refused, where there is a line but on calm, or none.
+fn is_refused(strict: bool, found: bool) -> bool
+    ensures { result ≡ (strict && found) }
+{
+    strict && found
+}
+
 /// The text for a document, which an input spells.
 pub(crate) fn tell_findings(
     alloc: Global,
@@ -38,5 +45,5 @@ pub(crate) fn tell_findings(
     let threshold = document.network().params().threshold;
     let mut text = String::new(alloc);
     let found = write_findings(alloc, &mut text, input, threshold, &findings)?;
-    Ok(Output::of(text, Status::of_refusal(strict && found)))
+    Ok(Output::of(text, Status::of_refusal(is_refused(strict, found))))
 }
