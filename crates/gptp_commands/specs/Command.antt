@@ -68,7 +68,7 @@ abbrev pub clock_rule : Rule
 clock_rule = record (new_rule (codes "clock")) { action = Some Set; value_names = 1; required = true }
 
 -- the command `compare`, which has no options, the command `run`, which has four, the command `check`, which has a file
--- and one option, the command `choice`, which has one option, the command `accuracy`, which has two, and the command
+-- and one option, the command `choice`, which has one option, the command `accuracy`, which has two, the command
 -- `explain`, which has a clock and one option, and the command `lint`, which has a flag
 abbrev pub compare_command : App
 compare_command = new_app (codes "compare")

@@ -44,8 +44,8 @@ pub enum Question {
         clock: ClockId,
         until: Option<u64>,
     },
-    /// `lint`: what isn't as it should be in the document: where and why it is refused, or what a planner may have overlooked.
-    /// Where it is strict, the answer also says whether there is any of that.
+    /// `lint`: what isn't as it should be in the document: where and why it is refused, or what a planner may have
+    /// overlooked. Where it is strict, the answer also says whether there is any of that.
     Lint {
         strict: bool,
     },
