@@ -8,8 +8,7 @@ ghost use Rattle.gptp_commands.specs.Command.{AsksFor, Enters, IsPlain, IsUntil,
 ghost use Rattle.gptp_commands.specs.Command.{IsEndInRange, command_line_status, program};
 ghost use Rattle.gptp_commands.specs.Command.{certificate_rule, clock_rule, file_rule, frames_rule, max_error_rule, seed_rule, until_rule};
 ghost use Rattle.gptp_commands.specs.Command.{accuracy_command, check_command, choice_command, explain_command, first_program, played_command, run_command};
-ghost use Rattle.gptp_commands.specs.Command.{simulating_program};
-ghost use Rattle.gptp_commands.specs.Command.{lint_command, strict_rule};
+ghost use Rattle.gptp_commands.specs.Command.{choosing_program, lint_command, simulating_program, strict_rule};
 ghost use Rattle.gptp_commands.specs.declared.command.CommandLineError.TheVariants.{Memory};
 ghost use Rattle.gptp_network.specs.Values.{clock_of_text};
 ghost use Rattle.gptp_network.specs.declared.fault.DocumentFault.TheVariants.{OutOfRange};
@@ -405,13 +404,21 @@ fn simulating_grammar<'a>(alloc: Global) -> Result<Command<'a>, AllocError>
         .subcommand(check_grammar(alloc)?)
 }
 
+/// The program with these, and with the commands that ask for a choice and how exact it is.
+fn choosing_grammar<'a>(alloc: Global) -> Result<Command<'a>, AllocError>
+    ensures app { IfOk result (λ command. app_of command ≡ choosing_program) }
+    ensures local { IfOk result (λ command. (fields_of command).has_globals ≡ false) }
+{
+    simulating_grammar(alloc)?
+        .subcommand(choice_grammar(alloc)?)?
+        .subcommand(accuracy_grammar(alloc)?)
+}
+
 /// What the command line may say.
 fn grammar<'a>(alloc: Global) -> Result<Command<'a>, AllocError>
     ensures { IfOk result (λ command. app_of command ≡ program) }
 {
-    simulating_grammar(alloc)?
-        .subcommand(choice_grammar(alloc)?)?
-        .subcommand(accuracy_grammar(alloc)?)?
+    choosing_grammar(alloc)?
         .subcommand(explain_grammar(alloc)?)?
         .subcommand(lint_grammar(alloc)?)
 }
