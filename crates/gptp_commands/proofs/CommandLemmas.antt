@@ -318,7 +318,8 @@ enters_other words name (inl is) (others, begins) = rw (begins, is, stops_at_run
 enters_other words name (inr (inl is)) (others, begins) = rw (begins, is, stops_at_check others) refl
 enters_other words name (inr (inr (inl is))) (others, begins) = rw (begins, is, stops_at_choice others) refl
 enters_other words name (inr (inr (inr (inl is)))) (others, begins) = rw (begins, is, stops_at_accuracy others) refl
-enters_other words name (inr (inr (inr (inr (inl is))))) (others, begins) = rw (begins, is, stops_at_explain others) refl
+enters_other words name (inr (inr (inr (inr (inl is))))) (others, begins) =
+    rw (begins, is, stops_at_explain others) refl
 enters_other words name (inr (inr (inr (inr (inr is))))) (others, begins) = rw (begins, is, stops_at_lint others) refl
 
 -- it enters one command only
@@ -626,7 +627,7 @@ same_length words name other begins entered_is =
 plain_with_clock : (words : List Text) (rows : List Row) → subcommand_of program words ≡ Some (codes "explain", rows)
     → LacksClock rows → IsPlain words → ⊥
 plain_with_clock words rows rows_are lacks (inl compare) =
-    not_compare (codes "explain") (inr (inr (inr (inr refl))))
+    not_compare (codes "explain") (inr (inr (inr (inr (inl refl)))))
     (one_name (drop 1 words) (codes "compare") (codes "explain") (enters_compare (drop 1 words) compare)
     (ap name_in rows_are))
 plain_with_clock words rows rows_are lacks (inr (inl (file, check))) =
@@ -645,9 +646,13 @@ plain_with_clock words rows rows_are lacks (inr (inr (inr (inr (inl choice))))) 
     let count : ◌≡◌ {A = ℕ} 6 7 = same_length (drop 1 words) (codes "choice") (inr (inr (inl refl))) ([], choice)
     (ap name_in rows_are) in
     absurd (omega arith)
-plain_with_clock words rows rows_are lacks (inr (inr (inr (inr (inr accuracy))))) =
+plain_with_clock words rows rows_are lacks (inr (inr (inr (inr (inr (inl accuracy)))))) =
     let count : ◌≡◌ {A = ℕ} 8 7 = same_length (drop 1 words) (codes "accuracy") (inr (inr (inr (inl refl))))
     ([], accuracy) (ap name_in rows_are) in
+    absurd (omega arith)
+plain_with_clock words rows rows_are lacks (inr (inr (inr (inr (inr (inr lint)))))) =
+    let count : ◌≡◌ {A = ℕ} 4 7 = same_length (drop 1 words) (codes "lint") (inr (inr (inr (inr (inr refl)))))
+    ([], lint) (ap name_in rows_are) in
     absurd (omega arith)
 
 pub refused_order : (parsed : App) (words : List Text) (m : ArgMatches) (error : CommandLineError) → parsed ≡ program
