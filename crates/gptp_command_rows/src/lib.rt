@@ -22,6 +22,8 @@ mod far;
 #[cfg(test)]
 mod inject;
 #[cfg(test)]
+mod lint;
+#[cfg(test)]
 mod refusals;
 #[cfg(test)]
 mod run;

@@ -15,7 +15,7 @@ use Rattle.gptp_commands.specs.declared.command.CommandLineError.TheVariants.{Me
 use Rattle.gptp_commands.specs.declared.command.Order.{Order}
 use Rattle.gptp_commands.specs.declared.command.Order.TheVariants.{Ask, Check, Compare, Run}
 use Rattle.gptp_commands.specs.declared.question.Question.{Question}
-use Rattle.gptp_commands.specs.declared.question.Question.TheVariants.{Accuracy, Choice, Explain}
+use Rattle.gptp_commands.specs.declared.question.Question.TheVariants.{Accuracy, Choice, Explain, Lint}
 use Rattle.gptp_commands.specs.declared.run.RunOptions.{RunOptions}
 
 -- `--until NS`, at most 10^15
@@ -55,6 +55,10 @@ abbrev pub certificate_rule : Rule
 certificate_rule =
     record (new_rule (codes "certificate")) { long = Some (codes "certificate"); action = Some SetTrue }
 
+-- `--strict`
+abbrev pub strict_rule : Rule
+strict_rule = record (new_rule (codes "strict")) { long = Some (codes "strict"); action = Some SetTrue }
+
 -- `FILE`, which has to be given
 abbrev pub file_rule : Rule
 file_rule = record (new_rule (codes "file")) { action = Some Set; value_names = 1; required = true }
@@ -64,8 +68,8 @@ abbrev pub clock_rule : Rule
 clock_rule = record (new_rule (codes "clock")) { action = Some Set; value_names = 1; required = true }
 
 -- the command `compare`, which has no options, the command `run`, which has four, the command `check`, which has a file
--- and one option, the command `choice`, which has one option, the command `accuracy`, which has two, and the command
--- `explain`, which has a clock and one option
+-- and one option, the command `choice`, which has one option, the command `accuracy`, which has two, the command
+-- `explain`, which has a clock and one option, and the command `lint`, which has a flag
 abbrev pub compare_command : App
 compare_command = new_app (codes "compare")
 
@@ -88,6 +92,9 @@ accuracy_command = with_rule (with_rule (new_app (codes "accuracy")) until_rule)
 abbrev pub explain_command : App
 explain_command = with_rule (with_rule (new_app (codes "explain")) clock_rule) until_rule
 
+abbrev pub lint_command : App
+lint_command = with_rule (new_app (codes "lint")) strict_rule
+
 -- the program with its commands, of which one has to be named; first with `compare` alone
 abbrev pub first_program : App
 first_program =
@@ -98,10 +105,12 @@ first_program =
 abbrev pub simulating_program : App
 simulating_program = with_subcommand (with_subcommand first_program run_command.top) check_command.top
 
+-- and those that ask for a choice, and how exact it is
+abbrev pub choosing_program : App
+choosing_program = with_subcommand (with_subcommand simulating_program choice_command.top) accuracy_command.top
+
 abbrev pub program : App
-program =
-    with_subcommand (with_subcommand (with_subcommand simulating_program choice_command.top) accuracy_command.top)
-    explain_command.top
+program = with_subcommand (with_subcommand choosing_program explain_command.top) lint_command.top
 
 -- ---- the words that name a command
 
@@ -147,7 +156,8 @@ IsBare name words = drop 1 words ≡ name ∷ []
 abbrev pub IsPlain : List (List ℕ) → Type 0
 IsPlain words =
     NamesCompare words ⊎ (((file : List ℕ) × ChecksOnly file words) ⊎ (((clock : List ℕ) × ExplainsOnly clock words)
-    ⊎ (IsBare (codes "run") words ⊎ (IsBare (codes "choice") words ⊎ IsBare (codes "accuracy") words))))
+    ⊎ (IsBare (codes "run") words ⊎ (IsBare (codes "choice") words
+    ⊎ (IsBare (codes "accuracy") words ⊎ IsBare (codes "lint") words)))))
 
 -- ---- the options, by the texts that the parser finds
 
@@ -203,12 +213,14 @@ ReadsQuestion rows (Choice until) = IsUntil (one_of (codes "until") rows) until
 ReadsQuestion rows (Accuracy until max_error) =
     IsUntil (one_of (codes "until") rows) until × IsUntil (one_of (codes "max-error") rows) max_error
 ReadsQuestion rows (Explain clock until) = ReadsClock rows clock × IsUntil (one_of (codes "until") rows) until
+ReadsQuestion rows (Lint strict) = IsFlag (one_of (codes "strict") rows) strict
 
 -- the command that asks it
 abbrev pub name_of : Question → List ℕ
 name_of (Choice until) = codes "choice"
 name_of (Accuracy until max_error) = codes "accuracy"
 name_of (Explain clock until) = codes "explain"
+name_of (Lint strict) = codes "lint"
 
 -- ---- what a command line asks for
 
@@ -230,7 +242,7 @@ abbrev pub Enters : ArgMatches → Order → Type 0
 Enters m Compare =
     (subcommand_name_of m ≢ Some (codes "run")) × (subcommand_name_of m ≢ Some (codes "check"))
     × (subcommand_name_of m ≢ Some (codes "choice")) × (subcommand_name_of m ≢ Some (codes "accuracy"))
-    × (subcommand_name_of m ≢ Some (codes "explain"))
+    × (subcommand_name_of m ≢ Some (codes "explain")) × (subcommand_name_of m ≢ Some (codes "lint"))
 Enters m (Run options) = IsRunOf (subcommand_rows_of m) options
 Enters m (Check options) = IsCheckOf (subcommand_rows_of m) options
 Enters m (Ask question) = IsQuestionOf (subcommand_rows_of m) question
@@ -256,6 +268,7 @@ abbrev pub QuestionIsInRange : Question → Type 0
 QuestionIsInRange (Choice until) = IsEndInRange until
 QuestionIsInRange (Accuracy until max_error) = IsEndInRange until × IsEndInRange max_error
 QuestionIsInRange (Explain clock until) = IsEndInRange until
+QuestionIsInRange (Lint strict) = ⊤
 
 -- the numbers of the options of a command are in their ranges
 abbrev pub OrderIsInRange : Order → Type 0

@@ -13,6 +13,7 @@ pub mod CheckText
 pub mod ChoiceText
 pub mod AccuracyText
 pub mod ExplainText
+pub mod LintText
 pub mod QuestionText
 pub mod Certified
 pub mod Command

@@ -5,11 +5,12 @@ use Rattle.gptp_network.specs.declared.fault.DocumentFault.TheVariants.{TooMany}
 use Rattle.gptp_network.specs.Document.{DocumentState, Fails, Means}
 use Rattle.gptp_commands.specs.declared.failure.Status.{Status}
 use Rattle.gptp_commands.specs.declared.question.Question.{Question}
-use Rattle.gptp_commands.specs.declared.question.Question.TheVariants.{Accuracy, Choice, Explain}
+use Rattle.gptp_commands.specs.declared.question.Question.TheVariants.{Accuracy, Choice, Explain, Lint}
 use Rattle.gptp_commands.specs.AccuracyText.{TellsAccuracy}
 use Rattle.gptp_commands.specs.ChoiceText.{ChoosesAt}
 use Rattle.gptp_commands.specs.ExplainText.{ExplainsAt}
 use Rattle.gptp_commands.specs.Limited.{Limited}
+use Rattle.gptp_commands.specs.LintText.{RefusesAtPlace, TellsFindings}
 use Rattle.gptp_commands.specs.RunText.{document_limit, RefusesFault}
 
 -- the answer for a document, by what is asked
@@ -17,12 +18,20 @@ abbrev pub Answers : Question → DocumentState → List (List ℕ) → Status �
 Answers (Choice until) d output status = ChoosesAt d until output status
 Answers (Accuracy until max_error) d output status = TellsAccuracy d until max_error output status
 Answers (Explain clock until) d output status = ExplainsAt d until clock output status
+Answers (Lint strict) d output status = TellsFindings d strict output status
+
+-- the line of an input that is refused by this fault: `lint` also tells its place
+abbrev pub RefusesInput : Question → DocumentFault → List (List ℕ) → Status → Type 0
+RefusesInput (Choice until) fault output status = RefusesFault fault output status
+RefusesInput (Accuracy until max_error) fault output status = RefusesFault fault output status
+RefusesInput (Explain clock until) fault output status = RefusesFault fault output status
+RefusesInput (Lint strict) fault output status = RefusesAtPlace fault output status
 
 -- an input is a document, of which the question is answered, or fails a test
 abbrev pub AnswersInput : Question → List ℕ → List (List ℕ) → Status → Type 0
 AnswersInput question input output status =
     ((d : DocumentState) × Means input d × Answers question d output status)
-    ⊎ ((fault : DocumentFault) × Fails input fault × RefusesFault fault output status)
+    ⊎ ((fault : DocumentFault) × Fails input fault × RefusesInput question fault output status)
 
 abbrev pub QuestionText : Question → List ℕ → List (List ℕ) → Status → Type 0
 QuestionText question = Limited document_limit (AnswersInput question) (RefusesFault TooMany)

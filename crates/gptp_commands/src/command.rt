@@ -8,11 +8,11 @@ ghost use Rattle.gptp_commands.specs.Command.{AsksFor, Enters, IsPlain, IsUntil,
 ghost use Rattle.gptp_commands.specs.Command.{IsEndInRange, command_line_status, program};
 ghost use Rattle.gptp_commands.specs.Command.{certificate_rule, clock_rule, file_rule, frames_rule, max_error_rule, seed_rule, until_rule};
 ghost use Rattle.gptp_commands.specs.Command.{accuracy_command, check_command, choice_command, explain_command, first_program, played_command, run_command};
-ghost use Rattle.gptp_commands.specs.Command.{simulating_program};
+ghost use Rattle.gptp_commands.specs.Command.{choosing_program, lint_command, simulating_program, strict_rule};
 ghost use Rattle.gptp_commands.specs.declared.command.CommandLineError.TheVariants.{Memory};
 ghost use Rattle.gptp_network.specs.Values.{clock_of_text};
 ghost use Rattle.gptp_network.specs.declared.fault.DocumentFault.TheVariants.{OutOfRange};
-ghost use Rattle.gptp_commands.specs.declared.question.Question.TheVariants.{Accuracy, Choice, Explain};
+ghost use Rattle.gptp_commands.specs.declared.question.Question.TheVariants.{Accuracy, Choice, Explain, Lint};
 
 use crate::check::check;
 use crate::compare::compare_lines;
@@ -92,6 +92,15 @@ Input: standard input, a document in TOML of at most 32 MiB (33,554,432 octets).
 Output: what the system with this clock follows once the network has settled and why that is better, over which
 systems, why each of its ports has its role, and the systems by rank: who would be next.
 Example: gptp_sim explain 0080e1fffe00000c < examples/ring.toml";
+
+/// What help says of the input of `lint`.
+const LINT_HELP: &str = "\
+Input: standard input, a document in TOML of at most 32 MiB (33,554,432 octets).
+Output: where a document is refused, the test, the place and the reason. Otherwise a line for each key that
+isn't read, link that is too long or loses frames, system without a link, time at which the network falls
+apart, choice that a MAC address decides, and component that nobody leads; and for each time whether the
+network is calm, and how long it takes at most to settle, in ns.
+Example: gptp_sim lint --strict < examples/ring.toml";
 
 /// What is asked of `check`.
 #[derive(Debug, Drop, PartialEq, Eq)]
@@ -349,6 +358,28 @@ fn explain_grammar<'a>(alloc: Global) -> Result<Command<'a>, AllocError>
         .arg(until_option(alloc, MOMENT_HELP))
 }
 
+/// The option of `lint` that asks for a status.
+fn strict_option<'a>(alloc: Global) -> Arg<'a>
+    ensures rule { rule_of result ≡ strict_rule }
+    ensures local { result.global ≡ false }
+{
+    Arg::new(alloc, "strict")
+        .long("strict")
+        .action(ArgAction::SetTrue)
+        .help("End with status 1 where there is any line but on calm")
+}
+
+/// The command `lint` with its option.
+fn lint_grammar<'a>(alloc: Global) -> Result<Command<'a>, AllocError>
+    ensures app { IfOk result (λ command. app_of command ≡ lint_command) }
+    ensures local { IfOk result (λ command. (fields_of command).has_globals ≡ false) }
+{
+    Command::new(alloc, "lint")
+        .about("Says what isn't as it should be in a document, without a run")
+        .after_help(LINT_HELP)
+        .arg(strict_option(alloc))
+}
+
 /// The program with its first command, of which one has to be named.
 fn first_grammar<'a>(alloc: Global) -> Result<Command<'a>, AllocError>
     ensures app { IfOk result (λ command. app_of command ≡ first_program) }
@@ -373,14 +404,23 @@ fn simulating_grammar<'a>(alloc: Global) -> Result<Command<'a>, AllocError>
         .subcommand(check_grammar(alloc)?)
 }
 
+/// The program with these, and with the commands that ask for a choice and how exact it is.
+fn choosing_grammar<'a>(alloc: Global) -> Result<Command<'a>, AllocError>
+    ensures app { IfOk result (λ command. app_of command ≡ choosing_program) }
+    ensures local { IfOk result (λ command. (fields_of command).has_globals ≡ false) }
+{
+    simulating_grammar(alloc)?
+        .subcommand(choice_grammar(alloc)?)?
+        .subcommand(accuracy_grammar(alloc)?)
+}
+
 /// What the command line may say.
 fn grammar<'a>(alloc: Global) -> Result<Command<'a>, AllocError>
     ensures { IfOk result (λ command. app_of command ≡ program) }
 {
-    simulating_grammar(alloc)?
-        .subcommand(choice_grammar(alloc)?)?
-        .subcommand(accuracy_grammar(alloc)?)?
-        .subcommand(explain_grammar(alloc)?)
+    choosing_grammar(alloc)?
+        .subcommand(explain_grammar(alloc)?)?
+        .subcommand(lint_grammar(alloc)?)
 }
 
 /// The number of ns that an option gives. The parser lets no number through that is above the most.
@@ -495,6 +535,13 @@ fn explain_in(
     }
 }
 
+/// Whether `lint` is strict.
+fn strict_in(matches: &ArgMatches) -> bool
+    ensures { ReadsQuestion (rows_of (found_of matches.now)) (Lint result) }
+{
+    matches.get_flag("strict")
+}
+
 /// What is asked for, by the command that the parser entered.
 fn order_in(alloc: Global, matches: &ArgMatches) -> Result<Order, CommandLineError>
     ensures asks { IfOk result (Enters matches.now) }
@@ -514,6 +561,9 @@ fn order_in(alloc: Global, matches: &ArgMatches) -> Result<Order, CommandLineErr
             Ok((clock, until)) => Ok(Order::Ask(Question::Explain { clock, until })),
             Err(error) => Err(error),
         },
+        Some(("lint", matches)) => Ok(Order::Ask(Question::Lint {
+            strict: strict_in(matches),
+        })),
         _ => Ok(Order::Compare),
     }
 }

@@ -23,6 +23,7 @@ mod explain;
 pub mod failure;
 pub mod laws;
 mod lines;
+mod lint;
 mod output;
 pub mod question;
 mod reading;

@@ -3,7 +3,7 @@
 ghost use Rattle.std.specs.Prelude.{◌≡◌, ◌≢◌, ◌+◌, List, ℕ, IfErr, IfOk, OnOk};
 ghost use Rattle.std.specs.Io.KnownBytes.{Keeps};
 ghost use Rattle.gptp_commands.specs.Output.{IsOutput};
-ghost use Rattle.gptp_commands.specs.QuestionText.{Answers, AnswersInput, QuestionText};
+ghost use Rattle.gptp_commands.specs.QuestionText.{Answers, AnswersInput, QuestionText, RefusesInput};
 ghost use Rattle.gptp_commands.specs.RunText.{document_limit};
 ghost use Rattle.gptp_commands.specs.Source.{ReadsWhole, TakesAtMost};
 ghost use Rattle.gptp_commands.specs.Written.{Writes, WritesFront};
@@ -13,6 +13,7 @@ use crate::choice::choose_at;
 use crate::documents::{DOCUMENT_LIMIT, refuse};
 use crate::explain::explain_at;
 use crate::failure::{SimError, Status};
+use crate::lint::{refuse_at_place, tell_findings};
 use crate::output::Output;
 use crate::reading::read_whole;
 use crate::source::Source;
@@ -43,12 +44,18 @@ pub enum Question {
         clock: ClockId,
         until: Option<u64>,
     },
+    /// `lint`: what isn't as it should be in the document: where and why it is refused, or what a planner may have
+    /// overlooked. Where it is strict, the answer also says whether there is any of that.
+    Lint {
+        strict: bool,
+    },
 }
 
 /// The text for a document.
 fn answer_document(
     alloc: Global,
     document: &Document,
+    input: &[u8],
     question: Question,
 ) -> Result<Output, SimError>
     ensures answers { IfOk result (IsOutput (Answers question document.now)) }
@@ -60,6 +67,28 @@ fn answer_document(
             tell_accuracy(alloc, document, until, max_error)
         }
         Question::Explain { clock, until } => explain_at(alloc, document, until, clock),
+        Question::Lint { strict } => tell_findings(alloc, document, input, strict),
+    }
+}
+
+/// The line of an input within its size that is refused as a document.
+fn refuse_document(
+    alloc: Global,
+    input: &[u8],
+    question: Question,
+    fault: DocumentFault,
+) -> Result<Output, SimError>
+    ensures refuses { IfOk result (IsOutput (RefusesInput question fault)) }
+    ensures memory { IfErr result (λ e. e ≡ SimError.Memory) }
+{
+    match question {
+        Question::Choice { until: _ } => refuse(alloc, fault),
+        Question::Accuracy {
+            until: _,
+            max_error: _,
+        } => refuse(alloc, fault),
+        Question::Explain { clock: _, until: _ } => refuse(alloc, fault),
+        Question::Lint { strict: _ } => refuse_at_place(alloc, input, fault),
     }
 }
 
@@ -69,9 +98,9 @@ fn answer_input(alloc: Global, input: &[u8], question: Question) -> Result<Outpu
     ensures memory { IfErr result (λ e. e ≡ SimError.Memory) }
 {
     match Document::read(alloc, input) {
-        Ok(document) => answer_document(alloc, &document, question),
+        Ok(document) => answer_document(alloc, &document, input, question),
         Err(DocumentFault::OutOfMemory) => Err(SimError::Memory),
-        Err(fault) => refuse(alloc, fault),
+        Err(fault) => refuse_document(alloc, input, question, fault),
     }
 }
 

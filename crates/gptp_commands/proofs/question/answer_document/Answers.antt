@@ -9,3 +9,6 @@ returns-in-Accuracy-clause-answers c = rw c.in-Accuracy.is c.tell_accuracy.ensur
 
 pub returns-in-Explain-clause-answers : goal.returns-in-Explain-clause-answers
 returns-in-Explain-clause-answers c = rw c.in-Explain.is c.explain_at.ensures.explains
+
+pub returns-in-Lint-clause-answers : goal.returns-in-Lint-clause-answers
+returns-in-Lint-clause-answers c = rw c.in-Lint.is c.tell_findings.ensures.tells

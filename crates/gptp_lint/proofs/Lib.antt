@@ -1,0 +1,6 @@
+mod LivesLemmas
+mod CourseLemmas
+mod TroubleLemmas
+mod QuietLemmas
+mod TextLemmas
+mod FoundLemmas

@@ -1,0 +1,158 @@
+-- No link is told of exactly where each time is calm.
+use Rattle.std.proofs.Common.{◌≡◌, ◌↔◌, ◌≤◌, ◌<◌, ℕ, Bool, true, false, ◌&&◌, nat_lt, cond, List, [], ◌∷◌, Option, Some, None, slice_get, get_or, length, map, refl, sym, ap, subst, ◌∙◌, arith}
+use Rattle.std.specs.List.{All}
+use Rattle.std.specs.Option.{option_to_list}
+use Rattle.std.proofs.lemmas.Bool.Decides.{nat_tests}
+use Rattle.std.proofs.lemmas.Option.{same_Some, slice_get-get_or, slice_get_within}
+use Rattle.gptp_lists.specs.Members.{In}
+use Rattle.gptp_lists.proofs.MemberLemmas.{In-map, In-slice_get, from_map, slice_get-In}
+use Rattle.gptp_vector.specs.declared.port.PortId.{PortId}
+use Rattle.gptp_setup.specs.declared.setup.Params.{Params}
+use Rattle.gptp_plan.specs.Calm.{IsLive, IsQuiet, IsUsed, Rests}
+use Rattle.gptp_plan.specs.Change.{link_after}
+use Rattle.gptp_plan.specs.Network.{IsNetwork, IsPort}
+use Rattle.gptp_plan.specs.declared.change.Timed.{Timed}
+use Rattle.gptp_plan.specs.declared.network.Member.{Member}
+use Rattle.gptp_plan.specs.declared.network.Wire.{Wire}
+use Rattle.gptp_network.specs.Document.{DocumentState}
+use Rattle.gptp_network.specs.Events.{AreEvents, AreInOrder}
+use Rattle.gptp_network.specs.Snapshot.{events_by}
+use Rattle.gptp_network.specs.Span.{IsCalmAt}
+use Rattle.gptp_lint.specs.Course.{cable_of, course_of, first, is_used}
+use Rattle.gptp_lint.specs.Findings.{IsAlwaysCalm}
+use Rattle.gptp_lint.specs.Times.{times_of}
+use Rattle.gptp_lint.specs.Trouble.{is_long, long_of, longs_of, loss_in_use, lossies_of, needed, stretches}
+use Rattle.gptp_lint.specs.declared.course.Standing.{Standing}
+use Rattle.gptp_lint.proofs.CourseLemmas.{a_after, after, b_after, cable_after, course_is, same_a, same_b, stood}
+use Rattle.gptp_lint.proofs.LivesLemmas.{live_from, live_to, lives_after}
+use Rattle.gptp_lint.proofs.TroubleLemmas.{no_long, no_lossy, none_at_all, none_of, not_long, not_lossy}
+
+-- ---- what holds of all members holds of each
+
+all_in : {X : Type 0} (P : X → Type 0) (x : X) (xs : List X) → All P xs → In x xs → P x
+all_in P x xs all member =
+    let (k, there) = slice_get-In x xs member in
+    let within = slice_get_within xs k x there in
+    subst P (same_Some (get_or xs k x) x (sym (slice_get-get_or xs k x within) ∙ there)) (all k x within)
+
+in_all : {X : Type 0} (P : X → Type 0) (xs : List X) → ((x : X) → In x xs → P x) → All P xs
+in_all P xs each = λ k d within. each (get_or xs k d) (In-slice_get (get_or xs k d) xs k (slice_get-get_or xs k d within))
+
+-- ---- a link that stands quiet
+
+and_both : (a b c : Bool) → (a && (b && c)) ≡ true → (a ≡ true) × (b ≡ true) × (c ≡ true)
+and_both true true true is = (refl, refl, refl)
+and_both true true false is = absurd cc
+and_both true false c is = absurd cc
+and_both false b c is = absurd cc
+
+and_from : (a b c : Bool) → a ≡ true → b ≡ true → c ≡ true → (a && (b && c)) ≡ true
+and_from a b c ea eb ec = rw (ea, eb, ec) refl
+
+-- it is in use where it stands so exactly where it is used after the events
+used_to : (members : List Member) (events : List Timed) (w : Wire) → IsPort members w.a → IsPort members w.b
+    → is_used (after events (first w)) ≡ true → IsUsed members events (link_after events w)
+used_to members events w a b used =
+    let s = after events (first w) in
+    let (up, left, right) = and_both s.cable.up s.a_lives s.b_lives used in
+    record {
+      up = sym (ap (λ c. c.up) (cable_after events (first w))) ∙ up;
+      a = subst (λ (p : PortId). IsLive members events p.clock) (sym (same_a events w))
+          (live_from members events w.a a (sym (a_after events (first w)) ∙ left));
+      b = subst (λ (p : PortId). IsLive members events p.clock) (sym (same_b events w))
+          (live_from members events w.b b (sym (b_after events (first w)) ∙ right));
+    }
+
+used_from : (members : List Member) (events : List Timed) (w : Wire) → IsUsed members events (link_after events w)
+    → is_used (after events (first w)) ≡ true
+used_from members events w used =
+    let s = after events (first w) in
+    and_from s.cable.up s.a_lives s.b_lives (ap (λ c. c.up) (cable_after events (first w)) ∙ used.up)
+    (a_after events (first w) ∙ live_to members events w.a.clock
+    (subst (λ (p : PortId). IsLive members events p.clock) (same_a events w) used.a))
+    (b_after events (first w) ∙ live_to members events w.b.clock
+    (subst (λ (p : PortId). IsLive members events p.clock) (same_b events w) used.b))
+
+-- neither long nor lossy, by whether it is in use
+quiet_used : (p : Params) (s : Standing) → is_used s ≡ true → is_long p s ≡ false → loss_in_use s ≡ 0
+    → (s.cable.bounds.loss ≡ 0) × (needed p s.cable.bounds.max ≤ p.threshold)
+quiet_used p s used long lossy =
+    let short : nat_lt p.threshold (needed p s.cable.bounds.max) ≡ false =
+    ap (λ u. u && nat_lt p.threshold (needed p s.cable.bounds.max)) (sym used) ∙ long in
+    let none : s.cable.bounds.loss ≡ 0 = ap (λ u. cond u s.cable.bounds.loss 0) (sym used) ∙ lossy in
+    (none, grind (arith, nat_tests))
+
+quiet_by : (p : Params) (s : Standing) (used : Bool) → is_used s ≡ used
+    → (used ≡ true → (s.cable.bounds.loss ≡ 0) × (needed p s.cable.bounds.max ≤ p.threshold))
+    → ((used && nat_lt p.threshold (needed p s.cable.bounds.max)) ≡ false) × (cond used s.cable.bounds.loss 0 ≡ 0)
+quiet_by p s true is quiet = let (none, short) = quiet refl in (grind (arith, nat_tests), none)
+quiet_by p s false is quiet = (refl, refl)
+
+rests_from : (p : Params) (members : List Member) (events : List Timed) (w : Wire)
+    → is_long p (after events (first w)) ≡ false → loss_in_use (after events (first w)) ≡ 0
+    → Rests p members events w
+rests_from p members events w long lossy = λ used.
+    let s = after events (first w) in
+    let (none, short) = quiet_used p s (used_from members events w used) long lossy in
+    let same = cable_after events (first w) in
+    record {
+      lossless = sym (ap (λ c. c.bounds.loss) same) ∙ none;
+      good = subst (λ most. needed p most ≤ p.threshold) (ap (λ c. c.bounds.max) same) short;
+    }
+
+rests_to : (p : Params) (members : List Member) (events : List Timed) (w : Wire) → IsPort members w.a
+    → IsPort members w.b → Rests p members events w
+    → (is_long p (after events (first w)) ≡ false) × (loss_in_use (after events (first w)) ≡ 0)
+rests_to p members events w a b rests =
+    let s = after events (first w) in
+    let same = cable_after events (first w) in
+    quiet_by p s (is_used s) refl (λ used.
+    let quiet = rests (used_to members events w a b used) in (
+      ap (λ c. c.bounds.loss) same ∙ quiet.lossless,
+      subst (λ most. needed p most ≤ p.threshold) (sym (ap (λ c. c.bounds.max) same)) quiet.good,
+    ))
+
+-- ---- all links at all times
+
+none_told : {X : Type 0} (o : Option X) → option_to_list o ≡ [] → o ≡ None
+none_told None none = refl
+none_told (Some x) none = absurd cc
+
+module _ (d : DocumentState) (network : IsNetwork d.network) (order : AreInOrder d.events) where
+  abbrev params : Params
+  params = d.network.params
+
+  calm_where_quiet : longs_of d d.network.links ≡ [] → lossies_of d d.network.links ≡ [] → IsAlwaysCalm d
+  calm_where_quiet long lossy = λ at time. in_all _ d.network.links (λ w member.
+      let f = stood d.events (first w) in
+      let there : In (f at) (course_of d.events w) =
+      subst (In (f at)) (sym (course_is d.events w order)) (In-map f at (times_of d.events) time) in
+      rests_from params d.network.systems (events_by at d.events) w
+      (not_long params (course_of d.events w) (none_told _ (none_of _ d.network.links long w member)) (f at) there)
+      (not_lossy w.bounds.link (course_of d.events w) (none_of _ d.network.links lossy w member) (f at) there))
+
+  -- how a link of the network stands at a time that is calm
+  stands_quiet : IsAlwaysCalm d → (w : Wire) → In w d.network.links → (s : Standing) → In s (course_of d.events w)
+      → (is_long params s ≡ false) × (loss_in_use s ≡ 0)
+  stands_quiet calm w member s stands =
+      let f = stood d.events (first w) in
+      let (at, time, is) = from_map f s (times_of d.events) (subst (In s) (course_is d.events w order) stands) in
+      let (place, there) = slice_get-In w d.network.links member in
+      let wire = network.links place w there in
+      subst (λ r. (is_long params r ≡ false) × (loss_in_use r ≡ 0)) is
+      (rests_to params d.network.systems (events_by at d.events) w wire.a wire.b
+      (all_in (Rests params d.network.systems (events_by at d.events)) w d.network.links (calm at time) member))
+
+  no_long_where_calm : IsAlwaysCalm d → longs_of d d.network.links ≡ []
+  no_long_where_calm calm = none_at_all _ d.network.links (λ w member.
+      ap option_to_list (no_long params (course_of d.events w) (λ s stands. (stands_quiet calm w member s stands).0)))
+
+  no_lossy_where_calm : IsAlwaysCalm d → lossies_of d d.network.links ≡ []
+  no_lossy_where_calm calm = none_at_all _ d.network.links (λ w member.
+      no_lossy w.bounds.link 0 (course_of d.events w) (λ s stands. (stands_quiet calm w member s stands).1))
+
+  pub quiet : ((longs_of d d.network.links ≡ []) × (lossies_of d d.network.links ≡ [])) ↔ IsAlwaysCalm d
+  quiet = (
+    λ none. calm_where_quiet none.0 none.1,
+    λ calm. (no_long_where_calm calm, no_lossy_where_calm calm),
+  )

@@ -1,0 +1,7 @@
+-- What is written so far is lines.
+use Rattle.std.specs.Prelude.{string_bytes}
+use Rattle.gptp_lint.specs.LintText.{AppendsLines}
+use Rattle.gptp_lint.proofs.text.write_apart.Given as goal
+
+abbrev pub invariant-loop-apart : goal.invariant-loop-apart
+invariant-loop-apart l = AppendsLines (string_bytes l.initial.text) (string_bytes l.text)

@@ -1,0 +1,5 @@
+pub mod Times
+pub mod Course
+pub mod Trouble
+pub mod Findings
+pub mod LintText

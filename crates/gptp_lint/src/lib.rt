@@ -1,0 +1,29 @@
+//! What isn't as it should be in the document of a network, without a run: where and why it is refused, or what a planner
+//! may have overlooked.
+#![tactic(auto)]
+
+mod components;
+mod course;
+mod diagnosis;
+mod escaped;
+mod findings;
+mod graph;
+mod keys;
+mod lines;
+mod nearest;
+mod outline;
+mod place;
+mod refusal;
+mod scanner;
+mod seen;
+mod text;
+mod times;
+mod trouble;
+mod unknown;
+mod values;
+mod why;
+
+pub use findings::{CalmTime, Findings, find};
+pub use refusal::write_refusal;
+pub use text::write_findings;
+pub use trouble::{Long, Lossy};

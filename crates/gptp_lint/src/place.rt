@@ -1,0 +1,86 @@
+//! Where something stands in a document.
+
+use std::fmt;
+
+/// A section that is an array, by its order in a document.
+#[derive(Clone, Copy, PartialEq, Eq, PartialOrd, Ord)]
+pub(crate) enum Section {
+    System,
+    Link,
+    Event,
+}
+
+impl Section {
+    /// Its key.
+    pub(crate) fn name(self) -> &'static str {
+        match self {
+            Section::System => "system",
+            Section::Link => "link",
+            Section::Event => "event",
+        }
+    }
+
+    /// How many members it has at most.
+    pub(crate) fn most(self) -> usize {
+        match self {
+            Section::System => 512,
+            Section::Link => 2048,
+            Section::Event => 4096,
+        }
+    }
+
+    /// The section of a key, if it has one.
+    pub(crate) fn of_name(name: &[u8]) -> Option<Section> {
+        match name {
+            b"system" => Some(Section::System),
+            b"link" => Some(Section::Link),
+            b"event" => Some(Section::Event),
+            _ => None,
+        }
+    }
+}
+
+/// Where a key stands: at the top, in `[network]`, or in a member of another section, by its number from 0.
+#[derive(Clone, Copy, PartialEq, Eq, PartialOrd, Ord)]
+pub(crate) enum Place {
+    Top,
+    Network,
+    Member(Section, usize),
+}
+
+/// The line of a header, from 1, shown behind the number of its member; nothing where there is none.
+#[derive(Clone, Copy)]
+pub(crate) struct LineWords(pub Option<usize>);
+
+impl fmt::Display for LineWords {
+    ghost use Rattle.std.specs.Prelude.{Some};
+    ghost use Rattle.gptp_lint.specs.LintText.{line_words};
+
+    ghost output = { λ words. Some (line_words words.0) };
+
+    fn fmt<W: fmt::Write>(&self, f: &mut fmt::Formatter<W>) -> fmt::Result {
+        match self.0 {
+            Some(line) => write!(f, " line {line}"),
+            None => Ok(()),
+        }
+    }
+}
+
+/// A place, with the line of its header.
+#[derive(Clone, Copy)]
+pub(crate) struct PlaceWords {
+    pub place: Place,
+    pub line: Option<usize>,
+}
+
+impl fmt::Display for PlaceWords {
+    fn fmt<W: fmt::Write>(&self, f: &mut fmt::Formatter<W>) -> fmt::Result {
+        match self.place {
+            Place::Top => f.write_str("top"),
+            Place::Network => f.write_str("network"),
+            Place::Member(section, number) => {
+                write!(f, "{} {number}{}", section.name(), LineWords(self.line))
+            }
+        }
+    }
+}

@@ -1,0 +1,231 @@
+//! Findings as text.
+
+ghost use Rattle.std.specs.Prelude.{◌≡◌, ◌++◌, ◌∷◌, ◌↔◌, [], Bool, List, ℕ, IfOk, IsTrue, OnOk, map, slice_get, string_bytes};
+ghost use Rattle.gptp_spelling.specs.Lines.{text_of};
+ghost use Rattle.gptp_lint.specs.LintText.{AppendsFindings, AppendsLines, calm_line, long_line, lossy_line};
+
+use crate::components::Components;
+use crate::findings::{CalmTime, Findings};
+use crate::lines::push_line;
+use crate::outline::{Outline, outline_of};
+use crate::place::LineWords;
+use crate::trouble::{Long, Lossy};
+use crate::unknown::write_unknown_keys;
+use gptp_spelling::{ClockDigits, IdentityDigits};
+use gptp_vector::ClockId;
+use std::alloc::{AllocError, Global};
+use std::fmt;
+
+/// A time that may be absent, shown in decimal or as `none`.
+#[derive(Clone, Copy)]
+struct TimeOrNone(Option<u64>);
+
+impl fmt::Display for TimeOrNone {
+    ghost use Rattle.std.specs.Prelude.{Some};
+    ghost use Rattle.std.specs.Fmt.{decimal};
+    ghost use Rattle.gptp_spelling.specs.Digits.{or_none};
+
+    ghost output = { λ time. Some (or_none decimal time.0) };
+
+    fn fmt<W: fmt::Write>(&self, f: &mut fmt::Formatter<W>) -> fmt::Result {
+        match self.0 {
+            Some(time) => write!(f, "{time}"),
+            None => f.write_str("none"),
+        }
+    }
+}
+
+/// Appends the line of a link that isn't good at some time.
+fn write_long(
+    text: &mut String,
+    threshold: u64,
+    line: Option<usize>,
+    long: &Long,
+) -> Result<(), AllocError>
+    ensures { OnOk result (string_bytes text.new ≡ string_bytes text.old ++ (long_line threshold line long.now ++ 10 ∷ [])) }
+{
+    writeln!(
+        text,
+        "long link {}{} max {} needs {} threshold {threshold} at {}",
+        long.link,
+        LineWords(line),
+        long.max,
+        long.needs,
+        long.at
+    )
+}
+
+/// Appends the lines of links that aren't good at some time.
+fn write_longs(
+    text: &mut String,
+    threshold: u64,
+    outline: &Outline,
+    longs: &[Long],
+) -> Result<(), AllocError>
+    ensures { OnOk result (string_bytes text.new ≡ string_bytes text.old
+        ++ text_of (map (λ (l : Long). long_line threshold (slice_get outline.now.links.items l.link) l) longs.now)) }
+{
+    for long in longs {
+        write_long(text, threshold, outline.link_line(long.link), long)?;
+    }
+    Ok(())
+}
+
+/// Appends the line of a stretch at which a link loses frames.
+fn write_lossy(text: &mut String, line: Option<usize>, lossy: &Lossy) -> Result<(), AllocError>
+    ensures { OnOk result (string_bytes text.new ≡ string_bytes text.old ++ (lossy_line line lossy.now ++ 10 ∷ [])) }
+{
+    writeln!(
+        text,
+        "lossy link {}{} loss {} from {} to {}",
+        lossy.link,
+        LineWords(line),
+        lossy.loss,
+        lossy.from,
+        TimeOrNone(lossy.to)
+    )
+}
+
+/// Appends the line of a stretch, with the line of its link's header.
+fn write_stretch(text: &mut String, outline: &Outline, lossy: &Lossy) -> Result<(), AllocError>
+    ensures { OnOk result (string_bytes text.new ≡ string_bytes text.old
+        ++ (lossy_line (slice_get outline.now.links.items lossy.now.link) lossy.now ++ 10 ∷ [])) }
+{
+    write_lossy(text, outline.link_line(lossy.link), lossy)
+}
+
+/// Appends the lines of stretches at which links lose frames.
+fn write_stretches(
+    text: &mut String,
+    outline: &Outline,
+    stretches: &[Lossy],
+) -> Result<(), AllocError>
+    ensures { OnOk result (string_bytes text.new ≡ string_bytes text.old
+        ++ text_of (map (λ (l : Lossy). lossy_line (slice_get outline.now.links.items l.link) l) stretches.now)) }
+{
+    for lossy in stretches {
+        write_stretch(text, outline, lossy)?;
+    }
+    Ok(())
+}
+
+/// Appends the lines of systems that no link names.
+fn write_unlinked(alloc: Global, text: &mut String, clocks: &[ClockId]) -> Result<(), AllocError>
+    ensures { OnOk result (AppendsLines (string_bytes text.old) (string_bytes text.new)) }
+{
+    for clock in clocks {
+        let line = format!(in alloc; "unlinked {}", ClockDigits(*clock))?;
+        push_line(text, line.as_str())?;
+    }
+    Ok(())
+}
+
+/// Appends the lines of times at which there are several components.
+fn write_apart(alloc: Global, text: &mut String, components: &Components) -> Result<(), AllocError>
+    ensures { OnOk result (AppendsLines (string_bytes text.old) (string_bytes text.new)) }
+{
+    for apart in &components.apart {
+        let line = format!(in alloc; "apart {} components {}", apart.at, apart.components)?;
+        push_line(text, line.as_str())?;
+    }
+    Ok(())
+}
+
+/// Appends the lines of systems between which a clock decides.
+fn write_chance(alloc: Global, text: &mut String, components: &Components) -> Result<(), AllocError>
+    ensures { OnOk result (AppendsLines (string_bytes text.old) (string_bytes text.new)) }
+{
+    for (one, other) in &components.chance {
+        let line = format!(in alloc;
+            "chance {} {}",
+            IdentityDigits(*one),
+            IdentityDigits(*other)
+        )?;
+        push_line(text, line.as_str())?;
+    }
+    Ok(())
+}
+
+/// Appends the lines of bests that can't be grandmaster.
+fn write_nobody(alloc: Global, text: &mut String, components: &Components) -> Result<(), AllocError>
+    ensures { OnOk result (AppendsLines (string_bytes text.old) (string_bytes text.new)) }
+{
+    for nobody in &components.nobody {
+        let line = format!(in alloc; "nobody {} {}", nobody.at, IdentityDigits(nobody.best))?;
+        push_line(text, line.as_str())?;
+    }
+    Ok(())
+}
+
+/// Appends the lines of what isn't asked of single links or times.
+fn write_others(alloc: Global, text: &mut String, findings: &Findings) -> Result<(), AllocError>
+    ensures { OnOk result (AppendsLines (string_bytes text.old) (string_bytes text.new)) }
+{
+    write_unlinked(alloc, text, &findings.unlinked)?;
+    write_apart(alloc, text, &findings.components)?;
+    write_chance(alloc, text, &findings.components)?;
+    write_nobody(alloc, text, &findings.components)
+}
+
+/// Appends the line of a time.
+fn write_calm_time(text: &mut String, time: &CalmTime) -> Result<(), AllocError>
+    ensures { OnOk result (string_bytes text.new ≡ string_bytes text.old ++ (calm_line time.now ++ 10 ∷ [])) }
+{
+    match time.bound {
+        Some(bound) => writeln!(text, "calm {} yes bound {bound}", time.at),
+        None => writeln!(text, "calm {} no", time.at),
+    }
+}
+
+/// Appends the lines of times.
+fn write_calm_times(text: &mut String, times: &[CalmTime]) -> Result<(), AllocError>
+    ensures { OnOk result (string_bytes text.new ≡ string_bytes text.old ++ text_of (map calm_line times.now)) }
+{
+    for time in times {
+        write_calm_time(text, time)?;
+    }
+    Ok(())
+}
+
+/// Appends the lines of the keys of a text that aren't read.
+fn write_unread(
+    alloc: Global,
+    text: &mut String,
+    input: &[u8],
+    outline: &Outline,
+) -> Result<(), AllocError>
+    ensures { OnOk result (AppendsLines (string_bytes text.old) (string_bytes text.new)) }
+{
+    match toml::table_from_slice(alloc, input) {
+        Ok(document) => write_unknown_keys(alloc, text, &document, outline),
+        Err(error) => {
+            if error.is_memory() {
+                Err(AllocError)
+            } else {
+                Ok(())
+            }
+        }
+    }
+}
+
+/// Appends the findings of a document, which a text spells and whose links have this threshold, in ns; answers whether there
+/// is one but on calm.
+pub fn write_findings(
+    alloc: Global,
+    text: &mut String,
+    input: &[u8],
+    threshold: u64,
+    findings: &Findings,
+) -> Result<bool, AllocError>
+    ensures { IfOk result (AppendsFindings threshold findings.now (string_bytes text.old) (string_bytes text.new)) }
+{
+    let before = text.as_bytes().len();
+    let outline = outline_of(alloc, input)?;
+    write_unread(alloc, text, input, &outline)?;
+    write_longs(text, threshold, &outline, &findings.long)?;
+    write_stretches(text, &outline, &findings.lossy)?;
+    write_others(alloc, text, findings)?;
+    let found = before < text.as_bytes().len();
+    write_calm_times(text, &findings.calm)?;
+    Ok(found)
+}
