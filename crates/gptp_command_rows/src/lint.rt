@@ -4,7 +4,8 @@ use crate::asked::{RING, asked};
 use crate::same::same_at;
 use gptp_commands::failure::Status;
 use gptp_commands::question::Question;
-use std::alloc::{AllocError, Global};
+use std::alloc::{AllocGlobal, Global};
+use std::process::Abort;
 use std::test::Fail;
 
 /// Two systems, of two ports and of one.
@@ -53,7 +54,7 @@ fn linted(alloc: Global, front: &str, end: &str, strict: bool) -> Result<(Vec<u8
 }
 
 /// Documents that are refused: two texts, and the line but its first word.
-fn test_refused(rt: &HostRuntime, rows: &[(&str, &str, &str)]) -> Result<(), Fail> {
+fn test_refused<R: Abort + AllocGlobal>(rt: &R, rows: &[(&str, &str, &str)]) -> Result<(), Fail> {
     let alloc = rt.alloc();
     for (front, end, want) in rows {
         let (text, status) = linted(alloc, front, end, false)?;
