@@ -14,7 +14,8 @@ pub returns : goal.returns
 returns g c =
     let w = c.args.world.now.scene in let s = c.in_ok-system.system.now in
     let followed = c.in_ok-_followed._followed in let shown = c.in_ok-_followed.ensures in
-    let found = subst (λ clock. AtSystem clock w (Follows followed.0 followed.1 followed.2)) c.from.ensures shown.some in
+    let found =
+    subst (λ clock. AtSystem clock w (Follows followed.0 followed.1 followed.2)) c.from.ensures shown.some in
     let settled =
     subst (λ clock. FollowsInTime clock w followed.0 followed.1 followed.2) c.from.ensures shown.settled in
     let shows = subst (λ clock. ShowsLive clock w s) c.from-2.ensures c.in_ok-system.ensures.some in
