@@ -172,7 +172,8 @@ course_step s t ts behind_it done at false is past come order =
     let earlier : at ≤ t.at = omega (arith, here) in
     let other : (t.at == at) ≡ false = grind (arith, nat_tests) in
     let rest = behind t ts order in
-    let now : events_by at (done ++ t ∷ ts) ≡ done = only_past at done (t ∷ ts) past (here, all_later at t ts here rest) in
+    let now : events_by at (done ++ t ∷ ts) ≡ done =
+    only_past at done (t ∷ ts) past (here, all_later at t ts here rest) in
     let joined : (done ++ t ∷ []) ++ ts ≡ done ++ t ∷ ts = append_assoc done (t ∷ []) ts in
     let self : t.at ≤ t.at = omega arith in
     let later =

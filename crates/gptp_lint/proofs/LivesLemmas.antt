@@ -16,7 +16,8 @@ use Rattle.gptp_lint.specs.Course.{lives_acted}
 -- whether a system lives after a change stands by whether it lived before, whatever its identity
 set_alike : (test live : Bool) (s : _)
     → (cond test (with_live live s) s).live
-    ≡ (cond test (with_live live (record { identity = 0; live = s.live })) (record { identity = 0; live = s.live })).live
+    ≡ (cond test (with_live live (record { identity = 0; live = s.live }))
+    (record { identity = 0; live = s.live })).live
 set_alike true live s = refl
 set_alike false live s = refl
 

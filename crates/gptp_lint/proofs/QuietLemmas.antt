@@ -36,7 +36,8 @@ all_in P x xs all member =
     subst P (same_Some (get_or xs k x) x (sym (slice_get-get_or xs k x within) ∙ there)) (all k x within)
 
 in_all : {X : Type 0} (P : X → Type 0) (xs : List X) → ((x : X) → In x xs → P x) → All P xs
-in_all P xs each = λ k d within. each (get_or xs k d) (In-slice_get (get_or xs k d) xs k (slice_get-get_or xs k d within))
+in_all P xs each = λ k d within.
+    each (get_or xs k d) (In-slice_get (get_or xs k d) xs k (slice_get-get_or xs k d within))
 
 -- ---- a link that stands quiet
 

@@ -34,7 +34,8 @@ more_lines old mid new (xs, first) (ys, second) = (xs ++ ys, joined old mid new 
 pub one_line : (old new line : List ℕ) → new ≡ old ++ (line ++ 10 ∷ []) → AppendsLines old new
 one_line old new line is = (line ∷ [], is ∙ ap (λ t. old ++ t) (sym (append-nil (line ++ 10 ∷ []))))
 
-pub line_more : (old mid new line : List ℕ) → AppendsLines old mid → new ≡ mid ++ (line ++ 10 ∷ []) → AppendsLines old new
+pub line_more : (old mid new line : List ℕ) → AppendsLines old mid → new ≡ mid ++ (line ++ 10 ∷ [])
+    → AppendsLines old new
 line_more old mid new line so_far is = more_lines old mid new so_far (one_line mid new line is)
 
 -- the lines of some, and of one more

@@ -18,8 +18,8 @@ pub record AreCalmTimes (d : DocumentState) (times : List CalmTime) : Type 0 whe
 abbrev pub IsAlwaysCalm : DocumentState → Type 0
 IsAlwaysCalm d = (at : ℕ) → In at (times_of d.events) → IsCalmAt d at
 
--- Links in use that are too long or lose frames, and the times, as they are defined. There is no such link exactly where
--- each time is calm.
+-- Links in use that are too long or lose frames, and the times, as they are defined. There is no such link exactly
+-- where each time is calm.
 pub record AreFound (d : DocumentState) (f : Findings) : Type 0 where
   pub long : f.long.items ≡ longs_of d d.network.links
   pub lossy : f.lossy.items ≡ lossies_of d d.network.links

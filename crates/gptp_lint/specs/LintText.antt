@@ -49,8 +49,9 @@ found_lines threshold f unread others header =
     unread ++ map (λ (l : Long). long_line threshold (header l.link) l) f.long.items
     ++ map (λ (l : Lossy). lossy_line (header l.link) l) f.lossy.items ++ others
 
--- The findings of a document of this threshold: the keys that aren't read, the links that are too long or lose frames, each
--- with the line of its header, the other findings, and the times; and whether there is a line but those of the times.
+-- The findings of a document of this threshold: the keys that aren't read, the links that are too long or lose frames,
+-- each with the line of its header, the other findings, and the times; and whether there is a line but those of the
+-- times.
 pub record AreLines (threshold : ℕ) (f : Findings) (lines : List (List ℕ)) (found : Bool) : Type 0 where
   pub unread : List (List ℕ)
   pub others : List (List ℕ)

@@ -11,5 +11,6 @@ returns c =
     let past = c.loop-place-test.false in
     let same = ap (λ (n : NetworkState). length n.links) c.network-2.ensures in
     let all : c.loop-place.place ≡ length d.network.links = omega (arith, end, last, past, same) in
-    found d _ c.loop-place.place (subst IsNetwork c.network.ensures c.well_formed-2.ensures) c.well_formed-3.ensures.events all
+    found d _ c.loop-place.place (subst IsNetwork c.network.ensures c.well_formed-2.ensures)
+    c.well_formed-3.ensures.events all
     c.loop-place.invariant.0 c.loop-place.invariant.1 c.in_ok-calm.ensures

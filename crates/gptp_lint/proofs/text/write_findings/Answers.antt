@@ -18,7 +18,8 @@ returns c =
     let (others, fourth) = c.in_ok-write_others.ensures in
     let header : ℕ → Option ℕ = λ link. slice_get c.in_ok-outline.outline.links.items link in
     let mid = all_lines c.args.threshold f old t1 t2 t3 t4 unread others header first
-    (rw c.deref.ensures.value at c.in_ok-write_longs.ensures) (rw c.deref-2.ensures.value at c.in_ok-write_stretches.ensures)
+    (rw c.deref.ensures.value at c.in_ok-write_longs.ensures)
+    (rw c.deref-2.ensures.value at c.in_ok-write_stretches.ensures)
     fourth in
     let lines = found_lines c.args.threshold f unread others header in (
       lines ++ map calm_line f.calm.items,

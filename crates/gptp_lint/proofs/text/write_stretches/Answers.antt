@@ -16,4 +16,5 @@ loop-lossy-preserved c =
     let told : string_bytes c.write_stretch.new.text
     ≡ string_bytes c.loop-lossy.text ++ (line (get_or xs i any) ++ 10 ∷ []) = search rules in
     mapped_more line xs i (get_or xs i any) (string_bytes c.args.text.now) (string_bytes c.loop-lossy.text)
-    (string_bytes c.write_stretch.new.text) (slice_get-get_or xs i any c.loop-lossy-test.true) c.loop-lossy.invariant told
+    (string_bytes c.write_stretch.new.text) (slice_get-get_or xs i any c.loop-lossy-test.true)
+    c.loop-lossy.invariant told
