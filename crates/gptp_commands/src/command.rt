@@ -18,9 +18,11 @@ use crate::failure::{SimError, Status, exit_status};
 use crate::question::{Question, answer_question};
 use crate::run::RunOptions;
 use crate::source::{CountedReader, Source};
+use crate::timeline::{TimelineOrder, timeline};
 use clap::error::ErrorKind;
 use clap::{Arg, ArgAction, ArgMatches, Command};
 use gptp_report::sink::{CountedWriter, Sink};
+use gptp_timeline::{Limits, TimelineOptions};
 use std::alloc::{AllocError, Global};
 use std::env::{self, Env};
 use std::fs;
@@ -82,6 +84,15 @@ Output: the time from which on it holds, and each system with its root, its step
 time may be from the root's, in ns, rounded up. Where links lose frames or are too long it is none.
 Example: gptp_sim accuracy --max-error 1000 < examples/ring.toml";
 
+/// What help says of the input of `timeline`.
+const TIMELINE_HELP: &str = "\
+Input: standard input, a document in TOML of at most 32 MiB (33,554,432 octets).
+Output: each event, what each act leaves another at which system, and, where a stretch between the times of
+events ends, how long the choice took to stand, how long a system went without time, and how far time was off.
+With a --max- the last line is 'within', or 'exceeded' with the first word that is above it in some stretch.
+Times are in ns.
+Example: gptp_sim timeline --summary --max-choice 4000000000 < examples/vehicle.toml";
+
 /// What is asked of `check`.
 #[derive(Debug, Drop, PartialEq, Eq)]
 pub struct CheckOptions {
@@ -99,6 +110,8 @@ enum Order {
     Compare,
     /// The command `run`, with these options.
     Run(RunOptions),
+    /// The command `timeline`, with these options.
+    Timeline(TimelineOrder),
     /// The command `check`, with these options.
     Check(CheckOptions),
     /// A command that answers this question.
@@ -199,6 +212,46 @@ fn max_error_option<'a>(alloc: Global) -> Arg<'a>
         .value_name("NS")
         .value_parser(clap::value_parser!(u64).range(0..=1_000_000_000_000_000))
         .help("Say whether each system's error is at most this, in ns")
+}
+
+/// An option of `timeline` that gives the greatest number of something.
+fn limit_option<'a>(
+    alloc: Global,
+    name: &'static str,
+    value_name: &'static str,
+    help: &'static str,
+) -> Arg<'a>
+    ensures rule { rule_of result ≡ limit_rule name.now }
+    ensures local { result.global ≡ false }
+{
+    Arg::new(alloc, name)
+        .long(name)
+        .action(ArgAction::Set)
+        .value_name(value_name)
+        .value_parser(clap::value_parser!(u64).range(0..=1_000_000_000_000_000))
+        .help(help)
+}
+
+/// The option that asks for fewer lines.
+fn summary_option<'a>(alloc: Global) -> Arg<'a>
+    ensures rule { rule_of result ≡ summary_rule }
+    ensures local { result.global ≡ false }
+{
+    Arg::new(alloc, "summary")
+        .long("summary")
+        .action(ArgAction::SetTrue)
+        .help("Leave out events and changes")
+}
+
+/// The option that asks for lines on receipts of time.
+fn offsets_option<'a>(alloc: Global) -> Arg<'a>
+    ensures rule { rule_of result ≡ offsets_rule }
+    ensures local { result.global ≡ false }
+{
+    Arg::new(alloc, "offsets")
+        .long("offsets")
+        .action(ArgAction::SetTrue)
+        .help("Write a line for each receipt of time, with its offset and error in ns")
 }
 
 /// The option of `run` that chooses delays and losses.
@@ -309,6 +362,75 @@ fn accuracy_grammar<'a>(alloc: Global) -> Result<Command<'a>, AllocError>
         .arg(max_error_option(alloc))
 }
 
+/// The command `timeline` with the options that say how the network runs and what is told.
+fn told_grammar<'a>(alloc: Global) -> Result<Command<'a>, AllocError>
+    ensures app { IfOk result (λ command. app_of command ≡ told_command) }
+    ensures local { IfOk result (λ command. (fields_of command).has_globals ≡ false) }
+{
+    Command::new(alloc, "timeline")
+        .about("Runs the network of a document and says what changes at which system when")
+        .after_help(TIMELINE_HELP)
+        .arg(until_option(
+            alloc,
+            "When the run ends, in ns; by default some Syncs after the last event's stretch has settled",
+        ))?
+        .arg(seed_option(alloc))?
+        .arg(summary_option(alloc))?
+        .arg(offsets_option(alloc))
+}
+
+/// The same with the limits of times.
+fn timed_grammar<'a>(alloc: Global) -> Result<Command<'a>, AllocError>
+    ensures app { IfOk result (λ command. app_of command ≡ timed_command) }
+    ensures local { IfOk result (λ command. (fields_of command).has_globals ≡ false) }
+{
+    told_grammar(alloc)?
+        .arg(limit_option(
+            alloc,
+            "max-choice",
+            "NS",
+            "Say whether behind each event the choice stands within this, in ns",
+        ))?
+        .arg(limit_option(
+            alloc,
+            "max-holdover",
+            "NS",
+            "Say whether behind each event no system waits longer for time than this, in ns",
+        ))?
+        .arg(limit_option(
+            alloc,
+            "max-error",
+            "NS",
+            "Say whether each receipt of time is off by at most this, in ns",
+        ))
+}
+
+/// The command `timeline` with all its options.
+fn timeline_grammar<'a>(alloc: Global) -> Result<Command<'a>, AllocError>
+    ensures app { IfOk result (λ command. app_of command ≡ timeline_command) }
+    ensures local { IfOk result (λ command. (fields_of command).has_globals ≡ false) }
+{
+    timed_grammar(alloc)?
+        .arg(limit_option(
+            alloc,
+            "max-without",
+            "N",
+            "Say whether where a stretch ends at most so many systems go without time",
+        ))?
+        .arg(limit_option(
+            alloc,
+            "max-roots",
+            "N",
+            "Say whether at most so many roots are followed there by two systems or more",
+        ))?
+        .arg(limit_option(
+            alloc,
+            "max-alone",
+            "N",
+            "Say whether at most so many systems follow a root there that no other does",
+        ))
+}
+
 /// The program with its first command, of which one has to be named.
 fn first_grammar<'a>(alloc: Global) -> Result<Command<'a>, AllocError>
     ensures app { IfOk result (λ command. app_of command ≡ first_program) }
@@ -330,6 +452,7 @@ fn simulating_grammar<'a>(alloc: Global) -> Result<Command<'a>, AllocError>
 {
     first_grammar(alloc)?
         .subcommand(run_grammar(alloc)?)?
+        .subcommand(timeline_grammar(alloc)?)?
         .subcommand(check_grammar(alloc)?)
 }
 
@@ -387,6 +510,35 @@ fn options_in(matches: &ArgMatches) -> RunOptions
     }
 }
 
+/// The limits that the command line gives.
+fn limits_in(matches: &ArgMatches) -> Limits
+    ensures { ReadsLimits (rows_of (found_of matches.now)) result }
+{
+    Limits {
+        choice: nanoseconds_in(matches, "max-choice"),
+        holdover: nanoseconds_in(matches, "max-holdover"),
+        error: nanoseconds_in(matches, "max-error"),
+        without: nanoseconds_in(matches, "max-without"),
+        roots: nanoseconds_in(matches, "max-roots"),
+        alone: nanoseconds_in(matches, "max-alone"),
+    }
+}
+
+/// What is asked of `timeline`.
+fn timeline_in(matches: &ArgMatches) -> TimelineOrder
+    ensures { ReadsTimeline (rows_of (found_of matches.now)) result }
+{
+    TimelineOrder {
+        until: until_in(matches),
+        seed: seed_in(matches),
+        options: TimelineOptions {
+            summary: matches.get_flag("summary"),
+            offsets: matches.get_flag("offsets"),
+            limits: limits_in(matches),
+        },
+    }
+}
+
 /// What is asked of `check`. The parser lets no command line through that gives no file.
 fn check_options_in(alloc: Global, matches: &ArgMatches) -> Result<CheckOptions, AllocError>
     ensures { IfOk result (ReadsCheck (rows_of (found_of matches.now))) }
@@ -418,6 +570,7 @@ fn order_in(alloc: Global, matches: &ArgMatches) -> Result<Order, AllocError>
 {
     match matches.subcommand() {
         Some(("run", matches)) => Ok(Order::Run(options_in(matches))),
+        Some(("timeline", matches)) => Ok(Order::Timeline(timeline_in(matches))),
         Some(("check", matches)) => Ok(Order::Check(check_options_in(alloc, matches)?)),
         Some(("choice", matches)) => Ok(Order::Ask(Question::Choice {
             until: choice_in(matches),
@@ -513,6 +666,7 @@ fn carry_out<R: Input + Print + Files + AllocGlobal>(
     let outcome = match order {
         Order::Compare => compare_lines(rt.alloc(), &mut source, &mut sink),
         Order::Run(options) => crate::run::run(rt.alloc(), &mut source, &mut sink, options),
+        Order::Timeline(order) => timeline(rt.alloc(), &mut source, &mut sink, order),
         Order::Check(options) => check_file(rt, &mut source, &mut sink, options),
         Order::Ask(question) => answer_question(rt.alloc(), &mut source, &mut sink, *question),
     };

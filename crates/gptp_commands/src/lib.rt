@@ -27,6 +27,7 @@ pub mod question;
 mod reading;
 pub mod run;
 pub mod source;
+pub mod timeline;
 mod words;
 
 pub use gptp_report::sink;

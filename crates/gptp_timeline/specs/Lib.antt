@@ -1,0 +1,11 @@
+pub mod Ports
+pub mod Shown
+pub mod Changes
+pub mod EventLine
+pub mod Amounts
+pub mod Receipts
+pub mod Measures
+pub mod Stretch
+pub mod Limits
+pub mod Timeline
+pub mod Watch

@@ -1,0 +1,246 @@
+//! What became of a stretch: the line where it ends.
+
+ghost use Rattle.std.specs.Prelude.{◌≡◌};
+
+use crate::amounts::{Near, NearOrNone, Up};
+use crate::counts::{Counts, counts_of};
+use crate::measures::{Greatest, Measures, better_if};
+use crate::watched::Watched;
+use gptp_spelling::ClockDigits;
+use gptp_time_error::{SystemError, TimeErrors};
+use gptp_vector::ClockId;
+use std::alloc::{AllocError, Global};
+use std::fmt;
+
+/// What became of a stretch.
+#[derive(Clone, Copy, Debug)]
+pub(crate) struct Stretch {
+    /// When it began, in ns.
+    pub from: u64,
+    /// When it ended, in ns.
+    pub to: u64,
+    /// Whether it began with an event.
+    pub begins_with_event: bool,
+    /// How long the network takes at most to settle from its begin on, where it is calm then, in ns.
+    pub bound: Option<u64>,
+    /// What was measured of its acts; the longest wait also of those that were under way where it ended.
+    pub measures: Measures,
+    /// What was counted where it ended.
+    pub counts: Counts,
+}
+
+/// How long a time is behind another, in ns.
+fn behind(from: u64, time: Option<u64>) -> Option<u64> {
+    match time {
+        Some(time) => Some(time.saturating_sub(from)),
+        None => None,
+    }
+}
+
+impl Stretch {
+    /// How long the choice took to stand, in ns.
+    pub(crate) fn choice_after(&self) -> Option<u128> {
+        match behind(self.from, self.measures.choice) {
+            Some(time) => Some(u128::from(time)),
+            None => None,
+        }
+    }
+
+    /// The longest wait, in ns.
+    pub(crate) fn holdover_amount(&self) -> Option<u128> {
+        match self.measures.holdover {
+            Some(longest) => Some(longest.amount),
+            None => None,
+        }
+    }
+
+    /// The greatest absolute error, in units of 2^-16 ns.
+    pub(crate) fn error_amount(&self) -> Option<u128> {
+        match self.measures.error {
+            Some(greatest) => Some(greatest.amount),
+            None => None,
+        }
+    }
+}
+
+/// The wait of a system that is under way at a time, if there is one.
+fn wait_at(to: u64, system: &Watched) -> Option<Greatest> {
+    match system.since {
+        Some(since) => Some(Greatest {
+            amount: u128::from(to.saturating_sub(since)),
+            clock: system.clock,
+        }),
+        None => None,
+    }
+}
+
+/// The longest wait, with those that are under way at a time.
+fn with_waits(best: Option<Greatest>, to: u64, systems: &[Watched]) -> Option<Greatest> {
+    let mut best = best;
+    for system in systems {
+        best = better_if(best, wait_at(to, system));
+    }
+    best
+}
+
+/// What became of a stretch, by what was measured and is kept of all systems where it ends.
+pub(crate) fn ended(
+    alloc: Global,
+    from: u64,
+    to: u64,
+    begins_with_event: bool,
+    bound: Option<u64>,
+    measures: Measures,
+    systems: &[Watched],
+) -> Result<Stretch, AllocError> {
+    let counts = counts_of(alloc, systems)?;
+    let mut measures = measures;
+    measures.holdover = with_waits(measures.holdover, to, systems);
+    Ok(Stretch {
+        from,
+        to,
+        begins_with_event,
+        bound,
+        measures,
+        counts,
+    })
+}
+
+/// A time that may be absent, in ns.
+#[derive(Clone, Copy)]
+struct TimeOrNone(Option<u64>);
+
+impl fmt::Display for TimeOrNone {
+    fn fmt<W: fmt::Write>(&self, f: &mut fmt::Formatter<W>) -> fmt::Result {
+        match self.0 {
+            Some(time) => write!(f, "{time}"),
+            None => f.write_str("none"),
+        }
+    }
+}
+
+/// The longest wait, in ns, with its system.
+#[derive(Clone, Copy)]
+struct Longest(Option<Greatest>);
+
+impl fmt::Display for Longest {
+    fn fmt<W: fmt::Write>(&self, f: &mut fmt::Formatter<W>) -> fmt::Result {
+        match self.0 {
+            Some(longest) => write!(f, "{} {}", longest.amount, ClockDigits(longest.clock)),
+            None => f.write_str("0 none"),
+        }
+    }
+}
+
+/// The greatest error, in ns, with its system.
+#[derive(Clone, Copy)]
+struct Worst(Option<Greatest>);
+
+impl fmt::Display for Worst {
+    fn fmt<W: fmt::Write>(&self, f: &mut fmt::Formatter<W>) -> fmt::Result {
+        match self.0 {
+            Some(worst) => write!(f, "{} {}", Near(worst.amount), ClockDigits(worst.clock)),
+            None => f.write_str("0.000 none"),
+        }
+    }
+}
+
+/// Appends how long it took until the choice stood, the roles did, and the offsets.
+fn write_changed(text: &mut String, stretch: &Stretch) -> Result<(), AllocError> {
+    let from = stretch.from;
+    let measures = stretch.measures;
+    write!(
+        text,
+        "after {from} to {} choice {} roles {} offsets {}",
+        stretch.to,
+        TimeOrNone(behind(from, measures.choice)),
+        TimeOrNone(behind(from, measures.roles)),
+        TimeOrNone(behind(from, measures.offsets))
+    )
+}
+
+/// Appends the longest wait and the greatest error.
+fn write_greatest(text: &mut String, measures: Measures) -> Result<(), AllocError> {
+    write!(
+        text,
+        " holdover {} error {}",
+        Longest(measures.holdover),
+        Worst(measures.error)
+    )
+}
+
+/// Appends what was counted, and the bound.
+fn write_counts(text: &mut String, counts: Counts, bound: Option<u64>) -> Result<(), AllocError> {
+    writeln!(
+        text,
+        " without {} roots {} alone {} bound {}",
+        counts.without,
+        counts.roots,
+        counts.alone,
+        TimeOrNone(bound)
+    )
+}
+
+/// Appends the line of a stretch that ended.
+pub(crate) fn write_after(text: &mut String, stretch: &Stretch) -> Result<(), AllocError> {
+    write_changed(text, stretch)?;
+    write_greatest(text, stretch.measures)?;
+    write_counts(text, stretch.counts, stretch.bound)
+}
+
+/// The greatest error of the receipts of a system that count by themselves.
+fn error_at(systems: &[Watched], clock: ClockId) -> Option<u128> {
+    match systems.binary_search_by_key(&clock, |system| system.clock) {
+        Ok(place) => systems[place].error,
+        Err(_) => None,
+    }
+}
+
+/// Appends the line of a system that follows another, with the bound of its error.
+fn write_exact(
+    text: &mut String,
+    from: u64,
+    clock: ClockId,
+    error: Option<u128>,
+    bound: u128,
+) -> Result<(), AllocError> {
+    writeln!(
+        text,
+        "accuracy {} error {} bound {} from {from}",
+        ClockDigits(clock),
+        NearOrNone(error),
+        Up(bound)
+    )
+}
+
+/// So it is where it has such a bound and isn't its own root.
+fn write_exact_if(
+    text: &mut String,
+    from: u64,
+    system: &SystemError,
+    systems: &[Watched],
+) -> Result<(), AllocError> {
+    match system.error {
+        Some(bound) if system.root.clock() != system.clock => write_exact(
+            text,
+            from,
+            system.clock,
+            error_at(systems, system.clock),
+            bound,
+        ),
+        _ => Ok(()),
+    }
+}
+
+/// Appends the lines of all of them, by rising clock, where the stretch ends no sooner than the errors hold.
+pub(crate) fn write_accuracies(
+    text: &mut String,
+    from: u64,
+    errors: &[SystemError],
+    systems: &[Watched],
+) -> Result<(), AllocError> {
+    for error in errors {
+        write_exact_if(text, from, error, systems)?;
+    }
+    Ok(())
+}
