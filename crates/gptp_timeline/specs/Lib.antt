@@ -6,6 +6,8 @@ pub mod Amounts
 pub mod Receipts
 pub mod Measures
 pub mod Stretch
+pub mod StretchText
 pub mod Limits
-pub mod Timeline
+pub mod End
 pub mod Watch
+pub mod Timeline

@@ -1,6 +1,8 @@
 //! What is asked of each stretch, and whether it keeps to it.
 
-ghost use Rattle.std.specs.Prelude.{◌≡◌};
+ghost use Rattle.std.specs.Prelude.{◌≡◌, ◌++◌, IfOk, OnOk, string_bytes};
+ghost use Rattle.gptp_spelling.specs.Lines.{text_of};
+ghost use Rattle.gptp_timeline.specs.Limits.{exceeded_after, first_exceeded, is_above, is_any_above, is_asked, is_exceeded, not_exceeded, verdict_lines};
 
 use crate::stretch::Stretch;
 use std::alloc::AllocError;
@@ -44,15 +46,19 @@ pub(crate) const NOT_EXCEEDED: Exceeded = Exceeded {
 };
 
 /// Whether an amount is above so many units.
-fn is_above(most: Option<u64>, unit: u128, amount: u128) -> bool {
+fn is_above(most: Option<u64>, unit: u32, amount: u128) -> bool
+    ensures { result ≡ is_above most unit amount }
+{
     match most {
-        Some(most) => u128::from(most) * unit < amount,
+        Some(most) => u128::from(most) * u128::from(unit) < amount,
         None => false,
     }
 }
 
 /// Whether there is an amount, and it is above.
-fn is_any_above(most: Option<u64>, unit: u128, amount: Option<u128>) -> bool {
+fn is_any_above(most: Option<u64>, unit: u32, amount: Option<u128>) -> bool
+    ensures { result ≡ is_any_above most unit amount }
+{
     match amount {
         Some(amount) => is_above(most, unit, amount),
         None => false,
@@ -60,7 +66,9 @@ fn is_any_above(most: Option<u64>, unit: u128, amount: Option<u128>) -> bool {
 }
 
 /// Which limits some stretch exceeded, with one stretch more.
-pub(crate) fn exceeded_after(limits: &Limits, stretch: &Stretch, before: Exceeded) -> Exceeded {
+pub(crate) fn exceeded_after(limits: &Limits, stretch: &Stretch, before: Exceeded) -> Exceeded
+    ensures { result ≡ exceeded_after limits.now stretch.now before }
+{
     let asked = stretch.begins_with_event;
     let counts = stretch.counts;
     Exceeded {
@@ -68,14 +76,16 @@ pub(crate) fn exceeded_after(limits: &Limits, stretch: &Stretch, before: Exceede
         holdover: before.holdover
             || (asked && is_any_above(limits.holdover, 1, stretch.holdover_amount())),
         error: before.error || is_any_above(limits.error, 65_536, stretch.error_amount()),
-        without: before.without || is_above(limits.without, 1, u128::from(counts.without)),
-        roots: before.roots || is_above(limits.roots, 1, u128::from(counts.roots)),
-        alone: before.alone || is_above(limits.alone, 1, u128::from(counts.alone)),
+        without: before.without || is_above(limits.without, 1, counts.without as u128),
+        roots: before.roots || is_above(limits.roots, 1, counts.roots as u128),
+        alone: before.alone || is_above(limits.alone, 1, counts.alone as u128),
     }
 }
 
 /// Whether any limit is given.
-fn is_asked(limits: &Limits) -> bool {
+fn is_asked(limits: &Limits) -> bool
+    ensures { result ≡ is_asked limits.now }
+{
     limits.choice.is_some()
         || limits.holdover.is_some()
         || limits.error.is_some()
@@ -85,7 +95,9 @@ fn is_asked(limits: &Limits) -> bool {
 }
 
 /// The word of the first limit that is exceeded.
-fn first_exceeded(exceeded: Exceeded) -> Option<&'static str> {
+fn first_exceeded(exceeded: Exceeded) -> Option<&'static str>
+    ensures { option_map (λ word. word.now) result ≡ first_exceeded exceeded }
+{
     if exceeded.choice {
         Some("choice")
     } else if exceeded.holdover {
@@ -104,7 +116,11 @@ fn first_exceeded(exceeded: Exceeded) -> Option<&'static str> {
 }
 
 /// Appends the line of a verdict, and answers whether a limit is exceeded.
-fn write_word(text: &mut String, word: Option<&'static str>) -> Result<bool, AllocError> {
+fn write_word(text: &mut String, word: Option<&'static str>) -> Result<bool, AllocError>
+    ensures text { OnOk result (string_bytes text.new
+        ≡ string_bytes text.old ++ (verdict_line (option_map (λ word. word.now) word) ++ 10 ∷ [])) }
+    ensures exceeded { IfOk result (λ exceeded. exceeded ≡ is_some word) }
+{
     match word {
         Some(word) => {
             writeln!(text, "exceeded {word}")?;
@@ -122,7 +138,10 @@ pub(crate) fn write_verdict(
     text: &mut String,
     limits: &Limits,
     exceeded: Exceeded,
-) -> Result<bool, AllocError> {
+) -> Result<bool, AllocError>
+    ensures text { OnOk result (string_bytes text.new ≡ string_bytes text.old ++ text_of (verdict_lines limits.now exceeded)) }
+    ensures exceeded { IfOk result (λ is. is ≡ is_exceeded limits.now exceeded) }
+{
     match is_asked(limits) {
         true => write_word(text, first_exceeded(exceeded)),
         false => Ok(false),

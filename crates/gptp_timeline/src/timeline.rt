@@ -1,6 +1,14 @@
 //! The timeline of a document.
 
-ghost use Rattle.std.specs.Prelude.{◌≡◌, ◌≤◌};
+ghost use Rattle.std.specs.Prelude.{◌≡◌, ◌≢◌, ◌≤◌, ◌++◌, ◌⊎◌, List, [], ℕ, IfErr, IfOk, OnErr, OnOk, Option, length, not, string_bytes};
+ghost use Rattle.std.specs.Io.KnownBytes.{Appends};
+ghost use Rattle.std.specs.List.{is_empty};
+ghost use Rattle.gptp_network.specs.Events.{AreInOrder};
+ghost use Rattle.gptp_network.specs.Snapshot.{events_by};
+ghost use Rattle.gptp_network.specs.Span.{IsBound};
+ghost use Rattle.gptp_report.specs.Sink.{AppendsSome};
+ghost use Rattle.gptp_spelling.specs.Lines.{text_of};
+ghost use Rattle.gptp_timeline.specs.Timeline.{AreErrorsBy, BeginsTimeline, TimelineOf, end_before, exact_time, kept_accuracy, later_than, now_of};
 
 use crate::limits::{Exceeded, Limits, NOT_EXCEEDED, exceeded_after, write_verdict};
 use crate::stretch::{Stretch, ended, write_accuracies, write_after};
@@ -35,18 +43,28 @@ struct Plan {
 }
 
 /// How many events come first that are at a time, or before it.
-fn count_by(events: &[Timed], time: u64) -> usize {
+fn count_by(events: &[Timed], time: u64) -> usize
+    requires { AreInOrder events.now }
+    ensures now { take result events.now ≡ now_of time events.now }
+    ensures later { drop result events.now ≡ later_than time events.now }
+    ensures bound { result ≤ length events.now }
+{
     events.partition_point(|event| event.at <= time)
 }
 
 /// The events with time up to a time.
-fn events_by(events: &[Timed], until: u64) -> &[Timed] {
+fn events_by(events: &[Timed], until: u64) -> &[Timed]
+    requires { AreInOrder events.now }
+    ensures { result.now ≡ events_by until events.now }
+{
     let count = count_by(events, until);
     &events[..count]
 }
 
 /// When the first of these events is, or the end.
-fn first_at(events: &[Timed], until: u64) -> u64 {
+fn first_at(events: &[Timed], until: u64) -> u64
+    ensures { result ≡ end_before until events.now }
+{
     match events.first() {
         Some(event) => event.at,
         None => until,
@@ -60,7 +78,10 @@ fn errors_by(
     document: &Document,
     from: u64,
     to: u64,
-) -> Result<Option<TimeErrors>, Cut> {
+) -> Result<Option<TimeErrors>, Cut>
+    ensures errors { IfOk result (AreErrorsBy document.now from to) }
+    ensures memory { IfErr result (λ e. e ≡ Cut.Memory) }
+{
     match time_errors(alloc, document, from) {
         Ok(errors) => match errors.from {
             Some(exact) if exact <= to => Ok(Some(errors)),
@@ -78,7 +99,11 @@ fn errors_if(
     from: u64,
     to: u64,
     bound: Option<u64>,
-) -> Result<Option<TimeErrors>, Cut> {
+) -> Result<Option<TimeErrors>, Cut>
+    requires { IsBound document.now from bound }
+    ensures errors { IfOk result (AreErrorsBy document.now from to) }
+    ensures memory { IfErr result (λ e. e ≡ Cut.Memory) }
+{
     match bound {
         Some(bound) if bound <= to.saturating_sub(from) => errors_by(alloc, document, from, to),
         _ => Ok(None),
@@ -92,7 +117,10 @@ fn plan_of(
     from: u64,
     to: u64,
     begins_with_event: bool,
-) -> Result<Plan, Cut> {
+) -> Result<Plan, Cut>
+    ensures plan { IfOk result (IsPlan document.now from to begins_with_event) }
+    ensures memory { IfErr result (λ e. e ≡ Cut.Memory) }
+{
     let bound = document.bound_at(alloc, from)?;
     let errors = errors_if(alloc, document, from, to, bound)?;
     Ok(Plan {
@@ -105,7 +133,9 @@ fn plan_of(
 }
 
 /// From when on the receipts of each system count by themselves.
-fn exact_from(errors: &Option<TimeErrors>) -> Option<u64> {
+fn exact_from(errors: &Option<TimeErrors>) -> Option<u64>
+    ensures { result ≡ exact_time errors.now }
+{
     match errors {
         Some(errors) => errors.from,
         None => None,
@@ -117,10 +147,13 @@ fn write_errors(
     text: &mut String,
     errors: &Option<TimeErrors>,
     watch: &Watch,
-) -> Result<(), AllocError> {
+) -> Result<(), AllocError>
+    ensures { OnOk result (string_bytes text.new
+        ≡ string_bytes text.old ++ text_of (kept_accuracy watch.now.systems errors.now)) }
+{
     match errors {
         Some(errors) => match errors.from {
-            Some(from) => write_accuracies(text, from, &errors.systems, &watch.systems),
+            Some(from) => write_accuracies(text, from, &errors.systems, watch.systems()),
             None => Ok(()),
         },
         None => Ok(()),
@@ -140,8 +173,8 @@ fn end_stretch<K: Sink>(
         plan.to,
         plan.begins_with_event,
         plan.bound,
-        watch.measures,
-        &watch.systems,
+        watch.measures(),
+        watch.systems(),
     )?;
     let mut text = String::new(alloc);
     write_after(&mut text, &stretch)?;
@@ -253,6 +286,14 @@ pub fn write_timeline<F: Fate + Drop, K: Sink>(
     sink: &mut K,
 ) -> Result<bool, Cut>
     requires moment { until ≤ 1000000000000000 }
+    ensures whole { IfOk result (λ exceeded. (lines : List (List ℕ))
+        × TimelineOf F.answers document.now until options.now fate lines exceeded
+        × Appends (K.written sink.old) (K.written sink.new) (text_of lines)) }
+    ensures some { OnErr result ((lines : List (List ℕ))
+        × BeginsTimeline F.answers document.now until options.now fate lines
+        × AppendsSome (K.written sink.old) (K.written sink.new) (text_of lines)) }
+    ensures works { result ≢ Err Cut.Write → K.failures sink.new ≡ K.failures sink.old }
+    ensures fails { result ≡ Err Cut.Write → K.failures sink.new ≢ K.failures sink.old }
 {
     let mut world = begin(alloc, document, fate)?;
     let mut watch = Watch::new(alloc, &world, options.summary, options.offsets)?;
