@@ -8,6 +8,7 @@ pub mod Limited
 pub mod Written
 pub mod CompareText
 pub mod RunText
+pub mod TimelineText
 pub mod RunSoFar
 pub mod CheckText
 pub mod ChoiceText

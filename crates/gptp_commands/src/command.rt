@@ -4,10 +4,11 @@ ghost use Rattle.std.specs.Prelude.{◌≡◌, ◌⊎◌, ◌≤◌, IfErr, IfOk
 ghost use Rattle.std.specs.Process.{exit_status as process_status};
 ghost use Rattle.clap.specs.Words.{app_of, found_of, one_text, rows_of, rule_of};
 ghost use Rattle.clap.specs.declared.builder.command.Command.TheViews.{out-Command as fields_of};
-ghost use Rattle.gptp_commands.specs.Command.{AsksFor, Enters, IsPlain, IsUntil, IsSeed, OrderIsInRange, ReadsCheck, ReadsQuestion, ReadsRun};
+ghost use Rattle.gptp_commands.specs.Command.{AsksFor, Enters, IsPlain, IsUntil, IsSeed, OrderIsInRange, ReadsCheck, ReadsLimits, ReadsQuestion, ReadsRun, ReadsTimeline};
 ghost use Rattle.gptp_commands.specs.Command.{IsEndInRange, command_line_status, program};
-ghost use Rattle.gptp_commands.specs.Command.{certificate_rule, file_rule, frames_rule, max_error_rule, seed_rule, until_rule};
+ghost use Rattle.gptp_commands.specs.Command.{certificate_rule, file_rule, frames_rule, limit_rule, max_error_rule, offsets_rule, seed_rule, summary_rule, until_rule};
 ghost use Rattle.gptp_commands.specs.Command.{accuracy_command, check_command, choice_command, first_program, played_command, run_command};
+ghost use Rattle.gptp_commands.specs.Command.{timed_command, timeline_command, told_command};
 ghost use Rattle.gptp_commands.specs.Command.{simulating_program};
 ghost use Rattle.gptp_commands.specs.declared.command.CommandLineError.TheVariants.{Memory};
 ghost use Rattle.gptp_commands.specs.declared.question.Question.TheVariants.{Accuracy, Choice};

@@ -1,6 +1,13 @@
 //! The command `timeline`: what changes at which system when, while the network of a document runs.
 
-ghost use Rattle.std.specs.Prelude.{◌≡◌, ◌≢◌, ◌⊎◌, ◌≤◌, ◌+◌, [], true, List, ℕ, IfOk, OnErr, OnOk, IfErr, IfSome};
+ghost use Rattle.std.specs.Prelude.{◌≡◌, ◌≢◌, ◌⊎◌, ◌≤◌, ◌+◌, [], List, ℕ, IfOk, OnErr, OnOk, IfErr, IfSome};
+ghost use Rattle.std.specs.Io.KnownBytes.{Appends, Keeps};
+ghost use Rattle.gptp_report.specs.Sink.{AppendsSome};
+ghost use Rattle.gptp_spelling.specs.Lines.{text_of};
+ghost use Rattle.gptp_commands.specs.Source.{ReadsWhole, TakesAtMost};
+ghost use Rattle.gptp_commands.specs.RunText.{document_limit};
+ghost use Rattle.gptp_commands.specs.TimelineText.{AnswersSome, AnswersTimeline, BeginsText, EndsAt, PlaysSome, PlaysTimeline, TimelineText};
+ghost use Rattle.gptp_commands.specs.Written.{Writes, WritesSome};
 
 use crate::documents::DOCUMENT_LIMIT;
 use crate::failure::{SimError, Status};
@@ -29,6 +36,7 @@ pub struct TimelineOrder {
 /// When the timeline of a document ends.
 fn until_of(alloc: Global, document: &Document, order: &TimelineOrder) -> Result<u64, AllocError>
     requires { IfSome order.now.until (λ until. until ≤ 1000000000000000) }
+    ensures end { IfOk result (EndsAt order.now.until document.now) }
     ensures bound { IfOk result (λ until. until ≤ 1000000000000000) }
 {
     match order.until {
@@ -45,6 +53,12 @@ fn play_document<K: Sink>(
     sink: &mut K,
 ) -> Result<Status, Cut>
     requires { IfSome order.now.until (λ until. until ≤ 1000000000000000) }
+    ensures some { OnErr result ((lines : List (List ℕ)) × ((lines ≡ []) ⊎ PlaysSome document.now order.now lines)
+        × AppendsSome (K.written sink.old) (K.written sink.new) (text_of lines)) }
+    ensures whole { IfOk result (λ status. (lines : List (List ℕ)) × PlaysTimeline document.now order.now lines status
+        × Appends (K.written sink.old) (K.written sink.new) (text_of lines)) }
+    ensures works { result ≢ Err Cut.Write → K.failures sink.new ≡ K.failures sink.old }
+    ensures fails { result ≡ Err Cut.Write → K.failures sink.new ≢ K.failures sink.old }
 {
     let until = until_of(alloc, document, order)?;
     let fate = PcgFate::new(order.seed);
@@ -60,6 +74,12 @@ fn answer_document<K: Sink>(
     sink: &mut K,
 ) -> Result<Status, Cut>
     requires { IfSome order.now.until (λ until. until ≤ 1000000000000000) }
+    ensures some { OnErr result ((lines : List (List ℕ)) × AnswersSome order.now input.now lines
+        × AppendsSome (K.written sink.old) (K.written sink.new) (text_of lines)) }
+    ensures whole { IfOk result (λ status. (lines : List (List ℕ)) × AnswersTimeline order.now input.now lines status
+        × Appends (K.written sink.old) (K.written sink.new) (text_of lines)) }
+    ensures works { result ≢ Err Cut.Write → K.failures sink.new ≡ K.failures sink.old }
+    ensures fails { result ≡ Err Cut.Write → K.failures sink.new ≢ K.failures sink.old }
 {
     match Document::read(alloc, input) {
         Ok(document) => play_document(alloc, &document, order, sink),
@@ -76,6 +96,12 @@ fn answer_input<K: Sink>(
     sink: &mut K,
 ) -> Result<Status, Cut>
     requires { IfSome order.now.until (λ until. until ≤ 1000000000000000) }
+    ensures some { OnErr result ((lines : List (List ℕ)) × BeginsText order.now input.now lines
+        × AppendsSome (K.written sink.old) (K.written sink.new) (text_of lines)) }
+    ensures whole { IfOk result (λ status. (lines : List (List ℕ)) × TimelineText order.now input.now lines status
+        × Appends (K.written sink.old) (K.written sink.new) (text_of lines)) }
+    ensures works { result ≢ Err Cut.Write → K.failures sink.new ≡ K.failures sink.old }
+    ensures fails { result ≡ Err Cut.Write → K.failures sink.new ≢ K.failures sink.old }
 {
     if input.len() <= DOCUMENT_LIMIT {
         return answer_document(alloc, input, order, sink);
@@ -101,6 +127,20 @@ pub fn timeline<S: Source, K: Sink>(
     order: &TimelineOrder,
 ) -> Result<Status, SimError>
     requires { IfSome order.now.until (λ until. until ≤ 1000000000000000) }
+    ensures done { IfOk result (Writes (TimelineText order.now) (S.left source.old) (K.written sink.old) (K.written sink.new)) }
+    ensures whole { OnOk result ((octets : List ℕ) × ReadsWhole document_limit (S.left source.old) (S.left source.new) octets) }
+    ensures no_further { TakesAtMost (document_limit + 1) (S.left source.old) (S.left source.new) }
+
+    // every failure of a device is told as such, and none is made up
+    ensures source_works { result ≢ Err SimError.Read → S.failures source.new ≡ S.failures source.old }
+    ensures sink_works { result ≢ Err SimError.Write → K.failures sink.new ≡ K.failures sink.old }
+    ensures read { result ≡ Err SimError.Read → S.failures source.new ≢ S.failures source.old }
+    ensures write { result ≡ Err SimError.Write → K.failures sink.new ≢ K.failures sink.old }
+
+    // what stands written after an error
+    ensures nothing { result ≡ Err SimError.Read → Keeps (K.written sink.old) (K.written sink.new) }
+    ensures front { IfErr result (λ e. e ≢ SimError.Read
+        → WritesSome (BeginsText order.now) (S.left source.old) (K.written sink.old) (K.written sink.new)) }
 {
     let input = read_whole(alloc, source, DOCUMENT_LIMIT)?;
     match answer_input(alloc, &input, order, sink) {

@@ -1,6 +1,5 @@
 -- Times in units of 2^-16 ns, in ns with three decimals (profile).
-use Rattle.std.specs.Prelude.{ℕ, ◌+◌, ◌*◌, ◌/◌, ◌&&◌, nat_lt, ℤ, pos, negsuc, Bool, true, false, if◌then◌else◌, List, [], ◌++◌, codes}
-use Rattle.std.specs.Int.{unsigned_abs}
+use Rattle.std.specs.Prelude.{ℕ, ◌+◌, ◌*◌, ◌/◌, ◌&&◌, nat_lt, ℤ, pos, negsuc, unsigned_abs, Bool, true, false, if◌then◌else◌, List, [], ◌++◌, codes}
 use Rattle.gptp_time_error.specs.AccuracyText.{thousandths_text}
 
 -- thousandths of a nanosecond, to the nearest, half up

@@ -2,6 +2,8 @@
 use Rattle.std.specs.Prelude.{ℕ, ◌-◌, ◌*◌, ◌&&◌, ◌||◌, nat_lt, Bool, false, if◌then◌else◌, List, [], ◌∷◌, ◌++◌, codes, Option, Some, None, is_some}
 use Rattle.std.specs.Option.{option_map}
 use Rattle.gptp_timeline.specs.declared.limits.Exceeded.{Exceeded}
+use Rattle.gptp_timeline.specs.declared.limits.Limit.{Limit}
+use Rattle.gptp_timeline.specs.declared.limits.Limit.TheVariants.{Alone, Choice, Error, Holdover, Roots, Without}
 use Rattle.gptp_timeline.specs.declared.limits.Limits.{Limits}
 use Rattle.gptp_timeline.specs.declared.measures.Greatest.{Greatest}
 use Rattle.gptp_timeline.specs.declared.stretch.Stretch.{Stretch}
@@ -44,19 +46,27 @@ is_asked limits =
     is_some limits.choice || (is_some limits.holdover || (is_some limits.error || (is_some limits.without
     || (is_some limits.roots || is_some limits.alone))))
 
--- the word of the first that is exceeded
-abbrev pub first_exceeded : Exceeded → Option (List ℕ)
+-- the first that is exceeded
+abbrev pub first_exceeded : Exceeded → Option Limit
 first_exceeded e =
-    if e.choice then Some (codes "choice") else
-    (if e.holdover then Some (codes "holdover") else
-    (if e.error then Some (codes "error") else
-    (if e.without then Some (codes "without") else
-    (if e.roots then Some (codes "roots") else
-    (if e.alone then Some (codes "alone") else None)))))
+    if e.choice then Some Choice else
+    (if e.holdover then Some Holdover else
+    (if e.error then Some Error else
+    (if e.without then Some Without else
+    (if e.roots then Some Roots else
+    (if e.alone then Some Alone else None)))))
 
-abbrev pub verdict_line : Option (List ℕ) → List ℕ
+abbrev pub limit_text : Limit → List ℕ
+limit_text Choice = codes "choice"
+limit_text Holdover = codes "holdover"
+limit_text Error = codes "error"
+limit_text Without = codes "without"
+limit_text Roots = codes "roots"
+limit_text Alone = codes "alone"
+
+abbrev pub verdict_line : Option Limit → List ℕ
 verdict_line None = codes "within"
-verdict_line (Some word) = codes "exceeded " ++ word
+verdict_line (Some limit) = codes "exceeded " ++ limit_text limit
 
 abbrev pub verdict_lines : Limits → Exceeded → List (List ℕ)
 verdict_lines limits e = if is_asked limits then verdict_line (first_exceeded e) ∷ [] else []

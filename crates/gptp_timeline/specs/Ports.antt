@@ -1,6 +1,5 @@
 -- What is shown of the ports of a system (profile).
-use Rattle.std.specs.Prelude.{ℕ, ◌==◌, ◌&&◌, Bool, List, length, map}
-use Rattle.std.specs.Cmp.{beq, pointwise}
+use Rattle.std.specs.Prelude.{ℕ, ◌==◌, ◌&&◌, Bool, true, false, not, List, [], ◌∷◌, length, map}
 use Rattle.std.specs.List.{range_with_len}
 use Rattle.gptp_roles.specs.declared.role.Role.{Role}
 use Rattle.gptp_roles.specs.declared.role.Role.TheVariants.{Disabled, Master, Slave, Passive}
@@ -23,8 +22,15 @@ role_number Master = 1
 role_number Slave = 2
 role_number Passive = 3
 
+abbrev pub same_bool : Bool → Bool → Bool
+same_bool true b = b
+same_bool false b = not b
+
 abbrev pub same_port : ShownPort → ShownPort → Bool
-same_port p q = role_number p.role == role_number q.role && beq p.capable q.capable
+same_port p q = role_number p.role == role_number q.role && same_bool p.capable q.capable
 
 abbrev pub same_ports : List ShownPort → List ShownPort → Bool
-same_ports = pointwise same_port
+same_ports [] [] = true
+same_ports [] (q ∷ qs) = false
+same_ports (p ∷ ps) [] = false
+same_ports (p ∷ ps) (q ∷ qs) = same_port p q && same_ports ps qs

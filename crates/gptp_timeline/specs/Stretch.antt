@@ -1,14 +1,13 @@
 -- What became of a stretch, over its acts: how long the choice took to stand, how long systems waited for time, how far
 -- it was off, and who was left without (profile).
-use Rattle.std.specs.Prelude.{ℕ, ◌+◌, ◌-◌, ◌==◌, ◌&&◌, ◌||◌, nat_le, nat_lt, not, Bool, true, false, if◌then◌else◌, List, [], ◌∷◌, ◌++◌, drop, get_or, map, Option, Some, None, is_some, ℤ}
-use Rattle.std.specs.Cmp.{beq}
-use Rattle.std.specs.Int.{unsigned_abs}
+use Rattle.std.specs.Prelude.{ℕ, ◌+◌, ◌-◌, ◌==◌, ◌&&◌, ◌||◌, nat_le, nat_lt, not, Bool, true, false, if◌then◌else◌, List, [], ◌∷◌, ◌++◌, drop, get_or, map, Option, Some, None, is_some, ℤ, unsigned_abs}
 use Rattle.std.specs.List.{count_by, filter, filter_map, list_any}
 use Rattle.std.specs.Option.{option_and_then, option_map, option_map_or, option_or}
 use Rattle.gptp_plan.specs.declared.change.Act.{Act}
 use Rattle.gptp_plan.specs.declared.change.Act.TheVariants.{Change as Changing, Deliver, Expire}
 use Rattle.gptp_report.specs.Transitions.{Transition}
 use Rattle.gptp_timeline.specs.Measures.{ended_by, greatest, one_at, since_after}
+use Rattle.gptp_timeline.specs.Ports.{same_bool}
 use Rattle.gptp_timeline.specs.Receipts.{error_of, received_by}
 use Rattle.gptp_timeline.specs.Shown.{is_expecting, is_known, live_system, same_choice, same_roles, shown}
 use Rattle.gptp_timeline.specs.declared.counts.Counts.{Counts}
@@ -48,7 +47,7 @@ last_at test [] = None
 last_at test (t ∷ ts) = option_or (last_at test ts) (if test t then Some (at_of t) else None)
 
 abbrev pub same_known : Option Shown → Option Shown → Bool
-same_known before after = beq (is_known before) (is_known after)
+same_known before after = same_bool (is_known before) (is_known after)
 
 -- ---- waits
 

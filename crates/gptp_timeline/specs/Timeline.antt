@@ -1,6 +1,6 @@
 -- The timeline of a document: its text, over the acts of its run (profile).
 use Rattle.std.specs.Prelude.{◌≡◌, ◌≢◌, ◌⊎◌, ◌≤◌, ◌-◌, ◌==◌, ℕ, Bool, true, false, not, nat_le, nat_lt, List, [], ◌∷◌, ◌++◌, codes, map, Option, Some, None}
-use Rattle.std.specs.List.{filter, flat_map, is_empty}
+use Rattle.std.specs.List.{filter, flat_map}
 use Rattle.std.specs.Option.{option_and_then}
 use Rattle.gptp_acts.specs.Views.{rising_clocks}
 use Rattle.gptp_acts.specs.World.{WorldState}
@@ -110,6 +110,11 @@ pub record Passage : Type 0 where
   pub bound : Option ℕ
   pub errors : Option TimeErrors
 
+-- it begins with an event
+abbrev pub is_begun : List Timed → Bool
+is_begun [] = false
+is_begun (e ∷ es) = true
+
 -- what is known of it by the document alone
 pub record IsPlan (d : DocumentState) (from to : ℕ) (begins_with_event : Bool) (plan : Plan) : Type 0 where
   pub from_is : plan.from ≡ from
@@ -123,7 +128,7 @@ abbrev pub stretch_of : List ℕ → (ℕ → Option ℕ) → Passage → Stretc
 stretch_of names since p = record {
   from = p.from;
   to = p.to;
-  begins_with_event = not (is_empty p.events);
+  begins_with_event = is_begun p.events;
   bound = p.bound;
   measures = measured names since p.to p.acts;
   counts = counted (map (λ name. shown name p.after) names);

@@ -1,10 +1,10 @@
 //! The lines of what an act leaves another at a system.
 
-ghost use Rattle.std.specs.Prelude.{◌≡◌, ◌+◌, ◌++◌, ◌∷◌, [], OnOk, drop, string_bytes};
+ghost use Rattle.std.specs.Prelude.{◌≡◌, ◌≤◌, ◌++◌, ◌∷◌, [], OnOk, Some, length, string_bytes};
 ghost use Rattle.gptp_spelling.specs.Lines.{text_of};
-ghost use Rattle.gptp_timeline.specs.Changes.{change_lines, failed_line, known_text, port_line, port_lines, same_line, system_line};
+ghost use Rattle.gptp_timeline.specs.Changes.{change_lines, changed_lines, failed_line, is_same, known_text, new_lines, port_line, port_lines, port_lines_if, same_line, system_line, system_lines_if};
 
-use crate::ports::{ShownPort, same_port};
+use crate::ports::{ShownPort, same_bool, same_port};
 use crate::shown::{Shown, is_known, same_choice};
 use gptp_spelling::{ClockDigits, IdentityDigits, OrNone, RoleWord, yes_or_no};
 use gptp_vector::ClockId;
@@ -66,18 +66,31 @@ fn write_failed(text: &mut String, at: u64, clock: ClockId) -> Result<(), AllocE
     writeln!(text, "at {at} system {} failed", ClockDigits(clock))
 }
 
+/// Whether a port was there, and is the same.
+fn is_same(before: Option<ShownPort>, shown: ShownPort) -> bool
+    ensures { result ≡ is_same before shown }
+{
+    match before {
+        Some(before) => same_port(before, shown),
+        None => false,
+    }
+}
+
 /// Appends the line of a port where it is another than before, or wasn't there.
 fn write_port_if_changed(
     text: &mut String,
     at: u64,
     clock: ClockId,
     port: u8,
-    before: Option<&ShownPort>,
+    before: Option<ShownPort>,
     shown: ShownPort,
-) -> Result<(), AllocError> {
-    match before {
-        Some(before) if same_port(*before, shown) => Ok(()),
-        _ => write_port(text, at, clock, port, shown),
+) -> Result<(), AllocError>
+    ensures { OnOk result (string_bytes text.new
+        ≡ string_bytes text.old ++ text_of (port_lines_if at clock port before shown)) }
+{
+    match is_same(before, shown) {
+        true => Ok(()),
+        false => write_port(text, at, clock, port, shown),
     }
 }
 
@@ -99,7 +112,7 @@ fn write_ports(
             at,
             clock,
             place as u8 + 1,
-            before.get(place),
+            before.get(place).copied(),
             ports[place],
         )?;
     }
@@ -112,7 +125,10 @@ fn write_new(
     at: u64,
     clock: ClockId,
     shown: &Shown,
-) -> Result<(), AllocError> {
+) -> Result<(), AllocError>
+    ensures { OnOk result (string_bytes text.new
+        ≡ string_bytes text.old ++ text_of (new_lines at clock shown.now)) }
+{
     write_system(text, at, clock, shown)?;
     write_ports(text, at, clock, &[], shown.ports.as_slice())
 }
@@ -124,18 +140,43 @@ fn write_system_if(
     clock: ClockId,
     same: bool,
     shown: &Shown,
-) -> Result<(), AllocError> {
+) -> Result<(), AllocError>
+    ensures { OnOk result (string_bytes text.new
+        ≡ string_bytes text.old ++ text_of (system_lines_if same at clock shown.now)) }
+{
     match same {
         true => Ok(()),
         false => write_system(text, at, clock, shown),
     }
 }
 
+/// Appends the lines of a live system that lived before.
+fn write_changed(
+    text: &mut String,
+    at: u64,
+    clock: ClockId,
+    same: bool,
+    old: &Shown,
+    shown: &Shown,
+) -> Result<(), AllocError>
+    ensures { OnOk result (string_bytes text.new
+        ≡ string_bytes text.old ++ text_of (changed_lines same at clock old.now shown.now)) }
+{
+    write_system_if(text, at, clock, same, shown)?;
+    write_ports(
+        text,
+        at,
+        clock,
+        old.ports.as_slice(),
+        shown.ports.as_slice(),
+    )
+}
+
 /// Whether a system is as before as to what its line says.
 fn same_line(before: &Option<Shown>, after: &Option<Shown>) -> bool
     ensures { result ≡ same_line before.now after.now }
 {
-    same_choice(before, after) && is_known(before) == is_known(after)
+    same_choice(before, after) && same_bool(is_known(before), is_known(after))
 }
 
 /// Appends the lines of a system that an act left as `after`, and found as `before`: its own where that says another than
@@ -156,9 +197,6 @@ pub(crate) fn write_changes(
         (None, None) => Ok(()),
         (Some(_), None) => write_failed(text, at, clock),
         (None, Some(shown)) => write_new(text, at, clock, shown),
-        (Some(old), Some(shown)) => {
-            write_system_if(text, at, clock, same, shown)?;
-            write_ports(text, at, clock, old.ports.as_slice(), shown.ports.as_slice())
-        }
+        (Some(old), Some(shown)) => write_changed(text, at, clock, same, old, shown),
     }
 }

@@ -1,6 +1,6 @@
 //! How many systems go without time, and whom they follow.
 
-ghost use Rattle.std.specs.Prelude.{◌≡◌, ◌==◌, ◌<◌, IfOk, OnOk, map, nat_lt};
+ghost use Rattle.std.specs.Prelude.{◌≡◌, ◌==◌, ◌<◌, IfOk, OnOk, length, nat_lt};
 ghost use Rattle.std.specs.List.{count_by};
 ghost use Rattle.gptp_timeline.specs.Stretch.{counted, distinct, goes_without, is_without, last_of_several, roots_of, shown_of_all, times, with_root};
 

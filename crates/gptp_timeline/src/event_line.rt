@@ -1,7 +1,7 @@
 //! The line of an event that is made.
 
 ghost use Rattle.std.specs.Prelude.{◌≡◌, ◌++◌, ◌∷◌, [], OnOk, string_bytes};
-ghost use Rattle.gptp_timeline.specs.EventLine.{at_port, event_line, words_of};
+ghost use Rattle.gptp_timeline.specs.EventLine.{at_port, at_system, event_line, inject_words, priority_words, set_words, words_of};
 
 use gptp_plan::Change;
 use gptp_spelling::{ClockDigits, OctetDigits};

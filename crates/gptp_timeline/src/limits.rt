@@ -1,11 +1,12 @@
 //! What is asked of each stretch, and whether it keeps to it.
 
-ghost use Rattle.std.specs.Prelude.{◌≡◌, ◌++◌, IfOk, OnOk, string_bytes};
+ghost use Rattle.std.specs.Prelude.{◌≡◌, ◌++◌, ◌∷◌, [], IfOk, OnOk, is_some, string_bytes};
 ghost use Rattle.gptp_spelling.specs.Lines.{text_of};
-ghost use Rattle.gptp_timeline.specs.Limits.{exceeded_after, first_exceeded, is_above, is_any_above, is_asked, is_exceeded, not_exceeded, verdict_lines};
+ghost use Rattle.gptp_timeline.specs.Limits.{exceeded_after, first_exceeded, is_above, is_any_above, is_asked, is_exceeded, verdict_line, verdict_lines};
 
 use crate::stretch::Stretch;
 use std::alloc::AllocError;
+use std::fmt;
 
 /// The greatest that each stretch may have, where it is given.
 #[derive(Clone, Copy, Debug, PartialEq, Eq)]
@@ -22,6 +23,35 @@ pub struct Limits {
     pub roots: Option<u64>,
     /// How many systems follow a root that no other does there.
     pub alone: Option<u64>,
+}
+
+/// What a limit is given for.
+#[derive(Clone, Copy, Debug, PartialEq, Eq)]
+pub(crate) enum Limit {
+    Choice,
+    Holdover,
+    Error,
+    Without,
+    Roots,
+    Alone,
+}
+
+impl fmt::Display for Limit {
+    ghost use Rattle.std.specs.Prelude.{Some};
+    ghost use Rattle.gptp_timeline.specs.Limits.{limit_text};
+
+    ghost output = { λ limit. Some (limit_text limit) };
+
+    fn fmt<W: fmt::Write>(&self, f: &mut fmt::Formatter<W>) -> fmt::Result {
+        f.write_str(match self {
+            Limit::Choice => "choice",
+            Limit::Holdover => "holdover",
+            Limit::Error => "error",
+            Limit::Without => "without",
+            Limit::Roots => "roots",
+            Limit::Alone => "alone",
+        })
+    }
 }
 
 /// Which limits some stretch exceeded so far.
@@ -94,43 +124,44 @@ fn is_asked(limits: &Limits) -> bool
         || limits.alone.is_some()
 }
 
-/// The word of the first limit that is exceeded.
-fn first_exceeded(exceeded: Exceeded) -> Option<&'static str>
-    ensures { option_map (λ word. word.now) result ≡ first_exceeded exceeded }
+/// The first limit that is exceeded.
+fn first_exceeded(exceeded: Exceeded) -> Option<Limit>
+    ensures { result ≡ first_exceeded exceeded }
 {
     if exceeded.choice {
-        Some("choice")
+        Some(Limit::Choice)
     } else if exceeded.holdover {
-        Some("holdover")
+        Some(Limit::Holdover)
     } else if exceeded.error {
-        Some("error")
+        Some(Limit::Error)
     } else if exceeded.without {
-        Some("without")
+        Some(Limit::Without)
     } else if exceeded.roots {
-        Some("roots")
+        Some(Limit::Roots)
     } else if exceeded.alone {
-        Some("alone")
+        Some(Limit::Alone)
     } else {
         None
     }
 }
 
-/// Appends the line of a verdict, and answers whether a limit is exceeded.
-fn write_word(text: &mut String, word: Option<&'static str>) -> Result<bool, AllocError>
-    ensures text { OnOk result (string_bytes text.new
-        ≡ string_bytes text.old ++ (verdict_line (option_map (λ word. word.now) word) ++ 10 ∷ [])) }
-    ensures exceeded { IfOk result (λ exceeded. exceeded ≡ is_some word) }
+/// Appends the line of a verdict.
+fn write_first(text: &mut String, first: Option<Limit>) -> Result<(), AllocError>
+    ensures { OnOk result (string_bytes text.new ≡ string_bytes text.old ++ text_of (verdict_line first ∷ [])) }
 {
-    match word {
-        Some(word) => {
-            writeln!(text, "exceeded {word}")?;
-            Ok(true)
-        }
-        None => {
-            writeln!(text, "within")?;
-            Ok(false)
-        }
+    match first {
+        Some(limit) => writeln!(text, "exceeded {limit}"),
+        None => writeln!(text, "within"),
     }
+}
+
+/// Appends the line of a verdict, and answers whether a limit is exceeded.
+fn write_asked(text: &mut String, first: Option<Limit>) -> Result<bool, AllocError>
+    ensures text { OnOk result (string_bytes text.new ≡ string_bytes text.old ++ text_of (verdict_line first ∷ [])) }
+    ensures exceeded { IfOk result (λ exceeded. exceeded ≡ is_some first) }
+{
+    write_first(text, first)?;
+    Ok(first.is_some())
 }
 
 /// Appends the line of a verdict where a limit is given, and answers whether one is exceeded.
@@ -143,7 +174,7 @@ pub(crate) fn write_verdict(
     ensures exceeded { IfOk result (λ is. is ≡ is_exceeded limits.now exceeded) }
 {
     match is_asked(limits) {
-        true => write_word(text, first_exceeded(exceeded)),
+        true => write_asked(text, first_exceeded(exceeded)),
         false => Ok(false),
     }
 }

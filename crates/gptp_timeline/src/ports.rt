@@ -2,7 +2,7 @@
 
 ghost use Rattle.std.specs.Prelude.{◌≡◌, ◌≤◌, length};
 ghost use Rattle.gptp_system.specs.Steps.{IsPortOf};
-ghost use Rattle.gptp_timeline.specs.Ports.{role_number, same_port, same_ports, shown_port, shown_ports};
+ghost use Rattle.gptp_timeline.specs.Ports.{role_number, same_bool, same_port, same_ports, shown_port, shown_ports};
 
 use arrayvec::ArrayVec;
 use gptp_roles::Role;
@@ -25,11 +25,18 @@ fn role_number(role: Role) -> u8
     role as u8
 }
 
+/// Whether both are so, or neither is.
+pub(crate) fn same_bool(a: bool, b: bool) -> bool
+    ensures { result ≡ same_bool a b }
+{
+    if a { b } else { !b }
+}
+
 /// Whether two ports are the same.
 pub(crate) fn same_port(a: ShownPort, b: ShownPort) -> bool
     ensures { result ≡ same_port a b }
 {
-    role_number(a.role) == role_number(b.role) && a.capable == b.capable
+    role_number(a.role) == role_number(b.role) && same_bool(a.capable, b.capable)
 }
 
 /// Whether there are as many ports, each the same.

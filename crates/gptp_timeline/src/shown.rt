@@ -1,7 +1,7 @@
 //! What is shown of a system.
 
 ghost use Rattle.std.specs.Prelude.{◌≡◌, ◌≤◌, length};
-ghost use Rattle.gptp_timeline.specs.Shown.{expects, is_expecting, is_known, same_choice, same_roles, same_slave, shown_of};
+ghost use Rattle.gptp_timeline.specs.Shown.{is_expecting, is_known, same_choice, same_roles, same_slave, same_way, shown_of};
 
 use crate::ports::{Ports, ports_of, same_ports};
 use gptp_system::System;

@@ -1,6 +1,6 @@
 //! The timeline of a document.
 
-ghost use Rattle.std.specs.Prelude.{◌≡◌, ◌≢◌, ◌≤◌, ◌++◌, ◌⊎◌, List, [], ℕ, IfErr, IfOk, OnErr, OnOk, Option, length, not, string_bytes};
+ghost use Rattle.std.specs.Prelude.{◌≡◌, ◌≢◌, ◌≤◌, ◌++◌, ◌⊎◌, List, [], ℕ, IfErr, IfOk, OnErr, OnOk, drop, length, string_bytes, take};
 ghost use Rattle.std.specs.Io.KnownBytes.{Appends};
 ghost use Rattle.std.specs.List.{is_empty};
 ghost use Rattle.gptp_network.specs.Events.{AreInOrder};
@@ -8,7 +8,7 @@ ghost use Rattle.gptp_network.specs.Snapshot.{events_by};
 ghost use Rattle.gptp_network.specs.Span.{IsBound};
 ghost use Rattle.gptp_report.specs.Sink.{AppendsSome};
 ghost use Rattle.gptp_spelling.specs.Lines.{text_of};
-ghost use Rattle.gptp_timeline.specs.Timeline.{AreErrorsBy, BeginsTimeline, TimelineOf, end_before, exact_time, kept_accuracy, later_than, now_of};
+ghost use Rattle.gptp_timeline.specs.Timeline.{AreErrorsBy, BeginsTimeline, IsPlan, TimelineOf, end_before, exact_time, kept_accuracy, later_than, now_of};
 
 use crate::limits::{Exceeded, Limits, NOT_EXCEEDED, exceeded_after, write_verdict};
 use crate::stretch::{Stretch, ended, write_accuracies, write_after};

@@ -1,12 +1,11 @@
 //! An observer that tells what changes at which system when.
 
-ghost use Rattle.std.specs.Prelude.{◌≡◌, ◌≤◌, ◌<◌, ◌++◌, IfNone, IfOk, IfSome, OnOk, length, map, option_map, slice_get, string_bytes};
-ghost use Rattle.std.specs.Int.{unsigned_abs};
+ghost use Rattle.std.specs.Prelude.{◌≡◌, ◌≤◌, ◌<◌, ◌+◌, ◌++◌, IfOk, OnOk, length, map, option_map, string_bytes, take, unsigned_abs};
 ghost use Rattle.gptp_acts.specs.Views.{rising_clocks};
 ghost use Rattle.gptp_spelling.specs.Lines.{text_of};
-ghost use Rattle.gptp_timeline.specs.Measures.{better_if, one_at};
-ghost use Rattle.gptp_timeline.specs.Shown.{shown};
-ghost use Rattle.gptp_timeline.specs.Watch.{counts_from, RisesByClock, unseen};
+ghost use Rattle.gptp_timeline.specs.Measures.{one_at};
+ghost use Rattle.gptp_timeline.specs.Shown.{live_system, shown};
+ghost use Rattle.gptp_timeline.specs.Watch.{counts_from, receipt_lines_of, unseen};
 
 use crate::changes::write_changes;
 use crate::event_line::write_event;
@@ -140,13 +139,13 @@ fn amount_of(error: Option<i128>) -> Option<u128>
 }
 
 impl Watch {
-    ghost use Rattle.std.specs.Prelude.{◌≡◌, ◌≤◌, ◌<◌, ◌++◌, ◌∷◌, [], false, IfOk, OnOk, length, map, not, slice_get, Some, string_bytes};
+    ghost use Rattle.std.specs.Prelude.{◌≡◌, ◌≤◌, ◌<◌, ◌++◌, ◌∷◌, [], None, false, IfOk, IfSome, OnOk, length, map, slice_get, Some, string_bytes};
     ghost use Rattle.gptp_acts.specs.Views.{rising_clocks};
     ghost use Rattle.gptp_spelling.specs.Lines.{text_of};
     ghost use Rattle.gptp_timeline.specs.Changes.{change_lines};
     ghost use Rattle.gptp_timeline.specs.EventLine.{event_line};
-    ghost use Rattle.gptp_timeline.specs.Watch.{begun, event_look, lines_all, lines_at, nothing, place_of, receipt_lines, see_act, see_all, see_at, see_receipt, see_receipt_if, see_system, seen_lines, system_lines, take_error, taken, unless, unseen};
-    ghost use Rattle.gptp_timeline.specs.Receipts.{received_by};
+    ghost use Rattle.gptp_timeline.specs.Watch.{begun, delivery_lines, event_look, lines_all, lines_at, nothing, place_of, placed_lines, receipt_lines, receipt_lines_if, see_act, see_all, see_at, see_delivery, see_placed, see_receipt, see_receipt_if, see_system, seen_lines, system_lines, take_error, taken, unless, unseen};
+    ghost use Rattle.gptp_timeline.specs.declared.watched.Watched.{Watched};
 
     /// An observer of a world whose systems start, before it has seen that.
     pub(crate) fn new<F: Fate + Drop>(

@@ -1,9 +1,10 @@
 //! What is kept of each system while a document runs.
 
 ghost use Rattle.std.specs.Prelude.{◌≡◌};
-ghost use Rattle.gptp_timeline.specs.Watch.{error_after, measures_after, since_behind};
+ghost use Rattle.gptp_timeline.specs.Watch.{error_after, measures_after, since_behind, wait_behind};
 
 use crate::measures::{Greatest, Measures, better_if, ended_by, last_if, since_after};
+use crate::ports::same_bool;
 use crate::shown::{Shown, is_expecting, is_known, same_choice, same_roles};
 use gptp_vector::ClockId;
 
@@ -77,7 +78,7 @@ pub(crate) fn measures_after(
     Measures {
         choice: last_if(same_choice(before, after), look.at, measures.choice),
         roles: last_if(same_roles(before, after), look.at, measures.roles),
-        offsets: last_if(is_known(before) == is_known(after), look.at, measures.offsets),
+        offsets: last_if(same_bool(is_known(before), is_known(after)), look.at, measures.offsets),
         holdover: better_if(measures.holdover, wait_behind(look, system, after)),
         error: measures.error,
     }
