@@ -2,3 +2,4 @@ pub mod AmountLemmas
 pub mod LineLemmas
 pub mod PortLemmas
 pub mod MeasureLemmas
+pub mod ShownLemmas
