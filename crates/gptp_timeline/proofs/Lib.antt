@@ -3,3 +3,5 @@ pub mod LineLemmas
 pub mod PortLemmas
 pub mod MeasureLemmas
 pub mod ShownLemmas
+pub mod PlaceLemmas
+pub mod StandLemmas

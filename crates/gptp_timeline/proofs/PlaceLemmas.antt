@@ -1,0 +1,68 @@
+-- Where the system with a clock stands among those that are kept.
+use Rattle.std.proofs.Common.{◌≡◌, ◌<◌, ◌≤◌, ◌+◌, ◌==◌, ℕ, zero, suc, Bool, true, false, List, [], ◌∷◌, length, map, Option, Some, None, IfSome, Result, Ok, Err, slice_get, refl, sym, ap, subst, ◌∙◌, tt, arith}
+use Rattle.std.specs.Cmp.{nat_cmp_total}
+use Rattle.std.specs.List.Sorted.{IsBinarySearchResult, IsSearchInRange}
+use Rattle.std.specs.Ordering.{nat_cmp}
+use Rattle.std.specs.Result.{result_ok}
+use Rattle.std.proofs.lemmas.Bool.Decides.{nat_tests}
+use Rattle.std.proofs.lemmas.Cmp.{ranked}
+use Rattle.std.specs.declared.cmp.Ordering.TheVariants.{Equal}
+use Rattle.gptp_graph.specs.Order.{IsRising}
+use Rattle.gptp_lists.proofs.MemberLemmas.{In-slice_get}
+use Rattle.gptp_network.proofs.SearchLemmas.{comparisons_rise, found, missing, same_place}
+use Rattle.gptp_timeline.specs.StretchText.{error_among}
+use Rattle.gptp_timeline.specs.Watch.{place_from, RisesByClock}
+use Rattle.gptp_timeline.specs.declared.watched.Watched.{Watched}
+
+abbrev pub clock_of_watched : Watched → ℕ
+clock_of_watched x = x.clock
+
+-- ---- the place that is defined
+
+-- the place of a system whose clock no system before it has
+pub place_is : (clock k i : ℕ) (xs : List Watched) (x : Watched) → slice_get xs i ≡ Some x → x.clock ≡ clock
+    → ((j : ℕ) (y : Watched) → slice_get xs j ≡ Some y → y.clock ≡ clock → j ≡ i)
+    → place_from clock k xs ≡ Some (i + k)
+place_is clock k i [] x there is alone = absurd cc
+place_is clock k zero (y ∷ ys) x there is alone =
+    let same : y.clock ≡ clock = alone_is y x there is in
+    let test : y.clock == clock ≡ true = grind (arith, nat_tests) in rw test refl
+  where
+    alone_is : (y x : Watched) → Some y ≡ Some x → x.clock ≡ clock → y.clock ≡ clock
+    alone_is y x e is = ap (λ (o : Option Watched). clock_in o y) e ∙ is
+    clock_in : Option Watched → Watched → ℕ
+    clock_in None y = y.clock
+    clock_in (Some z) y = z.clock
+place_is clock k (suc i) (y ∷ ys) x there is alone =
+    let test : y.clock == clock ≡ false = grind (arith, nat_tests, alone zero y refl) in
+    let count : i + (k + 1) ≡ suc i + k = omega arith in
+    rw test (place_is clock (k + 1) i ys x there is
+    (λ j z at e. let s : suc j ≡ suc i = alone (suc j) z at e in omega arith) ∙ ap Some count)
+
+-- there is none where no system has the clock
+pub place_none : (clock k : ℕ) (xs : List Watched)
+    → ((j : ℕ) (y : Watched) → slice_get xs j ≡ Some y → y.clock ≡ clock → ⊥)
+    → place_from clock k xs ≡ None
+place_none clock k [] none = refl
+place_none clock k (y ∷ ys) none =
+    let test : y.clock == clock ≡ false = grind (arith, nat_tests, none zero y refl) in
+    rw test (place_none clock (k + 1) ys (λ j z at. none (suc j) z at))
+
+-- ---- a search by clock
+
+module _ (systems : List Watched) (clock : ℕ) (rising : RisesByClock systems) where
+  -- it ends where the system stands
+  pub searched : (r : Result ℕ ℕ) → IsSearchInRange r (length systems)
+      → IsBinarySearchResult (λ x. nat_cmp (clock_of_watched x) clock) systems r
+      → result_ok r ≡ place_from clock 0 systems
+  searched (Ok place) within is =
+      let (x, at, tied) = found nat_cmp_total clock_of_watched systems clock place within is in
+      let named : x.clock ≡ clock = ranked x.clock clock Equal (sym tied) in
+      let count : place + 0 ≡ place = omega arith in
+      sym (place_is clock 0 place systems x at named
+      (λ j y there same. same_place clock_of_watched systems j place y x rising there at (same ∙ sym named))
+      ∙ ap Some count)
+  searched (Err gap) within is =
+      let parted = is (comparisons_rise clock_of_watched systems clock rising) in
+      sym (place_none clock 0 systems (λ j y there same.
+      missing nat_cmp_total clock_of_watched systems clock gap parted y (In-slice_get y systems j there) same))
