@@ -20,7 +20,7 @@ use Rattle.clap.proofs.WalkLemmas.{walk_stopped}
 use Rattle.clap.proofs.OnLiterals.{clap_on_literals}
 use Rattle.gptp_commands.specs.Command.{AsksFor, BeginsWith, Enters, IsCompare, IsNoOption, IsPlain, OrderIsInRange, QuestionIsInRange, ReadsQuestion, check_command, name_of, program}
 use Rattle.gptp_commands.specs.declared.command.Order.{Order}
-use Rattle.gptp_commands.specs.declared.command.Order.TheVariants.{Ask, Check, Compare, Run}
+use Rattle.gptp_commands.specs.declared.command.Order.TheVariants.{Ask, Check, Compare, Run, Timeline}
 use Rattle.gptp_commands.specs.declared.question.Question.{Question}
 use Rattle.gptp_commands.specs.declared.question.Question.TheVariants.{Accuracy, Choice}
 
@@ -186,6 +186,12 @@ stops_at_accuracy words =
     ap (λ (w : Walk). w.stopped)
     (sym (walk_stopped help_rules names (walk_from nothing_held) (codes "accuracy") [] words))
 
+stops_at_timeline : (words : List Text) → stop (codes "timeline" ∷ words) ≡ Some (codes "timeline", words)
+unfolding walked
+stops_at_timeline words =
+    ap (λ (w : Walk). w.stopped)
+    (sym (walk_stopped help_rules names (walk_from nothing_held) (codes "timeline") [] words))
+
 -- the words behind `compare` are left to it
 words_behind : (words : List Text) → fault (codes "compare" ∷ words) ≡ [] → (words ≡ []) ⊎ (words ≡ codes "--" ∷ [])
 words_behind words none =
@@ -217,7 +223,8 @@ named words (inr mark) = inr (rw mark refl)
 -- the commands with options
 abbrev IsOther : Text → Type 0
 IsOther name =
-    (name ≡ codes "run") ⊎ ((name ≡ codes "check") ⊎ ((name ≡ codes "choice") ⊎ (name ≡ codes "accuracy")))
+    (name ≡ codes "run") ⊎ ((name ≡ codes "check")
+    ⊎ ((name ≡ codes "choice") ⊎ ((name ≡ codes "accuracy") ⊎ (name ≡ codes "timeline"))))
 
 -- one of the commands is named
 abbrev NamesOne : List Text → Type 0
@@ -229,32 +236,40 @@ begins name word words other same =
     inr (name, other, (words, ap (λ first. first ∷ words) (sym ((bytes_eq-Decides name word).0 same))))
 
 -- by what the first word is
-first_word : (is_compare is_run is_check is_choice is_accuracy is_help is_mark : Bool) (word : Text) (words : List Text)
+first_word : (is_compare is_run is_check is_choice is_accuracy is_timeline is_help is_mark : Bool) (word : Text)
+    (words : List Text)
     → bytes_eq (codes "compare") word ≡ is_compare → bytes_eq (codes "run") word ≡ is_run
     → bytes_eq (codes "check") word ≡ is_check → bytes_eq (codes "choice") word ≡ is_choice
-    → bytes_eq (codes "accuracy") word ≡ is_accuracy → bytes_eq (codes "help") word ≡ is_help
+    → bytes_eq (codes "accuracy") word ≡ is_accuracy → bytes_eq (codes "timeline") word ≡ is_timeline
+    → bytes_eq (codes "help") word ≡ is_help
     → bytes_eq word (codes "--") ≡ is_mark → fault (word ∷ words) ≡ [] → NamesOne (word ∷ words)
 unfolding walk_fault
-first_word true is_run is_check is_choice is_accuracy is_help is_mark word words compare run check choice accuracy help
-    mark none =
+first_word true is_run is_check is_choice is_accuracy is_timeline is_help is_mark word words compare run check choice
+    accuracy timeline help mark none =
     let word_is : codes "compare" ≡ word = (bytes_eq-Decides (codes "compare") word).0 compare in
     inl (rw (← word_is) (named words (words_behind words (rw (← word_is) at none))))
-first_word false true is_check is_choice is_accuracy is_help is_mark word words compare run check choice accuracy help
-    mark none = begins (codes "run") word words (inl refl) run
-first_word false false true is_choice is_accuracy is_help is_mark word words compare run check choice accuracy help mark
-    none = begins (codes "check") word words (inr (inl refl)) check
-first_word false false false true is_accuracy is_help is_mark word words compare run check choice accuracy help mark
-    none = begins (codes "choice") word words (inr (inr (inl refl))) choice
-first_word false false false false true is_help is_mark word words compare run check choice accuracy help mark none =
-    begins (codes "accuracy") word words (inr (inr (inr refl))) accuracy
-first_word false false false false false true is_mark word words compare run check choice accuracy help mark none =
+first_word false true is_check is_choice is_accuracy is_timeline is_help is_mark word words compare run check choice
+    accuracy timeline help mark none = begins (codes "run") word words (inl refl) run
+first_word false false true is_choice is_accuracy is_timeline is_help is_mark word words compare run check choice
+    accuracy timeline help mark none = begins (codes "check") word words (inr (inl refl)) check
+first_word false false false true is_accuracy is_timeline is_help is_mark word words compare run check choice accuracy
+    timeline help mark none = begins (codes "choice") word words (inr (inr (inl refl))) choice
+first_word false false false false true is_timeline is_help is_mark word words compare run check choice accuracy
+    timeline help mark none = begins (codes "accuracy") word words (inr (inr (inr (inl refl)))) accuracy
+first_word false false false false false true is_help is_mark word words compare run check choice accuracy timeline
+    help mark none = begins (codes "timeline") word words (inr (inr (inr (inr refl)))) timeline
+first_word false false false false false false true is_mark word words compare run check choice accuracy timeline help
+    mark none =
     let word_is : codes "help" ≡ word = (bytes_eq-Decides (codes "help") word).0 help in
     absurd (help_asked words (rw (← word_is) at none))
-first_word false false false false false false true word words compare run check choice accuracy help mark none =
+first_word false false false false false false false true word words compare run check choice accuracy timeline help
+    mark none =
     let word_is : word ≡ codes "--" = (bytes_eq-Decides word (codes "--")).0 mark in
     absurd (mark_alone words (rw word_is at none))
-first_word false false false false false false false word words compare run check choice accuracy help mark none =
-    let no_name : subcommand_met names idle word ≡ None = rw (compare, run, check, choice, accuracy, help) refl in
+first_word false false false false false false false false word words compare run check choice accuracy timeline help
+    mark none =
+    let no_name : subcommand_met names idle word
+    ≡ None = rw (compare, run, timeline, check, choice, accuracy, help) refl in
     absurd (strange top names word no_name mark (first_none _ _ (walk_finds_none (word ∷ words) none)))
 
 -- no word at all
@@ -266,9 +281,9 @@ words_named : (words : List Text) → fault words ≡ [] → NamesOne words
 words_named [] none = absurd (nothing_named none)
 words_named (word ∷ words) none =
     first_word (bytes_eq (codes "compare") word) (bytes_eq (codes "run") word) (bytes_eq (codes "check") word)
-    (bytes_eq (codes "choice") word) (bytes_eq (codes "accuracy") word) (bytes_eq (codes "help") word)
-    (bytes_eq word (codes "--")) word words
-    refl refl refl refl refl refl refl none
+    (bytes_eq (codes "choice") word) (bytes_eq (codes "accuracy") word) (bytes_eq (codes "timeline") word)
+    (bytes_eq (codes "help") word) (bytes_eq word (codes "--")) word words
+    refl refl refl refl refl refl refl refl none
 
 -- ---- the command that the parser enters is the one that is named
 
@@ -288,7 +303,8 @@ enters_other : (words : List Text) (name : Text) → IsOther name → BeginsWith
 enters_other words name (inl is) (others, begins) = rw (begins, is, stops_at_run others) refl
 enters_other words name (inr (inl is)) (others, begins) = rw (begins, is, stops_at_check others) refl
 enters_other words name (inr (inr (inl is))) (others, begins) = rw (begins, is, stops_at_choice others) refl
-enters_other words name (inr (inr (inr is))) (others, begins) = rw (begins, is, stops_at_accuracy others) refl
+enters_other words name (inr (inr (inr (inl is)))) (others, begins) = rw (begins, is, stops_at_accuracy others) refl
+enters_other words name (inr (inr (inr (inr is)))) (others, begins) = rw (begins, is, stops_at_timeline others) refl
 
 -- it enters one command only
 one_name : (words : List Text) (name other : Text) → entered_name words ≡ Some name → entered_name words ≡ Some other
@@ -306,7 +322,10 @@ not_compare name (inr (inl is)) same =
 not_compare name (inr (inr (inl is))) same =
     let count : ◌≡◌ {A = ℕ} 7 6 = ap length (same ∙ is) in
     absurd (omega arith)
-not_compare name (inr (inr (inr is))) same =
+not_compare name (inr (inr (inr (inl is)))) same =
+    let count : ◌≡◌ {A = ℕ} 7 8 = ap length (same ∙ is) in
+    absurd (omega arith)
+not_compare name (inr (inr (inr (inr is)))) same =
     let count : ◌≡◌ {A = ℕ} 7 8 = ap length (same ∙ is) in
     absurd (omega arith)
 
@@ -353,7 +372,7 @@ accepted_words parsed words is accepted = words_named (drop 1 words) (rw is at a
 -- the command of a question is one of the others
 question_other : (question : Question) → IsOther (name_of question)
 question_other (Choice until) = inr (inr (inl refl))
-question_other (Accuracy until max_error) = inr (inr (inr refl))
+question_other (Accuracy until max_error) = inr (inr (inr (inl refl)))
 
 -- what the matches ask for is what the words ask for
 pub asked : (parsed : App) (words : List Text) (m : ArgMatches) (order : Order) → parsed ≡ program
@@ -368,7 +387,10 @@ asked parsed words m Compare is matches accepted entered =
         | inl check ↦ entered.1 (same ∙ entered_is ∙ ap Some check)
         | inr l ↦ elim l [
           | inl choice ↦ entered.2 (same ∙ entered_is ∙ ap Some choice)
-          | inr accuracy ↦ entered.3 (same ∙ entered_is ∙ ap Some accuracy)
+          | inr p ↦ elim p [
+            | inl accuracy ↦ entered.3 (same ∙ entered_is ∙ ap Some accuracy)
+            | inr timeline ↦ entered.4 (same ∙ entered_is ∙ ap Some timeline)
+          ]
         ]
       ]
     ])
@@ -376,6 +398,12 @@ asked parsed words m (Run options) is matches accepted entered =
     let rows_are = sym (rows_of_words parsed words m is matches) ∙ entered.1 in (
       other_named (drop 1 words) (codes "run") (accepted_words parsed words is accepted) (inl refl)
           (ap name_in rows_are),
+      (entered.0, rows_are, entered.2),
+    )
+asked parsed words m (Timeline order) is matches accepted entered =
+    let rows_are = sym (rows_of_words parsed words m is matches) ∙ entered.1 in (
+      other_named (drop 1 words) (codes "timeline") (accepted_words parsed words is accepted)
+          (inr (inr (inr (inr refl)))) (ap name_in rows_are),
       (entered.0, rows_are, entered.2),
     )
 asked parsed words m (Check options) is matches accepted entered =
@@ -399,6 +427,7 @@ question_in_range rows (Accuracy until max_error) reads = (reads.0.range, reads.
 pub asked_in_range : (words : List Text) (order : Order) → AsksFor words order → OrderIsInRange order
 asked_in_range words Compare asks = tt
 asked_in_range words (Run options) asks = (asks.1.2.until.range, asks.1.2.seed.range)
+asked_in_range words (Timeline order) asks = (asks.1.2.until.range, asks.1.2.seed.range)
 asked_in_range words (Check options) asks = asks.1.2.until.range
 asked_in_range words (Ask question) asks = question_in_range asks.1.0 question asks.1.2
 
@@ -492,7 +521,8 @@ none_wrong words (inl (inr compare)) = rw compare refl
 none_wrong words (inr (inl check)) = rw check.1.0 (plain_file check.0 check.1.1)
 none_wrong words (inr (inr (inl run))) = rw run refl
 none_wrong words (inr (inr (inr (inl choice)))) = rw choice refl
-none_wrong words (inr (inr (inr (inr accuracy)))) = rw accuracy refl
+none_wrong words (inr (inr (inr (inr (inl accuracy))))) = rw accuracy refl
+none_wrong words (inr (inr (inr (inr (inr timeline))))) = rw timeline refl
 
 no_kind : (error : Error) → HasKind [] error → kind_of error ≡ OutOfMemory
 no_kind error (inl memory) = memory

@@ -14,3 +14,4 @@ pub mod OptionLemmas
 pub mod CheckLemmas
 pub mod RunLemmas
 pub mod RunSoFarLemmas
+pub mod TimelineLemmas

@@ -165,8 +165,8 @@ IsBare name words = drop 1 words ≡ name ∷ []
 abbrev pub IsPlain : List (List ℕ) → Type 0
 IsPlain words =
     NamesCompare words ⊎ (((file : List ℕ) × ChecksOnly file words)
-    ⊎ (IsBare (codes "run") words ⊎ (IsBare (codes "timeline") words
-    ⊎ (IsBare (codes "choice") words ⊎ IsBare (codes "accuracy") words))))
+    ⊎ (IsBare (codes "run") words ⊎ (IsBare (codes "choice") words
+    ⊎ (IsBare (codes "accuracy") words ⊎ IsBare (codes "timeline") words))))
 
 -- ---- the options, by the texts that the parser finds
 
@@ -259,9 +259,9 @@ IsQuestionOf entered question =
 -- what the matches of a command line ask for
 abbrev pub Enters : ArgMatches → Order → Type 0
 Enters m Compare =
-    (subcommand_name_of m ≢ Some (codes "run")) × (subcommand_name_of m ≢ Some (codes "timeline"))
-    × (subcommand_name_of m ≢ Some (codes "check"))
+    (subcommand_name_of m ≢ Some (codes "run")) × (subcommand_name_of m ≢ Some (codes "check"))
     × (subcommand_name_of m ≢ Some (codes "choice")) × (subcommand_name_of m ≢ Some (codes "accuracy"))
+    × (subcommand_name_of m ≢ Some (codes "timeline"))
 Enters m (Run options) = IsRunOf (subcommand_rows_of m) options
 Enters m (Timeline order) = IsTimelineOf (subcommand_rows_of m) order
 Enters m (Check options) = IsCheckOf (subcommand_rows_of m) options
