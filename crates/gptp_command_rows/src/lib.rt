@@ -25,3 +25,5 @@ mod refusals;
 mod run;
 #[cfg(test)]
 mod same;
+#[cfg(test)]
+mod timeline;

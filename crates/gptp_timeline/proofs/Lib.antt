@@ -5,3 +5,4 @@ pub mod MeasureLemmas
 pub mod ShownLemmas
 pub mod PlaceLemmas
 pub mod StandLemmas
+pub mod EachLemmas

@@ -1,0 +1,65 @@
+-- Systems that are looked at one after another.
+use Rattle.std.proofs.Common.{◌≡◌, ◌+◌, ℕ, zero, suc, List, [], ◌∷◌, ◌++◌, length, map, Option, Some, None, slice_get, slice_set, refl, sym, ap, subst, ◌∙◌, append_assoc, append-nil, length-append, arith}
+use Rattle.std.specs.List.{range_with_len}
+use Rattle.gptp_acts.specs.World.{WorldState}
+use Rattle.gptp_timeline.specs.Shown.{shown}
+use Rattle.gptp_timeline.specs.Watch.{lines_each, measures_after, see_all, see_at, see_each, see_one, watched_after, WatchState}
+use Rattle.gptp_timeline.specs.declared.measures.Measures.{Measures}
+use Rattle.gptp_timeline.specs.declared.watched.Look.{Look}
+use Rattle.gptp_timeline.specs.declared.watched.Watched.{Watched}
+
+-- what stands behind others
+pub at_seam : {X : Type 0} (front : List X) (x : X) (back : List X)
+    → slice_get (front ++ x ∷ back) (length front) ≡ Some x
+at_seam [] x back = refl
+at_seam (y ∷ front) x back = at_seam front x back
+
+pub set_at_seam : {X : Type 0} (front : List X) (x y : X) (back : List X)
+    → slice_set (front ++ x ∷ back) (length front) y ≡ front ++ y ∷ back
+set_at_seam [] x y back = refl
+set_at_seam (z ∷ front) x y back = ap (λ t. z ∷ t) (set_at_seam front x y back)
+
+module _ (look : Look) (w : WorldState) where
+  abbrev behind : Watched → Watched
+  behind x = watched_after look (shown x.clock w) x
+
+  -- what is measured of several, one after another
+  pub measured_each : List Watched → Measures → Measures
+  measured_each [] m = m
+  measured_each (x ∷ xs) m = measured_each xs (measures_after look x (shown x.clock w) m)
+
+  -- behind those that were looked at, all that are left are
+  pub each_looked : (front back : List Watched) (o : WatchState) → o.systems ≡ front ++ back
+      → see_each look w (range_with_len (length front) (length back)) o
+      ≡ record o { systems = front ++ map behind back; measures = measured_each back o.measures }
+  each_looked front [] o are = ap (λ xs. record o { systems = xs }) are
+  each_looked front (x ∷ back) o are =
+      let here : slice_get o.systems (length front) ≡ Some x =
+      ap (λ xs. slice_get xs (length front)) are ∙ at_seam front x back in
+      let seen : see_at look w (length front) o ≡ record o {
+        systems = slice_set o.systems (length front) (behind x);
+        measures = measures_after look x (shown x.clock w) o.measures;
+      } = ap (λ y. see_one look w (length front) y o) here in
+      let set : slice_set o.systems (length front) (behind x) ≡ (front ++ behind x ∷ []) ++ back =
+      ap (λ xs. slice_set xs (length front) (behind x)) are ∙ set_at_seam front x (behind x) back
+      ∙ sym (append_assoc front (behind x ∷ []) back) in
+      let count : length front + 1 ≡ length (front ++ behind x ∷ []) = sym (length-append front (behind x ∷ [])) in
+      let next = each_looked (front ++ behind x ∷ []) back
+      (record o {
+        systems = slice_set o.systems (length front) (behind x);
+        measures = measures_after look x (shown x.clock w) o.measures;
+      }) set in
+      ap (see_each look w (range_with_len (length front + 1) (length back))) seen
+      ∙ ap (λ k. see_each look w (range_with_len k (length back)) (record o {
+        systems = slice_set o.systems (length front) (behind x);
+        measures = measures_after look x (shown x.clock w) o.measures;
+      })) count
+      ∙ next
+      ∙ ap (λ xs. record o {
+        systems = xs;
+        measures = measured_each back (measures_after look x (shown x.clock w) o.measures);
+      }) (append_assoc front (behind x ∷ []) (map behind back))
+
+  pub all_looked : (o : WatchState) → see_all look w o
+      ≡ record o { systems = map behind o.systems; measures = measured_each o.systems o.measures }
+  all_looked o = each_looked [] o.systems o refl
