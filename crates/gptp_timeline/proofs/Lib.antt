@@ -6,3 +6,5 @@ pub mod ShownLemmas
 pub mod PlaceLemmas
 pub mod StandLemmas
 pub mod EachLemmas
+pub mod SameLemmas
+pub mod ActLemmas
