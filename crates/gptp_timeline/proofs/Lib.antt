@@ -8,3 +8,6 @@ pub mod StandLemmas
 pub mod EachLemmas
 pub mod SameLemmas
 pub mod ActLemmas
+pub mod MeasuredLemmas
+pub mod ChainLemmas
+pub mod TrackLemmas
