@@ -11,3 +11,4 @@ pub mod ActLemmas
 pub mod MeasuredLemmas
 pub mod ChainLemmas
 pub mod TrackLemmas
+pub mod StepLemmas

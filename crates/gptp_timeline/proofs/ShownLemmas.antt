@@ -83,3 +83,17 @@ calls_other name place input w draws answer w' calls apart =
     ap (live_system name) calls.is
     ∙ live_other name place w.stations calls.station (in_state calls.after calls.station) calls.here apart
     (λ is. apart (sym named ∙ is))
+
+-- ---- what a world tells of its live system with a clock
+
+pub live_shown : (name : ℕ) (w : WorldState) (s : SystemState) → HaveOwnClocks w → ShowsLive name w s
+    → live_system name w ≡ Some s
+live_shown name w s own live =
+    found name live.place w.stations live.station live.is.here live.is.named
+    (λ other at there same. own other live.place at live.station there live.is.here (same ∙ sym live.is.named))
+    ∙ ap (λ l. if l then Some live.station.system else None) live.live
+    ∙ ap Some (sym live.state)
+
+pub none_shown : (name : ℕ) (w : WorldState) → (AtSystem name w IsLiveSystem → ⊥) → live_system name w ≡ None
+none_shown name w none = not_found name w.stations (λ place station there named live.
+    none (record { place = place; station = station; is = record { here = there; named = named }; so = live }))
