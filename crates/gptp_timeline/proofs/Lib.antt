@@ -12,3 +12,4 @@ pub mod MeasuredLemmas
 pub mod ChainLemmas
 pub mod TrackLemmas
 pub mod StepLemmas
+pub mod OwnLemmas

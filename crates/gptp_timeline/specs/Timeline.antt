@@ -23,8 +23,8 @@ use Rattle.gptp_timeline.specs.Limits.{exceeded_after, not_exceeded, verdict_lin
 use Rattle.gptp_timeline.specs.Receipts.{offset_line, received_by}
 use Rattle.gptp_timeline.specs.Shown.{live_system, shown}
 use Rattle.gptp_timeline.specs.Stretch.{at_of, counted, error_at, error_from, measured, waits}
-use Rattle.gptp_timeline.specs.StretchText.{after_line, error_among, system_accuracy}
-use Rattle.gptp_timeline.specs.Watch.{unless}
+use Rattle.gptp_timeline.specs.StretchText.{after_line, ended_stretch, error_among, system_accuracy}
+use Rattle.gptp_timeline.specs.Watch.{unless, WatchState}
 use Rattle.gptp_timeline.specs.declared.limits.Exceeded.{Exceeded}
 use Rattle.gptp_timeline.specs.declared.limits.Limits.{Limits}
 use Rattle.gptp_timeline.specs.declared.stretch.Stretch.{Stretch}
@@ -88,6 +88,13 @@ kept_accuracy_at (Some from) kept systems = flat_map (system_accuracy from (erro
 abbrev pub kept_accuracy : List Watched → Option TimeErrors → List (List ℕ)
 kept_accuracy kept None = []
 kept_accuracy kept (Some t) = kept_accuracy_at t.from kept t.systems.items
+
+-- what became of a stretch, by what an observer keeps where it ends, and its lines there
+abbrev pub ended_of : Plan → WatchState → Stretch
+ended_of plan o = ended_stretch plan.from plan.to plan.begins_with_event plan.bound o.measures o.systems
+
+abbrev pub end_lines : Plan → WatchState → List (List ℕ)
+end_lines plan o = after_line (ended_of plan o) ∷ kept_accuracy o.systems plan.errors
 
 -- From some time on that isn't behind `to` the errors hold of the network as it stands at a time.
 abbrev pub HoldsBy : ℕ → TimeErrors → Type 0

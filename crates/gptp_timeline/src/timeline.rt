@@ -7,6 +7,9 @@ ghost use Rattle.gptp_network.specs.Snapshot.{events_by};
 ghost use Rattle.gptp_network.specs.Span.{IsBound};
 ghost use Rattle.gptp_report.specs.Sink.{AppendsSome};
 ghost use Rattle.gptp_spelling.specs.Lines.{text_of};
+ghost use Rattle.gptp_timeline.specs.Limits.{is_exceeded, verdict_lines};
+ghost use Rattle.gptp_timeline.specs.Watch.{event_look, lines_all, see_all};
+ghost use Rattle.gptp_timeline.specs.Timeline.{end_lines, ended_of};
 ghost use Rattle.gptp_timeline.specs.Timeline.{AreErrorsBy, BeginsTimeline, IsPlan, TimelineOf, end_before, exact_time, kept_accuracy, later_than, now_of};
 
 use crate::limits::{Exceeded, Limits, NOT_EXCEEDED, exceeded_after, write_verdict};
@@ -165,7 +168,14 @@ fn end_stretch<K: Sink>(
     plan: &Plan,
     watch: &Watch,
     sink: &mut K,
-) -> Result<Stretch, Cut> {
+) -> Result<Stretch, Cut>
+    ensures some { AppendsSome (K.written sink.old) (K.written sink.new) (text_of (end_lines plan.now watch.now)) }
+    ensures stretch { IfOk result (λ s. s ≡ ended_of plan.now watch.now) }
+    ensures whole { OnOk result
+        (Appends (K.written sink.old) (K.written sink.new) (text_of (end_lines plan.now watch.now))) }
+    ensures works { result ≢ Err Cut.Write → K.failures sink.new ≡ K.failures sink.old }
+    ensures fails { result ≡ Err Cut.Write → K.failures sink.new ≢ K.failures sink.old }
+{
     let stretch = ended(
         alloc,
         plan.from,
@@ -249,7 +259,15 @@ fn write_start<F: Fate + Drop, K: Sink>(
     world: &World<F>,
     watch: &mut Watch,
     sink: &mut K,
-) -> Result<(), Cut> {
+) -> Result<(), Cut>
+    ensures some { AppendsSome (K.written sink.old) (K.written sink.new)
+        (text_of (lines_all (event_look 0) world.now.scene watch.old)) }
+    ensures sees { OnOk result (watch.new ≡ see_all (event_look 0) world.now.scene watch.old) }
+    ensures whole { OnOk result (Appends (K.written sink.old) (K.written sink.new)
+        (text_of (lines_all (event_look 0) world.now.scene watch.old))) }
+    ensures works { result ≢ Err Cut.Write → K.failures sink.new ≡ K.failures sink.old }
+    ensures fails { result ≡ Err Cut.Write → K.failures sink.new ≢ K.failures sink.old }
+{
     let mut text = String::new(alloc);
     watch.see_start(&mut text, world)?;
     write_whole(sink, text.as_bytes())?;
@@ -262,7 +280,14 @@ fn end_verdict<K: Sink>(
     limits: &Limits,
     exceeded: Exceeded,
     sink: &mut K,
-) -> Result<bool, Cut> {
+) -> Result<bool, Cut>
+    ensures some { AppendsSome (K.written sink.old) (K.written sink.new) (text_of (verdict_lines limits.now exceeded)) }
+    ensures is { IfOk result (λ is. is ≡ is_exceeded limits.now exceeded) }
+    ensures whole { OnOk result
+        (Appends (K.written sink.old) (K.written sink.new) (text_of (verdict_lines limits.now exceeded))) }
+    ensures works { result ≢ Err Cut.Write → K.failures sink.new ≡ K.failures sink.old }
+    ensures fails { result ≡ Err Cut.Write → K.failures sink.new ≢ K.failures sink.old }
+{
     let mut text = String::new(alloc);
     let is_exceeded = write_verdict(&mut text, limits, exceeded)?;
     write_whole(sink, text.as_bytes())?;
