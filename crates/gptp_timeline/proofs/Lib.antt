@@ -13,3 +13,5 @@ pub mod ChainLemmas
 pub mod TrackLemmas
 pub mod StepLemmas
 pub mod OwnLemmas
+pub mod ReceiptLemmas
+pub mod ActStepLemmas
