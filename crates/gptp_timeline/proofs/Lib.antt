@@ -15,3 +15,4 @@ pub mod StepLemmas
 pub mod OwnLemmas
 pub mod ReceiptLemmas
 pub mod ActStepLemmas
+pub mod EventLemmas

@@ -1,11 +1,12 @@
 -- Where the system with a clock stands among those that are kept.
-use Rattle.std.proofs.Common.{◌≡◌, ◌<◌, ◌≤◌, ◌+◌, ◌==◌, ℕ, zero, suc, Bool, true, false, List, [], ◌∷◌, length, map, Option, Some, None, IfSome, Result, Ok, Err, slice_get, refl, sym, ap, subst, ◌∙◌, tt, arith}
+use Rattle.std.proofs.Common.{◌≡◌, ◌<◌, ◌≤◌, ◌+◌, ◌==◌, ℕ, zero, suc, Bool, true, false, List, [], ◌∷◌, length, map, Option, Some, None, if◌then◌else◌, Result, Ok, Err, slice_get, refl, sym, ap, ◌∙◌, arith}
 use Rattle.std.specs.Cmp.{nat_cmp_total}
 use Rattle.std.specs.List.Sorted.{IsBinarySearchResult, IsSearchInRange}
 use Rattle.std.specs.Ordering.{nat_cmp}
 use Rattle.std.specs.Result.{result_ok}
 use Rattle.std.proofs.lemmas.Bool.Decides.{nat_tests}
 use Rattle.std.proofs.lemmas.Cmp.{ranked}
+use Rattle.std.proofs.lemmas.Option.{same_Some}
 use Rattle.std.specs.declared.cmp.Ordering.TheVariants.{Equal}
 use Rattle.gptp_graph.specs.Order.{IsRising}
 use Rattle.gptp_lists.proofs.MemberLemmas.{In-slice_get}
@@ -25,14 +26,9 @@ pub place_is : (clock k i : ℕ) (xs : List Watched) (x : Watched) → slice_get
     → place_from clock k xs ≡ Some (i + k)
 place_is clock k i [] x there is alone = absurd cc
 place_is clock k zero (y ∷ ys) x there is alone =
-    let same : y.clock ≡ clock = alone_is y x there is in
-    let test : y.clock == clock ≡ true = grind (arith, nat_tests) in rw test refl
-  where
-    alone_is : (y x : Watched) → Some y ≡ Some x → x.clock ≡ clock → y.clock ≡ clock
-    alone_is y x e is = ap (λ (o : Option Watched). clock_in o y) e ∙ is
-    clock_in : Option Watched → Watched → ℕ
-    clock_in None y = y.clock
-    clock_in (Some z) y = z.clock
+    let same : y ≡ x = same_Some y x there in
+    let test : x.clock == clock ≡ true = grind (arith, nat_tests) in
+    ap (λ (z : Watched). if z.clock == clock then Some k else place_from clock (k + 1) ys) same ∙ rw test refl
 place_is clock k (suc i) (y ∷ ys) x there is alone =
     let test : y.clock == clock ≡ false = grind (arith, nat_tests, alone zero y refl) in
     let count : i + (k + 1) ≡ suc i + k = omega arith in
@@ -47,6 +43,37 @@ place_none clock k [] none = refl
 place_none clock k (y ∷ ys) none =
     let test : y.clock == clock ≡ false = grind (arith, nat_tests, none zero y refl) in
     rw test (place_none clock (k + 1) ys (λ j z at. none (suc j) z at))
+
+-- ---- the error that is kept of a clock
+
+abbrev pub error_there : Option Watched → Option ℕ
+error_there None = None
+error_there (Some x) = x.error
+
+abbrev pub error_of_place : List Watched → Result ℕ ℕ → Option ℕ
+error_of_place xs (Ok place) = error_there (slice_get xs place)
+error_of_place xs (Err gap) = None
+
+error_is : (clock i : ℕ) (xs : List Watched) (x : Watched) → slice_get xs i ≡ Some x → x.clock ≡ clock
+    → ((j : ℕ) (y : Watched) → slice_get xs j ≡ Some y → y.clock ≡ clock → j ≡ i)
+    → error_among xs clock ≡ x.error
+error_is clock i [] x there is alone = absurd cc
+error_is clock zero (y ∷ ys) x there is alone =
+    let same : y ≡ x = same_Some y x there in
+    let test : x.clock == clock ≡ true = grind (arith, nat_tests) in
+    ap (λ (z : Watched). if z.clock == clock then z.error else error_among ys clock) same ∙ rw test refl
+error_is clock (suc i) (y ∷ ys) x there is alone =
+    let test : y.clock == clock ≡ false = grind (arith, nat_tests, alone zero y refl) in
+    rw test (error_is clock i ys x there is
+    (λ j z at e. let s : suc j ≡ suc i = alone (suc j) z at e in omega arith))
+
+error_none : (clock : ℕ) (xs : List Watched)
+    → ((j : ℕ) (y : Watched) → slice_get xs j ≡ Some y → y.clock ≡ clock → ⊥)
+    → error_among xs clock ≡ None
+error_none clock [] none = refl
+error_none clock (y ∷ ys) none =
+    let test : y.clock == clock ≡ false = grind (arith, nat_tests, none zero y refl) in
+    rw test (error_none clock ys (λ j z at. none (suc j) z at))
 
 -- ---- a search by clock
 
@@ -65,4 +92,18 @@ module _ (systems : List Watched) (clock : ℕ) (rising : RisesByClock systems) 
   searched (Err gap) within is =
       let parted = is (comparisons_rise clock_of_watched systems clock rising) in
       sym (place_none clock 0 systems (λ j y there same.
+      missing nat_cmp_total clock_of_watched systems clock gap parted y (In-slice_get y systems j there) same))
+
+  -- what is kept of the system there, or nothing
+  pub error_searched : (r : Result ℕ ℕ) → IsSearchInRange r (length systems)
+      → IsBinarySearchResult (λ x. nat_cmp (clock_of_watched x) clock) systems r
+      → error_of_place systems r ≡ error_among systems clock
+  error_searched (Ok place) within is =
+      let (x, at, tied) = found nat_cmp_total clock_of_watched systems clock place within is in
+      let named : x.clock ≡ clock = ranked x.clock clock Equal (sym tied) in
+      ap error_there at ∙ sym (error_is clock place systems x at named
+      (λ j y there same. same_place clock_of_watched systems j place y x rising there at (same ∙ sym named)))
+  error_searched (Err gap) within is =
+      let parted = is (comparisons_rise clock_of_watched systems clock rising) in
+      sym (error_none clock systems (λ j y there same.
       missing nat_cmp_total clock_of_watched systems clock gap parted y (In-slice_get y systems j there) same))

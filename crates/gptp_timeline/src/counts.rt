@@ -13,9 +13,9 @@ use std::alloc::{AllocError, Global};
 /// that no other does.
 #[derive(Clone, Copy, Debug, PartialEq, Eq)]
 pub(crate) struct Counts {
-    pub without: usize,
-    pub roots: usize,
-    pub alone: usize,
+    pub without: u64,
+    pub roots: u64,
+    pub alone: u64,
 }
 
 /// Whether a live system has no time: its root can't be a grandmaster, or it has a Slave port and no offset.
@@ -111,8 +111,8 @@ pub(crate) fn counts_of(alloc: Global, systems: &[Watched]) -> Result<Counts, Al
 {
     let roots = roots_of(alloc, systems)?;
     Ok(Counts {
-        without: without(systems),
-        roots: several(&roots),
-        alone: alone(&roots),
+        without: without(systems) as u64,
+        roots: several(&roots) as u64,
+        alone: alone(&roots) as u64,
     })
 }

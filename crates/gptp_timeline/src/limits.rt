@@ -106,9 +106,9 @@ pub(crate) fn exceeded_after(limits: &Limits, stretch: &Stretch, before: Exceede
         holdover: before.holdover
             || (asked && is_any_above(limits.holdover, 1, stretch.holdover_amount())),
         error: before.error || is_any_above(limits.error, 65_536, stretch.error_amount()),
-        without: before.without || is_above(limits.without, 1, counts.without as u128),
-        roots: before.roots || is_above(limits.roots, 1, counts.roots as u128),
-        alone: before.alone || is_above(limits.alone, 1, counts.alone as u128),
+        without: before.without || is_above(limits.without, 1, u128::from(counts.without)),
+        roots: before.roots || is_above(limits.roots, 1, u128::from(counts.roots)),
+        alone: before.alone || is_above(limits.alone, 1, u128::from(counts.alone)),
     }
 }
 
