@@ -16,3 +16,4 @@ pub mod OwnLemmas
 pub mod ReceiptLemmas
 pub mod ActStepLemmas
 pub mod EventLemmas
+pub mod CountLemmas

@@ -1,5 +1,5 @@
 -- The closure gives a system's clock.
-use Rattle.std.proofs.Common.{rules}
+use Rattle.std.proofs.Common.{rules, ◌∙◌, ap, sym}
 use Rattle.std.proofs.lemmas.List.Sorted.{answers_always}
 use Rattle.gptp_timeline.proofs.PlaceLemmas.{clock_of_watched, searched}
 use Rattle.gptp_timeline.proofs.watch.Watch.place_of.Goals as goal

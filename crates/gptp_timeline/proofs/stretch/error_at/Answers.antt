@@ -1,0 +1,17 @@
+-- The closure gives a system's clock.
+use Rattle.std.proofs.Common.{rules, ◌∙◌, ap, sym}
+use Rattle.std.proofs.lemmas.List.Sorted.{answers_always}
+use Rattle.gptp_timeline.proofs.PlaceLemmas.{clock_of_watched, error_searched}
+use Rattle.gptp_timeline.proofs.stretch.error_at.Goals as goal
+
+pub returns-in-Ok : goal.returns-in-Ok
+returns-in-Ok c =
+    let facts = c.binary_search_by_key.ensures in
+    let by_clock = facts.position clock_of_watched (answers_always _ _ _ (λ f a r g called. search rules)) in
+    let all = error_searched c.args.systems.now c.args.clock c.requires _ facts.bound by_clock in ?
+
+pub returns-in-Err : goal.returns-in-Err
+returns-in-Err c =
+    let facts = c.binary_search_by_key.ensures in
+    let by_clock = facts.position clock_of_watched (answers_always _ _ _ (λ f a r g called. search rules)) in
+    let all = error_searched c.args.systems.now c.args.clock c.requires _ facts.bound by_clock in ?
