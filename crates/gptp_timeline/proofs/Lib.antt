@@ -17,3 +17,4 @@ pub mod ReceiptLemmas
 pub mod ActStepLemmas
 pub mod EventLemmas
 pub mod CountLemmas
+pub mod ChainStepLemmas

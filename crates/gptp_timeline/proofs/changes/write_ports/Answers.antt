@@ -7,7 +7,8 @@ use Rattle.gptp_timeline.proofs.PortLemmas.{ports_next}
 use Rattle.gptp_timeline.proofs.changes.write_ports.Goals as goal
 
 pub loop-place-init : goal.loop-place-init
-loop-place-init c = ?
+loop-place-init c = written_none (port_lines c.args.at c.args.clock 1 c.args.before.now c.args.ports.now)
+    (string_bytes c.args.text.now)
 
 pub loop-place-preserved : goal.loop-place-preserved
 loop-place-preserved c = ?
