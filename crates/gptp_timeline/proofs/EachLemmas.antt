@@ -23,7 +23,7 @@ set_at_seam [] x y back = refl
 set_at_seam (z ∷ front) x y back = ap (λ t. z ∷ t) (set_at_seam front x y back)
 
 module _ (look : Look) (w : WorldState) where
-  abbrev behind : Watched → Watched
+  abbrev pub behind : Watched → Watched
   behind x = watched_after look (shown x.clock w) x
 
   -- what is measured of several, one after another
