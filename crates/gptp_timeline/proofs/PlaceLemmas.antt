@@ -1,18 +1,18 @@
 -- Where the system with a clock stands among those that are kept.
-use Rattle.std.proofs.Common.{◌≡◌, ◌<◌, ◌≤◌, ◌+◌, ◌==◌, ℕ, zero, suc, Bool, true, false, List, [], ◌∷◌, length, map, Option, Some, None, if◌then◌else◌, Result, Ok, Err, slice_get, refl, sym, ap, ◌∙◌, arith}
+use Rattle.std.proofs.Common.{◌≡◌, ◌<◌, ◌≤◌, ◌+◌, ◌==◌, ℕ, zero, suc, Bool, true, false, List, [], ◌∷◌, length, map, Option, Some, None, if◌then◌else◌, Result, Ok, Err, slice_get, get_or, subst, refl, sym, ap, ◌∙◌, arith}
 use Rattle.std.specs.Cmp.{nat_cmp_total}
 use Rattle.std.specs.List.Sorted.{IsBinarySearchResult, IsSearchInRange}
 use Rattle.std.specs.Ordering.{nat_cmp}
 use Rattle.std.specs.Result.{result_ok}
 use Rattle.std.proofs.lemmas.Bool.Decides.{nat_tests}
 use Rattle.std.proofs.lemmas.Cmp.{ranked}
-use Rattle.std.proofs.lemmas.Option.{same_Some}
+use Rattle.std.proofs.lemmas.Option.{same_Some, slice_get-get_or}
 use Rattle.std.specs.declared.cmp.Ordering.TheVariants.{Equal}
 use Rattle.gptp_graph.specs.Order.{IsRising}
 use Rattle.gptp_lists.proofs.MemberLemmas.{In-slice_get}
 use Rattle.gptp_network.proofs.SearchLemmas.{comparisons_rise, found, missing, same_place}
 use Rattle.gptp_timeline.specs.StretchText.{error_among}
-use Rattle.gptp_timeline.specs.Watch.{place_from, RisesByClock}
+use Rattle.gptp_timeline.specs.Watch.{place_from, RisesByClock, without_error}
 use Rattle.gptp_timeline.specs.declared.watched.Watched.{Watched}
 
 abbrev pub clock_of_watched : Watched → ℕ
@@ -28,7 +28,9 @@ place_is clock k i [] x there is alone = absurd cc
 place_is clock k zero (y ∷ ys) x there is alone =
     let same : y ≡ x = same_Some y x there in
     let test : x.clock == clock ≡ true = grind (arith, nat_tests) in
-    ap (λ (z : Watched). if z.clock == clock then Some k else place_from clock (k + 1) ys) same ∙ rw test refl
+    let count : k ≡ 0 + k = omega arith in
+    ap (λ (z : Watched). if z.clock == clock then Some k else place_from clock (k + 1) ys) same
+    ∙ rw test (ap Some count)
 place_is clock k (suc i) (y ∷ ys) x there is alone =
     let test : y.clock == clock ≡ false = grind (arith, nat_tests, alone zero y refl) in
     let count : i + (k + 1) ≡ suc i + k = omega arith in
@@ -107,3 +109,18 @@ module _ (systems : List Watched) (clock : ℕ) (rising : RisesByClock systems) 
       let parted = is (comparisons_rise clock_of_watched systems clock rising) in
       sym (error_none clock systems (λ j y there same.
       missing nat_cmp_total clock_of_watched systems clock gap parted y (In-slice_get y systems j there) same))
+
+-- what stands at the place that a search ended at has that error
+pub error_at_place : (systems : List Watched) (clock place : ℕ) (x : Watched) (r : Result ℕ ℕ) → r ≡ Ok place
+    → IsSearchInRange r (length systems) → error_of_place systems r ≡ error_among systems clock
+    → (get_or systems place x).error ≡ error_among systems clock
+error_at_place systems clock place x r is bound all =
+    let within : IsSearchInRange (Ok place) (length systems) =
+    subst (λ q. IsSearchInRange q (length systems)) is bound in
+    sym (ap error_there (slice_get-get_or systems place x within)) ∙ ap (error_of_place systems) (sym is) ∙ all
+
+-- clocks stay where errors are cleared
+pub cleared_clocks : (systems : List Watched)
+    → map clock_of_watched (map without_error systems) ≡ map clock_of_watched systems
+cleared_clocks [] = refl
+cleared_clocks (x ∷ xs) = ap (λ rest. x.clock ∷ rest) (cleared_clocks xs)

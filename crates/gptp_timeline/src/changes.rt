@@ -107,14 +107,9 @@ fn write_ports(
         ≡ string_bytes text.old ++ text_of (port_lines at clock 1 before.now ports.now)) }
 {
     for place in 0..ports.len() {
-        write_port_if_changed(
-            text,
-            at,
-            clock,
-            place as u8 + 1,
-            before.get(place).copied(),
-            ports[place],
-        )?;
+        let shown = ports[place];
+        let old = before.get(place).copied();
+        write_port_if_changed(text, at, clock, place as u8 + 1, old, shown)?;
     }
     Ok(())
 }

@@ -90,9 +90,11 @@ fn is_last_of_several(roots: &[Identity], place: usize) -> bool
 fn several(roots: &[Identity]) -> usize
     ensures { result ≡ count_by (λ root. nat_lt 1 (times roots.now root)) (distinct roots.now) }
 {
-    (0..roots.len())
-        .filter(|place| is_last_of_several(roots, *place))
-        .count()
+    let mut count = 0;
+    for place in 0..roots.len() {
+        count += usize::from(is_last_of_several(roots, place));
+    }
+    count
 }
 
 /// How many roots are there once.

@@ -100,8 +100,8 @@ pub(crate) fn ports_of(system: &System) -> Ports
     ensures { result ≡ shown_ports system.now }
 {
     let mut ports = ArrayVec::new();
-    for port in 1..=system.ports() {
-        ports.push(shown_port(system, port));
+    for place in 0..system.ports() {
+        ports.push(shown_port(system, place + 1));
     }
     Ports { ports }
 }

@@ -5,7 +5,7 @@ ghost use Rattle.gptp_acts.specs.Views.{rising_clocks};
 ghost use Rattle.gptp_spelling.specs.Lines.{text_of};
 ghost use Rattle.gptp_timeline.specs.Measures.{one_at};
 ghost use Rattle.gptp_timeline.specs.Shown.{live_system, shown};
-ghost use Rattle.gptp_timeline.specs.Watch.{counts_from, receipt_lines_of, unseen};
+ghost use Rattle.gptp_timeline.specs.Watch.{counts_from, receipt_lines_of, unseen, without_error};
 
 use crate::changes::write_changes;
 use crate::event_line::write_event;
@@ -138,6 +138,15 @@ fn amount_of(error: Option<i128>) -> Option<u128>
     }
 }
 
+/// No receipt of any system counts by itself so far.
+fn clear_errors(systems: &mut [Watched])
+    ensures { systems.new ≡ map without_error systems.old }
+{
+    for place in 0..systems.len() {
+        systems[place].error = None;
+    }
+}
+
 impl Watch {
     ghost use Rattle.std.specs.Prelude.{◌≡◌, ◌≤◌, ◌<◌, ◌++◌, ◌∷◌, [], None, false, IfOk, IfSome, OnOk, length, map, slice_get, Some, string_bytes};
     ghost use Rattle.gptp_acts.specs.Views.{rising_clocks};
@@ -193,9 +202,14 @@ impl Watch {
     {
         self.exact_from = exact_from;
         self.measures = NOTHING;
-        for place in 0..self.systems.len() {
-            self.systems[place].error = None;
-        }
+        clear_errors(&mut self.systems);
+    }
+
+    /// How many systems there are.
+    fn count(&self) -> usize
+        ensures { result ≡ length self.now.systems }
+    {
+        self.systems.len()
     }
 
     /// The place of a system, by its clock.
@@ -270,7 +284,7 @@ impl Watch {
         ensures tells { OnOk result (string_bytes text.new
             ≡ string_bytes text.old ++ text_of (lines_all look world.now.scene self.old)) }
     {
-        for place in 0..self.systems.len() {
+        for place in 0..self.count() {
             self.see_at(text, world, look, place)?;
         }
         Ok(())

@@ -1,28 +1,31 @@
-use Rattle.std.proofs.Common.{◌≡◌, ◌+◌, ◌-◌, length, map, sym, ap, ◌∙◌, arith}
+use Rattle.std.proofs.Common.{◌≡◌, ◌≤◌, length, map, sym, ap, subst, ◌∙◌, arith}
 use Rattle.std.specs.List.{range_with_len}
 use Rattle.std.proofs.lemmas.Grind.{common_steps}
 use Rattle.std.proofs.lemmas.List.FromFn.{length-map-range_with_len}
-use Rattle.gptp_timeline.specs.Ports.{shown_port}
+use Rattle.gptp_timeline.specs.Ports.{shown_port, shown_ports}
 use Rattle.gptp_timeline.proofs.PortLemmas.{next_port}
 use Rattle.gptp_timeline.proofs.ports.ports_of.Goals as goal
 
 pub push-requires : goal.push-requires
 push-requires c =
-    let so_far : length c.loop-port.ports.items ≡ c.loop-port.port - 1 =
-    ap length c.loop-port.invariant.1
-    ∙ length-map-range_with_len (shown_port c.args.system.now) 1 (c.loop-port.port - 1) in
+    let so_far : length c.loop-place.ports.items ≡ c.loop-place.place =
+    ap length c.loop-place.invariant
+    ∙ length-map-range_with_len (shown_port c.args.system.now) 1 c.loop-place.place in
     grind (arith, common_steps)
 
-pub loop-port-preserved : goal.loop-port-preserved
-loop-port-preserved c =
-    let port = c.loop-port.port in
-    let count : port + 1 - 1 ≡ port = omega arith in
-    let ports = next_port (shown_port c.args.system.now) c.loop-port.ports.items c.push.new.self.items
-    c.shown_port.result port c.loop-port.auto.port c.loop-port.invariant.1 c.shown_port.ensures c.push.ensures.items in
-    (grind (arith, common_steps), rw count ports)
+pub loop-place-preserved : goal.loop-place-preserved
+loop-place-preserved c =
+    next_port (shown_port c.args.system.now) c.loop-place.ports.items c.push.new.self.items
+    c.shown_port.result c.loop-place.place c.loop-place.invariant c.shown_port.ensures c.push.ensures.items
 
 pub invariant_of-result : goal.invariant_of-result
-invariant_of-result c = ?
+invariant_of-result c =
+    let so_far : length c.loop-place.ports.items ≡ c.loop-place.place =
+    ap length c.loop-place.invariant
+    ∙ length-map-range_with_len (shown_port c.args.system.now) 1 c.loop-place.place in
+    grind (arith, common_steps)
 
 pub returns : goal.returns
-returns c = ?
+returns c =
+    let all : c.loop-place.place ≡ length c.args.system.now.ports = grind (arith, common_steps) in
+    c.loop-place.invariant ∙ ap (λ n. map (shown_port c.args.system.now) (range_with_len 1 n)) all
