@@ -1,10 +1,10 @@
 -- The roots of systems, and how many of them there are.
-use Rattle.std.proofs.Common.{◌≡◌, ◌<◌, ℕ, zero, suc, ◌+◌, ◌==◌, ◌&&◌, Bool, true, false, cond, drop, nat_lt, arith, List, [], ◌∷◌, ◌++◌, length, map, take, get_or, Option, Some, None, option_map, refl, sym, ap, ◌∙◌, append-nil}
+use Rattle.std.proofs.Common.{◌≡◌, ◌<◌, ◌≤◌, ℕ, zero, suc, ◌+◌, ◌==◌, ◌&&◌, Bool, true, false, cond, drop, nat_lt, arith, List, [], ◌∷◌, ◌++◌, length, map, take, get_or, Option, Some, None, option_map, refl, sym, ap, ◌∙◌, append-nil}
 use Rattle.std.specs.List.{count_by, range_with_len}
 use Rattle.std.proofs.lemmas.Bool.Decides.{nat_tests}
-use Rattle.std.proofs.lemmas.List.{take_more}
+use Rattle.std.proofs.lemmas.List.{drop_all, drop_more, take_more}
 use Rattle.std.proofs.lemmas.List.Elements.{filter_map-append}
-use Rattle.gptp_timeline.specs.Stretch.{distinct, roots_of, shown_of_all, times, with_root}
+use Rattle.gptp_timeline.specs.Stretch.{distinct, last_of_several, roots_of, shown_of_all, times, with_root}
 use Rattle.gptp_timeline.specs.declared.shown.Shown.{Shown}
 use Rattle.gptp_timeline.specs.declared.watched.Watched.{Watched}
 
@@ -64,3 +64,29 @@ counted_last test all (y ∷ ys) k is =
     + count_by (λ place. (times (drop (place + 1) all) (get_or all place 0) == 0) && test (get_or all place 0))
     (range_with_len (k + 1) (length ys))) behind
     ∙ count_first test y _ ys (counted_last test all ys (k + 1) behind)
+
+-- one place more is looked at, and then none is left
+pub several_more : (roots : List ℕ) (place count : ℕ) (last : Bool) → place < length roots
+    → last ≡ last_of_several roots place
+    → count + count_by (λ root. nat_lt 1 (times roots root)) (distinct (drop place roots))
+    ≡ count_by (λ root. nat_lt 1 (times roots root)) (distinct roots)
+    → count + cond last 1 0 + count_by (λ root. nat_lt 1 (times roots root)) (distinct (drop (place + 1) roots))
+    ≡ count_by (λ root. nat_lt 1 (times roots root)) (distinct roots)
+several_more roots place count last below is so_far =
+    let test : ℕ → Bool = λ root. nat_lt 1 (times roots root) in
+    let rest = drop (place + 1) roots in
+    let here = drop_more roots place 0 below in
+    let first = count_first test (get_or roots place 0) (count_by test (distinct rest)) rest refl in
+    let step : cond last 1 0 + count_by test (distinct rest) ≡ count_by test (distinct (drop place roots)) =
+    ap (λ b. cond b 1 0 + count_by test (distinct rest)) is ∙ first
+    ∙ ap (λ l. count_by test (distinct l)) (sym here) in
+    omega (arith, step, so_far)
+
+pub several_all : (roots : List ℕ) (place count : ℕ) → length roots ≤ place
+    → count + count_by (λ root. nat_lt 1 (times roots root)) (distinct (drop place roots))
+    ≡ count_by (λ root. nat_lt 1 (times roots root)) (distinct roots)
+    → count ≡ count_by (λ root. nat_lt 1 (times roots root)) (distinct roots)
+several_all roots place count past so_far =
+    let none = ap (λ l. count_by (λ root. nat_lt 1 (times roots root)) (distinct l)) (drop_all place roots past) in
+    let zero_left : count_by (λ root. nat_lt 1 (times roots root)) (distinct []) ≡ 0 = refl in
+    omega (arith, none, zero_left, so_far)

@@ -27,7 +27,7 @@ module _ (look : Look) (w : WorldState) where
   behind x = watched_after look (shown x.clock w) x
 
   -- what is measured of several, one after another
-  pub measured_each : List Watched → Measures → Measures
+  abbrev pub measured_each : List Watched → Measures → Measures
   measured_each [] m = m
   measured_each (x ∷ xs) m = measured_each xs (measures_after look x (shown x.clock w) m)
 

@@ -1,5 +1,5 @@
 -- Where the system with a clock stands among those that are kept.
-use Rattle.std.proofs.Common.{◌≡◌, ◌<◌, ◌≤◌, ◌+◌, ◌==◌, ℕ, zero, suc, Bool, true, false, List, [], ◌∷◌, length, map, Option, Some, None, if◌then◌else◌, Result, Ok, Err, slice_get, get_or, subst, refl, sym, ap, ◌∙◌, arith}
+use Rattle.std.proofs.Common.{◌≡◌, ◌<◌, ◌≤◌, ◌+◌, ◌==◌, ℕ, zero, suc, Bool, true, false, List, [], ◌∷◌, length, map, Option, Some, None, if◌then◌else◌, Result, Ok, Err, slice_get, slice_set, get_or, take, drop, ◌++◌, subst, refl, sym, ap, ◌∙◌, arith}
 use Rattle.std.specs.Cmp.{nat_cmp_total}
 use Rattle.std.specs.List.Sorted.{IsBinarySearchResult, IsSearchInRange}
 use Rattle.std.specs.Ordering.{nat_cmp}
@@ -124,3 +124,14 @@ pub cleared_clocks : (systems : List Watched)
     → map clock_of_watched (map without_error systems) ≡ map clock_of_watched systems
 cleared_clocks [] = refl
 cleared_clocks (x ∷ xs) = ap (λ rest. x.clock ∷ rest) (cleared_clocks xs)
+
+-- one error more is cleared
+pub cleared_more : (systems : List Watched) (i : ℕ) (d : Watched) → i < length systems
+    → slice_set (map without_error (take i systems) ++ drop i systems) i
+    (without_error (get_or (map without_error (take i systems) ++ drop i systems) i d))
+    ≡ map without_error (take (i + 1) systems) ++ drop (i + 1) systems
+cleared_more [] i d below = absurd (omega arith)
+cleared_more (x ∷ xs) zero d below = refl
+cleared_more (x ∷ xs) (suc i) d below =
+    let e : suc i + 1 ≡ suc (i + 1) = omega arith in
+    rw e (ap (λ rest. without_error x ∷ rest) (cleared_more xs i d (omega arith)))

@@ -6,7 +6,7 @@ use Rattle.gptp_timeline.specs.Changes.{port_lines, port_lines_if}
 use Rattle.gptp_timeline.specs.Ports.{same_port, same_ports}
 use Rattle.gptp_timeline.specs.declared.ports.ShownPort.{ShownPort}
 
-drop_none : (k : ℕ) → drop k ([] : List ShownPort) ≡ []
+drop_none : (k : ℕ) → drop {A = ShownPort} k [] ≡ []
 drop_none zero = refl
 drop_none (suc k) = refl
 

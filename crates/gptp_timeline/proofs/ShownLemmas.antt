@@ -32,24 +32,24 @@ found name (suc place) (s ∷ ss) station there named alone =
     (λ other at here is. let e : suc other ≡ suc place = alone (suc other) at here is in omega arith))
 
 -- where none is live with a clock, none is found
+not_first : (name : ℕ) (s : Station) (ss : List Station)
+    → ((place : ℕ) (station : Station) → slice_get (s ∷ ss) place ≡ Some station → clock station.system ≡ name
+    → station.live ≡ true → ⊥)
+    → live_among name ss ≡ None
+    → (t : Bool) → clock s.system == name ≡ t → (l : Bool) → s.live ≡ l
+    → live_among name (s ∷ ss) ≡ None
+not_first name s ss none rest true test true live = absurd (none zero s refl (grind (arith, nat_tests)) live)
+not_first name s ss none rest true test false live = rw (test, live) refl
+not_first name s ss none rest false test l live = rw test rest
+
 pub not_found : (name : ℕ) (stations : List Station)
     → ((place : ℕ) (station : Station) → slice_get stations place ≡ Some station → clock station.system ≡ name
     → station.live ≡ true → ⊥)
     → live_among name stations ≡ None
 not_found name [] none = refl
 not_found name (s ∷ ss) none =
-    not_found_by name s ss none (clock s.system == name) refl s.live refl
-  where
-    not_found_by : (name : ℕ) (s : Station) (ss : List Station)
-        → ((place : ℕ) (station : Station) → slice_get (s ∷ ss) place ≡ Some station → clock station.system ≡ name
-        → station.live ≡ true → ⊥)
-        → (t : Bool) → clock s.system == name ≡ t → (l : Bool) → s.live ≡ l
-        → live_among name (s ∷ ss) ≡ None
-    not_found_by name s ss none true test true live =
-        absurd (none zero s refl (grind (arith, nat_tests)) live)
-    not_found_by name s ss none true test false live = rw (test, live) refl
-    not_found_by name s ss none false test l live =
-        rw test (not_found name ss (λ place station there. none (suc place) station there))
+    not_first name s ss none (not_found name ss (λ place station there. none (suc place) station there))
+    (clock s.system == name) refl s.live refl
 
 -- ---- one station becomes another
 

@@ -87,6 +87,7 @@ fn is_last_of_several(roots: &[Identity], place: usize) -> bool
 }
 
 /// How many different roots are there twice or more.
+#[tactic(auto, using(crate::proofs::CountLemmas::several_more, crate::proofs::CountLemmas::several_all))]
 fn several(roots: &[Identity]) -> usize
     ensures { result ≡ count_by (λ root. nat_lt 1 (times roots.now root)) (distinct roots.now) }
 {

@@ -13,4 +13,4 @@ returns-clause-is c =
     c.ok.ensures.value
     ∙ searched c.deref.result.now c.args.clock (subst RisesByClock (sym kept) c.self.invariant)
     c.binary_search_by_key.result facts.bound by_clock
-    ∙ ap (place_from c.args.clock 0) (kept ∙ sym (ap (λ (o : WatchState). o.systems) c.self.view_is))
+    ∙ ap (place_from c.args.clock 0) (kept ∙ ap (λ (o : WatchState). o.systems) c.self.view_is)
