@@ -1,9 +1,10 @@
 -- The roots of systems, and how many of them there are.
 use Rattle.std.proofs.Common.{◌≡◌, ◌<◌, ◌≤◌, ℕ, zero, suc, ◌+◌, ◌==◌, ◌&&◌, Bool, true, false, cond, drop, nat_lt, arith, List, [], ◌∷◌, ◌++◌, length, map, take, get_or, Option, Some, None, option_map, refl, sym, ap, ◌∙◌, append-nil}
-use Rattle.std.specs.List.{count_by, range_with_len}
+use Rattle.std.specs.List.{count_by}
 use Rattle.std.proofs.lemmas.Bool.Decides.{nat_tests}
 use Rattle.std.proofs.lemmas.List.{drop_all, drop_more, take_more}
 use Rattle.std.proofs.lemmas.List.Elements.{filter_map-append}
+use Rattle.std.proofs.lemmas.List.Sums.{sum_by-cons}
 use Rattle.gptp_timeline.specs.Stretch.{distinct, last_of_several, roots_of, shown_of_all, times, with_root}
 use Rattle.gptp_timeline.specs.declared.shown.Shown.{Shown}
 use Rattle.gptp_timeline.specs.declared.watched.Watched.{Watched}
@@ -29,41 +30,18 @@ roots_more xs i x roots after below is so_far new =
 
 -- ---- roots that are there twice or more
 
--- what stands at a place, and what behind it
-split_at : (all : List ℕ) (k y : ℕ) (ys : List ℕ) → drop k all ≡ y ∷ ys
-    → (get_or all k 0 ≡ y) × (drop (k + 1) all ≡ ys)
-split_at [] zero y ys is = absurd cc
-split_at [] (suc k) y ys is = absurd cc
-split_at (x ∷ xs) zero y ys is = (ap (λ l. get_or l 0 0) is, ap (drop 1) is)
-split_at (x ∷ xs) (suc k) y ys is = split_at xs k y ys is
-
-count_first : (test : ℕ → Bool) (y n : ℕ) (ys : List ℕ) → n ≡ count_by test (distinct ys)
-    → cond ((times ys y == 0) && test y) 1 0 + n ≡ count_by test (distinct (y ∷ ys))
-count_first test y n ys rest = by (nat_lt 0 (times ys y)) refl
+-- the root at a place is counted where it stands for the last time
+count_first : (test : ℕ → Bool) (y : ℕ) (ys : List ℕ)
+    → cond ((times ys y == 0) && test y) 1 0 + count_by test (distinct ys) ≡ count_by test (distinct (y ∷ ys))
+count_first test y ys = first_by test y ys (nat_lt 0 (times ys y)) refl
   where
-    by : (t : Bool) → nat_lt 0 (times ys y) ≡ t
-        → cond ((times ys y == 0) && test y) 1 0 + n ≡ count_by test (distinct (y ∷ ys))
-    by true again =
-        let more : times ys y == 0 ≡ false = grind (arith, nat_tests) in rw (again, more) rest
-    by false again =
+    first_by : (test : ℕ → Bool) (y : ℕ) (ys : List ℕ) (t : Bool) → nat_lt 0 (times ys y) ≡ t
+        → cond ((times ys y == 0) && test y) 1 0 + count_by test (distinct ys) ≡ count_by test (distinct (y ∷ ys))
+    first_by test y ys true again =
+        let more : times ys y == 0 ≡ false = grind (arith, nat_tests) in rw (again, more) (omega arith)
+    first_by test y ys false again =
         let last : times ys y == 0 ≡ true = grind (arith, nat_tests) in
-        rw (again, last) (ap (λ m. cond (test y) 1 0 + m) rest)
-
--- each is counted where it stands for the last time
-pub counted_last : (test : ℕ → Bool) (all ys : List ℕ) (k : ℕ) → drop k all ≡ ys
-    → count_by (λ place. (times (drop (place + 1) all) (get_or all place 0) == 0) && test (get_or all place 0))
-    (range_with_len k (length ys))
-    ≡ count_by test (distinct ys)
-counted_last test all [] k is = refl
-counted_last test all (y ∷ ys) k is =
-    let (here, behind) = split_at all k y ys is in
-    ap (λ v. cond ((times (drop (k + 1) all) v == 0) && test v) 1 0
-    + count_by (λ place. (times (drop (place + 1) all) (get_or all place 0) == 0) && test (get_or all place 0))
-    (range_with_len (k + 1) (length ys))) here
-    ∙ ap (λ d. cond ((times d y == 0) && test y) 1 0
-    + count_by (λ place. (times (drop (place + 1) all) (get_or all place 0) == 0) && test (get_or all place 0))
-    (range_with_len (k + 1) (length ys))) behind
-    ∙ count_first test y _ ys (counted_last test all ys (k + 1) behind)
+        rw (again, last) (sym (sum_by-cons (λ x. cond (test x) 1 0) y (distinct ys)))
 
 -- one place more is looked at, and then none is left
 pub several_more : (roots : List ℕ) (place count : ℕ) (last : Bool) → place < length roots
@@ -76,7 +54,7 @@ several_more roots place count last below is so_far =
     let test : ℕ → Bool = λ root. nat_lt 1 (times roots root) in
     let rest = drop (place + 1) roots in
     let here = drop_more roots place 0 below in
-    let first = count_first test (get_or roots place 0) (count_by test (distinct rest)) rest refl in
+    let first = count_first test (get_or roots place 0) rest in
     let step : cond last 1 0 + count_by test (distinct rest) ≡ count_by test (distinct (drop place roots)) =
     ap (λ b. cond b 1 0 + count_by test (distinct rest)) is ∙ first
     ∙ ap (λ l. count_by test (distinct l)) (sym here) in

@@ -1,6 +1,6 @@
 //! The lines of what an act leaves another at a system.
 
-ghost use Rattle.std.specs.Prelude.{◌≡◌, ◌≤◌, ◌++◌, ◌∷◌, [], OnOk, Some, length, string_bytes};
+ghost use Rattle.std.specs.Prelude.{◌≡◌, ◌<◌, ◌≤◌, ◌+◌, slice_get, ◌++◌, ◌∷◌, [], OnOk, Some, length, string_bytes};
 ghost use Rattle.gptp_spelling.specs.Lines.{text_of};
 ghost use Rattle.gptp_timeline.specs.Changes.{change_lines, changed_lines, failed_line, is_same, known_text, new_lines, port_line, port_lines, port_lines_if, same_line, system_line, system_lines_if};
 
@@ -94,6 +94,22 @@ fn write_port_if_changed(
     }
 }
 
+/// The port at a place.
+fn port_at(ports: &[ShownPort], place: usize) -> ShownPort
+    requires { place < length ports.now }
+    ensures { slice_get ports.now place ≡ Some result }
+{
+    ports[place]
+}
+
+/// The number of the port at a place.
+fn number_at(place: usize) -> u8
+    requires { place < 16 }
+    ensures { result ≡ place + 1 }
+{
+    place as u8 + 1
+}
+
 /// Appends the lines of the ports that are another than before, or weren't there.
 fn write_ports(
     text: &mut String,
@@ -107,9 +123,9 @@ fn write_ports(
         ≡ string_bytes text.old ++ text_of (port_lines at clock 1 before.now ports.now)) }
 {
     for place in 0..ports.len() {
-        let shown = ports[place];
         let old = before.get(place).copied();
-        write_port_if_changed(text, at, clock, place as u8 + 1, old, shown)?;
+        let shown = port_at(ports, place);
+        write_port_if_changed(text, at, clock, number_at(place), old, shown)?;
     }
     Ok(())
 }

@@ -264,7 +264,7 @@ fn write_exact(
     bound: u128,
 ) -> Result<(), AllocError>
     ensures { OnOk result (string_bytes text.new
-        ≡ string_bytes text.old ++ text_of (accuracy_line from clock error bound ∷ [])) }
+        ≡ string_bytes text.old ++ (accuracy_line from clock error bound ++ 10 ∷ [])) }
 {
     writeln!(
         text,
