@@ -68,3 +68,7 @@ several_all roots place count past so_far =
     let none = ap (λ l. count_by (λ root. nat_lt 1 (times roots root)) (distinct l)) (drop_all place roots past) in
     let zero_left : count_by (λ root. nat_lt 1 (times roots root)) (distinct []) ≡ 0 = refl in
     omega (arith, none, zero_left, so_far)
+
+pub one_at_most : (b : Bool) → cond b 1 0 ≤ 1
+one_at_most true = omega arith
+one_at_most false = omega arith

@@ -102,6 +102,13 @@ fn port_at(ports: &[ShownPort], place: usize) -> ShownPort
     ports[place]
 }
 
+/// The port at a place before, if there was one.
+fn port_before(before: &[ShownPort], place: usize) -> Option<ShownPort>
+    ensures { result ≡ slice_get before.now place }
+{
+    before.get(place).copied()
+}
+
 /// The number of the port at a place.
 fn number_at(place: usize) -> u8
     requires { place < 16 }
@@ -123,7 +130,7 @@ fn write_ports(
         ≡ string_bytes text.old ++ text_of (port_lines at clock 1 before.now ports.now)) }
 {
     for place in 0..ports.len() {
-        let old = before.get(place).copied();
+        let old = port_before(before, place);
         let shown = port_at(ports, place);
         write_port_if_changed(text, at, clock, number_at(place), old, shown)?;
     }

@@ -139,8 +139,8 @@ fn amount_of(error: Option<i128>) -> Option<u128>
 }
 
 /// No receipt of any system counts by itself so far.
-fn clear_errors(systems: &mut [Watched])
-    ensures { systems.new ≡ map without_error systems.old }
+fn clear_errors(systems: &mut Vec<Watched>)
+    ensures { systems.new.items ≡ map without_error systems.old.items }
 {
     for place in 0..systems.len() {
         systems[place].error = None;
@@ -249,9 +249,15 @@ impl Watch {
         let system = &self.systems[place];
         let measures = measures_after(look, system, &after, self.measures);
         let since = since_behind(look, system, &after);
+        let clock = system.clock;
+        let error = system.error;
         self.measures = measures;
-        self.systems[place].since = since;
-        self.systems[place].shown = after;
+        self.systems[place] = Watched {
+            clock,
+            shown: after,
+            since,
+            error,
+        };
     }
 
     /// Looks at the system at a place behind an act.

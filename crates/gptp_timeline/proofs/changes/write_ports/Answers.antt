@@ -1,4 +1,4 @@
-use Rattle.std.proofs.Common.{rules, slice_get, ◌≡◌, ◌+◌, ◌∷◌, ◌++◌, drop, ap, sym, subst, ◌∙◌}
+use Rattle.std.proofs.Common.{◌≡◌, ◌+◌, ◌∷◌, ◌++◌, drop, ap, sym, subst, ◌∙◌}
 use Rattle.std.specs.Prelude.{string_bytes}
 use Rattle.std.proofs.lemmas.List.{drop_all}
 use Rattle.gptp_report.proofs.ReportLemmas.{drop_here}
@@ -20,10 +20,9 @@ loop-place-preserved c =
     let here : drop i ports ≡ q ∷ drop (i + 1) ports = drop_here ports i q c.port_at-shown.ensures in
     let next = ap (port_lines c.args.at c.args.clock (i + 1) (drop i before)) here
     ∙ ports_next c.args.at c.args.clock (i + 1) i before q (drop (i + 1) ports) in
-    let before_is : c.copied-old.result ≡ slice_get before i = search rules in
     let new = c.in_ok-write_port_if_changed.ensures
-    ∙ ap (λ n. text ++ text_of (port_lines_if c.args.at c.args.clock n c.copied-old.result q)) c.number_at.ensures
-    ∙ ap (λ o. text ++ text_of (port_lines_if c.args.at c.args.clock (i + 1) o q)) before_is in
+    ∙ ap (λ n. text ++ text_of (port_lines_if c.args.at c.args.clock n c.port_before-old.result q)) c.number_at.ensures
+    ∙ ap (λ o. text ++ text_of (port_lines_if c.args.at c.args.clock (i + 1) o q)) c.port_before-old.ensures in
     written_more all _ _ (string_bytes c.args.text.now) text (string_bytes c.write_port_if_changed.new.text)
     (subst (λ rest. WrittenSoFar all rest (string_bytes c.args.text.now) text) next c.loop-place.invariant) new
 

@@ -4,5 +4,5 @@ use Rattle.gptp_timeline.specs.Watch.{without_error}
 use Rattle.gptp_timeline.proofs.watch.clear_errors.Given as goal
 
 abbrev pub invariant-loop-place : goal.invariant-loop-place
-invariant-loop-place l =
-    l.systems ≡ map without_error (take l.place l.initial.systems) ++ drop l.place l.initial.systems
+invariant-loop-place l = l.systems.items
+    ≡ map without_error (take l.place l.initial.systems.items) ++ drop l.place l.initial.systems.items
