@@ -53,11 +53,15 @@ after_line s = changed_words s ++ greatest_words s.measures ++ counted_words s.c
 
 -- ---- how exact systems were
 
+abbrev pub exact_words : ℕ → Option ℕ → List ℕ
+exact_words name error = codes "accuracy " ++ clock_text name ++ codes " error " ++ or_none near_text error
+
+abbrev pub bound_words : ℕ → ℕ → List ℕ
+bound_words from bound = codes " bound " ++ error_text bound ++ codes " from " ++ decimal from
+
 -- the line of a system with the bound of its error
 abbrev pub accuracy_line : ℕ → ℕ → Option ℕ → ℕ → List ℕ
-accuracy_line from name error bound =
-    codes "accuracy " ++ clock_text name ++ codes " error " ++ or_none near_text error
-    ++ codes " bound " ++ error_text bound ++ codes " from " ++ decimal from
+accuracy_line from name error bound = exact_words name error ++ bound_words from bound
 
 -- where it has one, and isn't its own root
 abbrev pub accuracy_of : ℕ → (ℕ → Option ℕ) → ℕ → Bool → Option ℕ → List (List ℕ)

@@ -8,7 +8,7 @@ ghost use Rattle.gptp_timeline.specs.Limits.{amount_of, choice_after};
 ghost use Rattle.gptp_timeline.specs.Measures.{greatest_from};
 ghost use Rattle.gptp_timeline.specs.Stretch.{shown_of_all};
 ghost use Rattle.gptp_timeline.specs.Watch.{RisesByClock};
-ghost use Rattle.gptp_timeline.specs.StretchText.{accuracy_line, accuracy_of, after_line, behind, changed_words, counted_words, ended_stretch, error_among, greatest_words, system_accuracy, wait_of};
+ghost use Rattle.gptp_timeline.specs.StretchText.{accuracy_line, after_line, behind, bound_words, changed_words, counted_words, ended_stretch, error_among, exact_words, greatest_words, system_accuracy, wait_of};
 
 use crate::amounts::{Near, NearOrNone, Up};
 use crate::counts::{Counts, counts_of};
@@ -255,7 +255,27 @@ fn error_at(systems: &[Watched], clock: ClockId) -> Option<u128>
     }
 }
 
+/// Appends how exact a system was.
+fn write_error(text: &mut String, clock: ClockId, error: Option<u128>) -> Result<(), AllocError>
+    ensures { OnOk result (string_bytes text.new ≡ string_bytes text.old ++ exact_words clock error) }
+{
+    write!(
+        text,
+        "accuracy {} error {}",
+        ClockDigits(clock),
+        NearOrNone(error)
+    )
+}
+
+/// Appends how exact it is promised to be, and from when on.
+fn write_bound(text: &mut String, from: u64, bound: u128) -> Result<(), AllocError>
+    ensures { OnOk result (string_bytes text.new ≡ string_bytes text.old ++ (bound_words from bound ++ 10 ∷ [])) }
+{
+    writeln!(text, " bound {} from {from}", Up(bound))
+}
+
 /// Appends the line of a system that follows another, with the bound of its error.
+#[tactic(auto, using(crate::proofs::LineLemmas::words_on))]
 fn write_exact(
     text: &mut String,
     from: u64,
@@ -266,13 +286,8 @@ fn write_exact(
     ensures { OnOk result (string_bytes text.new
         ≡ string_bytes text.old ++ (accuracy_line from clock error bound ++ 10 ∷ [])) }
 {
-    writeln!(
-        text,
-        "accuracy {} error {} bound {} from {from}",
-        ClockDigits(clock),
-        NearOrNone(error),
-        Up(bound)
-    )
+    write_error(text, clock, error)?;
+    write_bound(text, from, bound)
 }
 
 /// So it is where it has such a bound and isn't its own root.
