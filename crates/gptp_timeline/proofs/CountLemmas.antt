@@ -1,6 +1,7 @@
 -- The roots of systems, and how many of them there are.
 use Rattle.std.proofs.Common.{◌≡◌, ◌<◌, ◌≤◌, ℕ, zero, suc, ◌+◌, ◌==◌, ◌&&◌, Bool, true, false, cond, drop, nat_lt, arith, List, [], ◌∷◌, ◌++◌, length, map, take, get_or, Option, Some, None, option_map, refl, sym, ap, ◌∙◌, append-nil}
 use Rattle.std.specs.List.{count_by}
+use mir.Val.{bool_byte}
 use Rattle.std.proofs.lemmas.Bool.Decides.{nat_tests}
 use Rattle.std.proofs.lemmas.List.{drop_all, drop_more, take_more}
 use Rattle.std.proofs.lemmas.List.Elements.{filter_map-append}
@@ -68,6 +69,11 @@ several_all roots place count past so_far =
     let none = ap (λ l. count_by (λ root. nat_lt 1 (times roots root)) (distinct l)) (drop_all place roots past) in
     let zero_left : count_by (λ root. nat_lt 1 (times roots root)) (distinct []) ≡ 0 = refl in
     omega (arith, none, zero_left, so_far)
+
+-- a test as a number
+pub byte_is : (b : Bool) → bool_byte b ≡ cond b 1 0
+byte_is true = refl
+byte_is false = refl
 
 pub one_at_most : (b : Bool) → cond b 1 0 ≤ 1
 one_at_most true = omega arith
