@@ -70,7 +70,8 @@ fn changes_are_told(
 }
 
 /// With the receipts of time.
-const SETTLING: &str = "at 0 system 0000000000000001 root f6f8fe436af80000000000000001 steps 0 gm yes slave none offset none
+const SETTLING: &str =
+    "at 0 system 0000000000000001 root f6f8fe436af80000000000000001 steps 0 gm yes slave none offset none
 at 0 port 0000000000000001 1 disabled capable no
 at 0 system 0000000000000002 root f6f8fe436af80000000000000002 steps 0 gm yes slave none offset none
 at 0 port 0000000000000002 1 disabled capable no
@@ -105,7 +106,8 @@ clock = \"0000000000000002\"
 value = 100
 ";
 
-const SECOND_LEADS: &str = "at 0 system 0000000000000001 root f6f8fe436af80000000000000001 steps 0 gm yes slave none offset none
+const SECOND_LEADS: &str =
+    "at 0 system 0000000000000001 root f6f8fe436af80000000000000001 steps 0 gm yes slave none offset none
 at 0 port 0000000000000001 1 disabled capable no
 at 0 system 0000000000000002 root f6f8fe436af80000000000000002 steps 0 gm yes slave none offset none
 at 0 port 0000000000000002 1 disabled capable no
@@ -137,7 +139,8 @@ clock = \"0000000000000001\"
 port = 1
 ";
 
-const NO_LENGTH: &str = "at 0 system 0000000000000001 root f6f8fe436af80000000000000001 steps 0 gm yes slave none offset none
+const NO_LENGTH: &str =
+    "at 0 system 0000000000000001 root f6f8fe436af80000000000000001 steps 0 gm yes slave none offset none
 at 0 port 0000000000000001 1 disabled capable no
 at 0 system 0000000000000002 root f6f8fe436af80000000000000002 steps 0 gm yes slave none offset none
 at 0 port 0000000000000002 1 disabled capable no
@@ -171,7 +174,8 @@ kind = \"recover\"
 clock = \"0000000000000002\"
 ";
 
-const FAILED: &str = "at 0 system 0000000000000001 root f6f8fe436af80000000000000001 steps 0 gm yes slave none offset none
+const FAILED: &str =
+    "at 0 system 0000000000000001 root f6f8fe436af80000000000000001 steps 0 gm yes slave none offset none
 at 0 port 0000000000000001 1 disabled capable no
 at 0 system 0000000000000002 root f6f8fe436af80000000000000002 steps 0 gm yes slave none offset none
 at 0 port 0000000000000002 1 disabled capable no

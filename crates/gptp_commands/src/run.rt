@@ -161,7 +161,11 @@ fn play_document<K: Sink>(
 }
 
 /// Writes the line of a document that is refused.
-pub(crate) fn write_refusal<K: Sink>(alloc: Global, fault: DocumentFault, sink: &mut K) -> Result<Status, Cut>
+pub(crate) fn write_refusal<K: Sink>(
+    alloc: Global,
+    fault: DocumentFault,
+    sink: &mut K,
+) -> Result<Status, Cut>
     ensures some { (lines : List (List ℕ)) × RefusesFault fault lines Status.Refused
         × AppendsSome (K.written sink.old) (K.written sink.new) (text_of lines) }
     ensures whole { IfOk result (λ status. (lines : List (List ℕ)) × RefusesFault fault lines status

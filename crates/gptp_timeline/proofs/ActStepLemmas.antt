@@ -102,14 +102,17 @@ module _ (summary offsets : Bool) (from : Option ℕ) (names : List ℕ) (rising
     where
       own : receives clock t ≡ true
       own = ap (λ r. option_map_or (λ c. c == clock) r false) it ∙ grind (arith, nat_tests)
+
       error_is : (live : Option SystemState) → live_system clock t.after ≡ live
           → error_at clock t ≡ option_and_then (λ s. error_of (at_of t) s t.after) live
       error_is live is = ap (option_and_then (λ s. error_of (at_of t) s t.after)) is
+
       worst : (e : Option ℤ) → error_at clock t ≡ e
           → error_in t ≡ option_map (λ e. one_at clock (unsigned_abs e)) e
       worst e is =
           ap (option_and_then (λ name. option_map (λ e. one_at name (unsigned_abs e)) (error_at name t))) it
           ∙ ap (option_map (λ e. one_at clock (unsigned_abs e))) is
+
       no_error : live_system clock t.after ≡ None → (name : ℕ) → errors_next from t errors name ≡ errors name
       no_error none name = by_name (clock == name) refl
         where
@@ -125,6 +128,7 @@ module _ (summary offsets : Bool) (from : Option ℕ) (names : List ℕ) (rising
               ap (λ r. if r then
               error_after (counts_from from (at_of t)) (errors name) (option_map unsigned_abs (error_at name t))
               else errors name) (ap (λ r. option_map_or (λ c. c == name) r false) it ∙ test)
+
       by : (live : Option SystemState) → live_system clock t.after ≡ live
           → behind_it (see_receipt_if true (at_of t) t.after clock i (looked_at true o))
       by None is =

@@ -76,6 +76,7 @@ better_one f (n ∷ ns) zero name best there none =
   where
     rest : filter_map f ns ≡ []
     rest = given_none f ns (λ i m at. none (suc i) m at (λ e. absurd (omega arith)))
+
     first : (o : Option Greatest) → f n ≡ o → greatest_from best (filter_map f (n ∷ ns)) ≡ better_if best (f n)
     first None is = rw (is, rest) refl
     first (Some x) is = rw (is, rest) refl

@@ -65,68 +65,68 @@ module _ (names : List ℕ) (rising : IsRising names) (t : Transition) (clock pl
       (still n)))
 
 module _ (summary offsets : Bool) (from : Option ℕ) (names : List ℕ) (rising : IsRising names) (begun : ℕ → Option ℕ)
-    where
-  -- before the error of a receipt is taken: what is kept of the system and what is measured, but of errors
-  pub record TakesOne (errors : ℕ → Option ℕ) (ts : List Transition) (t : Transition) (o : WatchState) : Type 0 where
-    pub summary_is : o.summary ≡ summary
-    pub offsets_is : o.offsets ≡ offsets
-    pub from_is : o.exact_from ≡ from
-    pub stands : Stands names (waits (ts ++ t ∷ []) begun) errors t.after o.systems
-    pub measures_are : o.measures ≡ made (last_at (leaves_another same_choice names) (ts ++ t ∷ []))
-        (last_at (leaves_another same_roles names) (ts ++ t ∷ []))
-        (last_at (leaves_another same_known names) (ts ++ t ∷ [])) (greatest (ended names begun (ts ++ t ∷ [])))
-        (worst_error ts)
+  where
+    -- before the error of a receipt is taken: what is kept of the system and what is measured, but of errors
+    pub record TakesOne (errors : ℕ → Option ℕ) (ts : List Transition) (t : Transition) (o : WatchState) : Type 0 where
+      pub summary_is : o.summary ≡ summary
+      pub offsets_is : o.offsets ≡ offsets
+      pub from_is : o.exact_from ≡ from
+      pub stands : Stands names (waits (ts ++ t ∷ []) begun) errors t.after o.systems
+      pub measures_are : o.measures ≡ made (last_at (leaves_another same_choice names) (ts ++ t ∷ []))
+          (last_at (leaves_another same_roles names) (ts ++ t ∷ []))
+          (last_at (leaves_another same_known names) (ts ++ t ∷ [])) (greatest (ended names begun (ts ++ t ∷ [])))
+          (worst_error ts)
 
-  pub own_taken : (errors : ℕ → Option ℕ) (ts : List Transition) (t : Transition) (o : WatchState)
-      (received : Bool) (place clock : ℕ) (x : Watched) → Tracks summary offsets from names begun errors ts t.before o
-      → is_event t ≡ false → slice_get o.systems place ≡ Some x → x.clock ≡ clock
-      → ((name : ℕ) → (name ≡ clock → ⊥) → shown name t.after ≡ shown name t.before)
-      → ((name : ℕ) → (name ≡ clock → ⊥) → receives name t ≡ false) → receives clock t ≡ received
-      → TakesOne errors ts t (taken (own_look (at_of t) received) place x (shown x.clock t.after) o)
-  own_taken errors ts t o received place clock x tracks act there named others quiet own =
-      let look = own_look (at_of t) received in
-      let since = waits ts begun in
-      let (name, here, is) = from_map (kept since errors t.before) names place x
-      (ap (λ xs. slice_get xs place) (sym tracks.stands.are) ∙ there) in
-      let own_name : name ≡ clock = ap (λ (y : Watched). y.clock) is ∙ named in
-      let at_clock : slice_get names place ≡ Some clock = here ∙ ap Some own_name in
-      let x_is : kept since errors t.before clock ≡ x = ap (kept since errors t.before) (sym own_name) ∙ is in
-      let wait : wait_behind look (kept since errors t.before clock) (shown clock t.after)
-      ≡ option_map (one_at clock) (ended_by (at_of t) (is_event t) (receives clock t)
-      (is_expecting (shown clock t.after)) (since clock)) =
-      ap (λ e. option_map (one_at clock) (ended_by (at_of t) e received
-      (is_expecting (shown clock t.after)) (since clock))) (sym act)
-      ∙ ap (λ r. option_map (one_at clock) (ended_by (at_of t) (is_event t) r
-      (is_expecting (shown clock t.after)) (since clock))) (sym own) in
-      let m = measured_by summary offsets from names begun ts in
-      record {
-        summary_is = tracks.summary_is;
-        offsets_is = tracks.offsets_is;
-        from_is = tracks.from_is;
-        stands = subst (λ s. Stands names s errors t.after _) (sym (waits_more ts (t ∷ []) begun))
-            (one since errors t.before t.after (at_of t) (λ n. receives n t) names o.systems tracks.stands look place
-            clock x rising there named refl (sym own) others quiet);
-        measures_are =
-            ap (λ (y : Watched). measures_after look y (shown y.clock t.after) o.measures) (sym x_is)
-            ∙ ap (measures_after look (kept since errors t.before clock) (shown clock t.after)) tracks.measures_are
-            ∙ ap (λ w. made (last_if (same_choice (shown clock t.before) (shown clock t.after)) (at_of t) m.choice)
-            (last_if (same_roles (shown clock t.before) (shown clock t.after)) (at_of t) m.roles)
-            (last_if (same_known (shown clock t.before) (shown clock t.after)) (at_of t) m.offsets)
-            (better_if m.holdover w) m.error) wait
-            ∙ same_made _ _ _ _ _ _ _ m.error
-            (ap (λ s. last_if s (at_of t) m.choice)
-            (sym (same_by_one names rising t clock place at_clock others same_choice choice_itself))
-            ∙ sym (last_more (leaves_another same_choice names) ts t))
-            (ap (λ s. last_if s (at_of t) m.roles)
-            (sym (same_by_one names rising t clock place at_clock others same_roles roles_itself))
-            ∙ sym (last_more (leaves_another same_roles names) ts t))
-            (ap (λ s. last_if s (at_of t) m.offsets)
-            (sym (same_by_one names rising t clock place at_clock others same_known known_itself))
-            ∙ sym (last_more (leaves_another same_known names) ts t))
-            ∙ ap (λ h. made (last_at (leaves_another same_choice names) (ts ++ t ∷ []))
-            (last_at (leaves_another same_roles names) (ts ++ t ∷ []))
-            (last_at (leaves_another same_known names) (ts ++ t ∷ [])) h (worst_error ts))
-            (sym (longest_more names begun ts t
-            ∙ wait_by_one names rising t clock place at_clock others since (greatest (ended names begun ts))
-            tracks.stands.still quiet));
-      }
+    pub own_taken : (errors : ℕ → Option ℕ) (ts : List Transition) (t : Transition) (o : WatchState)
+        (received : Bool) (place clock : ℕ) (x : Watched) → Tracks summary offsets from names begun errors ts t.before o
+        → is_event t ≡ false → slice_get o.systems place ≡ Some x → x.clock ≡ clock
+        → ((name : ℕ) → (name ≡ clock → ⊥) → shown name t.after ≡ shown name t.before)
+        → ((name : ℕ) → (name ≡ clock → ⊥) → receives name t ≡ false) → receives clock t ≡ received
+        → TakesOne errors ts t (taken (own_look (at_of t) received) place x (shown x.clock t.after) o)
+    own_taken errors ts t o received place clock x tracks act there named others quiet own =
+        let look = own_look (at_of t) received in
+        let since = waits ts begun in
+        let (name, here, is) = from_map (kept since errors t.before) names place x
+        (ap (λ xs. slice_get xs place) (sym tracks.stands.are) ∙ there) in
+        let own_name : name ≡ clock = ap (λ (y : Watched). y.clock) is ∙ named in
+        let at_clock : slice_get names place ≡ Some clock = here ∙ ap Some own_name in
+        let x_is : kept since errors t.before clock ≡ x = ap (kept since errors t.before) (sym own_name) ∙ is in
+        let wait : wait_behind look (kept since errors t.before clock) (shown clock t.after)
+        ≡ option_map (one_at clock) (ended_by (at_of t) (is_event t) (receives clock t)
+        (is_expecting (shown clock t.after)) (since clock)) =
+        ap (λ e. option_map (one_at clock) (ended_by (at_of t) e received
+        (is_expecting (shown clock t.after)) (since clock))) (sym act)
+        ∙ ap (λ r. option_map (one_at clock) (ended_by (at_of t) (is_event t) r
+        (is_expecting (shown clock t.after)) (since clock))) (sym own) in
+        let m = measured_by summary offsets from names begun ts in
+        record {
+          summary_is = tracks.summary_is;
+          offsets_is = tracks.offsets_is;
+          from_is = tracks.from_is;
+          stands = subst (λ s. Stands names s errors t.after _) (sym (waits_more ts (t ∷ []) begun))
+              (one since errors t.before t.after (at_of t) (λ n. receives n t) names o.systems tracks.stands look place
+              clock x rising there named refl (sym own) others quiet);
+          measures_are =
+              ap (λ (y : Watched). measures_after look y (shown y.clock t.after) o.measures) (sym x_is)
+              ∙ ap (measures_after look (kept since errors t.before clock) (shown clock t.after)) tracks.measures_are
+              ∙ ap (λ w. made (last_if (same_choice (shown clock t.before) (shown clock t.after)) (at_of t) m.choice)
+              (last_if (same_roles (shown clock t.before) (shown clock t.after)) (at_of t) m.roles)
+              (last_if (same_known (shown clock t.before) (shown clock t.after)) (at_of t) m.offsets)
+              (better_if m.holdover w) m.error) wait
+              ∙ same_made _ _ _ _ _ _ _ m.error
+              (ap (λ s. last_if s (at_of t) m.choice)
+              (sym (same_by_one names rising t clock place at_clock others same_choice choice_itself))
+              ∙ sym (last_more (leaves_another same_choice names) ts t))
+              (ap (λ s. last_if s (at_of t) m.roles)
+              (sym (same_by_one names rising t clock place at_clock others same_roles roles_itself))
+              ∙ sym (last_more (leaves_another same_roles names) ts t))
+              (ap (λ s. last_if s (at_of t) m.offsets)
+              (sym (same_by_one names rising t clock place at_clock others same_known known_itself))
+              ∙ sym (last_more (leaves_another same_known names) ts t))
+              ∙ ap (λ h. made (last_at (leaves_another same_choice names) (ts ++ t ∷ []))
+              (last_at (leaves_another same_roles names) (ts ++ t ∷ []))
+              (last_at (leaves_another same_known names) (ts ++ t ∷ [])) h (worst_error ts))
+              (sym (longest_more names begun ts t
+              ∙ wait_by_one names rising t clock place at_clock others since (greatest (ended names begun ts))
+              tracks.stands.still quiet));
+        }

@@ -28,7 +28,7 @@ use Rattle.gptp_timeline.proofs.TrackLemmas.{all_seen_lines, event_measured, kep
 abbrev pub errors_next : Option ℕ → Transition → (ℕ → Option ℕ) → ℕ → Option ℕ
 errors_next from t errors name =
     if receives name t then
-      error_after (counts_from from (at_of t)) (errors name) (option_map unsigned_abs (error_at name t))
+    error_after (counts_from from (at_of t)) (errors name) (option_map unsigned_abs (error_at name t))
     else errors name
 
 -- the same systems stand with the same errors

@@ -26,7 +26,12 @@ amount_of = option_map (λ (g : Greatest). g.amount)
 
 abbrev pub not_exceeded : Exceeded
 not_exceeded = record {
-  choice = false; holdover = false; error = false; without = false; roots = false; alone = false;
+  choice = false;
+  holdover = false;
+  error = false;
+  without = false;
+  roots = false;
+  alone = false;
 }
 
 -- Choice and holdover are asked of stretches that begin with an event, the others of all. Errors are in 2^-16 ns.

@@ -18,12 +18,7 @@ fn known_word(known: bool) -> &'static str
 }
 
 /// Appends the line of a live system.
-fn write_system(
-    text: &mut String,
-    at: u64,
-    clock: ClockId,
-    shown: &Shown,
-) -> Result<(), AllocError>
+fn write_system(text: &mut String, at: u64, clock: ClockId, shown: &Shown) -> Result<(), AllocError>
     ensures { OnOk result (string_bytes text.new
         ≡ string_bytes text.old ++ (system_line at clock shown.now ++ 10 ∷ [])) }
 {
@@ -138,12 +133,7 @@ fn write_ports(
 }
 
 /// Appends the lines of a live system that wasn't live before.
-fn write_new(
-    text: &mut String,
-    at: u64,
-    clock: ClockId,
-    shown: &Shown,
-) -> Result<(), AllocError>
+fn write_new(text: &mut String, at: u64, clock: ClockId, shown: &Shown) -> Result<(), AllocError>
     ensures { OnOk result (string_bytes text.new
         ≡ string_bytes text.old ++ text_of (new_lines at clock shown.now)) }
 {

@@ -9,12 +9,7 @@ use gptp_vector::ClockId;
 use std::alloc::AllocError;
 
 /// Appends the kind of an event that names a port, and that port.
-fn write_at_port(
-    text: &mut String,
-    kind: &str,
-    clock: ClockId,
-    port: u16,
-) -> Result<(), AllocError>
+fn write_at_port(text: &mut String, kind: &str, clock: ClockId, port: u16) -> Result<(), AllocError>
     ensures { OnOk result (string_bytes text.new ≡ string_bytes text.old ++ at_port kind.now clock port) }
 {
     write!(text, "{kind} {} {port}", ClockDigits(clock))

@@ -1,6 +1,7 @@
 //! Receipts of time.
 
-ghost use Rattle.std.specs.Prelude.{◌≡◌, ◌≤◌, ◌++◌, ◌∷◌, [], OnOk, string_bytes};
+ghost use Rattle.std.specs.Prelude.{◌≡◌, ◌≤◌, ◌-ℤ◌, ◌++◌, ◌∷◌, [], OnOk, string_bytes};
+ghost use Rattle.gptp_system.specs.State.{local_time};
 ghost use Rattle.gptp_timeline.specs.Receipts.{error_of, is_follow_up, offset_line, received_by, receiver};
 
 use crate::amounts::SignedOrNone;
@@ -55,6 +56,7 @@ pub(crate) fn received_by(done: &Done) -> Option<ClockId>
 /// another system: in units of 2^-16 ns.
 fn error_against(at: u64, offset: ScaledNs, system: &System, leader: &System) -> i128
     requires { at ≤ 1000000000000000 }
+    ensures { result ≡ offset -ℤ (local_time system.now at -ℤ local_time leader.now at) }
 {
     offset.value() - (system.local(at).value() - leader.local(at).value())
 }
@@ -65,6 +67,7 @@ pub(crate) fn error_of<F: Fate + Drop>(at: u64, system: &System, world: &World<F
     requires { at ≤ 1000000000000000 }
     ensures { result ≡ error_of at system.now world.now.scene }
 {
+    world.well_formed();
     let (root, _, _) = system.follows();
     match (system.offset(), world.system(root.clock())) {
         (Some(offset), Some(leader)) => Some(error_against(at, offset, system, leader)),

@@ -323,6 +323,8 @@ pub fn write_timeline<F: Fate + Drop, K: Sink>(
     let mut watch = Watch::new(alloc, &world, options.summary, options.offsets)?;
     write_start(alloc, &world, &mut watch, sink)?;
     let limits = options.limits;
-    let exceeded = all_stretches(alloc, document, &mut world, until, &limits, &mut watch, sink)?;
+    let exceeded = all_stretches(
+        alloc, document, &mut world, until, &limits, &mut watch, sink,
+    )?;
     end_verdict(alloc, &limits, exceeded, sink)
 }

@@ -46,11 +46,11 @@ impl Model for Watch {
     ghost use Rattle.gptp_timeline.specs.Watch.{RisesByClock};
 
     ghost view = { λ w. record {
-        summary = w.summary;
-        offsets = w.offsets;
-        exact_from = w.exact_from;
-        systems = w.systems.items;
-        measures = w.measures;
+      summary = w.summary;
+      offsets = w.offsets;
+      exact_from = w.exact_from;
+      systems = w.systems.items;
+      measures = w.measures;
     } };
 
     ghost invariant = { λ w. RisesByClock w.systems.items };
@@ -164,11 +164,11 @@ impl Watch {
         offsets: bool,
     ) -> Result<Self, AllocError>
         ensures { IfOk result (λ w. w ≡ record {
-            summary = summary;
-            offsets = offsets;
-            exact_from = None;
-            systems = map unseen (rising_clocks world.now.scene);
-            measures = nothing;
+          summary = summary;
+          offsets = offsets;
+          exact_from = None;
+          systems = map unseen (rising_clocks world.now.scene);
+          measures = nothing;
         }) }
     {
         world.well_formed();
@@ -315,12 +315,7 @@ impl Watch {
     }
 
     /// Appends the line of an event, where it is asked for.
-    fn write_event_if(
-        &self,
-        text: &mut String,
-        at: u64,
-        change: &Change,
-    ) -> Result<(), AllocError>
+    fn write_event_if(&self, text: &mut String, at: u64, change: &Change) -> Result<(), AllocError>
         ensures { OnOk result (string_bytes text.new
             ≡ string_bytes text.old ++ text_of (unless self.now.summary (event_line at change.now ∷ []))) }
     {

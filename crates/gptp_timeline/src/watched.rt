@@ -78,7 +78,11 @@ pub(crate) fn measures_after(
     Measures {
         choice: last_if(same_choice(before, after), look.at, measures.choice),
         roles: last_if(same_roles(before, after), look.at, measures.roles),
-        offsets: last_if(same_bool(is_known(before), is_known(after)), look.at, measures.offsets),
+        offsets: last_if(
+            same_bool(is_known(before), is_known(after)),
+            look.at,
+            measures.offsets,
+        ),
         holdover: better_if(measures.holdover, wait_behind(look, system, after)),
         error: measures.error,
     }
