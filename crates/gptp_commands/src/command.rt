@@ -529,9 +529,10 @@ fn limits_in(matches: &ArgMatches) -> Limits
 fn timeline_in(matches: &ArgMatches) -> TimelineOrder
     ensures { ReadsTimeline (rows_of (found_of matches.now)) result }
 {
+    let seed = seed_in(matches);
     TimelineOrder {
         until: until_in(matches),
-        seed: seed_in(matches),
+        seed,
         options: TimelineOptions {
             summary: matches.get_flag("summary"),
             offsets: matches.get_flag("offsets"),
