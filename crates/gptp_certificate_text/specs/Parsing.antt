@@ -61,3 +61,8 @@ pub record FailsBehind (text : List ℕ) (fault : CertificateFault) : Type 0 whe
 -- the fault that is found first, by lines and then by form, spelling and order
 abbrev pub Fails : List ℕ → CertificateFault → Type 0
 Fails text fault = ((fault ≡ Head) × LacksHead text) ⊎ FailsBehind text fault
+
+-- the fault that is found first, and what stands from the line on that has it
+abbrev pub FailsFrom : List ℕ → CertificateFault → List ℕ → Type 0
+FailsFrom text fault rest =
+    ((fault ≡ Head) × LacksHead text × (rest ≡ text)) ⊎ ((f : FailsBehind text fault) × (rest ≡ f.rest))

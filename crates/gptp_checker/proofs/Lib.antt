@@ -6,3 +6,4 @@ pub mod LineTestLemmas
 pub mod FaultLemmas
 pub mod LawLemmas
 pub mod ReadableLemmas
+pub mod LocatedLemmas

@@ -1,6 +1,6 @@
 //! The tests that each line has to pass.
 
-ghost use Rattle.std.specs.Prelude.{◌≡◌, ◌↔◌, true, IsTrue, Some, slice_get};
+ghost use Rattle.std.specs.Prelude.{◌≡◌, ◌↔◌, true, IfNone, IfSome, IsTrue, Some, slice_get};
 ghost use Rattle.gptp_certificate_text.specs.Certificate.{line_of, parent_of};
 ghost use Rattle.gptp_graph.specs.LocalTests.{PassesSystems};
 ghost use Rattle.gptp_graph.specs.Labelling as graphs;
@@ -8,6 +8,7 @@ ghost use Rattle.gptp_lists.specs.Members.{In};
 ghost use Rattle.gptp_graph.specs.Parent.{ParentLink};
 ghost use Rattle.gptp_graph.specs.Snapshot.{clocks};
 ghost use Rattle.gptp_checker.specs.LineTests.{FitsSteps, Follows, HasLowRoot, HasNearer, HasOwnRoot, PassesEachLine, PassesLine};
+ghost use Rattle.gptp_checker.specs.Located.{IsFirstLine};
 ghost use Rattle.gptp_checker.specs.declared.line_test.LineTest.TheVariants as tests;
 
 use crate::line_test::LineTest;
@@ -165,4 +166,23 @@ pub(crate) fn every_line_passes(
         }
     }
     true
+}
+
+/// The first line that fails a test, if any does.
+pub(crate) fn first_failing<'a>(
+    snapshot: &Snapshot,
+    certificate: &'a Certificate,
+    test: LineTest,
+) -> Option<&'a SystemLine>
+    requires { PassesSystems snapshot.now certificate.now.lines }
+    ensures some { IfSome result (λ line. IsFirstLine test snapshot.now certificate.now.lines (line_of line.now)) }
+    ensures none { IfNone result (PassesEachLine test snapshot.now certificate.now.lines) }
+{
+    certificate.well_formed();
+    for place in 0..certificate.len() {
+        if !passes_at(snapshot, certificate, place, test) {
+            return certificate.line(place);
+        }
+    }
+    None
 }

@@ -1,11 +1,13 @@
 //! Whether a parent is the first of those that are as near.
 
-ghost use Rattle.std.specs.Prelude.{◌↔◌, [], ◌∷◌, IsTrue};
-ghost use Rattle.gptp_certificate_text.specs.Certificate.{line_of, parent_of};
+ghost use Rattle.std.specs.Prelude.{◌↔◌, [], ◌∷◌, IfNone, IfSome, IsTrue};
+ghost use Rattle.gptp_certificate_text.specs.Certificate.{AreInOrder, line_of, parent_of};
+ghost use Rattle.gptp_lists.specs.Members.{In};
 ghost use Rattle.gptp_graph.specs.LocalTests.{PassesSystems};
 ghost use Rattle.gptp_graph.specs.Order.{IsLower};
 ghost use Rattle.gptp_graph.specs.Parent.{key};
 ghost use Rattle.gptp_checker.specs.LineTests.{AreNoLower, IsNoLower, PassesLine};
+ghost use Rattle.gptp_checker.specs.Located.{IsFirstLower, IsLowerWay};
 ghost use Rattle.gptp_checker.specs.declared.line_test.LineTest.TheVariants as tests;
 
 use crate::stated::steps_of;
@@ -85,4 +87,52 @@ pub(crate) fn follows_lowest(
         Some((own_port, parent)) => are_no_lower(snapshot, certificate, line, own_port, parent),
         None => true,
     }
+}
+
+/// The number of the first port of a line whose link leads to a system whose steps are one less and goes before that of
+/// the parent, if there is one.
+fn first_lower(
+    snapshot: &Snapshot,
+    certificate: &Certificate,
+    line: &SystemLine,
+    own_port: u16,
+    parent: PortId,
+) -> Option<u16>
+    requires systems { PassesSystems snapshot.now certificate.now.lines }
+    requires order { AreInOrder certificate.now.lines }
+    requires stated { In (line_of line.now) certificate.now.lines }
+    ensures some { IfSome result
+        (IsFirstLower snapshot.now certificate.now.lines (line_of line.now) (parent_of (own_port, parent))) }
+    ensures none { IfNone result
+        (AreNoLower snapshot.now certificate.now.lines (line_of line.now) (parent_of (own_port, parent))) }
+{
+    for port in &line.ports {
+        if !is_no_lower(snapshot, certificate, line, own_port, &parent, port.0) {
+            return Some(port.0);
+        }
+    }
+    None
+}
+
+/// The first link of a line that goes before that of its parent, if there is one: its own end and the other.
+pub(crate) fn lower_way(
+    snapshot: &Snapshot,
+    certificate: &Certificate,
+    line: &SystemLine,
+) -> Option<(PortId, PortId)>
+    requires systems { PassesSystems snapshot.now certificate.now.lines }
+    requires order { AreInOrder certificate.now.lines }
+    requires stated { In (line_of line.now) certificate.now.lines }
+    ensures some { IfSome result
+        (λ way. IsLowerWay snapshot.now certificate.now.lines (line_of line.now) way.0 way.1) }
+    ensures none { IfNone result (PassesLine tests.Tie snapshot.now certificate.now.lines (line_of line.now)) }
+{
+    snapshot.well_formed();
+    let (own_port, parent) = line.parent?;
+    let number = first_lower(snapshot, certificate, line, own_port, parent)?;
+    let port = PortId {
+        clock: line.clock,
+        port: number,
+    };
+    Some((port, snapshot.other_end(port)?))
 }

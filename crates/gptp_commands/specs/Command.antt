@@ -55,6 +55,10 @@ abbrev pub certificate_rule : Rule
 certificate_rule =
     record (new_rule (codes "certificate")) { long = Some (codes "certificate"); action = Some SetTrue }
 
+-- `--where`
+abbrev pub where_rule : Rule
+where_rule = record (new_rule (codes "where")) { long = Some (codes "where"); action = Some SetTrue }
+
 -- `FILE`, which has to be given
 abbrev pub file_rule : Rule
 file_rule = record (new_rule (codes "file")) { action = Some Set; value_names = 1; required = true }
@@ -64,7 +68,7 @@ abbrev pub clock_rule : Rule
 clock_rule = record (new_rule (codes "clock")) { action = Some Set; value_names = 1; required = true }
 
 -- the command `compare`, which has no options, the command `run`, which has four, the command `check`, which has a file
--- and one option, the command `choice`, which has one option, the command `accuracy`, which has two, and the command
+-- and two options, the command `choice`, which has one option, the command `accuracy`, which has two, and the command
 -- `explain`, which has a clock and one option
 abbrev pub compare_command : App
 compare_command = new_app (codes "compare")
@@ -77,7 +81,7 @@ abbrev pub run_command : App
 run_command = with_rule (with_rule played_command frames_rule) certificate_rule
 
 abbrev pub check_command : App
-check_command = with_rule (with_rule (new_app (codes "check")) file_rule) until_rule
+check_command = with_rule (with_rule (with_rule (new_app (codes "check")) file_rule) until_rule) where_rule
 
 abbrev pub choice_command : App
 choice_command = with_rule (new_app (codes "choice")) until_rule
@@ -189,6 +193,7 @@ pub record ReadsRun (rows : List Row) (options : RunOptions) : Type 0 where
 pub record ReadsCheck (rows : List Row) (options : CheckOptions) : Type 0 where
   pub file : (text : List ℕ) → first_of (codes "file") rows ≡ Some text → string_bytes options.file ≡ text
   pub until : IsUntil (one_of (codes "until") rows) options.until
+  pub located : IsFlag (one_of (codes "where") rows) options.located
 
 -- the clock of `explain` is one, by its text, or isn't
 abbrev pub ReadsClock : List Row → ℕ → Type 0

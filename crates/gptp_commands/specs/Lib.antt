@@ -10,6 +10,7 @@ pub mod CompareText
 pub mod RunText
 pub mod RunSoFar
 pub mod CheckText
+pub mod WhereText
 pub mod ChoiceText
 pub mod AccuracyText
 pub mod ExplainText

@@ -6,7 +6,7 @@ ghost use Rattle.clap.specs.Words.{app_of, found_of, one_text, rows_of, rule_of}
 ghost use Rattle.clap.specs.declared.builder.command.Command.TheViews.{out-Command as fields_of};
 ghost use Rattle.gptp_commands.specs.Command.{AsksFor, Enters, IsPlain, IsUntil, IsSeed, LacksClock, OrderIsInRange, ReadsCheck, ReadsQuestion, ReadsRun, RefusesClock};
 ghost use Rattle.gptp_commands.specs.Command.{IsEndInRange, command_line_status, program};
-ghost use Rattle.gptp_commands.specs.Command.{certificate_rule, clock_rule, file_rule, frames_rule, max_error_rule, seed_rule, until_rule};
+ghost use Rattle.gptp_commands.specs.Command.{certificate_rule, clock_rule, file_rule, frames_rule, max_error_rule, seed_rule, until_rule, where_rule};
 ghost use Rattle.gptp_commands.specs.Command.{accuracy_command, check_command, choice_command, explain_command, first_program, played_command, run_command};
 ghost use Rattle.gptp_commands.specs.Command.{simulating_program};
 ghost use Rattle.gptp_commands.specs.declared.command.CommandLineError.TheVariants.{Memory};
@@ -14,7 +14,7 @@ ghost use Rattle.gptp_network.specs.Values.{clock_of_text};
 ghost use Rattle.gptp_network.specs.declared.fault.DocumentFault.TheVariants.{OutOfRange};
 ghost use Rattle.gptp_commands.specs.declared.question.Question.TheVariants.{Accuracy, Choice, Explain};
 
-use crate::check::check;
+use crate::check::{check, check_where};
 use crate::compare::compare_lines;
 use crate::failure::{SimError, Status, exit_status};
 use crate::question::{Question, answer_question};
@@ -101,6 +101,8 @@ pub struct CheckOptions {
     /// The time of the network that is meant, in ns, at most 10^15; `None` where it is the network after all
     /// events.
     pub until: Option<u64>,
+    /// Whether the place is told at which a certificate that isn't accepted first fails.
+    pub located: bool,
 }
 
 /// What a command line asks for.
@@ -255,6 +257,17 @@ fn certificate_option<'a>(alloc: Global) -> Arg<'a>
         .help("Write what each system has chosen, as a certificate")
 }
 
+/// The option of `check` that asks where a certificate fails.
+fn where_option<'a>(alloc: Global) -> Arg<'a>
+    ensures rule { rule_of result ≡ where_rule }
+    ensures local { result.global ≡ false }
+{
+    Arg::new(alloc, "where")
+        .long("where")
+        .action(ArgAction::SetTrue)
+        .help("Write where a certificate that isn't accepted first fails")
+}
+
 /// The argument of `check` that says where the certificate is.
 fn file_argument<'a>(alloc: Global) -> Arg<'a>
     ensures rule { rule_of result ≡ file_rule }
@@ -313,7 +326,8 @@ fn check_grammar<'a>(alloc: Global) -> Result<Command<'a>, AllocError>
         .about("Says whether a certificate is the choice that a network settles at")
         .after_help(CHECK_HELP)
         .arg(file_argument(alloc))?
-        .arg(until_option(alloc, MOMENT_HELP))
+        .arg(until_option(alloc, MOMENT_HELP))?
+        .arg(where_option(alloc))
 }
 
 /// The command `choice` with its option.
@@ -438,6 +452,7 @@ fn check_options_in(alloc: Global, matches: &ArgMatches) -> Result<CheckOptions,
     Ok(CheckOptions {
         file: String::from_str(alloc, file)?,
         until: until_in(matches),
+        located: matches.get_flag("where"),
     })
 }
 
@@ -544,6 +559,9 @@ fn check_file<R: Files + AllocGlobal, S: Source, K: Sink>(
         return Err(SimError::Read);
     };
     let mut certificate = CountedReader::new(file);
+    if options.located {
+        return check_where(rt.alloc(), document, &mut certificate, sink, options.until);
+    }
     check(rt.alloc(), document, &mut certificate, sink, options.until)
 }
 

@@ -24,6 +24,7 @@ pub mod failure;
 pub mod laws;
 mod lines;
 mod output;
+mod place;
 pub mod question;
 mod reading;
 pub mod run;

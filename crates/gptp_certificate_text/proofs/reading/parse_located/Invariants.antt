@@ -2,7 +2,7 @@ use Rattle.std.proofs.Common.{length}
 use Rattle.gptp_certificate_text.specs.Certificate.{lines_of}
 use Rattle.gptp_certificate_text.specs.Entries.{entries_of}
 use Rattle.gptp_certificate_text.specs.Parsing.{StandBefore}
-use Rattle.gptp_certificate_text.proofs.reading.parse.Given as goal
+use Rattle.gptp_certificate_text.proofs.reading.parse_located.Given as goal
 
 -- the lines that are read stand before the rest
 abbrev pub invariant-loop-rest : goal.invariant-loop-rest

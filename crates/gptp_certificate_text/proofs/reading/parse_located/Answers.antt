@@ -3,7 +3,7 @@ use Rattle.gptp_certificate_text.specs.Certificate.{lines_of}
 use Rattle.gptp_certificate_text.specs.CertificateText.{end_text}
 use Rattle.gptp_certificate_text.proofs.OrderLemmas.{is_certificate}
 use Rattle.gptp_certificate_text.proofs.ReadingLemmas.{parsed}
-use Rattle.gptp_certificate_text.proofs.reading.parse.Goals as goal
+use Rattle.gptp_certificate_text.proofs.reading.parse_located.Goals as goal
 
 pub of_lines-requires : goal.of_lines-requires
 of_lines-requires c = record {
