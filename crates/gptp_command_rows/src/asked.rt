@@ -140,7 +140,7 @@ fn the_choice_is_written_and_checked(rt: HostRuntime) -> Result<(), Fail> {
 fn a_question_about_no_document_is_refused(rt: HostRuntime) -> Result<(), Fail> {
     let alloc = rt.alloc();
     let question = Question::Choice { until: None };
-    let (text, status) = asked(alloc, "version = 2\n".as_bytes(), question)?;
+    let (text, status) = asked(alloc, "version = 3\n".as_bytes(), question)?;
     same(&rt, text.as_slice(), "refused 4 OutOfRange\n".as_bytes());
     same(&rt, status, Status::Refused);
     Ok(())

@@ -274,7 +274,7 @@ first_word false false false false false false false true word words compare run
 first_word false false false false false false false false word words compare run check choice accuracy explain help
     mark none =
     let no_name : subcommand_met names idle word ≡ None =
-        rw (compare, run, check, choice, accuracy, explain, help) refl in
+    rw (compare, run, check, choice, accuracy, explain, help) refl in
     absurd (strange top names word no_name mark (first_none _ _ (walk_finds_none (word ∷ words) none)))
 
 -- no word at all
@@ -616,7 +616,7 @@ plain_with_clock words rows rows_are lacks (inr (inl (file, check))) =
     absurd (omega arith)
 plain_with_clock words rows rows_are lacks (inr (inr (inl (clock, explain)))) =
     let found : clock_in (subcommand_of program words) ≡ Some clock =
-        ap (λ after. clock_in (entered (built program) (stop after))) explain.0 ∙ clock_found clock explain.1 in
+    ap (λ after. clock_in (entered (built program) (stop after))) explain.0 ∙ clock_found clock explain.1 in
     let first : first_of (codes "clock") rows ≡ Some clock = sym (ap clock_in rows_are) ∙ found in
     clock_or_not clock explain.2.0 OutOfRange explain.2.1 (lacks clock first)
 plain_with_clock words rows rows_are lacks (inr (inr (inr (inl run)))) =
@@ -633,6 +633,6 @@ plain_with_clock words rows rows_are lacks (inr (inr (inr (inr (inr accuracy))))
 
 pub refused_order : (parsed : App) (words : List Text) (m : ArgMatches) (error : CommandLineError) → parsed ≡ program
     → HasMatchesOf parsed words m → (error ≡ Memory) ⊎ RefusesClock m → IsPlain words → error ≡ Memory
-refused_order parsed words m error is matches (inl memory) plain = memory
-refused_order parsed words m error is matches (inr (rows, rows_are, lacks)) plain =
-    absurd (plain_with_clock words rows (sym (rows_of_words parsed words m is matches) ∙ rows_are) lacks plain)
+refused_order parsed words m error is matches (inl memory) named = memory
+refused_order parsed words m error is matches (inr (rows, rows_are, lacks)) named =
+    absurd (plain_with_clock words rows (sym (rows_of_words parsed words m is matches) ∙ rows_are) lacks named)

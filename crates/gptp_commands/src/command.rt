@@ -1,8 +1,8 @@
 //! The command line: which command runs, and how the process ends.
 
-ghost use Rattle.std.specs.Prelude.{◌≡◌, ◌⊎◌, ◌≤◌, Err, IfErr, IfNone, IfOk, IfSome, Ok, codes, false, map, string_bytes};
+ghost use Rattle.std.specs.Prelude.{◌≡◌, ◌⊎◌, ◌≤◌, List, ℕ, Err, IfErr, IfNone, IfOk, IfSome, Ok, Some, codes, false, map, string_bytes};
 ghost use Rattle.std.specs.Process.{exit_status as process_status};
-ghost use Rattle.clap.specs.Words.{app_of, found_of, one_text, rows_of, rule_of};
+ghost use Rattle.clap.specs.Words.{app_of, first_of, found_of, one_text, rows_of, rule_of};
 ghost use Rattle.clap.specs.declared.builder.command.Command.TheViews.{out-Command as fields_of};
 ghost use Rattle.gptp_commands.specs.Command.{AsksFor, Enters, IsPlain, IsUntil, IsSeed, LacksClock, OrderIsInRange, ReadsCheck, ReadsQuestion, ReadsRun, RefusesClock};
 ghost use Rattle.gptp_commands.specs.Command.{IsEndInRange, command_line_status, program};
@@ -131,9 +131,7 @@ enum CommandLineError {
     #[error("{0}")]
     NotRead(clap::Error),
     /// A word isn't the clock that it ought to be.
-    #[error(
-        "error: invalid value '{0}' for '<CLOCK>': a clock is 16 hexadecimal digits\n\nFor more information, try '--help'.\n"
-    )]
+    #[error("error: invalid value '{0}' for '<CLOCK>': a clock is 16 hexadecimal digits\n\nFor more information, try '--help'.\n")]
     NotClock(String),
 }
 
@@ -481,8 +479,23 @@ fn clock_of(text: &str) -> Option<ClockId>
     }
 }
 
-/// What `explain` is asked for: the clock of the system, and the time of the network. The parser lets no command line
-/// through that gives no word for the clock.
+/// The word that `explain` has for a clock. The parser lets no command line through that has none.
+fn clock_word<'a>(matches: &ArgMatches<'a>) -> &'a str
+    ensures { (text : List ℕ) → first_of (codes "clock") (rows_of (found_of matches.now)) ≡ Some text
+        → result.now ≡ text }
+{
+    matches.get_str("clock").unwrap_or("")
+}
+
+/// The error for a word that isn't a clock.
+fn refuse_clock(alloc: Global, word: &str) -> CommandLineError {
+    match String::from_str(alloc, word) {
+        Ok(word) => CommandLineError::NotClock(word),
+        Err(_) => CommandLineError::Memory,
+    }
+}
+
+/// What `explain` is asked for: the clock of the system, and the time of the network.
 fn explain_in(
     alloc: Global,
     matches: &ArgMatches,
@@ -490,10 +503,10 @@ fn explain_in(
     ensures asks { IfOk result (λ asked. ReadsQuestion (rows_of (found_of matches.now)) (Explain asked.0 asked.1)) }
     ensures refused { IfErr result (λ e. (e ≡ Memory) ⊎ LacksClock (rows_of (found_of matches.now))) }
 {
-    let text = matches.get_str("clock").unwrap_or("");
+    let text = clock_word(matches);
     match clock_of(text) {
         Some(clock) => Ok((clock, until_in(matches))),
-        None => Err(CommandLineError::NotClock(String::from_str(alloc, text)?)),
+        None => Err(refuse_clock(alloc, text)),
     }
 }
 
@@ -512,10 +525,10 @@ fn order_in(alloc: Global, matches: &ArgMatches) -> Result<Order, CommandLineErr
             let (until, max_error) = accuracy_in(matches);
             Ok(Order::Ask(Question::Accuracy { until, max_error }))
         }
-        Some(("explain", matches)) => {
-            let (clock, until) = explain_in(alloc, matches)?;
-            Ok(Order::Ask(Question::Explain { clock, until }))
-        }
+        Some(("explain", matches)) => match explain_in(alloc, matches) {
+            Ok((clock, until)) => Ok(Order::Ask(Question::Explain { clock, until })),
+            Err(error) => Err(error),
+        },
         _ => Ok(Order::Compare),
     }
 }

@@ -1,8 +1,10 @@
 //! The command `explain`: why the network of a document settles as it does, at one system.
 
-ghost use Rattle.std.specs.Prelude.{◌≡◌, IfErr, IfOk};
+ghost use Rattle.std.specs.Prelude.{◌≡◌, IfErr, IfNone, IfOk, IfSome, string_bytes};
+ghost use Rattle.gptp_network.specs.declared.fault.DocumentFault.TheVariants.{NoSuchPort};
 ghost use Rattle.gptp_commands.specs.ExplainText.{ExplainsAt};
 ghost use Rattle.gptp_commands.specs.Output.{IsOutput};
+ghost use Rattle.gptp_commands.specs.RunText.{RefusesFault};
 
 use crate::check::moment_of;
 use crate::choice::refuse_choice;
@@ -13,6 +15,18 @@ use gptp_explain::explain;
 use gptp_network::{Document, DocumentFault};
 use gptp_vector::ClockId;
 use std::alloc::Global;
+
+/// What is told of a system, or the line for one that doesn't live.
+fn show(alloc: Global, told: Option<String>) -> Result<Output, SimError>
+    ensures some { IfSome told (λ text. IfOk result (λ o. (o.status ≡ Status.Done) × (o.text.items ≡ string_bytes text))) }
+    ensures none { IfNone told (IfOk result (IsOutput (RefusesFault NoSuchPort))) }
+    ensures memory { IfErr result (λ e. e ≡ SimError.Memory) }
+{
+    match told {
+        Some(text) => Ok(Output::of(text, Status::Done)),
+        None => refuse(alloc, DocumentFault::NoSuchPort),
+    }
+}
 
 /// The text for a document.
 pub(crate) fn explain_at(
@@ -25,8 +39,7 @@ pub(crate) fn explain_at(
     ensures memory { IfErr result (λ e. e ≡ SimError.Memory) }
 {
     match explain(alloc, document, moment_of(document, until), clock) {
-        Ok(Some(text)) => Ok(Output::of(text, Status::Done)),
-        Ok(None) => refuse(alloc, DocumentFault::NoSuchPort),
+        Ok(told) => show(alloc, told),
         Err(fault) => refuse_choice(alloc, fault),
     }
 }

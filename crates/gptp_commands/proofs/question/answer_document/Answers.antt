@@ -6,3 +6,6 @@ returns-in-Choice-clause-answers c = rw c.in-Choice.is c.choose_at.ensures.choos
 
 pub returns-in-Accuracy-clause-answers : goal.returns-in-Accuracy-clause-answers
 returns-in-Accuracy-clause-answers c = rw c.in-Accuracy.is c.tell_accuracy.ensures.tells
+
+pub returns-in-Explain-clause-answers : goal.returns-in-Explain-clause-answers
+returns-in-Explain-clause-answers c = rw c.in-Explain.is c.explain_at.ensures.explains
