@@ -61,10 +61,7 @@ fn read_line<'a>(
 
 /// The certificate that a text spells, or its first fault with what stands from the line on that has it: the whole text
 /// for [`CertificateFault::Head`], nothing where a line is missing. As [`parse`] otherwise.
-pub fn parse_located(
-    alloc: Global,
-    text: &[u8],
-) -> Result<Certificate, (CertificateFault, &[u8])>
+pub fn parse_located(alloc: Global, text: &[u8]) -> Result<Certificate, (CertificateFault, &[u8])>
     ensures read { IfOk result (λ c. (text.now ≡ certificate_text c.version c.lines) × IsReadable c.version c.lines) }
     ensures refused { IfErr result (λ e. (e.0 ≡ CertificateFault.OutOfMemory) ⊎ FailsFrom text.now e.0 e.1.now) }
 {

@@ -53,7 +53,11 @@ impl fmt::Display for Place {
 }
 
 /// The text that says where a certificate fails, for a network; none where it is accepted.
-fn place_in(alloc: Global, snapshot: &Snapshot, certificate: &Certificate) -> Result<String, SimError>
+fn place_in(
+    alloc: Global,
+    snapshot: &Snapshot,
+    certificate: &Certificate,
+) -> Result<String, SimError>
     ensures locates { IfOk result (λ text. (lines : List (List ℕ))
         × LocatesFault snapshot.now certificate.now lines × (string_bytes text ≡ text_of lines)) }
     ensures memory { IfErr result (λ e. e ≡ SimError.Memory) }
