@@ -21,7 +21,6 @@ use Rattle.gptp_acts.specs.declared.station.Station.{Station}
 use Rattle.gptp_acts.specs.Act.{Expires, Hears}
 use Rattle.gptp_acts.specs.Acts.{at, Acts, AtSystem, Delivery, IsReadyAct, IsTimelyAct}
 use Rattle.gptp_plan.specs.Allowed.{IsFitAct}
-use Rattle.gptp_acts.specs.Advancing.{Advances, Stopped, Told}
 use Rattle.gptp_acts.specs.Ahead.{due_by}
 use Rattle.gptp_acts.specs.Pending.{entry, Entry, IsNext, NothingBefore}
 use Rattle.gptp_acts.specs.Course.{WasDone}
@@ -153,84 +152,22 @@ leaves_less (Expiry place timer) time act w draws done w' sound (station, here, 
       is_time = ap (λ (x : WorldState). x.time) k.1.so.calls.is;
     }
 
--- ---- one act, and one after another
+-- ---- one act
 
-module _ {F : Type 0} (answers : Bounds → ℕ → F → Option ℕ → F → Type 0) where
-  -- The next has happened by a time, and it alone: this is told of it. Less is left to do at its own time, and
-  -- nothing before.
-  pub record Happened (until : ℕ) (told : Told) (fate fate_after : F) (w w' : WorldState) : Type 0 where
-    pub advances : Advances answers until (told ∷ []) fate fate_after w w'
-    pub less : due_by told.timed.at w'.net.pending < due_by told.timed.at w.net.pending
-    pub first : NothingBefore told.timed.at w'.net.pending
+-- What was next has happened: less is left to do at its own time, and nothing before.
+pub record Happened (timed : Timed) (w w' : WorldState) : Type 0 where
+  pub less : due_by timed.at w'.net.pending < due_by timed.at w.net.pending
+  pub first : NothingBefore timed.at w'.net.pending
 
-  -- what was next and was done has happened
-  pub happened : (until : ℕ) (told : Told) (fate fate_after : F) (w w' : WorldState) → IsSound w
-      → IsNextAct w told.timed → told.timed.at ≤ until → WasDone answers told.timed fate fate_after w w' told.done
-      → Happened until told fate fate_after w w'
-  happened until told fate fate_after w w' sound next early was =
-      let time = told.timed.at in let act = told.timed.act in
-      let now : IsSound (at time w) = later_sound w time w.last_change sound was.ready.timely.first in
-      let after = acts_sound act (at time w) was.draws told.done w' now (next_fits w told.timed next) was.acts in
-      let left = leaves_less next.item time act w was.draws told.done w' now next.act was.acts in
-      record {
-        advances = (fate_after, w', record { next = next; early = early; was_done = was }, (refl, refl));
-        less = left.less;
-        first = subst (λ t. NothingBefore t w'.net.pending) left.is_time after.on_time.pending;
-      }
-
-  pub advances-append : (until : ℕ) (told more : List Told) (fate drawn fate_after : F) (w between w' : WorldState)
-      → Advances answers until told fate drawn w between → Advances answers until more drawn fate_after between w'
-      → Advances answers until (told ++ more) fate fate_after w w'
-  advances-append until [] more fate drawn fate_after w between w' (same, is) rest =
-      subst (λ (f : F). Advances answers until more f fate_after w w') same
-      (subst (λ (x : WorldState). Advances answers until more drawn fate_after x w') is rest)
-  advances-append until (t ∷ ts) more fate drawn fate_after w between w' (f, x, happens, front) rest =
-      (f, x, happens, advances-append until ts more f drawn fate_after x between w' front rest)
-
-  pub advances-later : (until later : ℕ) (told : List Told) (fate fate_after : F) (w w' : WorldState) → until ≤ later
-      → Advances answers until told fate fate_after w w' → Advances answers later told fate fate_after w w'
-  advances-later until later [] fate fate_after w w' less none = none
-  advances-later until later (t ∷ ts) fate fate_after w w' less (f, x, happens, rest) =
-      let early = happens.early in (
-        f,
-        x,
-        record { next = happens.next; early = omega (arith, less, early); was_done = happens.was_done },
-        advances-later until later ts f fate_after x w' less rest,
-      )
-
-  -- nothing happened
-  pub record Stayed (told : List Told) (fate fate_after : F) (w w' : WorldState) : Type 0 where
-    pub none : told ≡ []
-    pub fate_is : fate_after ≡ fate
-    pub is : w' ≡ w
-
-  -- where nothing is due by a time, nothing happens by then
-  pub nothing_happens : (until : ℕ) (told : List Told) (fate fate_after : F) (w w' : WorldState)
-      → NothingBefore (until + 1) w.net.pending → Advances answers until told fate fate_after w w'
-      → Stayed told fate fate_after w w'
-  nothing_happens until [] fate fate_after w w' none (same, is) = record { none = refl; fate_is = same; is = is }
-  nothing_happens until (t ∷ ts) fate fate_after w w' none (f, x, happens, rest) =
-      let next = happens.next in let early = happens.early in
-      let late = next_not_before (until + 1) w.net.pending t.timed.at next.item next.next none in
-      absurd (omega (arith, early, late))
-
-  -- one act
-  pub one_happened : (until : ℕ) (told : Told) (fate fate_after : F) (w w' : WorldState)
-      → Happened until told fate fate_after w w' → Stopped answers until fate fate_after w w'
-  one_happened until told fate fate_after w w' one = record { told = told ∷ []; advances = one.advances }
-
-  pub stopped_more : (until : ℕ) (fate drawn fate_after : F) (w between w' : WorldState)
-      → Stopped answers until fate drawn w between → Stopped answers until drawn fate_after between w'
-      → Stopped answers until fate fate_after w w'
-  stopped_more until fate drawn fate_after w between w' front back = record {
-    told = front.told ++ back.told;
-    advances = advances-append until front.told back.told fate drawn fate_after w between w' front.advances
-        back.advances;
-  }
-
-  pub stopped_later : (until later : ℕ) (fate fate_after : F) (w w' : WorldState) → until ≤ later
-      → Stopped answers until fate fate_after w w' → Stopped answers later fate fate_after w w'
-  stopped_later until later fate fate_after w w' less stopped = record {
-    told = stopped.told;
-    advances = advances-later until later stopped.told fate fate_after w w' less stopped.advances;
-  }
+pub happened : {F : Type 0} (answers : Bounds → ℕ → F → Option ℕ → F → Type 0) (timed : Timed) (done : Done)
+    (fate fate_after : F) (w w' : WorldState) → IsSound w → IsNextAct w timed
+    → WasDone answers timed fate fate_after w w' done → Happened timed w w'
+happened answers timed done fate fate_after w w' sound next was =
+    let time = timed.at in let act = timed.act in
+    let now : IsSound (at time w) = later_sound w time w.last_change sound was.ready.timely.first in
+    let after = acts_sound act (at time w) was.draws done w' now (next_fits w timed next) was.acts in
+    let left = leaves_less next.item time act w was.draws done w' now next.act was.acts in
+    record {
+      less = left.less;
+      first = subst (λ t. NothingBefore t w'.net.pending) left.is_time after.on_time.pending;
+    }

@@ -1,5 +1,5 @@
 -- Reading line by line: lines have no line feed in them, so the first line of a text is one.
-use Rattle.std.proofs.Common.{◌≡◌, ◌≢◌, ◌+◌, ◌<◌, ℕ, List, ◌∷◌, ◌++◌, codes, inl, inr, refl, sym, ap, subst, ◌∙◌, arith}
+use Rattle.std.proofs.Common.{◌≡◌, ◌≢◌, ◌+◌, ◌<◌, ℕ, List, [], ◌∷◌, ◌++◌, codes, inl, inr, refl, sym, ap, subst, ◌∙◌, append_assoc, arith}
 use Rattle.std.specs.Prelude.{◌⊎◌, Bool, Option, Some, None, decimal, not, ◌==◌}
 use Rattle.std.proofs.lemmas.Fmt.{decimal_digit}
 use Rattle.std.proofs.lemmas.List.Folds.{list_all-append}
@@ -7,12 +7,13 @@ use Rattle.gptp_graph.specs.Labelling.{SystemLine}
 use Rattle.gptp_graph.specs.SettledRole.{Role, Disabled, Master, Slave, Passive}
 use Rattle.gptp_certificate_text.specs.declared.fault.CertificateFault.{CertificateFault}
 use Rattle.gptp_certificate_text.specs.declared.fault.CertificateFault.TheVariants.{OutOfMemory}
+use Rattle.gptp_certificate_text.specs.Certificate.{IsVersion}
 use Rattle.gptp_certificate_text.specs.Words.{IsWord, Lacks}
 use Rattle.gptp_certificate_text.specs.Forms.{Form, SystemForm, FarForm, PortForm, ParentWords, HasForm, HasParentWords, HasWords, form_text, parent_text, role_text}
 use Rattle.gptp_certificate_text.specs.CertificateText.{certificate_text, end_text, entry_text, front_text, head_text, spelled}
 use Rattle.gptp_certificate_text.specs.Entries.{Entry, IsReadable, IsReadableEntry, ends_far, entries_of}
 use Rattle.gptp_certificate_text.specs.Lines.{RefusesLine}
-use Rattle.gptp_certificate_text.specs.Parsing.{HasNoForm, LacksHead, RestFails, StandBefore}
+use Rattle.gptp_certificate_text.specs.Parsing.{Fails, FailsFrom, HasNoForm, IsFailingPart, LacksHead, RestFails, StandBefore}
 use Rattle.gptp_certificate_text.proofs.WordLemmas.{no_cut, one_cut, plain_lacks_feed}
 use Rattle.gptp_certificate_text.proofs.FormLemmas.{far_parts, link_parts, port_parts, system_parts}
 use Rattle.gptp_certificate_text.proofs.LineLemmas.{decimal_word, entry_words}
@@ -115,3 +116,41 @@ rest_fails version before rest line more fault goes_on first lacks (inr (inr (e,
       first = first ∙ ap (λ l. l ++ 10 ∷ more) out.is;
       order = out.order;
     }))
+
+-- the fault of the rest is the text's
+pub fails_from : (version : ℕ) (before : List Entry) (text rest part : List ℕ) (fault : CertificateFault)
+    → IsVersion version → StandBefore version before rest text → IsFailingPart rest part
+    → (fault ≡ OutOfMemory) ⊎ RestFails version before rest fault → (fault ≡ OutOfMemory) ⊎ FailsFrom text fault part
+fails_from version before text rest part fault is_version stand failing (inl e) = inl e
+fails_from version before text rest part fault is_version stand failing (inr fails) =
+    inr (inr (
+      record {
+        version = version;
+        before = before;
+        rest = rest;
+        is_version = is_version;
+        stand = stand;
+        fails = fails;
+      },
+      failing,
+    ))
+
+-- without the part
+pub fails_somewhere : (text part : List ℕ) (fault : CertificateFault)
+    → (fault ≡ OutOfMemory) ⊎ FailsFrom text fault part → (fault ≡ OutOfMemory) ⊎ Fails text fault
+fails_somewhere text part fault (inl e) = inl e
+fails_somewhere text part fault (inr (inl (e, lacks, at))) = inr (inl (e, lacks))
+fails_somewhere text part fault (inr (inr (failure, failing))) = inr (inr failure)
+
+-- the text ends with that part
+pub ends_with_part : (text part : List ℕ) (fault : CertificateFault) → FailsFrom text fault part
+    → (front : List ℕ) × (text ≡ front ++ part)
+ends_with_part text part fault (inl (e, lacks, at)) = ([], sym at)
+ends_with_part text part fault (inr (failure, inl behind)) =
+    let front = front_text failure.version failure.before in (
+      front ++ end_text,
+      failure.stand.split ∙ ap (λ r. front ++ r) behind ∙ sym (append_assoc front end_text part),
+    )
+ends_with_part text part fault (inr (failure, inr (other, at))) =
+    let front = front_text failure.version failure.before in
+    (front, failure.stand.split ∙ ap (λ r. front ++ r) (sym at))

@@ -61,3 +61,13 @@ pub record FailsBehind (text : List ℕ) (fault : CertificateFault) : Type 0 whe
 -- the fault that is found first, by lines and then by form, spelling and order
 abbrev pub Fails : List ℕ → CertificateFault → Type 0
 Fails text fault = ((fault ≡ Head) × LacksHead text) ⊎ FailsBehind text fault
+
+-- what of a rest that fails does so: what stands behind the end, where the rest begins with that, else all of it
+abbrev pub IsFailingPart : List ℕ → List ℕ → Type 0
+IsFailingPart rest part = (rest ≡ end_text ++ part) ⊎ (((more : List ℕ) → rest ≢ end_text ++ more) × (part ≡ rest))
+
+-- the fault that is found first, and the part of the text that begins with the line that has it
+abbrev pub FailsFrom : List ℕ → CertificateFault → List ℕ → Type 0
+FailsFrom text fault part =
+    ((fault ≡ Head) × LacksHead text × (part ≡ text))
+    ⊎ ((failure : FailsBehind text fault) × IsFailingPart failure.rest part)

@@ -20,5 +20,5 @@ mod words;
 
 pub use certificate::{Certificate, SystemLine};
 pub use fault::CertificateFault;
-pub use reading::parse;
+pub use reading::{parse, parse_located};
 pub use text::{print, print_line, print_lines};

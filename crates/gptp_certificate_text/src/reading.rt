@@ -6,7 +6,7 @@ ghost use Rattle.gptp_certificate_text.specs.CertificateText.{certificate_text, 
 ghost use Rattle.gptp_certificate_text.specs.Entries.{IsReadable, StandInOrder, entries_of};
 ghost use Rattle.gptp_certificate_text.specs.Lines.{ReadsLine};
 ghost use Rattle.gptp_certificate_text.specs.Words.{Lacks};
-ghost use Rattle.gptp_certificate_text.specs.Parsing.{Fails, LacksHead, RestFails};
+ghost use Rattle.gptp_certificate_text.specs.Parsing.{Fails, FailsFrom, IsFailingPart, LacksHead, RestFails};
 
 use crate::certificate::{Certificate, SystemLine};
 use crate::fault::CertificateFault;
@@ -59,6 +59,35 @@ fn read_line<'a>(
     }
 }
 
+/// What of a rest that fails does so: what stands behind `end`, where the rest begins with that, else all of it.
+fn failing_part(rest: &[u8]) -> &[u8]
+    ensures { IsFailingPart rest.now result.now }
+{
+    match after(b"end\n", rest) {
+        Some(more) => more,
+        None => rest,
+    }
+}
+
+/// As [`parse`], and with the fault the part of the text that begins with the line that has it: the whole text for
+/// [`CertificateFault::Head`], and nothing where a line is missing.
+pub fn parse_located(alloc: Global, text: &[u8]) -> Result<Certificate, (CertificateFault, &[u8])>
+    ensures read { IfOk result (λ c. (text.now ≡ certificate_text c.version c.lines) × IsReadable c.version c.lines) }
+    ensures refused { IfErr result (λ e. (e.0 ≡ CertificateFault.OutOfMemory) ⊎ FailsFrom text.now e.0 e.1.now) }
+{
+    let Some((version, mut rest)) = read_head(text) else {
+        return Err((CertificateFault::Head, text));
+    };
+    let mut lines = Vec::new(alloc);
+    while rest != b"end\n".as_slice() {
+        match read_line(alloc, &mut lines, version, rest) {
+            Ok(more) => rest = more,
+            Err(fault) => return Err((fault, failing_part(rest))),
+        }
+    }
+    Ok(Certificate::of_lines(version, lines))
+}
+
 /// The certificate that a text spells, as [`print`](crate::print) writes it (profile). The text is read line by line, and
 /// the first line that fails tells the fault:
 ///
@@ -75,12 +104,8 @@ pub fn parse(alloc: Global, text: &[u8]) -> Result<Certificate, CertificateFault
     ensures read { IfOk result (λ c. (text.now ≡ certificate_text c.version c.lines) × IsReadable c.version c.lines) }
     ensures refused { IfErr result (λ fault. (fault ≡ CertificateFault.OutOfMemory) ⊎ Fails text.now fault) }
 {
-    let Some((version, mut rest)) = read_head(text) else {
-        return Err(CertificateFault::Head);
-    };
-    let mut lines = Vec::new(alloc);
-    while rest != b"end\n".as_slice() {
-        rest = read_line(alloc, &mut lines, version, rest)?;
+    match parse_located(alloc, text) {
+        Ok(certificate) => Ok(certificate),
+        Err((fault, _)) => Err(fault),
     }
-    Ok(Certificate::of_lines(version, lines))
 }

@@ -1,12 +1,12 @@
 -- The first fault, and the choice that has none.
-use Rattle.std.proofs.Common.{Bool, IsTrue, ◌≡◌, ◌↔◌, ℕ, suc, List, [], ◌∷◌, Some, slice_get, take, drop, refl, sym, ap, subst, inl, inr}
+use Rattle.std.proofs.Common.{Bool, IsTrue, ◌≡◌, ◌↔◌, ℕ, suc, List, [], ◌∷◌, ◌++◌, Some, slice_get, take, drop, refl, sym, ap, subst, inl, inr}
 use Rattle.gptp_lists.specs.Members.{In}
 use Rattle.gptp_graph.specs.Snapshot.{Snapshot, IsWellFormed}
 use Rattle.gptp_graph.specs.Labelling.{SystemLine}
 use Rattle.gptp_graph.specs.LocalTests.{PassesSystems, PassesLocalTests}
 use Rattle.gptp_graph.proofs.SoundLemmas.{sound}
 use Rattle.gptp_graph.proofs.CompleteLemmas.{complete}
-use Rattle.gptp_checker.specs.Faults.{test_of, later_faults, IsAccepted, IsFirstFault}
+use Rattle.gptp_checker.specs.Faults.{test_of, faults_in_order, later_faults, IsAccepted, IsFirstFault}
 use Rattle.gptp_checker.specs.declared.fault.Fault.{Fault}
 use Rattle.gptp_checker.specs.declared.fault.Fault.TheVariants.{Systems, Root, Steps, Parent, Link, Identity, Tie, Role, TooFar}
 use Rattle.gptp_checker.specs.declared.line_test.LineTest.{LineTest}
@@ -45,6 +45,17 @@ module _ (version : ℕ) (g : Snapshot) (lines : List SystemLine) where
       let each = by_lines test wf right first in
       subst (λ f. IsTrue b ↔ test_of f version g lines) (sym e) ((λ t. each.0 (h.0 t)), (λ p. h.1 (each.1 p)))
 
+  -- it is absent where each line passes
+  pub absent_by_lines : (test : LineTest) → IsWellFormed g → PassesSystems g lines → PassesEachLine test g lines
+      → test_of (found_by test) version g lines
+  absent_by_lines tests.TooFar wf right h = λ first. (too_far_by_line g lines).0 h
+  absent_by_lines tests.Root wf right h = (root_by_line g lines).0 h
+  absent_by_lines tests.Steps wf right h = (steps_by_line g lines).0 h
+  absent_by_lines tests.Parent wf right h = (parent_by_line g lines).0 h
+  absent_by_lines tests.Identity wf right h = (identity_by_line g lines).0 h
+  absent_by_lines tests.Tie wf right h = (tie_by_line g lines wf right).0 h
+  absent_by_lines tests.Role wf right h = (role_by_line g lines).0 h
+
   -- this fault's test passes
   abbrev pub IsAbsent : Fault → Type 0
   IsAbsent fault = test_of fault version g lines
@@ -68,6 +79,16 @@ module _ (version : ℕ) (g : Snapshot) (lines : List SystemLine) where
       passes : (earlier : Fault) → In earlier (Systems ∷ take i later_faults) → test_of earlier version g lines
       passes earlier (inl e) = subst IsAbsent (sym e) right
       passes earlier (inr k) = hold_before IsAbsent later_faults i h earlier k
+
+  -- where another fault is the first, the systems are right
+  pub systems_before : (fault : Fault) → IsFirstFault version g lines fault → (fault ≡ Systems → ⊥)
+      → PassesSystems g lines
+  systems_before fault first other = by_front first.before first.order first.passes
+    where
+      by_front : (before : List Fault) → before ++ fault ∷ first.after ≡ faults_in_order
+          → ((earlier : Fault) → In earlier before → test_of earlier version g lines) → PassesSystems g lines
+      by_front [] e passes = absurd (other cc)
+      by_front (b ∷ bs) e passes = let same : b ≡ Systems = cc in subst IsAbsent same (passes b (inl refl))
 
   -- where all are absent, all local tests pass
   all_absent : PassesSystems g lines → ((fault : Fault) → In fault later_faults → test_of fault version g lines)

@@ -6,3 +6,5 @@ pub mod LineTestLemmas
 pub mod FaultLemmas
 pub mod LawLemmas
 pub mod ReadableLemmas
+pub mod LocatedLemmas
+pub mod EndLemmas

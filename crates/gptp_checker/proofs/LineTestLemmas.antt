@@ -129,7 +129,7 @@ module _ (g : Snapshot) (lines : List SystemLine) where
   PassesEachLink = (l : Link) → In l g.links → AgreeOver lines l.a.clock l.b.clock
 
   -- seen from the other end
-  turned : (one other : SystemLine) → AgreeAcross one other → AgreeAcross other one
+  pub turned : (one other : SystemLine) → AgreeAcross one other → AgreeAcross other one
   turned one other a = record { roots = sym a.roots; here = a.there; there = a.here }
 
   pub link_by_link : PassesEachLink ↔ PassesLink g lines

@@ -50,7 +50,7 @@ numbers_by (p ∷ ports) a (suc n) e h =
 
 module _ (P : PortLine → Type 0) (ports items : List (ℕ × Role)) (i : ℕ) (e : ports ≡ items) where
   -- the port line at a place
-  line_there : i < length ports → slice_get (map port_line_of items) i ≡ Some (port_line_of (port_at ports i))
+  pub line_there : i < length ports → slice_get (map port_line_of items) i ≡ Some (port_line_of (port_at ports i))
   line_there b =
       subst (λ (xs : List (ℕ × Role)). slice_get (map port_line_of xs) i ≡ Some (port_line_of (port_at ports i))) e
       (slice_get-map port_line_of ports i ∙ ap (option_map port_line_of) (slice_get-get_or ports i (0, Disabled) b))
@@ -68,13 +68,6 @@ module _ (P : PortLine → Type 0) (ports items : List (ℕ × Role)) (i : ℕ) 
       → (port : PortLine) → In port (map port_line_of items) → P port
   all_ports h b = all_hold P (map port_line_of items) i h (let n = length-map items port_line_of in
       let m : length ports ≡ length items = ap length e in omega arith)
-
-  -- one of which it doesn't hold
-  pub port_fails : {A : Type 0} → i < length ports → (P (port_line_of (port_at ports i)) → ⊥)
-      → ((port : PortLine) → In port (map port_line_of items) → P port) → A
-  port_fails b f h =
-      absurd (f (h (port_line_of (port_at ports i))
-      (In-slice_get (port_line_of (port_at ports i)) (map port_line_of items) i (line_there b))))
 
 -- roles by their names
 role_back : settled.Role → Role

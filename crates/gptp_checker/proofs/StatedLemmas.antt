@@ -28,7 +28,7 @@ pub same_number : (m n : ℕ) → Some m ≡ Some n → m ≡ n
 same_number m n e = cc
 
 -- a parent is one that is stated
-same_parent : (o : Option ParentLink) (l k : ParentLink) → o ≡ Some l → o ≡ Some k → l ≡ k
+pub same_parent : (o : Option ParentLink) (l k : ParentLink) → o ≡ Some l → o ≡ Some k → l ≡ k
 same_parent o l k a b = cc
 
 -- two numbers that are compared

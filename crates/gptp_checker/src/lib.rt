@@ -11,6 +11,8 @@ pub mod laws;
 mod line_test;
 mod lines;
 mod links;
+mod locating;
+mod location;
 mod nearer;
 mod roles;
 mod stated;
@@ -19,4 +21,6 @@ mod ties;
 
 pub use acceptance::accepts;
 pub use fault::Fault;
+pub use locating::locate;
+pub use location::Location;
 pub use stated::{line_of, steps_of};

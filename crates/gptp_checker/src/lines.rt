@@ -1,6 +1,6 @@
 //! The tests that each line has to pass.
 
-ghost use Rattle.std.specs.Prelude.{◌≡◌, ◌↔◌, true, IsTrue, Some, slice_get};
+ghost use Rattle.std.specs.Prelude.{◌≡◌, ◌↔◌, true, IfNone, IfSome, IsTrue, Some, slice_get};
 ghost use Rattle.gptp_certificate_text.specs.Certificate.{line_of, parent_of};
 ghost use Rattle.gptp_graph.specs.LocalTests.{PassesSystems};
 ghost use Rattle.gptp_graph.specs.Labelling as graphs;
@@ -8,13 +8,14 @@ ghost use Rattle.gptp_lists.specs.Members.{In};
 ghost use Rattle.gptp_graph.specs.Parent.{ParentLink};
 ghost use Rattle.gptp_graph.specs.Snapshot.{clocks};
 ghost use Rattle.gptp_checker.specs.LineTests.{FitsSteps, Follows, HasLowRoot, HasNearer, HasOwnRoot, PassesEachLine, PassesLine};
+ghost use Rattle.gptp_checker.specs.Located.{IsFirstLine};
 ghost use Rattle.gptp_checker.specs.declared.line_test.LineTest.TheVariants as tests;
 
 use crate::line_test::LineTest;
 use crate::nearer::has_nearer;
-use crate::roles::has_roles;
+use crate::roles::wrong_role;
 use crate::stated::{identity_of, joins, steps_of};
-use crate::ties::follows_lowest;
+use crate::ties::lower_way;
 use gptp_certificate_text::{Certificate, SystemLine};
 use gptp_network::Snapshot;
 use gptp_vector::PortId;
@@ -127,14 +128,15 @@ fn passes(snapshot: &Snapshot, certificate: &Certificate, line: &SystemLine, tes
     requires stated { In (line_of line.now) certificate.now.lines }
     ensures { IsTrue result ↔ PassesLine test snapshot.now certificate.now.lines (line_of line.now) }
 {
+    certificate.well_formed();
     match test {
         LineTest::TooFar => line.steps < 255,
         LineTest::Root => has_own_root(snapshot, line),
         LineTest::Steps => fits_steps(line),
         LineTest::Parent => follows_nearer(snapshot, certificate, line),
         LineTest::Identity => has_low_root(snapshot, line),
-        LineTest::Tie => follows_lowest(snapshot, certificate, line),
-        LineTest::Role => has_roles(snapshot, certificate, line),
+        LineTest::Tie => lower_way(snapshot, certificate, line).is_none(),
+        LineTest::Role => wrong_role(snapshot, certificate, line).is_none(),
     }
 }
 
@@ -150,6 +152,25 @@ fn passes_at(snapshot: &Snapshot, certificate: &Certificate, place: usize, test:
     }
 }
 
+/// The first line that fails a test, if any does.
+pub(crate) fn first_failing<'a>(
+    snapshot: &Snapshot,
+    certificate: &'a Certificate,
+    test: LineTest,
+) -> Option<&'a SystemLine>
+    requires { PassesSystems snapshot.now certificate.now.lines }
+    ensures some { IfSome result (λ line. IsFirstLine test snapshot.now certificate.now.lines (line_of line.now)) }
+    ensures none { IfNone result (PassesEachLine test snapshot.now certificate.now.lines) }
+{
+    certificate.well_formed();
+    for place in 0..certificate.len() {
+        if !passes_at(snapshot, certificate, place, test) {
+            return certificate.line(place);
+        }
+    }
+    None
+}
+
 /// Whether every line passes a test.
 pub(crate) fn every_line_passes(
     snapshot: &Snapshot,
@@ -159,10 +180,5 @@ pub(crate) fn every_line_passes(
     requires { PassesSystems snapshot.now certificate.now.lines }
     ensures { IsTrue result ↔ PassesEachLine test snapshot.now certificate.now.lines }
 {
-    for place in 0..certificate.len() {
-        if !passes_at(snapshot, certificate, place, test) {
-            return false;
-        }
-    }
-    true
+    first_failing(snapshot, certificate, test).is_none()
 }

@@ -1,9 +1,11 @@
 //! The tests of a line's ports.
 
-ghost use Rattle.std.specs.Prelude.{◌≡◌, ◌⊎◌, ◌↔◌, ◌<◌, IsTrue};
-ghost use Rattle.gptp_certificate_text.specs.Certificate.{line_of, role_of};
+ghost use Rattle.std.specs.Prelude.{◌≡◌, ◌⊎◌, ◌↔◌, ◌<◌, IfNone, IfSome, IsTrue};
+ghost use Rattle.gptp_certificate_text.specs.Certificate.{AreInOrder, line_of, role_of};
+ghost use Rattle.gptp_lists.specs.Members.{In};
 ghost use Rattle.gptp_graph.specs.LocalTests.{HasStatedRole, PassesSystems, StatesSlave};
 ghost use Rattle.gptp_checker.specs.LineTests.{IsNearer, PassesLine};
+ghost use Rattle.gptp_checker.specs.Located.{IsFirstRole};
 ghost use Rattle.gptp_checker.specs.declared.line_test.LineTest.TheVariants as tests;
 
 use crate::stated::steps_of;
@@ -67,15 +69,22 @@ fn role_at(snapshot: &Snapshot, certificate: &Certificate, line: &SystemLine, nu
     }
 }
 
-/// Whether each port of a line has the role that links, parent and steps give it.
-pub(crate) fn has_roles(snapshot: &Snapshot, certificate: &Certificate, line: &SystemLine) -> bool
-    requires { PassesSystems snapshot.now certificate.now.lines }
-    ensures { IsTrue result ↔ PassesLine tests.Role snapshot.now certificate.now.lines (line_of line.now) }
+/// The number of the first port of a line that has another role than links, parent and steps give it, if there is one.
+pub(crate) fn wrong_role(
+    snapshot: &Snapshot,
+    certificate: &Certificate,
+    line: &SystemLine,
+) -> Option<u16>
+    requires systems { PassesSystems snapshot.now certificate.now.lines }
+    requires order { AreInOrder certificate.now.lines }
+    requires stated { In (line_of line.now) certificate.now.lines }
+    ensures some { IfSome result (IsFirstRole snapshot.now certificate.now.lines (line_of line.now)) }
+    ensures none { IfNone result (PassesLine tests.Role snapshot.now certificate.now.lines (line_of line.now)) }
 {
     for port in &line.ports {
         if role_at(snapshot, certificate, line, port.0) != port.1 {
-            return false;
+            return Some(port.0);
         }
     }
-    true
+    None
 }

@@ -1,11 +1,13 @@
 //! Whether a parent is the first of those that are as near.
 
-ghost use Rattle.std.specs.Prelude.{◌↔◌, [], ◌∷◌, IsTrue};
-ghost use Rattle.gptp_certificate_text.specs.Certificate.{line_of, parent_of};
+ghost use Rattle.std.specs.Prelude.{◌↔◌, [], ◌∷◌, IfNone, IfSome, IsTrue};
+ghost use Rattle.gptp_certificate_text.specs.Certificate.{AreInOrder, line_of, parent_of};
+ghost use Rattle.gptp_lists.specs.Members.{In};
 ghost use Rattle.gptp_graph.specs.LocalTests.{PassesSystems};
 ghost use Rattle.gptp_graph.specs.Order.{IsLower};
 ghost use Rattle.gptp_graph.specs.Parent.{key};
 ghost use Rattle.gptp_checker.specs.LineTests.{AreNoLower, IsNoLower, PassesLine};
+ghost use Rattle.gptp_checker.specs.Located.{IsFirstLower, IsLowerWay};
 ghost use Rattle.gptp_checker.specs.declared.line_test.LineTest.TheVariants as tests;
 
 use crate::stated::steps_of;
@@ -52,37 +54,50 @@ fn is_no_lower(
     !is_lower(other, number, *parent, own_port)
 }
 
-/// Whether no link at a port of a line leads to a system whose steps are one less and goes before that of the parent.
-fn are_no_lower(
+/// The number of the first port of a line whose link leads to a system whose steps are one less and goes before that of
+/// the parent, if there is one.
+fn first_lower(
     snapshot: &Snapshot,
     certificate: &Certificate,
     line: &SystemLine,
     own_port: u16,
     parent: PortId,
-) -> bool
-    requires { PassesSystems snapshot.now certificate.now.lines }
-    ensures { IsTrue result
-        ↔ AreNoLower snapshot.now certificate.now.lines (line_of line.now) (parent_of (own_port, parent)) }
+) -> Option<u16>
+    requires systems { PassesSystems snapshot.now certificate.now.lines }
+    requires order { AreInOrder certificate.now.lines }
+    requires stated { In (line_of line.now) certificate.now.lines }
+    ensures some { IfSome result
+        (IsFirstLower snapshot.now certificate.now.lines (line_of line.now) (parent_of (own_port, parent))) }
+    ensures none { IfNone result
+        (AreNoLower snapshot.now certificate.now.lines (line_of line.now) (parent_of (own_port, parent))) }
 {
     for port in &line.ports {
         if !is_no_lower(snapshot, certificate, line, own_port, &parent, port.0) {
-            return false;
+            return Some(port.0);
         }
     }
-    true
+    None
 }
 
-/// Whether the parent of a line, if it has one, goes first among those that are as near.
-pub(crate) fn follows_lowest(
+/// The first link of a line that goes before that of its parent, if there is one: its own end and the other.
+pub(crate) fn lower_way(
     snapshot: &Snapshot,
     certificate: &Certificate,
     line: &SystemLine,
-) -> bool
-    requires { PassesSystems snapshot.now certificate.now.lines }
-    ensures { IsTrue result ↔ PassesLine tests.Tie snapshot.now certificate.now.lines (line_of line.now) }
+) -> Option<(PortId, PortId)>
+    requires systems { PassesSystems snapshot.now certificate.now.lines }
+    requires order { AreInOrder certificate.now.lines }
+    requires stated { In (line_of line.now) certificate.now.lines }
+    ensures some { IfSome result
+        (λ way. IsLowerWay snapshot.now certificate.now.lines (line_of line.now) way.0 way.1) }
+    ensures none { IfNone result (PassesLine tests.Tie snapshot.now certificate.now.lines (line_of line.now)) }
 {
-    match line.parent {
-        Some((own_port, parent)) => are_no_lower(snapshot, certificate, line, own_port, parent),
-        None => true,
-    }
+    snapshot.well_formed();
+    let (own_port, parent) = line.parent?;
+    let number = first_lower(snapshot, certificate, line, own_port, parent)?;
+    let port = PortId {
+        clock: line.clock,
+        port: number,
+    };
+    Some((port, snapshot.other_end(port)?))
 }

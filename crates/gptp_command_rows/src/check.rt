@@ -28,58 +28,59 @@ pub fn checked(
 }
 
 /// What the first of the two systems says: that it is the root, or what is wrong.
-const FIRST: &str = "system 0000000000000001 root f6f8fe436af80000000000000001 steps 0 parent none
+pub const FIRST: &str =
+    "system 0000000000000001 root f6f8fe436af80000000000000001 steps 0 parent none
 port 0000000000000001 1 master
 ";
 
-const FIRST_FOLLOWS: &str =
+pub const FIRST_FOLLOWS: &str =
     "system 0000000000000001 root f6f8fe436af80000000000000002 steps 1 parent 1 0000000000000002 1
 port 0000000000000001 1 slave
 ";
 
-const FIRST_OF_ANOTHER_ROOT: &str =
+pub const FIRST_OF_ANOTHER_ROOT: &str =
     "system 0000000000000001 root f6f8fe436af80000000000000002 steps 0 parent none
 port 0000000000000001 1 master
 ";
 
 /// What the second says: that it follows the first, or what is wrong.
-const SECOND: &str =
+pub const SECOND: &str =
     "system 0000000000000002 root f6f8fe436af80000000000000001 steps 1 parent 1 0000000000000001 1
 port 0000000000000002 1 slave
 ";
 
-const SECOND_OF_ITS_OWN: &str =
+pub const SECOND_OF_ITS_OWN: &str =
     "system 0000000000000002 root f6f8fe436af80000000000000002 steps 0 parent none
 port 0000000000000002 1 master
 ";
 
-const SECOND_PASSIVE: &str =
+pub const SECOND_PASSIVE: &str =
     "system 0000000000000002 root f6f8fe436af80000000000000001 steps 1 parent 1 0000000000000001 1
 port 0000000000000002 1 passive
 ";
 
-const SECOND_ZERO_PADDED: &str =
+pub const SECOND_ZERO_PADDED: &str =
     "system 0000000000000002 root f6f8fe436af80000000000000001 steps 01 parent 1 0000000000000001 1
 port 0000000000000002 1 slave
 ";
 
-const SECOND_NO_STEP_AWAY: &str =
+pub const SECOND_NO_STEP_AWAY: &str =
     "system 0000000000000002 root f6f8fe436af80000000000000001 steps 0 parent 1 0000000000000001 1
 port 0000000000000002 1 slave
 ";
 
-const SECOND_TWO_STEPS_AWAY: &str =
+pub const SECOND_TWO_STEPS_AWAY: &str =
     "system 0000000000000002 root f6f8fe436af80000000000000001 steps 2 parent 1 0000000000000001 1
 port 0000000000000002 1 slave
 ";
 
-const SECOND_TOO_FAR: &str =
+pub const SECOND_TOO_FAR: &str =
     "system 0000000000000002 root f6f8fe436af80000000000000001 steps 255 parent 1 0000000000000001 1
 port 0000000000000002 1 slave
 ";
 
 /// A certificate, of version 1, of two systems.
-fn certificate(alloc: Global, one: &str, other: &str) -> Result<String, AllocError> {
+pub fn certificate(alloc: Global, one: &str, other: &str) -> Result<String, AllocError> {
     format!(in alloc; "gptp-certificate 1\n{one}{other}end\n")
 }
 
@@ -153,11 +154,12 @@ fn certificates_are_judged_by_number_and_name(rt: HostRuntime) -> Result<(), Fai
 }
 
 /// That a system is far.
-const FIRST_FAR: &str = "system 0000000000000001 far 255 root f6f8fe436af80000000000000001\n";
+pub const FIRST_FAR: &str = "system 0000000000000001 far 255 root f6f8fe436af80000000000000001\n";
 
-const SECOND_FAR: &str = "system 0000000000000002 far 256 root f6f8fe436af80000000000000001\n";
+pub const SECOND_FAR: &str = "system 0000000000000002 far 256 root f6f8fe436af80000000000000001\n";
 
-const SECOND_FAR_FEW: &str = "system 0000000000000002 far 1 root f6f8fe436af80000000000000001\n";
+pub const SECOND_FAR_FEW: &str =
+    "system 0000000000000002 far 1 root f6f8fe436af80000000000000001\n";
 
 const SECOND_FAR_PADDED: &str =
     "system 0000000000000002 far 0255 root f6f8fe436af80000000000000001\n";
@@ -166,7 +168,7 @@ const SECOND_FAR_TOO_MANY: &str =
     "system 0000000000000002 far 65536 root f6f8fe436af80000000000000001\n";
 
 /// A port, misspelled or of another clock, after that.
-const SECOND_FAR_PORT: &str = "system 0000000000000002 far 256 root f6f8fe436af80000000000000001
+pub const SECOND_FAR_PORT: &str = "system 0000000000000002 far 256 root f6f8fe436af80000000000000001
 port 0000000000000002 01 slave
 ";
 
@@ -300,7 +302,7 @@ fn of_two_parents_the_better_is_asked_for(rt: HostRuntime) -> Result<(), Fail> {
 }
 
 /// The first system fails at 40 s.
-const FAILURE: &str = "[[event]]
+pub const FAILURE: &str = "[[event]]
 at = 40000000000
 kind = \"fail\"
 clock = \"0000000000000001\"

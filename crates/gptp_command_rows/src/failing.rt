@@ -11,6 +11,8 @@ use gptp_commands::question::{Question, answer_question};
 use gptp_commands::run::{RunOptions, run};
 use gptp_commands::sink::{Sink, WriteFailed};
 use gptp_commands::source::{ReadFailed, Source};
+use gptp_commands::timeline::{TimelineOrder, timeline};
+use gptp_timeline::{Limits, TimelineOptions};
 use std::alloc::Global;
 use std::test::Fail;
 
@@ -79,6 +81,24 @@ const OPTIONS: RunOptions = RunOptions {
     certificate: true,
 };
 
+/// What is asked of the timeline: all lines up to some time, and a verdict.
+const ORDER: TimelineOrder = TimelineOrder {
+    until: Some(1_500_000_000),
+    seed: 1,
+    options: TimelineOptions {
+        summary: false,
+        offsets: true,
+        limits: Limits {
+            choice: Some(0),
+            holdover: None,
+            error: None,
+            without: None,
+            roots: None,
+            alone: None,
+        },
+    },
+};
+
 /// What the two systems say once they have settled.
 const CERTIFICATE: &str = "gptp-certificate 1
 system 0000000000000001 root f6f8fe436af80000000000000001 steps 0 parent none
@@ -93,14 +113,16 @@ end
 enum Command {
     Compare,
     Run,
+    Timeline,
     Check,
     Explain,
 }
 
 /// What each reads.
-const COMMANDS: [(Command, &str); 4] = [
+const COMMANDS: [(Command, &str); 5] = [
     (Command::Compare, "one two\n\none\n"),
     (Command::Run, TWO),
+    (Command::Timeline, TWO),
     (Command::Check, TWO),
     (Command::Explain, TWO),
 ];
@@ -133,6 +155,7 @@ fn ended(
     let outcome = match command {
         Command::Compare => compare_lines(alloc, &mut source, &mut sink),
         Command::Run => run(alloc, &mut source, &mut sink, &OPTIONS),
+        Command::Timeline => timeline(alloc, &mut source, &mut sink, &ORDER),
         Command::Check => check(alloc, &mut source, &mut other, &mut sink, None),
         Command::Explain => {
             let question = Question::Explain {

@@ -22,10 +22,16 @@ mod far;
 #[cfg(test)]
 mod inject;
 #[cfg(test)]
+mod limits;
+#[cfg(test)]
 mod lint;
+#[cfg(test)]
+mod place;
 #[cfg(test)]
 mod refusals;
 #[cfg(test)]
 mod run;
 #[cfg(test)]
 mod same;
+#[cfg(test)]
+mod timeline;

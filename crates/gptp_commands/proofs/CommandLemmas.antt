@@ -25,7 +25,7 @@ use Rattle.gptp_commands.specs.Command.{AsksFor, BeginsWith, Enters, IsCompare, 
 use Rattle.gptp_commands.specs.declared.command.CommandLineError.{CommandLineError}
 use Rattle.gptp_commands.specs.declared.command.CommandLineError.TheVariants.{Memory}
 use Rattle.gptp_commands.specs.declared.command.Order.{Order}
-use Rattle.gptp_commands.specs.declared.command.Order.TheVariants.{Ask, Check, Compare, Run}
+use Rattle.gptp_commands.specs.declared.command.Order.TheVariants.{Ask, Check, Compare, Run, Timeline}
 use Rattle.gptp_commands.specs.declared.question.Question.{Question}
 use Rattle.gptp_commands.specs.declared.question.Question.TheVariants.{Accuracy, Choice, Explain, Lint}
 
@@ -203,6 +203,12 @@ stops_at_lint words =
     ap (λ (w : Walk). w.stopped)
     (sym (walk_stopped help_rules names (walk_from nothing_held) (codes "lint") [] words))
 
+stops_at_timeline : (words : List Text) → stop (codes "timeline" ∷ words) ≡ Some (codes "timeline", words)
+unfolding walked
+stops_at_timeline words =
+    ap (λ (w : Walk). w.stopped)
+    (sym (walk_stopped help_rules names (walk_from nothing_held) (codes "timeline") [] words))
+
 -- the words behind `compare` are left to it
 words_behind : (words : List Text) → fault (codes "compare" ∷ words) ≡ [] → (words ≡ []) ⊎ (words ≡ codes "--" ∷ [])
 words_behind words none =
@@ -235,7 +241,8 @@ named words (inr mark) = inr (rw mark refl)
 abbrev IsOther : Text → Type 0
 IsOther name =
     (name ≡ codes "run") ⊎ ((name ≡ codes "check") ⊎ ((name ≡ codes "choice")
-    ⊎ ((name ≡ codes "accuracy") ⊎ ((name ≡ codes "explain") ⊎ (name ≡ codes "lint")))))
+    ⊎ ((name ≡ codes "accuracy") ⊎ ((name ≡ codes "explain")
+    ⊎ ((name ≡ codes "lint") ⊎ (name ≡ codes "timeline"))))))
 
 -- one of the commands is named
 abbrev NamesOne : List Text → Type 0
@@ -247,42 +254,52 @@ begins name word words other same =
     inr (name, other, (words, ap (λ first. first ∷ words) (sym ((bytes_eq-Decides name word).0 same))))
 
 -- by what the first word is
-first_word : (is_compare is_run is_check is_choice is_accuracy is_explain is_lint is_help is_mark : Bool) (word : Text)
-    (words : List Text)
+first_word : (is_compare is_run is_check is_choice is_accuracy is_explain is_lint is_timeline is_help is_mark : Bool)
+    (word : Text) (words : List Text)
     → bytes_eq (codes "compare") word ≡ is_compare → bytes_eq (codes "run") word ≡ is_run
     → bytes_eq (codes "check") word ≡ is_check → bytes_eq (codes "choice") word ≡ is_choice
     → bytes_eq (codes "accuracy") word ≡ is_accuracy → bytes_eq (codes "explain") word ≡ is_explain
-    → bytes_eq (codes "lint") word ≡ is_lint → bytes_eq (codes "help") word ≡ is_help
-    → bytes_eq word (codes "--") ≡ is_mark → fault (word ∷ words) ≡ [] → NamesOne (word ∷ words)
+    → bytes_eq (codes "lint") word ≡ is_lint → bytes_eq (codes "timeline") word ≡ is_timeline
+    → bytes_eq (codes "help") word ≡ is_help → bytes_eq word (codes "--") ≡ is_mark
+    → fault (word ∷ words) ≡ [] → NamesOne (word ∷ words)
 unfolding walk_fault
-first_word true is_run is_check is_choice is_accuracy is_explain is_lint is_help is_mark word words compare run check
-    choice accuracy explain lint help mark none =
+first_word true is_run is_check is_choice is_accuracy is_explain is_lint is_timeline is_help is_mark word words
+    compare run check choice accuracy explain lint timeline help mark none =
     let word_is : codes "compare" ≡ word = (bytes_eq-Decides (codes "compare") word).0 compare in
     inl (rw (← word_is) (named words (words_behind words (rw (← word_is) at none))))
-first_word false true is_check is_choice is_accuracy is_explain is_lint is_help is_mark word words compare run check
-    choice accuracy explain lint help mark none = begins (codes "run") word words (inl refl) run
-first_word false false true is_choice is_accuracy is_explain is_lint is_help is_mark word words compare run check
-    choice accuracy explain lint help mark none = begins (codes "check") word words (inr (inl refl)) check
-first_word false false false true is_accuracy is_explain is_lint is_help is_mark word words compare run check choice
-    accuracy explain lint help mark none = begins (codes "choice") word words (inr (inr (inl refl))) choice
-first_word false false false false true is_explain is_lint is_help is_mark word words compare run check choice
-    accuracy explain lint help mark none = begins (codes "accuracy") word words (inr (inr (inr (inl refl)))) accuracy
-first_word false false false false false true is_lint is_help is_mark word words compare run check choice accuracy
-    explain lint help mark none = begins (codes "explain") word words (inr (inr (inr (inr (inl refl))))) explain
-first_word false false false false false false true is_help is_mark word words compare run check choice accuracy
-    explain lint help mark none = begins (codes "lint") word words (inr (inr (inr (inr (inr refl))))) lint
-first_word false false false false false false false true is_mark word words compare run check choice accuracy explain
-    lint help mark none =
+first_word false true is_check is_choice is_accuracy is_explain is_lint is_timeline is_help is_mark word words compare
+    run check choice accuracy explain lint timeline help mark none =
+    begins (codes "run") word words (inl refl) run
+first_word false false true is_choice is_accuracy is_explain is_lint is_timeline is_help is_mark word words compare
+    run check choice accuracy explain lint timeline help mark none =
+    begins (codes "check") word words (inr (inl refl)) check
+first_word false false false true is_accuracy is_explain is_lint is_timeline is_help is_mark word words compare run
+    check choice accuracy explain lint timeline help mark none =
+    begins (codes "choice") word words (inr (inr (inl refl))) choice
+first_word false false false false true is_explain is_lint is_timeline is_help is_mark word words compare run check
+    choice accuracy explain lint timeline help mark none =
+    begins (codes "accuracy") word words (inr (inr (inr (inl refl)))) accuracy
+first_word false false false false false true is_lint is_timeline is_help is_mark word words compare run check choice
+    accuracy explain lint timeline help mark none =
+    begins (codes "explain") word words (inr (inr (inr (inr (inl refl))))) explain
+first_word false false false false false false true is_timeline is_help is_mark word words compare run check choice
+    accuracy explain lint timeline help mark none =
+    begins (codes "lint") word words (inr (inr (inr (inr (inr (inl refl)))))) lint
+first_word false false false false false false false true is_help is_mark word words compare run check choice accuracy
+    explain lint timeline help mark none =
+    begins (codes "timeline") word words (inr (inr (inr (inr (inr (inr refl)))))) timeline
+first_word false false false false false false false false true is_mark word words compare run check choice accuracy
+    explain lint timeline help mark none =
     let word_is : codes "help" ≡ word = (bytes_eq-Decides (codes "help") word).0 help in
     absurd (help_asked words (rw (← word_is) at none))
-first_word false false false false false false false false true word words compare run check choice accuracy explain
-    lint help mark none =
+first_word false false false false false false false false false true word words compare run check choice accuracy
+    explain lint timeline help mark none =
     let word_is : word ≡ codes "--" = (bytes_eq-Decides word (codes "--")).0 mark in
     absurd (mark_alone words (rw word_is at none))
-first_word false false false false false false false false false word words compare run check choice accuracy explain
-    lint help mark none =
+first_word false false false false false false false false false false word words compare run check choice accuracy
+    explain lint timeline help mark none =
     let no_name : subcommand_met names idle word ≡ None =
-    rw (compare, run, check, choice, accuracy, explain, lint, help) refl in
+    rw (compare, run, timeline, check, choice, accuracy, explain, lint, help) refl in
     absurd (strange top names word no_name mark (first_none _ _ (walk_finds_none (word ∷ words) none)))
 
 -- no word at all
@@ -295,9 +312,9 @@ words_named [] none = absurd (nothing_named none)
 words_named (word ∷ words) none =
     first_word (bytes_eq (codes "compare") word) (bytes_eq (codes "run") word) (bytes_eq (codes "check") word)
     (bytes_eq (codes "choice") word) (bytes_eq (codes "accuracy") word) (bytes_eq (codes "explain") word)
-    (bytes_eq (codes "lint") word)
-    (bytes_eq (codes "help") word) (bytes_eq word (codes "--")) word words
-    refl refl refl refl refl refl refl refl refl none
+    (bytes_eq (codes "lint") word) (bytes_eq (codes "timeline") word) (bytes_eq (codes "help") word)
+    (bytes_eq word (codes "--")) word words
+    refl refl refl refl refl refl refl refl refl refl none
 
 -- ---- the command that the parser enters is the one that is named
 
@@ -320,7 +337,10 @@ enters_other words name (inr (inr (inl is))) (others, begins) = rw (begins, is, 
 enters_other words name (inr (inr (inr (inl is)))) (others, begins) = rw (begins, is, stops_at_accuracy others) refl
 enters_other words name (inr (inr (inr (inr (inl is))))) (others, begins) =
     rw (begins, is, stops_at_explain others) refl
-enters_other words name (inr (inr (inr (inr (inr is))))) (others, begins) = rw (begins, is, stops_at_lint others) refl
+enters_other words name (inr (inr (inr (inr (inr (inl is)))))) (others, begins) =
+    rw (begins, is, stops_at_lint others) refl
+enters_other words name (inr (inr (inr (inr (inr (inr is)))))) (others, begins) =
+    rw (begins, is, stops_at_timeline others) refl
 
 -- it enters one command only
 one_name : (words : List Text) (name other : Text) → entered_name words ≡ Some name → entered_name words ≡ Some other
@@ -344,8 +364,11 @@ not_compare name (inr (inr (inr (inl is)))) same =
 not_compare name (inr (inr (inr (inr (inl is))))) same =
     let last : ◌≡◌ {A = ℕ} 101 110 = ap (λ text. slice_index text 6) (same ∙ is) in
     absurd (omega arith)
-not_compare name (inr (inr (inr (inr (inr is))))) same =
+not_compare name (inr (inr (inr (inr (inr (inl is)))))) same =
     let count : ◌≡◌ {A = ℕ} 7 4 = ap length (same ∙ is) in
+    absurd (omega arith)
+not_compare name (inr (inr (inr (inr (inr (inr is)))))) same =
+    let count : ◌≡◌ {A = ℕ} 7 8 = ap length (same ∙ is) in
     absurd (omega arith)
 
 -- `compare`, where the parser entered none of the others
@@ -393,7 +416,7 @@ question_other : (question : Question) → IsOther (name_of question)
 question_other (Choice until) = inr (inr (inl refl))
 question_other (Accuracy until max_error) = inr (inr (inr (inl refl)))
 question_other (Explain clock until) = inr (inr (inr (inr (inl refl))))
-question_other (Lint strict) = inr (inr (inr (inr (inr refl))))
+question_other (Lint strict) = inr (inr (inr (inr (inr (inl refl)))))
 
 -- what the matches ask for is what the words ask for
 pub asked : (parsed : App) (words : List Text) (m : ArgMatches) (order : Order) → parsed ≡ program
@@ -412,7 +435,10 @@ asked parsed words m Compare is matches accepted entered =
             | inl accuracy ↦ entered.3 (same ∙ entered_is ∙ ap Some accuracy)
             | inr i ↦ elim i [
               | inl explain ↦ entered.4 (same ∙ entered_is ∙ ap Some explain)
-              | inr lint ↦ entered.5 (same ∙ entered_is ∙ ap Some lint)
+              | inr h ↦ elim h [
+                | inl lint ↦ entered.5 (same ∙ entered_is ∙ ap Some lint)
+                | inr timeline ↦ entered.6 (same ∙ entered_is ∙ ap Some timeline)
+              ]
             ]
           ]
         ]
@@ -422,6 +448,12 @@ asked parsed words m (Run options) is matches accepted entered =
     let rows_are = sym (rows_of_words parsed words m is matches) ∙ entered.1 in (
       other_named (drop 1 words) (codes "run") (accepted_words parsed words is accepted) (inl refl)
           (ap name_in rows_are),
+      (entered.0, rows_are, entered.2),
+    )
+asked parsed words m (Timeline order) is matches accepted entered =
+    let rows_are = sym (rows_of_words parsed words m is matches) ∙ entered.1 in (
+      other_named (drop 1 words) (codes "timeline") (accepted_words parsed words is accepted)
+          (inr (inr (inr (inr (inr (inr refl)))))) (ap name_in rows_are),
       (entered.0, rows_are, entered.2),
     )
 asked parsed words m (Check options) is matches accepted entered =
@@ -447,6 +479,7 @@ question_in_range rows (Lint strict) reads = tt
 pub asked_in_range : (words : List Text) (order : Order) → AsksFor words order → OrderIsInRange order
 asked_in_range words Compare asks = tt
 asked_in_range words (Run options) asks = (asks.1.2.until.range, asks.1.2.seed.range)
+asked_in_range words (Timeline order) asks = (asks.1.2.until.range, asks.1.2.seed.range)
 asked_in_range words (Check options) asks = asks.1.2.until.range
 asked_in_range words (Ask question) asks = question_in_range asks.1.0 question asks.1.2
 
@@ -572,7 +605,8 @@ none_wrong words (inr (inr (inl explain))) = rw explain.1.0 (plain_clock explain
 none_wrong words (inr (inr (inr (inl run)))) = rw run refl
 none_wrong words (inr (inr (inr (inr (inl choice))))) = rw choice refl
 none_wrong words (inr (inr (inr (inr (inr (inl accuracy)))))) = rw accuracy refl
-none_wrong words (inr (inr (inr (inr (inr (inr lint)))))) = rw lint refl
+none_wrong words (inr (inr (inr (inr (inr (inr (inl lint))))))) = rw lint refl
+none_wrong words (inr (inr (inr (inr (inr (inr (inr timeline))))))) = rw timeline refl
 
 no_kind : (error : Error) → HasKind [] error → kind_of error ≡ OutOfMemory
 no_kind error (inl memory) = memory
@@ -650,9 +684,13 @@ plain_with_clock words rows rows_are lacks (inr (inr (inr (inr (inr (inl accurac
     let count : ◌≡◌ {A = ℕ} 8 7 = same_length (drop 1 words) (codes "accuracy") (inr (inr (inr (inl refl))))
     ([], accuracy) (ap name_in rows_are) in
     absurd (omega arith)
-plain_with_clock words rows rows_are lacks (inr (inr (inr (inr (inr (inr lint)))))) =
-    let count : ◌≡◌ {A = ℕ} 4 7 = same_length (drop 1 words) (codes "lint") (inr (inr (inr (inr (inr refl)))))
+plain_with_clock words rows rows_are lacks (inr (inr (inr (inr (inr (inr (inl lint))))))) =
+    let count : ◌≡◌ {A = ℕ} 4 7 = same_length (drop 1 words) (codes "lint") (inr (inr (inr (inr (inr (inl refl))))))
     ([], lint) (ap name_in rows_are) in
+    absurd (omega arith)
+plain_with_clock words rows rows_are lacks (inr (inr (inr (inr (inr (inr (inr timeline))))))) =
+    let count : ◌≡◌ {A = ℕ} 8 7 = same_length (drop 1 words) (codes "timeline") (inr (inr (inr (inr (inr (inr refl))))))
+    ([], timeline) (ap name_in rows_are) in
     absurd (omega arith)
 
 pub refused_order : (parsed : App) (words : List Text) (m : ArgMatches) (error : CommandLineError) → parsed ≡ program

@@ -6,8 +6,8 @@ use Rattle.std.specs.Str.Lines.{lines}
 use Rattle.std.proofs.lemmas.List.{map_push}
 use Rattle.std.proofs.lemmas.List.Concat.{flat_map-append}
 use Rattle.std.proofs.lemmas.List.Folds.{list_any-append}
-use Rattle.gptp_report.specs.Sink.{AppendsSome}
-use Rattle.gptp_report.proofs.SinkLemmas.{all_of, appends_both, appends_none, some_behind}
+use Rattle.gptp_sink.specs.Sink.{AppendsSome}
+use Rattle.gptp_sink.proofs.SinkLemmas.{all_of, appends_both, appends_none, some_behind}
 use Rattle.gptp_commands.specs.declared.answer.Answer.{Answer}
 use Rattle.gptp_commands.specs.Answer.{Answers, answer_text, is_refusal}
 use Rattle.gptp_commands.specs.Failure.{status_by}

@@ -1,12 +1,12 @@
 -- What is written for the octets that were read is written for all there are.
-use Rattle.std.proofs.Common.{◌≡◌, ℕ, ◌≤◌, Bool, true, false, nat_le, List, ◌++◌, [], length, Option, Some, None, Result, Ok, Err, inl, inr, refl, sym, ap, subst, ◌∙◌, append-nil, length-append, arith}
+use Rattle.std.proofs.Common.{◌≡◌, ℕ, ◌≤◌, ◌<◌, Bool, true, false, nat_le, List, ◌++◌, [], length, Option, Some, None, Result, Ok, Err, inl, inr, refl, sym, ap, subst, ◌∙◌, append-nil, length-append, arith}
 use Rattle.std.specs.Bool.{MatchBool}
 use Rattle.std.specs.Prelude.{IfErr, IfSome, OnErr}
 use Rattle.std.proofs.lemmas.Bool.{le-leb, leb-true, leb-false, lt-leb}
 use Rattle.gptp_commands.specs.declared.failure.Status.{Status}
 use Rattle.std.specs.Io.KnownBytes.{Appends}
-use Rattle.gptp_report.specs.Sink.{AppendsSome}
-use Rattle.gptp_report.proofs.SinkLemmas.{none_of}
+use Rattle.gptp_sink.specs.Sink.{AppendsSome}
+use Rattle.gptp_sink.proofs.SinkLemmas.{none_of}
 use Rattle.gptp_commands.specs.Limited.{Begins, Limited}
 use Rattle.gptp_commands.specs.Written.{Writes, WritesSome}
 use Rattle.gptp_spelling.specs.Lines.{text_of}
@@ -48,23 +48,37 @@ limited_weaker limit Within More Past input output status more text = by_size (n
     by_size true within = more within
     by_size false past = past
 
+-- what holds of a front of the input that is all of it, or too long by itself, holds of the input
+pub same_size : (limit : ℕ) (Within Past : List ℕ → Type 0) (input octets rest : List ℕ) → input ≡ octets ++ rest
+    → (length octets ≤ limit → rest ≡ []) → (limit < length octets → Past octets → Past input)
+    → MatchBool (nat_le (length octets) limit) (Within octets) (Past octets)
+    → MatchBool (nat_le (length input) limit) (Within input) (Past input)
+same_size limit Within Past input octets rest split whole past holds =
+    by_size (nat_le (length octets) limit) refl holds
+  where
+    by_size : (fits : Bool) → nat_le (length octets) limit ≡ fits → MatchBool fits (Within octets) (Past octets)
+        → MatchBool (nat_le (length input) limit) (Within input) (Past input)
+    by_size true test within =
+        let none : rest ≡ [] = whole (leb-true (length octets) limit test) in
+        let all : input ≡ octets = split ∙ rw none (append-nil octets) in
+        let fits : nat_le (length input) limit ≡ true = ap (λ xs. nat_le (length xs) limit) all ∙ test in
+        rw fits (subst Within (sym all) within)
+    by_size false test long =
+        let past_size = leb-false (length octets) limit test in
+        let longer : nat_le (length input) limit ≡ false =
+        lt-leb (length input) limit (omega (arith, ap length split, length-append octets rest)) in
+        rw longer (past past_size long)
+
 module _ (limit : ℕ) (Within : List ℕ → List (List ℕ) → Status → Type 0) (Past : List (List ℕ) → Status → Type 0) where
   abbrev Text : List ℕ → List (List ℕ) → Status → Type 0
   Text = Limited limit Within Past
 
-  -- a front of the input that is all of it, or too long by itself
-  fronts : (input octets rest : List ℕ) (fits : Bool) → input ≡ octets ++ rest → nat_le (length octets) limit ≡ fits
-      → (length octets ≤ limit → rest ≡ [])
+  -- the text for such a front is the text for the input
+  fronts : (input octets rest : List ℕ) → input ≡ octets ++ rest → (length octets ≤ limit → rest ≡ [])
       → (output : List (List ℕ)) (status : Status) → Text octets output status → Text input output status
-  fronts input octets rest true split test whole output status text =
-      let none : rest ≡ [] = whole (leb-true (length octets) limit test) in
-      let all : input ≡ octets = split ∙ rw none (append-nil octets) in
-      rw all text
-  fronts input octets rest false split test whole output status text =
-      let long = leb-false (length octets) limit test in
-      let longer : nat_le (length input) limit ≡ false =
-      lt-leb (length input) limit (omega (arith, ap length split, length-append octets rest)) in
-      rw longer (rw test at text)
+  fronts input octets rest split whole output status text =
+      same_size limit (λ xs. Within xs output status) (λ xs. Past output status) input octets rest split whole
+      (λ long past. past) text
 
   -- the text for the octets that were read is the text for all there are
   pub same_text : (left rest : Option (List ℕ)) (octets : List ℕ) → ReadsWhole limit left rest octets
@@ -73,7 +87,7 @@ module _ (limit : ℕ) (Within : List ℕ → List (List ℕ) → Status → Typ
   same_text None rest octets reads = tt
   same_text (Some xs) None octets reads = absurd reads.taken
   same_text (Some xs) (Some ys) octets reads =
-      fronts xs octets ys (nat_le (length octets) limit) reads.taken refl reads.whole
+      fronts xs octets ys reads.taken reads.whole
 
   -- what holds of the text for the octets that were read holds of the text for the input
   pub text_holds : (left rest : Option (List ℕ)) (octets text : List ℕ) (status : Status) (Q : List ℕ → Type 0)
@@ -114,7 +128,7 @@ module _ (limit : ℕ) (Within : List ℕ → List (List ℕ) → Status → Typ
     same_begins (Some xs) None octets reads = absurd reads.taken
     same_begins (Some xs) (Some ys) octets reads =
         begins_same xs octets ys reads.taken reads.whole
-        (fronts xs octets ys (nat_le (length octets) limit) reads.taken refl reads.whole)
+        (fronts xs octets ys reads.taken reads.whole)
 
     -- what was written of a text for the octets that were read was written of one for the input
     pub some_holds : (left rest : Option (List ℕ)) (octets : List ℕ) (old new : Option (List ℕ))

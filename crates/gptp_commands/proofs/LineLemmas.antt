@@ -4,9 +4,9 @@ use Rattle.std.specs.Io.KnownBytes.{Appends}
 use Rattle.std.proofs.lemmas.Option.{none-some, same_Some}
 use Rattle.gptp_spelling.specs.Lines.{text_of}
 use Rattle.gptp_certificate_text.specs.CertificateText.{PrintsLine}
-use Rattle.gptp_report.specs.Sink.{AppendsSome}
-use Rattle.gptp_report.proofs.FollowLemmas.{text_append}
-use Rattle.gptp_report.proofs.SinkLemmas.{all_of, appends_both, some_before, some_behind}
+use Rattle.gptp_sink.specs.Sink.{AppendsSome}
+use Rattle.gptp_world.proofs.FollowLemmas.{text_append}
+use Rattle.gptp_sink.proofs.SinkLemmas.{all_of, appends_both, some_before, some_behind}
 
 -- ---- the line at a place
 

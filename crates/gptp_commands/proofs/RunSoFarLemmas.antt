@@ -11,10 +11,10 @@ use Rattle.gptp_network.specs.Events.{AreEvents}
 use Rattle.gptp_plan.specs.Network.{IsNetwork}
 use Rattle.gptp_report.specs.Report.{Reports}
 use Rattle.gptp_report.specs.Run.{LeadsSoFar, LeadsTo}
-use Rattle.gptp_report.specs.Sink.{AppendsSome}
-use Rattle.gptp_report.proofs.FollowLemmas.{text_append}
+use Rattle.gptp_sink.specs.Sink.{AppendsSome}
+use Rattle.gptp_world.proofs.FollowLemmas.{text_append}
 use Rattle.gptp_report.proofs.RunLemmas.{led_so_far}
-use Rattle.gptp_report.proofs.SinkLemmas.{appends_both, some_before, some_behind}
+use Rattle.gptp_sink.proofs.SinkLemmas.{appends_both, some_before, some_behind}
 use Rattle.gptp_spelling.specs.Lines.{text_of}
 use Rattle.gptp_commands.specs.declared.failure.Status.TheVariants.{Done}
 use Rattle.gptp_commands.specs.declared.run.RunOptions.{RunOptions}

@@ -13,10 +13,12 @@ use Rattle.gptp_commands.specs.declared.command.CheckOptions.{CheckOptions}
 use Rattle.gptp_commands.specs.declared.command.CommandLineError.{CommandLineError}
 use Rattle.gptp_commands.specs.declared.command.CommandLineError.TheVariants.{Memory, NotText, NotRead, NotClock}
 use Rattle.gptp_commands.specs.declared.command.Order.{Order}
-use Rattle.gptp_commands.specs.declared.command.Order.TheVariants.{Ask, Check, Compare, Run}
+use Rattle.gptp_commands.specs.declared.command.Order.TheVariants.{Ask, Check, Compare, Run, Timeline}
 use Rattle.gptp_commands.specs.declared.question.Question.{Question}
 use Rattle.gptp_commands.specs.declared.question.Question.TheVariants.{Accuracy, Choice, Explain, Lint}
 use Rattle.gptp_commands.specs.declared.run.RunOptions.{RunOptions}
+use Rattle.gptp_commands.specs.declared.timeline.TimelineOrder.{TimelineOrder}
+use Rattle.gptp_timeline.specs.declared.limits.Limits.{Limits}
 
 -- `--until NS`, at most 10^15
 abbrev pub until_rule : Rule
@@ -46,6 +48,23 @@ seed_rule = record (new_rule (codes "seed")) {
   parser = Some (Unsigned 0 4294967295);
 }
 
+-- an option of `timeline` that gives the greatest number of something, at most 10^15
+abbrev pub limit_rule : List ℕ → Rule
+limit_rule name = record (new_rule name) {
+  long = Some name;
+  action = Some Set;
+  value_names = 1;
+  parser = Some (Unsigned 0 1000000000000000);
+}
+
+-- `--summary`
+abbrev pub summary_rule : Rule
+summary_rule = record (new_rule (codes "summary")) { long = Some (codes "summary"); action = Some SetTrue }
+
+-- `--offsets`
+abbrev pub offsets_rule : Rule
+offsets_rule = record (new_rule (codes "offsets")) { long = Some (codes "offsets"); action = Some SetTrue }
+
 -- `--frames`
 abbrev pub frames_rule : Rule
 frames_rule = record (new_rule (codes "frames")) { long = Some (codes "frames"); action = Some SetTrue }
@@ -59,6 +78,10 @@ certificate_rule =
 abbrev pub strict_rule : Rule
 strict_rule = record (new_rule (codes "strict")) { long = Some (codes "strict"); action = Some SetTrue }
 
+-- `--where`
+abbrev pub where_rule : Rule
+where_rule = record (new_rule (codes "where")) { long = Some (codes "where"); action = Some SetTrue }
+
 -- `FILE`, which has to be given
 abbrev pub file_rule : Rule
 file_rule = record (new_rule (codes "file")) { action = Some Set; value_names = 1; required = true }
@@ -67,9 +90,10 @@ file_rule = record (new_rule (codes "file")) { action = Some Set; value_names = 
 abbrev pub clock_rule : Rule
 clock_rule = record (new_rule (codes "clock")) { action = Some Set; value_names = 1; required = true }
 
--- the command `compare`, which has no options, the command `run`, which has four, the command `check`, which has a file
--- and one option, the command `choice`, which has one option, the command `accuracy`, which has two, the command
--- `explain`, which has a clock and one option, and the command `lint`, which has a flag
+-- the command `compare`, which has no options, the command `run`, which has four, the command `timeline`, which has
+-- ten, the command `check`, which has a file and two options, the command `choice`, which has one option, the command
+-- `accuracy`, which has two, the command `explain`, which has a clock and one option, and the command `lint`, which
+-- has a flag
 abbrev pub compare_command : App
 compare_command = new_app (codes "compare")
 
@@ -80,8 +104,21 @@ played_command = with_rule (with_rule (new_app (codes "run")) until_rule) seed_r
 abbrev pub run_command : App
 run_command = with_rule (with_rule played_command frames_rule) certificate_rule
 
+-- `timeline` without its limits, and with those of times
+abbrev pub told_command : App
+told_command = with_rule (with_rule (with_rule (with_rule (new_app (codes "timeline")) until_rule) seed_rule)
+    summary_rule) offsets_rule
+
+abbrev pub timed_command : App
+timed_command = with_rule (with_rule (with_rule told_command (limit_rule (codes "max-choice")))
+    (limit_rule (codes "max-holdover"))) (limit_rule (codes "max-error"))
+
+abbrev pub timeline_command : App
+timeline_command = with_rule (with_rule (with_rule timed_command (limit_rule (codes "max-without")))
+    (limit_rule (codes "max-roots"))) (limit_rule (codes "max-alone"))
+
 abbrev pub check_command : App
-check_command = with_rule (with_rule (new_app (codes "check")) file_rule) until_rule
+check_command = with_rule (with_rule (with_rule (new_app (codes "check")) file_rule) until_rule) where_rule
 
 abbrev pub choice_command : App
 choice_command = with_rule (new_app (codes "choice")) until_rule
@@ -103,7 +140,9 @@ first_program =
 
 -- with those that compare, simulate and check
 abbrev pub simulating_program : App
-simulating_program = with_subcommand (with_subcommand first_program run_command.top) check_command.top
+simulating_program =
+    with_subcommand (with_subcommand (with_subcommand first_program run_command.top) timeline_command.top)
+    check_command.top
 
 -- and those that ask for a choice, and how exact it is
 abbrev pub choosing_program : App
@@ -128,6 +167,9 @@ NamesCompare words = IsCompare (drop 1 words)
 
 abbrev pub NamesRun : List (List ℕ) → Type 0
 NamesRun words = BeginsWith (codes "run") (drop 1 words)
+
+abbrev pub NamesTimeline : List (List ℕ) → Type 0
+NamesTimeline words = BeginsWith (codes "timeline") (drop 1 words)
 
 abbrev pub NamesCheck : List (List ℕ) → Type 0
 NamesCheck words = BeginsWith (codes "check") (drop 1 words)
@@ -157,7 +199,7 @@ abbrev pub IsPlain : List (List ℕ) → Type 0
 IsPlain words =
     NamesCompare words ⊎ (((file : List ℕ) × ChecksOnly file words) ⊎ (((clock : List ℕ) × ExplainsOnly clock words)
     ⊎ (IsBare (codes "run") words ⊎ (IsBare (codes "choice") words
-    ⊎ (IsBare (codes "accuracy") words ⊎ IsBare (codes "lint") words)))))
+    ⊎ (IsBare (codes "accuracy") words ⊎ (IsBare (codes "lint") words ⊎ IsBare (codes "timeline") words))))))
 
 -- ---- the options, by the texts that the parser finds
 
@@ -195,10 +237,28 @@ pub record ReadsRun (rows : List Row) (options : RunOptions) : Type 0 where
   pub frames : IsFlag (one_of (codes "frames") rows) options.frames
   pub certificate : IsFlag (one_of (codes "certificate") rows) options.certificate
 
--- the file and the option of `check`, by what was found for its arguments
+-- the limits of `timeline`, by what was found for its arguments
+pub record ReadsLimits (rows : List Row) (limits : Limits) : Type 0 where
+  pub choice : IsUntil (one_of (codes "max-choice") rows) limits.choice
+  pub holdover : IsUntil (one_of (codes "max-holdover") rows) limits.holdover
+  pub error : IsUntil (one_of (codes "max-error") rows) limits.error
+  pub without : IsUntil (one_of (codes "max-without") rows) limits.without
+  pub roots : IsUntil (one_of (codes "max-roots") rows) limits.roots
+  pub alone : IsUntil (one_of (codes "max-alone") rows) limits.alone
+
+-- the options of `timeline`
+pub record ReadsTimeline (rows : List Row) (order : TimelineOrder) : Type 0 where
+  pub until : IsUntil (one_of (codes "until") rows) order.until
+  pub seed : IsSeed (one_of (codes "seed") rows) order.seed
+  pub summary : IsFlag (one_of (codes "summary") rows) order.options.summary
+  pub offsets : IsFlag (one_of (codes "offsets") rows) order.options.offsets
+  pub limits : ReadsLimits rows order.options.limits
+
+-- the file and the options of `check`, by what was found for its arguments
 pub record ReadsCheck (rows : List Row) (options : CheckOptions) : Type 0 where
   pub file : (text : List ℕ) → first_of (codes "file") rows ≡ Some text → string_bytes options.file ≡ text
   pub until : IsUntil (one_of (codes "until") rows) options.until
+  pub located : IsFlag (one_of (codes "where") rows) options.located
 
 -- the clock of `explain` is one, by its text, or isn't
 abbrev pub ReadsClock : List Row → ℕ → Type 0
@@ -228,6 +288,10 @@ name_of (Lint strict) = codes "lint"
 abbrev pub IsRunOf : Option (List ℕ × List Row) → RunOptions → Type 0
 IsRunOf entered options = (rows : List Row) × (entered ≡ Some (codes "run", rows)) × ReadsRun rows options
 
+-- it is `timeline`, with these options
+abbrev pub IsTimelineOf : Option (List ℕ × List Row) → TimelineOrder → Type 0
+IsTimelineOf entered order = (rows : List Row) × (entered ≡ Some (codes "timeline", rows)) × ReadsTimeline rows order
+
 -- it is `check`, with these options
 abbrev pub IsCheckOf : Option (List ℕ × List Row) → CheckOptions → Type 0
 IsCheckOf entered options = (rows : List Row) × (entered ≡ Some (codes "check", rows)) × ReadsCheck rows options
@@ -243,7 +307,9 @@ Enters m Compare =
     (subcommand_name_of m ≢ Some (codes "run")) × (subcommand_name_of m ≢ Some (codes "check"))
     × (subcommand_name_of m ≢ Some (codes "choice")) × (subcommand_name_of m ≢ Some (codes "accuracy"))
     × (subcommand_name_of m ≢ Some (codes "explain")) × (subcommand_name_of m ≢ Some (codes "lint"))
+    × (subcommand_name_of m ≢ Some (codes "timeline"))
 Enters m (Run options) = IsRunOf (subcommand_rows_of m) options
+Enters m (Timeline order) = IsTimelineOf (subcommand_rows_of m) order
 Enters m (Check options) = IsCheckOf (subcommand_rows_of m) options
 Enters m (Ask question) = IsQuestionOf (subcommand_rows_of m) question
 
@@ -255,6 +321,7 @@ RefusesClock m = (rows : List Row) × (subcommand_rows_of m ≡ Some (codes "exp
 abbrev pub AsksFor : List (List ℕ) → Order → Type 0
 AsksFor words Compare = NamesCompare words
 AsksFor words (Run options) = NamesRun words × IsRunOf (subcommand_of program words) options
+AsksFor words (Timeline order) = NamesTimeline words × IsTimelineOf (subcommand_of program words) order
 AsksFor words (Check options) = NamesCheck words × IsCheckOf (subcommand_of program words) options
 AsksFor words (Ask question) =
     BeginsWith (name_of question) (drop 1 words) × IsQuestionOf (subcommand_of program words) question
@@ -274,6 +341,7 @@ QuestionIsInRange (Lint strict) = ⊤
 abbrev pub OrderIsInRange : Order → Type 0
 OrderIsInRange Compare = ⊤
 OrderIsInRange (Run options) = AreInRange options
+OrderIsInRange (Timeline order) = IsEndInRange order.until × (order.seed < 2 ^ 32)
 OrderIsInRange (Check options) = IsEndInRange options.until
 OrderIsInRange (Ask question) = QuestionIsInRange question
 

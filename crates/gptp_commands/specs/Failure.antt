@@ -1,7 +1,7 @@
 -- How a command ends, and the process with it (profile).
 use Rattle.std.specs.Prelude.{ℕ, Bool, true, false, Result, Ok, Err}
-use Rattle.gptp_report.specs.declared.cut.Cut.{Cut}
-use Rattle.gptp_report.specs.declared.cut.Cut.TheVariants as cuts
+use Rattle.gptp_sink.specs.declared.cut.Cut.{Cut}
+use Rattle.gptp_sink.specs.declared.cut.Cut.TheVariants as cuts
 use Rattle.gptp_commands.specs.declared.failure.SimError.{SimError}
 use Rattle.gptp_commands.specs.declared.failure.SimError.TheVariants as errors
 use Rattle.gptp_commands.specs.declared.failure.Status.{Status}

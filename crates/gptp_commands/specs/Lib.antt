@@ -8,8 +8,10 @@ pub mod Limited
 pub mod Written
 pub mod CompareText
 pub mod RunText
+pub mod TimelineText
 pub mod RunSoFar
 pub mod CheckText
+pub mod WhereText
 pub mod ChoiceText
 pub mod AccuracyText
 pub mod ExplainText

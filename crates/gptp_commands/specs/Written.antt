@@ -3,7 +3,7 @@ use Rattle.std.specs.Prelude.{ℕ, List, Option, IfSome}
 use Rattle.std.specs.Io.KnownBytes.{Appends}
 use Rattle.gptp_spelling.specs.Lines.{text_of}
 use Rattle.gptp_commands.specs.declared.failure.Status.{Status}
-use Rattle.gptp_report.specs.Sink.{AppendsFront, AppendsSome}
+use Rattle.gptp_sink.specs.Sink.{AppendsFront, AppendsSome}
 
 -- the text for the octets that were left to read, whole
 abbrev pub Writes : (List ℕ → List (List ℕ) → Status → Type 0) → Option (List ℕ) → Option (List ℕ) → Option (List ℕ)

@@ -11,11 +11,13 @@ ghost use Rattle.gptp_commands.specs.declared.failure.Status.TheVariants.{Done, 
 ghost use Rattle.gptp_commands.specs.Limited.{Limited};
 ghost use Rattle.gptp_commands.specs.RunText.{document_limit};
 ghost use Rattle.gptp_commands.specs.Source.{ReadsWhole, TakesAtMost};
+ghost use Rattle.gptp_commands.specs.WhereText.{WhereText};
 ghost use Rattle.gptp_commands.specs.Written.{Writes, WritesFront};
 
 use crate::documents::{DOCUMENT_LIMIT, refuse};
 use crate::failure::{SimError, Status};
 use crate::output::Output;
+use crate::place::place_of_both;
 use crate::reading::read_whole;
 use crate::source::Source;
 use gptp_certificate::{Certificate, CertificateFault, parse};
@@ -26,7 +28,7 @@ use gptp_report::write_whole;
 use std::alloc::Global;
 
 /// How many octets a certificate may have.
-const CERTIFICATE_LIMIT: usize = 1_048_576;
+pub(crate) const CERTIFICATE_LIMIT: usize = 1_048_576;
 
 /// The time of the network that is meant.
 pub(crate) fn moment_of(document: &Document, until: Option<u64>) -> u64
@@ -204,6 +206,57 @@ pub fn check<S: Source, C: Source, K: Sink>(
     let document_text = read_whole(alloc, document, DOCUMENT_LIMIT)?;
     let certificate_text = read_whole(alloc, certificate, CERTIFICATE_LIMIT)?;
     let output = output_of(alloc, &document_text, until, &certificate_text)?;
+    write_whole(sink, &output.text)?;
+    Ok(output.status)
+}
+
+/// What is written for both inputs, with the place at which the certificate first fails. The only error is
+/// [`SimError::Memory`].
+fn located_output_of(
+    alloc: Global,
+    document: &[u8],
+    until: Option<u64>,
+    certificate: &[u8],
+) -> Result<Output, SimError>
+    ensures text { IfOk result (λ o. (output : List (List ℕ)) × WhereText until certificate.now document.now output o.status × (o.text.items ≡ text_of output)) }
+    ensures memory { IfErr result (λ e. e ≡ SimError.Memory) }
+{
+    let mut output = output_of(alloc, document, until, certificate)?;
+    let place = place_of_both(alloc, document, until, certificate)?;
+    output.text.extend_from_slice(place.as_bytes())?;
+    Ok(output)
+}
+
+/// As [`check`], and behind `not accepted` and `certificate refused` it writes a second line, `at` and the first place that
+/// fails the named test: a system, a link with its own end first, or a port; or the number of a line of the certificate's
+/// text, from 1.
+pub fn check_where<S: Source, C: Source, K: Sink>(
+    alloc: Global,
+    document: &mut S,
+    certificate: &mut C,
+    sink: &mut K,
+    until: Option<u64>,
+) -> Result<Status, SimError>
+    ensures done { IfOk result (λ status. IfSome (C.left certificate.old) (λ octets. Writes (WhereText until octets) (S.left document.old) (K.written sink.old) (K.written sink.new) status)) }
+    ensures whole { OnOk result ((octets : List ℕ) × ReadsWhole document_limit (S.left document.old) (S.left document.new) octets) }
+    ensures certificate_whole { OnOk result ((octets : List ℕ) × ReadsWhole certificate_limit (C.left certificate.old) (C.left certificate.new) octets) }
+    ensures no_further { TakesAtMost (document_limit + 1) (S.left document.old) (S.left document.new) }
+    ensures certificate_no_further { TakesAtMost (certificate_limit + 1) (C.left certificate.old) (C.left certificate.new) }
+
+    // every failure of a device is told as such, and none is made up
+    ensures document_works { result ≢ Err SimError.Read → S.failures document.new ≡ S.failures document.old }
+    ensures certificate_works { result ≢ Err SimError.Read → C.failures certificate.new ≡ C.failures certificate.old }
+    ensures sink_works { result ≢ Err SimError.Write → K.failures sink.new ≡ K.failures sink.old }
+    ensures read { result ≡ Err SimError.Read → (S.failures document.new ≢ S.failures document.old) ⊎ (C.failures certificate.new ≢ C.failures certificate.old) }
+    ensures write { result ≡ Err SimError.Write → K.failures sink.new ≢ K.failures sink.old }
+
+    // what stands written after an error
+    ensures nothing { IfErr result (λ e. e ≢ SimError.Write → Keeps (K.written sink.old) (K.written sink.new)) }
+    ensures front { result ≡ Err SimError.Write → IfSome (C.left certificate.old) (λ octets. WritesFront (WhereText until octets) (S.left document.old) (K.written sink.old) (K.written sink.new)) }
+{
+    let document_text = read_whole(alloc, document, DOCUMENT_LIMIT)?;
+    let certificate_text = read_whole(alloc, certificate, CERTIFICATE_LIMIT)?;
+    let output = located_output_of(alloc, &document_text, until, &certificate_text)?;
     write_whole(sink, &output.text)?;
     Ok(output.status)
 }

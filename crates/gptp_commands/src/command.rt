@@ -2,27 +2,30 @@
 
 ghost use Rattle.std.specs.Prelude.{◌≡◌, ◌⊎◌, ◌≤◌, List, ℕ, Err, IfErr, IfNone, IfOk, IfSome, Ok, Some, codes, false, map, string_bytes};
 ghost use Rattle.std.specs.Process.{exit_status as process_status};
-ghost use Rattle.clap.specs.Words.{app_of, first_of, found_of, one_text, rows_of, rule_of};
+ghost use Rattle.clap.specs.Words.{app_of, first_of, found_of, new_app, one_text, rows_of, rule_of, with_rule};
 ghost use Rattle.clap.specs.declared.builder.command.Command.TheViews.{out-Command as fields_of};
-ghost use Rattle.gptp_commands.specs.Command.{AsksFor, Enters, IsPlain, IsUntil, IsSeed, LacksClock, OrderIsInRange, ReadsCheck, ReadsQuestion, ReadsRun, RefusesClock};
+ghost use Rattle.gptp_commands.specs.Command.{AsksFor, Enters, IsPlain, IsUntil, IsSeed, LacksClock, OrderIsInRange, ReadsCheck, ReadsLimits, ReadsQuestion, ReadsRun, ReadsTimeline, RefusesClock};
 ghost use Rattle.gptp_commands.specs.Command.{IsEndInRange, command_line_status, program};
-ghost use Rattle.gptp_commands.specs.Command.{certificate_rule, clock_rule, file_rule, frames_rule, max_error_rule, seed_rule, until_rule};
+ghost use Rattle.gptp_commands.specs.Command.{certificate_rule, clock_rule, file_rule, frames_rule, limit_rule, max_error_rule, offsets_rule, seed_rule, summary_rule, until_rule, where_rule};
 ghost use Rattle.gptp_commands.specs.Command.{accuracy_command, check_command, choice_command, explain_command, first_program, played_command, run_command};
 ghost use Rattle.gptp_commands.specs.Command.{choosing_program, lint_command, simulating_program, strict_rule};
+ghost use Rattle.gptp_commands.specs.Command.{timed_command, timeline_command, told_command};
 ghost use Rattle.gptp_commands.specs.declared.command.CommandLineError.TheVariants.{Memory};
 ghost use Rattle.gptp_network.specs.Values.{clock_of_text};
 ghost use Rattle.gptp_network.specs.declared.fault.DocumentFault.TheVariants.{OutOfRange};
 ghost use Rattle.gptp_commands.specs.declared.question.Question.TheVariants.{Accuracy, Choice, Explain, Lint};
 
-use crate::check::check;
+use crate::check::{check, check_where};
 use crate::compare::compare_lines;
 use crate::failure::{SimError, Status, exit_status};
 use crate::question::{Question, answer_question};
 use crate::run::RunOptions;
 use crate::source::{CountedReader, Source};
+use crate::timeline::{TimelineOrder, timeline};
 use clap::error::ErrorKind;
 use clap::{Arg, ArgAction, ArgMatches, Command};
 use gptp_report::sink::{CountedWriter, Sink};
+use gptp_timeline::{Limits, TimelineOptions};
 use gptp_vector::ClockId;
 use hex::FromHex;
 use std::alloc::{AllocError, Global};
@@ -102,6 +105,15 @@ apart, choice that a MAC address decides, and component that nobody leads; and f
 network is calm, and how long it takes at most to settle, in ns.
 Example: gptp_sim lint --strict < examples/ring.toml";
 
+/// What help says of the input of `timeline`.
+const TIMELINE_HELP: &str = "\
+Input: standard input, a document in TOML of at most 32 MiB (33,554,432 octets).
+Output: each event, what each act leaves another at which system, and, where a stretch between the times of
+events ends, how long the choice took to stand, how long a system went without time, and how far time was off.
+With a --max- the last line is 'within', or 'exceeded' with the first word that is above it in some stretch.
+Times are in ns.
+Example: gptp_sim timeline --summary --max-choice 4000000000 < examples/vehicle.toml";
+
 /// What is asked of `check`.
 #[derive(Debug, Drop, PartialEq, Eq)]
 pub struct CheckOptions {
@@ -110,6 +122,8 @@ pub struct CheckOptions {
     /// The time of the network that is meant, in ns, at most 10^15; `None` where it is the network after all
     /// events.
     pub until: Option<u64>,
+    /// Whether the place is told at which a certificate that isn't accepted first fails.
+    pub located: bool,
 }
 
 /// What a command line asks for.
@@ -119,6 +133,8 @@ enum Order {
     Compare,
     /// The command `run`, with these options.
     Run(RunOptions),
+    /// The command `timeline`, with these options.
+    Timeline(TimelineOrder),
     /// The command `check`, with these options.
     Check(CheckOptions),
     /// A command that answers this question.
@@ -226,6 +242,46 @@ fn max_error_option<'a>(alloc: Global) -> Arg<'a>
         .help("Say whether each system's error is at most this, in ns")
 }
 
+/// An option of `timeline` that gives the greatest number of something.
+fn limit_option<'a>(
+    alloc: Global,
+    name: &'static str,
+    value_name: &'static str,
+    help: &'static str,
+) -> Arg<'a>
+    ensures rule { rule_of result ≡ limit_rule name.now }
+    ensures local { result.global ≡ false }
+{
+    Arg::new(alloc, name)
+        .long(name)
+        .action(ArgAction::Set)
+        .value_name(value_name)
+        .value_parser(clap::value_parser!(u64).range(0..=1_000_000_000_000_000))
+        .help(help)
+}
+
+/// The option that asks for fewer lines.
+fn summary_option<'a>(alloc: Global) -> Arg<'a>
+    ensures rule { rule_of result ≡ summary_rule }
+    ensures local { result.global ≡ false }
+{
+    Arg::new(alloc, "summary")
+        .long("summary")
+        .action(ArgAction::SetTrue)
+        .help("Leave out events and changes")
+}
+
+/// The option that asks for lines on receipts of time.
+fn offsets_option<'a>(alloc: Global) -> Arg<'a>
+    ensures rule { rule_of result ≡ offsets_rule }
+    ensures local { result.global ≡ false }
+{
+    Arg::new(alloc, "offsets")
+        .long("offsets")
+        .action(ArgAction::SetTrue)
+        .help("Write a line for each receipt of time, with its offset and error in ns")
+}
+
 /// The option of `run` that chooses delays and losses.
 fn seed_option<'a>(alloc: Global) -> Arg<'a>
     ensures rule { rule_of result ≡ seed_rule }
@@ -260,6 +316,17 @@ fn certificate_option<'a>(alloc: Global) -> Arg<'a>
         .long("certificate")
         .action(ArgAction::SetTrue)
         .help("Write what each system has chosen, as a certificate")
+}
+
+/// The option of `check` that asks where a certificate fails.
+fn where_option<'a>(alloc: Global) -> Arg<'a>
+    ensures rule { rule_of result ≡ where_rule }
+    ensures local { result.global ≡ false }
+{
+    Arg::new(alloc, "where")
+        .long("where")
+        .action(ArgAction::SetTrue)
+        .help("Write where a certificate that isn't accepted first fails")
 }
 
 /// The argument of `check` that says where the certificate is.
@@ -311,6 +378,84 @@ fn run_grammar<'a>(alloc: Global) -> Result<Command<'a>, AllocError>
         .arg(certificate_option(alloc))
 }
 
+/// The command `timeline` with the options that say how the network runs.
+fn driven_grammar<'a>(alloc: Global) -> Result<Command<'a>, AllocError>
+    ensures app { IfOk result (λ command. app_of command
+        ≡ with_rule (with_rule (new_app (codes "timeline")) until_rule) seed_rule) }
+    ensures local { IfOk result (λ command. (fields_of command).has_globals ≡ false) }
+{
+    Command::new(alloc, "timeline")
+        .about("Runs the network of a document and says what changes at which system when")
+        .after_help(TIMELINE_HELP)
+        .arg(until_option(
+            alloc,
+            "When the run ends, in ns; by default some Syncs after the last event's stretch has settled",
+        ))?
+        .arg(seed_option(alloc))
+}
+
+/// The same with those that say what is told.
+fn told_grammar<'a>(alloc: Global) -> Result<Command<'a>, AllocError>
+    ensures app { IfOk result (λ command. app_of command ≡ told_command) }
+    ensures local { IfOk result (λ command. (fields_of command).has_globals ≡ false) }
+{
+    driven_grammar(alloc)?
+        .arg(summary_option(alloc))?
+        .arg(offsets_option(alloc))
+}
+
+/// The same with the limits of times.
+fn timed_grammar<'a>(alloc: Global) -> Result<Command<'a>, AllocError>
+    ensures app { IfOk result (λ command. app_of command ≡ timed_command) }
+    ensures local { IfOk result (λ command. (fields_of command).has_globals ≡ false) }
+{
+    told_grammar(alloc)?
+        .arg(limit_option(
+            alloc,
+            "max-choice",
+            "NS",
+            "Say whether behind each event the choice stands within this, in ns",
+        ))?
+        .arg(limit_option(
+            alloc,
+            "max-holdover",
+            "NS",
+            "Say whether behind each event no system waits longer for time than this, in ns",
+        ))?
+        .arg(limit_option(
+            alloc,
+            "max-error",
+            "NS",
+            "Say whether each receipt of time is off by at most this, in ns",
+        ))
+}
+
+/// The command `timeline` with all its options.
+fn timeline_grammar<'a>(alloc: Global) -> Result<Command<'a>, AllocError>
+    ensures app { IfOk result (λ command. app_of command ≡ timeline_command) }
+    ensures local { IfOk result (λ command. (fields_of command).has_globals ≡ false) }
+{
+    timed_grammar(alloc)?
+        .arg(limit_option(
+            alloc,
+            "max-without",
+            "N",
+            "Say whether where a stretch ends at most so many systems go without time",
+        ))?
+        .arg(limit_option(
+            alloc,
+            "max-roots",
+            "N",
+            "Say whether at most so many roots are followed there by two systems or more",
+        ))?
+        .arg(limit_option(
+            alloc,
+            "max-alone",
+            "N",
+            "Say whether at most so many systems follow a root there that no other does",
+        ))
+}
+
 /// The command `check` with its file and its option.
 fn check_grammar<'a>(alloc: Global) -> Result<Command<'a>, AllocError>
     ensures app { IfOk result (λ command. app_of command ≡ check_command) }
@@ -320,7 +465,8 @@ fn check_grammar<'a>(alloc: Global) -> Result<Command<'a>, AllocError>
         .about("Says whether a certificate is the choice that a network settles at")
         .after_help(CHECK_HELP)
         .arg(file_argument(alloc))?
-        .arg(until_option(alloc, MOMENT_HELP))
+        .arg(until_option(alloc, MOMENT_HELP))?
+        .arg(where_option(alloc))
 }
 
 /// The command `choice` with its option.
@@ -401,6 +547,7 @@ fn simulating_grammar<'a>(alloc: Global) -> Result<Command<'a>, AllocError>
 {
     first_grammar(alloc)?
         .subcommand(run_grammar(alloc)?)?
+        .subcommand(timeline_grammar(alloc)?)?
         .subcommand(check_grammar(alloc)?)
 }
 
@@ -468,6 +615,36 @@ fn options_in(matches: &ArgMatches) -> RunOptions
     }
 }
 
+/// The limits that the command line gives.
+fn limits_in(matches: &ArgMatches) -> Limits
+    ensures { ReadsLimits (rows_of (found_of matches.now)) result }
+{
+    Limits {
+        choice: nanoseconds_in(matches, "max-choice"),
+        holdover: nanoseconds_in(matches, "max-holdover"),
+        error: nanoseconds_in(matches, "max-error"),
+        without: nanoseconds_in(matches, "max-without"),
+        roots: nanoseconds_in(matches, "max-roots"),
+        alone: nanoseconds_in(matches, "max-alone"),
+    }
+}
+
+/// What is asked of `timeline`.
+fn timeline_in(matches: &ArgMatches) -> TimelineOrder
+    ensures { ReadsTimeline (rows_of (found_of matches.now)) result }
+{
+    let seed = seed_in(matches);
+    TimelineOrder {
+        until: until_in(matches),
+        seed,
+        options: TimelineOptions {
+            summary: matches.get_flag("summary"),
+            offsets: matches.get_flag("offsets"),
+            limits: limits_in(matches),
+        },
+    }
+}
+
 /// What is asked of `check`. The parser lets no command line through that gives no file.
 fn check_options_in(alloc: Global, matches: &ArgMatches) -> Result<CheckOptions, AllocError>
     ensures { IfOk result (ReadsCheck (rows_of (found_of matches.now))) }
@@ -476,6 +653,7 @@ fn check_options_in(alloc: Global, matches: &ArgMatches) -> Result<CheckOptions,
     Ok(CheckOptions {
         file: String::from_str(alloc, file)?,
         until: until_in(matches),
+        located: matches.get_flag("where"),
     })
 }
 
@@ -549,6 +727,7 @@ fn order_in(alloc: Global, matches: &ArgMatches) -> Result<Order, CommandLineErr
 {
     match matches.subcommand() {
         Some(("run", matches)) => Ok(Order::Run(options_in(matches))),
+        Some(("timeline", matches)) => Ok(Order::Timeline(timeline_in(matches))),
         Some(("check", matches)) => Ok(Order::Check(check_options_in(alloc, matches)?)),
         Some(("choice", matches)) => Ok(Order::Ask(Question::Choice {
             until: choice_in(matches),
@@ -607,6 +786,9 @@ fn check_file<R: Files + AllocGlobal, S: Source, K: Sink>(
         return Err(SimError::Read);
     };
     let mut certificate = CountedReader::new(file);
+    if options.located {
+        return check_where(rt.alloc(), document, &mut certificate, sink, options.until);
+    }
     check(rt.alloc(), document, &mut certificate, sink, options.until)
 }
 
@@ -651,6 +833,7 @@ fn carry_out<R: Input + Print + Files + AllocGlobal>(
     let outcome = match order {
         Order::Compare => compare_lines(rt.alloc(), &mut source, &mut sink),
         Order::Run(options) => crate::run::run(rt.alloc(), &mut source, &mut sink, options),
+        Order::Timeline(order) => timeline(rt.alloc(), &mut source, &mut sink, order),
         Order::Check(options) => check_file(rt, &mut source, &mut sink, options),
         Order::Ask(question) => answer_question(rt.alloc(), &mut source, &mut sink, *question),
     };

@@ -25,10 +25,12 @@ pub mod laws;
 mod lines;
 mod lint;
 mod output;
+mod place;
 pub mod question;
 mod reading;
 pub mod run;
 pub mod source;
+pub mod timeline;
 mod words;
 
 pub use gptp_report::sink;

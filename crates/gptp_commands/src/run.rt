@@ -6,7 +6,7 @@ ghost use Rattle.gptp_network.specs.Document.{Means};
 ghost use Rattle.gptp_network.specs.Faults.{fault_text};
 ghost use Rattle.gptp_certificate_text.specs.CertificateText.{certificate_lines};
 ghost use Rattle.gptp_report.specs.Report.{Reports};
-ghost use Rattle.gptp_report.specs.Sink.{AppendsSome};
+ghost use Rattle.gptp_sink.specs.Sink.{AppendsSome};
 ghost use Rattle.gptp_plan.specs.SettlingTime.{settles};
 ghost use Rattle.gptp_spelling.specs.Lines.{text_of};
 ghost use Rattle.gptp_commands.specs.Source.{ReadsWhole, TakesAtMost};
@@ -161,7 +161,11 @@ fn play_document<K: Sink>(
 }
 
 /// Writes the line of a document that is refused.
-fn write_refusal<K: Sink>(alloc: Global, fault: DocumentFault, sink: &mut K) -> Result<Status, Cut>
+pub(crate) fn write_refusal<K: Sink>(
+    alloc: Global,
+    fault: DocumentFault,
+    sink: &mut K,
+) -> Result<Status, Cut>
     ensures some { (lines : List (List ℕ)) × RefusesFault fault lines Status.Refused
         × AppendsSome (K.written sink.old) (K.written sink.new) (text_of lines) }
     ensures whole { IfOk result (λ status. (lines : List (List ℕ)) × RefusesFault fault lines status

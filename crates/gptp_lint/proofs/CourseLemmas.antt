@@ -19,9 +19,9 @@ use Rattle.gptp_lint.proofs.LivesLemmas.{lives_after}
 
 -- ---- a link keeps its ends
 
-record KeepsEnds (v w : Wire) : Type 0 where
-  a : v.a ≡ w.a
-  b : v.b ≡ w.b
+pub record KeepsEnds (v w : Wire) : Type 0 where
+  pub a : v.a ≡ w.a
+  pub b : v.b ≡ w.b
 
 up_keeps : (test up : Bool) (w : Wire) → KeepsEnds (cond test (with_up up w) w) w
 up_keeps true up w = record { a = refl; b = refl }
@@ -41,7 +41,7 @@ changed_keeps (changes.Recover clock) w = record { a = refl; b = refl }
 changed_keeps (changes.Priority1 clock value) w = record { a = refl; b = refl }
 changed_keeps (changes.Inject clock port octets) w = record { a = refl; b = refl }
 
-acted_keeps : (act : Act) (w : Wire) → KeepsEnds (link_acted act w) w
+pub acted_keeps : (act : Act) (w : Wire) → KeepsEnds (link_acted act w) w
 acted_keeps (acts.Deliver link direction) w = record { a = refl; b = refl }
 acted_keeps (acts.Expire clock timer) w = record { a = refl; b = refl }
 acted_keeps (acts.Change change) w = changed_keeps change w
@@ -85,24 +85,24 @@ b_after (t ∷ ts) s =
     ∙ ap (λ (p : PortId). lives_after ts p.clock (lives_acted t.act s.cable.b.clock s.b_lives))
     (acted_keeps t.act (wire_of s.cable)).b
 
-one_more : (done : List Timed) (t : Timed) (s : Standing) → acted t.act (after done s) ≡ after (done ++ t ∷ []) s
+pub one_more : (done : List Timed) (t : Timed) (s : Standing) → acted t.act (after done s) ≡ after (done ++ t ∷ []) s
 one_more [] t s = refl
 one_more (u ∷ done) t s = one_more done t (acted u.act s)
 
 -- ---- events up to a time
 
-abbrev past_by : ℕ → List Timed → Type 0
+abbrev pub past_by : ℕ → List Timed → Type 0
 past_by at = AllByRecursion (λ (t : Timed). t.at ≤ at)
 
-abbrev not_before : ℕ → List Timed → Type 0
+abbrev pub not_before : ℕ → List Timed → Type 0
 not_before at = AllByRecursion (λ (t : Timed). at ≤ t.at)
 
-still_past : (at later : ℕ) (done : List Timed) → at ≤ later → past_by at done → past_by later done
+pub still_past : (at later : ℕ) (done : List Timed) → at ≤ later → past_by at done → past_by later done
 still_past at later [] more past = tt
 still_past at later (t ∷ done) more past =
     let here = past.0 in (omega (arith, here, more), still_past at later done more past.1)
 
-past_more : (at : ℕ) (done : List Timed) (t : Timed) → past_by at done → t.at ≤ at → past_by at (done ++ t ∷ [])
+pub past_more : (at : ℕ) (done : List Timed) (t : Timed) → past_by at done → t.at ≤ at → past_by at (done ++ t ∷ [])
 past_more at [] t past here = (here, tt)
 past_more at (u ∷ done) t past here = (past.0, past_more at done t past.1 here)
 
@@ -111,11 +111,11 @@ still_later at later [] more come = tt
 still_later at later (t ∷ ts) more come =
     let here = come.0 in (omega (arith, here, more), still_later at later ts more come.1)
 
-order_behind : (t : Timed) (ts : List Timed) → AreInOrder (t ∷ ts) → AreInOrder ts
+pub order_behind : (t : Timed) (ts : List Timed) → AreInOrder (t ∷ ts) → AreInOrder ts
 order_behind t [] order = tt
 order_behind t (u ∷ ts) order = order.1
 
-behind : (t : Timed) (ts : List Timed) → AreInOrder (t ∷ ts) → not_before t.at ts
+pub behind : (t : Timed) (ts : List Timed) → AreInOrder (t ∷ ts) → not_before t.at ts
 behind t [] order = tt
 behind t (u ∷ ts) order = (order.0, still_later t.at u.at ts order.0 (behind u ts order.1))
 
@@ -126,7 +126,7 @@ none_left at (t ∷ ts) later =
     let no : nat_le t.at at ≡ false = grind (arith, nat_tests) in
     ap (λ test. cond test (t ∷ events_by at ts) (events_by at ts)) no ∙ none_left at ts later.1
 
-only_past : (at : ℕ) (done ts : List Timed) → past_by at done → AllByRecursion (λ (t : Timed). at < t.at) ts
+pub only_past : (at : ℕ) (done ts : List Timed) → past_by at done → AllByRecursion (λ (t : Timed). at < t.at) ts
     → events_by at (done ++ ts) ≡ done
 only_past at [] ts past later = none_left at ts later
 only_past at (t ∷ done) ts past later =
@@ -140,6 +140,12 @@ all_later : (at : ℕ) (t : Timed) (ts : List Timed) → at < t.at → not_befor
 all_later at t [] here come = tt
 all_later at t (u ∷ ts) here come =
     let next = come.0 in (omega (arith, here, next), all_later at t ts here come.1)
+
+-- all that are done are those up to now, where the next is later
+pub until_now : (at : ℕ) (done : List Timed) (t : Timed) (ts : List Timed) → past_by at done → at < t.at
+    → AreInOrder (t ∷ ts) → events_by at (done ++ t ∷ ts) ≡ done
+until_now at done t ts past later order =
+    only_past at done (t ∷ ts) past (later, all_later at t ts later (behind t ts order))
 
 -- ---- the course of a link
 
@@ -172,8 +178,7 @@ course_step s t ts behind_it done at false is past come order =
     let earlier : at ≤ t.at = omega (arith, here) in
     let other : (t.at == at) ≡ false = grind (arith, nat_tests) in
     let rest = behind t ts order in
-    let now : events_by at (done ++ t ∷ ts) ≡ done =
-    only_past at done (t ∷ ts) past (here, all_later at t ts here rest) in
+    let now : events_by at (done ++ t ∷ ts) ≡ done = until_now at done t ts past here order in
     let joined : (done ++ t ∷ []) ++ ts ≡ done ++ t ∷ ts = append_assoc done (t ∷ []) ts in
     let self : t.at ≤ t.at = omega arith in
     let later =
@@ -192,7 +197,7 @@ stands_so s [] done at past come order =
 stands_so s (t ∷ ts) done at past come order =
     course_step s t ts (stands_so s ts) done at (at == t.at) refl past come order
 
-all_from_0 : (ts : List Timed) → not_before 0 ts
+pub all_from_0 : (ts : List Timed) → not_before 0 ts
 all_from_0 [] = tt
 all_from_0 (t ∷ ts) = (omega arith, all_from_0 ts)
 

@@ -1,39 +1,41 @@
 -- What is found at the links, one after another, is what is defined of all.
-use Rattle.std.proofs.Common.{◌≡◌, ◌≢◌, ◌+◌, ◌<◌, ℕ, Bool, List, [], ◌∷◌, ◌++◌, Option, Some, None, length, take, slice_get, get_or, refl, sym, ap, subst, ◌∙◌, arith}
+use Rattle.std.proofs.Common.{◌≡◌, ◌≢◌, ◌+◌, ◌<◌, ℕ, Bool, List, [], ◌∷◌, ◌++◌, Option, Some, None, append_assoc, drop, length, map, take, slice_get, get_or, refl, sym, ap, subst, ◌∙◌, arith}
 use Rattle.std.specs.List.{flat_map}
-use Rattle.std.specs.Option.{option_map, option_to_list}
-use Rattle.std.proofs.Math.Seq.{take-length}
-use Rattle.std.proofs.lemmas.List.Concat.{flat_map-append}
-use Rattle.std.proofs.lemmas.Option.{same_Some, slice_get-get_or}
-use Rattle.gptp_lists.proofs.MappedLemmas.{taken}
+use Rattle.std.specs.Option.{option_map}
+use Rattle.std.proofs.lemmas.List.{append-nil}
+use Rattle.std.proofs.lemmas.Option.{none-some, same_Some}
+use Rattle.gptp_lists.proofs.PlaceLemmas.{member_there}
 use Rattle.gptp_vector.specs.declared.port.PortId.{PortId}
 use Rattle.gptp_links.specs.declared.bounds.Bounds.{Bounds}
 use Rattle.gptp_plan.specs.Network.{IsNetwork}
+use Rattle.gptp_plan.specs.declared.network.Member.{Member}
 use Rattle.gptp_plan.specs.declared.network.Wire.{Wire}
 use Rattle.gptp_network.specs.Document.{DocumentState}
 use Rattle.gptp_network.specs.Events.{AreEvents}
-use Rattle.gptp_lint.specs.Course.{course_of}
+use Rattle.gptp_lint.specs.Course.{cable_of, wire_of}
 use Rattle.gptp_lint.specs.Findings.{AreCalmTimes, AreFound}
-use Rattle.gptp_lint.specs.Trouble.{long_of, longs_of, lossies_of, stretches}
+use Rattle.gptp_lint.specs.Trouble.{longs_of, lossies_of}
+use Rattle.gptp_lint.specs.declared.course.Cable.{Cable}
 use Rattle.gptp_lint.specs.declared.findings.Findings.{Findings}
 use Rattle.gptp_lint.proofs.QuietLemmas.{quiet}
 
 -- ---- one link more
 
-pub longs_more : (d : DocumentState) (place : ℕ) (w : Wire) → slice_get d.network.links place ≡ Some w
-    → longs_of d (take place d.network.links) ++ longs_of d (w ∷ []) ≡ longs_of d (take (place + 1) d.network.links)
-longs_more d place w there =
-    sym (flat_map-append (λ v. option_to_list (long_of d.network.params (course_of d.events v)))
-    (take place d.network.links) (w ∷ []))
-    ∙ ap (longs_of d) (sym (taken d.network.links place w there))
+wires_back : (ws : List Wire) → map wire_of (map cable_of ws) ≡ ws
+wires_back [] = refl
+wires_back (w ∷ ws) = ap (λ vs. w ∷ vs) (wires_back ws)
 
-pub lossies_more : (d : DocumentState) (place : ℕ) (w : Wire) → slice_get d.network.links place ≡ Some w
-    → lossies_of d (take place d.network.links) ++ lossies_of d (w ∷ [])
-    ≡ lossies_of d (take (place + 1) d.network.links)
-lossies_more d place w there =
-    sym (flat_map-append (λ (v : Wire). stretches v.bounds.link 0 0 (course_of d.events v))
-    (take place d.network.links) (w ∷ []))
-    ∙ ap (lossies_of d) (sym (taken d.network.links place w there))
+-- those before, and those of the links that are left, are all
+pub told_more : {X : Type 0} (f : Wire → List X) (before after all : List X) (cable : Cable) (cables : List Cable)
+    (place : ℕ) → drop place cables ≡ cable ∷ drop (place + 1) cables
+    → before ++ flat_map f (map wire_of (drop place cables)) ≡ all
+    → after ≡ before ++ flat_map f (wire_of cable ∷ [])
+    → after ++ flat_map f (map wire_of (drop (place + 1) cables)) ≡ all
+told_more f before after all cable cables place here so_far is =
+    let rest = map wire_of (drop (place + 1) cables) in
+    ap (λ xs. xs ++ flat_map f rest) (is ∙ ap (λ ys. before ++ ys) (append-nil (f (wire_of cable))))
+    ∙ append_assoc before (f (wire_of cable)) (flat_map f rest)
+    ∙ ap (λ cs. before ++ flat_map f (map wire_of cs)) (sym here) ∙ so_far
 
 -- a link by its parts
 abbrev pub Parts : Type 0
@@ -55,27 +57,37 @@ link_there links place a b bounds up is = by (slice_get links place) is
         let parts : ◌≡◌ {A = Parts} (a, b, bounds, up) (parts_of w) = same_Some (a, b, bounds, up) (parts_of w) is in
         ap (λ (t : Parts). Some (record { a = t.0; b = t.1; bounds = t.2; up = t.3 })) (sym parts)
 
-pub no_link_there : {X : Type 0} (f : Wire → X) (links : List Wire) (place : ℕ) → place < length links
-    → None ≡ option_map f (slice_get links place) → ⊥
-no_link_there f links place within is = by (slice_get links place) refl is
+-- the system at a place
+pub record IsThere (members : List Member) (place identity : ℕ) : Type 0 where
+  pub system : Member
+  pub there : slice_get members place ≡ Some system
+  pub is : identity ≡ system.identity
+
+pub system_there : {X : Type 0} (f : Member → X) (identity_in : X → ℕ) (members : List Member) (place : ℕ) (told : X)
+    → ((m : Member) → identity_in (f m) ≡ m.identity) → Some told ≡ option_map f (slice_get members place)
+    → IsThere members place (identity_in told)
+system_there {X} f identity_in members place told fits is = by (slice_get members place) refl is
   where
-    by : (o : Option Wire) → slice_get links place ≡ o → None ≡ option_map f o → ⊥
-    by None none is = past links place within none
-      where
-        past : (links : List Wire) (place : ℕ) → place < length links → slice_get links place ≡ None → ⊥
-        past [] place within none = absurd (omega (arith, within))
-        past (w ∷ ws) place within none =
-            let there = slice_get-get_or (w ∷ ws) place w within in absurd cc
-    by (Some w) there is = absurd cc
+    by : (o : Option Member) → slice_get members place ≡ o → Some told ≡ option_map f o
+        → IsThere members place (identity_in told)
+    by None there is = absurd cc
+    by (Some m) there is =
+        record { system = m; there = there; is = ap identity_in (same_Some told (f m) is) ∙ fits m }
+
+pub none_there : {X Y : Type 0} (f : Y → X) (ys : List Y) (place : ℕ) → place < length ys
+    → None ≡ option_map f (slice_get ys place) → ⊥
+none_there f ys place within is =
+    let (y, there) = member_there ys place within in
+    absurd (none-some (f y) (is ∙ ap (option_map f) there))
 
 -- ---- all links
 
-pub found : (d : DocumentState) (f : Findings) (place : ℕ) → IsNetwork d.network → AreEvents d.network d.events
-    → place ≡ length d.network.links → f.long.items ≡ longs_of d (take place d.network.links)
-    → f.lossy.items ≡ lossies_of d (take place d.network.links) → AreCalmTimes d f.calm.items → AreFound d f
-found d f place network events all long lossy calm =
-    let whole : take place d.network.links ≡ d.network.links =
-    ap (λ n. take n d.network.links) all ∙ take-length d.network.links in
+pub found : (d : DocumentState) (f : Findings) (cables : List Cable) → IsNetwork d.network
+    → AreEvents d.network d.events → cables ≡ map cable_of d.network.links
+    → f.long.items ≡ longs_of d (map wire_of cables) → f.lossy.items ≡ lossies_of d (map wire_of cables)
+    → AreCalmTimes d f.calm.items → AreFound d f
+found d f cables network events are long lossy calm =
+    let whole : map wire_of cables ≡ d.network.links = ap (map wire_of) are ∙ wires_back d.network.links in
     let longs : f.long.items ≡ longs_of d d.network.links = long ∙ ap (longs_of d) whole in
     let lossies : f.lossy.items ≡ lossies_of d d.network.links = lossy ∙ ap (lossies_of d) whole in
     let law = quiet d network events.in_order in

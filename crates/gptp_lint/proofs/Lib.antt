@@ -1,6 +1,12 @@
+mod MemberLemmas
 mod LivesLemmas
+mod NamedLemmas
 mod CourseLemmas
+mod ThinLemmas
 mod TroubleLemmas
 mod QuietLemmas
+mod StandingLemmas
+mod BoundLemmas
+mod PassedLemmas
 mod TextLemmas
 mod FoundLemmas

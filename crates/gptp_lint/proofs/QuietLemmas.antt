@@ -29,13 +29,13 @@ use Rattle.gptp_lint.proofs.TroubleLemmas.{no_long, no_lossy, none_at_all, none_
 
 -- ---- what holds of all members holds of each
 
-all_in : {X : Type 0} (P : X → Type 0) (x : X) (xs : List X) → All P xs → In x xs → P x
+pub all_in : {X : Type 0} (P : X → Type 0) (x : X) (xs : List X) → All P xs → In x xs → P x
 all_in P x xs all member =
     let (k, there) = slice_get-In x xs member in
     let within = slice_get_within xs k x there in
     subst P (same_Some (get_or xs k x) x (sym (slice_get-get_or xs k x within) ∙ there)) (all k x within)
 
-in_all : {X : Type 0} (P : X → Type 0) (xs : List X) → ((x : X) → In x xs → P x) → All P xs
+pub in_all : {X : Type 0} (P : X → Type 0) (xs : List X) → ((x : X) → In x xs → P x) → All P xs
 in_all P xs each = λ k d within.
     each (get_or xs k d) (In-slice_get (get_or xs k d) xs k (slice_get-get_or xs k d within))
 
@@ -51,7 +51,7 @@ and_from : (a b c : Bool) → a ≡ true → b ≡ true → c ≡ true → (a &&
 and_from a b c ea eb ec = rw (ea, eb, ec) refl
 
 -- it is in use where it stands so exactly where it is used after the events
-used_to : (members : List Member) (events : List Timed) (w : Wire) → IsPort members w.a → IsPort members w.b
+pub used_to : (members : List Member) (events : List Timed) (w : Wire) → IsPort members w.a → IsPort members w.b
     → is_used (after events (first w)) ≡ true → IsUsed members events (link_after events w)
 used_to members events w a b used =
     let s = after events (first w) in
@@ -64,7 +64,7 @@ used_to members events w a b used =
           (live_from members events w.b b (sym (b_after events (first w)) ∙ right));
     }
 
-used_from : (members : List Member) (events : List Timed) (w : Wire) → IsUsed members events (link_after events w)
+pub used_from : (members : List Member) (events : List Timed) (w : Wire) → IsUsed members events (link_after events w)
     → is_used (after events (first w)) ≡ true
 used_from members events w used =
     let s = after events (first w) in
@@ -89,7 +89,7 @@ quiet_by : (p : Params) (s : Standing) (used : Bool) → is_used s ≡ used
 quiet_by p s true is quiet = let (none, short) = quiet refl in (grind (arith, nat_tests), none)
 quiet_by p s false is quiet = (refl, refl)
 
-rests_from : (p : Params) (members : List Member) (events : List Timed) (w : Wire)
+pub rests_from : (p : Params) (members : List Member) (events : List Timed) (w : Wire)
     → is_long p (after events (first w)) ≡ false → loss_in_use (after events (first w)) ≡ 0
     → Rests p members events w
 rests_from p members events w long lossy = λ used.
@@ -101,7 +101,7 @@ rests_from p members events w long lossy = λ used.
       good = subst (λ most. needed p most ≤ p.threshold) (ap (λ c. c.bounds.max) same) short;
     }
 
-rests_to : (p : Params) (members : List Member) (events : List Timed) (w : Wire) → IsPort members w.a
+pub rests_to : (p : Params) (members : List Member) (events : List Timed) (w : Wire) → IsPort members w.a
     → IsPort members w.b → Rests p members events w
     → (is_long p (after events (first w)) ≡ false) × (loss_in_use (after events (first w)) ≡ 0)
 rests_to p members events w a b rests =

@@ -1,7 +1,10 @@
 -- How a link stands at each time of a document (profile).
-use Rattle.std.specs.Prelude.{ℕ, Bool, true, ◌&&◌, ◌==◌, if◌then◌else◌, List, [], ◌∷◌, ◌++◌}
+use Rattle.std.specs.Prelude.{ℕ, Bool, true, ◌&&◌, ◌||◌, ◌==◌, if◌then◌else◌, List, [], ◌∷◌, ◌++◌, filter, map}
 use Rattle.gptp_plan.specs.Change.{link_acted, system_acted}
 use Rattle.gptp_plan.specs.declared.change.Act.{Act}
+use Rattle.gptp_plan.specs.declared.change.Act.TheVariants as acts
+use Rattle.gptp_plan.specs.declared.change.Change.{Change}
+use Rattle.gptp_plan.specs.declared.change.Change.TheVariants as changes
 use Rattle.gptp_plan.specs.declared.change.Timed.{Timed}
 use Rattle.gptp_plan.specs.declared.network.Wire.{Wire}
 use Rattle.gptp_lint.specs.declared.course.Cable.{Cable}
@@ -49,3 +52,29 @@ course_of events w = course_from (first w) events
 -- it is up between two live systems
 abbrev pub is_used : Standing → Bool
 is_used s = s.cable.up && (s.a_lives && s.b_lives)
+
+-- the system that a change names, and an act; no document has one that names none
+abbrev pub named_by : Change → ℕ
+named_by (changes.LinkDown clock port) = clock
+named_by (changes.LinkUp clock port) = clock
+named_by (changes.LinkSet clock port least greatest loss) = clock
+named_by (changes.Fail clock) = clock
+named_by (changes.Recover clock) = clock
+named_by (changes.Priority1 clock value) = clock
+named_by (changes.Inject clock port octets) = clock
+
+abbrev pub named : Act → ℕ
+named (acts.Change change) = named_by change
+named (acts.Expire clock timer) = clock
+named (acts.Deliver link direction) = 0
+
+abbrev pub names_of : List Timed → List ℕ
+names_of = map (λ (t : Timed). named t.act)
+
+-- a system at one of the link's ends is named so
+abbrev pub is_end : Cable → ℕ → Bool
+is_end c clock = (clock == c.a.clock) || (clock == c.b.clock)
+
+-- the events that name one of these systems: no other changes how the link stands
+abbrev pub naming : Cable → List Timed → List Timed
+naming c = filter (λ (t : Timed). is_end c (named t.act))

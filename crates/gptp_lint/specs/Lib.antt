@@ -1,5 +1,6 @@
 pub mod Times
 pub mod Course
 pub mod Trouble
+pub mod Tables
 pub mod Findings
 pub mod LintText

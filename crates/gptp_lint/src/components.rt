@@ -1,5 +1,6 @@
 //! What the components of a network show at its times: how many there are, and which systems are their best.
 
+use crate::course::Cable;
 use crate::graph::{Best, Graph};
 use gptp_plan::{Network, Timed};
 use gptp_vector::Identity;
@@ -50,11 +51,11 @@ fn chance_of(best: &Best) -> Option<Identity> {
 }
 
 /// The best of each component whose best can't be grandmaster, by rising identity.
-fn incapable(alloc: Global, bests: &[Best]) -> Result<Vec<Identity>, AllocError> {
+fn incapable(alloc: Global, graph: &Graph) -> Result<Vec<Identity>, AllocError> {
     let mut incapable = Vec::new(alloc);
-    for best in bests {
-        if !best.best.capable() {
-            incapable.push(best.best)?;
+    for number in 0..graph.components() {
+        if let Some(best) = graph.incapable_at(number) {
+            incapable.push(best)?;
         }
     }
     incapable.sort_unstable();
@@ -86,7 +87,7 @@ impl Components {
         Ok(())
     }
 
-    /// Notes the bests that can't be grandmaster at a time, and weren't so at the time before.
+    /// Notes the bests that can't be grandmaster at a time, by rising identity, and weren't so at the time before.
     fn note_nobody(
         &mut self,
         at: u64,
@@ -94,7 +95,7 @@ impl Components {
         now: &[Identity],
     ) -> Result<(), AllocError> {
         for best in now {
-            if at == 0 || !before.contains(best) {
+            if at == 0 || before.binary_search(best).is_err() {
                 self.nobody.push(Nobody { at, best: *best })?;
             }
         }
@@ -109,20 +110,27 @@ impl Components {
         at: u64,
         graph: &Graph,
     ) -> Result<(), AllocError> {
-        let bests = graph.bests(alloc)?;
-        let nobody = incapable(alloc, &bests)?;
-        self.note_apart(at, before.count, bests.len())?;
+        let nobody = incapable(alloc, graph)?;
+        self.note_apart(at, before.count, graph.components())?;
         self.note_nobody(at, &before.nobody, &nobody)?;
-        before.count = bests.len();
+        before.count = graph.components();
         before.nobody = nobody;
         Ok(())
     }
 
+    /// Notes the best two systems of a component, where a clock decides between them.
+    fn push_chance(&mut self, best: &Best) -> Result<(), AllocError> {
+        if let Some(second) = chance_of(best) {
+            self.chance.push((best.best, second))?;
+        }
+        Ok(())
+    }
+
     /// Notes between which systems a clock decides.
-    fn note_chance(&mut self, alloc: Global, graph: &Graph) -> Result<(), AllocError> {
-        for best in &graph.bests(alloc)? {
-            if let Some(second) = chance_of(best) {
-                self.chance.push((best.best, second))?;
+    fn note_chance(&mut self, graph: &Graph) -> Result<(), AllocError> {
+        for number in 0..graph.components() {
+            if let Some(best) = graph.best_at(number) {
+                self.push_chance(&best)?;
             }
         }
         self.chance.sort_unstable();
@@ -134,6 +142,7 @@ impl Components {
 pub(crate) fn components_of(
     alloc: Global,
     network: &Network,
+    cables: &[Cable],
     events: &[Timed],
 ) -> Result<Components, AllocError> {
     let mut components = Components::new(alloc);
@@ -141,16 +150,16 @@ pub(crate) fn components_of(
         count: 0,
         nobody: Vec::new(alloc),
     };
-    let mut graph = Graph::first(alloc, network)?;
+    let mut graph = Graph::first(alloc, network, cables)?;
     let mut at = 0;
     for event in events {
         if event.at != at {
             components.note(alloc, &mut before, at, &graph)?;
             at = event.at;
         }
-        graph.act(&event.act);
+        graph.act(&event.act)?;
     }
     components.note(alloc, &mut before, at, &graph)?;
-    components.note_chance(alloc, &graph)?;
+    components.note_chance(&graph)?;
     Ok(components)
 }

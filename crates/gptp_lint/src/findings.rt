@@ -1,14 +1,15 @@
 //! What a planner may have overlooked in a document.
 
-ghost use Rattle.std.specs.Prelude.{◌≡◌, ◌++◌, ◌∷◌, ◌<◌, ◌+◌, [], IfOk, OnOk, length, take};
-ghost use Rattle.gptp_network.specs.Span.{IsBound};
-ghost use Rattle.gptp_lint.specs.Course.{course_of, wire_of};
+ghost use Rattle.std.specs.Prelude.{◌≡◌, ◌++◌, ◌∷◌, ◌≤◌, [], IfOk, OnOk, length};
+ghost use Rattle.std.specs.Option.{option_to_list};
+ghost use Rattle.gptp_lint.specs.Course.{names_of, wire_of};
 ghost use Rattle.gptp_lint.specs.Findings.{AreCalmTimes, AreFound};
+ghost use Rattle.gptp_lint.specs.Tables.{bound_of, cables_of, told};
 ghost use Rattle.gptp_lint.specs.Trouble.{longs_of, lossies_of};
 
 use crate::components::{Components, components_of};
-use crate::course::{Cable, Standing, course_from};
-use crate::times::times_of;
+use crate::course::{Cable, cables_of, course_of, names_of};
+use crate::tables::Tables;
 use crate::trouble::{Long, Lossy, long_of, push_stretches};
 use gptp_network::Document;
 use gptp_plan::Network;
@@ -36,49 +37,76 @@ pub struct Findings {
     pub calm: Vec<CalmTime>,
 }
 
-/// A time, with its bound.
-fn calm_time(alloc: Global, document: &Document, at: u64) -> Result<CalmTime, AllocError>
-    ensures at { IfOk result (λ t. t.at ≡ at) }
-    ensures bound { IfOk result (λ t. IsBound document.now at t.bound) }
+/// Puts a time with its bound behind others, where the next is another.
+fn tell(
+    calm: &mut Vec<CalmTime>,
+    tables: &Tables,
+    network: &Network,
+    at: u64,
+    next: u64,
+) -> Result<(), AllocError>
+    requires { length tables.now.nodes.items ≤ 512 }
+    ensures { OnOk result (calm.new.items ≡ told next at (bound_of network.now tables.now.marks.items tables.now.nodes.items) calm.old.items) }
 {
-    Ok(CalmTime {
-        at,
-        bound: document.bound_at(alloc, at)?,
-    })
+    if next != at {
+        calm.push(CalmTime {
+            at,
+            bound: tables.bound(network),
+        })?;
+    }
+    Ok(())
 }
 
-/// Each time, with its bound.
-fn calm_times(alloc: Global, document: &Document) -> Result<Vec<CalmTime>, AllocError>
+/// Each time, with its bound, of a document whose links are these.
+fn calm_times(
+    alloc: Global,
+    document: &Document,
+    cables: &[Cable],
+) -> Result<Vec<CalmTime>, AllocError>
+    requires { cables.now ≡ cables_of document.now.network }
     ensures { IfOk result (λ times. AreCalmTimes document.now times.items) }
 {
-    let times = times_of(alloc, document.events())?;
+    document.network().well_formed();
+    document.well_formed();
+    let network = document.network();
+    let events = document.events();
+    let mut tables = Tables::first(alloc, network, cables)?;
     let mut calm = Vec::new(alloc);
-    for at in &times {
-        calm.push(calm_time(alloc, document, *at)?)?;
+    let mut at = 0;
+    for event in events {
+        tell(&mut calm, &tables, network, at, event.at)?;
+        at = event.at;
+        tables.act(&event.act);
     }
+    calm.push(CalmTime {
+        at,
+        bound: tables.bound(network),
+    })?;
     Ok(calm)
 }
 
 /// The clocks that links name, by rising clock.
-fn linked_clocks(alloc: Global, network: &Network) -> Result<Vec<ClockId>, AllocError> {
+fn linked_clocks(alloc: Global, cables: &[Cable]) -> Result<Vec<ClockId>, AllocError> {
     let mut clocks = Vec::new(alloc);
-    for place in 0..network.links() {
-        if let Some((a, b, _, _)) = network.link_at(place) {
-            clocks.push(a.clock)?;
-            clocks.push(b.clock)?;
-        }
+    for cable in cables {
+        clocks.push(cable.a.clock)?;
+        clocks.push(cable.b.clock)?;
     }
     clocks.sort_unstable();
     Ok(clocks)
 }
 
-/// The systems that no link names, by rising clock; none where there is one system.
-fn unlinked_clocks(alloc: Global, network: &Network) -> Result<Vec<ClockId>, AllocError> {
+/// The systems that none of these links names, by rising clock; none where there is one system.
+fn unlinked_clocks(
+    alloc: Global,
+    network: &Network,
+    cables: &[Cable],
+) -> Result<Vec<ClockId>, AllocError> {
     let mut unlinked = Vec::new(alloc);
     if network.systems() < 2 {
         return Ok(unlinked);
     }
-    let linked = linked_clocks(alloc, network)?;
+    let linked = linked_clocks(alloc, cables)?;
     for place in 0..network.systems() {
         if let Some((identity, _, _, _, _)) = network.system_at(place) {
             if linked.binary_search(&identity.clock()).is_err() {
@@ -90,58 +118,33 @@ fn unlinked_clocks(alloc: Global, network: &Network) -> Result<Vec<ClockId>, All
     Ok(unlinked)
 }
 
-/// How a link stands at each time.
-fn course_of(alloc: Global, document: &Document, cable: &Cable) -> Result<Vec<Standing>, AllocError>
-    ensures { IfOk result (λ course. course.items ≡ course_of document.now.events (wire_of cable.now)) }
+/// Puts a link that is too long behind others, if it is one.
+fn push_long(long: &mut Vec<Long>, found: Option<Long>) -> Result<(), AllocError>
+    ensures { OnOk result (long.new.items ≡ long.old.items ++ option_to_list found) }
 {
-    let first = Standing {
-        at: 0,
-        cable: *cable,
-        a_lives: true,
-        b_lives: true,
-    };
-    course_from(alloc, &first, document.events())
+    if let Some(found) = found {
+        long.push(found)?;
+    }
+    Ok(())
 }
 
-/// Puts what isn't good at a link behind what isn't at others.
+/// Puts what isn't good at a link behind what isn't at others, where these are the systems that the events name.
 fn push_troubles(
     alloc: Global,
     long: &mut Vec<Long>,
     lossy: &mut Vec<Lossy>,
     document: &Document,
+    names: &[ClockId],
     cable: &Cable,
 ) -> Result<(), AllocError>
+    requires { names.now ≡ names_of document.now.events }
     ensures long { OnOk result (long.new.items ≡ long.old.items ++ longs_of document.now (wire_of cable.now ∷ [])) }
     ensures lossy { OnOk result (lossy.new.items ≡ lossy.old.items ++ lossies_of document.now (wire_of cable.now ∷ [])) }
 {
-    let course = course_of(alloc, document, cable)?;
-    if let Some(found) = long_of(&document.network().params(), &course) {
-        long.push(found)?;
-    }
+    document.well_formed();
+    let course = course_of(alloc, cable, document.events(), names)?;
+    push_long(long, long_of(&document.network().params(), &course))?;
     push_stretches(lossy, cable.bounds.link, &course)
-}
-
-/// Puts what isn't good at the link at a place behind what isn't at those before.
-fn push_troubles_at(
-    alloc: Global,
-    long: &mut Vec<Long>,
-    lossy: &mut Vec<Lossy>,
-    document: &Document,
-    place: usize,
-) -> Result<(), AllocError>
-    requires place { place < length document.now.network.links }
-    requires long { long.old.items ≡ longs_of document.now (take place document.now.network.links) }
-    requires lossy { lossy.old.items ≡ lossies_of document.now (take place document.now.network.links) }
-    ensures long { OnOk result (long.new.items ≡ longs_of document.now (take (place + 1) document.now.network.links)) }
-    ensures lossy { OnOk result (lossy.new.items ≡ lossies_of document.now (take (place + 1) document.now.network.links)) }
-{
-    match document.network().link_at(place) {
-        Some((a, b, bounds, up)) => {
-            let cable = Cable { a, b, bounds, up };
-            push_troubles(alloc, long, lossy, document, &cable)
-        }
-        None => Ok(()),
-    }
 }
 
 /// What a planner may have overlooked in a document: its links in use that are too long or lose frames, systems that no
@@ -152,14 +155,16 @@ pub fn find(alloc: Global, document: &Document) -> Result<Findings, AllocError>
 {
     document.network().well_formed();
     document.well_formed();
+    let cables = cables_of(alloc, document.network())?;
+    let names = names_of(alloc, document.events())?;
     let mut long = Vec::new(alloc);
     let mut lossy = Vec::new(alloc);
-    for place in 0..document.network().links() {
-        push_troubles_at(alloc, &mut long, &mut lossy, document, place)?;
+    for cable in &cables {
+        push_troubles(alloc, &mut long, &mut lossy, document, &names, cable)?;
     }
-    let unlinked = unlinked_clocks(alloc, document.network())?;
-    let components = components_of(alloc, document.network(), document.events())?;
-    let calm = calm_times(alloc, document)?;
+    let unlinked = unlinked_clocks(alloc, document.network(), &cables)?;
+    let components = components_of(alloc, document.network(), &cables, document.events())?;
+    let calm = calm_times(alloc, document, &cables)?;
     Ok(Findings {
         long,
         lossy,

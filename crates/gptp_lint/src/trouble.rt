@@ -45,7 +45,7 @@ fn needed(params: &Params, max: u64) -> u128
 }
 
 /// Whether a link is in use and isn't good.
-fn is_long(params: &Params, standing: &Standing) -> bool
+pub(crate) fn is_long(params: &Params, standing: &Standing) -> bool
     ensures { result ≡ is_long params.now standing.now }
 {
     is_used(standing) && u128::from(params.threshold) < needed(params, standing.cable.bounds.max)
@@ -76,7 +76,7 @@ pub(crate) fn long_of(params: &Params, course: &[Standing]) -> Option<Long>
 }
 
 /// How many of a thousand frames a link loses in use.
-fn loss_in_use(standing: &Standing) -> u16
+pub(crate) fn loss_in_use(standing: &Standing) -> u16
     ensures { result ≡ loss_in_use standing.now }
 {
     if is_used(standing) {

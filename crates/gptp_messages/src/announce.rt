@@ -1,6 +1,6 @@
 //! The Announce message.
 
-ghost use Rattle.std.specs.Prelude.{◌≡◌, ◌+◌, ◌*◌, ◌≤◌, ◌<◌, ◌++◌, ℕ, List, length, vec_len, vec_capacity, IfOk, IfErr, OnOk, OnErr};
+ghost use Rattle.std.specs.Prelude.{◌≡◌, ◌+◌, ◌*◌, ◌≤◌, ◌<◌, ◌++◌, ◌∷◌, [], ℕ, List, length, vec_len, vec_capacity, IfOk, IfErr, OnOk, OnErr};
 ghost use Rattle.gptp_messages.specs.Announce.{announce_front, written_announce};
 ghost use Rattle.gptp_messages.specs.Head.{message_length, written_message};
 ghost use Rattle.gptp_messages.specs.declared.message_type.MessageType.TheVariants.{Announce};
@@ -154,10 +154,31 @@ pub fn encode_announce(
     Ok(())
 }
 
+/// The same where the path is these clocks, at most 255, and one more behind them: that of the sender, as a system
+/// announces what it received (IEEE 802.1AS-2020, 10.3.9.23). No clock is copied but into the octets.
+pub fn encode_announce_behind(
+    head: &Head,
+    body: &AnnounceBody,
+    path: &[ClockId],
+    last: ClockId,
+    out: &mut Vec<u8>,
+) -> Result<(), AllocError>
+    requires { length path.now ≤ 255 }
+    ensures ok { OnOk result (out.new.items ≡ out.old.items ++ written_message Announce head.now (written_announce body.now (path.now ++ last ∷ []))) }
+    ensures err { OnErr result (out.new.items ≡ out.old.items) }
+    ensures full { OnErr result (vec_capacity out.old < vec_len out.old + (76 + 8 * length path.now)) }
+{
+    put_front(head, body, path.len() + 1, out)?;
+    put_clocks(path, out);
+    put_clocks(&[last], out);
+    Ok(())
+}
+
 /// Appends the clocks of a path, for which there is room.
 fn put_clocks(clocks: &[ClockId], out: &mut Vec<u8>)
     requires { vec_len out.old + 8 * length clocks.now ≤ vec_capacity out.old }
-    ensures { out.new.items ≡ out.old.items ++ path_octets clocks.now }
+    ensures octets { out.new.items ≡ out.old.items ++ path_octets clocks.now }
+    ensures capacity { vec_capacity out.old ≤ vec_capacity out.new }
 {
     let start = out.len();
     let _ = out.resize(start + 8 * clocks.len(), 0);

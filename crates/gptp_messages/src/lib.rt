@@ -23,7 +23,7 @@ mod refused;
 mod timestamp;
 mod tlv;
 
-pub use announce::{AnnounceBody, AnnounceView, encode_announce};
+pub use announce::{AnnounceBody, AnnounceView, encode_announce, encode_announce_behind};
 pub use follow_up::FollowUp;
 pub use head::Head;
 pub use laws::what_is_written_reads_back;

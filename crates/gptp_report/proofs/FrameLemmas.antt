@@ -1,5 +1,5 @@
 -- A document that is played before an observer that writes the lines of frames is run.
-use Rattle.std.proofs.Common.{◌≡◌, ◌⊎◌, ℕ, Bool, true, false, List, [], ◌∷◌, ◌++◌, map, nat_le, Option, inl, inr, refl, ap, sym, subst, ◌∙◌, append_assoc, append-nil}
+use Rattle.std.proofs.Common.{◌≡◌, ◌⊎◌, ℕ, Bool, true, false, List, [], ◌∷◌, ◌++◌, nat_le, Option, inl, inr, refl, ap, sym, subst, ◌∙◌, append_assoc, append-nil}
 use Rattle.std.specs.List.{AllByRecursion}
 use Rattle.gptp_links.specs.declared.bounds.Bounds.{Bounds}
 use Rattle.gptp_plan.specs.declared.change.Act.TheVariants as acts
@@ -9,7 +9,7 @@ use Rattle.gptp_plan.specs.Network.{NetworkState}
 use Rattle.gptp_acts.specs.declared.done.Done.{Done}
 use Rattle.gptp_acts.specs.declared.done.Done.TheVariants.{Quiet}
 use Rattle.gptp_acts.specs.Acts.{at, Acts}
-use Rattle.gptp_acts.specs.Advancing.{Advances, Told}
+use Rattle.gptp_acts.specs.Advancing.{Told}
 use Rattle.gptp_acts.specs.Course.{Begun, WasDone}
 use Rattle.gptp_acts.specs.World.{WorldState}
 use Rattle.gptp_network.specs.Document.{DocumentState}
@@ -19,11 +19,12 @@ use Rattle.gptp_report.specs.declared.frames.Frames.{Frames}
 use Rattle.gptp_report.specs.FrameLine.{frame_line, IsOfType}
 use Rattle.gptp_report.specs.declared.frame_line.FrameType.{FrameType}
 use Rattle.gptp_report.specs.Following.{tells_frames, ShowsDoneIf}
-use Rattle.gptp_report.specs.Observing.{Observed, Tells}
+use Rattle.gptp_world.specs.Observing.{Observed, Tells}
 use Rattle.gptp_report.specs.Run.{BreaksOff, Changed, Goes, GoesSoFar, LeadsSoFar, LeadsTo, ShowsDone, ShowsFrames, ShowsIf}
-use Rattle.gptp_report.specs.Transitions.{Breaks, Courses, CoursesSoFar, Makes, Passes, Transition}
+use Rattle.gptp_report.specs.Transitions.{Breaks, Courses, CoursesSoFar, Makes, Transition}
 use Rattle.gptp_spelling.specs.Lines.{text_of}
 use Rattle.gptp_system.specs.declared.answer.Answer.{Answer}
+use Rattle.gptp_world.proofs.FollowLemmas.{all_told, passes_advances}
 
 -- the line of a frame that was heard
 pub heard_shown : (at clock port : ℕ) (answer : Option Answer) (frame octets : List ℕ) (So : List ℕ → Type 0)
@@ -78,9 +79,6 @@ parted asked (t ∷ ts) more lines (first, rest, one, others, is) =
       are = is ∙ ap (λ zs. first ++ zs) h.are ∙ sym (append_assoc first h.front h.back);
     }
 
-abbrev all_told : List Transition → List Told
-all_told ts = map (λ (t : Transition). t.told) ts
-
 shows_frames : (asked : Bool) (ts : List Transition) (lines : List (List ℕ)) → ShowsAll asked ts lines
     → ShowsIf asked (all_told ts) lines
 shows_frames true [] lines none = none
@@ -120,12 +118,6 @@ abbrev IsChanging : Timed → Type 0
 IsChanging timed = (change : Change) × (timed.act ≡ acts.Change change)
 
 module _ {F : Type 0} (answers : Bounds → ℕ → F → Option ℕ → F → Type 0) where
-  pub passes_advances : (until : ℕ) (ts : List Transition) (fate fate_after : F) (w w' : WorldState)
-      → Passes answers until ts fate fate_after w w' → Advances answers until (all_told ts) fate fate_after w w'
-  passes_advances until [] fate fate_after w w' none = none
-  passes_advances until (t ∷ ts) fate fate_after w w' (drawn, is, happens, rest) =
-      (drawn, t.after, happens, passes_advances until ts drawn fate_after t.after w' rest)
-
   made_quiet : (event : Timed) (fate fate_after : F) (w w' : WorldState) (done : Done) → IsChanging event
       → WasDone answers event fate fate_after w w' done → done ≡ Quiet
   made_quiet event fate fate_after w w' done (change, is) was =
@@ -140,7 +132,7 @@ module _ {F : Type 0} (answers : Bounds → ℕ → F → Option ℕ → F → T
     advanced = record {
       ahead = k.passes.ahead;
       between = k.passes.between;
-      advances = passes_advances event.at k.first fate k.drawn w k.passes.between k.passes.passes;
+      advances = passes_advances answers event.at k.first fate k.drawn w k.passes.between k.passes.passes;
       nothing_left = k.passes.nothing_left;
       is = k.passes.is;
     };
@@ -182,7 +174,7 @@ module _ {F : Type 0} (answers : Bounds → ℕ → F → Option ℕ → F → T
     goes = record {
       ahead = k.ahead;
       between = k.between;
-      advances = passes_advances until ts fate fate_after w k.between k.passes;
+      advances = passes_advances answers until ts fate fate_after w k.between k.passes;
       nothing_left = k.nothing_left;
       is = k.is;
     };
@@ -218,7 +210,7 @@ module _ {F : Type 0} (answers : Bounds → ℕ → F → Option ℕ → F → T
   break_off asked until ts fate w k = record {
     fate_after = k.fate_after;
     after = k.after;
-    advances = passes_advances until ts fate k.fate_after w k.after k.passes;
+    advances = passes_advances answers until ts fate k.fate_after w k.after k.passes;
   }
 
   courses_run_so_far : (asked : Bool) (until : ℕ) (events : List Timed) (ts : List Transition) (fate : F)

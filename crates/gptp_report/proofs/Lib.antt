@@ -1,6 +1,4 @@
-pub mod SinkLemmas
 pub mod LineLemmas
-pub mod FollowLemmas
 pub mod ReportLemmas
 pub mod RunLemmas
 pub mod FrameLemmas

@@ -10,7 +10,7 @@ use Rattle.gptp_acts.specs.World.{WorldState}
 use Rattle.gptp_spelling.specs.Lines.{text_of}
 use Rattle.gptp_report.specs.Report.{ShowsSystems, WritesSystem}
 use Rattle.gptp_report.specs.SystemLines.{failed_line, system_lines}
-use Rattle.gptp_report.proofs.FollowLemmas.{written_more}
+use Rattle.gptp_report.proofs.LineLemmas.{written_more}
 
 -- ---- one system that has failed
 

@@ -10,11 +10,12 @@ use Rattle.gptp_acts.specs.World.{WorldState}
 use Rattle.gptp_acts.proofs.StayLemmas.{Stays, done_stays, same_stays, stays_on, stays_setups}
 use Rattle.gptp_network.specs.Document.{DocumentState}
 use Rattle.gptp_network.specs.Snapshot.{events_by}
-use Rattle.gptp_report.specs.Following.{BreaksAbout, MakesIf, PassesSeen}
-use Rattle.gptp_report.specs.Observing.{Observed, TellsAct}
+use Rattle.gptp_report.specs.Following.{BreaksAbout, BreaksSeen, MakesIf}
+use Rattle.gptp_world.specs.Observing.{Observed, TellsAct}
 use Rattle.gptp_report.specs.Run.{Goes, GoesSoFar, LeadsSoFar, LeadsTo}
+use Rattle.gptp_world.specs.Following.{Follows, PassesSeen}
 use Rattle.gptp_report.specs.Transitions.{Breaks, Courses, CoursesSoFar, Makes, Passes, PassesTo, Transition, transition}
-use Rattle.gptp_report.proofs.FollowLemmas.{observed_more, observed_none, observed_one}
+use Rattle.gptp_world.proofs.FollowLemmas.{observed_more, observed_none, observed_one}
 
 -- ---- what stays
 
@@ -47,6 +48,19 @@ module _ {F : Type 0} (answers : Bounds → ℕ → F → Option ℕ → F → T
   made_if_stays true event ts fate fate_after w w' setups k = made_stays event ts fate fate_after w w' setups k
   made_if_stays false event ts fate fate_after w w' setups (none, same, is) =
       subst (Stays w) (sym is) (same_stays w setups)
+
+-- ---- where it breaks off
+
+module _ {F O : Type 0} (answers : Bounds → ℕ → F → Option ℕ → F → Type 0)
+    (tells : Told → WorldState → O → O → List (List ℕ) → Type 0) where
+  pub breaks_seen : (until : ℕ) (fate fate_after : F) (w w' : WorldState) (o o_after : O) (So : List ℕ → Type 0)
+      → Follows answers tells until fate fate_after w w' o o_after So → BreaksSeen answers tells until fate w o So
+  breaks_seen until fate fate_after w w' o o_after So follows = record {
+    ts = follows.ts;
+    o_after = o_after;
+    breaks = record { fate_after = fate_after; after = w'; passes = follows.passes };
+    observed = follows.observed;
+  }
 
 -- ---- one event
 

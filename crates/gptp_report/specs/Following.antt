@@ -1,4 +1,4 @@
--- A world that goes on before an observer, and what is told meanwhile.
+-- A world that goes on with events before an observer, and what is told meanwhile.
 use Rattle.std.specs.Prelude.{◌≡◌, ◌⊎◌, ℕ, Bool, true, false, List, [], Option}
 use Rattle.gptp_links.specs.declared.bounds.Bounds.{Bounds}
 use Rattle.gptp_plan.specs.declared.change.Timed.{Timed}
@@ -7,30 +7,13 @@ use Rattle.gptp_acts.specs.Advancing.{Told}
 use Rattle.gptp_acts.specs.World.{WorldState}
 use Rattle.gptp_spelling.specs.Lines.{text_of}
 use Rattle.gptp_report.specs.declared.frames.Frames.{Frames}
-use Rattle.gptp_report.specs.Observing.{Observed}
 use Rattle.gptp_report.specs.Run.{ShowsDone}
-use Rattle.gptp_report.specs.Transitions.{Breaks, Makes, Passes, PassesTo, Transition}
+use Rattle.gptp_report.specs.Transitions.{Breaks, Makes, Transition}
+use Rattle.gptp_world.specs.Observing.{Observed}
 
 -- ---- before any observer
 
--- Acts were done, each the next that was pending then, none later than a time, and this is so of the text that an
--- observer told of them.
-pub record Follows {F O : Type 0} (answers : Bounds → ℕ → F → Option ℕ → F → Type 0)
-    (tells : Told → WorldState → O → O → List (List ℕ) → Type 0) (until : ℕ) (fate fate_after : F) (w w' : WorldState)
-    (o o_after : O) (So : List ℕ → Type 0) : Type 0 where
-  pub ts : List Transition
-  pub passes : Passes answers until ts fate fate_after w w'
-  pub observed : Observed tells ts o o_after So
-
--- so it went on to a time
-pub record PassesSeen {F O : Type 0} (answers : Bounds → ℕ → F → Option ℕ → F → Type 0)
-    (tells : Told → WorldState → O → O → List (List ℕ) → Type 0) (until : ℕ) (fate fate_after : F) (w w' : WorldState)
-    (o o_after : O) (So : List ℕ → Type 0) : Type 0 where
-  pub ts : List Transition
-  pub passes : PassesTo answers until ts fate fate_after w w'
-  pub observed : Observed tells ts o o_after So
-
--- or broke off on its way there
+-- it broke off on its way to a time, and this is so of the text that an observer told until then
 pub record BreaksSeen {F O : Type 0} (answers : Bounds → ℕ → F → Option ℕ → F → Type 0)
     (tells : Told → WorldState → O → O → List (List ℕ) → Type 0) (until : ℕ) (fate : F) (w : WorldState) (o : O)
     (So : List ℕ → Type 0) : Type 0 where

@@ -1,8 +1,8 @@
-pub mod Sink
 pub mod FrameLine
 pub mod SystemLines
 pub mod Report
 pub mod Run
 pub mod Transitions
-pub mod Observing
 pub mod Following
+pub use Rattle.gptp_sink.specs.Sink
+pub use Rattle.gptp_world.specs.Observing

@@ -4,12 +4,11 @@ ghost use Rattle.std.specs.Prelude.{◌≡◌, ◌≢◌, [], ◌∷◌, ◌++�
 ghost use Rattle.std.specs.Io.KnownBytes.{Appends};
 ghost use Rattle.gptp_spelling.specs.Lines.{text_of};
 ghost use Rattle.gptp_report.specs.FrameLine.{IsOfType, frame_line, refusal_number, type_of};
-ghost use Rattle.gptp_report.specs.Sink.{AppendsSome};
+ghost use Rattle.gptp_sink.specs.Sink.{AppendsSome};
 
-use crate::cut::Cut;
-use crate::sink::Sink;
-use crate::writing::write_whole;
 use gptp_messages::{Message, Refused, decode};
+use gptp_sink::sink::Sink;
+use gptp_sink::{Cut, write_whole};
 use gptp_spelling::{ClockDigits, OctetDigits};
 use gptp_system::Answer;
 use gptp_vector::ClockId;

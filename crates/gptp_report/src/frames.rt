@@ -3,14 +3,13 @@
 ghost use Rattle.std.specs.Prelude.{◌≡◌, ◌≢◌, OnOk};
 ghost use Rattle.std.specs.Io.KnownBytes.{Appends};
 ghost use Rattle.gptp_report.specs.Following.{ShowsAct};
-ghost use Rattle.gptp_report.specs.Sink.{AppendsSome};
+ghost use Rattle.gptp_sink.specs.Sink.{AppendsSome};
 
-use crate::cut::Cut;
 use crate::frame_line::write_frame_line;
-use crate::observer::Observer;
-use crate::sink::Sink;
 use gptp_links::Fate;
-use gptp_world::{Done, Timed, World};
+use gptp_sink::Cut;
+use gptp_sink::sink::Sink;
+use gptp_world::{Done, Observer, Timed, World};
 use std::alloc::Global;
 
 /// The line of a frame that reached a port in an act; none of another act.
@@ -42,10 +41,6 @@ impl Observer for Frames {
     ghost use Rattle.gptp_report.specs.Following.{tells_frames};
 
     ghost tells = { tells_frames };
-
-    fn watches(&self) -> bool {
-        self.asked
-    }
 
     fn observe<F: Fate + Drop, K: Sink>(
         &mut self,

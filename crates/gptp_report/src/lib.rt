@@ -10,21 +10,17 @@
 //! [`write_report`] tells of a world, by `specs/Report.antt`.
 #![tactic(auto)]
 
-mod cut;
 mod following;
 mod frame_line;
 mod frames;
-mod observer;
 mod report;
 mod run;
-pub mod sink;
 mod system_lines;
-mod writing;
 
-pub use cut::Cut;
 pub use frame_line::{AnswerWord, FrameType, type_of, write_frame_line};
-pub use observer::Observer;
+pub use gptp_sink::sink;
+pub use gptp_sink::{Cut, write_whole};
+pub use gptp_world::Observer;
 pub use report::write_report;
 pub use run::{begin, play, run_document};
 pub use system_lines::{write_failed, write_system};
-pub use writing::write_whole;

@@ -6,21 +6,20 @@ ghost use Rattle.gptp_acts.specs.Course.{Begun, WasDone};
 ghost use Rattle.gptp_plan.specs.Allowed.{AreAllowed, IsAllowed};
 ghost use Rattle.gptp_acts.specs.Prompt.{ArePromptIn, IsPromptIn};
 ghost use Rattle.gptp_report.specs.Following.{BreaksAbout, MakesIf};
-ghost use Rattle.gptp_report.specs.Observing.{Observed};
 ghost use Rattle.gptp_spelling.specs.Lines.{text_of};
 ghost use Rattle.gptp_network.specs.Snapshot.{events_by};
 ghost use Rattle.gptp_report.specs.Run.{LeadsSoFar, LeadsTo};
-ghost use Rattle.gptp_report.specs.Sink.{AppendsSome};
+ghost use Rattle.gptp_sink.specs.Sink.{AppendsSome};
+ghost use Rattle.gptp_world.specs.Observing.{Observed};
 ghost use Rattle.gptp_report.specs.Transitions.{Courses, CoursesSoFar, Makes, Transition};
 
-use crate::cut::Cut;
 use crate::following::{done_of, go_on};
 use crate::frames::Frames;
-use crate::observer::Observer;
-use crate::sink::Sink;
 use gptp_links::Fate;
 use gptp_network::Document;
-use gptp_world::{Timed, World};
+use gptp_sink::Cut;
+use gptp_sink::sink::Sink;
+use gptp_world::{Observer, Timed, World};
 use std::alloc::{AllocError, Global};
 
 /// The world goes on up to the time of an event, which is then made.

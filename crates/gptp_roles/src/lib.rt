@@ -17,4 +17,4 @@ mod trace;
 pub use laws::{chosen_vector_is_one, one_slave_port, selection_is_at_rest};
 pub use role::Role;
 pub use selection::{Selected, select};
-pub use trace::{slave_trace, trace_of};
+pub use trace::{path_of_slave, slave_trace, trace_of};

@@ -1,6 +1,6 @@
 //! The path trace that a system announces.
 
-ghost use Rattle.std.specs.Prelude.{◌≡◌, ◌≤◌, Some};
+ghost use Rattle.std.specs.Prelude.{◌≡◌, ◌≤◌, Some, length};
 ghost use Rattle.gptp_receipt.specs.Held.{received};
 ghost use Rattle.gptp_roles.specs.SystemTrace.{SlaveReceived, path_received, slave_path, system_trace};
 
@@ -23,31 +23,41 @@ pub fn slave_trace(clock: ClockId, held: &[Held], slave: Option<u8>) -> Trace
     requires { SlaveReceived held.now slave }
     ensures { result ≡ system_trace clock held.now slave }
 {
-    let mut trace = match slave {
-        Some(port) => path_at(held, port),
-        None => Trace::empty(),
-    };
+    let mut trace = Trace::empty();
+    trace.extend(path_of_slave(held, slave)).unwrap();
     trace.append(clock).unwrap();
     trace
 }
 
+/// The path of the Slave port, without the own clock: at most 255 clocks, and none where there is no Slave port.
+pub fn path_of_slave(held: &[Held], slave: Option<u8>) -> &[ClockId]
+    requires { SlaveReceived held.now slave }
+    ensures path { result.now ≡ slave_path held.now slave }
+    ensures few { length result.now ≤ 255 }
+{
+    match slave {
+        Some(port) => path_at(held, port),
+        None => &[],
+    }
+}
+
 /// The path that the port with this number received.
-fn path_at(held: &[Held], port: u8) -> Trace
+fn path_at(held: &[Held], port: u8) -> &[ClockId]
     requires { 1 ≤ port }
-    ensures { result ≡ slave_path held.now (Some port) }
+    ensures { result.now ≡ slave_path held.now (Some port) }
 {
     match held.get(usize::from(port) - 1) {
         Some(one) => path_of(one),
-        None => Trace::empty(),
+        None => &[],
     }
 }
 
 /// The path of what a port received.
-fn path_of(held: &Held) -> Trace
-    ensures { result ≡ path_received (received held.now) }
+fn path_of(held: &Held) -> &[ClockId]
+    ensures { result.now ≡ path_received (received held.now) }
 {
     match held {
-        Held::Received(reception) => reception.path.copy(),
-        _ => Trace::empty(),
+        Held::Received(reception) => reception.path.as_slice(),
+        _ => &[],
     }
 }

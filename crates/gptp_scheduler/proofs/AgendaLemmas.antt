@@ -91,6 +91,11 @@ module _ {T : Type 0} where
     first-node key e least is = first-is key (entry_of (placed e)) least
         (held-is nodes key (placed e) (held-node nodes key e is))
 
+    pub node-there : (key : ℕ) (e : Node T) → nodes key ≡ Some e
+        → entry_at (listed nodes fs) e.number ≡ Some (entry_of (placed e))
+    node-there key e is =
+        entry-there key (entry_of (placed e)) (held-is nodes key (placed e) (held-node nodes key e is))
+
     pub not-due : (key : ℕ) (now : ℕ) → IsEarliest nodes key → now < time_of nodes key
         → NothingDue (listed nodes fs) now
     not-due key now least late =

@@ -132,8 +132,18 @@ impl<T: Drop> Agenda<T> {
         ensures first { IfSome result (λ due. IsFirst self.now.entries due.0 due.1) }
         ensures empty { IfNone result (self.now.entries ≡ []) }
     {
+        let (time, number, _) = self.least()?;
+        Some((time, number))
+    }
+
+    /// The same with its item. Nothing is looked for.
+    pub fn least(&self) -> Option<(u64, u64, &T)>
+        ensures first { IfSome result (λ due. IsFirst self.now.entries due.0 due.1) }
+        ensures item { IfSome result (λ due. entry_at self.now.entries due.1 ≡ Some (entry due.0 due.1 due.2.now)) }
+        ensures empty { IfNone result (self.now.entries ≡ []) }
+    {
         let node = self.nodes.get(self.first?.place)?;
-        Some((node.time, node.number))
+        Some((node.time, node.number, &node.item))
     }
 
     /// The item of the entry of a number, wherever it stands, if it is there. Takes no memory.

@@ -8,7 +8,7 @@ use crate::state::State;
 use gptp_roles::Role;
 use gptp_scaled::ScaledNs;
 use gptp_setup::{Setup, Timer};
-use gptp_vector::{Identity, PortId, Trace};
+use gptp_vector::{ClockId, Identity, PortId, Trace};
 use std::marker::Model;
 
 /// One gPTP system in one domain: an end station or a time-aware bridge. Between its calls it is at rest: selecting
@@ -32,7 +32,7 @@ impl Model for System {
 }
 
 impl System {
-    ghost use Rattle.std.specs.Prelude.{◌≡◌, ◌≤◌, [], length};
+    ghost use Rattle.std.specs.Prelude.{◌≡◌, ◌≤◌, ◌++◌, ◌∷◌, [], length};
     ghost use Rattle.gptp_pdelay.specs.Clock.{IsDrift};
     ghost use Rattle.gptp_system.specs.Announcing.{ChangesPriority};
     ghost use Rattle.gptp_system.specs.Input.{given, IsTimely, Steps};
@@ -164,6 +164,15 @@ impl System {
         ensures { result ≡ trace self.now }
     {
         self.state.trace()
+    }
+
+    /// The same in its two parts: the path of its Slave port, at most 255 clocks and none where there is no such port, and the
+    /// own clock. No clock is copied.
+    pub fn trace_parts(&self) -> (&[ClockId], ClockId)
+        ensures parts { trace self.now ≡ result.0.now ++ result.1 ∷ [] }
+        ensures few { length result.0.now ≤ 255 }
+    {
+        self.state.trace_parts()
     }
 
     /// How many ports the system has, at most 16.

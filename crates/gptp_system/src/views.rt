@@ -11,10 +11,10 @@ ghost use Rattle.gptp_system.specs.State.{age_due, announce_due, number, source_
 use crate::port::Port;
 use crate::state::State;
 use gptp_receipt::{Held, due, span_of};
-use gptp_roles::{Role, slave_trace};
+use gptp_roles::{Role, path_of_slave, slave_trace};
 use gptp_scaled::ScaledNs;
 use gptp_setup::{Params, Timer};
-use gptp_vector::{PortId, Trace};
+use gptp_vector::{ClockId, PortId, Trace};
 
 /// The role of a port that holds this, in a system at rest.
 fn role_by(is_slave: bool, held: &Held) -> Role
@@ -95,7 +95,7 @@ fn source_of(held: &Held) -> Option<PortId>
 }
 
 impl State {
-    ghost use Rattle.std.specs.Prelude.{◌≡◌, ◌≤◌, length};
+    ghost use Rattle.std.specs.Prelude.{◌≡◌, ◌≤◌, ◌++◌, ◌∷◌, [], length};
     ghost use Rattle.gptp_roles.specs.SystemTrace.{SlaveReceived};
     ghost use Rattle.gptp_pdelay.specs.Peer.{delay_of};
     ghost use Rattle.gptp_system.specs.Ready.{IsReady, state_of};
@@ -110,6 +110,18 @@ impl State {
         ensures { result ≡ trace (state_of self.now) }
     {
         slave_trace(self.identity.clock(), self.held.as_slice(), self.slave)
+    }
+
+    /// The same in its two parts: the path of the Slave port, and the own clock.
+    pub(crate) fn trace_parts(&self) -> (&[ClockId], ClockId)
+        requires { SlaveReceived (state_of self.now).held (state_of self.now).slave }
+        ensures parts { trace (state_of self.now) ≡ result.0.now ++ result.1 ∷ [] }
+        ensures few { length result.0.now ≤ 255 }
+    {
+        (
+            path_of_slave(self.held.as_slice(), self.slave),
+            self.identity.clock(),
+        )
     }
 
     /// The number of the Slave port, and the port that it follows.

@@ -17,6 +17,7 @@ pub mod DeliveringLemmas
 pub mod PerformingLemmas
 pub mod ComingUpLemmas
 pub mod FiledLemmas
+pub mod FollowLemmas
 pub mod SlotLemmas
 pub mod QueueLemmas
 pub mod TimingLemmas

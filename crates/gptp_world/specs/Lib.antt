@@ -4,7 +4,9 @@ pub mod Cable
 pub mod Delivering
 pub mod Directory
 pub mod Filed
+pub mod Following
 pub mod Net
+pub mod Observing
 pub mod Performing
 pub mod Room
 pub mod Scene
@@ -12,4 +14,6 @@ pub mod Stage
 pub mod Starting
 pub mod Telling
 pub mod Timing
+pub mod Transitions
 pub mod Used
+pub use Rattle.gptp_sink.specs.Sink

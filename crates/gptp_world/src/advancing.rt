@@ -5,11 +5,15 @@ ghost use Rattle.gptp_world.specs.Aim.{aim_of};
 
 use crate::aim::Aim;
 use crate::cable::Lane;
+use crate::observer::Observer;
 use crate::scene::Scene;
 use crate::views::act_of;
-use gptp_acts::{Done, Item, Refused, Timed};
+use crate::world::World;
+use gptp_acts::{Done, Item, Timed};
 use gptp_links::Fate;
-use std::alloc::AllocError;
+use gptp_sink::Cut;
+use gptp_sink::sink::Sink;
+use std::alloc::Global;
 
 /// What an item is about.
 fn aim_of(item: Item) -> Aim
@@ -28,10 +32,10 @@ fn aim_of(item: Item) -> Aim
 }
 
 impl Scene {
-    ghost use Rattle.std.specs.Prelude.{◌≡◌, ◌+◌, ◌<◌, ◌≤◌, IfErr, IfNone, IfOk, IfSome, List, OnErr, OnOk};
-    ghost use Rattle.gptp_acts.specs.Advancing.{Advanced, Stopped, StopsShort, Told};
-    ghost use Rattle.gptp_acts.specs.Ahead.{due_by};
+    ghost use Rattle.std.specs.Prelude.{◌≡◌, ◌+◌, ◌≤◌, IfNone, IfSome};
+    ghost use Rattle.gptp_acts.specs.Acts.{at};
     ghost use Rattle.gptp_acts.specs.Pending.{IsNext, NothingBefore};
+    ghost use Rattle.gptp_acts.specs.Views.{IsActOf};
 
     /// The next that is pending, and its time, where that is at most this.
     fn next_by(&self, until: u64) -> Option<(u64, Item)>
@@ -63,94 +67,174 @@ impl Scene {
         }
     }
 
-    /// What is next is done at its time. Refused where there is no memory for what it can leave, and then nothing changes.
-    fn do_next<F: Fate>(&mut self, time: u64, item: Item, fate: &mut F) -> Result<(), AllocError>
-        requires next { IsNext self.old.net.pending time item }
-        requires moment { time ≤ 1000000000000000 }
-        ensures went { OnOk result (Stopped F.answers time fate.old fate.new self.old self.new) }
-        ensures less { OnOk result (due_by time self.new.net.pending < due_by time self.old.net.pending) }
-        ensures first { OnOk result (NothingBefore time self.new.net.pending) }
-        ensures kept { OnErr result (self.new ≡ self.old) }
-        ensures fate { OnErr result (fate.new ≡ fate.old) }
+    /// The act of what is next, at its time.
+    fn next_act(&self, time: u64, item: Item) -> Timed
+        requires { IsNext self.now.net.pending time item }
+        ensures time { result.at ≡ time }
+        ensures next { IsNext self.now.net.pending result.at item }
+        ensures act { IsActOf item self.now result.act }
     {
-        let timed = Timed {
+        Timed {
             at: time,
             act: act_of(&self.stage, item),
-        };
-        let done = self.perform(&timed, aim_of(item), fate)?;
-        self.recycle(done);
-        Ok(())
+        }
     }
 
-    /// All that is due at a time, before which nothing is pending, is done, and what is put for that time meanwhile. Refused
-    /// where there is no memory for the next act.
-    fn finish<F: Fate>(&mut self, time: u64, fate: &mut F) -> Result<(), AllocError>
-        requires first { NothingBefore time self.old.net.pending }
-        requires moment { time ≤ 1000000000000000 }
-        ensures went { Stopped F.answers time fate.old fate.new self.old self.new }
-        ensures done { OnOk result (NothingBefore (time + 1) self.new.net.pending) }
+    /// Its time becomes this, up to which nothing is left that is due.
+    fn wait(&mut self, until: u64)
+        requires moment { until ≤ 1000000000000000 }
+        requires ahead { self.old.time ≤ until }
+        requires first { NothingBefore (until + 1) self.old.net.pending }
+        ensures { self.new ≡ at until self.old }
     {
-        while let Some((due, item)) = self.next_by(time) {
-            self.do_next(due, item, fate)?;
+        self.stage.now = until;
+    }
+}
+
+impl<F: Fate + Drop> World<F> {
+    ghost use Rattle.std.specs.Prelude.{◌≡◌, ◌≢◌, ◌+◌, ◌<◌, ◌≤◌, IfOk, OnErr, OnOk};
+    ghost use Rattle.std.specs.Io.KnownBytes.{Appends};
+    ghost use Rattle.gptp_acts.specs.Ahead.{due_by};
+    ghost use Rattle.gptp_acts.specs.Pending.{IsNext, NothingBefore};
+    ghost use Rattle.gptp_sink.specs.Sink.{AppendsSome};
+    ghost use Rattle.gptp_world.specs.Following.{Follows, PassesSeen};
+
+    /// What is next is done at its time, and seen; then the buffer of a frame that arrived stands ready for another.
+    /// [`Cut::Memory`] where there is no memory for what it can leave, and then nothing changes.
+    fn do_next<O: Observer, K: Sink>(
+        &mut self,
+        alloc: Global,
+        time: u64,
+        item: Item,
+        observer: &mut O,
+        sink: &mut K,
+    ) -> Result<(), Cut>
+        requires next { IsNext self.old.scene.net.pending time item }
+        requires moment { time ≤ 1000000000000000 }
+        ensures went { (o_after : O) × Follows F.answers O.tells time self.old.fate self.new.fate self.old.scene
+            self.new.scene observer.old o_after (AppendsSome (K.written sink.old) (K.written sink.new)) }
+        ensures followed { OnOk result (Follows F.answers O.tells time self.old.fate self.new.fate self.old.scene
+            self.new.scene observer.old observer.new (Appends (K.written sink.old) (K.written sink.new))) }
+        ensures less { OnOk result
+            (due_by time self.new.scene.net.pending < due_by time self.old.scene.net.pending) }
+        ensures first { OnOk result (NothingBefore time self.new.scene.net.pending) }
+        ensures works { result ≢ Err Cut.Write → K.failures sink.new ≡ K.failures sink.old }
+        ensures fails { result ≡ Err Cut.Write → K.failures sink.new ≢ K.failures sink.old }
+    {
+        self.well_formed();
+        let timed = self.scene.next_act(time, item);
+        let done = self.scene.perform(&timed, aim_of(item), &mut self.fate)?;
+        let seen = observer.observe(alloc, self, &timed, &done, sink);
+        self.scene.recycle(done);
+        seen
+    }
+
+    /// All that is due at a time, before which nothing is pending, is done and seen, and what is put for that time meanwhile.
+    fn finish<O: Observer, K: Sink>(
+        &mut self,
+        alloc: Global,
+        time: u64,
+        observer: &mut O,
+        sink: &mut K,
+    ) -> Result<(), Cut>
+        requires first { NothingBefore time self.old.scene.net.pending }
+        requires moment { time ≤ 1000000000000000 }
+        ensures went { (o_after : O) × Follows F.answers O.tells time self.old.fate self.new.fate self.old.scene
+            self.new.scene observer.old o_after (AppendsSome (K.written sink.old) (K.written sink.new)) }
+        ensures followed { OnOk result (Follows F.answers O.tells time self.old.fate self.new.fate self.old.scene
+            self.new.scene observer.old observer.new (Appends (K.written sink.old) (K.written sink.new))) }
+        ensures done { OnOk result (NothingBefore (time + 1) self.new.scene.net.pending) }
+        ensures works { result ≢ Err Cut.Write → K.failures sink.new ≡ K.failures sink.old }
+        ensures fails { result ≡ Err Cut.Write → K.failures sink.new ≢ K.failures sink.old }
+    {
+        while let Some((due, item)) = self.scene.next_by(time) {
+            self.do_next(alloc, due, item, observer, sink)?;
         }
         Ok(())
     }
 
-    /// All that is due at the next time, at most this, at which something is pending is done: a time before which nothing is
-    /// left. Refused where there is no memory for the next act.
-    fn finish_next<F: Fate>(
+    /// All that is due at the next time, at most this, at which something is pending is done and seen: a time before which
+    /// nothing is left.
+    fn finish_next<O: Observer, K: Sink>(
         &mut self,
+        alloc: Global,
         from: u64,
         until: u64,
-        fate: &mut F,
-    ) -> Result<u64, AllocError>
-        requires first { NothingBefore from self.old.net.pending }
+        observer: &mut O,
+        sink: &mut K,
+    ) -> Result<u64, Cut>
+        requires first { NothingBefore from self.old.scene.net.pending }
         requires ahead { from ≤ until }
         requires moment { until ≤ 1000000000000000 }
-        ensures went { Stopped F.answers until fate.old fate.new self.old self.new }
-        ensures done { IfOk result (λ next. NothingBefore next self.new.net.pending) }
+        ensures went { (o_after : O) × Follows F.answers O.tells until self.old.fate self.new.fate self.old.scene
+            self.new.scene observer.old o_after (AppendsSome (K.written sink.old) (K.written sink.new)) }
+        ensures followed { OnOk result (Follows F.answers O.tells until self.old.fate self.new.fate self.old.scene
+            self.new.scene observer.old observer.new (Appends (K.written sink.old) (K.written sink.new))) }
+        ensures done { IfOk result (λ next. NothingBefore next self.new.scene.net.pending) }
         ensures later { IfOk result (λ next. from < next) }
+        ensures works { result ≢ Err Cut.Write → K.failures sink.new ≡ K.failures sink.old }
+        ensures fails { result ≡ Err Cut.Write → K.failures sink.new ≢ K.failures sink.old }
     {
-        match self.next_by(until) {
+        match self.scene.next_by(until) {
             Some((time, _)) => {
-                self.finish(time, fate)?;
+                self.finish(alloc, time, observer, sink)?;
                 Ok(time + 1)
             }
             None => Ok(until + 1),
         }
     }
 
-    /// All that is due up to a time is done, and what is put for then meanwhile. Refused where there is no memory for the
-    /// next act.
-    fn go_on<F: Fate>(&mut self, until: u64, fate: &mut F) -> Result<(), AllocError>
+    /// All that is due by a time is done and seen, and what is put for then meanwhile.
+    fn finish_by<O: Observer, K: Sink>(
+        &mut self,
+        alloc: Global,
+        until: u64,
+        observer: &mut O,
+        sink: &mut K,
+    ) -> Result<(), Cut>
         requires moment { until ≤ 1000000000000000 }
-        ensures went { Stopped F.answers until fate.old fate.new self.old self.new }
-        ensures done { OnOk result (NothingBefore (until + 1) self.new.net.pending) }
+        ensures went { (o_after : O) × Follows F.answers O.tells until self.old.fate self.new.fate self.old.scene
+            self.new.scene observer.old o_after (AppendsSome (K.written sink.old) (K.written sink.new)) }
+        ensures followed { OnOk result (Follows F.answers O.tells until self.old.fate self.new.fate self.old.scene
+            self.new.scene observer.old observer.new (Appends (K.written sink.old) (K.written sink.new))) }
+        ensures done { OnOk result (NothingBefore (until + 1) self.new.scene.net.pending) }
+        ensures works { result ≢ Err Cut.Write → K.failures sink.new ≡ K.failures sink.old }
+        ensures fails { result ≡ Err Cut.Write → K.failures sink.new ≢ K.failures sink.old }
     {
         let mut from = 0;
         while from <= until {
-            from = self.finish_next(from, until, fate)?;
+            from = self.finish_next(alloc, from, until, observer, sink)?;
         }
         Ok(())
     }
 
-    /// It goes on up to a time, which becomes its own: each act is the next that is pending then, and nothing that is due by
-    /// then is left. Refused with `InThePast` where that time has passed, and then nothing changes; and with `OutOfMemory`,
-    /// after whole acts, where there is no memory for the next.
-    pub(crate) fn advance<F: Fate>(&mut self, until: u64, fate: &mut F) -> Result<(), Refused>
+    /// It goes on up to a time, at most 10^15 ns, which hasn't passed, before an observer: what is pending happens, one act
+    /// after another, each of them the next that is due then, and the observer sees each as it was done. The buffer of a
+    /// frame that it saw arrive stands ready for another then. After `Ok` that is its time, and nothing that is due by then
+    /// is left.
+    ///
+    /// Errors: [`Cut::Write`] exactly where a write failed; [`Cut::Memory`] where the observer says so, or there is no memory
+    /// for the next act. Then it has gone on up to there, by whole acts, and what the observer told until then stands
+    /// written, or a front of it.
+    pub fn go_on<O: Observer, K: Sink>(
+        &mut self,
+        alloc: Global,
+        until: u64,
+        observer: &mut O,
+        sink: &mut K,
+    ) -> Result<(), Cut>
         requires moment { until ≤ 1000000000000000 }
-        ensures advanced { OnOk result ((told : List Told) × Advanced F.answers until told fate.old fate.new self.old self.new) }
-        ensures refused { IfErr result (StopsShort F.answers until fate.old fate.new self.old self.new) }
+        requires ahead { self.old.scene.time ≤ until }
+        ensures gone { OnOk result (PassesSeen F.answers O.tells until self.old.fate self.new.fate self.old.scene
+            self.new.scene observer.old observer.new (Appends (K.written sink.old) (K.written sink.new))) }
+        ensures broken { OnErr result ((o_after : O) × Follows F.answers O.tells until self.old.fate self.new.fate
+            self.old.scene self.new.scene observer.old o_after (AppendsSome (K.written sink.old) (K.written sink.new))) }
+        ensures works { result ≢ Err Cut.Write → K.failures sink.new ≡ K.failures sink.old }
+        ensures fails { result ≡ Err Cut.Write → K.failures sink.new ≢ K.failures sink.old }
     {
-        if until < self.stage.now {
-            return Err(Refused::InThePast);
-        }
-        match self.go_on(until, fate) {
-            Ok(()) => {
-                self.stage.now = until;
-                Ok(())
-            }
-            Err(_) => Err(Refused::OutOfMemory),
-        }
+        self.well_formed();
+        self.finish_by(alloc, until, observer, sink)?;
+        self.scene.wait(until);
+        Ok(())
     }
 }

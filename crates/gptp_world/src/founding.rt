@@ -70,7 +70,7 @@ impl Net {
 fn list_stations(alloc: Global, network: &Network) -> Result<Vec<Station>, AllocError>
     ensures { IfOk result (λ v. v.items ≡ stations_of network.now) }
 {
-    let mut stations = Vec::new(alloc);
+    let mut stations = Vec::with_capacity(alloc, network.systems())?;
     for place in 0..network.systems() {
         stations.push(station_in(network, place))?;
     }
@@ -106,7 +106,7 @@ fn station_in(network: &Network, place: usize) -> Station
 fn list_cables(alloc: Global, network: &Network) -> Result<Vec<Cable>, AllocError>
     ensures { IfOk result (λ v. map channel_of v.items ≡ channels_of network.now) }
 {
-    let mut cables = Vec::new(alloc);
+    let mut cables = Vec::with_capacity(alloc, network.links())?;
     for place in 0..network.links() {
         cables.push(cable_in(alloc, network, place))?;
     }

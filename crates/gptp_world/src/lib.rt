@@ -2,7 +2,8 @@
 //!
 //! A [`World`] begins with all systems of a [`Network`] started. An act that is timely, there and due is done whole, as
 //! `specs/Acts.antt` of gptp_acts says. Any other act is refused by the first test that it fails, and changes nothing. Left
-//! to itself a world does what is next, up to a time.
+//! to itself a world does what is next, up to a time; an [`Observer`] may see each act as it was done, and write lines about
+//! it (`specs/Observing.antt`).
 #![tactic(auto)]
 
 mod advancing;
@@ -18,9 +19,11 @@ mod expiring;
 mod filed;
 mod founding;
 mod net;
+mod observer;
 mod octets;
 mod pending;
 mod performing;
+mod pool;
 mod room;
 mod scene;
 mod sending;
@@ -28,9 +31,11 @@ mod stage;
 mod starting;
 mod telling;
 mod timing;
+mod unseen;
 mod used;
 mod views;
 mod world;
 
 pub use gptp_acts::{Act, Change, Done, Network, NetworkFault, Octets, Params, Refused, Timed};
+pub use observer::Observer;
 pub use world::World;

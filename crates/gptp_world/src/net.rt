@@ -63,7 +63,7 @@ impl Net {
         ensures systems { self.new.pending.systems ≡ self.old.pending.systems }
         ensures sent { (cable : Cable) → slice_get self.old.cables.items lane.link ≡ Some cable → SentOne F.answers now (sender lane.direction (channel_of cable)) octets.now fate.old fate.new (between self.old) (between self.new) }
     {
-        let mut frame = self.buffers.take();
+        let mut frame = self.buffers.take_long();
         write_octets(octets, &mut frame);
         send_one(
             self.cables.as_mut_slice(),
@@ -93,7 +93,7 @@ impl Net {
         ensures sent { SentNext F.answers now (own system.now send.now.port) (written system.now send.now) fate.old fate.new (between self.old) (between self.new) }
     {
         if let Some(lane) = self.up_lane(place, send.port) {
-            let mut octets = self.buffers.take();
+            let mut octets = self.buffers.take_for(&send.body);
             write_send(system, send, &mut octets);
             send_one(
                 self.cables.as_mut_slice(),

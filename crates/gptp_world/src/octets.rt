@@ -1,26 +1,34 @@
 //! The octets of what is sent.
 
-ghost use Rattle.std.specs.Prelude.{◌≡◌, ◌≤◌, [], length, vec_capacity};
+ghost use Rattle.std.specs.Prelude.{◌≡◌, ◌≤◌, ◌++◌, ◌∷◌, [], length, vec_capacity};
 ghost use Rattle.gptp_messages.specs.Grammar.{PathHasRoom, Written};
 ghost use Rattle.gptp_acts.specs.Sends.{message_of, written};
+ghost use Rattle.gptp_world.specs.Buffers.{room_for};
 
 use gptp_messages::{
-    AnnounceBody, FollowUp, Head, Message, PdelayResp, PdelayRespFollowUp, encode, encode_announce,
+    AnnounceBody, FollowUp, Head, Message, PdelayResp, PdelayRespFollowUp, encode,
+    encode_announce_behind,
 };
 use gptp_system::{Body, Sending, System};
-use gptp_vector::Trace;
+use gptp_vector::ClockId;
 
 /// The octets of the longest message that a system sends: an Announce whose path has 256 clocks.
 pub(crate) const LONGEST_FRAME: usize = 2_116;
 
-/// Writes an Announce with its path into an empty buffer that has room for each message.
-fn write_announce(head: &Head, body: &AnnounceBody, path: &Trace, out: &mut Vec<u8>)
+/// Writes an Announce whose path is these clocks and one behind them into an empty buffer that has room for each message.
+fn write_announce(
+    head: &Head,
+    body: &AnnounceBody,
+    path: &[ClockId],
+    last: ClockId,
+    out: &mut Vec<u8>,
+)
+    requires few { length path.now ≤ 255 }
     requires empty { out.old.items ≡ [] }
     requires room { 2_116 ≤ vec_capacity out.old }
-    ensures { out.new.items ≡ Written (message_of path.now head.now (Body.Announce body.now)) }
+    ensures { out.new.items ≡ Written (message_of (path.now ++ last ∷ []) head.now (Body.Announce body.now)) }
 {
-    let _ = path.len();
-    let _ = encode_announce(head, body, path, out);
+    let _ = encode_announce_behind(head, body, path, last, out);
 }
 
 /// Writes a message into an empty buffer that has room for it.
@@ -42,18 +50,18 @@ pub(crate) fn write_octets(octets: &[u8], out: &mut Vec<u8>)
     let _ = out.extend_from_slice(octets);
 }
 
-/// Writes what a system sends into an empty buffer that has room for each message: the message in its one spelling, an
-/// Announce with the trace of the system (IEEE 802.1AS-2020, 10.3.9.23).
+/// Writes what a system sends into an empty buffer that has room for it: the message in its one spelling, an Announce with
+/// the trace of the system (IEEE 802.1AS-2020, 10.3.9.23).
 pub(crate) fn write_send(system: &System, send: &Sending, out: &mut Vec<u8>)
     requires empty { out.old.items ≡ [] }
-    requires room { 2_116 ≤ vec_capacity out.old }
+    requires room { room_for send.now.body ≤ vec_capacity out.old }
     ensures { out.new.items ≡ written system.now send.now }
 {
     let head = send.head;
     match send.body {
         Body::Announce(body) => {
-            let path = system.trace();
-            write_announce(&head, &body, &path, out);
+            let (path, clock) = system.trace_parts();
+            write_announce(&head, &body, path, clock, out);
         }
         Body::Sync => write_message(&Message::Sync { head }, out),
         Body::FollowUp { origin, rate } => {

@@ -251,9 +251,8 @@ impl Pending {
         ensures empty { IfNone result (self.now.entries ≡ []) }
     {
         self.agenda.numbers_rise();
-        let (time, number) = self.agenda.next()?;
-        let item = *self.agenda.item(number).unwrap();
-        Some((time, item))
+        let (time, _number, item) = self.agenda.least()?;
+        Some((time, *item))
     }
 
     /// Each timer is pending at most once.

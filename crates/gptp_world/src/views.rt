@@ -14,6 +14,7 @@ use gptp_acts::{Act, Item, Timed};
 use gptp_roles::Role;
 use gptp_system::System;
 use gptp_vector::{ClockId, Identity};
+use std::alloc::Global;
 
 impl Scene {
     ghost use Rattle.std.specs.Prelude.{◌≡◌, ◌≤◌, ◌↔◌, [], IfNone, IfSome, IsTrue, length, slice_get, true};
@@ -39,6 +40,11 @@ impl Scene {
         ensures { result ≡ self.now.last_change }
     {
         self.stage.last_change
+    }
+
+    /// Where the world gets its memory.
+    pub(crate) fn alloc(&self) -> Global {
+        self.stage.net.buffers.alloc()
     }
 
     /// How many systems there are, live or not.

@@ -1,6 +1,7 @@
 //! Simulated worlds.
 
 use crate::scene::Scene;
+use crate::unseen::{Nowhere, Unseen};
 use gptp_acts::{Done, Network, Refused, Timed};
 use gptp_links::Fate;
 use gptp_roles::Role;
@@ -12,8 +13,8 @@ use std::alloc::{AllocError, Global};
 /// Contracts see the two apart: `scene` is the state of the world, and `fate` that of the fate.
 #[derive(Drop)]
 pub struct World<F> {
-    scene: Scene,
-    fate: F,
+    pub(crate) scene: Scene,
+    pub(crate) fate: F,
 }
 
 impl<F: Fate + Drop> World<F> {
@@ -117,7 +118,14 @@ impl<F: Fate + Drop> World<F> {
         ensures advanced { OnOk result ((told : List Told) × Advanced F.answers until told self.old.fate self.new.fate self.old.scene self.new.scene) }
         ensures refused { IfErr result (StopsShort F.answers until self.old.fate self.new.fate self.old.scene self.new.scene) }
     {
-        self.scene.advance(until, &mut self.fate)
+        if until < self.scene.now() {
+            return Err(Refused::InThePast);
+        }
+        let alloc = self.scene.alloc();
+        match self.go_on(alloc, until, &mut Unseen, &mut Nowhere) {
+            Ok(()) => Ok(()),
+            Err(_) => Err(Refused::OutOfMemory),
+        }
     }
 
     /// The time, in ns.

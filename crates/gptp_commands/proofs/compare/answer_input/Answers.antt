@@ -1,7 +1,7 @@
 use Rattle.std.proofs.Common.{◌≡◌, false, nat_le, length, codes, [], ◌∷◌, inl, inr, refl}
 use Rattle.std.proofs.lemmas.Bool.{lt-leb}
 use Rattle.std.proofs.lemmas.Result.{on_err_weaker}
-use Rattle.gptp_report.proofs.SinkLemmas.{after_error, front_of}
+use Rattle.gptp_sink.proofs.SinkLemmas.{after_error, front_of}
 use Rattle.gptp_commands.specs.declared.failure.Status.TheVariants.{Refused}
 use Rattle.gptp_commands.specs.CompareText.{size_limit}
 use Rattle.gptp_commands.proofs.compare.answer_input.Goals as goal

@@ -1,7 +1,7 @@
 use Rattle.std.proofs.Common.{◌≡◌, [], ◌∙◌, refl, arith}
 use Rattle.std.proofs.lemmas.List.{nil_from_length}
 use Rattle.std.proofs.lemmas.Bool.Decides.{nat_tests}
-use Rattle.gptp_report.proofs.SinkLemmas.{after_error}
+use Rattle.gptp_sink.proofs.SinkLemmas.{after_error}
 use Rattle.gptp_commands.proofs.CompareLemmas.{answered_all, answered_more, answered_none, answered_part, answered_some}
 use Rattle.gptp_commands.proofs.compare.answer_lines.Goals as goal
 

@@ -1,5 +1,5 @@
 use Rattle.std.proofs.Common.{◌≢◌}
-use Rattle.gptp_report.proofs.SinkLemmas.{after_error}
+use Rattle.gptp_sink.proofs.SinkLemmas.{after_error}
 use Rattle.std.proofs.lemmas.Result.{on_err_weaker}
 use Rattle.gptp_commands.specs.declared.failure.SimError.TheVariants.{Read}
 use Rattle.gptp_commands.specs.CompareText.{size_limit, AnswersLines, AnswersSome, RefusesSize}

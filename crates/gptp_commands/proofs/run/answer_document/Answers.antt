@@ -1,6 +1,6 @@
 use Rattle.std.proofs.Common.{inr, rules}
 use Rattle.gptp_network.specs.Document.{Fails}
-use Rattle.gptp_report.proofs.SinkLemmas.{after_error}
+use Rattle.gptp_sink.proofs.SinkLemmas.{after_error}
 use Rattle.gptp_commands.specs.declared.failure.Status.TheVariants.{Done, Refused}
 use Rattle.gptp_commands.proofs.RunLemmas.{if_ok_more, run_answers}
 use Rattle.gptp_commands.proofs.RunSoFarLemmas.{answers_some}

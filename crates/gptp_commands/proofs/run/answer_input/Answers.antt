@@ -1,7 +1,7 @@
 use Rattle.std.proofs.Common.{◌≡◌, false, nat_le, length, inr}
 use Rattle.std.proofs.lemmas.Bool.{lt-leb}
 use Rattle.std.proofs.lemmas.Result.{on_err_weaker}
-use Rattle.gptp_report.proofs.SinkLemmas.{after_error}
+use Rattle.gptp_sink.proofs.SinkLemmas.{after_error}
 use Rattle.gptp_commands.specs.declared.failure.Status.TheVariants.{Refused}
 use Rattle.gptp_commands.specs.RunText.{document_limit}
 use Rattle.gptp_commands.proofs.RunSoFarLemmas.{begins_within}

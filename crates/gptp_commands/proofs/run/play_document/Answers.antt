@@ -1,5 +1,5 @@
 use Rattle.std.proofs.lemmas.Result.{on_err_weaker, on_ok_weaker}
-use Rattle.gptp_report.proofs.SinkLemmas.{after_error}
+use Rattle.gptp_sink.proofs.SinkLemmas.{after_error}
 use Rattle.gptp_commands.proofs.RunSoFarLemmas.{plays_all, plays_front, plays_some}
 use Rattle.gptp_commands.proofs.run.play_document.Goals as goal
 

@@ -1,5 +1,5 @@
 use Rattle.std.proofs.Common.{◌≢◌}
-use Rattle.gptp_report.proofs.SinkLemmas.{after_error}
+use Rattle.gptp_sink.proofs.SinkLemmas.{after_error}
 use Rattle.gptp_network.specs.declared.fault.DocumentFault.TheVariants.{TooMany}
 use Rattle.gptp_commands.specs.declared.failure.SimError.TheVariants.{Read}
 use Rattle.gptp_commands.specs.RunText.{document_limit, AnswersDocument, RefusesFault, RunsSoFar}

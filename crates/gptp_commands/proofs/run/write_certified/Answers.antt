@@ -3,8 +3,8 @@ use Rattle.std.specs.Io.KnownBytes.{Appends}
 use Rattle.std.proofs.lemmas.Result.{on_ok_weaker}
 use Rattle.gptp_spelling.specs.Lines.{text_of}
 use Rattle.gptp_certificate_text.specs.CertificateText.{certificate_lines}
-use Rattle.gptp_report.specs.Sink.{AppendsSome}
-use Rattle.gptp_report.proofs.SinkLemmas.{after_error, none_of}
+use Rattle.gptp_sink.specs.Sink.{AppendsSome}
+use Rattle.gptp_sink.proofs.SinkLemmas.{after_error, none_of}
 use Rattle.gptp_commands.proofs.RunSoFarLemmas.{tells_all, tells_part, tells_some}
 use Rattle.gptp_commands.proofs.run.write_certified.Goals as goal
 

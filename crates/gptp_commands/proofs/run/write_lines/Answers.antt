@@ -2,8 +2,8 @@ use Rattle.std.proofs.Common.{◌≡◌, ◌+◌, suc, true, false, [], take, sl
 use Rattle.std.specs.Io.KnownBytes.{Appends}
 use Rattle.gptp_spelling.specs.Lines.{text_of}
 use Rattle.gptp_certificate_text.specs.CertificateText.{PrintsLine, certificate_lines}
-use Rattle.gptp_report.specs.Sink.{AppendsSome}
-use Rattle.gptp_report.proofs.SinkLemmas.{appends_none, front_of}
+use Rattle.gptp_sink.specs.Sink.{AppendsSome}
+use Rattle.gptp_sink.proofs.SinkLemmas.{appends_none, front_of}
 use Rattle.gptp_commands.proofs.LineLemmas.{lines_all, lines_more, lines_part, lines_so_far}
 use Rattle.gptp_commands.proofs.run.write_lines.Goals as goal
 

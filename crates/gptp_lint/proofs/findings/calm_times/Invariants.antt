@@ -1,11 +1,11 @@
--- The times so far are the first, each with its bound.
-use Rattle.std.proofs.Common.{◌≡◌, map, take}
-use Rattle.std.specs.List.{AllByRecursion}
-use Rattle.gptp_network.specs.Span.{IsBound}
-use Rattle.gptp_lint.specs.declared.findings.CalmTime.{CalmTime}
+-- The times before this one are told of, and the tables stand after the events so far.
+use Rattle.std.proofs.Common.{drop, take}
+use Rattle.gptp_lint.proofs.PassedLemmas.{Passed}
+use Rattle.gptp_lint.proofs.StandingLemmas.{Stand}
 use Rattle.gptp_lint.proofs.findings.calm_times.Given as goal
 
-abbrev pub invariant-loop-at : goal.invariant-loop-at
-invariant-loop-at l =
-    (map (λ (t : CalmTime). t.at) l.calm.items ≡ take l.at-index l.at-items)
-    × AllByRecursion (λ (t : CalmTime). IsBound l.document t.at t.bound) l.calm.items
+abbrev pub invariant-loop-event : goal.invariant-loop-event
+invariant-loop-event l = record {
+  passed : Passed l.document (take l.event-index l.events) (drop l.event-index l.events) l.at l.calm.items;
+  stand : Stand l.document.network (take l.event-index l.events) l.tables;
+}

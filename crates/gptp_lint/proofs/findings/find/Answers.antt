@@ -1,16 +1,42 @@
--- All links are told of, as the law of quiet networks asks.
-use Rattle.std.proofs.Common.{◌≡◌, length, subst, sym, ap, ◌∙◌, arith}
+-- One link more is told of behind those before it, and in the end all are, as the law of quiet networks asks.
+use Rattle.std.proofs.Common.{◌≡◌, ◌++◌, ◌∷◌, ◌+◌, [], drop, map, ap, sym, subst, ◌∙◌}
+use Rattle.std.specs.Option.{option_to_list}
+use Rattle.std.proofs.lemmas.List.{append-nil, drop_all, drop_more}
 use Rattle.gptp_plan.specs.Network.{IsNetwork, NetworkState}
-use Rattle.gptp_lint.proofs.FoundLemmas.{found}
+use Rattle.gptp_plan.specs.declared.network.Wire.{Wire}
+use Rattle.gptp_lint.specs.Course.{cable_of, course_of, wire_of}
+use Rattle.gptp_lint.specs.Trouble.{long_of, longs_of, lossies_of, stretches}
+use Rattle.gptp_lint.proofs.FoundLemmas.{found, told_more}
 use Rattle.gptp_lint.proofs.findings.find.Goals as goal
+
+pub loop-cable-preserved : goal.loop-cable-preserved
+loop-cable-preserved c =
+    let d = c.args.document.now in
+    let cables = c.deref-cable-items.result.now in
+    let i = c.loop-cable.cable-index in
+    let cable = c.cable-item.result in
+    let here : drop i cables ≡ cable ∷ drop (i + 1) cables =
+    drop_more cables i cable c.loop-cable-test.true ∙ ap (λ u. u ∷ drop (i + 1) cables) (sym c.cable-item.is) in
+    record {
+      long = told_more (λ (w : Wire). option_to_list (long_of d.network.params (course_of d.events w)))
+          c.loop-cable.long.items c.push_troubles.new.long.items (longs_of d (map wire_of cables)) cable cables i here
+          c.loop-cable.invariant.long c.in_ok-push_troubles.ensures.long;
+      lossy = told_more (λ (w : Wire). stretches w.bounds.link 0 0 (course_of d.events w)) c.loop-cable.lossy.items
+          c.push_troubles.new.lossy.items (lossies_of d (map wire_of cables)) cable cables i here
+          c.loop-cable.invariant.lossy c.in_ok-push_troubles.ensures.lossy;
+    }
 
 pub returns : goal.returns
 returns c =
     let d = c.args.document.now in
-    let end = c.links-place-end.ensures in let last = c.loop-place.auto.place-end in
-    let past = c.loop-place-test.false in
-    let same = ap (λ (n : NetworkState). length n.links) c.network-2.ensures in
-    let all : c.loop-place.place ≡ length d.network.links = omega (arith, end, last, past, same) in
-    found d _ c.loop-place.place (subst IsNetwork c.network.ensures c.well_formed-2.ensures)
-    c.well_formed-3.ensures.events all
-    c.loop-place.invariant.0 c.loop-place.invariant.1 c.in_ok-calm.ensures
+    let cables = c.deref-cable-items.result.now in
+    let end = drop_all c.loop-cable.cable-index cables c.loop-cable-test.false in
+    let long = c.loop-cable.long.items in
+    let lossy = c.loop-cable.lossy.items in
+    found d _ cables (subst IsNetwork c.network.ensures c.well_formed-2.ensures) c.well_formed-3.ensures.events
+    (c.deref-cable-items.ensures.value ∙ c.in_ok-cables.ensures
+    ∙ ap (λ (n : NetworkState). map cable_of n.links) c.network-2.ensures)
+    (sym (append-nil long) ∙ ap (λ cs. long ++ longs_of d (map wire_of cs)) (sym end) ∙ c.loop-cable.invariant.long)
+    (sym (append-nil lossy) ∙ ap (λ cs. lossy ++ lossies_of d (map wire_of cs)) (sym end)
+    ∙ c.loop-cable.invariant.lossy)
+    c.in_ok-calm.ensures

@@ -5,7 +5,7 @@ use Rattle.gptp_messages.proofs.announce.encode_announce.Goals as goal
 pub returns-clause-ok : goal.returns-clause-ok
 returns-clause-ok c =
     rw (
-      c.put_clocks.ensures,
+      c.put_clocks.ensures.octets,
       c.in_ok-put_front.ensures.ok,
       c.as_slice.ensures,
       c.len.ensures.count,

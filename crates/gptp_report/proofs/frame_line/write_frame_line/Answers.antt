@@ -2,9 +2,9 @@ use Rattle.std.proofs.Common.{◌≡◌, ◌∷◌, [], subst, ◌∙◌}
 use Rattle.std.specs.Io.KnownBytes.{Appends}
 use Rattle.gptp_spelling.specs.Lines.{text_of}
 use Rattle.gptp_report.specs.FrameLine.{frame_line}
-use Rattle.gptp_report.specs.Sink.{AppendsSome}
+use Rattle.gptp_sink.specs.Sink.{AppendsSome}
 use Rattle.gptp_report.proofs.LineLemmas.{line_alone}
-use Rattle.gptp_report.proofs.SinkLemmas.{all_of, front_of, none_of}
+use Rattle.gptp_sink.proofs.SinkLemmas.{all_of, front_of, none_of}
 use Rattle.gptp_report.proofs.frame_line.write_frame_line.Goals as goal
 
 pub returns-in_err-append_frame_line-clause-some : goal.returns-in_err-append_frame_line-clause-some

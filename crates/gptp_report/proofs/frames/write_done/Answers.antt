@@ -1,6 +1,6 @@
 use Rattle.std.specs.Io.KnownBytes.{Appends}
 use Rattle.std.proofs.lemmas.Result.{on_ok_weaker}
-use Rattle.gptp_report.specs.Sink.{AppendsSome}
+use Rattle.gptp_sink.specs.Sink.{AppendsSome}
 use Rattle.gptp_report.proofs.FrameLemmas.{heard_shown}
 use Rattle.gptp_report.proofs.frames.write_done.Goals as goal
 

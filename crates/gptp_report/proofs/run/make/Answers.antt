@@ -2,10 +2,10 @@ use Rattle.std.proofs.Common.{inl, inr}
 use Rattle.std.specs.Io.KnownBytes.{Appends}
 use Rattle.std.proofs.lemmas.Result.{on_ok_weaker}
 use Rattle.gptp_acts.proofs.PromptLemmas.{stays_prompt}
-use Rattle.gptp_report.specs.Sink.{AppendsSome}
-use Rattle.gptp_report.proofs.FollowLemmas.{observed_so}
+use Rattle.gptp_sink.specs.Sink.{AppendsSome}
+use Rattle.gptp_world.proofs.FollowLemmas.{observed_so}
 use Rattle.gptp_report.proofs.RunLemmas.{makes_seen, passed_stays}
-use Rattle.gptp_report.proofs.SinkLemmas.{after_error, all_of, appends_both, some_behind}
+use Rattle.gptp_sink.proofs.SinkLemmas.{after_error, all_of, appends_both, some_behind}
 use Rattle.gptp_report.proofs.run.make.Goals as goal
 
 pub done_of-requires-clause-prompt : goal.done_of-requires-clause-prompt

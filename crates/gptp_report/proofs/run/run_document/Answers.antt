@@ -1,8 +1,8 @@
 use Rattle.std.proofs.Common.{[], inl, refl}
 use Rattle.std.specs.Io.KnownBytes.{Appends}
-use Rattle.gptp_report.specs.Sink.{AppendsSome}
+use Rattle.gptp_sink.specs.Sink.{AppendsSome}
 use Rattle.gptp_report.proofs.FrameLemmas.{leads_so_far, leads_to}
-use Rattle.gptp_report.proofs.SinkLemmas.{after_error, none_of}
+use Rattle.gptp_sink.proofs.SinkLemmas.{after_error, none_of}
 use Rattle.gptp_report.proofs.run.run_document.Goals as goal
 
 pub play-requires-clause-prompt : goal.play-requires-clause-prompt

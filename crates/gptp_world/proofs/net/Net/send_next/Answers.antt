@@ -41,7 +41,7 @@ returns-in-Some-clause-uses g c =
     let e = c.send_one.ensures in
     let slice = c.as_mut_slice.ensures.value in
     let items = written_back c.args.self.now.cables c.as_mut_slice.result.now c.send_one.new.cables slice e.joins in
-    let ready = c.take-octets.ensures.ready in
+    let ready = c.take_for-octets.ensures.ready in
     sent_uses (clock c.args.system.now) c.args.send.now c.args.self.now _ c.in-Some.lane refl e.systems up.begins
     e.entries
     (omega arith) (rw (items, ← slice) e.room) (rw (items, ← slice) e.elsewhere)

@@ -1,0 +1,151 @@
+//! The command `timeline`: what changes at which system when, while the network of a document runs.
+
+ghost use Rattle.std.specs.Prelude.{◌≡◌, ◌≢◌, ◌⊎◌, ◌≤◌, ◌+◌, [], List, ℕ, IfOk, OnErr, OnOk, IfErr, IfSome};
+ghost use Rattle.std.specs.Io.KnownBytes.{Appends, Keeps};
+ghost use Rattle.gptp_sink.specs.Sink.{AppendsSome};
+ghost use Rattle.gptp_spelling.specs.Lines.{text_of};
+ghost use Rattle.gptp_commands.specs.Source.{ReadsWhole, TakesAtMost};
+ghost use Rattle.gptp_commands.specs.RunText.{document_limit};
+ghost use Rattle.gptp_commands.specs.TimelineText.{AnswersSome, AnswersTimeline, BeginsText, EndsAt, PlaysSome, PlaysTimeline, TimelineText};
+ghost use Rattle.gptp_commands.specs.Written.{Writes, WritesSome};
+
+use crate::documents::DOCUMENT_LIMIT;
+use crate::failure::{SimError, Status};
+use crate::reading::read_whole;
+use crate::run::write_refusal;
+use crate::source::Source;
+use gptp_links::PcgFate;
+use gptp_network::{Document, DocumentFault};
+use gptp_report::Cut;
+use gptp_report::sink::Sink;
+use gptp_timeline::{TimelineOptions, end_by_default, write_timeline};
+use std::alloc::{AllocError, Global};
+
+/// What is asked of a timeline.
+#[derive(Clone, Copy, Debug, PartialEq, Eq)]
+pub struct TimelineOrder {
+    /// The time at which it ends, in ns, at most 10^15; `None` where it ends some Syncs after a calm network is exact behind
+    /// the last event.
+    pub until: Option<u64>,
+    /// The seed of the generator that draws delays and losses.
+    pub seed: u64,
+    /// What is told.
+    pub options: TimelineOptions,
+}
+
+/// When the timeline of a document ends.
+fn until_of(alloc: Global, document: &Document, order: &TimelineOrder) -> Result<u64, AllocError>
+    requires { IfSome order.now.until (λ until. until ≤ 1000000000000000) }
+    ensures end { IfOk result (EndsAt order.now.until document.now) }
+    ensures bound { IfOk result (λ until. until ≤ 1000000000000000) }
+{
+    match order.until {
+        Some(until) => Ok(until),
+        None => end_by_default(alloc, document),
+    }
+}
+
+/// Writes the timeline of a document.
+fn play_document<K: Sink>(
+    alloc: Global,
+    document: &Document,
+    order: &TimelineOrder,
+    sink: &mut K,
+) -> Result<Status, Cut>
+    requires { IfSome order.now.until (λ until. until ≤ 1000000000000000) }
+    ensures some { OnErr result ((lines : List (List ℕ)) × ((lines ≡ []) ⊎ PlaysSome document.now order.now lines)
+        × AppendsSome (K.written sink.old) (K.written sink.new) (text_of lines)) }
+    ensures whole { IfOk result (λ status. (lines : List (List ℕ)) × PlaysTimeline document.now order.now lines status
+        × Appends (K.written sink.old) (K.written sink.new) (text_of lines)) }
+    ensures works { result ≢ Err Cut.Write → K.failures sink.new ≡ K.failures sink.old }
+    ensures fails { result ≡ Err Cut.Write → K.failures sink.new ≢ K.failures sink.old }
+{
+    let until = until_of(alloc, document, order)?;
+    let fate = PcgFate::new(order.seed);
+    let exceeded = write_timeline(alloc, document, fate, until, &order.options, sink)?;
+    Ok(Status::of_refusal(exceeded))
+}
+
+/// Writes the text for a document within its size.
+fn answer_document<K: Sink>(
+    alloc: Global,
+    input: &[u8],
+    order: &TimelineOrder,
+    sink: &mut K,
+) -> Result<Status, Cut>
+    requires { IfSome order.now.until (λ until. until ≤ 1000000000000000) }
+    ensures some { OnErr result ((lines : List (List ℕ)) × AnswersSome order.now input.now lines
+        × AppendsSome (K.written sink.old) (K.written sink.new) (text_of lines)) }
+    ensures whole { IfOk result (λ status. (lines : List (List ℕ)) × AnswersTimeline order.now input.now lines status
+        × Appends (K.written sink.old) (K.written sink.new) (text_of lines)) }
+    ensures works { result ≢ Err Cut.Write → K.failures sink.new ≡ K.failures sink.old }
+    ensures fails { result ≡ Err Cut.Write → K.failures sink.new ≢ K.failures sink.old }
+{
+    match Document::read(alloc, input) {
+        Ok(document) => play_document(alloc, &document, order, sink),
+        Err(DocumentFault::OutOfMemory) => Err(Cut::Memory),
+        Err(fault) => write_refusal(alloc, fault, sink),
+    }
+}
+
+/// Writes the text for an input.
+fn answer_input<K: Sink>(
+    alloc: Global,
+    input: &[u8],
+    order: &TimelineOrder,
+    sink: &mut K,
+) -> Result<Status, Cut>
+    requires { IfSome order.now.until (λ until. until ≤ 1000000000000000) }
+    ensures some { OnErr result ((lines : List (List ℕ)) × BeginsText order.now input.now lines
+        × AppendsSome (K.written sink.old) (K.written sink.new) (text_of lines)) }
+    ensures whole { IfOk result (λ status. (lines : List (List ℕ)) × TimelineText order.now input.now lines status
+        × Appends (K.written sink.old) (K.written sink.new) (text_of lines)) }
+    ensures works { result ≢ Err Cut.Write → K.failures sink.new ≡ K.failures sink.old }
+    ensures fails { result ≡ Err Cut.Write → K.failures sink.new ≢ K.failures sink.old }
+{
+    if input.len() <= DOCUMENT_LIMIT {
+        return answer_document(alloc, input, order, sink);
+    }
+    write_refusal(alloc, DocumentFault::TooMany, sink)
+}
+
+/// Reads a document, a network and its events as TOML, lets them run up to a time, and writes act by act which event is made
+/// and what each act leaves another at which system, and where each stretch between times of events ends what became of it.
+///
+/// A document that is refused is the one line `refused` with the number and name of [`gptp_network::DocumentFault`]. Of an
+/// input of more than 33,554,432 octets no more than one further octet is read, and it is `refused 11 TooMany`. The document
+/// is read whole first; then the lines of each act are written as it is done.
+///
+/// The answer is [`Status::Refused`] where the document was refused, or where a limit is given that some stretch exceeds.
+/// Errors: [`SimError::Read`] exactly where a read failed, with nothing written; [`SimError::Memory`]; [`SimError::Write`]
+/// exactly where a write failed, after which nothing more is done. After these two a front of the text stands written, as
+/// far as that had got.
+pub fn timeline<S: Source, K: Sink>(
+    alloc: Global,
+    source: &mut S,
+    sink: &mut K,
+    order: &TimelineOrder,
+) -> Result<Status, SimError>
+    requires { IfSome order.now.until (λ until. until ≤ 1000000000000000) }
+    ensures done { IfOk result (Writes (TimelineText order.now) (S.left source.old) (K.written sink.old) (K.written sink.new)) }
+    ensures whole { OnOk result ((octets : List ℕ) × ReadsWhole document_limit (S.left source.old) (S.left source.new) octets) }
+    ensures no_further { TakesAtMost (document_limit + 1) (S.left source.old) (S.left source.new) }
+
+    // every failure of a device is told as such, and none is made up
+    ensures source_works { result ≢ Err SimError.Read → S.failures source.new ≡ S.failures source.old }
+    ensures sink_works { result ≢ Err SimError.Write → K.failures sink.new ≡ K.failures sink.old }
+    ensures read { result ≡ Err SimError.Read → S.failures source.new ≢ S.failures source.old }
+    ensures write { result ≡ Err SimError.Write → K.failures sink.new ≢ K.failures sink.old }
+
+    // what stands written after an error
+    ensures nothing { result ≡ Err SimError.Read → Keeps (K.written sink.old) (K.written sink.new) }
+    ensures front { IfErr result (λ e. e ≢ SimError.Read
+        → WritesSome (BeginsText order.now) (S.left source.old) (K.written sink.old) (K.written sink.new)) }
+{
+    let input = read_whole(alloc, source, DOCUMENT_LIMIT)?;
+    match answer_input(alloc, &input, order, sink) {
+        Ok(status) => Ok(status),
+        Err(Cut::Memory) => Err(SimError::Memory),
+        Err(Cut::Write) => Err(SimError::Write),
+    }
+}

@@ -1,0 +1,159 @@
+-- What a course tells of what is new at a link, the events that name a system at one of its ends tell too.
+use Rattle.std.proofs.Common.{◌≡◌, ◌≢◌, ◌≤◌, ◌<◌, ℕ, Bool, true, false, ◌==◌, ◌||◌, cond, List, [], ◌∷◌, ◌++◌, filter, Option, Some, None, refl, sym, ap, ap₂, subst, ◌∙◌, arith}
+use Rattle.std.specs.List.{AllByRecursion}
+use Rattle.std.specs.Option.{option_to_list}
+use Rattle.std.proofs.lemmas.Bool.{eqb-true, eqb-false, eq-eqb, ne_eqb, or_parts}
+use Rattle.gptp_setup.specs.declared.setup.Params.{Params}
+use Rattle.gptp_vector.specs.declared.port.PortId.{PortId}
+use Rattle.gptp_plan.specs.declared.change.Timed.{Timed}
+use Rattle.gptp_plan.specs.declared.network.Wire.{Wire}
+use Rattle.gptp_network.specs.Document.{DocumentState}
+use Rattle.gptp_network.specs.Events.{AreInOrder}
+use Rattle.gptp_lint.specs.Course.{acted, at_time, cable_of, course_from, course_of, first, is_end, named, naming, past, wire_of}
+use Rattle.gptp_lint.specs.Trouble.{ended, is_long, long_at, long_of, longs_of, loss_in_use, lossies_of, stretches}
+use Rattle.gptp_lint.specs.declared.course.Cable.{Cable}
+use Rattle.gptp_lint.specs.declared.course.Standing.{Standing}
+use Rattle.gptp_lint.specs.declared.trouble.Long.{Long}
+use Rattle.gptp_lint.specs.declared.trouble.Lossy.{Lossy}
+use Rattle.gptp_lint.proofs.CourseLemmas.{acted_keeps, all_from_0, behind, not_before, order_behind}
+use Rattle.gptp_lint.proofs.NamedLemmas.{untouched}
+
+-- the link's ends are at these systems
+record IsOf (c : Cable) (s : Standing) : Type 0 where
+  a : s.cable.a.clock ≡ c.a.clock
+  b : s.cable.b.clock ≡ c.b.clock
+
+still_of : (c : Cable) (t : Timed) (s : Standing) → IsOf c s → IsOf c (acted t.act s)
+still_of c t s of_it =
+    let keeps = acted_keeps t.act (wire_of s.cable) in record {
+      a = ap (λ (p : PortId). p.clock) keeps.a ∙ of_it.a;
+      b = ap (λ (p : PortId). p.clock) keeps.b ∙ of_it.b;
+    }
+
+-- an event that names another system leaves it as it stands
+passed_over : (c : Cable) (t : Timed) (s : Standing) → IsOf c s → is_end c (named t.act) ≡ false → acted t.act s ≡ s
+passed_over c t s of_it other =
+    let (a, b) = or_parts (named t.act == c.a.clock) (named t.act == c.b.clock) other in
+    untouched t.act s (λ same. eqb-false (named t.act) c.a.clock a (same ∙ of_it.a))
+    (λ same. eqb-false (named t.act) c.b.clock b (same ∙ of_it.b))
+
+-- those that name one of them are no earlier
+kept_before : (c : Cable) (at : ℕ) (ts : List Timed) → not_before at ts → not_before at (naming c ts)
+kept_before c at [] come = tt
+kept_before c at (t ∷ ts) come = by (kept_before c at ts come.1) (is_end c (named t.act))
+  where
+    by : not_before at (naming c ts) → (test : Bool) → not_before at (cond test (t ∷ naming c ts) (naming c ts))
+    by rest true = (come.0, rest)
+    by rest false = rest
+
+module _ {X : Type 0} (Told : ℕ → ℕ → List Standing → X)
+    (repeats : (loss from at : ℕ) (s : Standing) (ss : List Standing)
+    → Told loss from (s ∷ at_time at s ∷ ss) ≡ Told loss from (s ∷ ss))
+    (goes_on : (s : Standing) (ss rs : List Standing) → ((loss from : ℕ) → Told loss from ss ≡ Told loss from rs)
+    → (loss from : ℕ) → Told loss from (s ∷ ss) ≡ Told loss from (s ∷ rs))
+    (c : Cable) where
+  -- all that is told is told by the events that name one of these systems
+  abbrev Same : Standing → List Timed → Type 0
+  Same s ts = (loss from : ℕ) → Told loss from (course_from s ts) ≡ Told loss from (course_from s (naming c ts))
+
+  -- an event that counts
+  with_it : (s : Standing) (t : Timed) (ts : List Timed) → Same (acted t.act (at_time t.at s)) ts → (same : Bool)
+      → (loss from : ℕ)
+      → Told loss from (cond same [] (s ∷ []) ++ course_from (acted t.act (at_time t.at s)) ts)
+      ≡ Told loss from (cond same [] (s ∷ []) ++ course_from (acted t.act (at_time t.at s)) (naming c ts))
+  with_it s t ts rest true loss from = rest loss from
+  with_it s t ts rest false loss from =
+      goes_on s (course_from (acted t.act (at_time t.at s)) ts)
+      (course_from (acted t.act (at_time t.at s)) (naming c ts)) rest loss from
+
+  -- A standing that is there again at a later time, before events that come no earlier
+  again : (s : Standing) (at : ℕ) (us : List Timed) → s.at < at → not_before at us → (loss from : ℕ)
+      → Told loss from (s ∷ course_from (at_time at s) us) ≡ Told loss from (course_from s us)
+  again s at [] later come loss from = repeats loss from at s []
+  again s at (u ∷ us) later come loss from =
+      let here = come.0 in
+      let apart : (s.at == u.at) ≡ false = ne_eqb s.at u.at (λ same. absurd (omega (arith, same, here, later))) in
+      let then = course_from (acted u.act (at_time u.at s)) us in
+      by (at == u.at) ∙ ap (λ test. Told loss from (cond test [] (s ∷ []) ++ then)) (sym apart)
+    where
+      by : (same : Bool)
+          → Told loss from (s ∷ (cond same [] (at_time at s ∷ []) ++ course_from (acted u.act (at_time u.at s)) us))
+          ≡ Told loss from (s ∷ course_from (acted u.act (at_time u.at s)) us)
+      by true = refl
+      by false = repeats loss from at s (course_from (acted u.act (at_time u.at s)) us)
+
+  -- an event that doesn't count
+  without_it : (s : Standing) (t : Timed) (ts : List Timed) → Same (at_time t.at s) ts → s.at ≤ t.at
+      → not_before t.at ts → (same : Bool) → (s.at == t.at) ≡ same → (loss from : ℕ)
+      → Told loss from (cond same [] (s ∷ []) ++ course_from (at_time t.at s) ts)
+      ≡ Told loss from (course_from s (naming c ts))
+  without_it s t ts rest earlier come true is loss from =
+      let now : at_time t.at s ≡ s = ap (λ at. at_time at s) (sym (eqb-true s.at t.at is)) in
+      rest loss from ∙ ap (λ r. Told loss from (course_from r (naming c ts))) now
+  without_it s t ts rest earlier come false is loss from =
+      let apart = eqb-false s.at t.at is in
+      let later : s.at < t.at = omega (arith, earlier, apart) in
+      goes_on s (course_from (at_time t.at s) ts) (course_from (at_time t.at s) (naming c ts)) rest loss from
+      ∙ again s t.at (naming c ts) later (kept_before c t.at ts come) loss from
+
+  thin : (s : Standing) (ts : List Timed) → IsOf c s → not_before s.at ts → AreInOrder ts → Same s ts
+  thin s [] of_it come order loss from = refl
+  thin s (t ∷ ts) of_it come order loss from =
+      let at_it : IsOf c (at_time t.at s) = record { a = of_it.a; b = of_it.b } in
+      let later = behind t ts order in
+      let in_order = order_behind t ts order in
+      by at_it (thin (acted t.act (at_time t.at s)) ts (still_of c t (at_time t.at s) at_it) later in_order)
+      (thin (at_time t.at s) ts at_it later in_order) (is_end c (named t.act)) refl
+    where
+      by : IsOf c (at_time t.at s) → Same (acted t.act (at_time t.at s)) ts → Same (at_time t.at s) ts
+          → (test : Bool) → is_end c (named t.act) ≡ test
+          → Told loss from (course_from s (t ∷ ts))
+          ≡ Told loss from (course_from s (cond test (t ∷ naming c ts) (naming c ts)))
+      by at_it counts passes true is = with_it s t ts counts (s.at == t.at) loss from
+      by at_it counts passes false is =
+          ap (λ r. Told loss from (past t.at s [] ++ course_from r ts)) (passed_over c t (at_time t.at s) at_it is)
+          ∙ without_it s t ts passes come.0 (behind t ts order) (s.at == t.at) refl loss from
+
+-- ---- the first time at which it isn't good
+
+long_again : (p : Params) (at : ℕ) (s : Standing) (ss : List Standing) (long : Bool)
+    → is_long p s ≡ long → cond long (Some (long_at p s)) (long_of p (at_time at s ∷ ss))
+    ≡ cond long (Some (long_at p s)) (long_of p ss)
+long_again p at s ss true is = refl
+long_again p at s ss false is =
+    ap (λ test. cond test (Some (long_at p (at_time at s))) (long_of p ss)) is
+
+pub long_is : (d : DocumentState) (w : Wire) → AreInOrder d.events
+    → long_of d.network.params (course_from (first w) (naming (cable_of w) d.events))
+    ≡ long_of d.network.params (course_of d.events w)
+long_is d w order =
+    let p : Params = d.network.params in
+    sym (thin (λ loss from. long_of p) (λ loss from at s ss. long_again p at s ss (is_long p s) refl)
+    (λ s ss rs rest loss from. ap (λ o. cond (is_long p s) (Some (long_at p s)) o) (rest loss from))
+    (cable_of w) (first w) d.events (record { a = refl; b = refl }) (all_from_0 d.events) order 0 0)
+
+-- ---- the stretches at which it loses frames
+
+lossy_again : (link loss from at : ℕ) (s : Standing) (ss : List Standing) (same : Bool)
+    → (loss_in_use s == loss) ≡ same
+    → cond same (stretches link loss from (at_time at s ∷ ss))
+    (ended link loss from (Some s.at) ++ stretches link (loss_in_use s) s.at (at_time at s ∷ ss))
+    ≡ cond same (stretches link loss from ss)
+    (ended link loss from (Some s.at) ++ stretches link (loss_in_use s) s.at ss)
+lossy_again link loss from at s ss true is =
+    ap (λ test. cond test (stretches link loss from ss)
+    (ended link loss from (Some at) ++ stretches link (loss_in_use s) at ss)) is
+lossy_again link loss from at s ss false is =
+    ap (λ test. ended link loss from (Some s.at) ++ cond test (stretches link (loss_in_use s) s.at ss)
+    (ended link (loss_in_use s) s.at (Some at) ++ stretches link (loss_in_use s) at ss))
+    (eq-eqb (loss_in_use s) (loss_in_use s) refl)
+
+pub lossy_is : (d : DocumentState) (w : Wire) → AreInOrder d.events
+    → stretches w.bounds.link 0 0 (course_from (first w) (naming (cable_of w) d.events))
+    ≡ stretches w.bounds.link 0 0 (course_of d.events w)
+lossy_is d w order =
+    let link : ℕ = w.bounds.link in
+    sym (thin (stretches link) (λ loss from at s ss. lossy_again link loss from at s ss (loss_in_use s == loss) refl)
+    (λ s ss rs rest loss from. ap₂ (λ k l. cond (loss_in_use s == loss) k
+    (ended link loss from (Some s.at) ++ l)) (rest loss from) (rest (loss_in_use s) s.at))
+    (cable_of w) (first w) d.events (record { a = refl; b = refl }) (all_from_0 d.events) order 0 0)

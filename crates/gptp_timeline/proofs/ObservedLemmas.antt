@@ -1,0 +1,339 @@
+-- What an observer keeps and tells is what is defined over the acts: as systems start, and stretch by stretch.
+use Rattle.std.proofs.Common.{◌≡◌, ℕ, Bool, false, List, [], ◌∷◌, ◌++◌, map, Option, Some, None, option_map, refl, sym, ap, subst, ◌∙◌, append_assoc, append-nil}
+use Rattle.std.specs.List.{filter_map, flat_map}
+use Rattle.std.proofs.lemmas.List.Folds.{flat_map-map}
+use Rattle.gptp_acts.specs.declared.station.Station.{Station}
+use Rattle.gptp_acts.specs.Acts.{at}
+use Rattle.gptp_acts.specs.Course.{Begun}
+use Rattle.gptp_acts.specs.Sound.{IsWired}
+use Rattle.gptp_acts.specs.Views.{rising_clocks}
+use Rattle.gptp_acts.specs.World.{WorldState}
+use Rattle.gptp_links.specs.declared.bounds.Bounds.{Bounds}
+use Rattle.gptp_lists.specs.Members.{In}
+use Rattle.gptp_plan.specs.Network.{NetworkState}
+use Rattle.gptp_plan.specs.declared.change.Timed.{Timed}
+use Rattle.gptp_world.specs.Observing.{Tells}
+use Rattle.gptp_world.specs.Transitions.{Transition}
+use Rattle.gptp_report.specs.Transitions.{Courses, CoursesSoFar}
+use Rattle.gptp_time_error.specs.declared.errors.TimeErrors.{TimeErrors}
+use Rattle.gptp_timeline.specs.Changes.{change_lines}
+use Rattle.gptp_timeline.specs.Measures.{greatest, greatest_from, since_after}
+use Rattle.gptp_timeline.specs.Shown.{is_expecting, live_among, shown, shown_of}
+use Rattle.gptp_timeline.specs.Stretch.{at_of, counted, ended, error_from, shown_of_all, under_way, waits}
+use Rattle.gptp_timeline.specs.StretchText.{after_line, ended_stretch, error_among, system_accuracy, wait_of}
+use Rattle.gptp_timeline.specs.Timeline.{Passage, accuracy_at, accuracy_lines, act_lines, end_lines, ended_of, exact_time, is_begun, kept_accuracy, kept_accuracy_at, none_waits, start_lines, stretch_of}
+use Rattle.gptp_timeline.specs.Watch.{WatchState, begun, event_look, lines_all, nothing, see_act, see_all, seen_lines, tells_changes, unless, unseen, without_error}
+use Rattle.gptp_timeline.specs.declared.counts.Counts.{Counts}
+use Rattle.gptp_timeline.specs.declared.measures.Greatest.{Greatest}
+use Rattle.gptp_timeline.specs.declared.measures.Measures.{Measures}
+use Rattle.gptp_timeline.specs.declared.shown.Shown.{Shown}
+use Rattle.gptp_timeline.specs.declared.stretch.Stretch.{Stretch}
+use Rattle.gptp_timeline.specs.declared.timeline.Plan.{Plan}
+use Rattle.gptp_timeline.specs.declared.timeline.TimelineOptions.{TimelineOptions}
+use Rattle.gptp_timeline.specs.declared.watched.Watched.{Watched}
+use Rattle.gptp_timeline.proofs.BeginLemmas.{none_expects}
+use Rattle.gptp_timeline.proofs.ChainLemmas.{broken_chain, Chain, courses_chain, IsDone}
+use Rattle.gptp_timeline.proofs.ChainStepLemmas.{done_step, strangers}
+use Rattle.gptp_timeline.proofs.EachLemmas.{all_looked, behind}
+use Rattle.gptp_timeline.proofs.EndLemmas.{kept_cleared, kept_error, kept_shown, kept_waits}
+use Rattle.gptp_timeline.proofs.ErrorLemmas.{errors_more, errors_stay}
+use Rattle.gptp_timeline.proofs.MeasureLemmas.{greatest_both}
+use Rattle.gptp_timeline.proofs.NameLemmas.{acts_named, AreNamed, first_names, same_named}
+use Rattle.gptp_timeline.proofs.StandLemmas.{kept, map_same, Stands}
+use Rattle.gptp_timeline.proofs.StepLemmas.{errors_next, measured_by, restand, Tracks}
+use Rattle.gptp_timeline.proofs.TrackLemmas.{all_seen_lines, unless_each}
+
+-- ---- what is kept
+
+abbrev one_kept : ℕ → Option ℕ → Option ℕ → Option Shown → Watched
+one_kept name since error s = record { clock = name; shown = s; since = since; error = error }
+
+-- an observer as it is made
+abbrev pub first_watch : TimelineOptions → WorldState → WatchState
+first_watch options w = record {
+  summary = options.summary;
+  offsets = options.offsets;
+  exact_from = None;
+  systems = map unseen (rising_clocks w);
+  measures = nothing;
+}
+
+-- Between stretches it keeps what the systems with these names show, and since when each waits.
+pub record Rests (options : TimelineOptions) (names : List ℕ) (since : ℕ → Option ℕ) (w : WorldState) (o : WatchState) :
+    Type 0 where
+  pub named : AreNamed names w
+  pub summary_is : o.summary ≡ options.summary
+  pub offsets_is : o.offsets ≡ options.offsets
+  pub errors : ℕ → Option ℕ
+  pub stands : Stands names since errors w o.systems
+
+-- In a stretch in which receipts count from a time on it keeps what is defined over the acts so far; before the stretch
+-- systems waited since then.
+pub record Observes (options : TimelineOptions) (names : List ℕ) (since : ℕ → Option ℕ) (from : Option ℕ)
+    (ts : List Transition) (w : WorldState) (o : WatchState) : Type 0 where
+  pub named : AreNamed names w
+  pub tracks : Tracks options.summary options.offsets from names since (λ name. error_from name from ts) ts w o
+  pub others : (name : ℕ) → (In name names → ⊥) → error_from name from ts ≡ None
+
+-- a passage is that of a plan
+pub record IsOfPlan (plan : Plan) (p : Passage) : Type 0 where
+  pub from_is : plan.from ≡ p.from
+  pub to_is : plan.to ≡ p.to
+  pub begins_is : plan.begins_with_event ≡ is_begun p.events
+  pub bound_is : plan.bound ≡ p.bound
+  pub errors_are : plan.errors ≡ p.errors
+
+-- ---- systems start
+
+-- each is looked at for the first time
+seen_first : (w : WorldState) (names : List ℕ) → ((name : ℕ) → is_expecting (shown name w) ≡ false)
+    → map (behind (event_look 0) w) (map unseen names) ≡ map (kept none_waits (λ name. None) w) names
+seen_first w [] nobody = refl
+seen_first w (n ∷ ns) nobody =
+    ap (λ expects. one_kept n (since_after 0 false false expects None) None (shown n w)
+    ∷ map (behind (event_look 0) w) (map unseen ns)) (nobody n)
+    ∙ ap (λ rest. kept none_waits (λ name. None) w n ∷ rest) (seen_first w ns nobody)
+
+-- the observer saw how they are
+pub start_rests : {F : Type 0} (answers : Bounds → ℕ → F → Option ℕ → F → Type 0) (n : NetworkState)
+    (fate fate_after : F) (options : TimelineOptions) (w : WorldState) (o : WatchState)
+    → Begun answers n fate fate_after w → IsWired w → o ≡ first_watch options w
+    → Rests options (rising_clocks w) none_waits w (see_all (event_look 0) w o)
+start_rests answers n fate fate_after options w o starts wired first =
+    subst (Rests options (rising_clocks w) none_waits w) (sym (all_looked (event_look 0) w o)) (record {
+      named = first_names w wired;
+      summary_is = ap (λ (v : WatchState). v.summary) first;
+      offsets_is = ap (λ (v : WatchState). v.offsets) first;
+      errors = λ name. None;
+      stands = record {
+        are = ap (λ (v : WatchState). map (behind (event_look 0) w) v.systems) first
+            ∙ seen_first w (rising_clocks w) (none_expects answers n fate fate_after w starts);
+        still = λ name none. refl;
+      };
+    })
+
+-- and told it
+pub start_told : (options : TimelineOptions) (w : WorldState) (o : WatchState) → o ≡ first_watch options w
+    → lines_all (event_look 0) w o ≡ start_lines options (rising_clocks w) w
+start_told options w o first =
+    all_seen_lines (event_look 0) w o
+    ∙ ap (λ (v : WatchState). flat_map (λ (x : Watched). unless v.summary
+    (change_lines 0 x.clock x.shown (shown x.clock w))) v.systems) first
+    ∙ flat_map-map (λ (x : Watched). unless options.summary (change_lines 0 x.clock x.shown (shown x.clock w))) unseen
+    (rising_clocks w)
+    ∙ unless_each options.summary (λ name. change_lines 0 name None (shown name w)) (rising_clocks w)
+
+-- ---- the same of other errors, and of another world with the same systems
+
+retrack : (summary offsets : Bool) (from : Option ℕ) (names : List ℕ) (since errors others : ℕ → Option ℕ)
+    (ts : List Transition) (w : WorldState) (o : WatchState) → ((name : ℕ) → others name ≡ errors name)
+    → Tracks summary offsets from names since errors ts w o → Tracks summary offsets from names since others ts w o
+retrack summary offsets from names since errors others ts w o same tracks = record {
+  summary_is = tracks.summary_is;
+  offsets_is = tracks.offsets_is;
+  from_is = tracks.from_is;
+  stands = restand names (waits ts since) errors others w o.systems same tracks.stands;
+  measures_are = tracks.measures_are;
+}
+
+same_shown : (w w' : WorldState) → w'.stations ≡ w.stations → (name : ℕ) → shown name w' ≡ shown name w
+same_shown w w' same name = ap (λ stations. option_map shown_of (live_among name stations)) same
+
+stands_in : (names : List ℕ) (since errors : ℕ → Option ℕ) (w w' : WorldState) (xs : List Watched)
+    → w'.stations ≡ w.stations → Stands names since errors w xs → Stands names since errors w' xs
+stands_in names since errors w w' xs same stands = record {
+  are = stands.are ∙ map_same (kept since errors w) (kept since errors w') names (λ i name there.
+      ap (one_kept name (since name) (errors name)) (same_shown w w' same name));
+  still = λ name none. stands.still name (sym (ap is_expecting (same_shown w w' same name)) ∙ none);
+}
+
+-- ---- how exact systems were
+
+accuracy_kept : (ts : List Transition) (kept : List Watched) (errors : Option TimeErrors)
+    → ((clock : ℕ) → error_among kept clock ≡ error_from clock (exact_time errors) ts)
+    → kept_accuracy kept errors ≡ accuracy_lines ts errors
+accuracy_kept ts kept None are = refl
+accuracy_kept ts kept (Some t) are = by t.from are
+  where
+    by : (from : Option ℕ) → ((clock : ℕ) → error_among kept clock ≡ error_from clock from ts)
+        → kept_accuracy_at from kept t.systems.items ≡ accuracy_at from ts t.systems.items
+    by None are = refl
+    by (Some from) are =
+        let same : error_among kept ≡ (λ clock. error_from clock (Some from) ts) = λ i clock. are clock i in
+        ap (λ (errors : ℕ → Option ℕ). flat_map (system_accuracy from errors) t.systems.items) same
+
+module _ (options : TimelineOptions) (names : List ℕ) (since : ℕ → Option ℕ) where
+  -- ---- a stretch begins
+
+  pub stretch_begins : (from : Option ℕ) (w : WorldState) (o : WatchState) → Rests options names since w o
+      → Observes options names since from [] w (begun from o)
+  stretch_begins from w o rests = record {
+    named = rests.named;
+    tracks = record {
+      summary_is = rests.summary_is;
+      offsets_is = rests.offsets_is;
+      from_is = refl;
+      stands = record {
+        are = ap (map without_error) rests.stands.are ∙ kept_cleared since rests.errors w names;
+        still = rests.stands.still;
+      };
+      measures_are = refl;
+    };
+    others = λ name stranger. refl;
+  }
+
+  -- ---- its acts
+
+  module _ (from : Option ℕ) where
+    moved : (ts : List Transition) (w w' : WorldState) (o : WatchState) → w'.stations ≡ w.stations
+        → Observes options names since from ts w o → Observes options names since from ts w' o
+    moved ts w w' o same observes = record {
+      named = same_named names w w' same observes.named;
+      tracks = record {
+        summary_is = observes.tracks.summary_is;
+        offsets_is = observes.tracks.offsets_is;
+        from_is = observes.tracks.from_is;
+        stands = stands_in names (waits ts since) (λ name. error_from name from ts) w w' o.systems same
+            observes.tracks.stands;
+        measures_are = observes.tracks.measures_are;
+      };
+      others = observes.others;
+    }
+
+    -- behind one more
+    act_step : (ts : List Transition) (t : Transition) (o : WatchState)
+        → Observes options names since from ts t.before o → IsDone t
+        → Observes options names since from (ts ++ t ∷ []) t.after
+        (see_act (at_of t) t.told.timed.act t.told.done t.after o)
+        × (seen_lines (at_of t) t.told.timed.act t.told.done t.after o ≡ act_lines options names t)
+    act_step ts t o observes done =
+        let errors : ℕ → Option ℕ = λ name. error_from name from ts in
+        let more : (name : ℕ) → error_from name from (ts ++ t ∷ []) ≡ errors_next from t errors name =
+        λ name. errors_more name from t ts in
+        let stepped = done_step options from names observes.named.rising since errors ts t o observes.tracks
+        t.told.timed.act t.told.done done.draws observes.named refl refl done.acts in (
+          record {
+            named = acts_named names t.told.timed.act (at (at_of t) t.before) done.draws t.told.done t.after done.acts
+                (same_named names t.before (at (at_of t) t.before) refl observes.named);
+            tracks = retrack options.summary options.offsets from names since (errors_next from t errors)
+                (λ name. error_from name from (ts ++ t ∷ [])) (ts ++ t ∷ []) t.after
+                (see_act (at_of t) t.told.timed.act t.told.done t.after o) more stepped.0;
+            others = λ name stranger.
+                more name
+                ∙ errors_stay name from t errors (strangers names t observes.named t.told.timed.act t.told.done
+                done.draws refl done.acts name stranger)
+                ∙ observes.others name stranger;
+          },
+          stepped.1,
+        )
+
+    -- behind several
+    chained : (us ts : List Transition) (w w' : WorldState) (before after : List Station) (o o_after : WatchState)
+        (lines : List (List ℕ)) → before ≡ w.stations → Chain us before after → w'.stations ≡ after
+        → Tells tells_changes us o o_after lines → Observes options names since from ts w o
+        → Observes options names since from (ts ++ us) w' o_after × (lines ≡ flat_map (act_lines options names) us)
+    chained [] ts w w' before after o o_after lines start same end (is, none) observes = (
+      subst (λ us. Observes options names since from us w' o_after) (sym (append-nil ts))
+          (subst (Observes options names since from ts w') (sym is)
+          (moved ts w w' o (end ∙ sym same ∙ start) observes)),
+      none,
+    )
+    chained (t ∷ us) ts w w' before after o o_after lines start (first, done, rest) end
+        (between, one, others, (is, told), tells, are) observes =
+        let step = act_step ts t o (moved ts w t.before o (first ∙ start) observes) done in
+        let next = chained us (ts ++ t ∷ []) t.after w' t.after.stations after between o_after others refl rest end
+            tells
+        (subst (Observes options names since from (ts ++ t ∷ []) t.after) (sym is) step.0) in (
+          subst (λ vs. Observes options names since from vs w' o_after) (append_assoc ts (t ∷ []) us) next.0,
+          are ∙ ap (λ ls. ls ++ others) (told ∙ step.1) ∙ ap (λ ls. act_lines options names t ++ ls) next.1,
+        )
+
+  module _ {F : Type 0} (answers : Bounds → ℕ → F → Option ℕ → F → Type 0) (from : Option ℕ) (until : ℕ)
+      (events : List Timed) (ts : List Transition) (fate : F) (w : WorldState) (o o_after : WatchState)
+      (lines : List (List ℕ)) (begins : Observes options names since from [] w o)
+      (tells : Tells tells_changes ts o o_after lines) where
+    -- they pass
+    passes : (fate_after : F) (w' : WorldState) → Courses answers until events ts fate fate_after w w'
+        → Observes options names since from ts w' o_after × (lines ≡ flat_map (act_lines options names) ts)
+    passes fate_after w' courses =
+        chained from ts [] w w' w.stations w'.stations o o_after lines refl
+        (courses_chain answers until events ts fate fate_after w w' courses) refl tells begins
+
+    pub stretch_passes : (fate_after : F) (w' : WorldState) → Courses answers until events ts fate fate_after w w'
+        → Observes options names since from ts w' o_after
+    stretch_passes fate_after w' courses = (passes fate_after w' courses).0
+
+    pub stretch_told : (fate_after : F) (w' : WorldState) → Courses answers until events ts fate fate_after w w'
+        → lines ≡ flat_map (act_lines options names) ts
+    stretch_told fate_after w' courses = (passes fate_after w' courses).1
+
+    -- or break off
+    pub broken_told : CoursesSoFar answers until events ts fate w → lines ≡ flat_map (act_lines options names) ts
+    broken_told courses =
+        let (after, chain) = broken_chain answers until events ts fate w courses in
+        (chained from ts [] w (record w { stations = after }) w.stations after o o_after lines refl chain refl tells
+        begins).1
+
+  -- ---- a stretch ends
+
+  module _ (plan : Plan) (p : Passage) (is : IsOfPlan plan p) (o : WatchState)
+      (observes : Observes options names since (exact_time p.errors) p.acts p.after o) where
+    abbrev now : ℕ → Option ℕ
+    now = waits p.acts since
+
+    abbrev errors : ℕ → Option ℕ
+    errors name = error_from name (exact_time p.errors) p.acts
+
+    abbrev measures : Measures
+    measures = measured_by options.summary options.offsets (exact_time p.errors) names since p.acts
+
+    abbrev became : Option Greatest → Counts → Stretch
+    became holdover counts = record {
+      from = p.from;
+      to = p.to;
+      begins_with_event = is_begun p.events;
+      bound = p.bound;
+      measures = record measures { holdover = holdover };
+      counts = counts;
+    }
+
+    -- the longest of the waits that ended, and of those under way
+    longest : greatest_from measures.holdover (filter_map (wait_of p.to) (map (kept now errors p.after) names))
+        ≡ greatest (ended names since p.acts ++ under_way names now p.to)
+    longest =
+        ap (greatest_from measures.holdover) (kept_waits now errors p.after p.to names)
+        ∙ sym (greatest_both None (ended names since p.acts) (under_way names now p.to))
+
+    pub stretch_ended : ended_of plan o ≡ stretch_of names since p
+    stretch_ended =
+        ap (λ from. ended_stretch from plan.to plan.begins_with_event plan.bound o.measures o.systems) is.from_is
+        ∙ ap (λ to. ended_stretch p.from to plan.begins_with_event plan.bound o.measures o.systems) is.to_is
+        ∙ ap (λ begins. ended_stretch p.from p.to begins plan.bound o.measures o.systems) is.begins_is
+        ∙ ap (λ bound. ended_stretch p.from p.to (is_begun p.events) bound o.measures o.systems) is.bound_is
+        ∙ ap (λ m. ended_stretch p.from p.to (is_begun p.events) p.bound m o.systems) observes.tracks.measures_are
+        ∙ ap (ended_stretch p.from p.to (is_begun p.events) p.bound measures) observes.tracks.stands.are
+        ∙ ap (λ h. became h (counted (shown_of_all (map (kept now errors p.after) names)))) longest
+        ∙ ap (λ shown. became (greatest (ended names since p.acts ++ under_way names now p.to)) (counted shown))
+        (kept_shown now errors p.after names)
+
+    errors_are : (clock : ℕ) → error_among o.systems clock ≡ errors clock
+    errors_are clock =
+        ap (λ xs. error_among xs clock) observes.tracks.stands.are
+        ∙ kept_error now errors p.after clock names (observes.others clock)
+
+    pub end_told : end_lines plan o ≡ after_line (stretch_of names since p) ∷ accuracy_lines p.acts p.errors
+    end_told =
+        ap (λ (s : Stretch). after_line s ∷ kept_accuracy o.systems plan.errors) stretch_ended
+        ∙ ap (λ ls. after_line (stretch_of names since p) ∷ ls)
+        (ap (kept_accuracy o.systems) is.errors_are ∙ accuracy_kept p.acts o.systems p.errors errors_are)
+
+  -- the observer is where the next can begin
+  pub stretch_rests : (from : Option ℕ) (ts : List Transition) (w : WorldState) (o : WatchState)
+      → Observes options names since from ts w o → Rests options names (waits ts since) w o
+  stretch_rests from ts w o observes = record {
+    named = observes.named;
+    summary_is = observes.tracks.summary_is;
+    offsets_is = observes.tracks.offsets_is;
+    errors = λ name. error_from name from ts;
+    stands = observes.tracks.stands;
+  }

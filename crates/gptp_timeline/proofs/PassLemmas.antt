@@ -1,0 +1,472 @@
+-- Stretches that pass one after another, and the observer between them.
+use Rattle.std.proofs.Common.{◌≡◌, ◌≢◌, ◌==◌, ℕ, Bool, true, false, not, length, None, arith, List, [], ◌∷◌, ◌++◌, Option, Some, Result, Ok, Err, inl, inr, refl, sym, ap, subst, ◌∙◌, append_assoc, append-nil}
+use Rattle.std.specs.List.{flat_map}
+use Rattle.std.specs.Prelude.{IfOk, OnOk}
+use Rattle.std.proofs.lemmas.Bool.Decides.{nat_tests}
+use Rattle.gptp_acts.specs.Sound.{HaveTheirSetups}
+use Rattle.gptp_acts.specs.World.{WorldState}
+use Rattle.gptp_acts.proofs.StayLemmas.{stays_on, stays_setups, Stays}
+use Rattle.gptp_links.specs.declared.bounds.Bounds.{Bounds}
+use Rattle.gptp_network.specs.Document.{DocumentState}
+use Rattle.gptp_network.specs.Snapshot.{events_by}
+use Rattle.gptp_plan.specs.declared.change.Timed.{Timed}
+use Rattle.gptp_world.specs.Observing.{Observed, Tells}
+use Rattle.gptp_world.specs.Transitions.{Transition}
+use Rattle.gptp_report.specs.Transitions.{Courses, CoursesSoFar}
+use Rattle.gptp_world.proofs.FollowLemmas.{text_append}
+use Rattle.gptp_report.proofs.RunLemmas.{made_if_stays, passed_stays}
+use Rattle.gptp_spelling.specs.Lines.{text_of}
+use Rattle.gptp_timeline.specs.Limits.{exceeded_after, not_exceeded}
+use Rattle.gptp_timeline.specs.Passing.{BreaksSeen, first_time, IsSeen, IsSeenSoFar, IsSeenToEnd, StopsSeen}
+use Rattle.gptp_timeline.specs.Stretch.{waits}
+use Rattle.gptp_timeline.specs.StretchText.{after_line, ended_stretch}
+use Rattle.gptp_timeline.specs.Timeline.{accuracy_lines, act_lines, all_exceeded, all_lines, AllPass, AreErrorsBy, end_before, end_lines, ended_of, exact_time, is_begun, kept_accuracy, IsPassage, IsPlan, later_than, none_waits, now_of, Passage, passage_lines, SomePass, stretch_of}
+use Rattle.gptp_timeline.specs.Watch.{begun, tells_changes, WatchState}
+use Rattle.gptp_timeline.specs.declared.limits.Exceeded.{Exceeded}
+use Rattle.gptp_timeline.specs.declared.measures.Measures.{Measures}
+use Rattle.gptp_timeline.specs.declared.stretch.Stretch.{Stretch}
+use Rattle.gptp_timeline.specs.declared.timeline.Plan.{Plan}
+use Rattle.gptp_timeline.specs.declared.timeline.TimelineOptions.{TimelineOptions}
+use Rattle.gptp_timeline.specs.declared.watched.Watched.{Watched}
+use Rattle.gptp_timeline.proofs.EventLemmas.{ends_before, some_left}
+use Rattle.gptp_timeline.proofs.LineLemmas.{line_on}
+use Rattle.gptp_timeline.proofs.ObservedLemmas.{broken_told, end_told, IsOfPlan, Observes, Rests, stretch_begins, stretch_ended, stretch_passes, stretch_rests, stretch_told}
+
+-- ---- answers
+
+-- what follows where a call answers Ok
+pub if_ok_both : {X E : Type 0} (result : Result X E) (P : X → Type 0) (Q : Type 0) (R : X → Type 0)
+    → ((x : X) → P x → Q → R x) → IfOk result P → OnOk result Q → IfOk result R
+if_ok_both (Ok x) P Q R follows p q = follows x p q
+if_ok_both (Err e) P Q R follows p q = tt
+
+-- a stretch begins with an event where there is one
+pub begun_is : (events : List Timed) (empty : Bool) → empty ≡ (length events == 0) → not empty ≡ is_begun events
+begun_is [] empty is = rw is refl
+begun_is (e ∷ es) empty is = let some : length (e ∷ es) == 0 ≡ false = grind (arith, nat_tests) in rw (is, some) refl
+
+-- none is there where no number is
+pub none_there : (o : Option ℕ) → ((x : ℕ) → o ≡ Some x → ⊥) → o ≡ None
+none_there None no_other = refl
+none_there (Some x) no_other = absurd (no_other x refl)
+
+-- what a new text holds to which some was appended
+pub appended_text : (empty after octets text : List ℕ) → empty ≡ [] → after ≡ empty ++ text → octets ≡ after
+    → octets ≡ text
+appended_text empty after octets text none added same = same ∙ added ∙ ap (λ b. b ++ text) none
+
+-- the lines where a stretch ends
+pub end_text : (plan : Plan) (o : WatchState) (s : Stretch) (m : Measures) (xs : List Watched)
+    (empty between after octets : List ℕ)
+    → s ≡ ended_stretch plan.from plan.to plan.begins_with_event plan.bound m xs → m ≡ o.measures → xs ≡ o.systems
+    → empty ≡ [] → between ≡ empty ++ (after_line s ++ 10 ∷ [])
+    → after ≡ between ++ text_of (kept_accuracy o.systems plan.errors) → octets ≡ after
+    → octets ≡ text_of (end_lines plan o)
+end_text plan o s m xs empty between after octets is measures systems none line rest same =
+    let stretch : s ≡ ended_of plan o =
+    is ∙ ap (λ k. ended_stretch plan.from plan.to plan.begins_with_event plan.bound k xs) measures
+    ∙ ap (ended_stretch plan.from plan.to plan.begins_with_event plan.bound o.measures) systems in
+    appended_text empty after octets (text_of (end_lines plan o)) none
+    (line_on empty between after (after_line s) (kept_accuracy o.systems plan.errors) line rest
+    ∙ ap (λ t. empty ++ text_of (after_line t ∷ kept_accuracy o.systems plan.errors)) stretch) same
+
+-- ---- the acts of a stretch
+
+module _ {F : Type 0} (answers : Bounds → ℕ → F → Option ℕ → F → Type 0) where
+  -- they leave each system with its clock and its parameters
+  pub courses_stay : (until : ℕ) (events : List Timed) (ts : List Transition) (fate fate_after : F) (w w' : WorldState)
+      → HaveTheirSetups w → Courses answers until events ts fate fate_after w w' → Stays w w'
+  courses_stay until [] ts fate fate_after w w' setups k = passed_stays answers until ts fate fate_after w w' setups k
+  courses_stay until (e ∷ es) ts fate fate_after w w' setups (first, rest, drawn, between, makes, courses, is) =
+      let one = made_if_stays answers true e first fate drawn w between setups makes in
+      stays_on w between w' one
+      (courses_stay until es rest drawn fate_after between w' (stays_setups w between one) courses)
+
+  -- none was done yet
+  pub none_done : (until : ℕ) (events : List Timed) (fate : F) (w : WorldState)
+      → CoursesSoFar answers until events [] fate w
+  none_done until [] fate w = record { fate_after = fate; after = w; passes = (refl, refl) }
+  none_done until (e ∷ es) fate w = inl (record { fate_after = fate; after = w; passes = (refl, refl) })
+
+-- ---- several stretches
+
+module _ {F : Type 0} (answers : Bounds → ℕ → F → Option ℕ → F → Type 0) (d : DocumentState) (until : ℕ)
+    (options : TimelineOptions) (names : List ℕ) (events : List Timed) (fate : F) (w : WorldState) where
+  -- Stretches passed, the first from 0 on with these events; the next begins at a time with those that are left.
+  pub record Gone (from : ℕ) (left : List Timed) (drawn : F) (between : WorldState) (exceeded : Exceeded)
+      (since : ℕ → Option ℕ) (lines : List (List ℕ)) : Type 0 where
+    pub passages : List Passage
+    pub more : (q : Passage) (qs : List Passage) (fate_after : F) (w' : WorldState)
+        → AllPass answers d until from left drawn fate_after between w' (q ∷ qs)
+        → AllPass answers d until 0 events fate fate_after w w' (passages ++ q ∷ qs)
+    pub some : (qs : List Passage) (ts : List Transition) → SomePass answers d until from left drawn between qs ts
+        → SomePass answers d until 0 events fate w (passages ++ qs) ts
+    pub lines_are : (qs : List Passage)
+        → lines ++ all_lines options names since qs ≡ all_lines options names none_waits (passages ++ qs)
+    pub exceeded_is : (qs : List Passage) → all_exceeded options.limits names since qs exceeded
+        ≡ all_exceeded options.limits names none_waits (passages ++ qs) not_exceeded
+
+  pub gone_none : Gone 0 events fate w not_exceeded none_waits []
+  gone_none = record {
+    passages = [];
+    more = λ q qs fate_after w' all. all;
+    some = λ qs ts some. some;
+    lines_are = λ qs. refl;
+    exceeded_is = λ qs. refl;
+  }
+
+  -- all stretches passed, to these lines
+  pub record AllGone (fate_after : F) (w' : WorldState) (verdict : Exceeded) (all : List (List ℕ)) : Type 0 where
+    pub passages : List Passage
+    pub pass : AllPass answers d until 0 events fate fate_after w w' passages
+    pub verdict_is : verdict ≡ all_exceeded options.limits names none_waits passages not_exceeded
+    pub are : all ≡ all_lines options names none_waits passages
+
+  -- or some of them did
+  pub record SomeGone (some_lines : List (List ℕ)) : Type 0 where
+    pub passages : List Passage
+    pub acts : List Transition
+    pub pass : SomePass answers d until 0 events fate w passages acts
+    pub are : some_lines
+        ≡ all_lines options names none_waits passages ++ flat_map (act_lines options names) acts
+
+  -- one stretch more behind which another comes
+  module _ (from to : ℕ) (left : List Timed) (drawn next : F) (between : WorldState) (exceeded : Exceeded)
+      (since : ℕ → Option ℕ) (lines : List (List ℕ)) (gone : Gone from left drawn between exceeded since lines)
+      (p : Passage) (passage : IsPassage answers d until from left drawn next between p)
+      (is : first_time (later_than from left) ≡ Some to) where
+    to_is : p.to ≡ to
+    to_is = passage.to_is ∙ ends_before until (later_than from left) to is
+
+    behind : (qs : List Passage) → gone.passages ++ p ∷ qs ≡ (gone.passages ++ p ∷ []) ++ qs
+    behind qs = sym (append_assoc gone.passages (p ∷ []) qs)
+
+    pub gone_more : Gone to (later_than from left) next p.after
+        (exceeded_after options.limits (stretch_of names since p) exceeded) (waits p.acts since)
+        (lines ++ passage_lines options names since p)
+    gone_more = record {
+      passages = gone.passages ++ p ∷ [];
+      more = λ q qs fate_after w' all. subst (AllPass answers d until 0 events fate fate_after w w') (behind (q ∷ qs))
+          (gone.more p (q ∷ qs) fate_after w' (
+            next,
+            passage,
+            some_left (later_than from left) to is,
+            subst (λ t. AllPass answers d until t (later_than from left) next fate_after p.after w' (q ∷ qs))
+                (sym to_is)
+                all,
+          ));
+      some = λ qs ts rest. subst (λ ps. SomePass answers d until 0 events fate w ps ts) (behind qs)
+          (gone.some (p ∷ qs) ts (
+            next,
+            passage,
+            subst (λ t. SomePass answers d until t (later_than from left) next p.after qs ts) (sym to_is) rest,
+          ));
+      lines_are = λ qs. append_assoc lines (passage_lines options names since p)
+          (all_lines options names (waits p.acts since) qs)
+          ∙ gone.lines_are (p ∷ qs)
+          ∙ ap (all_lines options names none_waits) (behind qs);
+      exceeded_is = λ qs. gone.exceeded_is (p ∷ qs)
+          ∙ ap (λ ps. all_exceeded options.limits names none_waits ps not_exceeded) (behind qs);
+    }
+
+  -- the last of them
+  module _ (from : ℕ) (left : List Timed) (drawn : F) (between : WorldState) (exceeded : Exceeded)
+      (since : ℕ → Option ℕ) (lines : List (List ℕ)) (gone : Gone from left drawn between exceeded since lines) where
+    pub gone_all : (p : Passage) (next : F) → IsPassage answers d until from left drawn next between p
+        → later_than from left ≡ []
+        → AllGone next p.after (exceeded_after options.limits (stretch_of names since p) exceeded)
+        (lines ++ passage_lines options names since p)
+    gone_all p next passage none = record {
+      passages = gone.passages ++ p ∷ [];
+      pass = gone.more p [] next p.after (passage, none, refl);
+      verdict_is = gone.exceeded_is (p ∷ []);
+      are = ap (λ rest. lines ++ rest) (sym (append-nil (passage_lines options names since p)))
+          ∙ gone.lines_are (p ∷ []);
+    }
+
+    lines_of : (qs : List Passage) (ts : List Transition) (more : List (List ℕ))
+        → more ≡ all_lines options names since qs ++ flat_map (act_lines options names) ts
+        → lines ++ more
+        ≡ all_lines options names none_waits (gone.passages ++ qs) ++ flat_map (act_lines options names) ts
+    lines_of qs ts more are =
+        ap (λ rest. lines ++ rest) are
+        ∙ sym (append_assoc lines (all_lines options names since qs) (flat_map (act_lines options names) ts))
+        ∙ ap (λ front. front ++ flat_map (act_lines options names) ts) (gone.lines_are qs)
+
+    some_gone : (qs : List Passage) (ts : List Transition) (more : List (List ℕ))
+        → SomePass answers d until from left drawn between qs ts
+        → more ≡ all_lines options names since qs ++ flat_map (act_lines options names) ts → SomeGone (lines ++ more)
+    some_gone qs ts more pass are = record {
+      passages = gone.passages ++ qs;
+      acts = ts;
+      pass = gone.some qs ts pass;
+      are = lines_of qs ts more are;
+    }
+
+    -- before anything is known of it
+    pub gone_no_further : SomeGone (lines ++ [])
+    gone_no_further =
+        some_gone [] [] [] (none_done answers (end_before until (later_than from left)) (now_of from left) drawn
+            between)
+        refl
+
+    -- among its acts
+    pub gone_on : (ts : List Transition) (told : List (List ℕ))
+        → CoursesSoFar answers (end_before until (later_than from left)) (now_of from left) ts drawn between
+        → told ≡ flat_map (act_lines options names) ts → SomeGone (lines ++ told)
+    gone_on ts told courses are = some_gone [] ts told courses are
+
+    -- where it ends
+    pub gone_to_end : (p : Passage) (next : F) → IsPassage answers d until from left drawn next between p
+        → SomeGone (lines ++ passage_lines options names since p)
+    gone_to_end p next passage =
+        some_gone (p ∷ []) [] (passage_lines options names since p) (
+          next,
+          passage,
+          none_done answers (end_before until (later_than p.to (later_than from left)))
+              (now_of p.to (later_than from left)) next p.after,
+        )
+        (sym (append-nil (passage_lines options names since p ++ []) ∙ append-nil
+            (passage_lines options names since p)))
+
+-- ---- what passed before an observer
+
+-- what passed of a stretch
+abbrev pub passage_of : Plan → List Timed → List Transition → WorldState → Passage
+passage_of plan now acts after = record {
+  from = plan.from;
+  to = plan.to;
+  events = now;
+  acts = acts;
+  after = after;
+  bound = plan.bound;
+  errors = plan.errors;
+}
+
+module _ {F : Type 0} (answers : Bounds → ℕ → F → Option ℕ → F → Type 0) (d : DocumentState) (until from to : ℕ)
+    (left : List Timed) (to_is : to ≡ end_before until (later_than from left)) (plan : Plan)
+    (known : IsPlan d from to (is_begun (now_of from left)) plan) where
+  pub is_passage : (fate fate_after : F) (w w' : WorldState) (acts : List Transition)
+      → Courses answers plan.to (now_of from left) acts fate fate_after w w'
+      → IsPassage answers d until from left fate fate_after w (passage_of plan (now_of from left) acts w')
+  is_passage fate fate_after w w' acts courses = record {
+    from_is = known.from_is;
+    to_is = known.to_is ∙ to_is;
+    events_are = refl;
+    courses = courses;
+    bound_is = known.bound_is;
+    errors_are = subst (λ t. AreErrorsBy d from t plan.errors) (sym known.to_is) known.errors_are;
+  }
+
+  pub some_acts : (fate : F) (w : WorldState) (acts : List Transition)
+      → CoursesSoFar answers plan.to (now_of from left) acts fate w
+      → CoursesSoFar answers (end_before until (later_than from left)) (now_of from left) acts fate w
+  some_acts fate w acts courses =
+      subst (λ t. CoursesSoFar answers t (now_of from left) acts fate w) (known.to_is ∙ to_is) courses
+
+-- an observer sees them, for which the stretch began
+module _ {F : Type 0} (answers : Bounds → ℕ → F → Option ℕ → F → Type 0) (plan : Plan) (now : List Timed) (fate : F)
+    (w : WorldState) (o mid : WatchState) (mid_is : mid ≡ begun (exact_time plan.errors) o)
+    (due : events_by plan.to now ≡ now) (ts : List Transition) (o_after : WatchState) (So : List ℕ → Type 0)
+    (observed : Observed tells_changes ts mid o_after So) where
+  tells : Tells tells_changes ts (begun (exact_time plan.errors) o) o_after observed.lines
+  tells = subst (λ b. Tells tells_changes ts b o_after observed.lines) mid_is observed.are
+
+  pub sees_all : (fate_after : F) (w' : WorldState)
+      → Courses answers plan.to (events_by plan.to now) ts fate fate_after w w'
+      → IsSeen answers plan now fate fate_after w w' o o_after observed.lines
+  sees_all fate_after w' courses = record {
+    acts = ts;
+    courses = subst (λ es. Courses answers plan.to es ts fate fate_after w w') due courses;
+    tells = tells;
+  }
+
+  pub sees_some : CoursesSoFar answers plan.to (events_by plan.to now) ts fate w
+      → IsSeenSoFar answers plan now fate w o observed.lines
+  sees_some courses = record {
+    acts = ts;
+    o_after = o_after;
+    courses = subst (λ es. CoursesSoFar answers plan.to es ts fate w) due courses;
+    tells = tells;
+  }
+
+-- what is told of them, and the lines where the stretch ends
+module _ {F : Type 0} (answers : Bounds → ℕ → F → Option ℕ → F → Type 0) (options : TimelineOptions) (names : List ℕ)
+    (since : ℕ → Option ℕ) (plan : Plan) (now : List Timed) (fate : F) (w : WorldState) (o : WatchState)
+    (rests : Rests options names since w o) where
+  begins : Observes options names since (exact_time plan.errors) [] w (begun (exact_time plan.errors) o)
+  begins = stretch_begins options names since (exact_time plan.errors) w o rests
+
+  -- to the end of the stretch
+  module _ (fate_after : F) (w' : WorldState) (o_after : WatchState) (told : List (List ℕ))
+      (seen : IsSeen answers plan now fate fate_after w w' o o_after told)
+      (is_begun_is : plan.begins_with_event ≡ is_begun now) where
+    abbrev seen_passage : Passage
+    seen_passage = passage_of plan now seen.acts w'
+
+    of_plan : IsOfPlan plan seen_passage
+    of_plan = record { from_is = refl; to_is = refl; begins_is = is_begun_is; bound_is = refl; errors_are = refl }
+
+    observes : Observes options names since (exact_time plan.errors) seen.acts w' o_after
+    observes =
+        stretch_passes options names since answers (exact_time plan.errors) plan.to now seen.acts fate w
+        (begun (exact_time plan.errors) o) o_after told begins seen.tells fate_after w' seen.courses
+
+    pub seen_stretch : ended_of plan o_after ≡ stretch_of names since (passage_of plan now seen.acts w')
+    seen_stretch = stretch_ended options names since plan seen_passage of_plan o_after observes
+
+    pub seen_lines : told ++ end_lines plan o_after
+        ≡ passage_lines options names since (passage_of plan now seen.acts w')
+    seen_lines =
+        ap (λ front. front ++ end_lines plan o_after)
+        (stretch_told options names since answers (exact_time plan.errors) plan.to now seen.acts fate w
+        (begun (exact_time plan.errors) o) o_after told begins seen.tells fate_after w' seen.courses)
+        ∙ ap (λ rest. flat_map (act_lines options names) seen.acts ++ rest)
+        (end_told options names since plan seen_passage of_plan o_after observes)
+
+    pub seen_rests : Rests options names (waits seen.acts since) w' o_after
+    seen_rests = stretch_rests options names since (exact_time plan.errors) seen.acts w' o_after observes
+
+  -- or so far
+  pub seen_so_far : (told : List (List ℕ)) (some : IsSeenSoFar answers plan now fate w o told)
+      → told ≡ flat_map (act_lines options names) some.acts
+  seen_so_far told some =
+      broken_told options names since answers (exact_time plan.errors) plan.to now some.acts fate w
+      (begun (exact_time plan.errors) o) some.o_after told begins some.tells some.courses
+
+-- ---- all stretches before an observer
+
+module _ {F : Type 0} (answers : Bounds → ℕ → F → Option ℕ → F → Type 0) (d : DocumentState) (until : ℕ)
+    (options : TimelineOptions) (names : List ℕ) (events : List Timed) (fate : F) (w : WorldState) where
+  -- Stretches passed; the observer is where the next can begin, and this is so of the text of them.
+  pub record GoneSeen (from : ℕ) (left : List Timed) (drawn : F) (between : WorldState) (exceeded : Exceeded)
+      (o : WatchState) (So : List ℕ → Type 0) : Type 0 where
+    pub since : ℕ → Option ℕ
+    pub lines : List (List ℕ)
+    pub gone : Gone answers d until options names events fate w from left drawn between exceeded since lines
+    pub rests : Rests options names since between o
+    pub so : So (text_of lines)
+
+  pub seen_none : (o : WatchState) (So : List ℕ → Type 0) → Rests options names none_waits w o → So []
+      → GoneSeen 0 events fate w not_exceeded o So
+  seen_none o So rests so = record {
+    since = none_waits;
+    lines = [];
+    gone = gone_none answers d until options names events fate w;
+    rests = rests;
+    so = so;
+  }
+
+  module _ (from to : ℕ) (left : List Timed) (drawn : F) (between : WorldState) (exceeded : Exceeded) (o : WatchState)
+      (First Second Both : List ℕ → Type 0) (both : (one two : List ℕ) → First one → Second two → Both (one ++ two))
+      (so_far : GoneSeen from left drawn between exceeded o First) where
+    -- what is so of the lines so far and of those of the next is so of both
+    joined : (told : List (List ℕ)) → Second (text_of told) → Both (text_of (so_far.lines ++ told))
+    joined told so =
+        subst Both (sym (text_append so_far.lines told)) (both (text_of so_far.lines) (text_of told) so_far.so so)
+
+    -- it passed
+    module _ (plan : Plan) (next : F) (after : WorldState) (o_after : WatchState) (told : List (List ℕ))
+        (verdict : Exceeded) (known : IsPlan d from to (is_begun (now_of from left)) plan)
+        (seen : IsSeen answers plan (now_of from left) drawn next between after o o_after told)
+        (verdict_is : verdict ≡ exceeded_after options.limits (ended_of plan o_after) exceeded)
+        (so : Second (text_of (told ++ end_lines plan o_after))) where
+      abbrev passed : Passage
+      passed = passage_of plan (now_of from left) seen.acts after
+
+      lines_are : told ++ end_lines plan o_after ≡ passage_lines options names so_far.since passed
+      lines_are =
+          seen_lines answers options names so_far.since plan (now_of from left) drawn between o so_far.rests next after
+          o_after told seen known.begins_is
+
+      verdict_so : verdict ≡ exceeded_after options.limits (stretch_of names so_far.since passed) exceeded
+      verdict_so =
+          verdict_is
+          ∙ ap (λ s. exceeded_after options.limits s exceeded)
+          (seen_stretch answers options names so_far.since plan (now_of from left) drawn between o so_far.rests next
+          after o_after told seen known.begins_is)
+
+      both_so : Both (text_of (so_far.lines ++ passage_lines options names so_far.since passed))
+      both_so = joined (passage_lines options names so_far.since passed)
+          (subst (λ xs. Second (text_of xs)) lines_are so)
+
+      -- and another comes
+      pub seen_more : first_time (later_than from left) ≡ Some to
+          → GoneSeen to (later_than from left) next after verdict o_after Both
+      seen_more is = record {
+        since = waits seen.acts so_far.since;
+        lines = so_far.lines ++ passage_lines options names so_far.since passed;
+        gone = subst (λ e. Gone answers d until options names events fate w to (later_than from left) next after e
+            (waits seen.acts so_far.since) (so_far.lines ++ passage_lines options names so_far.since passed))
+            (sym verdict_so)
+            (gone_more answers d until options names events fate w from to left drawn next between exceeded
+            so_far.since so_far.lines so_far.gone passed
+            (is_passage answers d until from to left (sym (ends_before until (later_than from left) to is)) plan known
+            drawn next between after seen.acts seen.courses) is);
+        rests = seen_rests answers options names so_far.since plan (now_of from left) drawn between o so_far.rests next
+            after o_after told seen known.begins_is;
+        so = both_so;
+      }
+
+      -- and it is the last
+      pub seen_all : later_than from left ≡ [] → to ≡ until
+          → (passages : List Passage) × AllPass answers d until 0 events fate next w after passages
+          × (verdict ≡ all_exceeded options.limits names none_waits passages not_exceeded)
+          × Both (text_of (all_lines options names none_waits passages))
+      seen_all none last =
+          let ends : to ≡ end_before until (later_than from left) = last ∙ ap (end_before until) (sym none) in
+          let all = gone_all answers d until options names events fate w from left drawn between exceeded
+          so_far.since so_far.lines so_far.gone passed next
+          (is_passage answers d until from to left ends plan known drawn next between after seen.acts seen.courses) none
+          in (
+            all.passages,
+            all.pass,
+            verdict_so ∙ all.verdict_is,
+            subst (λ xs. Both (text_of xs)) all.are both_so,
+          )
+
+    -- it breaks off
+    pub seen_some : (lines : List (List ℕ)) → to ≡ end_before until (later_than from left)
+        → StopsSeen answers d from to (now_of from left) drawn between o lines → Second (text_of lines)
+        → (passages : List Passage) × (acts : List Transition)
+        × SomePass answers d until 0 events fate w passages acts
+        × Both (text_of (all_lines options names none_waits passages ++ flat_map (act_lines options names) acts))
+    seen_some lines ends stops so = by stops
+      where
+        some_of : (more : List (List ℕ)) → lines ≡ more
+            → SomeGone answers d until options names events fate w (so_far.lines ++ more)
+            → (passages : List Passage) × (acts : List Transition)
+            × SomePass answers d until 0 events fate w passages acts
+            × Both (text_of (all_lines options names none_waits passages ++ flat_map (act_lines options names) acts))
+        some_of more are some = (
+          some.passages,
+          some.acts,
+          some.pass,
+          subst (λ xs. Both (text_of xs)) (ap (λ xs. so_far.lines ++ xs) are ∙ some.are) (joined lines so),
+        )
+
+        by : StopsSeen answers d from to (now_of from left) drawn between o lines
+            → (passages : List Passage) × (acts : List Transition)
+            × SomePass answers d until 0 events fate w passages acts
+            × Both (text_of (all_lines options names none_waits passages ++ flat_map (act_lines options names) acts))
+        by (inl none) =
+            some_of [] none
+            (gone_no_further answers d until options names events fate w from left drawn between exceeded
+            so_far.since so_far.lines so_far.gone)
+        by (inr (plan, known, inl some)) =
+            some_of lines refl
+            (gone_on answers d until options names events fate w from left drawn between exceeded so_far.since
+            so_far.lines so_far.gone some.acts lines
+            (some_acts answers d until from to left ends plan known drawn between some.acts some.courses)
+            (seen_so_far answers options names so_far.since plan (now_of from left) drawn between o so_far.rests lines
+            some))
+        by (inr (plan, known, inr whole)) =
+            some_of (passage_lines options names so_far.since
+            (passage_of plan (now_of from left) whole.seen.acts whole.after))
+            (whole.are
+            ∙ seen_lines answers options names so_far.since plan (now_of from left) drawn between o so_far.rests
+            whole.fate_after whole.after whole.o_after whole.told whole.seen known.begins_is)
+            (gone_to_end answers d until options names events fate w from left drawn between exceeded so_far.since
+            so_far.lines so_far.gone (passage_of plan (now_of from left) whole.seen.acts whole.after) whole.fate_after
+            (is_passage answers d until from to left ends plan known drawn whole.fate_after between whole.after
+            whole.seen.acts whole.seen.courses))

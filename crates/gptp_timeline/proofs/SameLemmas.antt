@@ -1,0 +1,81 @@
+-- What is as it was has no lines.
+use Rattle.std.proofs.lemmas.Option.{same_Some}
+use Rattle.std.proofs.Common.{◌≡◌, ◌+◌, ◌==◌, append-nil, ℕ, zero, suc, Bool, true, false, List, [], ◌∷◌, ◌++◌, Option, Some, None, slice_get, refl, sym, ap, ◌∙◌, arith}
+use Rattle.std.specs.List.{flat_map}
+use Rattle.std.proofs.lemmas.Bool.Decides.{nat_tests}
+use Rattle.gptp_timeline.specs.Changes.{change_lines, port_lines, same_line}
+use Rattle.gptp_timeline.specs.Ports.{role_number, same_bool, same_port, same_ports}
+use Rattle.gptp_timeline.specs.Shown.{is_known, same_choice, same_roles, same_slave, same_way}
+use Rattle.gptp_timeline.specs.Stretch.{same_known}
+use Rattle.gptp_timeline.specs.declared.ports.ShownPort.{ShownPort}
+use Rattle.gptp_timeline.specs.declared.shown.Shown.{Shown}
+
+number_itself : (n : ℕ) → n == n ≡ true
+number_itself n = grind (arith, nat_tests)
+
+pub bool_itself : (b : Bool) → same_bool b b ≡ true
+bool_itself true = refl
+bool_itself false = refl
+
+pub port_itself : (p : ShownPort) → same_port p p ≡ true
+port_itself p = rw (number_itself (role_number p.role), bool_itself p.capable) refl
+
+ports_itself : (ps : List ShownPort) → same_ports ps ps ≡ true
+ports_itself [] = refl
+ports_itself (p ∷ ps) = rw (port_itself p, ports_itself ps) refl
+
+slave_itself : (slave : Option ℕ) → same_slave slave slave ≡ true
+slave_itself None = refl
+slave_itself (Some port) = number_itself port
+
+way_itself : (s : Shown) → same_way s s ≡ true
+way_itself s = rw (number_itself s.root, number_itself s.steps, slave_itself s.slave) refl
+
+pub choice_itself : (s : Option Shown) → same_choice s s ≡ true
+choice_itself None = refl
+choice_itself (Some s) = way_itself s
+
+pub roles_itself : (s : Option Shown) → same_roles s s ≡ true
+roles_itself None = refl
+roles_itself (Some s) = rw (way_itself s, ports_itself s.ports) refl
+
+pub known_itself : (s : Option Shown) → same_known s s ≡ true
+known_itself s = bool_itself (is_known s)
+
+line_itself : (s : Option Shown) → same_line s s ≡ true
+line_itself s = rw (choice_itself s, bool_itself (is_known s)) refl
+
+no_port_lines : (at name port : ℕ) (ps : List ShownPort) → port_lines at name port ps ps ≡ []
+no_port_lines at name port [] = refl
+no_port_lines at name port (p ∷ ps) = rw (port_itself p, no_port_lines at name (port + 1) ps) refl
+
+-- no line tells of it
+pub no_change_lines : (at name : ℕ) (s : Option Shown) → change_lines at name s s ≡ []
+no_change_lines at name None = refl
+no_change_lines at name (Some s) = rw (line_itself (Some s), no_port_lines at name 1 s.ports) refl
+
+-- ---- lines of several names
+
+pub flat_same : {X : Type 0} (f g : ℕ → List X) (names : List ℕ)
+    → ((i n : ℕ) → slice_get names i ≡ Some n → g n ≡ f n) → flat_map f names ≡ flat_map g names
+flat_same f g [] same = refl
+flat_same f g (n ∷ ns) same =
+    ap (λ h. h ++ flat_map f ns) (sym (same 0 n refl))
+    ∙ ap (λ t. g n ++ t) (flat_same f g ns (λ i m at. same (suc i) m at))
+
+pub flat_none : {X : Type 0} (f : ℕ → List X) (names : List ℕ)
+    → ((i n : ℕ) → slice_get names i ≡ Some n → f n ≡ []) → flat_map f names ≡ []
+flat_none f [] none = refl
+flat_none f (n ∷ ns) none =
+    ap (λ h. h ++ flat_map f ns) (none 0 n refl) ∙ flat_none f ns (λ i m at. none (suc i) m at)
+
+-- those of one, where the others have none
+pub flat_one : {X : Type 0} (f : ℕ → List X) (names : List ℕ) (place name : ℕ) → slice_get names place ≡ Some name
+    → ((i n : ℕ) → slice_get names i ≡ Some n → (i ≡ place → ⊥) → f n ≡ []) → flat_map f names ≡ f name
+flat_one f [] place name there none = absurd cc
+flat_one f (n ∷ ns) zero name there none =
+    ap (λ t. f n ++ t) (flat_none f ns (λ i m at. none (suc i) m at (λ e. absurd (omega arith))))
+    ∙ append-nil (f n) ∙ ap f (same_Some n name there)
+flat_one f (n ∷ ns) (suc place) name there none =
+    ap (λ h. h ++ flat_map f ns) (none 0 n refl (λ e. absurd (omega arith)))
+    ∙ flat_one f ns place name there (λ i m at apart. none (suc i) m at (λ e. apart (omega arith)))

@@ -1,0 +1,602 @@
+-- Where a stretch has a bound nothing changes behind it, if every live system is near.
+use Rattle.std.proofs.Common.{◌≡◌, ◌⊎◌, ◌≤◌, ◌+◌, ◌-◌, ℕ, zero, suc, Bool, true, false, not, nat_le, List, [], ◌∷◌, ◌++◌, ◌≢◌, filter, length, map, nat_lt, if◌then◌else◌, Option, Some, None, IfSome, option_map, slice_get, inl, inr, refl, sym, ap, subst, ◌∙◌, append_assoc, append-nil, arith}
+use Rattle.std.specs.List.{AllByRecursion}
+use Rattle.std.specs.Option.{option_or}
+use Rattle.std.proofs.lemmas.Bool.Decides.{nat_tests}
+use Rattle.gptp_acts.specs.Acts.{Acts, at}
+use Rattle.gptp_acts.specs.Advancing.{Happens}
+use Rattle.gptp_acts.specs.Course.{Begun, WasDone}
+use Rattle.gptp_acts.specs.Prompt.{NoneFaster}
+use Rattle.gptp_acts.specs.Sound.{IsSound}
+use Rattle.gptp_acts.specs.Views.{IsActOf}
+use Rattle.gptp_acts.specs.World.{WorldState}
+use Rattle.gptp_acts.specs.declared.item.Item.{Item}
+use Rattle.gptp_acts.specs.declared.item.Item.TheVariants.{Arrival, Expiry}
+use Rattle.gptp_acts.specs.Pending.{NothingBefore}
+use Rattle.gptp_acts.proofs.AdvanceLemmas.{leaves_less, next_fits, nothing_sooner}
+use Rattle.gptp_acts.proofs.PromptLemmas.{begun_none_faster, next_prompt, prompt_within, stays_none_faster}
+use Rattle.gptp_acts.proofs.SoundLemmas.{later_sound}
+use Rattle.gptp_acts.proofs.StayLemmas.{done_stays}
+use Rattle.gptp_graph.specs.Path.{IsPath, Route}
+use Rattle.gptp_graph.specs.PathBound.{BoundsPaths, path_bound}
+use Rattle.gptp_graph.specs.Snapshot.{clocks, IsWellFormed, Link, Snapshot, System}
+use Rattle.gptp_graph.proofs.PathBoundLemmas.{paths_within}
+use Rattle.gptp_kept.specs.CalmFor.{IsCalmFor, span_over}
+use Rattle.gptp_kept.specs.Claimed.{IsClaimed}
+use Rattle.gptp_kept.specs.LegibleLaws.{SetsAnOctet}
+use Rattle.gptp_kept.specs.SeenLaws.{IsNoChange}
+use Rattle.gptp_kept.specs.Standing.{snapshot_of}
+use Rattle.gptp_kept.proofs.CalmKeptLemmas.{acts_keep, same_snapshot}
+use Rattle.gptp_kept.proofs.ClaimLemmas.{claim_begins, claim_kept, claim_later}
+use Rattle.gptp_kept.proofs.StandsLemmas.{stands_well}
+use Rattle.gptp_links.specs.declared.bounds.Bounds.{Bounds}
+use Rattle.gptp_lists.specs.Members.{In}
+use Rattle.gptp_lists.proofs.MemberLemmas.{from_map, In-map}
+use Rattle.gptp_network.specs.Document.{DocumentState}
+use Rattle.gptp_network.specs.Events.{AreInOrder, IsEvent}
+use Rattle.gptp_network.specs.Snapshot.{events_by, StandsAfter}
+use Rattle.gptp_network.specs.Span.{IsBound}
+use Rattle.gptp_network.proofs.EventLemmas.{events_allowed, events_prompt}
+use Rattle.gptp_network.proofs.SnapshotLemmas.{In-permutation}
+use Rattle.gptp_network.proofs.SnapshotLemmas as snapshots
+use Rattle.gptp_plan.specs.Allowed.{IsFitAct}
+use Rattle.gptp_plan.specs.Calm.{IsCalm, last_change}
+use Rattle.gptp_plan.specs.Network.{pace_of, smallest_of}
+use Rattle.gptp_plan.specs.Prompt.{IsPromptAct}
+use Rattle.gptp_plan.specs.SettlingTime.{settling_span}
+use Rattle.gptp_plan.specs.declared.change.Act.{Act}
+use Rattle.gptp_plan.specs.declared.change.Act.TheVariants.{Change as Changing}
+use Rattle.gptp_plan.specs.declared.change.Change.{Change}
+use Rattle.gptp_plan.specs.declared.change.Timed.{Timed}
+use Rattle.gptp_plan.proofs.LogLemmas.{smallest_log}
+use Rattle.gptp_reached.specs.AlikeLaws.{AreAlike}
+use Rattle.gptp_reached.specs.PlayedLaws.{IsPlayable}
+use Rattle.gptp_reached.specs.Reached.{StandsAs}
+use Rattle.gptp_reached.proofs.AlikeLemmas.{turned}
+use Rattle.gptp_reached.proofs.BeginLemmas.{begun_stands}
+use Rattle.gptp_reached.proofs.CalmLemmas.{quiet_stands}
+use Rattle.gptp_reached.proofs.ChangeLemmas.{changes_stand}
+use Rattle.gptp_reached.proofs.ClaimedLemmas.{each_there}
+use Rattle.gptp_reached.proofs.KeptLemmas.{acts_stand, time_stands}
+use Rattle.gptp_reached.proofs.SnapshotLemmas.{snapshots_stand}
+use Rattle.gptp_world.specs.Transitions.{Passes, PassesTo, Transition}
+use Rattle.gptp_report.specs.Transitions.{Courses, Makes}
+use Rattle.gptp_setup.specs.Intervals.{interval_of}
+use Rattle.gptp_setup.specs.Pace.{Pace}
+use Rattle.gptp_world.proofs.ClaimedLemmas.{next_octet}
+use Rattle.gptp_world.proofs.InitialLemmas.{initial_sound}
+use Rattle.gptp_timeline.specs.Laws.{AllNear}
+use Rattle.gptp_timeline.specs.Passing.{first_time}
+use Rattle.gptp_timeline.specs.Shown.{live_system, same_choice, same_roles, shown}
+use Rattle.gptp_timeline.specs.Stretch.{at_of, last_at, leaves_another}
+use Rattle.gptp_timeline.specs.declared.shown.Shown.{Shown}
+use Rattle.gptp_timeline.specs.Limits.{choice_after}
+use Rattle.gptp_timeline.specs.StretchText.{behind}
+use Rattle.gptp_timeline.specs.Timeline.{AllPass, end_before, IsPassage, later_than, now_of, Passage, stretch_of, TimelineOf}
+use Rattle.gptp_timeline.specs.declared.timeline.TimelineOptions.{TimelineOptions}
+use Rattle.gptp_timeline.proofs.EventLemmas.{Each, ends_first, ends_later, filter_each, filter_in_order, filter_passes, first_due}
+use Rattle.gptp_timeline.proofs.MeasuredLemmas.{any_none}
+use Rattle.gptp_timeline.proofs.UnfoldLemmas.{now_and_later}
+use Rattle.gptp_timeline.proofs.RestLemmas.{IsAtRest, shown_same, stands_there, world_rests}
+
+-- ---- acts behind a time
+
+-- nothing that is shown is another behind an act
+pub record ShowsTheSame (t : Transition) : Type 0 where
+  pub choice : (name : ℕ) → same_choice (shown name t.before) (shown name t.after) ≡ true
+  pub roles : (name : ℕ) → same_roles (shown name t.before) (shown name t.after) ≡ true
+
+-- so it is with all acts behind a time
+abbrev pub StillBehind : ℕ → List Transition → Type 0
+StillBehind time = AllByRecursion (λ t. (at_of t ≤ time) ⊎ ShowsTheSame t)
+
+still_both : (time : ℕ) (ts us : List Transition) → StillBehind time ts → StillBehind time us
+    → StillBehind time (ts ++ us)
+still_both time [] us first second = second
+still_both time (t ∷ ts) us first second = (first.0, still_both time ts us first.1 second)
+
+-- the last act that leaves some system another isn't behind it
+last_within : (test : Transition → Bool) (time : ℕ) (ts : List Transition)
+    → AllByRecursion (λ t. (at_of t ≤ time) ⊎ (test t ≡ false)) ts → IfSome (last_at test ts) (λ last. last ≤ time)
+last_within test time [] all = tt
+last_within test time (t ∷ ts) all = by (last_at test ts) (last_within test time ts all.1) (test t) refl all.0
+  where
+    by : (later : Option ℕ) → IfSome later (λ last. last ≤ time) → (passes : Bool) → test t ≡ passes
+        → (at_of t ≤ time) ⊎ (test t ≡ false)
+        → IfSome (option_or later (if passes then Some (at_of t) else None)) (λ last. last ≤ time)
+    by (Some last) within passes is one = within
+    by None within true is (inl early) = early
+    by None within true is (inr none) = absurd (let both : true ≡ false = sym is ∙ none in cc)
+    by None within false is one = tt
+
+still_tests : (same : Option Shown → Option Shown → Bool) (names : List ℕ) (time : ℕ) (ts : List Transition)
+    → ((t : Transition) → ShowsTheSame t → (name : ℕ) → same (shown name t.before) (shown name t.after) ≡ true)
+    → StillBehind time ts → AllByRecursion (λ t. (at_of t ≤ time) ⊎ (leaves_another same names t ≡ false)) ts
+still_tests same names time [] follows still = tt
+still_tests same names time (t ∷ ts) follows still =
+    (by still.0, still_tests same names time ts follows still.1)
+  where
+    by : (at_of t ≤ time) ⊎ ShowsTheSame t → (at_of t ≤ time) ⊎ (leaves_another same names t ≡ false)
+    by (inl early) = inl early
+    by (inr shows) =
+        inr (any_none (λ name. not (same (shown name t.before) (shown name t.after))) names
+        (λ i name there. ap not (follows t shows name)))
+
+pub last_choice : (names : List ℕ) (time : ℕ) (ts : List Transition) → StillBehind time ts
+    → IfSome (last_at (leaves_another same_choice names) ts) (λ last. last ≤ time)
+last_choice names time ts still =
+    last_within (leaves_another same_choice names) time ts
+    (still_tests same_choice names time ts (λ t shows. shows.choice) still)
+
+pub last_roles : (names : List ℕ) (time : ℕ) (ts : List Transition) → StillBehind time ts
+    → IfSome (last_at (leaves_another same_roles names) ts) (λ last. last ≤ time)
+last_roles names time ts still =
+    last_within (leaves_another same_roles names) time ts
+    (still_tests same_roles names time ts (λ t shows. shows.roles) still)
+
+-- ---- events by a time
+
+abbrev PastBy : ℕ → List Timed → Type 0
+PastBy time = AllByRecursion (λ (e : Timed). e.at ≤ time)
+
+past_later : (time later : ℕ) (es : List Timed) → time ≤ later → PastBy time es → PastBy later es
+past_later time later [] le past = tt
+past_later time later (e ∷ es) le past = let first = past.0 in (omega arith, past_later time later es le past.1)
+
+now_past : (time : ℕ) (es : List Timed) → PastBy time (now_of time es)
+now_past time [] = tt
+now_past time (e ∷ es) = by (nat_le e.at time) refl (now_past time es)
+  where
+    by : (early : Bool) → nat_le e.at time ≡ early → PastBy time (now_of time es) → PastBy time (now_of time (e ∷ es))
+    by true test rest = let first : e.at ≤ time = grind (arith, nat_tests) in rw test (first, rest)
+    by false test rest = rw test rest
+
+past_both : (time : ℕ) (before left : List Timed) → PastBy time before → PastBy time (before ++ now_of time left)
+past_both time [] left past = now_past time left
+past_both time (e ∷ es) left past = (past.0, past_both time es left past.1)
+
+-- the last of them is
+last_past : (time : ℕ) (es : List Timed) → PastBy time es → last_change es ≤ time
+last_past time [] past = omega arith
+last_past time (e ∷ []) past = past.0
+last_past time (e ∷ (f ∷ es)) past = last_past time (f ∷ es) past.1
+
+by_past : (time : ℕ) (before left : List Timed) → PastBy time before
+    → events_by time (before ++ left) ≡ before ++ now_of time left
+by_past time [] left past = refl
+by_past time (e ∷ es) left past =
+    let first = past.0 in
+    let early : nat_le e.at time ≡ true = grind (arith, nat_tests) in
+    rw early (ap (λ fs. e ∷ fs) (by_past time es left past.1))
+
+by_sooner : (time until : ℕ) (es : List Timed) → time ≤ until → events_by time (events_by until es) ≡ events_by time es
+by_sooner time until [] le = refl
+by_sooner time until (e ∷ es) le = by (nat_le e.at until) refl (by_sooner time until es le)
+  where
+    by : (due : Bool) → nat_le e.at until ≡ due → events_by time (events_by until es) ≡ events_by time es
+        → events_by time (events_by until (e ∷ es)) ≡ events_by time (e ∷ es)
+    by true test rest = rw test (ap (λ fs. if nat_le e.at time then e ∷ fs else fs) rest)
+    by false test rest =
+        let late : nat_le e.at time ≡ false = grind (arith, nat_tests) in rw (test, late) rest
+
+-- ---- paths of snapshots that differ in the order of their systems
+
+route_alike : (g h : Snapshot) → AreAlike g h → (v w : ℕ) (us : List ℕ) → Route g v w us → Route h v w us
+route_alike g h alike v w [] there = there
+route_alike g h alike v w (u ∷ us) ((m, n, joins), rest) = (
+  (
+    m,
+    n,
+    subst (λ (links : List Link). In (record { a = record { clock = v; port = m }; b = record { clock = u; port = n } })
+        links ⊎ In (record { a = record { clock = u; port = n }; b = record { clock = v; port = m } }) links)
+        alike.links joins,
+  ),
+  route_alike g h alike u w us rest,
+)
+
+path_alike : (g h : Snapshot) → AreAlike g h → (v w : ℕ) (us : List ℕ) → IsPath g v w us → IsPath h v w us
+path_alike g h alike v w us path = record {
+  begins = clock_alike v path.begins;
+  route = route_alike g h alike v w us path.route;
+  different = path.different;
+}
+  where
+    clock_alike : (c : ℕ) → In c (clocks g) → In c (clocks h)
+    clock_alike c member =
+        let (s, one, same) = from_map (λ (x : System). x.clock) c g.systems member in
+        subst (λ u. In u (clocks h)) same
+        (In-map (λ (x : System). x.clock) s h.systems (In-permutation s g.systems h.systems alike.systems one))
+
+-- ---- worlds of a document
+
+-- what is pending is no change
+no_change : (item : Item) (act : Act) (w : WorldState) → IsActOf item w act → IsNoChange act
+no_change (Arrival link direction) act w is = subst IsNoChange (sym is) tt
+no_change (Expiry place timer) act w (station, here, is) = subst IsNoChange (sym is) tt
+
+module _ {F : Type 0} (answers : Bounds → ℕ → F → Option ℕ → F → Type 0) (d : DocumentState)
+    (playable : IsPlayable d) where
+  abbrev pace : Pace
+  pace = pace_of d.network
+
+  abbrev least : ℕ
+  least = interval_of (smallest_of d.network)
+
+  -- A world keeps what all do, and stands as the network does after these events.
+  pub record Keeps (events : List Timed) (w : WorldState) : Type 0 where
+    pub claimed : IsClaimed pace w
+    pub stands : StandsAs d.network events w
+    pub slow : NoneFaster least w
+
+  pub keeps_first : (fate fate_after : F) (w : WorldState) → Begun answers d.network fate fate_after w → Keeps [] w
+  keeps_first fate fate_after w begun =
+      let sound = initial_sound d.network playable.network in record {
+        claimed = claim_begins answers d.network fate fate_after w playable.network sound begun;
+        stands = begun_stands answers d.network fate fate_after w begun;
+        slow = begun_none_faster answers d.network fate fate_after w sound.wired.setups begun;
+      }
+
+  -- an event of the document
+  pub record IsFitEvent (timed : Timed) : Type 0 where
+    pub change : Change
+    pub act : timed.act ≡ Changing change
+    pub fit : IsFitAct timed.act
+    pub prompt : IsPromptAct least timed.act
+    pub octet : SetsAnOctet timed.act
+
+  pub events_fit : Each IsFitEvent d.events
+  events_fit place timed there =
+      let event = each_there (IsEvent d.network) d.events playable.events.each place timed there in
+      let allowed =
+      events_allowed d.network d.events (smallest_log d.network playable.network) playable.events place timed there in
+      record {
+        change = event.change;
+        act = event.act;
+        fit = allowed.fit;
+        prompt = events_prompt d.network d.events playable.events place timed there;
+        octet = playable.octets place timed there;
+      }
+
+  -- ---- what happens by itself
+
+  keeps_later : (events : List Timed) (w : WorldState) (time : ℕ) → w.time ≤ time → NothingBefore time w.net.pending
+      → Keeps events w → Keeps events (at time w)
+  keeps_later events w time later first keeps = record {
+    claimed = claim_later pace w time later first keeps.claimed;
+    stands = time_stands d.network events w time keeps.stands;
+    slow = keeps.slow;
+  }
+
+  keeps_act : (events : List Timed) (until : ℕ) (t : Transition) (fate drawn : F) (w : WorldState)
+      → Happens answers until t.told fate drawn w t.after → Keeps events w → Keeps events t.after
+  keeps_act events until t fate drawn w happens keeps =
+      let timed = t.told.timed in let next = happens.next in let was = happens.was_done in record {
+        claimed = claim_kept answers pace timed fate drawn w t.after t.told.done (next_fits w timed next)
+            (next_prompt w timed next) (next_octet next.item timed.act w next.act) was keeps.claimed;
+        stands = acts_stand d.network events timed.act (at timed.at w) was.draws t.told.done t.after
+            (no_change next.item timed.act w next.act) was.acts
+            (time_stands d.network events w timed.at keeps.stands);
+        slow = stays_none_faster least w t.after
+            (done_stays answers timed fate drawn w t.after t.told.done keeps.claimed.world.sound.wired.setups was)
+            keeps.slow;
+      }
+
+  keeps_passes : (events : List Timed) (until : ℕ) (ts : List Transition) (fate fate_after : F) (w w' : WorldState)
+      → Passes answers until ts fate fate_after w w' → Keeps events w → Keeps events w'
+  keeps_passes events until [] fate fate_after w w' (same, is) keeps = subst (Keeps events) (sym is) keeps
+  keeps_passes events until (t ∷ ts) fate fate_after w w' (drawn, before, happens, rest) keeps =
+      keeps_passes events until ts drawn fate_after t.after w' rest
+          (keeps_act events until t fate drawn w happens keeps)
+
+  -- an act was done at its time
+  act_time : (until : ℕ) (t : Transition) (fate drawn : F) (w : WorldState) → IsSound w
+      → Happens answers until t.told fate drawn w t.after → t.after.time ≡ at_of t
+  act_time until t fate drawn w sound happens =
+      let timed = t.told.timed in let was = happens.was_done in
+      (leaves_less happens.next.item timed.at timed.act w was.draws t.told.done t.after
+      (later_sound w timed.at w.last_change sound was.ready.timely.first) happens.next.act was.acts).is_time
+
+  passes_in_time : (events : List Timed) (until : ℕ) (ts : List Transition) (fate fate_after : F) (w w' : WorldState)
+      → Passes answers until ts fate fate_after w w' → Keeps events w → w.time ≤ until → w'.time ≤ until
+  passes_in_time events until [] fate fate_after w w' (same, is) keeps early =
+      subst (λ (v : WorldState). v.time ≤ until) (sym is) early
+  passes_in_time events until (t ∷ ts) fate fate_after w w' (drawn, before, happens, rest) keeps early =
+      let moment = act_time until t fate drawn w keeps.claimed.world.sound happens in
+      let in_time = happens.early in
+      passes_in_time events until ts drawn fate_after t.after w' rest
+      (keeps_act events until t fate drawn w happens keeps) (omega (arith, moment, in_time))
+
+  keeps_to : (events : List Timed) (until : ℕ) (ts : List Transition) (fate fate_after : F) (w w' : WorldState)
+      → PassesTo answers until ts fate fate_after w w' → Keeps events w → Keeps events w'
+  keeps_to events until ts fate fate_after w w' k keeps =
+      let on = keeps_passes events until ts fate fate_after w k.between k.passes keeps in
+      let early = passes_in_time events until ts fate fate_after w k.between k.passes keeps k.ahead in
+      let first = nothing_sooner until (until + 1) k.between.net.pending (omega arith) k.nothing_left in
+      subst (Keeps events) (sym k.is) (keeps_later events k.between until early first on)
+
+  -- an event is made
+  keeps_made : (before : List Timed) (event : Timed) (ts : List Transition) (fate fate_after : F) (w w' : WorldState)
+      → IsFitEvent event → Makes answers event ts fate fate_after w w' → Keeps before w
+      → Keeps (before ++ event ∷ []) w'
+  keeps_made before event ts fate fate_after w w' fit k keeps =
+      let on = keeps_to before event.at k.first fate k.drawn w k.between k.passes keeps in record {
+        claimed = claim_kept answers pace event k.drawn fate_after k.between w' k.done fit.fit
+            (prompt_within least event.act k.between on.slow fit.prompt) fit.octet k.made on.claimed;
+        stands = changes_stand d.network before event fit.change k.between k.made.draws k.done w' fit.act
+            on.claimed.world.sound k.made.acts on.stands;
+        slow = stays_none_faster least k.between w'
+            (done_stays answers event k.drawn fate_after k.between w' k.done on.claimed.world.sound.wired.setups k.made)
+            on.slow;
+      }
+
+  pub keeps_courses : (before events : List Timed) (until : ℕ) (ts : List Transition) (fate fate_after : F)
+      (w w' : WorldState) → Each IsFitEvent events → Courses answers until events ts fate fate_after w w'
+      → Keeps before w → Keeps (before ++ events) w'
+  keeps_courses before [] until ts fate fate_after w w' fit k keeps =
+      subst (λ es. Keeps es w') (sym (append-nil before)) (keeps_to before until ts fate fate_after w w' k keeps)
+  keeps_courses before (event ∷ events) until ts fate fate_after w w' fit (first, rest, drawn, between, makes, k, is)
+      keeps =
+      subst (λ es. Keeps es w') (append_assoc before (event ∷ []) events)
+      (keeps_courses (before ++ event ∷ []) events until rest drawn fate_after between w'
+      (λ place. fit (suc place)) k
+      (keeps_made before event first fate drawn w between (fit 0 event refl) makes keeps))
+
+  -- ---- calm networks
+
+  module _ (events : List Timed) (from span : ℕ) (g : Snapshot) (calm : IsCalm d.network events)
+      (stands : StandsAfter d.network events g) (last : last_change events ≤ from)
+      (span_is : span ≡ settling_span pace (path_bound g)) where
+    abbrev m : ℕ
+    m = path_bound g
+
+    bounded : (w : WorldState) → Keeps events w → BoundsPaths (snapshot_of w) m
+    bounded w keeps =
+        let is = keeps.claimed.world in
+        let alike_is = snapshots_stand d.network events w g keeps.stands is.sound stands in
+        let alike : AreAlike (snapshot_of w) g = record { systems = alike_is.0; links = alike_is.1 } in
+        let own = stands_well w is.sound is.between is.legible in
+        let well : IsWellFormed g =
+        snapshots.stands_well d.network playable.network events g stands (λ s member.
+        (own.identified s (In-permutation s g.systems (snapshot_of w).systems
+        (turned (snapshot_of w) g alike).systems member)).octets) in
+        λ v u us path. paths_within g well v u us (path_alike (snapshot_of w) g alike v u us path)
+
+    calm_for : (w : WorldState) → Keeps events w → from + span ≤ w.time → IsCalmFor (span_over m) w
+    calm_for w keeps late =
+        let change : w.last_change ≡ last_change events = keeps.stands.last in
+        let is : span ≡ settling_span pace m = span_is in record {
+          pace = pace;
+          set = λ place station here. (keeps.claimed.world.known.set place station here).starts;
+          quiet = quiet_stands d.network events w keeps.stands calm;
+          late = omega (arith, change, is, last, late);
+        }
+
+    rests : (w : WorldState) → Keeps events w → from + span ≤ w.time → AllNear (snapshot_of w) → (name : ℕ)
+        → (s : _) → live_system name w ≡ Some s → IsAtRest (snapshot_of w) s
+    rests w keeps late near name s is =
+        let (x, member, clock_is, ports, named) = stands_there w name s is in
+        let there : In name (clocks (snapshot_of w)) =
+        subst (λ v. In v (clocks (snapshot_of w))) (clock_is ∙ named)
+        (In-map (λ (y : System). y.clock) x (snapshot_of w).systems member) in
+        world_rests m w (record { pace = pace; is = keeps.claimed }) (bounded w keeps) (calm_for w keeps late) name s is
+        (near name there)
+
+    -- an act behind the span
+    still_act : (until : ℕ) (t : Transition) (fate drawn : F) (w : WorldState) → t.before ≡ w
+        → Happens answers until t.told fate drawn w t.after → Keeps events w → AllNear (snapshot_of w)
+        → from + span ≤ at_of t → ShowsTheSame t
+    still_act until t fate drawn w before happens keeps near late =
+        let timed = t.told.timed in let was = happens.was_done in let moved = at timed.at w in
+        let timely = was.ready.timely in
+        let keeps_then = keeps_later events w timed.at timely.now timely.first keeps in
+        let keeps_after = keeps_act events until t fate drawn w happens keeps in
+        let moment = act_time until t fate drawn w keeps.claimed.world.sound happens in
+        let network = acts_keep timed.act moved was.draws t.told.done t.after
+        (no_change happens.next.item timed.act w happens.next.act) was.acts in
+        let same : snapshot_of t.after ≡ snapshot_of moved = same_snapshot moved t.after network in
+        let world = keeps_then.claimed.world in
+        let shows = λ (name : ℕ).
+        shown_same (snapshot_of moved) (stands_well moved world.sound world.between world.legible) moved t.after refl
+            same
+        world.sound.wired.clocks keeps_after.claimed.world.sound.wired.clocks name
+        (rests moved keeps_then late near name)
+        (λ s is. subst (λ (h : Snapshot). IsAtRest h s) same
+        (rests t.after keeps_after (omega (arith, moment, late))
+        (subst AllNear (sym same) near) name s is)) in
+        record {
+          choice = λ name. ap (λ v. same_choice (shown name v) (shown name t.after)) before ∙ (shows name).0;
+          roles = λ name. ap (λ v. same_roles (shown name v) (shown name t.after)) before ∙ (shows name).1;
+        }
+
+    still_passes : (until : ℕ) (ts : List Transition) (fate fate_after : F) (w w' : WorldState)
+        → Passes answers until ts fate fate_after w w' → Keeps events w → AllNear (snapshot_of w)
+        → StillBehind (from + span) ts
+    still_passes until [] fate fate_after w w' k keeps near = tt
+    still_passes until (t ∷ ts) fate fate_after w w' (drawn, before, happens, rest) keeps near = (
+      by (nat_le (at_of t) (from + span)) refl,
+      still_passes until ts drawn fate_after t.after w' rest (keeps_act events until t fate drawn w happens keeps)
+          (subst AllNear (sym same) near),
+    )
+      where
+        same : snapshot_of t.after ≡ snapshot_of w
+        same =
+            same_snapshot (at (at_of t) w) t.after
+            (acts_keep t.told.timed.act (at (at_of t) w) happens.was_done.draws t.told.done t.after
+            (no_change happens.next.item t.told.timed.act w happens.next.act) happens.was_done.acts)
+
+        by : (early : Bool) → nat_le (at_of t) (from + span) ≡ early → (at_of t ≤ from + span) ⊎ ShowsTheSame t
+        by true test = inl (grind (arith, nat_tests))
+        by false test =
+            let late : from + span ≤ at_of t = grind (arith, nat_tests) in
+            inr (still_act until t fate drawn w before happens keeps near late)
+
+  passes_snapshot : (until : ℕ) (ts : List Transition) (fate fate_after : F) (w w' : WorldState)
+      → Passes answers until ts fate fate_after w w' → snapshot_of w' ≡ snapshot_of w
+  passes_snapshot until [] fate fate_after w w' (same, is) = ap snapshot_of is
+  passes_snapshot until (t ∷ ts) fate fate_after w w' (drawn, before, happens, rest) =
+      passes_snapshot until ts drawn fate_after t.after w' rest
+      ∙ same_snapshot (at (at_of t) w) t.after
+      (acts_keep t.told.timed.act (at (at_of t) w) happens.was_done.draws t.told.done t.after
+      (no_change happens.next.item t.told.timed.act w happens.next.act) happens.was_done.acts)
+
+  -- acts up to a time
+  early_passes : (time until : ℕ) (ts : List Transition) (fate fate_after : F) (w w' : WorldState) → until ≤ time
+      → Passes answers until ts fate fate_after w w' → StillBehind time ts
+  early_passes time until [] fate fate_after w w' le k = tt
+  early_passes time until (t ∷ ts) fate fate_after w w' le (drawn, before, happens, rest) =
+      let early = happens.early in
+      (inl (omega arith), early_passes time until ts drawn fate_after t.after w' le rest)
+
+  early_makes : (time : ℕ) (event : Timed) (ts : List Transition) (fate fate_after : F) (w w' : WorldState)
+      → event.at ≤ time → Makes answers event ts fate fate_after w w' → StillBehind time ts
+  early_makes time event ts fate fate_after w w' le k =
+      subst (StillBehind time) (sym k.are)
+      (still_both time k.first (_ ∷ []) (early_passes time event.at k.first fate k.drawn w k.passes.between le
+      k.passes.passes) (inl le, tt))
+
+  -- a stretch with events up to the time at which it begins
+  pub still_courses : (before events : List Timed) (from span until : ℕ) (g : Snapshot) (ts : List Transition)
+      (fate fate_after : F) (w w' : WorldState) → Each IsFitEvent events → Each (λ (e : Timed). e.at ≤ from) events
+      → IsCalm d.network (before ++ events) → StandsAfter d.network (before ++ events) g
+      → last_change (before ++ events) ≤ from → span ≡ settling_span pace (path_bound g)
+      → Courses answers until events ts fate fate_after w w' → Keeps before w → AllNear (snapshot_of w')
+      → StillBehind (from + span) ts
+  still_courses before [] from span until g ts fate fate_after w w' fit early calm stands last span_is k keeps near =
+      let same : snapshot_of w' ≡ snapshot_of w =
+      ap snapshot_of k.is ∙ passes_snapshot until ts fate fate_after w k.between k.passes in
+      still_passes (before ++ []) from span g calm stands last span_is until ts fate fate_after w k.between k.passes
+      (subst (λ es. Keeps es w) (sym (append-nil before)) keeps) (subst AllNear same near)
+  still_courses before (event ∷ events) from span until g ts fate fate_after w w' fit early calm stands last span_is
+      (first, rest, drawn, between, makes, k, is) keeps near =
+      let le = early 0 event refl in
+      let shift = sym (append_assoc before (event ∷ []) events) in
+      subst (StillBehind (from + span)) (sym is)
+      (still_both (from + span) first rest
+      (early_makes (from + span) event first fate drawn w between (omega (arith, le)) makes)
+      (still_courses (before ++ event ∷ []) events from span until g rest drawn fate_after between w'
+      (λ place. fit (suc place)) (λ place. early (suc place)) (subst (IsCalm d.network) shift calm)
+      (subst (λ es. StandsAfter d.network es g) shift stands) (subst (λ es. last_change es ≤ from) shift last) span_is k
+      (keeps_made before event first fate drawn w between (fit 0 event refl) makes keeps) near))
+
+  -- ---- the events of a document, stretch by stretch
+
+  -- those that were made before a stretch, and those that are left
+  record IsLeft (until from : ℕ) (before left : List Timed) : Type 0 where
+    are : before ++ left ≡ events_by until d.events
+    past : PastBy from before
+    order : AreInOrder left
+    due : Each (λ (e : Timed). nat_le e.at until ≡ true) left
+    fits : Each IsFitEvent left
+    within : from ≤ until
+
+  left_first : (until : ℕ) → IsLeft until 0 [] (events_by until d.events)
+  left_first until =
+      let test : Timed → Bool = λ (e : Timed). nat_le e.at until in record {
+        are = refl;
+        past = tt;
+        order = filter_in_order test d.events playable.events.in_order;
+        due = filter_passes test d.events;
+        fits = filter_each IsFitEvent test d.events events_fit;
+        within = omega arith;
+      }
+
+  left_next : (until from to : ℕ) (before left : List Timed) → IsLeft until from before left → later_than from left ≢ []
+      → to ≡ end_before until (later_than from left)
+      → IsLeft until to (before ++ now_of from left) (later_than from left)
+  left_next until from to before left is some ends =
+      let test : Timed → Bool = λ (e : Timed). nat_lt from e.at in
+      let later = later_than from left in
+      let first : first_time later ≡ Some to = ends_first until later some ∙ ap Some (sym ends) in
+      let le = ends_later from to left first in
+      let due = filter_each (λ (e : Timed). nat_le e.at until ≡ true) test left is.due in record {
+        are = append_assoc before (now_of from left) later
+            ∙ ap (λ es. before ++ es) (now_and_later from left is.order) ∙ is.are;
+        past = past_later from to (before ++ now_of from left) le (past_both from before left is.past);
+        order = filter_in_order test left is.order;
+        due = due;
+        fits = filter_each IsFitEvent test left is.fits;
+        within = first_due until to later due first;
+      }
+
+  -- the events up to a stretch are those that were made before it and in it
+  events_then : (until from : ℕ) (before left : List Timed) → IsLeft until from before left
+      → events_by from d.events ≡ before ++ now_of from left
+  events_then until from before left is =
+      sym (by_sooner from until d.events is.within) ∙ ap (events_by from) (sym is.are) ∙ by_past from before left
+          is.past
+
+  -- ---- the stretches of a timeline
+
+  module _ (until : ℕ) where
+    settles_one : (from : ℕ) (before left : List Timed) (fate fate_after : F) (w : WorldState) (p : Passage) (bound : ℕ)
+        → IsLeft until from before left → Keeps before w
+        → IsPassage answers d until from left fate fate_after w p → p.bound ≡ Some bound → AllNear (snapshot_of p.after)
+        → StillBehind (p.from + bound) p.acts
+    settles_one from before left fate fate_after w p bound is keeps passage bounded_by near =
+        let bounds : IsBound d from (Some bound) = subst (IsBound d from) bounded_by passage.bound_is in
+        let span = bounds.1 in let now = now_of from left in
+        let are = events_then until from before left is in
+        let test : Timed → Bool = λ (e : Timed). nat_le e.at from in
+        subst (λ t. StillBehind (t + bound) p.acts) (sym passage.from_is)
+        (still_courses before now from bound p.to span.snapshot p.acts fate fate_after w p.after
+        (filter_each IsFitEvent test left is.fits)
+        (λ place e there. let passes = filter_passes test left place e there in grind (arith, nat_tests))
+        (subst (IsCalm d.network) are bounds.0)
+        (subst (λ es. StandsAfter d.network es span.snapshot) are span.stands)
+        (last_past from (before ++ now) (past_both from before left is.past)) span.is
+        (subst (λ es. Courses answers p.to es p.acts fate fate_after w p.after) passage.events_are passage.courses)
+            keeps
+        near)
+
+    keeps_one : (from : ℕ) (before left : List Timed) (fate fate_after : F) (w : WorldState) (p : Passage)
+        → IsLeft until from before left → Keeps before w
+        → IsPassage answers d until from left fate fate_after w p
+        → Keeps (before ++ now_of from left) p.after
+    keeps_one from before left fate fate_after w p is keeps passage =
+        keeps_courses before (now_of from left) p.to p.acts fate fate_after w p.after
+        (filter_each IsFitEvent (λ (e : Timed). nat_le e.at from) left is.fits)
+        (subst (λ es. Courses answers p.to es p.acts fate fate_after w p.after) passage.events_are passage.courses)
+            keeps
+
+    settles_all : (passages : List Passage) (from : ℕ) (before left : List Timed) (fate fate_after : F)
+        (w w' : WorldState) (p : Passage) (bound : ℕ) → IsLeft until from before left → Keeps before w
+        → AllPass answers d until from left fate fate_after w w' passages → In p passages → p.bound ≡ Some bound
+        → AllNear (snapshot_of p.after) → StillBehind (p.from + bound) p.acts
+    settles_all [] from before left fate fate_after w w' p bound is keeps pass member bounded_by near = absurd pass
+    settles_all (q ∷ []) from before left fate fate_after w w' p bound is keeps (passage, none, ends) (inl same)
+        bounded_by near =
+        settles_one from before left fate fate_after w p bound is keeps
+        (subst (IsPassage answers d until from left fate fate_after w) (sym same) passage) bounded_by near
+    settles_all (q ∷ []) from before left fate fate_after w w' p bound is keeps pass (inr member) bounded_by near =
+        absurd member
+    settles_all (q ∷ (r ∷ rs)) from before left fate fate_after w w' p bound is keeps (drawn, passage, some, rest)
+        (inl same) bounded_by near =
+        settles_one from before left fate drawn w p bound is keeps
+        (subst (IsPassage answers d until from left fate drawn w) (sym same) passage) bounded_by near
+    settles_all (q ∷ (r ∷ rs)) from before left fate fate_after w w' p bound is keeps (drawn, passage, some, rest)
+        (inr member) bounded_by near =
+        settles_all (r ∷ rs) q.to (before ++ now_of from left) (later_than from left) drawn fate_after q.after w' p
+            bound
+        (left_next until from q.to before left is some passage.to_is)
+        (keeps_one from before left fate drawn w q is keeps passage) rest member bounded_by near
+
+-- ---- the law
+
+within_bound : (from bound : ℕ) (last : Option ℕ) → IfSome last (λ time. time ≤ from + bound)
+    → IfSome (option_map (λ time. time - from) last) (λ time. time ≤ bound)
+within_bound from bound None within = tt
+within_bound from bound (Some last) within = omega arith
+
+pub stretches_settle : {F : Type 0} (answers : Bounds → ℕ → F → Option ℕ → F → Type 0) (d : DocumentState) (until : ℕ)
+    (options : TimelineOptions) (fate : F) (lines : List (List ℕ)) (exceeded : Bool)
+    (t : TimelineOf answers d until options fate lines exceeded) (p : Passage) (bound : ℕ) (names : List ℕ)
+    (since : ℕ → Option ℕ) → IsPlayable d → In p t.passages → p.bound ≡ Some bound → AllNear (snapshot_of p.after)
+    → IfSome (choice_after (stretch_of names since p)) (λ time. time ≤ bound)
+    × IfSome (behind p.from (stretch_of names since p).measures.roles) (λ time. time ≤ bound)
+stretches_settle answers d until options fate lines exceeded t p bound names since playable member bounded_by near =
+    let still = settles_all answers d playable until t.passages 0 [] (events_by until d.events) t.started t.fate_after
+    t.start t.after p bound (left_first answers d playable until)
+    (keeps_first answers d playable fate t.started t.start t.begun) t.pass member bounded_by near in (
+      within_bound p.from bound _ (last_choice names (p.from + bound) p.acts still),
+      within_bound p.from bound _ (last_roles names (p.from + bound) p.acts still),
+    )

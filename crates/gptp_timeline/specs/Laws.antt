@@ -1,0 +1,50 @@
+-- Laws of timelines.
+use Rattle.std.specs.Prelude.{◌≡◌, ◌≤◌, ℕ, Bool, List, Option, Some, IfSome}
+use Rattle.std.specs.List.{flat_map}
+use Rattle.gptp_acts.specs.Advancing.{Told}
+use Rattle.gptp_graph.specs.Distance.{IsNear}
+use Rattle.gptp_graph.specs.Snapshot.{Snapshot, clocks}
+use Rattle.gptp_kept.specs.Standing.{snapshot_of}
+use Rattle.gptp_links.specs.declared.bounds.Bounds.{Bounds}
+use Rattle.gptp_lists.specs.Members.{In}
+use Rattle.gptp_network.specs.Document.{DocumentState}
+use Rattle.gptp_network.specs.Events.{AreEvents}
+use Rattle.gptp_reached.specs.PlayedLaws.{IsPlayable}
+use Rattle.gptp_report.specs.Run.{Plays}
+use Rattle.gptp_world.specs.Transitions.{Transition}
+use Rattle.gptp_report.specs.Transitions.{Unfolds}
+use Rattle.gptp_timeline.specs.Limits.{choice_after}
+use Rattle.gptp_timeline.specs.StretchText.{behind}
+use Rattle.gptp_timeline.specs.Timeline.{Passage, TimelineOf, stretch_of}
+use Rattle.gptp_timeline.specs.declared.timeline.TimelineOptions.{TimelineOptions}
+
+-- the acts of all stretches
+abbrev pub all_acts : List Passage → List Transition
+all_acts passages = flat_map (λ (p : Passage). p.acts) passages
+
+-- The stretches of a timeline together are one run of its document: the document goes on by the acts of all of them to
+-- the world where the last ends.
+abbrev pub TimelineUnfolds : {F : Type 0} → (Bounds → ℕ → F → Option ℕ → F → Type 0) → Type 0
+TimelineUnfolds {F} answers = (d : DocumentState) (until : ℕ) (options : TimelineOptions) (fate : F)
+    (lines : List (List ℕ)) (exceeded : Bool) (t : TimelineOf answers d until options fate lines exceeded)
+    → AreEvents d.network d.events → Unfolds answers d until fate t.start (all_acts t.passages) t.after
+
+-- So that is the world of which a run of the document to the same time reports.
+abbrev pub TimelineEndsAsRun : {F : Type 0} → (Bounds → ℕ → F → Option ℕ → F → Type 0) → Type 0
+TimelineEndsAsRun {F} answers = (d : DocumentState) (until : ℕ) (options : TimelineOptions) (fate : F)
+    (lines : List (List ℕ)) (exceeded : Bool) (t : TimelineOf answers d until options fate lines exceeded)
+    → AreEvents d.network d.events → (told : List Told) × Plays answers d until fate told t.after
+
+-- every live system is near
+abbrev pub AllNear : Snapshot → Type 0
+AllNear g = (name : ℕ) → In name (clocks g) → IsNear g name
+
+-- Where a stretch has a bound, and every live system is near where it ends, no act later than the bound behind its
+-- begin leaves a system another as to whether it lives, root, steps or Slave port, nor as to role or capable of a port.
+abbrev pub StretchesSettle : {F : Type 0} → (Bounds → ℕ → F → Option ℕ → F → Type 0) → Type 0
+StretchesSettle {F} answers = (d : DocumentState) (until : ℕ) (options : TimelineOptions) (fate : F)
+    (lines : List (List ℕ)) (exceeded : Bool) (t : TimelineOf answers d until options fate lines exceeded)
+    (p : Passage) (bound : ℕ) (names : List ℕ) (since : ℕ → Option ℕ)
+    → IsPlayable d → In p t.passages → p.bound ≡ Some bound → AllNear (snapshot_of p.after)
+    → IfSome (choice_after (stretch_of names since p)) (λ time. time ≤ bound)
+    × IfSome (behind p.from (stretch_of names since p).measures.roles) (λ time. time ≤ bound)

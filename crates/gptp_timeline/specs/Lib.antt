@@ -1,0 +1,15 @@
+pub mod Ports
+pub mod Shown
+pub mod Changes
+pub mod EventLine
+pub mod Amounts
+pub mod Receipts
+pub mod Measures
+pub mod Stretch
+pub mod StretchText
+pub mod Limits
+pub mod End
+pub mod Watch
+pub mod Timeline
+pub mod Passing
+pub mod Laws

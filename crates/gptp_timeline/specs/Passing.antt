@@ -1,0 +1,69 @@
+-- A stretch that passes before an observer.
+use Rattle.std.specs.Prelude.{◌≡◌, ◌⊎◌, ℕ, List, [], ◌∷◌, ◌++◌, Option, Some, None, map}
+use Rattle.gptp_acts.specs.Views.{rising_clocks}
+use Rattle.gptp_acts.specs.World.{WorldState}
+use Rattle.gptp_links.specs.declared.bounds.Bounds.{Bounds}
+use Rattle.gptp_network.specs.Document.{DocumentState}
+use Rattle.gptp_plan.specs.declared.change.Timed.{Timed}
+use Rattle.gptp_world.specs.Observing.{Tells}
+use Rattle.gptp_world.specs.Transitions.{Transition}
+use Rattle.gptp_report.specs.Transitions.{Courses, CoursesSoFar}
+use Rattle.gptp_timeline.specs.Timeline.{end_lines, exact_time, is_begun, IsPlan}
+use Rattle.gptp_timeline.specs.Watch.{begun, event_look, nothing, see_all, tells_changes, unseen, WatchState}
+use Rattle.gptp_timeline.specs.declared.timeline.Plan.{Plan}
+use Rattle.gptp_timeline.specs.declared.timeline.TimelineOptions.{TimelineOptions}
+
+-- when the first of events comes
+abbrev pub first_time : List Timed → Option ℕ
+first_time [] = None
+first_time (e ∷ es) = Some e.at
+
+-- an observer before the systems of a world start, and behind that
+abbrev pub watch_before : TimelineOptions → WorldState → WatchState
+watch_before options w = record {
+  summary = options.summary;
+  offsets = options.offsets;
+  exact_from = None;
+  systems = map unseen (rising_clocks w);
+  measures = nothing;
+}
+
+abbrev pub watch_at_start : TimelineOptions → WorldState → WatchState
+watch_at_start options w = see_all (event_look 0) w (watch_before options w)
+
+-- The acts of a stretch with these events were done before an observer for which it began, and this is told of them.
+pub record IsSeen {F : Type 0} (answers : Bounds → ℕ → F → Option ℕ → F → Type 0) (plan : Plan) (events : List Timed)
+    (fate fate_after : F) (w w' : WorldState) (o o_after : WatchState) (told : List (List ℕ)) : Type 0 where
+  pub acts : List Transition
+  pub courses : Courses answers plan.to events acts fate fate_after w w'
+  pub tells : Tells tells_changes acts (begun (exact_time plan.errors) o) o_after told
+
+-- some of them were
+pub record IsSeenSoFar {F : Type 0} (answers : Bounds → ℕ → F → Option ℕ → F → Type 0) (plan : Plan)
+    (events : List Timed) (fate : F) (w : WorldState) (o : WatchState) (told : List (List ℕ)) : Type 0 where
+  pub acts : List Transition
+  pub o_after : WatchState
+  pub courses : CoursesSoFar answers plan.to events acts fate w
+  pub tells : Tells tells_changes acts (begun (exact_time plan.errors) o) o_after told
+
+-- all of them were, and the stretch ended
+pub record IsSeenToEnd {F : Type 0} (answers : Bounds → ℕ → F → Option ℕ → F → Type 0) (plan : Plan)
+    (events : List Timed) (fate : F) (w : WorldState) (o : WatchState) (lines : List (List ℕ)) : Type 0 where
+  pub fate_after : F
+  pub after : WorldState
+  pub o_after : WatchState
+  pub told : List (List ℕ)
+  pub seen : IsSeen answers plan events fate fate_after w after o o_after told
+  pub are : lines ≡ told ++ end_lines plan o_after
+
+-- A stretch that breaks off: nothing is known of it, or some of its acts were done, or it ended.
+abbrev pub BreaksSeen : {F : Type 0} → (Bounds → ℕ → F → Option ℕ → F → Type 0) → Plan → List Timed → F → WorldState
+    → WatchState → List (List ℕ) → Type 0
+BreaksSeen answers plan events fate w o lines =
+    IsSeenSoFar answers plan events fate w o lines ⊎ IsSeenToEnd answers plan events fate w o lines
+
+abbrev pub StopsSeen : {F : Type 0} → (Bounds → ℕ → F → Option ℕ → F → Type 0) → DocumentState → ℕ → ℕ → List Timed
+    → F → WorldState → WatchState → List (List ℕ) → Type 0
+StopsSeen answers d from to events fate w o lines =
+    (lines ≡ [])
+    ⊎ ((plan : Plan) × IsPlan d from to (is_begun events) plan × BreaksSeen answers plan events fate w o lines)

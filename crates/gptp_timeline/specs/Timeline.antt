@@ -1,0 +1,247 @@
+-- The timeline of a document: its text, over the acts of its run (profile).
+use Rattle.std.specs.Prelude.{◌≡◌, ◌≢◌, ◌⊎◌, ◌≤◌, ℕ, Bool, true, false, not, nat_le, nat_lt, List, [], ◌∷◌, ◌++◌, map, Option, Some, None}
+use Rattle.std.specs.List.{filter, flat_map}
+use Rattle.std.specs.Option.{option_and_then}
+use Rattle.gptp_acts.specs.Views.{rising_clocks}
+use Rattle.gptp_acts.specs.World.{WorldState}
+use Rattle.gptp_links.specs.declared.bounds.Bounds.{Bounds}
+use Rattle.gptp_network.specs.Document.{DocumentState}
+use Rattle.gptp_network.specs.Snapshot.{events_by}
+use Rattle.gptp_network.specs.Span.{IsBound}
+use Rattle.gptp_plan.specs.declared.change.Act.{Act}
+use Rattle.gptp_plan.specs.declared.change.Act.TheVariants.{Change as Changing, Deliver, Expire}
+use Rattle.gptp_plan.specs.declared.change.Timed.{Timed}
+use Rattle.gptp_world.specs.Transitions.{Transition}
+use Rattle.gptp_report.specs.Transitions.{Courses, CoursesSoFar}
+use Rattle.gptp_acts.specs.Course.{Begun}
+use Rattle.gptp_system.specs.State.{SystemState}
+use Rattle.gptp_time_error.specs.TimeErrors.{AreTimeErrors}
+use Rattle.gptp_time_error.specs.declared.errors.SystemError.{SystemError}
+use Rattle.gptp_time_error.specs.declared.errors.TimeErrors.{TimeErrors}
+use Rattle.gptp_timeline.specs.Changes.{change_lines}
+use Rattle.gptp_timeline.specs.EventLine.{event_line}
+use Rattle.gptp_timeline.specs.Limits.{exceeded_after, not_exceeded, verdict_lines, is_exceeded}
+use Rattle.gptp_timeline.specs.Receipts.{offset_line, received_by}
+use Rattle.gptp_timeline.specs.Shown.{live_system, shown}
+use Rattle.gptp_timeline.specs.Stretch.{at_of, counted, error_at, error_from, measured, waits}
+use Rattle.gptp_timeline.specs.StretchText.{after_line, ended_stretch, error_among, system_accuracy}
+use Rattle.gptp_timeline.specs.Watch.{unless, WatchState}
+use Rattle.gptp_timeline.specs.declared.limits.Exceeded.{Exceeded}
+use Rattle.gptp_timeline.specs.declared.limits.Limits.{Limits}
+use Rattle.gptp_timeline.specs.declared.stretch.Stretch.{Stretch}
+use Rattle.gptp_timeline.specs.declared.timeline.Plan.{Plan}
+use Rattle.gptp_timeline.specs.declared.timeline.TimelineOptions.{TimelineOptions}
+use Rattle.gptp_timeline.specs.declared.watched.Watched.{Watched}
+
+-- ---- the lines of an act
+
+-- the line of an event; none of another act
+abbrev pub event_lines : ℕ → Act → List (List ℕ)
+event_lines at (Deliver link direction) = []
+event_lines at (Expire clock timer) = []
+event_lines at (Changing change) = event_line at change ∷ []
+
+-- what it leaves another at each system, by rising clock
+abbrev pub all_changes : List ℕ → Transition → List (List ℕ)
+all_changes names t =
+    flat_map (λ name. change_lines (at_of t) name (shown name t.before) (shown name t.after)) names
+
+-- the line of the receipt of a live system
+abbrev pub receipt_lines : ℕ → Transition → Option SystemState → List (List ℕ)
+receipt_lines name t None = []
+receipt_lines name t (Some s) = offset_line (at_of t) name s.offset (error_at name t) ∷ []
+
+abbrev pub offset_lines : Transition → Option ℕ → List (List ℕ)
+offset_lines t None = []
+offset_lines t (Some name) = receipt_lines name t (live_system name t.after)
+
+-- The event first, then what is another at systems, then the receipt.
+abbrev pub act_lines : TimelineOptions → List ℕ → Transition → List (List ℕ)
+act_lines options names t =
+    unless options.summary (event_lines (at_of t) t.told.timed.act ++ all_changes names t)
+    ++ unless (not options.offsets) (offset_lines t (received_by t.told.done))
+
+-- so are all systems as they start
+abbrev pub start_lines : TimelineOptions → List ℕ → WorldState → List (List ℕ)
+start_lines options names w =
+    unless options.summary (flat_map (λ name. change_lines 0 name None (shown name w)) names)
+
+-- ---- how exact systems were
+
+abbrev pub accuracy_at : Option ℕ → List Transition → List SystemError → List (List ℕ)
+accuracy_at None ts systems = []
+accuracy_at (Some from) ts systems = flat_map (system_accuracy from (λ name. error_from name (Some from) ts)) systems
+
+-- all of them, by rising clock
+abbrev pub accuracy_lines : List Transition → Option TimeErrors → List (List ℕ)
+accuracy_lines ts None = []
+accuracy_lines ts (Some t) = accuracy_at t.from ts t.systems.items
+
+-- the time from which on they hold
+abbrev pub exact_time : Option TimeErrors → Option ℕ
+exact_time errors = option_and_then (λ (t : TimeErrors). t.from) errors
+
+-- the same lines, by what an observer keeps
+abbrev pub kept_accuracy_at : Option ℕ → List Watched → List SystemError → List (List ℕ)
+kept_accuracy_at None kept systems = []
+kept_accuracy_at (Some from) kept systems = flat_map (system_accuracy from (error_among kept)) systems
+
+abbrev pub kept_accuracy : List Watched → Option TimeErrors → List (List ℕ)
+kept_accuracy kept None = []
+kept_accuracy kept (Some t) = kept_accuracy_at t.from kept t.systems.items
+
+-- what became of a stretch, by what an observer keeps where it ends, and its lines there
+abbrev pub ended_of : Plan → WatchState → Stretch
+ended_of plan o = ended_stretch plan.from plan.to plan.begins_with_event plan.bound o.measures o.systems
+
+abbrev pub end_lines : Plan → WatchState → List (List ℕ)
+end_lines plan o = after_line (ended_of plan o) ∷ kept_accuracy o.systems plan.errors
+
+-- From some time on that isn't behind `to` the errors hold of the network as it stands at a time.
+abbrev pub HoldsBy : ℕ → TimeErrors → Type 0
+HoldsBy to t = (exact : ℕ) × (t.from ≡ Some exact) × (exact ≤ to)
+
+-- these are they; or there are none
+abbrev pub AreErrorsBy : DocumentState → ℕ → ℕ → Option TimeErrors → Type 0
+AreErrorsBy d at to None = (t : TimeErrors) → AreTimeErrors d at t → HoldsBy to t → ⊥
+AreErrorsBy d at to (Some t) = AreTimeErrors d at t × HoldsBy to t
+
+-- ---- a stretch
+
+-- What passes in a stretch: it begins with these events, and these acts are done in it, which lead to this world.
+pub record Passage : Type 0 where
+  pub from : ℕ
+  pub to : ℕ
+  pub events : List Timed
+  pub acts : List Transition
+  pub after : WorldState
+  pub bound : Option ℕ
+  pub errors : Option TimeErrors
+
+-- it begins with an event
+abbrev pub is_begun : List Timed → Bool
+is_begun [] = false
+is_begun (e ∷ es) = true
+
+-- what is known of it by the document alone
+pub record IsPlan (d : DocumentState) (from to : ℕ) (begins_with_event : Bool) (plan : Plan) : Type 0 where
+  pub from_is : plan.from ≡ from
+  pub to_is : plan.to ≡ to
+  pub begins_is : plan.begins_with_event ≡ begins_with_event
+  pub bound_is : IsBound d from plan.bound
+  pub errors_are : AreErrorsBy d from to plan.errors
+
+-- what became of it, where each system had been waiting since then
+abbrev pub stretch_of : List ℕ → (ℕ → Option ℕ) → Passage → Stretch
+stretch_of names since p = record {
+  from = p.from;
+  to = p.to;
+  begins_with_event = is_begun p.events;
+  bound = p.bound;
+  measures = measured names since p.to p.acts;
+  counts = counted (map (λ name. shown name p.after) names);
+}
+
+-- the lines of its acts, the line where it ends, and how exact systems were
+abbrev pub passage_lines : TimelineOptions → List ℕ → (ℕ → Option ℕ) → Passage → List (List ℕ)
+passage_lines options names since p =
+    flat_map (act_lines options names) p.acts
+    ++ after_line (stretch_of names since p) ∷ accuracy_lines p.acts p.errors
+
+-- ---- all stretches
+
+abbrev pub all_lines : TimelineOptions → List ℕ → (ℕ → Option ℕ) → List Passage → List (List ℕ)
+all_lines options names since [] = []
+all_lines options names since (p ∷ ps) =
+    passage_lines options names since p ++ all_lines options names (waits p.acts since) ps
+
+-- which limits some of them exceed, or did before
+abbrev pub all_exceeded : Limits → List ℕ → (ℕ → Option ℕ) → List Passage → Exceeded → Exceeded
+all_exceeded limits names since [] before = before
+all_exceeded limits names since (p ∷ ps) before =
+    all_exceeded limits names (waits p.acts since) ps (exceeded_after limits (stretch_of names since p) before)
+
+-- the events at a time or before it, and those that come later
+abbrev pub now_of : ℕ → List Timed → List Timed
+now_of time = filter (λ (e : Timed). nat_le e.at time)
+
+abbrev pub later_than : ℕ → List Timed → List Timed
+later_than time = filter (λ (e : Timed). nat_lt time e.at)
+
+-- when a stretch ends behind which these events come
+abbrev pub end_before : ℕ → List Timed → ℕ
+end_before until [] = until
+end_before until (e ∷ es) = e.at
+
+-- A stretch begins at a time with its events, of those that are left, and ends where the next begins.
+pub record IsPassage {F : Type 0} (answers : Bounds → ℕ → F → Option ℕ → F → Type 0) (d : DocumentState)
+    (until from : ℕ)
+    (events : List Timed) (fate fate_after : F) (w : WorldState) (p : Passage) : Type 0 where
+  pub from_is : p.from ≡ from
+  pub to_is : p.to ≡ end_before until (later_than from events)
+  pub events_are : p.events ≡ now_of from events
+  pub courses : Courses answers p.to p.events p.acts fate fate_after w p.after
+  pub bound_is : IsBound d from p.bound
+  pub errors_are : AreErrorsBy d from p.to p.errors
+
+-- Stretches pass, one after another: the first from a time on, the last to the end.
+abbrev pub AllPass : {F : Type 0} → (Bounds → ℕ → F → Option ℕ → F → Type 0) → DocumentState → ℕ → ℕ → List Timed
+    → F → F → WorldState → WorldState → List Passage → Type 0
+AllPass answers d until from events fate fate_after w w' [] = ⊥
+AllPass {F} answers d until from events fate fate_after w w' (p ∷ []) =
+    IsPassage answers d until from events fate fate_after w p × (later_than from events ≡ []) × (w' ≡ p.after)
+AllPass {F} answers d until from events fate fate_after w w' (p ∷ (q ∷ qs)) =
+    (drawn : F) × IsPassage answers d until from events fate drawn w p × (later_than from events ≢ [])
+    × AllPass answers d until p.to (later_than from events) drawn fate_after p.after w' (q ∷ qs)
+
+abbrev pub none_waits : ℕ → Option ℕ
+none_waits name = None
+
+-- ---- the whole text
+
+-- The world of a document begins, all stretches of its run pass, and these are the lines; and whether a limit is
+-- exceeded.
+pub record TimelineOf {F : Type 0} (answers : Bounds → ℕ → F → Option ℕ → F → Type 0) (d : DocumentState) (until : ℕ)
+    (options : TimelineOptions) (fate : F) (lines : List (List ℕ)) (exceeded : Bool) : Type 0 where
+  pub started : F
+  pub start : WorldState
+  pub begun : Begun answers d.network fate started start
+  pub passages : List Passage
+  pub fate_after : F
+  pub after : WorldState
+  pub pass : AllPass answers d until 0 (events_by until d.events) started fate_after start after passages
+  pub verdict : Exceeded
+  pub verdict_is : verdict ≡ all_exceeded options.limits (rising_clocks start) none_waits passages not_exceeded
+  pub exceeded_is : exceeded ≡ is_exceeded options.limits verdict
+  pub are : lines ≡ start_lines options (rising_clocks start) start
+      ++ all_lines options (rising_clocks start) none_waits passages ++ verdict_lines options.limits verdict
+
+-- ---- as far as it gets
+
+-- Some stretches pass, and in the one behind them some acts are done; these are the lines until then.
+abbrev pub SomePass : {F : Type 0} → (Bounds → ℕ → F → Option ℕ → F → Type 0) → DocumentState → ℕ → ℕ → List Timed
+    → F → WorldState → List Passage → List Transition → Type 0
+SomePass answers d until from events fate w [] ts =
+    CoursesSoFar answers (end_before until (later_than from events)) (now_of from events) ts fate w
+SomePass {F} answers d until from events fate w (p ∷ ps) ts =
+    (drawn : F) × IsPassage answers d until from events fate drawn w p
+    × SomePass answers d until p.to (later_than from events) drawn p.after ps ts
+
+pub record TimelineSoFar {F : Type 0} (answers : Bounds → ℕ → F → Option ℕ → F → Type 0) (d : DocumentState) (until : ℕ)
+    (options : TimelineOptions) (fate : F) (lines : List (List ℕ)) : Type 0 where
+  pub started : F
+  pub start : WorldState
+  pub begun : Begun answers d.network fate started start
+  pub passages : List Passage
+  pub acts : List Transition
+  pub pass : SomePass answers d until 0 (events_by until d.events) started start passages acts
+  pub are : lines ≡ start_lines options (rising_clocks start) start
+      ++ all_lines options (rising_clocks start) none_waits passages
+      ++ flat_map (act_lines options (rising_clocks start)) acts
+
+-- no line, those so far, or all
+abbrev pub BeginsTimeline : {F : Type 0} → (Bounds → ℕ → F → Option ℕ → F → Type 0) → DocumentState → ℕ
+    → TimelineOptions → F → List (List ℕ) → Type 0
+BeginsTimeline answers d until options fate lines =
+    (lines ≡ []) ⊎ (TimelineSoFar answers d until options fate lines
+    ⊎ ((exceeded : Bool) × TimelineOf answers d until options fate lines exceeded))

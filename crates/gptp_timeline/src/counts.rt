@@ -1,0 +1,121 @@
+//! How many systems go without time, and whom they follow.
+
+ghost use Rattle.std.specs.Prelude.{◌≡◌, ◌==◌, ◌<◌, IfOk, OnOk, length, nat_lt};
+ghost use Rattle.std.specs.List.{count_by};
+ghost use Rattle.gptp_timeline.specs.Stretch.{counted, distinct, goes_without, is_without, last_of_several, roots_of, shown_of_all, times, with_root};
+
+use crate::shown::Shown;
+use crate::watched::Watched;
+use gptp_vector::Identity;
+use std::alloc::{AllocError, Global};
+
+/// How many live systems have no time, how many roots are followed by two or more, and how many systems follow a root
+/// that no other does.
+#[derive(Clone, Copy, Debug, PartialEq, Eq)]
+pub(crate) struct Counts {
+    pub without: u64,
+    pub roots: u64,
+    pub alone: u64,
+}
+
+/// Whether a live system has no time: its root can't be a grandmaster, or it has a Slave port and no offset.
+fn goes_without(shown: &Shown) -> bool
+    ensures { result ≡ goes_without shown.now }
+{
+    !shown.root.capable() || (shown.slave.is_some() && !shown.known)
+}
+
+/// So it is, and it lives.
+fn is_without(shown: &Option<Shown>) -> bool
+    ensures { result ≡ is_without shown.now }
+{
+    match shown {
+        Some(shown) => goes_without(shown),
+        None => false,
+    }
+}
+
+/// How many live systems have no time.
+fn without(systems: &[Watched]) -> usize
+    ensures { result ≡ count_by is_without (shown_of_all systems.now) }
+{
+    systems
+        .iter()
+        .filter(|system| is_without(&system.shown))
+        .count()
+}
+
+/// Puts the root of a system behind others, if it lives.
+fn push_root(roots: &mut Vec<Identity>, shown: &Option<Shown>) -> Result<(), AllocError>
+    ensures { OnOk result (roots.new.items ≡ with_root shown.now roots.old.items) }
+{
+    match shown {
+        Some(shown) => {
+            roots.push(shown.root)?;
+            Ok(())
+        }
+        None => Ok(()),
+    }
+}
+
+/// The roots of all live systems.
+fn roots_of(alloc: Global, systems: &[Watched]) -> Result<Vec<Identity>, AllocError>
+    ensures { IfOk result (λ v. v.items ≡ roots_of (shown_of_all systems.now)) }
+{
+    let mut roots = Vec::new(alloc);
+    for system in systems {
+        push_root(&mut roots, &system.shown)?;
+    }
+    Ok(roots)
+}
+
+/// How often a root is there.
+fn times(roots: &[Identity], root: Identity) -> usize
+    ensures { result ≡ times roots.now root }
+{
+    roots.iter().filter(|other| **other == root).count()
+}
+
+/// Whether the root at a place is there twice or more, and for the last time there.
+fn is_last_of_several(roots: &[Identity], place: usize) -> bool
+    requires { place < length roots.now }
+    ensures { result ≡ last_of_several roots.now place }
+{
+    let root = roots[place];
+    let (_, later) = roots.split_at(place + 1);
+    times(later, root) == 0 && 1 < times(roots, root)
+}
+
+/// How many different roots are there twice or more.
+#[tactic(auto, using(crate::proofs::CountLemmas::several_more, crate::proofs::CountLemmas::several_all))]
+fn several(roots: &[Identity]) -> usize
+    ensures { result ≡ count_by (λ root. nat_lt 1 (times roots.now root)) (distinct roots.now) }
+{
+    let mut count = 0;
+    for place in 0..roots.len() {
+        count += usize::from(is_last_of_several(roots, place));
+    }
+    count
+}
+
+/// How many roots are there once.
+fn alone(roots: &[Identity]) -> usize
+    ensures { result ≡ count_by (λ root. times roots.now root == 1) roots.now }
+{
+    roots
+        .iter()
+        .filter(|root| times(roots, **root) == 1)
+        .count()
+}
+
+/// What is counted of all systems, as they were last looked at.
+pub(crate) fn counts_of(alloc: Global, systems: &[Watched]) -> Result<Counts, AllocError>
+    ensures { IfOk result (λ c. c ≡ counted (shown_of_all systems.now)) }
+{
+    let roots = roots_of(alloc, systems)?;
+    Ok(Counts {
+        without: without(systems) as u64,
+        roots: several(&roots) as u64,
+        alone: alone(&roots) as u64,
+    })
+}

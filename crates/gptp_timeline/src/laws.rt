@@ -1,0 +1,18 @@
+//! Laws of timelines.
+
+ghost use Rattle.gptp_timeline.specs.Laws.{StretchesSettle, TimelineEndsAsRun, TimelineUnfolds};
+
+use gptp_links::Fate;
+
+/// The stretches of a timeline together are one run of its document, and where the last ends the world is that of which
+/// a run to the same time reports.
+pub fn timelines_are_runs<F: Fate>()
+    ensures unfolds { TimelineUnfolds F.answers }
+    ensures ends { TimelineEndsAsRun F.answers }
+{}
+
+/// Where a stretch of the timeline of a document has a bound, and every live system is near where it ends, its choice
+/// and its roles stand within the bound: no later act leaves any system another, nor any of its ports.
+pub fn stretches_settle<F: Fate>()
+    ensures { StretchesSettle F.answers }
+{}

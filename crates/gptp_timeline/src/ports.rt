@@ -1,0 +1,107 @@
+//! What is shown of the ports of a system.
+
+ghost use Rattle.std.specs.Prelude.{◌≡◌, ◌≤◌, length};
+ghost use Rattle.gptp_system.specs.Steps.{IsPortOf};
+ghost use Rattle.gptp_timeline.specs.Ports.{role_number, same_bool, same_port, same_ports, shown_port, shown_ports};
+
+use arrayvec::ArrayVec;
+use gptp_roles::Role;
+use gptp_system::System;
+use std::marker::Model;
+
+/// What is shown of a port.
+#[derive(Clone, Copy, Debug, Default)]
+pub(crate) struct ShownPort {
+    /// Its role.
+    pub role: Role,
+    /// Whether it is asCapable.
+    pub capable: bool,
+}
+
+/// The number of a role.
+fn role_number(role: Role) -> u8
+    ensures { result ≡ role_number role }
+{
+    role as u8
+}
+
+/// Whether both are so, or neither is.
+pub(crate) fn same_bool(a: bool, b: bool) -> bool
+    ensures { result ≡ same_bool a b }
+{
+    if a { b } else { !b }
+}
+
+/// Whether two ports are the same.
+pub(crate) fn same_port(a: ShownPort, b: ShownPort) -> bool
+    ensures { result ≡ same_port a b }
+{
+    role_number(a.role) == role_number(b.role) && same_bool(a.capable, b.capable)
+}
+
+/// Whether there are as many ports, each the same.
+pub(crate) fn same_ports(a: &[ShownPort], b: &[ShownPort]) -> bool
+    ensures { result ≡ same_ports a.now b.now }
+{
+    if a.len() != b.len() {
+        return false;
+    }
+    for place in 0..a.len() {
+        if !same_port(a[place], b[place]) {
+            return false;
+        }
+    }
+    true
+}
+
+/// What is shown of the ports of a system, by rising number: 16 at most.
+#[derive(Debug, Drop)]
+pub(crate) struct Ports {
+    ports: ArrayVec<ShownPort, 16>,
+}
+
+impl Model for Ports {
+    ghost use Rattle.std.specs.Prelude.{◌≤◌, List, length};
+    ghost use Rattle.gptp_timeline.specs.declared.ports.ShownPort.{ShownPort};
+
+    ghost Value = { List ShownPort };
+
+    ghost view = { λ p. p.ports.items };
+
+    ghost invariant = { λ p. length p.ports.items ≤ 16 };
+}
+
+impl Ports {
+    ghost use Rattle.std.specs.Prelude.{◌≡◌, ◌≤◌, length};
+
+    /// What is shown of each port.
+    pub(crate) fn as_slice(&self) -> &[ShownPort]
+        ensures is { result.now ≡ self.now }
+        ensures few { length self.now ≤ 16 }
+    {
+        self.ports.as_slice()
+    }
+}
+
+/// What is shown of a port of a system.
+fn shown_port(system: &System, port: u8) -> ShownPort
+    requires { IsPortOf system.now port }
+    ensures { result ≡ shown_port system.now port }
+{
+    ShownPort {
+        role: system.role(port),
+        capable: system.capable(port),
+    }
+}
+
+/// What is shown of the ports of a system.
+pub(crate) fn ports_of(system: &System) -> Ports
+    requires { length system.now.ports ≤ 16 }
+    ensures { result ≡ shown_ports system.now }
+{
+    let mut ports = ArrayVec::new();
+    for place in 0..system.ports() {
+        ports.push(shown_port(system, place + 1));
+    }
+    Ports { ports }
+}

@@ -1,0 +1,98 @@
+//! What is shown of a system.
+
+ghost use Rattle.std.specs.Prelude.{◌≡◌, ◌≤◌, length};
+ghost use Rattle.gptp_timeline.specs.Shown.{is_expecting, is_known, same_choice, same_roles, same_slave, same_way, shown_of};
+
+use crate::ports::{Ports, ports_of, same_ports};
+use gptp_system::System;
+use gptp_vector::Identity;
+
+/// What is shown of a live system.
+#[derive(Debug, Drop)]
+pub(crate) struct Shown {
+    /// The root that it follows.
+    pub root: Identity,
+    /// How many steps away that is.
+    pub steps: u16,
+    /// The number of its Slave port.
+    pub slave: Option<u8>,
+    /// Whether an offset is known.
+    pub known: bool,
+    /// Its ports, by rising number.
+    pub ports: Ports,
+}
+
+/// What is shown of a live system.
+pub(crate) fn shown_of(system: &System) -> Shown
+    requires { length system.now.ports ≤ 16 }
+    ensures { result ≡ shown_of system.now }
+{
+    let (root, steps, slave) = system.follows();
+    Shown {
+        root,
+        steps,
+        slave,
+        known: system.offset().is_some(),
+        ports: ports_of(system),
+    }
+}
+
+/// Whether two Slave ports are the same, or neither is there.
+fn same_slave(a: Option<u8>, b: Option<u8>) -> bool
+    ensures { result ≡ same_slave a b }
+{
+    match (a, b) {
+        (Some(a), Some(b)) => a == b,
+        (None, None) => true,
+        _ => false,
+    }
+}
+
+/// Whether two live systems follow the same root over as many steps and over the same Slave port.
+fn same_way(a: &Shown, b: &Shown) -> bool
+    ensures { result ≡ same_way a.now b.now }
+{
+    a.root == b.root && a.steps == b.steps && same_slave(a.slave, b.slave)
+}
+
+/// Whether a system is as before as to whether it lives, root, steps and Slave port.
+pub(crate) fn same_choice(before: &Option<Shown>, after: &Option<Shown>) -> bool
+    ensures { result ≡ same_choice before.now after.now }
+{
+    match (before, after) {
+        (Some(a), Some(b)) => same_way(a, b),
+        (None, None) => true,
+        _ => false,
+    }
+}
+
+/// So it is as to its ports also.
+pub(crate) fn same_roles(before: &Option<Shown>, after: &Option<Shown>) -> bool
+    ensures { result ≡ same_roles before.now after.now }
+{
+    match (before, after) {
+        (Some(a), Some(b)) => same_way(a, b) && same_ports(a.ports.as_slice(), b.ports.as_slice()),
+        (None, None) => true,
+        _ => false,
+    }
+}
+
+/// Whether a system lives and its offset is known.
+pub(crate) fn is_known(shown: &Option<Shown>) -> bool
+    ensures { result ≡ is_known shown.now }
+{
+    match shown {
+        Some(shown) => shown.known,
+        None => false,
+    }
+}
+
+/// Whether a system lives and expects time: it has a Slave port, and its root can be a grandmaster.
+pub(crate) fn is_expecting(shown: &Option<Shown>) -> bool
+    ensures { result ≡ is_expecting shown.now }
+{
+    match shown {
+        Some(shown) => shown.slave.is_some() && shown.root.capable(),
+        None => false,
+    }
+}

@@ -1,0 +1,331 @@
+//! What became of a stretch: the line where it ends.
+
+ghost use Rattle.std.specs.Prelude.{◌≡◌, ◌≢◌, ◌++◌, ◌∷◌, ◌-◌, [], IfOk, OnOk, Some, None, is_some, map, option_map, slice_get, string_bytes};
+ghost use Rattle.std.specs.List.{filter_map, flat_map};
+ghost use Rattle.std.specs.Option.{option_map};
+ghost use Rattle.gptp_spelling.specs.Lines.{text_of};
+ghost use Rattle.gptp_timeline.specs.Limits.{amount_of, choice_after};
+ghost use Rattle.gptp_timeline.specs.Measures.{greatest_from};
+ghost use Rattle.gptp_timeline.specs.Stretch.{shown_of_all};
+ghost use Rattle.gptp_timeline.specs.Watch.{RisesByClock};
+ghost use Rattle.gptp_timeline.specs.StretchText.{accuracy_line, after_line, behind, bound_words, changed_words, counted_words, ended_stretch, error_among, exact_words, greatest_words, system_accuracy, wait_of};
+
+use crate::amounts::{Near, NearOrNone, Up};
+use crate::counts::{Counts, counts_of};
+use crate::measures::{Greatest, Measures, better_if};
+use crate::watched::Watched;
+use gptp_spelling::ClockDigits;
+use gptp_time_error::SystemError;
+use gptp_vector::ClockId;
+use std::alloc::{AllocError, Global};
+use std::fmt;
+
+/// What became of a stretch.
+#[derive(Clone, Copy, Debug)]
+pub(crate) struct Stretch {
+    /// When it began, in ns.
+    pub from: u64,
+    /// When it ended, in ns.
+    pub to: u64,
+    /// Whether it began with an event.
+    pub begins_with_event: bool,
+    /// How long the network takes at most to settle from its begin on, where it is calm then, in ns.
+    pub bound: Option<u64>,
+    /// What was measured of its acts; the longest wait also of those that were under way where it ended.
+    pub measures: Measures,
+    /// What was counted where it ended.
+    pub counts: Counts,
+}
+
+/// How long a time is behind another, in ns.
+fn behind(from: u64, time: Option<u64>) -> Option<u64>
+    ensures { result ≡ behind from time }
+{
+    match time {
+        Some(time) => Some(time.saturating_sub(from)),
+        None => None,
+    }
+}
+
+impl Stretch {
+    ghost use Rattle.std.specs.Prelude.{◌≡◌};
+    ghost use Rattle.gptp_timeline.specs.Limits.{amount_of, choice_after};
+
+    /// How long the choice took to stand, in ns.
+    pub(crate) fn choice_after(&self) -> Option<u128>
+        ensures { result ≡ choice_after self.now }
+    {
+        match behind(self.from, self.measures.choice) {
+            Some(time) => Some(u128::from(time)),
+            None => None,
+        }
+    }
+
+    /// The longest wait, in ns.
+    pub(crate) fn holdover_amount(&self) -> Option<u128>
+        ensures { result ≡ amount_of self.now.measures.holdover }
+    {
+        match self.measures.holdover {
+            Some(longest) => Some(longest.amount),
+            None => None,
+        }
+    }
+
+    /// The greatest absolute error, in units of 2^-16 ns.
+    pub(crate) fn error_amount(&self) -> Option<u128>
+        ensures { result ≡ amount_of self.now.measures.error }
+    {
+        match self.measures.error {
+            Some(greatest) => Some(greatest.amount),
+            None => None,
+        }
+    }
+}
+
+/// The wait of a system that is under way at a time, if there is one.
+fn wait_at(to: u64, system: &Watched) -> Option<Greatest>
+    ensures { result ≡ wait_of to system.now }
+{
+    match system.since {
+        Some(since) => Some(Greatest {
+            amount: u128::from(to.saturating_sub(since)),
+            clock: system.clock,
+        }),
+        None => None,
+    }
+}
+
+/// The longest wait, with those that are under way at a time.
+fn with_waits(best: Option<Greatest>, to: u64, systems: &[Watched]) -> Option<Greatest>
+    ensures { result ≡ greatest_from best (filter_map (wait_of to) systems.now) }
+{
+    let mut best = best;
+    for system in systems {
+        best = better_if(best, wait_at(to, system));
+    }
+    best
+}
+
+/// What became of a stretch, by what was measured and is kept of all systems where it ends.
+pub(crate) fn ended(
+    alloc: Global,
+    from: u64,
+    to: u64,
+    begins_with_event: bool,
+    bound: Option<u64>,
+    measures: Measures,
+    systems: &[Watched],
+) -> Result<Stretch, AllocError>
+    ensures { IfOk result (λ s. s ≡ ended_stretch from to begins_with_event bound measures systems.now) }
+{
+    let counts = counts_of(alloc, systems)?;
+    let holdover = with_waits(measures.holdover, to, systems);
+    Ok(Stretch {
+        from,
+        to,
+        begins_with_event,
+        bound,
+        measures: Measures {
+            choice: measures.choice,
+            roles: measures.roles,
+            offsets: measures.offsets,
+            holdover,
+            error: measures.error,
+        },
+        counts,
+    })
+}
+
+/// A time that may be absent, in ns.
+#[derive(Clone, Copy)]
+struct TimeOrNone(Option<u64>);
+
+impl fmt::Display for TimeOrNone {
+    ghost use Rattle.std.specs.Prelude.{Some};
+    ghost use Rattle.std.specs.Fmt.{decimal};
+    ghost use Rattle.gptp_spelling.specs.Digits.{or_none};
+
+    ghost output = { λ time. Some (or_none decimal time.0) };
+
+    fn fmt<W: fmt::Write>(&self, f: &mut fmt::Formatter<W>) -> fmt::Result {
+        match self.0 {
+            Some(time) => write!(f, "{time}"),
+            None => f.write_str("none"),
+        }
+    }
+}
+
+/// The longest wait, in ns, with its system.
+#[derive(Clone, Copy)]
+struct Longest(Option<Greatest>);
+
+impl fmt::Display for Longest {
+    ghost use Rattle.std.specs.Prelude.{Some};
+    ghost use Rattle.gptp_timeline.specs.StretchText.{longest_text};
+
+    ghost output = { λ longest. Some (longest_text longest.0) };
+
+    fn fmt<W: fmt::Write>(&self, f: &mut fmt::Formatter<W>) -> fmt::Result {
+        match self.0 {
+            Some(longest) => write!(f, "{} {}", longest.amount, ClockDigits(longest.clock)),
+            None => f.write_str("0 none"),
+        }
+    }
+}
+
+/// The greatest error, in ns, with its system.
+#[derive(Clone, Copy)]
+struct Worst(Option<Greatest>);
+
+impl fmt::Display for Worst {
+    ghost use Rattle.std.specs.Prelude.{Some};
+    ghost use Rattle.gptp_timeline.specs.StretchText.{worst_text};
+
+    ghost output = { λ worst. Some (worst_text worst.0) };
+
+    fn fmt<W: fmt::Write>(&self, f: &mut fmt::Formatter<W>) -> fmt::Result {
+        match self.0 {
+            Some(worst) => write!(f, "{} {}", Near(worst.amount), ClockDigits(worst.clock)),
+            None => f.write_str("0.000 none"),
+        }
+    }
+}
+
+/// Appends how long it took until the choice stood, the roles did, and the offsets.
+fn write_changed(text: &mut String, stretch: &Stretch) -> Result<(), AllocError>
+    ensures { OnOk result (string_bytes text.new ≡ string_bytes text.old ++ changed_words stretch.now) }
+{
+    let from = stretch.from;
+    let measures = stretch.measures;
+    write!(
+        text,
+        "after {from} to {} choice {} roles {} offsets {}",
+        stretch.to,
+        TimeOrNone(behind(from, measures.choice)),
+        TimeOrNone(behind(from, measures.roles)),
+        TimeOrNone(behind(from, measures.offsets))
+    )
+}
+
+/// Appends the longest wait and the greatest error.
+fn write_greatest(text: &mut String, measures: Measures) -> Result<(), AllocError>
+    ensures { OnOk result (string_bytes text.new ≡ string_bytes text.old ++ greatest_words measures) }
+{
+    write!(
+        text,
+        " holdover {} error {}",
+        Longest(measures.holdover),
+        Worst(measures.error)
+    )
+}
+
+/// Appends what was counted, and the bound.
+fn write_counts(text: &mut String, counts: Counts, bound: Option<u64>) -> Result<(), AllocError>
+    ensures { OnOk result (string_bytes text.new
+        ≡ string_bytes text.old ++ (counted_words counts bound ++ 10 ∷ [])) }
+{
+    writeln!(
+        text,
+        " without {} roots {} alone {} bound {}",
+        counts.without,
+        counts.roots,
+        counts.alone,
+        TimeOrNone(bound)
+    )
+}
+
+/// Appends the line of a stretch that ended.
+pub(crate) fn write_after(text: &mut String, stretch: &Stretch) -> Result<(), AllocError>
+    ensures { OnOk result (string_bytes text.new
+        ≡ string_bytes text.old ++ (after_line stretch.now ++ 10 ∷ [])) }
+{
+    write_changed(text, stretch)?;
+    write_greatest(text, stretch.measures)?;
+    write_counts(text, stretch.counts, stretch.bound)
+}
+
+/// The greatest error of the receipts of a system that count by themselves.
+fn error_at(systems: &[Watched], clock: ClockId) -> Option<u128>
+    requires { RisesByClock systems.now }
+    ensures { result ≡ error_among systems.now clock }
+{
+    match systems.binary_search_by_key(&clock, |system| system.clock) {
+        Ok(place) => systems[place].error,
+        Err(_) => None,
+    }
+}
+
+/// Appends how exact a system was.
+fn write_error(text: &mut String, clock: ClockId, error: Option<u128>) -> Result<(), AllocError>
+    ensures { OnOk result (string_bytes text.new ≡ string_bytes text.old ++ exact_words clock error) }
+{
+    write!(
+        text,
+        "accuracy {} error {}",
+        ClockDigits(clock),
+        NearOrNone(error)
+    )
+}
+
+/// Appends how exact it is promised to be, and from when on.
+fn write_bound(text: &mut String, from: u64, bound: u128) -> Result<(), AllocError>
+    ensures { OnOk result (string_bytes text.new ≡ string_bytes text.old ++ (bound_words from bound ++ 10 ∷ [])) }
+{
+    writeln!(text, " bound {} from {from}", Up(bound))
+}
+
+/// Appends the line of a system that follows another, with the bound of its error.
+#[tactic(auto, using(crate::proofs::LineLemmas::words_on))]
+fn write_exact(
+    text: &mut String,
+    from: u64,
+    clock: ClockId,
+    error: Option<u128>,
+    bound: u128,
+) -> Result<(), AllocError>
+    ensures { OnOk result (string_bytes text.new
+        ≡ string_bytes text.old ++ (accuracy_line from clock error bound ++ 10 ∷ [])) }
+{
+    write_error(text, clock, error)?;
+    write_bound(text, from, bound)
+}
+
+/// So it is where it has such a bound and isn't its own root.
+fn write_exact_if(
+    text: &mut String,
+    from: u64,
+    system: &SystemError,
+    systems: &[Watched],
+) -> Result<(), AllocError>
+    requires { RisesByClock systems.now }
+    ensures { OnOk result (string_bytes text.new
+        ≡ string_bytes text.old ++ text_of (system_accuracy from (error_among systems.now) system.now)) }
+{
+    match system.error {
+        Some(bound) if system.root.clock() != system.clock => write_exact(
+            text,
+            from,
+            system.clock,
+            error_at(systems, system.clock),
+            bound,
+        ),
+        _ => Ok(()),
+    }
+}
+
+/// Appends the lines of all of them, by rising clock, where the stretch ends no sooner than the errors hold.
+pub(crate) fn write_accuracies(
+    text: &mut String,
+    from: u64,
+    errors: &[SystemError],
+    systems: &[Watched],
+) -> Result<(), AllocError>
+    requires { RisesByClock systems.now }
+    ensures { OnOk result (string_bytes text.new
+        ≡ string_bytes text.old ++ text_of (flat_map (system_accuracy from (error_among systems.now)) errors.now)) }
+{
+    for error in errors {
+        write_exact_if(text, from, error, systems)?;
+    }
+    Ok(())
+}

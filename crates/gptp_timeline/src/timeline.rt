@@ -1,0 +1,411 @@
+//! The timeline of a document.
+
+ghost use Rattle.std.specs.Prelude.{◌≡◌, ◌≢◌, ◌≤◌, ◌++◌, ◌⊎◌, List, [], ℕ, IfErr, IfOk, OnErr, OnOk, drop, length, string_bytes, take};
+ghost use Rattle.std.specs.Io.KnownBytes.{Appends};
+ghost use Rattle.std.specs.List.{flat_map};
+ghost use Rattle.gptp_acts.specs.Course.{Begun};
+ghost use Rattle.gptp_acts.specs.Prompt.{ArePromptIn};
+ghost use Rattle.gptp_acts.specs.Views.{rising_clocks};
+ghost use Rattle.gptp_network.specs.Events.{AreInOrder};
+ghost use Rattle.gptp_network.specs.Snapshot.{events_by};
+ghost use Rattle.gptp_network.specs.Span.{IsBound};
+ghost use Rattle.gptp_plan.specs.Allowed.{AreAllowed};
+ghost use Rattle.gptp_plan.specs.Calm.{last_change};
+ghost use Rattle.gptp_sink.specs.Sink.{AppendsSome};
+ghost use Rattle.gptp_world.specs.Transitions.{Transition};
+ghost use Rattle.gptp_spelling.specs.Lines.{text_of};
+ghost use Rattle.gptp_timeline.specs.Limits.{exceeded_after, is_exceeded, not_exceeded, verdict_lines};
+ghost use Rattle.gptp_timeline.specs.Passing.{BreaksSeen, IsSeen, StopsSeen, first_time, watch_at_start};
+ghost use Rattle.gptp_timeline.specs.Timeline.{AllPass, AreErrorsBy, BeginsTimeline, IsPlan, Passage, SomePass, TimelineOf, act_lines, all_exceeded, all_lines, end_lines, ended_of, exact_time, is_begun, kept_accuracy, later_than, none_waits, now_of};
+ghost use Rattle.gptp_timeline.specs.Watch.{event_look, lines_all, see_all};
+
+use crate::limits::{Exceeded, Limits, NOT_EXCEEDED, exceeded_after, write_verdict};
+use crate::stretch::{Stretch, ended, write_accuracies, write_after};
+use crate::watch::Watch;
+use gptp_links::Fate;
+use gptp_network::Document;
+use gptp_report::sink::Sink;
+use gptp_report::{Cut, begin, play, write_whole};
+use gptp_time_error::{TimeErrors, time_errors};
+use gptp_world::{Timed, World};
+use std::alloc::{AllocError, Global};
+
+/// What is told of the run of a document.
+#[derive(Clone, Copy, Debug, PartialEq, Eq)]
+pub struct TimelineOptions {
+    /// Whether events and changes are left out.
+    pub summary: bool,
+    /// Whether receipts of time are told.
+    pub offsets: bool,
+    /// What is asked of each stretch.
+    pub limits: Limits,
+}
+
+/// A stretch that begins: what is known of it by the document alone.
+#[derive(Drop)]
+struct Plan {
+    from: u64,
+    to: u64,
+    begins_with_event: bool,
+    bound: Option<u64>,
+    errors: Option<TimeErrors>,
+}
+
+/// How many events come first that are at a time, or before it.
+fn count_by(events: &[Timed], time: u64) -> usize
+    requires { AreInOrder events.now }
+    ensures now { take result events.now ≡ now_of time events.now }
+    ensures later { drop result events.now ≡ later_than time events.now }
+    ensures bound { result ≤ length events.now }
+{
+    events.partition_point(|event| event.at <= time)
+}
+
+/// The events with time up to a time.
+fn events_by(events: &[Timed], until: u64) -> &[Timed]
+    requires { AreInOrder events.now }
+    ensures { result.now ≡ events_by until events.now }
+{
+    let count = count_by(events, until);
+    &events[..count]
+}
+
+/// The events that come later than a time.
+fn events_after(events: &[Timed], time: u64) -> &[Timed]
+    requires { AreInOrder events.now }
+    ensures { result.now ≡ later_than time events.now }
+{
+    let count = count_by(events, time);
+    &events[count..]
+}
+
+/// When the first of these events comes that come later than a time.
+fn next_time(events: &[Timed], time: u64) -> Option<u64>
+    requires { AreInOrder events.now }
+    ensures { result ≡ first_time (later_than time events.now) }
+{
+    match events_after(events, time).first() {
+        Some(event) => Some(event.at),
+        None => None,
+    }
+}
+
+/// Where a network that is calm after the events up to a time is as exact as is said by another: from when on, and how
+/// exact each system is.
+fn errors_by(
+    alloc: Global,
+    document: &Document,
+    from: u64,
+    to: u64,
+) -> Result<Option<TimeErrors>, Cut>
+    ensures errors { IfOk result (AreErrorsBy document.now from to) }
+    ensures memory { IfErr result (λ e. e ≡ Cut.Memory) }
+{
+    match time_errors(alloc, document, from) {
+        Ok(errors) => match errors.from {
+            Some(exact) if exact <= to => Ok(Some(errors)),
+            _ => Ok(None),
+        },
+        // the search isn't wrong
+        Err(_) => Err(Cut::Memory),
+    }
+}
+
+/// The time of the last of these events up to a time, or 0.
+#[tactic(auto, using(gptp_network::proofs::EventLemmas::last_from))]
+fn last_by(events: &[Timed], time: u64) -> u64
+    requires { AreInOrder events.now }
+    ensures { result ≡ last_change (events_by time events.now) }
+{
+    match events_by(events, time).last() {
+        Some(event) => event.at,
+        None => 0,
+    }
+}
+
+/// The same, where a bound says that it may be.
+fn errors_if(
+    alloc: Global,
+    document: &Document,
+    from: u64,
+    to: u64,
+    bound: Option<u64>,
+) -> Result<Option<TimeErrors>, Cut>
+    requires { IsBound document.now from bound }
+    ensures errors { IfOk result (AreErrorsBy document.now from to) }
+    ensures memory { IfErr result (λ e. e ≡ Cut.Memory) }
+{
+    document.well_formed();
+    let last = last_by(document.events(), from);
+    match bound {
+        Some(bound) if last.saturating_add(bound) <= to => errors_by(alloc, document, from, to),
+        _ => Ok(None),
+    }
+}
+
+/// What is known of a stretch by the document alone.
+fn plan_of(
+    alloc: Global,
+    document: &Document,
+    from: u64,
+    to: u64,
+    begins_with_event: bool,
+) -> Result<Plan, Cut>
+    ensures plan { IfOk result (IsPlan document.now from to begins_with_event) }
+    ensures memory { IfErr result (λ e. e ≡ Cut.Memory) }
+{
+    let bound = document.bound_at(alloc, from)?;
+    let errors = errors_if(alloc, document, from, to, bound)?;
+    Ok(Plan {
+        from,
+        to,
+        begins_with_event,
+        bound,
+        errors,
+    })
+}
+
+/// From when on the receipts of each system count by themselves.
+fn exact_from(errors: &Option<TimeErrors>) -> Option<u64>
+    ensures { result ≡ exact_time errors.now }
+{
+    match errors {
+        Some(errors) => errors.from,
+        None => None,
+    }
+}
+
+/// Appends the lines of how exact systems were, where they are known to be.
+fn write_errors(
+    text: &mut String,
+    errors: &Option<TimeErrors>,
+    watch: &Watch,
+) -> Result<(), AllocError>
+    ensures { OnOk result (string_bytes text.new
+        ≡ string_bytes text.old ++ text_of (kept_accuracy watch.now.systems errors.now)) }
+{
+    match errors {
+        Some(errors) => match errors.from {
+            Some(from) => write_accuracies(text, from, &errors.systems, watch.systems()),
+            None => Ok(()),
+        },
+        None => Ok(()),
+    }
+}
+
+/// Writes the lines of a stretch that ended, and answers what became of it.
+fn end_stretch<K: Sink>(
+    alloc: Global,
+    plan: &Plan,
+    watch: &Watch,
+    sink: &mut K,
+) -> Result<Stretch, Cut>
+    ensures some { AppendsSome (K.written sink.old) (K.written sink.new) (text_of (end_lines plan.now watch.now)) }
+    ensures stretch { IfOk result (λ s. s ≡ ended_of plan.now watch.now) }
+    ensures whole { OnOk result
+        (Appends (K.written sink.old) (K.written sink.new) (text_of (end_lines plan.now watch.now))) }
+    ensures works { result ≢ Err Cut.Write → K.failures sink.new ≡ K.failures sink.old }
+    ensures fails { result ≡ Err Cut.Write → K.failures sink.new ≢ K.failures sink.old }
+{
+    let stretch = ended(
+        alloc,
+        plan.from,
+        plan.to,
+        plan.begins_with_event,
+        plan.bound,
+        watch.measures(),
+        watch.systems(),
+    )?;
+    let mut text = String::new(alloc);
+    write_after(&mut text, &stretch)?;
+    write_errors(&mut text, &plan.errors, watch)?;
+    write_whole(sink, text.as_bytes())?;
+    Ok(stretch)
+}
+
+/// Lets a stretch pass with its events, and writes its lines.
+fn pass_stretch<F: Fate + Drop, K: Sink>(
+    alloc: Global,
+    world: &mut World<F>,
+    plan: &Plan,
+    events: &[Timed],
+    watch: &mut Watch,
+    sink: &mut K,
+) -> Result<Stretch, Cut>
+    requires allowed { AreAllowed events.now }
+    requires prompt { ArePromptIn world.old.scene events.now }
+    requires due { events_by plan.now.to events.now ≡ events.now }
+    requires moment { plan.now.to ≤ 1000000000000000 }
+    ensures passed { IfOk result (λ stretch. (told : List (List ℕ))
+        × IsSeen F.answers plan.now events.now world.old.fate world.new.fate world.old.scene world.new.scene
+        watch.old watch.new told
+        × (stretch ≡ ended_of plan.now watch.new)
+        × Appends (K.written sink.old) (K.written sink.new) (text_of (told ++ end_lines plan.now watch.new))) }
+    ensures broken { OnErr result ((lines : List (List ℕ))
+        × BreaksSeen F.answers plan.now events.now world.old.fate world.old.scene watch.old lines
+        × AppendsSome (K.written sink.old) (K.written sink.new) (text_of lines)) }
+    ensures works { result ≢ Err Cut.Write → K.failures sink.new ≡ K.failures sink.old }
+    ensures fails { result ≡ Err Cut.Write → K.failures sink.new ≢ K.failures sink.old }
+{
+    watch.begin(exact_from(&plan.errors));
+    play(alloc, world, events, plan.to, watch, sink)?;
+    end_stretch(alloc, plan, watch, sink)
+}
+
+/// Lets a stretch pass that begins at a time with its events, and answers which limits some stretch exceeded until
+/// then.
+fn next_stretch<F: Fate + Drop, K: Sink>(
+    alloc: Global,
+    document: &Document,
+    world: &mut World<F>,
+    from: u64,
+    to: u64,
+    events: &[Timed],
+    limits: &Limits,
+    before: Exceeded,
+    watch: &mut Watch,
+    sink: &mut K,
+) -> Result<Exceeded, Cut>
+    requires allowed { AreAllowed events.now }
+    requires prompt { ArePromptIn world.old.scene events.now }
+    requires due { events_by to events.now ≡ events.now }
+    requires moment { to ≤ 1000000000000000 }
+    ensures passed { IfOk result (λ exceeded. (plan : Plan) × (told : List (List ℕ))
+        × IsPlan document.now from to (is_begun events.now) plan
+        × IsSeen F.answers plan events.now world.old.fate world.new.fate world.old.scene world.new.scene
+        watch.old watch.new told
+        × (exceeded ≡ exceeded_after limits.now (ended_of plan watch.new) before)
+        × Appends (K.written sink.old) (K.written sink.new) (text_of (told ++ end_lines plan watch.new))) }
+    ensures broken { OnErr result ((lines : List (List ℕ))
+        × StopsSeen F.answers document.now from to events.now world.old.fate world.old.scene watch.old lines
+        × AppendsSome (K.written sink.old) (K.written sink.new) (text_of lines)) }
+    ensures works { result ≢ Err Cut.Write → K.failures sink.new ≡ K.failures sink.old }
+    ensures fails { result ≡ Err Cut.Write → K.failures sink.new ≢ K.failures sink.old }
+{
+    let plan = plan_of(alloc, document, from, to, !events.is_empty())?;
+    let stretch = pass_stretch(alloc, world, &plan, events, watch, sink)?;
+    Ok(exceeded_after(limits, &stretch, before))
+}
+
+/// Lets all stretches pass of a world as it begins, and answers which limits some stretch exceeded.
+fn all_stretches<F: Fate + Drop, K: Sink>(
+    alloc: Global,
+    document: &Document,
+    world: &mut World<F>,
+    until: u64,
+    options: &TimelineOptions,
+    watch: &mut Watch,
+    sink: &mut K,
+) -> Result<Exceeded, Cut>
+    requires moment { until ≤ 1000000000000000 }
+    requires begun { (fate : F) × Begun F.answers document.now.network fate world.old.fate world.old.scene }
+    requires prompt { ArePromptIn world.old.scene document.now.events }
+    requires starts { watch.old ≡ watch_at_start options.now world.old.scene }
+    ensures passed { IfOk result (λ exceeded. (passages : List Passage)
+        × AllPass F.answers document.now until 0 (events_by until document.now.events) world.old.fate world.new.fate
+        world.old.scene world.new.scene passages
+        × (exceeded ≡ all_exceeded options.now.limits (rising_clocks world.old.scene) none_waits passages not_exceeded)
+        × Appends (K.written sink.old) (K.written sink.new)
+        (text_of (all_lines options.now (rising_clocks world.old.scene) none_waits passages))) }
+    ensures broken { OnErr result ((passages : List Passage) × (acts : List Transition)
+        × SomePass F.answers document.now until 0 (events_by until document.now.events) world.old.fate world.old.scene
+        passages acts
+        × AppendsSome (K.written sink.old) (K.written sink.new)
+        (text_of (all_lines options.now (rising_clocks world.old.scene) none_waits passages
+        ++ flat_map (act_lines options.now (rising_clocks world.old.scene)) acts))) }
+    ensures works { result ≢ Err Cut.Write → K.failures sink.new ≡ K.failures sink.old }
+    ensures fails { result ≡ Err Cut.Write → K.failures sink.new ≢ K.failures sink.old }
+{
+    document.well_formed();
+    world.well_formed();
+    let limits = options.limits;
+    let mut left = events_by(document.events(), until);
+    let mut from = 0;
+    let mut exceeded = NOT_EXCEEDED;
+    while let Some(to) = next_time(left, from) {
+        let now = events_by(left, from);
+        exceeded = next_stretch(
+            alloc, document, world, from, to, now, &limits, exceeded, watch, sink,
+        )?;
+        left = events_after(left, from);
+        from = to;
+    }
+    next_stretch(
+        alloc, document, world, from, until, left, &limits, exceeded, watch, sink,
+    )
+}
+
+/// Writes what the systems of a world are like as they start.
+fn write_start<F: Fate + Drop, K: Sink>(
+    alloc: Global,
+    world: &World<F>,
+    watch: &mut Watch,
+    sink: &mut K,
+) -> Result<(), Cut>
+    ensures some { AppendsSome (K.written sink.old) (K.written sink.new)
+        (text_of (lines_all (event_look 0) world.now.scene watch.old)) }
+    ensures sees { OnOk result (watch.new ≡ see_all (event_look 0) world.now.scene watch.old) }
+    ensures whole { OnOk result (Appends (K.written sink.old) (K.written sink.new)
+        (text_of (lines_all (event_look 0) world.now.scene watch.old))) }
+    ensures works { result ≢ Err Cut.Write → K.failures sink.new ≡ K.failures sink.old }
+    ensures fails { result ≡ Err Cut.Write → K.failures sink.new ≢ K.failures sink.old }
+{
+    let mut text = String::new(alloc);
+    watch.see_start(&mut text, world)?;
+    write_whole(sink, text.as_bytes())?;
+    Ok(())
+}
+
+/// Writes whether a limit was exceeded, where one is given, and answers whether one was.
+fn end_verdict<K: Sink>(
+    alloc: Global,
+    limits: &Limits,
+    exceeded: Exceeded,
+    sink: &mut K,
+) -> Result<bool, Cut>
+    ensures some { AppendsSome (K.written sink.old) (K.written sink.new) (text_of (verdict_lines limits.now exceeded)) }
+    ensures is { IfOk result (λ is. is ≡ is_exceeded limits.now exceeded) }
+    ensures whole { OnOk result
+        (Appends (K.written sink.old) (K.written sink.new) (text_of (verdict_lines limits.now exceeded))) }
+    ensures works { result ≢ Err Cut.Write → K.failures sink.new ≡ K.failures sink.old }
+    ensures fails { result ≡ Err Cut.Write → K.failures sink.new ≢ K.failures sink.old }
+{
+    let mut text = String::new(alloc);
+    let is_exceeded = write_verdict(&mut text, limits, exceeded)?;
+    write_whole(sink, text.as_bytes())?;
+    Ok(is_exceeded)
+}
+
+/// Lets the world of a document run up to a time, at most 10^15 ns, and writes what changes at which system when, what became
+/// of each stretch between the times of events, and whether each keeps to the limits, where any is given; answers whether
+/// one doesn't.
+///
+/// Errors: [`Cut::Write`] exactly where a write failed, after which nothing more happens; [`Cut::Memory`] where an act was
+/// refused or the search for the settled choice was, which is meant to be for want of memory alone; that it is so isn't
+/// promised. What was written until then stands.
+pub fn write_timeline<F: Fate + Drop, K: Sink>(
+    alloc: Global,
+    document: &Document,
+    fate: F,
+    until: u64,
+    options: &TimelineOptions,
+    sink: &mut K,
+) -> Result<bool, Cut>
+    requires moment { until ≤ 1000000000000000 }
+    ensures whole { IfOk result (λ exceeded. (lines : List (List ℕ))
+        × TimelineOf F.answers document.now until options.now fate lines exceeded
+        × Appends (K.written sink.old) (K.written sink.new) (text_of lines)) }
+    ensures some { OnErr result ((lines : List (List ℕ))
+        × BeginsTimeline F.answers document.now until options.now fate lines
+        × AppendsSome (K.written sink.old) (K.written sink.new) (text_of lines)) }
+    ensures works { result ≢ Err Cut.Write → K.failures sink.new ≡ K.failures sink.old }
+    ensures fails { result ≡ Err Cut.Write → K.failures sink.new ≢ K.failures sink.old }
+{
+    let mut world = begin(alloc, document, fate)?;
+    let mut watch = Watch::new(alloc, &world, options.summary, options.offsets)?;
+    write_start(alloc, &world, &mut watch, sink)?;
+    let exceeded = all_stretches(
+        alloc, document, &mut world, until, options, &mut watch, sink,
+    )?;
+    end_verdict(alloc, &options.limits, exceeded, sink)
+}

@@ -1,0 +1,572 @@
+//! An observer that tells what changes at which system when.
+
+ghost use Rattle.std.specs.Prelude.{◌≡◌, ◌≤◌, ◌<◌, ◌+◌, ◌++◌, IfOk, OnOk, length, map, option_map, string_bytes, take, unsigned_abs};
+ghost use Rattle.gptp_acts.specs.Views.{rising_clocks};
+ghost use Rattle.gptp_spelling.specs.Lines.{text_of};
+ghost use Rattle.gptp_timeline.specs.Measures.{one_at};
+ghost use Rattle.gptp_timeline.specs.Shown.{live_system, shown};
+ghost use Rattle.gptp_timeline.specs.Watch.{counts_from, receipt_lines_of, unseen, without_error};
+
+use crate::changes::write_changes;
+use crate::event_line::write_event;
+use crate::measures::{Greatest, Measures, NOTHING, better_if};
+use crate::receipts::{error_of, received_by, write_offset};
+use crate::shown::{Shown, shown_of};
+use crate::watched::{Look, Watched, error_after, measures_after, since_behind};
+use gptp_links::Fate;
+use gptp_plan::Change;
+use gptp_report::sink::Sink;
+use gptp_report::{Cut, Observer, write_whole};
+use gptp_vector::ClockId;
+use gptp_world::{Act, Done, Timed, World};
+use std::alloc::{AllocError, Global};
+use std::marker::Model;
+
+/// An observer that writes a line for each event, for each system and port that an act left another, and for each receipt
+/// of time, where they are asked for, and measures what became of a stretch. It is seen as what it keeps.
+#[derive(Drop)]
+pub(crate) struct Watch {
+    // Whether events and changes are left out.
+    summary: bool,
+    // Whether receipts are told.
+    offsets: bool,
+    // From when on the receipts of each system count by themselves, in ns, if they do.
+    exact_from: Option<u64>,
+    // What is kept of each system, by rising clock.
+    systems: Vec<Watched>,
+    // What is measured in this stretch so far.
+    measures: Measures,
+}
+
+impl Model for Watch {
+    ghost use Rattle.gptp_timeline.specs.Watch.{WatchState};
+
+    ghost Value = { WatchState };
+
+    ghost use Rattle.gptp_timeline.specs.Watch.{RisesByClock};
+
+    ghost view = { λ w. record {
+      summary = w.summary;
+      offsets = w.offsets;
+      exact_from = w.exact_from;
+      systems = w.systems.items;
+      measures = w.measures;
+    } };
+
+    ghost invariant = { λ w. RisesByClock w.systems.items };
+}
+
+/// What the system with a clock shows, where it is live.
+fn shown_in<F: Fate + Drop>(world: &World<F>, clock: ClockId) -> Option<Shown>
+    ensures { result ≡ shown clock world.now.scene }
+{
+    world.well_formed();
+    match world.system(clock) {
+        Some(system) => Some(shown_of(system)),
+        None => None,
+    }
+}
+
+/// What is kept of a system that hasn't started.
+fn unseen(clock: ClockId) -> Watched
+    ensures { result ≡ unseen clock }
+{
+    Watched {
+        clock,
+        shown: None,
+        since: None,
+        error: None,
+    }
+}
+
+/// Puts the system at a place by rising clock behind others.
+fn push_unseen<F: Fate + Drop>(
+    systems: &mut Vec<Watched>,
+    world: &World<F>,
+    place: usize,
+) -> Result<(), AllocError>
+    requires { systems.old.items ≡ map unseen (take place (rising_clocks world.now.scene)) }
+    ensures { OnOk result (systems.new.items ≡ map unseen (take (place + 1) (rising_clocks world.now.scene))) }
+{
+    if let Some(clock) = world.clock_at(place) {
+        systems.push(unseen(clock))?;
+    }
+    Ok(())
+}
+
+/// What is kept of all systems, by rising clock, before they start.
+fn all_unseen<F: Fate + Drop>(alloc: Global, world: &World<F>) -> Result<Vec<Watched>, AllocError>
+    ensures { IfOk result (λ v. v.items ≡ map unseen (rising_clocks world.now.scene)) }
+{
+    let mut systems = Vec::new(alloc);
+    for place in 0..world.count() {
+        push_unseen(&mut systems, world, place)?;
+    }
+    Ok(systems)
+}
+
+/// An amount without its sign, with a clock.
+fn amount_at(clock: ClockId, error: Option<i128>) -> Option<Greatest>
+    ensures { result ≡ option_map (λ e. one_at clock (unsigned_abs e)) error }
+{
+    match error {
+        Some(error) => Some(Greatest {
+            amount: error.unsigned_abs(),
+            clock,
+        }),
+        None => None,
+    }
+}
+
+/// Whether a receipt at a time counts by itself.
+fn counts_from(from: Option<u64>, at: u64) -> bool
+    ensures { result ≡ counts_from from at }
+{
+    match from {
+        Some(from) => from <= at,
+        None => false,
+    }
+}
+
+/// The absolute value of an error.
+fn amount_of(error: Option<i128>) -> Option<u128>
+    ensures { result ≡ option_map unsigned_abs error }
+{
+    match error {
+        Some(error) => Some(error.unsigned_abs()),
+        None => None,
+    }
+}
+
+/// No receipt of any system counts by itself so far.
+fn clear_errors(systems: &mut Vec<Watched>)
+    ensures { systems.new.items ≡ map without_error systems.old.items }
+{
+    for place in 0..systems.len() {
+        systems[place].error = None;
+    }
+}
+
+impl Watch {
+    ghost use Rattle.std.specs.Prelude.{◌≡◌, ◌≤◌, ◌<◌, ◌++◌, ◌∷◌, [], None, false, IfOk, IfSome, OnOk, length, map, slice_get, Some, string_bytes};
+    ghost use Rattle.gptp_acts.specs.Views.{rising_clocks};
+    ghost use Rattle.gptp_spelling.specs.Lines.{text_of};
+    ghost use Rattle.gptp_timeline.specs.Changes.{change_lines};
+    ghost use Rattle.gptp_timeline.specs.EventLine.{event_line};
+    ghost use Rattle.gptp_timeline.specs.Watch.{RisesByClock, begun, delivery_lines, event_look, lines_all, lines_at, nothing, place_of, placed_lines, receipt_lines, receipt_lines_if, see_act, see_all, see_at, see_delivery, see_placed, see_receipt, see_receipt_if, see_system, seen_lines, system_lines, take_error, taken, unless, unseen};
+    ghost use Rattle.gptp_timeline.specs.declared.watched.Watched.{Watched};
+
+    /// An observer of a world whose systems start, before it has seen that.
+    pub(crate) fn new<F: Fate + Drop>(
+        alloc: Global,
+        world: &World<F>,
+        summary: bool,
+        offsets: bool,
+    ) -> Result<Self, AllocError>
+        ensures { IfOk result (λ w. w ≡ record {
+          summary = summary;
+          offsets = offsets;
+          exact_from = None;
+          systems = map unseen (rising_clocks world.now.scene);
+          measures = nothing;
+        }) }
+    {
+        world.well_formed();
+        let systems = all_unseen(alloc, world)?;
+        Ok(Watch {
+            summary,
+            offsets,
+            exact_from: None,
+            systems,
+            measures: NOTHING,
+        })
+    }
+
+    /// What is kept of each system, by rising clock.
+    pub(crate) fn systems(&self) -> &[Watched]
+        ensures are { result.now ≡ self.now.systems }
+        ensures rises { RisesByClock result.now }
+    {
+        &self.systems
+    }
+
+    /// What is measured in this stretch so far.
+    pub(crate) fn measures(&self) -> Measures
+        ensures { result ≡ self.now.measures }
+    {
+        self.measures
+    }
+
+    /// A stretch begins, in which the receipts of each system count by themselves from a time on.
+    pub(crate) fn begin(&mut self, exact_from: Option<u64>)
+        ensures { self.new ≡ begun exact_from self.old }
+    {
+        self.exact_from = exact_from;
+        self.measures = NOTHING;
+        clear_errors(&mut self.systems);
+    }
+
+    /// How many systems there are.
+    fn count(&self) -> usize
+        ensures { result ≡ length self.now.systems }
+    {
+        self.systems.len()
+    }
+
+    /// The place of a system, by its clock.
+    fn place_of(&self, clock: ClockId) -> Option<usize>
+        ensures is { result ≡ place_of clock self.now }
+        ensures within { IfSome result (λ place. place < length self.now.systems) }
+    {
+        self.systems
+            .binary_search_by_key(&clock, |system| system.clock)
+            .ok()
+    }
+
+    /// Appends the lines of a system that is left as `after`, where they are asked for.
+    fn write_changes_at(
+        &self,
+        text: &mut String,
+        at: u64,
+        place: usize,
+        after: &Option<Shown>,
+    ) -> Result<(), AllocError>
+        requires { place < length self.now.systems }
+        ensures { OnOk result ((x : Watched) → slice_get self.now.systems place ≡ Some x → string_bytes text.new
+            ≡ string_bytes text.old ++ text_of (unless self.now.summary (change_lines at x.clock x.shown after.now))) }
+    {
+        let system = &self.systems[place];
+        match self.summary {
+            true => Ok(()),
+            false => write_changes(text, at, system.clock, &system.shown, after),
+        }
+    }
+
+    /// The system at a place is left as `after` by an act.
+    fn take(&mut self, look: Look, place: usize, after: Option<Shown>)
+        requires { place < length self.old.systems }
+        ensures { (x : Watched) → slice_get self.old.systems place ≡ Some x → self.new ≡ taken look place x after self.old }
+    {
+        let system = &self.systems[place];
+        let measures = measures_after(look, system, &after, self.measures);
+        let since = since_behind(look, system, &after);
+        let clock = system.clock;
+        let error = system.error;
+        self.measures = measures;
+        self.systems[place] = Watched {
+            clock,
+            shown: after,
+            since,
+            error,
+        };
+    }
+
+    /// Looks at the system at a place behind an act.
+    fn see_at<F: Fate + Drop>(
+        &mut self,
+        text: &mut String,
+        world: &World<F>,
+        look: Look,
+        place: usize,
+    ) -> Result<(), AllocError>
+        requires { place < length self.old.systems }
+        ensures sees { OnOk result (self.new ≡ see_at look world.now.scene place self.old) }
+        ensures tells { OnOk result (string_bytes text.new
+            ≡ string_bytes text.old ++ text_of (lines_at look world.now.scene place self.old)) }
+    {
+        let after = shown_in(world, self.systems[place].clock);
+        self.write_changes_at(text, look.at, place, &after)?;
+        self.take(look, place, after);
+        Ok(())
+    }
+
+    /// Looks at all systems behind an act.
+    fn see_all<F: Fate + Drop>(
+        &mut self,
+        text: &mut String,
+        world: &World<F>,
+        look: Look,
+    ) -> Result<(), AllocError>
+        ensures sees { OnOk result (self.new ≡ see_all look world.now.scene self.old) }
+        ensures tells { OnOk result (string_bytes text.new
+            ≡ string_bytes text.old ++ text_of (lines_all look world.now.scene self.old)) }
+    {
+        for place in 0..self.count() {
+            self.see_at(text, world, look, place)?;
+        }
+        Ok(())
+    }
+
+    /// Sees the start of all systems, at time 0.
+    pub(crate) fn see_start<F: Fate + Drop>(
+        &mut self,
+        text: &mut String,
+        world: &World<F>,
+    ) -> Result<(), AllocError>
+        ensures sees { OnOk result (self.new ≡ see_all (event_look 0) world.now.scene self.old) }
+        ensures tells { OnOk result (string_bytes text.new
+            ≡ string_bytes text.old ++ text_of (lines_all (event_look 0) world.now.scene self.old)) }
+    {
+        let look = Look {
+            at: 0,
+            by_event: true,
+            received: false,
+        };
+        self.see_all(text, world, look)
+    }
+
+    /// Appends the line of an event, where it is asked for.
+    fn write_event_if(&self, text: &mut String, at: u64, change: &Change) -> Result<(), AllocError>
+        ensures { OnOk result (string_bytes text.new
+            ≡ string_bytes text.old ++ text_of (unless self.now.summary (event_line at change.now ∷ []))) }
+    {
+        match self.summary {
+            true => Ok(()),
+            false => write_event(text, at, change),
+        }
+    }
+
+    /// Sees an event that was made.
+    fn see_event<F: Fate + Drop>(
+        &mut self,
+        text: &mut String,
+        world: &World<F>,
+        at: u64,
+        change: &Change,
+    ) -> Result<(), AllocError>
+        ensures sees { OnOk result (self.new ≡ see_all (event_look at) world.now.scene self.old) }
+        ensures tells { OnOk result (string_bytes text.new
+            ≡ string_bytes text.old ++ text_of (unless self.old.summary (event_line at change.now ∷ [])
+            ++ lines_all (event_look at) world.now.scene self.old)) }
+    {
+        self.write_event_if(text, at, change)?;
+        let look = Look {
+            at,
+            by_event: true,
+            received: false,
+        };
+        self.see_all(text, world, look)
+    }
+
+    /// The receipt of the system at a place, with that error, is measured.
+    fn take_error(&mut self, at: u64, place: usize, error: Option<i128>)
+        requires { place < length self.old.systems }
+        ensures { self.new ≡ take_error at place (slice_get self.old.systems place) error self.old }
+    {
+        let counts = counts_from(self.exact_from, at);
+        let clock = self.systems[place].clock;
+        self.measures.error = better_if(self.measures.error, amount_at(clock, error));
+        let most = self.systems[place].error;
+        self.systems[place].error = error_after(counts, most, amount_of(error));
+    }
+
+    /// Appends the line of the receipt of a system, where it is asked for.
+    fn write_offset_if<F: Fate + Drop>(
+        &self,
+        text: &mut String,
+        world: &World<F>,
+        at: u64,
+        clock: ClockId,
+    ) -> Result<(), AllocError>
+        requires { at ≤ 1000000000000000 }
+        ensures { OnOk result (string_bytes text.new
+            ≡ string_bytes text.old ++ text_of (receipt_lines at world.now.scene clock self.now)) }
+    {
+        match self.offsets {
+            true => write_receipt(text, world, at, clock),
+            false => Ok(()),
+        }
+    }
+
+    /// The receipt of the system at a place is measured.
+    fn measure_receipt<F: Fate + Drop>(
+        &mut self,
+        world: &World<F>,
+        at: u64,
+        clock: ClockId,
+        place: usize,
+    )
+        requires moment { at ≤ 1000000000000000 }
+        requires place { place < length self.old.systems }
+        ensures { self.new ≡ see_receipt at world.now.scene clock place self.old }
+    {
+        world.well_formed();
+        if let Some(system) = world.system(clock) {
+            let error = error_of(at, system, world);
+            self.take_error(at, place, error);
+        }
+    }
+
+    /// Sees the receipt of time of the system at a place.
+    fn see_receipt<F: Fate + Drop>(
+        &mut self,
+        text: &mut String,
+        world: &World<F>,
+        at: u64,
+        clock: ClockId,
+        place: usize,
+    ) -> Result<(), AllocError>
+        requires moment { at ≤ 1000000000000000 }
+        requires place { place < length self.old.systems }
+        ensures sees { OnOk result (self.new ≡ see_receipt at world.now.scene clock place self.old) }
+        ensures tells { OnOk result (string_bytes text.new
+            ≡ string_bytes text.old ++ text_of (receipt_lines at world.now.scene clock self.old)) }
+    {
+        self.write_offset_if(text, world, at, clock)?;
+        self.measure_receipt(world, at, clock, place);
+        Ok(())
+    }
+
+    /// So it is where time was received.
+    fn see_receipt_if<F: Fate + Drop>(
+        &mut self,
+        text: &mut String,
+        world: &World<F>,
+        received: bool,
+        at: u64,
+        clock: ClockId,
+        place: usize,
+    ) -> Result<(), AllocError>
+        requires moment { at ≤ 1000000000000000 }
+        requires place { place < length self.old.systems }
+        ensures sees { OnOk result (self.new ≡ see_receipt_if received at world.now.scene clock place self.old) }
+        ensures tells { OnOk result (string_bytes text.new
+            ≡ string_bytes text.old ++ text_of (receipt_lines_if received at world.now.scene clock self.old)) }
+    {
+        match received {
+            true => self.see_receipt(text, world, at, clock, place),
+            false => Ok(()),
+        }
+    }
+
+    /// Sees a delivery or an expiry at the system at a place.
+    fn see_placed<F: Fate + Drop>(
+        &mut self,
+        text: &mut String,
+        world: &World<F>,
+        at: u64,
+        clock: ClockId,
+        received: bool,
+        place: usize,
+    ) -> Result<(), AllocError>
+        requires moment { at ≤ 1000000000000000 }
+        requires place { place < length self.old.systems }
+        ensures sees { OnOk result (self.new ≡ see_placed at world.now.scene clock received (Some place) self.old) }
+        ensures tells { OnOk result (string_bytes text.new
+            ≡ string_bytes text.old ++ text_of (placed_lines at world.now.scene clock received (Some place) self.old)) }
+    {
+        let look = Look {
+            at,
+            by_event: false,
+            received,
+        };
+        self.see_at(text, world, look, place)?;
+        self.see_receipt_if(text, world, received, at, clock, place)
+    }
+
+    /// Sees a delivery or an expiry at the system with a clock, by which it received time or didn't.
+    fn see_system<F: Fate + Drop>(
+        &mut self,
+        text: &mut String,
+        world: &World<F>,
+        at: u64,
+        clock: ClockId,
+        received: bool,
+    ) -> Result<(), AllocError>
+        requires { at ≤ 1000000000000000 }
+        ensures sees { OnOk result (self.new ≡ see_system at world.now.scene clock received self.old) }
+        ensures tells { OnOk result (string_bytes text.new
+            ≡ string_bytes text.old ++ text_of (system_lines at world.now.scene clock received self.old)) }
+    {
+        match self.place_of(clock) {
+            Some(place) => self.see_placed(text, world, at, clock, received, place),
+            None => Ok(()),
+        }
+    }
+
+    /// Sees a delivery of which this is told.
+    fn see_delivery<F: Fate + Drop>(
+        &mut self,
+        text: &mut String,
+        world: &World<F>,
+        at: u64,
+        done: &Done,
+    ) -> Result<(), AllocError>
+        requires { at ≤ 1000000000000000 }
+        ensures sees { OnOk result (self.new ≡ see_delivery at world.now.scene done.now self.old) }
+        ensures tells { OnOk result (string_bytes text.new
+            ≡ string_bytes text.old ++ text_of (delivery_lines at world.now.scene done.now self.old)) }
+    {
+        let received = received_by(done).is_some();
+        match done {
+            Done::Quiet => Ok(()),
+            Done::Heard { clock, .. } => self.see_system(text, world, at, *clock, received),
+        }
+    }
+
+    /// Sees an act that was done.
+    fn see<F: Fate + Drop>(
+        &mut self,
+        text: &mut String,
+        world: &World<F>,
+        timed: &Timed,
+        done: &Done,
+    ) -> Result<(), AllocError>
+        requires { timed.now.at ≤ 1000000000000000 }
+        ensures sees { OnOk result (self.new ≡ see_act timed.now.at timed.now.act done.now world.now.scene self.old) }
+        ensures tells { OnOk result (string_bytes text.new
+            ≡ string_bytes text.old ++ text_of (seen_lines timed.now.at timed.now.act done.now world.now.scene self.old)) }
+    {
+        match &timed.act {
+            Act::Change(change) => self.see_event(text, world, timed.at, change),
+            Act::Expire { clock, timer: _ } => {
+                self.see_system(text, world, timed.at, *clock, false)
+            }
+            Act::Deliver { .. } => self.see_delivery(text, world, timed.at, done),
+        }
+    }
+}
+
+/// Appends the line of the receipt of a system, where it is live.
+fn write_receipt<F: Fate + Drop>(
+    text: &mut String,
+    world: &World<F>,
+    at: u64,
+    clock: ClockId,
+) -> Result<(), AllocError>
+    requires { at ≤ 1000000000000000 }
+    ensures { OnOk result (string_bytes text.new
+        ≡ string_bytes text.old ++ text_of (receipt_lines_of at world.now.scene clock (live_system clock world.now.scene))) }
+{
+    world.well_formed();
+    match world.system(clock) {
+        Some(system) => write_offset(
+            text,
+            at,
+            clock,
+            system.offset(),
+            error_of(at, system, world),
+        ),
+        None => Ok(()),
+    }
+}
+
+impl Observer for Watch {
+    ghost use Rattle.gptp_timeline.specs.Watch.{tells_changes};
+
+    ghost tells = { tells_changes };
+
+    fn observe<F: Fate + Drop, K: Sink>(
+        &mut self,
+        alloc: Global,
+        world: &World<F>,
+        timed: &Timed,
+        done: &Done,
+        sink: &mut K,
+    ) -> Result<(), Cut> {
+        let mut text = String::new(alloc);
+        self.see(&mut text, world, timed, done)?;
+        write_whole(sink, text.as_bytes())?;
+        Ok(())
+    }
+}

@@ -1,0 +1,101 @@
+//! What is kept of each system while a document runs.
+
+ghost use Rattle.std.specs.Prelude.{◌≡◌};
+ghost use Rattle.gptp_timeline.specs.Watch.{error_after, measures_after, since_behind, wait_behind};
+
+use crate::measures::{Greatest, Measures, better_if, ended_by, last_if, since_after};
+use crate::ports::same_bool;
+use crate::shown::{Shown, is_expecting, is_known, same_choice, same_roles};
+use gptp_vector::ClockId;
+
+/// What is known of an act where a system is looked at.
+#[derive(Clone, Copy, Debug)]
+pub(crate) struct Look {
+    /// When it was done, in ns.
+    pub at: u64,
+    /// Whether it was an event.
+    pub by_event: bool,
+    /// Whether the system received time by it.
+    pub received: bool,
+}
+
+/// What is kept of a system.
+#[derive(Debug, Drop)]
+pub(crate) struct Watched {
+    /// Its clock.
+    pub clock: ClockId,
+    /// What it showed when it was last looked at; nothing where it had failed or hadn't started.
+    pub shown: Option<Shown>,
+    /// When its wait under way began, in ns.
+    pub since: Option<u64>,
+    /// The greatest absolute error of its receipts from the time on from which they are promised to be exact, in units of
+    /// 2^-16 ns.
+    pub error: Option<u128>,
+}
+
+/// When the wait under way of a system began, behind an act that left it as `after`.
+pub(crate) fn since_behind(look: Look, system: &Watched, after: &Option<Shown>) -> Option<u64>
+    ensures { result ≡ since_behind look system.now after.now }
+{
+    since_after(
+        look.at,
+        look.received,
+        is_expecting(&system.shown),
+        is_expecting(after),
+        system.since,
+    )
+}
+
+/// The wait of a system that an act ended which left it as `after`, if it ended one that counts.
+fn wait_behind(look: Look, system: &Watched, after: &Option<Shown>) -> Option<Greatest>
+    ensures { result ≡ wait_behind look system.now after.now }
+{
+    match ended_by(
+        look.at,
+        look.by_event,
+        look.received,
+        is_expecting(after),
+        system.since,
+    ) {
+        Some(length) => Some(Greatest {
+            amount: u128::from(length),
+            clock: system.clock,
+        }),
+        None => None,
+    }
+}
+
+/// What is measured so far, behind an act that left a system as `after`.
+pub(crate) fn measures_after(
+    look: Look,
+    system: &Watched,
+    after: &Option<Shown>,
+    measures: Measures,
+) -> Measures
+    ensures { result ≡ measures_after look system.now after.now measures }
+{
+    let before = &system.shown;
+    Measures {
+        choice: last_if(same_choice(before, after), look.at, measures.choice),
+        roles: last_if(same_roles(before, after), look.at, measures.roles),
+        offsets: last_if(
+            same_bool(is_known(before), is_known(after)),
+            look.at,
+            measures.offsets,
+        ),
+        holdover: better_if(measures.holdover, wait_behind(look, system, after)),
+        error: measures.error,
+    }
+}
+
+/// The greater of two amounts, where the second is there and counts.
+pub(crate) fn error_after(counts: bool, most: Option<u128>, amount: Option<u128>) -> Option<u128>
+    ensures { result ≡ error_after counts most amount }
+{
+    match (most, amount) {
+        (_, None) => most,
+        (None, Some(amount)) if counts => Some(amount),
+        (Some(most), Some(amount)) if counts && most < amount => Some(amount),
+        _ => most,
+    }
+}

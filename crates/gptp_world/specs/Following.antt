@@ -1,0 +1,24 @@
+-- A world that goes on before an observer, and what is told meanwhile.
+use Rattle.std.specs.Prelude.{ℕ, List, Option}
+use Rattle.gptp_links.specs.declared.bounds.Bounds.{Bounds}
+use Rattle.gptp_acts.specs.Advancing.{Told}
+use Rattle.gptp_acts.specs.World.{WorldState}
+use Rattle.gptp_world.specs.Observing.{Observed}
+use Rattle.gptp_world.specs.Transitions.{Passes, PassesTo, Transition}
+
+-- Acts were done, each the next that was pending then, none later than a time, and this is so of the text that an
+-- observer told of them.
+pub record Follows {F O : Type 0} (answers : Bounds → ℕ → F → Option ℕ → F → Type 0)
+    (tells : Told → WorldState → O → O → List (List ℕ) → Type 0) (until : ℕ) (fate fate_after : F) (w w' : WorldState)
+    (o o_after : O) (So : List ℕ → Type 0) : Type 0 where
+  pub ts : List Transition
+  pub passes : Passes answers until ts fate fate_after w w'
+  pub observed : Observed tells ts o o_after So
+
+-- so it went on to a time
+pub record PassesSeen {F O : Type 0} (answers : Bounds → ℕ → F → Option ℕ → F → Type 0)
+    (tells : Told → WorldState → O → O → List (List ℕ) → Type 0) (until : ℕ) (fate fate_after : F) (w w' : WorldState)
+    (o o_after : O) (So : List ℕ → Type 0) : Type 0 where
+  pub ts : List Transition
+  pub passes : PassesTo answers until ts fate fate_after w w'
+  pub observed : Observed tells ts o o_after So

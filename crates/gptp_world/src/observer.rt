@@ -1,0 +1,40 @@
+//! What is told of acts, as they are done.
+
+ghost use Rattle.std.specs.Prelude.{◌≡◌, ◌≢◌, ◌≤◌, ℕ, List, OnOk};
+ghost use Rattle.std.specs.Io.KnownBytes.{Appends};
+ghost use Rattle.gptp_acts.specs.Advancing.{Told};
+ghost use Rattle.gptp_acts.specs.World.{WorldState};
+ghost use Rattle.gptp_world.specs.Observing.{told_of, TellsAct};
+ghost use Rattle.gptp_sink.specs.Sink.{AppendsSome};
+
+use crate::world::World;
+use gptp_acts::{Done, Timed};
+use gptp_links::Fate;
+use gptp_sink::Cut;
+use gptp_sink::sink::Sink;
+use std::alloc::Global;
+
+/// Sees each act of a world that was done, and writes lines about it.
+pub trait Observer {
+    // what it tells of an act, behind which the world is this, and how the observer stands before and behind it
+    ghost tells: { Told → WorldState → Self → Self → List (List ℕ) → Type 0 };
+
+    /// It sees an act that was done at a time of at most 10^15 ns, and writes its lines.
+    ///
+    /// Errors: [`Cut::Write`] exactly where a write failed, and [`Cut::Memory`]. Then a front of the lines stands written.
+    fn observe<F: Fate + Drop, K: Sink>(
+        &mut self,
+        alloc: Global,
+        world: &World<F>,
+        timed: &Timed,
+        done: &Done,
+        sink: &mut K,
+    ) -> Result<(), Cut>
+        requires moment { timed.now.at ≤ 1000000000000000 }
+        ensures some { (o_after : Self) × TellsAct tells (told_of timed.now done.now) world.now.scene self.old o_after
+            (AppendsSome (K.written sink.old) (K.written sink.new)) }
+        ensures whole { OnOk result (TellsAct tells (told_of timed.now done.now) world.now.scene self.old self.new
+            (Appends (K.written sink.old) (K.written sink.new))) }
+        ensures works { result ≢ Err Cut.Write → K.failures sink.new ≡ K.failures sink.old }
+        ensures fails { result ≡ Err Cut.Write → K.failures sink.new ≢ K.failures sink.old };
+}
