@@ -299,7 +299,8 @@ tells_on (Some s) (Some t) told k = by (same_line (Some s) (Some t)) refl
     silent false place = refl
 
     last : (same : Bool) → same_line (Some s) (Some t) ≡ same
-        → (u : Shown) × (option_or (last_by of_system (own same)) (last_by of_system told) ≡ Some (Some u)) × IsAlike u t
+        → (u : Shown) × (option_or (last_by of_system (own same)) (last_by of_system told) ≡ Some (Some u))
+        × IsAlike u t
     last true is = let (u, stood, its) = k.0 in (u, stood, alike_on u s t its (alike s t is))
     last false is = (t, refl, record { root = refl; steps = refl; slave = refl; known = refl })
 
@@ -341,6 +342,6 @@ module _ {F : Type 0} (answers : Bounds → ℕ → F → Option ℕ → F → T
   last_lines name events =
       let run = timeline_unfolds answers d until options fate lines exceeded t events in
       chain_tells name (all_acts t.passages) t.start.stations t.after.stations (tellings None (shown name t.start))
-      (courses_chain answers until (events_by until d.events) (all_acts t.passages) run.started run.drawn t.start t.after
-      run.courses)
+      (courses_chain answers until (events_by until d.events) (all_acts t.passages) run.started run.drawn t.start
+      t.after run.courses)
       (tells_on None (shown name t.start) [] (λ s is. absurd cc))
