@@ -24,6 +24,6 @@ mod watch;
 mod watched;
 
 pub use end::end_by_default;
-pub use laws::{stretches_settle, timelines_are_runs};
+pub use laws::{last_lines_tell, stretches_settle, timelines_are_runs};
 pub use limits::Limits;
 pub use timeline::{TimelineOptions, write_timeline};
