@@ -156,13 +156,6 @@ one_more_port more place ports net net' only has last =
         from_kept more (port_id clock p) net net' only
         (has clock p (rw (← directory) here) least (omega (arith, apart)))
 
--- where a reach is one port
-pub one_reached : (more place ports one : ℕ) (net : Between)
-    → ((clock : ℕ) → slice_get net.directory.clocks place ≡ Some clock → HasRoomFrom more (port_id clock one) net)
-    → HasRoomAtReach more place ports (reaches.Port one) net
-one_reached more place ports one net has = λ clock p here least most reached.
-    rw (eqb-true p one reached) (has clock here)
-
 -- whatever is reached, all ports have room
 pub all_reached : (more place ports : ℕ) (r : Reach) (net : Between) → HasRoomAtPorts more place ports net
     → HasRoomAtReach more place ports r net
@@ -192,7 +185,7 @@ ports_kept more place ports net net' only has = λ number p here least most.
     from_kept more (port_id number p) net net' only (has number p (rw (← directory) here) least most)
 
 -- a lane that is known has room for none
-no_frames : (net : Between) (port : PortId) (lane : Lane) → IsNet net → BeginsAt net.directory.joins port lane
+pub no_frames : (net : Between) (port : PortId) (lane : Lane) → IsNet net → BeginsAt net.directory.joins port lane
     → HasRoomOn 0 lane net.cables.items net.pending
 no_frames net port lane is begins =
     let known = known_cable net port lane is begins in
@@ -322,7 +315,7 @@ clocks_apart stage first second near far is directory here there apart = λ same
     apart (directory.plan.differ first second (clock near.system) (known first near here)
     (known second far there ∙ ap Some (sym same)))
 
-not_same : (m n : ℕ) → m ≢ n → eqb m n ≡ false
+pub not_same : (m n : ℕ) → m ≢ n → eqb m n ≡ false
 not_same m n apart = by (eqb_tells m n)
   where
     by : ((eqb m n ≡ true) × (m ≡ n)) ⊎ ((eqb m n ≡ false) × (m ≢ n)) → eqb m n ≡ false
