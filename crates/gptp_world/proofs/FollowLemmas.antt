@@ -9,6 +9,7 @@ use Rattle.gptp_acts.specs.Advancing.{Advances, Advanced, Happens, Stopped, Told
 use Rattle.gptp_acts.specs.declared.item.Item.{Item}
 use Rattle.gptp_acts.specs.Pending.{Entry, IsNext, NothingBefore}
 use Rattle.gptp_acts.proofs.AdvanceLemmas.{nothing_sooner}
+use Rattle.gptp_acts.proofs.MomentLemmas.{nothing_before-next}
 use Rattle.gptp_acts.specs.World.{WorldState}
 use Rattle.gptp_world.specs.Following.{Follows, IsUpcoming, PassesSeen}
 use Rattle.gptp_world.specs.Observing.{Observed, Tells, TellsAct}
