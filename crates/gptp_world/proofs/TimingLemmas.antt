@@ -58,6 +58,7 @@ room_if_live timer station due room is has = by station.live refl
     whenever : (due : Option ℕ) → 0 < room → IfSome due (λ _. 0 < room)
     whenever None some = tt
     whenever (Some time) some = some
+
     by : (live : Bool) → station.live ≡ live → IfSome due (λ _. 0 < room)
     by true lives = let some = has lives in whenever due (omega arith)
     by false fails =
