@@ -127,8 +127,7 @@ impl Scene {
         ensures kept { OnErr result (self.new ≡ self.old) }
         ensures fate { OnErr result (fate.new ≡ fate.old) }
     {
-        self.stage
-            .make_room_for(&timed.act, aim, &mut self.credit)?;
+        self.stage.make_room_for(&timed.act, aim, &mut self.credit)?;
         self.stage.now = timed.at;
         Ok(self.stage.perform(&timed.act, aim, fate))
     }
