@@ -31,7 +31,8 @@ perform-requires-clause-room g c =
 
 pub returns-in_err-make_room_for-clause-free : goal.returns-in_err-make_room_for-clause-free
 returns-in_err-make_room_for-clause-free g c = λ asks.
-    c.in_err-make_room_for.ensures.free (subst (AsksForNoMemory c.args.timed.now.act) (sym c.self.view_is) asks)
+    let done = c.in_err-make_room_for.ensures.free
+    (subst (AsksForNoMemory c.args.timed.now.act) (sym c.self.view_is) asks) in absurd cc
 
 pub invariant_of-self-2 : goal.invariant_of-self-2
 invariant_of-self-2 g c =
