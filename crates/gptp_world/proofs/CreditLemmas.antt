@@ -9,7 +9,6 @@ use Rattle.gptp_system.specs.declared.reach.Reach.{Reach}
 use Rattle.gptp_system.specs.declared.reach.Reach.TheVariants as reaches
 use Rattle.gptp_system.specs.Reach.{frame_reach, timer_reach}
 use Rattle.gptp_system.specs.State.{clock}
-use Rattle.gptp_vector.specs.declared.port.PortId.{PortId}
 use Rattle.gptp_acts.specs.World.{port_id}
 use Rattle.gptp_acts.specs.declared.station.Station.{Station}
 use Rattle.gptp_world.specs.declared.aim.Aim.{Aim}
@@ -18,11 +17,10 @@ use Rattle.gptp_world.specs.declared.cable.Lane.{Lane}
 use Rattle.gptp_world.specs.declared.net.Net.{Net as Between}
 use Rattle.gptp_world.specs.declared.stage.Stage.{Stage}
 use Rattle.gptp_world.specs.Cable.{HasRoomOn}
-use Rattle.gptp_world.specs.Credit.{credit_of, for_credit, AreItsPorts, DrawsTwo, ExpiresBeyond, ExpiryUses, HasNoCredit, HasReachBeyond, HasRoomBeyond, HearsBeyond, HearUses, IsChange, IsCovered, LeavesCredit, UsesForAim}
+use Rattle.gptp_world.specs.Credit.{credit_of, for_credit, AreItsPorts, DrawsTwo, ExpiresBeyond, HasNoCredit, HasReachBeyond, HasRoomBeyond, HearsBeyond, IsChange, IsCovered, LeavesCredit, UsesForAim}
 use Rattle.gptp_world.specs.Delivering.{HasRoomToHear}
 use Rattle.gptp_world.specs.Directory.{BeginsAt, IsDirectory}
 use Rattle.gptp_world.specs.Net.{IsNet}
-use Rattle.gptp_world.specs.Performing.{HasRoomForAim}
 use Rattle.gptp_world.specs.Room.{both, for_reach, is_reached, nothing, HasRoom, HasRoomAtPorts, Need, OnlyRoom, Uses}
 use Rattle.gptp_world.specs.Stage.{clock_at, HasRoomToGive, HasRoomWithin, IsStage}
 use Rattle.gptp_system.specs.Input.{Expires as TimerExpires}
@@ -244,13 +242,13 @@ ahead place ports credit net net' directory its has only made number port lane k
         let at_port : BeginsAt net'.directory.joins (port_id number port.port) lane =
         subst (λ n. BeginsAt net'.directory.joins (port_id n port.port) lane) named begins in
         let room = made number port.port known range.0 range.1 lane at_port in
-        fewer ((if port.clock == number then 2 else 0) + left) 32 lane net'.cables.items net'.pending
-        (let few = most in rw test at few) room
+        let few = most in
+        rw test (fewer (2 + left) 32 lane net'.cables.items net'.pending (rw test at few) room)
     by false test =
         let had = credit_of net.directory.clocks credit port.clock in
         let room = only.lanes had lane (has port lane starts) in
-        fewer ((if port.clock == number then 2 else 0) + left) had lane net'.cables.items net'.pending
-        (let few = most in rw test at few) room
+        let few = most in
+        rw test (fewer (0 + left) had lane net'.cables.items net'.pending (rw test at few) room)
 
 -- ---- room for a call
 

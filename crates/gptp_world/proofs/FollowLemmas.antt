@@ -196,7 +196,7 @@ is_upcoming None es some none = none
 is_upcoming (Some due) es some none = some
 
 pub nothing_upcoming : (until : ℕ) (es : List Entry) → es ≡ [] → NothingBefore (until + 1) es
-nothing_upcoming until es none = subst (NothingBefore (until + 1)) (sym none) tt
+nothing_upcoming until es none = subst (NothingBefore (until + 1)) (sym none) (λ place d within. absurd (omega arith))
 
 -- nothing is pending before what is next
 pub later_than : (time until : ℕ) (item : Item) (es : List Entry) → until < time → IsNext es time item

@@ -1,5 +1,5 @@
 -- Room for frames that systems have ahead, so that an act seldom asks each lane for it.
-use Rattle.std.specs.Prelude.{◌≡◌, ◌≤◌, ◌+◌, ◌-◌, ◌==◌, ◌&&◌, if◌then◌else◌, ℕ, ⊤, List, [], ◌∷◌, Some, slice_get, slice_set}
+use Rattle.std.specs.Prelude.{◌≡◌, ◌≤◌, ◌+◌, ◌-◌, ◌==◌, ◌&&◌, if◌then◌else◌, ℕ, ⊤, List, ◌∷◌, Some, slice_get, slice_set}
 use Rattle.gptp_system.specs.declared.reach.Reach.{Reach}
 use Rattle.gptp_system.specs.Reach.{frame_reach, timer_reach}
 use Rattle.gptp_setup.specs.declared.timer.Timer.{Timer}

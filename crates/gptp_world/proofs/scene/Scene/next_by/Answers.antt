@@ -3,12 +3,12 @@ use Rattle.gptp_world.specs.Following.{IsUpcoming}
 use Rattle.gptp_world.proofs.FollowLemmas.{later_than, nothing_upcoming}
 use Rattle.gptp_world.proofs.scene.Scene.next_by.Goals as goal
 
-pub returns-in-true-in-Some-clause-next : goal.returns-in-true-in-Some-clause-next
-returns-in-true-in-Some-clause-next c =
+pub returns-in-true-clause-next : goal.returns-in-true-clause-next
+returns-in-true-clause-next c =
     subst (λ next. IsUpcoming next c.args.self.now.net.pending) c.in-Some.is c.requires
 
-pub returns-in-false-in-Some-clause-none : goal.returns-in-false-in-Some-clause-none
-returns-in-false-in-Some-clause-none c =
+pub returns-in-false-clause-none : goal.returns-in-false-clause-none
+returns-in-false-clause-none c =
     later_than c.in-Some.time c.args.until c.in-Some.item c.args.self.now.net.pending c.in-false.is
     (subst (λ next. IsUpcoming next c.args.self.now.net.pending) c.in-Some.is c.requires)
 
