@@ -88,7 +88,7 @@ same_truth true false is = absurd cc
 same_truth false true is = absurd cc
 same_truth false false is = refl
 
-role_from : ℕ → Role
+abbrev role_from : ℕ → Role
 role_from zero = Disabled
 role_from (suc zero) = Master
 role_from (suc (suc zero)) = Slave
@@ -290,7 +290,7 @@ tells_on None (Some t) told k = (
 )
 tells_on (Some s) (Some t) told k = by (same_line (Some s) (Some t)) refl
   where
-    own : Bool → List Telling
+    abbrev own : Bool → List Telling
     own same = if same then [] else OfSystem t ∷ []
 
     silent : (same : Bool) (place : ℕ) → last_by (of_port place) (own same) ≡ None
@@ -315,11 +315,11 @@ tells_on (Some s) (Some t) told k = by (same_line (Some s) (Some t)) refl
 
 -- ---- several acts
 
-shown_in : ℕ → List Station → Option Shown
+abbrev shown_in : ℕ → List Station → Option Shown
 shown_in name stations = option_map shown_of (live_among name stations)
 
 module _ (name : ℕ) where
-  tells : Transition → List Telling
+  abbrev tells : Transition → List Telling
   tells t = tellings (shown name t.before) (shown name t.after)
 
   chain_tells : (ts : List Transition) (before after : List Station) (told : List Telling) → Chain ts before after
