@@ -100,7 +100,8 @@ aim_within act aim stage at = absurd at
 
 -- a link is up or down, and not both
 pub never_both : (net : Between) (link : ℕ) (up : Bool) → link < length net.cables.items
-    → ((cable : Cable) → slice_get net.cables.items link ≡ Some cable → up ≡ cable.link.up) → LinkIs (not up) link net → ⊥
+    → ((cable : Cable) → slice_get net.cables.items link ≡ Some cable → up ≡ cable.link.up)
+    → LinkIs (not up) link net → ⊥
 never_both net link up within found is =
     let (cable, here) = member_there net.cables.items link within in by up (found cable here ∙ is cable here)
   where

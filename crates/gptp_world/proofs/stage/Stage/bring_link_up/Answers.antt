@@ -5,7 +5,8 @@ use Rattle.gptp_world.proofs.PerformingLemmas.{of_link, of_this}
 use Rattle.gptp_world.proofs.stage.Stage.bring_link_up.Goals as goal
 
 pub link_up-requires-clause-room : goal.link_up-requires-clause-room
-link_up-requires-clause-room g c = c.requires.room (λ cable here. sym (c.is_up.ensures cable here) ∙ c.if-not-is_up.true)
+link_up-requires-clause-room g c =
+    c.requires.room (λ cable here. sym (c.is_up.ensures cable here) ∙ c.if-not-is_up.true)
 
 pub returns-then-not-is_up-clause-up : goal.returns-then-not-is_up-clause-up
 returns-then-not-is_up-clause-up g c =
