@@ -43,6 +43,10 @@ first_differs c cs i number differ here same =
     let first : slice_get (c ∷ cs) zero ≡ Some number = ap Some same in
     let places : zero ≡ suc i = differ zero (suc i) number first here in omega arith
 
+not_first : (c : ℕ) (cs : List ℕ) (i number : ℕ) → Differ (c ∷ cs) → slice_get cs i ≡ Some number
+    → (number == c) ≡ false
+not_first c cs i number differ here = not_same number c (λ same. first_differs c cs i number differ here (sym same))
+
 credit_here : (clocks credit : List ℕ) (place number frames : ℕ) → Differ clocks
     → slice_get clocks place ≡ Some number → slice_get credit place ≡ Some frames
     → credit_of clocks credit number ≡ frames
@@ -53,8 +57,7 @@ credit_here (c ∷ cs) (f ∷ fs) zero number frames differ here there =
     rw first (same_Some f frames there)
 credit_here (c ∷ cs) (f ∷ fs) (suc i) number frames differ here there =
     let ih = credit_here cs fs i number frames (tail_differs c cs differ) here there in
-    let other : (number == c) ≡ false = not_same number c (λ same. first_differs c cs i number differ here (sym same)) in
-    rw other ih
+    let other = not_first c cs i number differ here in rw other ih
 
 -- where the credit of one is set, that of all others stays
 unset : (clocks credit : List ℕ) (place number more asked : ℕ) → slice_get clocks place ≡ Some number → asked ≢ number
@@ -81,8 +84,7 @@ set_most (c ∷ cs) (f ∷ fs) zero number more differ here =
     let first : (number == c) ≡ true = eq-eqb number c (sym (same_Some c number here)) in rw first (omega arith)
 set_most (c ∷ cs) (f ∷ fs) (suc i) number more differ here =
     let ih = set_most cs fs i number more (tail_differs c cs differ) here in
-    let other : (number == c) ≡ false = not_same number c (λ same. first_differs c cs i number differ here (sym same)) in
-    rw other ih
+    let other = not_first c cs i number differ here in rw other ih
 
 differ_by : (asked number : ℕ) → (asked == number) ≡ false → asked ≢ number
 differ_by asked number test same = let equal = eq-eqb asked number same in absurd cc
@@ -381,4 +383,5 @@ change_uses (aims.Inject lane) stage net change = tt
 pub after_nothing : (need : Need) (net between net' : Between) → Uses nothing net between → Uses need between net'
     → Uses need net net'
 after_nothing need net between net' first second =
-    uses_less need (both nothing need) net net' (nothing_with need) (uses_both nothing need net between net' first second)
+    uses_less need (both nothing need) net net' (nothing_with need)
+    (uses_both nothing need net between net' first second)

@@ -1,8 +1,7 @@
 use Rattle.std.proofs.Common.{◌≡◌, ◌*◌, ◌+◌, ◌≤◌, length, Some, slice_get, refl, ap, sym, ◌∙◌, arith}
 use Rattle.std.proofs.lemmas.Option.{slice_get-get_or}
 use Rattle.gptp_world.proofs.QueueLemmas.{on_ok}
-use Rattle.gptp_system.specs.declared.reach.Reach.TheVariants as reaches
-use Rattle.gptp_world.proofs.RoomLemmas.{all_reached, one_after_another, room_within, stage_stays}
+use Rattle.gptp_world.proofs.RoomLemmas.{one_after_another, room_to_call, stage_stays}
 use Rattle.gptp_world.proofs.stage.Stage.make_room.Goals as goal
 
 pub returns-in_err-reserve-clause-stage : goal.returns-in_err-reserve-clause-stage
@@ -32,6 +31,5 @@ returns-clause-room c =
     let room : 6 * length one.system.ports + 2 ≤ after.net.pending.room = rw (← count) (omega arith) in
     let ready : 2 * length one.system.ports ≤ after.net.buffers.ready = rw (← count) (omega arith) in
     on_ok c.make_room_at_ports.result _ _
-    (λ has. room_within after reaches.All c.args.place one is here room ready
-    (all_reached 2 c.args.place (length one.system.ports) reaches.All after.net (rw (← count) has)))
+    (λ has. room_to_call after c.args.place one is here room ready (rw (← count) has))
     c.make_room_at_ports.ensures.ok

@@ -23,7 +23,9 @@ pub returns-in-Arrival-clause-room : goal.returns-in-Arrival-clause-room
 returns-in-Arrival-clause-room c =
     let stage = c.make_room_to_hear.new.self in let credit = c.make_room_to_hear.new.credit in
     on_ok c.make_room_to_hear.result _ _
-    (λ has. subst (λ aim. HasRoomForAim aim stage) (sym c.in-Arrival.is) (hears_room c.in-Arrival.lane credit stage has)) c.make_room_to_hear.ensures.room
+    (λ has. subst (λ aim. HasRoomForAim aim stage) (sym c.in-Arrival.is)
+    (hears_room c.in-Arrival.lane credit stage has))
+    c.make_room_to_hear.ensures.room
 
 pub returns-in-Arrival-clause-left : goal.returns-in-Arrival-clause-left
 returns-in-Arrival-clause-left c =
@@ -42,7 +44,9 @@ pub returns-in-Timer-clause-room : goal.returns-in-Timer-clause-room
 returns-in-Timer-clause-room c =
     let stage = c.make_room_to_expire.new.self in let credit = c.make_room_to_expire.new.credit in
     on_ok c.make_room_to_expire.result _ _
-    (λ has. subst (λ aim. HasRoomForAim aim stage) (sym c.in-Timer.is) (expires_room c.in-Timer.place c.in-Timer.timer credit stage has)) c.make_room_to_expire.ensures.room
+    (λ has. subst (λ aim. HasRoomForAim aim stage) (sym c.in-Timer.is)
+    (expires_room c.in-Timer.place c.in-Timer.timer credit stage has))
+    c.make_room_to_expire.ensures.room
 
 pub returns-in-Timer-clause-left : goal.returns-in-Timer-clause-left
 returns-in-Timer-clause-left c =
