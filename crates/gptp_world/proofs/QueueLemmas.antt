@@ -1,7 +1,9 @@
 -- The queues of the table in which what is pending is filed.
-use Rattle.std.proofs.Common.{◌≡◌, ℕ, ◌-◌, ◌<◌, List, [], ◌∷◌, map, length, Option, Some, None, slice_set, refl, sym, ap, ap₂, ◌∙◌, arith}
+use Rattle.std.proofs.Common.{◌≡◌, ℕ, zero, suc, ◌-◌, ◌<◌, replicate, List, [], ◌∷◌, map, length, Option, Some, None, slice_index_or, slice_set, refl, sym, ap, ap₂, ◌∙◌, arith}
 use Rattle.std.specs.Prelude.{Result, Ok, Err, OnOk}
 use Rattle.std.proofs.lemmas.List.{get_or-set_same, get_or-set_other}
+use Rattle.std.proofs.lemmas.Option.{slice_get-get_or}
+use Rattle.gptp_lists.proofs.PlaceLemmas.{read}
 use Rattle.gptp_scheduler.specs.Pending.{Entry as Numbered}
 use Rattle.gptp_acts.specs.declared.item.Item.{Item}
 use Rattle.gptp_acts.specs.Pending.{plain}
@@ -9,7 +11,7 @@ use Rattle.slab.specs.Slab.{Slab, get, slab_len}
 use Rattle.gptp_world.specs.declared.chain.Chain.{Chain}
 use Rattle.gptp_world.specs.declared.chain.Node.{Node}
 use Rattle.gptp_world.specs.declared.filed.Running.{Running}
-use Rattle.gptp_world.specs.Chain.{chain_at, head_of, numbers_in, AreChained, ChangesOne}
+use Rattle.gptp_world.specs.Chain.{chain_at, head_of, no_chain, numbers_in, AreChained, ChangesOne}
 use Rattle.gptp_world.specs.Filed.{FiledState, queue_at, with_queue}
 use Rattle.gptp_world.proofs.ChainLemmas.{numbers-changed, numbers_there}
 
@@ -63,3 +65,16 @@ queue_changed timers s t chains place after change room are within changes numbe
     (numbers-changed s t chains place after are within changes
     ∙ ap (slice_set (map (numbers_in (get s)) chains) place) queue)
     left
+
+-- the chain that a call is lent is the one at that place
+pub chain_lent : (chains : List Chain) (place : ℕ) (lent : Chain) → place < length chains
+    → lent ≡ slice_index_or chains place lent → chain_at place chains ≡ lent
+chain_lent chains place lent within value =
+    read chains place (slice_index_or chains place lent) no_chain (slice_get-get_or chains place lent within) ∙ sym value
+
+-- nothing is filed at the beginning
+pub none_filed : (s : ℕ → Option Node) (count place : ℕ)
+    → slice_index_or (map (numbers_in s) (replicate count no_chain)) place [] ≡ []
+none_filed s zero place = refl
+none_filed s (suc count) zero = refl
+none_filed s (suc count) (suc place) = none_filed s count place

@@ -12,7 +12,7 @@ use std::alloc::AllocError;
 /// Makes room for so many more frames in each direction of a link. Refused where there is no memory for them. No frame
 /// changes.
 fn make_room_on(cables: &mut [Cable], link: usize, frames: usize) -> Result<(), AllocError>
-    requires link { link < length cables.old }
+    requires { link < length cables.old }
     ensures joins { map join_of cables.new ≡ map join_of cables.old }
     ensures channels { map channel_of cables.new ≡ map channel_of cables.old }
     ensures kept { KeepsRoomOn cables.old cables.new }
