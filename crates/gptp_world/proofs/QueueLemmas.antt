@@ -1,7 +1,7 @@
 -- The queues of the table in which what is pending is filed.
 use Rattle.std.proofs.Common.{◌≡◌, ℕ, zero, suc, ◌-◌, ◌<◌, replicate, List, [], ◌∷◌, map, length, Option, Some, None, slice_index_or, slice_set, refl, sym, ap, ap₂, ◌∙◌, arith}
 use Rattle.std.specs.Prelude.{Result, Ok, Err, OnOk}
-use Rattle.std.proofs.lemmas.List.{get_or-set_same, get_or-set_other}
+use Rattle.std.proofs.lemmas.List.{get_or-set_same, get_or-set_other, length-map}
 use Rattle.std.proofs.lemmas.Option.{slice_get-get_or}
 use Rattle.gptp_lists.proofs.PlaceLemmas.{read}
 use Rattle.gptp_scheduler.specs.Pending.{Entry as Numbered}
@@ -53,8 +53,8 @@ abbrev made : List (Option Running) → List (List ℕ) → ℕ → FiledState
 made timers queues room = record { timers = timers; queues = queues; room = room }
 
 -- the chain at a place changed, so the queue there did
-pub queue_changed : (timers : List (Option Running)) (s t : Slab Node) (chains : List Chain) (place : ℕ) (after : Chain)
-    (change : List ℕ → List ℕ) (room : ℕ) → AreChained s chains → place < length chains
+pub queue_changed : (timers : List (Option Running)) (s t : Slab Node) (chains : List Chain) (place : ℕ)
+    (after : Chain) (change : List ℕ → List ℕ) (room : ℕ) → AreChained s chains → place < length chains
     → ChangesOne (get s) (get t) (chain_at place chains) after
     → numbers_in (get t) after ≡ change (numbers_in (get s) (chain_at place chains)) → t.capacity - slab_len t ≡ room
     → table timers t (slice_set chains place after)
@@ -65,6 +65,11 @@ queue_changed timers s t chains place after change room are within changes numbe
     (numbers-changed s t chains place after are within changes
     ∙ ap (slice_set (map (numbers_in (get s)) chains) place) queue)
     left
+
+-- a place of a queue is one of a chain
+pub in_queues : (s : ℕ → Option Node) (chains : List Chain) (place : ℕ) → place < length (map (numbers_in s) chains)
+    → place < length chains
+in_queues s chains place within = let same = length-map chains (numbers_in s) in omega (arith, within, same)
 
 -- the chain that a call is lent is the one at that place
 pub chain_lent : (chains : List Chain) (place : ℕ) (lent : Chain) → place < length chains
