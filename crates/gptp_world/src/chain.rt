@@ -1,6 +1,6 @@
 //! Numbers in order of putting, chained through a slab.
 
-ghost use Rattle.std.specs.Prelude.{◌≡◌, ◌+◌, ◌<◌, ◌≤◌, [], ◌∷◌, ◌++◌};
+ghost use Rattle.std.specs.Prelude.{◌≡◌, ◌+◌, ◌^◌, ◌<◌, ◌≤◌, [], ◌∷◌, ◌++◌};
 ghost use Rattle.std.specs.Option.{option_map};
 ghost use Rattle.slab.specs.Slab.{get, slab_len, HasRoomFor, Updates};
 ghost use Rattle.gptp_world.specs.Chain.{head_of, no_chain, numbers_in, rest_of, with_last, with_next, ChangesOne, IsChained, Joins, SameRoom};
@@ -23,6 +23,13 @@ fn set_next(nodes: &mut Slab<Node>, place: usize, next: usize)
     if let Some(node) = nodes.get_mut(place) {
         node.next = next;
     }
+}
+
+/// A slab holds no more than can be counted.
+fn can_be_counted(nodes: &Slab<Node>)
+    ensures { slab_len nodes.now < 2 ^ 64 }
+{
+    let _ = nodes.len();
 }
 
 /// Numbers in order of putting: a chain through a slab, which is lent to each call.
@@ -60,7 +67,8 @@ impl Chain {
     {
         let place = nodes.insert_reserved(Node { number, next: 0 });
         self.join(nodes, place);
-        *self = self.with_last(place, nodes.len());
+        can_be_counted(nodes);
+        *self = self.with_last(place);
     }
 
     /// Makes the last number, if there is one, lead to another.
@@ -73,9 +81,9 @@ impl Chain {
         }
     }
 
-    /// The chain with a number more, the last, where there are no more than so many then.
-    fn with_last(self, place: usize, most: usize) -> Chain
-        requires few { self.count < most }
+    /// The chain with a number more, the last.
+    fn with_last(self, place: usize) -> Chain
+        requires { self.count + 1 < 2 ^ 64 }
         ensures { result ≡ with_last place self }
     {
         Chain {
