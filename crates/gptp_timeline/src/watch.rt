@@ -12,7 +12,7 @@ use crate::event_line::write_event;
 use crate::measures::{Greatest, Measures, NOTHING, better_if};
 use crate::receipts::{error_of, received_by, write_offset};
 use crate::shown::{Shown, shown_of, shows};
-use crate::watched::{Look, Watched, error_after, measures_after, since_behind, leaves_wait};
+use crate::watched::{Look, Watched, error_after, leaves_wait, measures_after, since_behind};
 use gptp_links::Fate;
 use gptp_plan::Change;
 use gptp_report::sink::Sink;
@@ -68,12 +68,12 @@ fn shown_in<F: Fate + Drop>(world: &World<F>, clock: ClockId) -> Option<Shown>
 }
 
 /// Whether the system with a clock shows this, or doesn't live as nothing is shown.
-fn shows_in<F: Fate + Drop>(world: &World<F>, clock: ClockId, shown: &Option<Shown>) -> bool
-    ensures { result ≡ true → shown clock world.now.scene ≡ shown.now }
+fn shows_in<F: Fate + Drop>(world: &World<F>, clock: ClockId, last: &Option<Shown>) -> bool
+    ensures { result ≡ true → shown clock world.now.scene ≡ last.now }
 {
     world.well_formed();
-    match (world.system(clock), shown) {
-        (Some(system), Some(shown)) => shows(system, shown),
+    match (world.system(clock), last) {
+        (Some(system), Some(last)) => shows(system, last),
         (None, None) => true,
         _ => false,
     }
@@ -282,6 +282,25 @@ impl Watch {
         leaves_wait(look, system) && shows_in(world, system.clock, &system.shown)
     }
 
+    /// Takes up what an act leaves of the system at a place.
+    fn see_anew<F: Fate + Drop>(
+        &mut self,
+        text: &mut String,
+        world: &World<F>,
+        look: Look,
+        place: usize,
+    ) -> Result<(), AllocError>
+        requires { place < length self.old.systems }
+        ensures sees { OnOk result (self.new ≡ see_at look world.now.scene place self.old) }
+        ensures tells { OnOk result (string_bytes text.new
+            ≡ string_bytes text.old ++ text_of (lines_at look world.now.scene place self.old)) }
+    {
+        let after = shown_in(world, self.systems[place].clock);
+        self.write_changes_at(text, look.at, place, &after)?;
+        self.take(look, place, after);
+        Ok(())
+    }
+
     /// Looks at the system at a place behind an act.
     fn see_at<F: Fate + Drop>(
         &mut self,
@@ -295,13 +314,10 @@ impl Watch {
         ensures tells { OnOk result (string_bytes text.new
             ≡ string_bytes text.old ++ text_of (lines_at look world.now.scene place self.old)) }
     {
-        if self.stays_at(world, look, place) {
-            return Ok(());
+        match self.stays_at(world, look, place) {
+            true => Ok(()),
+            false => self.see_anew(text, world, look, place),
         }
-        let after = shown_in(world, self.systems[place].clock);
-        self.write_changes_at(text, look.at, place, &after)?;
-        self.take(look, place, after);
-        Ok(())
     }
 
     /// Looks at all systems behind an act.
