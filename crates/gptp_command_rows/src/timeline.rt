@@ -4,6 +4,7 @@
 
 ghost use Rattle.std.specs.Prelude.{◌≢◌, IfSome, ◌≤◌};
 
+use crate::asked::RING;
 use crate::run::TWO;
 use crate::same::same_at;
 use gptp_commands::failure::{SimError, Status};
@@ -444,6 +445,112 @@ fn limits_are_asked_of_a_stretch(rt: HostRuntime) -> Result<(), Fail> {
         let want = format!(in alloc; "{STRETCH}{verdict}")?;
         same_at(&rt, &verdict, text.as_slice(), want.as_bytes());
         same_at(&rt, &verdict, ends, status);
+    }
+    Ok(())
+}
+
+/// Before anybody has received time, and before anybody has heard of the other.
+const BEFORE: [(u64, &str, Limits, &str, Status); 4] = [
+    (
+        1_100_000_000,
+        WITHOUT_TIME,
+        Limits {
+            without: Some(0),
+            ..NO_LIMITS
+        },
+        "exceeded without\n",
+        Status::Refused,
+    ),
+    (
+        1_100_000_000,
+        WITHOUT_TIME,
+        Limits {
+            without: Some(1),
+            ..NO_LIMITS
+        },
+        "within\n",
+        Status::Done,
+    ),
+    (
+        500_000_000,
+        ALONE,
+        Limits {
+            alone: Some(1),
+            ..NO_LIMITS
+        },
+        "exceeded alone\n",
+        Status::Refused,
+    ),
+    (
+        500_000_000,
+        ALONE,
+        Limits {
+            alone: Some(2),
+            ..NO_LIMITS
+        },
+        "within\n",
+        Status::Done,
+    ),
+];
+
+const WITHOUT_TIME: &str = "after 0 to 1100000000 choice 1000002500 roles 1000002500 offsets none \
+holdover 99997500 0000000000000002 error 0.000 none without 1 roots 1 alone 0 bound 26000000000
+";
+
+const ALONE: &str = "after 0 to 500000000 choice none roles none offsets none \
+holdover 0 none error 0.000 none without 0 roots 0 alone 2 bound 26000000000
+";
+
+#[test]
+fn limits_are_asked_of_systems_without_time(rt: HostRuntime) -> Result<(), Fail> {
+    let alloc = rt.alloc();
+    for (until, stretch, limits, verdict, status) in BEFORE {
+        let order = TimelineOrder {
+            options: TimelineOptions {
+                summary: true,
+                offsets: false,
+                limits,
+            },
+            ..up_to(until)
+        };
+        let (text, ends) = told(alloc, TWO.as_bytes(), &order)?;
+        let want = format!(in alloc; "{stretch}{verdict}")?;
+        same_at(&rt, &want, text.as_slice(), want.as_bytes());
+        same_at(&rt, &want, ends, status);
+    }
+    Ok(())
+}
+
+/// The stretches of the ring; behind them stands how exact its systems were.
+const RING_STRETCHES: &str = "after 0 to 30000000000 choice 1000002603 roles 1000002603 offsets 1125001800 \
+holdover 125000028 000000000000000c error 28.000 000000000000000c without 0 roots 1 alone 0 bound 38000000000
+after 30000000000 to 69000007200 choice 797 roles 797 offsets 3222 \
+holdover 125000037 000000000000000b error 40.500 000000000000000b without 0 roots 1 alone 0 bound 38000000000
+";
+
+#[test]
+fn a_ring_is_told_by_its_stretches(rt: HostRuntime) -> Result<(), Fail> {
+    let alloc = rt.alloc();
+    for (error, verdict, status) in [
+        (40, "exceeded error\n", Status::Refused),
+        (41, "within\n", Status::Done),
+    ] {
+        let order = TimelineOrder {
+            until: None,
+            seed: 1,
+            options: TimelineOptions {
+                summary: true,
+                offsets: false,
+                limits: Limits {
+                    error: Some(error),
+                    ..NO_LIMITS
+                },
+            },
+        };
+        let (text, ends) = told(alloc, RING.as_bytes(), &order)?;
+        same_at(&rt, &error, text.as_slice().starts_with(RING_STRETCHES.as_bytes()), true);
+        same_at(&rt, &error, text.as_slice().ends_with(verdict.as_bytes()), true);
+        same_at(&rt, &error, ends, status);
     }
     Ok(())
 }

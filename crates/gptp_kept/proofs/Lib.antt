@@ -88,3 +88,4 @@ pub mod ShownLemmas
 pub mod TraceLemmas
 pub mod TreeLemmas
 pub mod BoundedLemmas
+pub mod NameLemmas

@@ -24,6 +24,7 @@ pub mod NameLemmas
 pub mod ObservedLemmas
 pub mod TimelineLemmas
 pub mod UnfoldLemmas
+pub mod TellingLemmas
 pub mod ErrorLemmas
 pub mod EndLemmas
 pub mod BeginLemmas

@@ -20,11 +20,12 @@ use Rattle.gptp_timeline.specs.Changes.{change_lines}
 use Rattle.gptp_timeline.specs.Ends.{EndState}
 use Rattle.gptp_timeline.specs.LastTwo.{end_in, end_of}
 use Rattle.gptp_timeline.specs.Measures.{greatest, greatest_from, since_after}
+use Rattle.gptp_timeline.specs.Passing.{watch_before}
 use Rattle.gptp_timeline.specs.Shown.{is_expecting, live_among, shown, shown_of}
 use Rattle.gptp_timeline.specs.Stretch.{at_of, counted, ended, error_from, roots_of, shown_of_all, under_way, waits}
 use Rattle.gptp_timeline.specs.StretchText.{after_line, ended_stretch, error_among, system_accuracy, wait_of}
 use Rattle.gptp_timeline.specs.Timeline.{Passage, accuracy_at, accuracy_lines, act_lines, end_lines, ended_of, exact_time, is_begun, kept_accuracy, kept_accuracy_at, none_waits, start_lines, stretch_of}
-use Rattle.gptp_timeline.specs.Watch.{WatchState, begun, event_look, lines_all, nothing, see_act, see_all, seen_lines, tells_changes, unless, unseen, without_error}
+use Rattle.gptp_timeline.specs.Watch.{WatchState, begun, event_look, lines_all, see_act, see_all, seen_lines, tells_changes, unless, unseen, without_error}
 use Rattle.gptp_timeline.specs.declared.counts.Counts.{Counts}
 use Rattle.gptp_timeline.specs.declared.measures.Greatest.{Greatest}
 use Rattle.gptp_timeline.specs.declared.measures.Measures.{Measures}
@@ -49,16 +50,6 @@ use Rattle.gptp_timeline.proofs.TrackLemmas.{all_seen_lines, unless_each}
 
 abbrev one_kept : ℕ → Option ℕ → Option ℕ → Option Shown → Watched
 one_kept name since error s = record { clock = name; shown = s; since = since; error = error }
-
--- an observer as it is made
-abbrev pub first_watch : TimelineOptions → WorldState → WatchState
-first_watch options w = record {
-  summary = options.summary;
-  offsets = options.offsets;
-  exact_from = None;
-  systems = map unseen (rising_clocks w);
-  measures = nothing;
-}
 
 -- Between stretches it keeps what the systems with these names show, and since when each waits.
 pub record Rests (options : TimelineOptions) (names : List ℕ) (since : ℕ → Option ℕ) (w : WorldState) (o : WatchState) :
@@ -99,7 +90,7 @@ seen_first w (n ∷ ns) nobody =
 -- the observer saw how they are
 pub start_rests : {F : Type 0} (answers : Bounds → ℕ → F → Option ℕ → F → Type 0) (n : NetworkState)
     (fate fate_after : F) (options : TimelineOptions) (w : WorldState) (o : WatchState)
-    → Begun answers n fate fate_after w → IsWired w → o ≡ first_watch options w
+    → Begun answers n fate fate_after w → IsWired w → o ≡ watch_before options w
     → Rests options (rising_clocks w) none_waits w (see_all (event_look 0) w o)
 start_rests answers n fate fate_after options w o starts wired first =
     subst (Rests options (rising_clocks w) none_waits w) (sym (all_looked (event_look 0) w o)) (record {
@@ -115,7 +106,7 @@ start_rests answers n fate fate_after options w o starts wired first =
     })
 
 -- and told it
-pub start_told : (options : TimelineOptions) (w : WorldState) (o : WatchState) → o ≡ first_watch options w
+pub start_told : (options : TimelineOptions) (w : WorldState) (o : WatchState) → o ≡ watch_before options w
     → lines_all (event_look 0) w o ≡ start_lines options (rising_clocks w) w
 start_told options w o first =
     all_seen_lines (event_look 0) w o

@@ -10,7 +10,7 @@ use Rattle.gptp_timeline.specs.Stretch.{same_known}
 use Rattle.gptp_timeline.specs.declared.ports.ShownPort.{ShownPort}
 use Rattle.gptp_timeline.specs.declared.shown.Shown.{Shown}
 
-number_itself : (n : ℕ) → n == n ≡ true
+pub number_itself : (n : ℕ) → n == n ≡ true
 number_itself n = grind (arith, nat_tests)
 
 pub bool_itself : (b : Bool) → same_bool b b ≡ true

@@ -1,5 +1,5 @@
 -- Laws of timelines.
-use Rattle.std.specs.Prelude.{◌≡◌, ◌≤◌, ℕ, Bool, List, Option, Some, IfSome}
+use Rattle.std.specs.Prelude.{◌≡◌, ◌≤◌, ℕ, Bool, List, map, Option, Some, IfSome}
 use Rattle.std.specs.List.{flat_map}
 use Rattle.gptp_acts.specs.Advancing.{Told}
 use Rattle.gptp_graph.specs.Distance.{IsNear}
@@ -13,9 +13,13 @@ use Rattle.gptp_reached.specs.PlayedLaws.{IsPlayable}
 use Rattle.gptp_report.specs.Run.{Plays}
 use Rattle.gptp_world.specs.Transitions.{Transition}
 use Rattle.gptp_report.specs.Transitions.{Unfolds}
+use Rattle.gptp_timeline.specs.Changes.{change_lines}
 use Rattle.gptp_timeline.specs.Limits.{choice_after}
+use Rattle.gptp_timeline.specs.Shown.{shown}
 use Rattle.gptp_timeline.specs.StretchText.{behind}
+use Rattle.gptp_timeline.specs.Tellings.{all_tellings, telling_line, tellings, TellLast}
 use Rattle.gptp_timeline.specs.Timeline.{Passage, TimelineOf, stretch_of}
+use Rattle.gptp_timeline.specs.declared.shown.Shown.{Shown}
 use Rattle.gptp_timeline.specs.declared.timeline.TimelineOptions.{TimelineOptions}
 
 -- the acts of all stretches
@@ -34,6 +38,17 @@ abbrev pub TimelineEndsAsRun : {F : Type 0} → (Bounds → ℕ → F → Option
 TimelineEndsAsRun {F} answers = (d : DocumentState) (until : ℕ) (options : TimelineOptions) (fate : F)
     (lines : List (List ℕ)) (exceeded : Bool) (t : TimelineOf answers d until options fate lines exceeded)
     → AreEvents d.network d.events → (told : List Told) × Plays answers d until fate told t.after
+
+-- The lines of what an act leaves another of a system are those of what is told of it.
+abbrev pub ChangesAreTold : Type 0
+ChangesAreTold = (at name : ℕ) (before after : Option Shown)
+    → change_lines at name before after ≡ map (telling_line at name) (tellings before after)
+
+-- What they tell last of a system and of each of its ports is what it shows in the world where the last stretch ends.
+abbrev pub LastLinesTell : {F : Type 0} → (Bounds → ℕ → F → Option ℕ → F → Type 0) → Type 0
+LastLinesTell {F} answers = (d : DocumentState) (until : ℕ) (options : TimelineOptions) (fate : F)
+    (lines : List (List ℕ)) (exceeded : Bool) (t : TimelineOf answers d until options fate lines exceeded) (name : ℕ)
+    → AreEvents d.network d.events → TellLast (all_tellings name t.start (all_acts t.passages)) (shown name t.after)
 
 -- every live system is near
 abbrev pub AllNear : Snapshot → Type 0

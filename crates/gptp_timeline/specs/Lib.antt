@@ -1,6 +1,7 @@
 pub mod Ports
 pub mod Shown
 pub mod Changes
+pub mod Tellings
 pub mod EventLine
 pub mod Amounts
 pub mod Receipts

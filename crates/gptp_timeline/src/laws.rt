@@ -1,6 +1,6 @@
 //! Laws of timelines.
 
-ghost use Rattle.gptp_timeline.specs.Laws.{StretchesSettle, TimelineEndsAsRun, TimelineUnfolds};
+ghost use Rattle.gptp_timeline.specs.Laws.{ChangesAreTold, LastLinesTell, StretchesSettle, TimelineEndsAsRun, TimelineUnfolds};
 
 use gptp_links::Fate;
 
@@ -9,6 +9,14 @@ use gptp_links::Fate;
 pub fn timelines_are_runs<F: Fate>()
     ensures unfolds { TimelineUnfolds F.answers }
     ensures ends { TimelineEndsAsRun F.answers }
+{}
+
+/// The last `at` line of a system, and the last of each of its ports, tell what the system shows where the run ends: root,
+/// steps, Slave port, whether an offset is known, and of each port role and capable. That is the world of which a run to
+/// the same time reports ([`timelines_are_runs`]).
+pub fn last_lines_tell<F: Fate>()
+    ensures told { ChangesAreTold }
+    ensures last { LastLinesTell F.answers }
 {}
 
 /// Where a stretch of the timeline of a document has a bound, and every live system is near where it ends, its choice
