@@ -1,3 +1,4 @@
+pub mod Each
 pub mod Cases
 pub mod Times
 pub mod Runs

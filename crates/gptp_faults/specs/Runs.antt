@@ -1,5 +1,5 @@
 -- The runs of a case (profile).
-use Rattle.std.specs.Prelude.{◌≡◌, ℕ, ◌+◌, ◌*◌, ◌/◌, ◌%◌, ⊤, List, [], ◌∷◌, Option, Some}
+use Rattle.std.specs.Prelude.{◌≡◌, ℕ, ◌+◌, ◌*◌, ◌/◌, ◌%◌, Option, Some}
 use Rattle.rand_core.specs.Pcg32Seed.{pcg32_seed}
 use Rattle.rand_pcg.specs.Lcg.{Lcg}
 use Rattle.rand_pcg.specs.Pcg.{pcg64_of_seed}
@@ -11,7 +11,7 @@ use Rattle.gptp_timeline.specs.Ends.{EndState}
 use Rattle.gptp_timeline.specs.LastTwo.{EndsOf}
 use Rattle.gptp_faults.specs.Cases.{fault_of, return_of}
 use Rattle.gptp_faults.specs.Times.{moment}
-use Rattle.gptp_faults.specs.declared.cases.Case.{Case}
+use Rattle.gptp_faults.specs.declared.times.Planned.{Planned}
 use Rattle.gptp_faults.specs.declared.times.Times.{Times}
 
 -- delays and losses are drawn from the generator of the seed
@@ -32,17 +32,10 @@ abbrev pub runs_of : Times → ℕ
 runs_of t = t.moments * t.seeds
 
 -- a document in which a case fails at a time, and comes back when it was held so long
-abbrev pub with_case : DocumentState → Case → ℕ → ℕ → DocumentState
-with_case d c at hold = with_event (at + hold) (return_of c) (with_event at (fault_of c) d)
+abbrev pub with_case : ℕ → Planned → DocumentState → DocumentState
+with_case at p d = with_event (at + p.hold) (return_of p.failing) (with_event at (fault_of p.failing) d)
 
 -- So end the last two stretches of a run, in which a case is down and is back.
-abbrev pub IsRun : DocumentState → Times → Case → ℕ → ℕ → EndState × EndState → Type 0
-IsRun d t c hold run ends = EndsOf draws (with_case d c (moment_of t run) hold)
-    (moment_of t run + hold + t.behind) (generator (seed_of t run)) (Some ends)
-
--- each of several is as another of as many
-abbrev pub Each : {X Y : Type 0} → (X → Y → Type 0) → List X → List Y → Type 0
-Each P [] [] = ⊤
-Each P [] (y ∷ ys) = ⊥
-Each P (x ∷ xs) [] = ⊥
-Each P (x ∷ xs) (y ∷ ys) = P x y × Each P xs ys
+abbrev pub IsRun : DocumentState → Times → Planned → ℕ → EndState × EndState → Type 0
+IsRun d t p run ends = EndsOf draws (with_case (moment_of t run) p d) (moment_of t run + p.hold + t.behind)
+    (generator (seed_of t run)) (Some ends)

@@ -1,5 +1,5 @@
 -- When faults come, and how long they stay (profile).
-use Rattle.std.specs.Prelude.{◌≡◌, ◌≤◌, ℕ, ◌+◌, ◌-◌, ◌*◌, ◌/◌, ◌%◌, Option, Some, None, IfSome, unwrap_or}
+use Rattle.std.specs.Prelude.{◌≡◌, ◌≤◌, ℕ, ◌+◌, ◌-◌, ◌*◌, ◌/◌, List, Option, Some, None, IfSome, unwrap_or}
 use Rattle.gptp_network.specs.Adding.{with_event}
 use Rattle.gptp_network.specs.Document.{DocumentState}
 use Rattle.gptp_network.specs.Span.{IsSpan}
@@ -7,8 +7,10 @@ use Rattle.gptp_plan.specs.Calm.{last_change}
 use Rattle.gptp_plan.specs.Network.{largest_of}
 use Rattle.gptp_setup.specs.Intervals.{interval_of}
 use Rattle.gptp_faults.specs.Cases.{fault_of}
+use Rattle.gptp_faults.specs.Each.{Each}
 use Rattle.gptp_faults.specs.declared.cases.Case.{Case}
 use Rattle.gptp_faults.specs.declared.options.FaultsOptions.{FaultsOptions}
+use Rattle.gptp_faults.specs.declared.times.Planned.{Planned}
 use Rattle.gptp_faults.specs.declared.times.Times.{Times}
 
 -- the numbers of what is asked are in their ranges
@@ -35,6 +37,16 @@ pub record AreTimes (d : DocumentState) (options : FaultsOptions) (t : Times) : 
   pub seeds_are : t.seeds ≡ options.seeds
   pub behind_is : t.behind ≡ unwrap_or options.hold span
 
+-- so that they are bounded
+pub record AreBounded (t : Times) : Type 0 where
+  pub from : t.from ≤ 1000000000000000
+  pub spread : t.spread ≤ 32000000000
+  pub some_moment : 1 ≤ t.moments
+  pub moments : t.moments ≤ 1000
+  pub some_seed : 1 ≤ t.seeds
+  pub seeds : t.seeds ≤ 1000
+  pub behind : t.behind ≤ 1000000000000000
+
 -- a moment by its number, from 0
 abbrev pub moment : Times → ℕ → ℕ
 moment t number = t.from + number * t.spread / t.moments
@@ -44,6 +56,17 @@ abbrev pub last_moment : Times → ℕ
 last_moment t = moment t (t.moments - 1)
 
 -- How long the fault of a case stays: by default as long as the network takes at most to settle behind it.
-abbrev pub IsHold : DocumentState → FaultsOptions → Times → Case → Option ℕ → ℕ → Type 0
-IsHold d options t c (Some asked) hold = hold ≡ asked
-IsHold d options t c None hold = IsSpan (with_event t.from (fault_of c) d) t.from hold
+abbrev pub IsHold : DocumentState → Times → Case → Option ℕ → ℕ → Type 0
+IsHold d t c (Some asked) hold = hold ≡ asked
+IsHold d t c None hold = IsSpan (with_event t.from (fault_of c) d) t.from hold
+
+-- Each of its runs ends no later than one may.
+abbrev pub IsInTime : Times → Planned → Type 0
+IsInTime t p = last_moment t + p.hold + t.behind ≤ 1000000000000000
+
+-- what is planned of each case
+abbrev pub IsPlanned : DocumentState → FaultsOptions → Times → Case → Planned → Type 0
+IsPlanned d options t c p = (p.failing ≡ c) × IsHold d t c options.hold p.hold
+
+abbrev pub ArePlanned : DocumentState → FaultsOptions → Times → List Case → List Planned → Type 0
+ArePlanned d options t = Each (IsPlanned d options t)
