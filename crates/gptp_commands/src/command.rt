@@ -290,24 +290,36 @@ fn limit_option<'a>(
         .help(help)
 }
 
-/// An option of `faults` that gives a number of something, from 1 on.
-fn count_option<'a>(
+/// An option of `faults` that says how often each case is tried.
+fn runs_option<'a>(
     alloc: Global,
     name: &'static str,
-    most: u64,
     default: &'static str,
     help: &'static str,
 ) -> Arg<'a>
-    requires { 1 ≤ most }
-    ensures rule { rule_of result ≡ count_rule name.now most default.now }
+    ensures rule { rule_of result ≡ count_rule name.now 1000 default.now }
     ensures local { result.global ≡ false }
 {
     Arg::new(alloc, name)
         .long(name)
         .action(ArgAction::Set)
         .value_name("N")
-        .value_parser(clap::value_parser!(u64).range(1..=most))
+        .value_parser(clap::value_parser!(u64).range(1..=1000))
         .default_value(default)
+        .help(help)
+}
+
+/// An option of `faults` that deals out the cases.
+fn part_option<'a>(alloc: Global, name: &'static str, help: &'static str) -> Arg<'a>
+    ensures rule { rule_of result ≡ count_rule name.now 10000 (codes "1") }
+    ensures local { result.global ≡ false }
+{
+    Arg::new(alloc, name)
+        .long(name)
+        .action(ArgAction::Set)
+        .value_name("N")
+        .value_parser(clap::value_parser!(u64).range(1..=10_000))
+        .default_value("1")
         .help(help)
 }
 
@@ -621,17 +633,15 @@ fn repeated_grammar<'a>(alloc: Global) -> Result<Command<'a>, AllocError>
     Command::new(alloc, "faults")
         .about("Lets each link and each system fail and come back, and says what that does to the network")
         .after_help(FAULTS_HELP)
-        .arg(count_option(
+        .arg(runs_option(
             alloc,
             "seeds",
-            1000,
             "1",
             "With how many seeds each case is tried; where nothing is lost it hardly matters",
         ))?
-        .arg(count_option(
+        .arg(runs_option(
             alloc,
             "moments",
-            1000,
             "8",
             "At how many moments each case is tried, within an announce and a Sync interval",
         ))
@@ -659,14 +669,12 @@ fn dealt_grammar<'a>(alloc: Global) -> Result<Command<'a>, AllocError>
     ensures local { IfOk result (λ command. (fields_of command).has_globals ≡ false) }
 {
     placed_grammar(alloc)?
-        .arg(count_option(
+        .arg(part_option(
             alloc,
             "parts",
-            10_000,
-            "1",
             "In how many parts the cases are dealt out, one after another",
         ))?
-        .arg(count_option(alloc, "part", 10_000, "1", "The part that is tried"))?
+        .arg(part_option(alloc, "part", "The part that is tried"))?
         .arg(progress_option(alloc))
 }
 
@@ -1092,6 +1100,7 @@ fn close<W: Write + Drop>(
 }
 
 /// Standard error as a sink.
+#[derive(Drop)]
 struct ErrorSink<'a, R> {
     rt: &'a R,
     failures: u64,

@@ -128,6 +128,14 @@ fn hold_of(
     }
 }
 
+/// Puts what is planned of a case behind others.
+fn push_planned(planned: &mut Vec<Planned>, one: Planned) -> Result<(), AllocError>
+    ensures { OnOk result (planned.new.items ≡ planned.old.items ++ one ∷ []) }
+{
+    planned.push(one)?;
+    Ok(())
+}
+
 /// Plans a case, behind those before it.
 fn plan_case(
     alloc: Global,
@@ -143,7 +151,7 @@ fn plan_case(
     ensures memory { IfErr result (λ e. e ≡ Cut.Memory) }
 {
     let hold = hold_of(alloc, document, options, times, failing)?;
-    planned.push(Planned { failing, hold })?;
+    push_planned(planned, Planned { failing, hold })?;
     Ok(())
 }
 
