@@ -333,7 +333,9 @@ fn hold_option<'a>(alloc: Global) -> Arg<'a>
         .action(ArgAction::Set)
         .value_name("NS")
         .value_parser(clap::value_parser!(u64).range(1..=1_000_000_000_000_000))
-        .help("How long a fault stays, and each run goes on behind it, in ns; by default until it has settled")
+        .help(
+            "How long a fault stays, and each run goes on behind it, in ns; by default until it has settled",
+        )
 }
 
 /// The option of `faults` that leaves one kind of cases.
@@ -631,7 +633,9 @@ fn repeated_grammar<'a>(alloc: Global) -> Result<Command<'a>, AllocError>
     ensures local { IfOk result (λ command. (fields_of command).has_globals ≡ false) }
 {
     Command::new(alloc, "faults")
-        .about("Lets each link and each system fail and come back, and says what that does to the network")
+        .about(
+            "Lets each link and each system fail and come back, and says what that does to the network",
+        )
         .after_help(FAULTS_HELP)
         .arg(runs_option(
             alloc,
@@ -889,8 +893,7 @@ fn refuse_kind(alloc: Global, word: &str) -> CommandLineError {
 }
 
 /// The kind of cases that is left.
-fn only_in(alloc: Global, matches: &ArgMatches) -> Result<Option<Only>, CommandLineError>
-{
+fn only_in(alloc: Global, matches: &ArgMatches) -> Result<Option<Only>, CommandLineError> {
     match matches.get_str("only") {
         None => Ok(None),
         Some(text) => match kind_of(text) {
@@ -901,8 +904,7 @@ fn only_in(alloc: Global, matches: &ArgMatches) -> Result<Option<Only>, CommandL
 }
 
 /// What is asked of `faults`.
-fn faults_in(alloc: Global, matches: &ArgMatches) -> Result<FaultsOptions, CommandLineError>
-{
+fn faults_in(alloc: Global, matches: &ArgMatches) -> Result<FaultsOptions, CommandLineError> {
     let only = only_in(alloc, matches)?;
     let parts = count_in(matches, "parts", MOST_PARTS, 1);
     let part = count_in(matches, "part", MOST_PARTS, 1);

@@ -18,19 +18,19 @@ use Rattle.gptp_faults.specs.declared.times.Times.{Times}
 -- Each case of a part fails and comes back in several runs, of which none is refused. These are the lines of what becomes
 -- of them, the worst first; and whether a limit is exceeded.
 pub record FaultsOf (d : DocumentState) (options : FaultsOptions) (lines : List (List ℕ)) (exceeded : Bool) : Type 0
-    where
-  pub cases : List Case
-  pub are_cases : AreCases d options.only cases
-  pub times : Times
-  pub are_times : AreTimes d options times
-  pub before : fault_before d times cases ≡ None
-  pub planned : List Planned
-  pub are_planned : ArePlanned d options times cases planned
-  pub in_time : any_late times planned ≡ false
-  pub outcomes : List OutcomeState
-  pub are_outcomes : AreOutcomes d times options planned outcomes
-  pub are : lines ≡ table_lines options.limits times (ranked outcomes)
-  pub exceeded_is : exceeded ≡ exceeds options.limits (ranked outcomes)
+  where
+    pub cases : List Case
+    pub are_cases : AreCases d options.only cases
+    pub times : Times
+    pub are_times : AreTimes d options times
+    pub before : fault_before d times cases ≡ None
+    pub planned : List Planned
+    pub are_planned : ArePlanned d options times cases planned
+    pub in_time : any_late times planned ≡ false
+    pub outcomes : List OutcomeState
+    pub are_outcomes : AreOutcomes d times options planned outcomes
+    pub are : lines ≡ table_lines options.limits times (ranked outcomes)
+    pub exceeded_is : exceeded ≡ exceeds options.limits (ranked outcomes)
 
 -- the table of cases of which none is refused
 abbrev pub IsTable : DocumentState → FaultsOptions → Times → List Planned → Answer → Type 0

@@ -69,11 +69,7 @@ fn has_systems(only: Option<Only>) -> bool
 }
 
 /// Puts the link at a place behind those of the places before.
-fn push_link(
-    cases: &mut Vec<Case>,
-    snapshot: &Snapshot,
-    place: usize,
-) -> Result<(), AllocError>
+fn push_link(cases: &mut Vec<Case>, snapshot: &Snapshot, place: usize) -> Result<(), AllocError>
     requires { cases.old.items ≡ map link_case (take place snapshot.now.links) }
     ensures { OnOk result (cases.new.items ≡ map link_case (take (place + 1) snapshot.now.links)) }
 {
@@ -109,11 +105,7 @@ fn link_cases(
 }
 
 /// Puts the system at a place behind those of the places before, where it lives after all events.
-fn push_system(
-    cases: &mut Vec<Case>,
-    document: &Document,
-    place: usize,
-) -> Result<(), AllocError>
+fn push_system(cases: &mut Vec<Case>, document: &Document, place: usize) -> Result<(), AllocError>
     requires { cases.old.items
         ≡ map system_case (filter_map (live_after document.now.events) (take place document.now.network.systems)) }
     ensures { OnOk result (cases.new.items

@@ -53,13 +53,7 @@ fn greater_if(a: Option<u128>, b: Option<u128>) -> Option<u128>
     match (a, b) {
         (_, None) => a,
         (None, Some(_)) => b,
-        (Some(x), Some(y)) => {
-            if x < y {
-                Some(y)
-            } else {
-                Some(x)
-            }
-        }
+        (Some(x), Some(y)) => { if x < y { Some(y) } else { Some(x) } }
     }
 }
 

@@ -90,7 +90,13 @@ fn try_next<P: Sink>(
     ensures works { result ≢ Err Cut.Write → P.failures progress.new ≡ P.failures progress.old }
     ensures fails { result ≡ Err Cut.Write → P.failures progress.new ≢ P.failures progress.old }
 {
-    tell(alloc, options.progress, outcomes.len().saturating_add(1), count, progress)?;
+    tell(
+        alloc,
+        options.progress,
+        outcomes.len().saturating_add(1),
+        count,
+        progress,
+    )?;
     let outcome = try_case(alloc, document, times, number, planned)?;
     rank(outcomes, outcome)?;
     Ok(())

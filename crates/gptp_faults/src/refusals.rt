@@ -49,8 +49,7 @@ fn is_late(times: &Times, planned: &Planned) -> bool
     ensures { result ≡ is_late times.now planned.now }
 {
     let back = u128::from(last_moment(times)) + u128::from(planned.hold);
-    u128::from(LATEST_EVENT) < back
-        || u128::from(LATEST_END) < back + u128::from(times.behind)
+    u128::from(LATEST_EVENT) < back || u128::from(LATEST_END) < back + u128::from(times.behind)
 }
 
 /// Whether one of several would.
