@@ -254,7 +254,8 @@ abbrev pub IsPlain : List (List ℕ) → Type 0
 IsPlain words =
     NamesCompare words ⊎ (((file : List ℕ) × ChecksOnly file words) ⊎ (((clock : List ℕ) × ExplainsOnly clock words)
     ⊎ (IsBare (codes "run") words ⊎ (IsBare (codes "choice") words
-    ⊎ (IsBare (codes "accuracy") words ⊎ (IsBare (codes "lint") words ⊎ IsBare (codes "timeline") words))))))
+    ⊎ (IsBare (codes "accuracy") words ⊎ (IsBare (codes "lint") words
+    ⊎ (IsBare (codes "timeline") words ⊎ IsBare (codes "faults") words)))))))
 
 -- ---- the options, by the texts that the parser finds
 
@@ -327,6 +328,18 @@ pub record ReadsTimeline (rows : List Row) (order : TimelineOrder) : Type 0 wher
 abbrev pub ReadsKind : Option (List ℕ) → Option Only → Type 0
 ReadsKind None only = only ≡ None
 ReadsKind (Some text) only = (kind : Only) × (kind_of_text text ≡ Some kind) × (only ≡ Some kind)
+
+-- the text names no kind of cases
+abbrev pub LacksKind : List Row → Type 0
+LacksKind rows = (text : List ℕ) × (first_of (codes "only") rows ≡ Some text) × (kind_of_text text ≡ None)
+
+-- there is no such part
+pub record LacksPart (rows : List Row) : Type 0 where
+  pub part : ℕ
+  pub parts : ℕ
+  pub part_is : IsCount (one_of (codes "part") rows) 10000 part
+  pub parts_is : IsCount (one_of (codes "parts") rows) 10000 parts
+  pub beyond : parts < part
 
 -- the options of `faults`
 pub record ReadsFaults (rows : List Row) (options : FaultsOptions) : Type 0 where
@@ -408,6 +421,11 @@ Enters m (Ask question) = IsQuestionOf (subcommand_rows_of m) question
 -- the command that was entered is `explain`, with no clock
 abbrev pub RefusesClock : ArgMatches → Type 0
 RefusesClock m = (rows : List Row) × (subcommand_rows_of m ≡ Some (codes "explain", rows)) × LacksClock rows
+
+-- it is `faults`, with a kind or a part that there isn't
+abbrev pub RefusesCases : ArgMatches → Type 0
+RefusesCases m = (rows : List Row) × (subcommand_rows_of m ≡ Some (codes "faults", rows))
+    × (LacksKind rows ⊎ LacksPart rows)
 
 -- what its words ask for: the command that they name, with what the parser finds behind its name
 abbrev pub AsksFor : List (List ℕ) → Order → Type 0

@@ -11,7 +11,7 @@ ghost use Rattle.gptp_commands.specs.Command.{accuracy_command, check_command, c
 ghost use Rattle.gptp_commands.specs.Command.{choosing_program, lint_command, simulating_program, strict_rule};
 ghost use Rattle.gptp_commands.specs.Command.{timed_command, timeline_command, told_command};
 ghost use Rattle.gptp_commands.specs.Command.{count_rule, dealt_command, faults_command, hold_rule, measured_command, only_rule};
-ghost use Rattle.gptp_commands.specs.Command.{IsCount, kind_of_text, placed_command, progress_rule, repeated_command};
+ghost use Rattle.gptp_commands.specs.Command.{IsCount, LacksKind, LacksPart, ReadsFaults, ReadsKind, RefusesCases, kind_of_text, placed_command, progress_rule, repeated_command};
 ghost use Rattle.gptp_commands.specs.declared.command.CommandLineError.TheVariants.{Memory};
 ghost use Rattle.gptp_network.specs.Values.{clock_of_text};
 ghost use Rattle.gptp_network.specs.declared.fault.DocumentFault.TheVariants.{OutOfRange};
@@ -893,7 +893,9 @@ fn refuse_kind(alloc: Global, word: &str) -> CommandLineError {
 }
 
 /// The kind of cases that is left.
-fn only_in(alloc: Global, matches: &ArgMatches) -> Result<Option<Only>, CommandLineError> {
+fn only_in(alloc: Global, matches: &ArgMatches) -> Result<Option<Only>, CommandLineError>
+    ensures kind { IfOk result (ReadsKind (first_of (codes "only") (rows_of (found_of matches.now)))) }
+    ensures refused { IfErr result (λ e. (e ≡ Memory) ⊎ LacksKind (rows_of (found_of matches.now))) } {
     match matches.get_str("only") {
         None => Ok(None),
         Some(text) => match kind_of(text) {
@@ -904,7 +906,10 @@ fn only_in(alloc: Global, matches: &ArgMatches) -> Result<Option<Only>, CommandL
 }
 
 /// What is asked of `faults`.
-fn faults_in(alloc: Global, matches: &ArgMatches) -> Result<FaultsOptions, CommandLineError> {
+fn faults_in(alloc: Global, matches: &ArgMatches) -> Result<FaultsOptions, CommandLineError>
+    ensures asks { IfOk result (ReadsFaults (rows_of (found_of matches.now))) }
+    ensures refused { IfErr result (λ e. (e ≡ Memory)
+        ⊎ (LacksKind (rows_of (found_of matches.now)) ⊎ LacksPart (rows_of (found_of matches.now)))) } {
     let only = only_in(alloc, matches)?;
     let parts = count_in(matches, "parts", MOST_PARTS, 1);
     let part = count_in(matches, "part", MOST_PARTS, 1);
@@ -1002,7 +1007,7 @@ fn strict_in(matches: &ArgMatches) -> bool
 /// What is asked for, by the command that the parser entered.
 fn order_in(alloc: Global, matches: &ArgMatches) -> Result<Order, CommandLineError>
     ensures asks { IfOk result (Enters matches.now) }
-    ensures refused { IfErr result (λ e. (e ≡ Memory) ⊎ RefusesClock matches.now) }
+    ensures refused { IfErr result (λ e. (e ≡ Memory) ⊎ (RefusesClock matches.now ⊎ RefusesCases matches.now)) }
 {
     match matches.subcommand() {
         Some(("run", matches)) => Ok(Order::Run(options_in(matches))),
