@@ -140,6 +140,10 @@ stands_in names since errors w w' xs same stands = record {
   still = λ name none. stands.still name (sym (ap is_expecting (same_shown w w' same name)) ∙ none);
 }
 
+-- how a stretch ended of which this became
+abbrev pub ended_with : Stretch → List ℕ → EndState
+ended_with s roots = record { stretch = s; roots = roots }
+
 -- ---- how exact systems were
 
 accuracy_kept : (ts : List Transition) (kept : List Watched) (errors : Option TimeErrors)
@@ -309,10 +313,7 @@ module _ (options : TimelineOptions) (names : List ℕ) (since : ℕ → Option 
         ∙ ap (λ shown. became (greatest (ended names since p.acts ++ under_way names now p.to)) (counted shown))
         (kept_shown now errors p.after names)
 
-    abbrev ended_with : Stretch → List ℕ → EndState
-    ended_with s roots = record { stretch = s; roots = roots }
-
-    -- and the roots that are followed
+    -- so it ended
     pub end_is : end_of plan o ≡ end_in names since p
     end_is =
         ap (λ s. ended_with s (roots_of (shown_of_all o.systems))) stretch_ended

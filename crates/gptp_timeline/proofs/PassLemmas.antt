@@ -16,9 +16,10 @@ use Rattle.gptp_report.specs.Transitions.{Courses, CoursesSoFar}
 use Rattle.gptp_world.proofs.FollowLemmas.{text_append}
 use Rattle.gptp_report.proofs.RunLemmas.{made_if_stays, passed_stays}
 use Rattle.gptp_spelling.specs.Lines.{text_of}
+use Rattle.gptp_timeline.specs.Ends.{EndState}
 use Rattle.gptp_timeline.specs.LastTwo.{all_kept, end_in, end_of, kept_after, none_kept}
 use Rattle.gptp_timeline.specs.Passing.{BreaksSeen, first_time, IsSeen, IsSeenSoFar, IsSeenToEnd, StopsSeen}
-use Rattle.gptp_timeline.specs.Stretch.{waits}
+use Rattle.gptp_timeline.specs.Stretch.{roots_of, shown_of_all, waits}
 use Rattle.gptp_timeline.specs.StretchText.{after_line, ended_stretch}
 use Rattle.gptp_timeline.specs.Timeline.{accuracy_lines, act_lines, all_lines, AllPass, AreErrorsBy, end_before, end_lines, ended_of, exact_time, is_begun, kept_accuracy, IsPassage, IsPlan, later_than, none_waits, now_of, Passage, passage_lines, SomePass, stretch_of}
 use Rattle.gptp_timeline.specs.Watch.{begun, tells_changes, WatchState}
@@ -30,7 +31,7 @@ use Rattle.gptp_timeline.specs.declared.timeline.TimelineOptions.{TimelineOption
 use Rattle.gptp_timeline.specs.declared.watched.Watched.{Watched}
 use Rattle.gptp_timeline.proofs.EventLemmas.{ends_before, some_left}
 use Rattle.gptp_timeline.proofs.LineLemmas.{line_on}
-use Rattle.gptp_timeline.proofs.ObservedLemmas.{broken_told, end_told, IsOfPlan, Observes, Rests, stretch_begins, stretch_ended, stretch_passes, stretch_rests, stretch_told}
+use Rattle.gptp_timeline.proofs.ObservedLemmas.{broken_told, end_is, end_told, ended_with, IsOfPlan, Observes, Rests, stretch_begins, stretch_ended, stretch_passes, stretch_rests, stretch_told}
 
 -- ---- answers
 
@@ -55,6 +56,22 @@ pub appended_text : (empty after octets text : List ℕ) → empty ≡ [] → af
     → octets ≡ text
 appended_text empty after octets text none added same = same ∙ added ∙ ap (λ b. b ++ text) none
 
+-- what became of a stretch, and how it ended
+stretch_is : (plan : Plan) (o : WatchState) (s : Stretch) (m : Measures) (xs : List Watched)
+    → s ≡ ended_stretch plan.from plan.to plan.begins_with_event plan.bound m xs → m ≡ o.measures → xs ≡ o.systems
+    → s ≡ ended_of plan o
+stretch_is plan o s m xs is measures systems =
+    is ∙ ap (λ k. ended_stretch plan.from plan.to plan.begins_with_event plan.bound k xs) measures
+    ∙ ap (ended_stretch plan.from plan.to plan.begins_with_event plan.bound o.measures) systems
+
+pub end_made : (plan : Plan) (o : WatchState) (s : Stretch) (m : Measures) (xs ys : List Watched) (roots : List ℕ)
+    (e : EndState) → s ≡ ended_stretch plan.from plan.to plan.begins_with_event plan.bound m xs → m ≡ o.measures
+    → xs ≡ o.systems → roots ≡ roots_of (shown_of_all ys) → ys ≡ o.systems
+    → e ≡ record { stretch = s; roots = roots } → e ≡ end_of plan o
+end_made plan o s m xs ys roots e is measures systems followed also made =
+    made ∙ ap (λ t. ended_with t roots) (stretch_is plan o s m xs is measures systems)
+    ∙ ap (ended_with (ended_of plan o)) (followed ∙ ap (λ (zs : List Watched). roots_of (shown_of_all zs)) also)
+
 -- the lines where a stretch ends
 pub end_text : (plan : Plan) (o : WatchState) (s : Stretch) (m : Measures) (xs : List Watched)
     (empty between after octets : List ℕ)
@@ -63,9 +80,7 @@ pub end_text : (plan : Plan) (o : WatchState) (s : Stretch) (m : Measures) (xs :
     → after ≡ between ++ text_of (kept_accuracy o.systems plan.errors) → octets ≡ after
     → octets ≡ text_of (end_lines plan o)
 end_text plan o s m xs empty between after octets is measures systems none line rest same =
-    let stretch : s ≡ ended_of plan o =
-    is ∙ ap (λ k. ended_stretch plan.from plan.to plan.begins_with_event plan.bound k xs) measures
-    ∙ ap (ended_stretch plan.from plan.to plan.begins_with_event plan.bound o.measures) systems in
+    let stretch = stretch_is plan o s m xs is measures systems in
     appended_text empty after octets (text_of (end_lines plan o)) none
     (line_on empty between after (after_line s) (kept_accuracy o.systems plan.errors) line rest
     ∙ ap (λ t. empty ++ text_of (after_line t ∷ kept_accuracy o.systems plan.errors)) stretch) same
