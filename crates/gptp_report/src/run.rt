@@ -79,8 +79,9 @@ fn make_if_due<F: Fate + Drop, O: Observer, K: Sink>(
 /// behind the last.
 ///
 /// Errors: [`Cut::Write`] exactly where a write failed, after which nothing more happens; [`Cut::Memory`] where the
-/// observer says so or an act was refused, which is meant to be for want of memory alone; that it is so isn't promised.
-/// What the observer told until then stands written, or a front of it.
+/// observer says so, where a time lies before that of the world, or where an act was refused, which is meant to be for
+/// want of memory alone; that it is so isn't promised. What the observer told until then stands written, or a front of
+/// it.
 pub fn play<F: Fate + Drop, O: Observer, K: Sink>(
     alloc: Global,
     world: &mut World<F>,

@@ -9,6 +9,10 @@ use Rattle.gptp_timeline.specs.declared.ends.Kept.{Kept}
 use Rattle.gptp_timeline.specs.declared.limits.Exceeded.{Exceeded}
 use Rattle.gptp_timeline.specs.declared.limits.Limits.{Limits}
 
+-- nothing is asked of stretches
+abbrev pub no_limits : Limits
+no_limits = record { choice = None; holdover = None; error = None; without = None; roots = None; alone = None }
+
 module _ (limits : Limits) (names : List ℕ) where
   -- which limits were exceeded
   exceeded_from : (ps : List Passage) (since : ℕ → Option ℕ) (kept : Kept)

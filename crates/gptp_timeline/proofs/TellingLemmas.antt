@@ -88,11 +88,11 @@ same_truth true false is = absurd cc
 same_truth false true is = absurd cc
 same_truth false false is = refl
 
-role_from : ℕ → Role
-role_from 0 = Disabled
-role_from 1 = Master
-role_from 2 = Slave
-role_from n = Passive
+abbrev role_from : ℕ → Role
+role_from zero = Disabled
+role_from (suc zero) = Master
+role_from (suc (suc zero)) = Slave
+role_from (suc (suc (suc n))) = Passive
 
 role_back : (r : Role) → role_from (role_number r) ≡ r
 role_back Disabled = refl
@@ -240,13 +240,14 @@ at_port : (place low i : ℕ) (before after : List ShownPort) (q : ShownPort) �
     → option_or (last_by (of_port place) (port_tellings low before after)) (slice_get before i) ≡ Some q
 at_port place low i before [] q is there = absurd cc
 at_port place low zero [] (r ∷ rs) q is there =
-    let same : place ≡ low = omega (arith, is) in
-    rw same (first_port low None r (port_tellings (low + 1) [] rs)
-    (ports_of_others low (low + 1) [] rs (omega arith)) ∙ there)
+    let same : low ≡ place = omega (arith, is) in
+    subst (λ p. option_or (last_by (of_port p) (port_tellings low [] (r ∷ rs))) None ≡ Some q) same
+    (first_port low None r (port_tellings (low + 1) [] rs) (ports_of_others low (low + 1) [] rs (omega arith)) ∙ there)
 at_port place low zero (p ∷ ps) (r ∷ rs) q is there =
-    let same : place ≡ low = omega (arith, is) in
-    rw same (first_port low (Some p) r (port_tellings (low + 1) ps rs)
-    (ports_of_others low (low + 1) ps rs (omega arith)) ∙ there)
+    let same : low ≡ place = omega (arith, is) in
+    subst (λ n. option_or (last_by (of_port n) (port_tellings low (p ∷ ps) (r ∷ rs))) (Some p) ≡ Some q) same
+    (first_port low (Some p) r (port_tellings (low + 1) ps rs) (ports_of_others low (low + 1) ps rs (omega arith))
+    ∙ there)
 at_port place low (suc i) [] (r ∷ rs) q is there =
     later_port place low None None r q (port_tellings (low + 1) [] rs) (λ e. absurd (omega (arith, is)))
     (at_port place (low + 1) i [] rs q (omega (arith, is)) there)
@@ -315,11 +316,11 @@ tells_on (Some s) (Some t) told k = by (same_line (Some s) (Some t)) refl
 
 -- ---- several acts
 
-shown_in : ℕ → List Station → Option Shown
+abbrev shown_in : ℕ → List Station → Option Shown
 shown_in name stations = option_map shown_of (live_among name stations)
 
 module _ (name : ℕ) where
-  tells : Transition → List Telling
+  abbrev tells : Transition → List Telling
   tells t = tellings (shown name t.before) (shown name t.after)
 
   chain_tells : (ts : List Transition) (before after : List Station) (told : List Telling) → Chain ts before after

@@ -22,7 +22,7 @@ loop-to-init g c =
     let rests = subst (Rests options names none_waits w) (sym c.requires.starts)
     (start_rests g.F.Fate.answers d.network c.requires.begun.0 c.args.world.now.fate options w (watch_before options w)
     c.requires.begun.1 c.well_formed-3.ensures.sound.wired refl) in
-    rw (c.events_by-left.ensures, c.events.ensures) (record {
+    rw (c.none_kept-kept.ensures, c.events_by-left.ensures, c.events.ensures) (record {
       gone = seen_none g.F.Fate.answers d c.args.until options names (events_by c.args.until d.events)
           c.args.world.now.fate w c.args.watch.now (Appends old old) rests (appends_none old);
       may = may_begin c.args.until d.events w c.well_formed-2.ensures.events.in_order c.well_formed-2.ensures.allowed

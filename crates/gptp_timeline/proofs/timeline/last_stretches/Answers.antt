@@ -1,7 +1,7 @@
 use Rattle.std.proofs.Common.{ap, ◌∙◌}
 use Rattle.gptp_acts.specs.Views.{rising_clocks}
 use Rattle.gptp_timeline.specs.Watch.{event_look, see_all}
-use Rattle.gptp_timeline.proofs.KeptLemmas.{last_two_are}
+use Rattle.gptp_timeline.proofs.KeptLemmas.{last_two_are, no_limits}
 use Rattle.gptp_timeline.proofs.timeline.last_stretches.Goals as goal
 
 pub all_stretches-requires-clause-begun : goal.all_stretches-requires-clause-begun
@@ -23,5 +23,5 @@ returns-clause-ends g c =
       after = c.all_stretches.new.world.scene;
       pass = passed.1;
       are = c.both_of.ensures
-          ∙ last_two_are _ (rising_clocks c.in_ok-world.world.scene) passed.0 c.in_ok-kept.kept passed.2;
+          ∙ last_two_are no_limits (rising_clocks c.in_ok-world.world.scene) passed.0 c.in_ok-kept.kept passed.2;
     }
