@@ -1,8 +1,11 @@
 -- Cases, place after place.
-use Rattle.std.proofs.Common.{◌≡◌, ◌+◌, ◌++◌, ◌∷◌, [], ℕ, zero, suc, List, Option, Some, None, map, filter_map, take, slice_get, refl, sym, ap, ◌∙◌, append-nil, arith}
-use Rattle.std.specs.Option.{option_and_then, option_map}
+use Rattle.std.proofs.Common.{◌≡◌, ◌+◌, ◌++◌, ◌∷◌, [], ℕ, zero, suc, List, Option, Some, None, map, filter_map, take, slice_get, option_map, refl, sym, ap, ◌∙◌, append-nil, arith}
+use Rattle.std.specs.Option.{option_and_then}
 use Rattle.std.proofs.lemmas.List.{map-append}
 use Rattle.std.proofs.lemmas.List.Elements.{filter_map-append}
+use Rattle.gptp_graph.specs.Snapshot.{Link}
+use Rattle.gptp_network.specs.Snapshot.{link_of}
+use Rattle.gptp_vector.specs.declared.port.PortId.{PortId}
 use Rattle.gptp_lists.proofs.MappedLemmas.{taken}
 
 -- past the end there is no more
@@ -47,3 +50,8 @@ module _ {X Y Z : Type 0} (f : Y → Z) (h : X → Option Y) (xs : List X) (i : 
       by None there none = ap through (none_more xs i there)
       by (Some x) there lets =
           one_through x there ∙ ap (λ zs. through (take i xs) ++ zs) (rw lets refl) ∙ append-nil (through (take i xs))
+
+-- no link is there
+pub no_link : (o : Option (PortId × PortId)) (links : List Link) (i : ℕ) → option_map link_of o ≡ slice_get links i
+    → o ≡ None → slice_get links i ≡ None
+no_link o links i is none = sym is ∙ ap (option_map link_of) none

@@ -8,11 +8,13 @@ use Rattle.gptp_timeline.specs.Ends.{EndState}
 use Rattle.gptp_timeline.specs.declared.stretch.Stretch.{Stretch}
 use Rattle.gptp_faults.specs.Each.{Each}
 use Rattle.gptp_faults.specs.Extremes.{greatest_behind, joined, of_one}
-use Rattle.gptp_faults.specs.Outcomes.{backs, belongs, downs, IsOutcomeAt, numbers_of, OutcomeState}
+use Rattle.gptp_faults.specs.Follows.{follows}
+use Rattle.gptp_faults.specs.Outcomes.{backs, belongs, downs, IsOutcome, IsOutcomeAt, numbers_of, OutcomeState}
 use Rattle.gptp_faults.specs.Ranking.{ranked, ranked_behind, ranked_with}
-use Rattle.gptp_faults.specs.Runs.{IsRun}
+use Rattle.gptp_faults.specs.Runs.{IsRun, runs_of}
 use Rattle.gptp_faults.specs.declared.extremes.Extremes.{Extremes}
-use Rattle.gptp_faults.specs.declared.times.Planned.{Planned}
+use Rattle.gptp_faults.specs.declared.follows.Follow.{Follow}
+use Rattle.gptp_faults.specs.declared.cases.Planned.{Planned}
 use Rattle.gptp_faults.specs.declared.times.Times.{Times}
 use Rattle.gptp_faults.proofs.EachLemmas.{each_more}
 
@@ -24,6 +26,11 @@ range_more from (suc count) =
     let f : from + 1 + count ≡ from + suc count = omega arith in
     rw e (ap (λ ns. from ∷ ns) (range_more (from + 1) count ∙ ap (λ n. range_with_len (from + 1) count ++ n ∷ []) f))
 
+range_with_one : (count : ℕ) → range_with_len 0 (count + 1) ≡ range_with_len 0 count ++ count ∷ []
+range_with_one count =
+    let e : 0 + count ≡ count = omega arith in
+    range_more 0 count ∙ ap (λ n. range_with_len 0 count ++ n ∷ []) e
+
 -- ---- the runs of a case
 
 -- with one stretch more
@@ -32,42 +39,75 @@ greatest_more : (e : Extremes) (ss : List Stretch) (s : Stretch)
 greatest_more e [] s = refl
 greatest_more e (x ∷ xs) s = greatest_more (joined e (of_one x)) xs s
 
--- Some runs of a case were made, the first of them and others; so great is the worst of them.
-pub record AreTried (d : DocumentState) (t : Times) (p : Planned) (count : ℕ) (first : EndState × EndState)
-    (down back : Extremes) : Type 0 where
+-- Some runs of a case were made; so great is the worst of them, and so many systems follow which roots in the first.
+pub record AreTried (d : DocumentState) (t : Times) (p : Planned) (count : ℕ) (down back : Extremes)
+    (follow : List Follow) : Type 0 where
+  pub first : EndState × EndState
   pub others : List (EndState × EndState)
   pub runs : Each (IsRun d t p) (range_with_len 0 count) (first ∷ others)
   pub down_is : down ≡ greatest_behind (of_one first.0.stretch) (downs others)
   pub back_is : back ≡ greatest_behind (of_one first.1.stretch) (backs others)
+  pub follow_is : follow ≡ follows first.0.roots
 
-module _ (d : DocumentState) (t : Times) (p : Planned) (first : EndState × EndState) where
-  pub one_tried : IsRun d t p 0 first → AreTried d t p 1 first (of_one first.0.stretch) (of_one first.1.stretch)
-  one_tried run = record { others = []; runs = (run, tt); down_is = refl; back_is = refl }
-
-  pub more_tried : (count : ℕ) (down back : Extremes) → AreTried d t p count first down back
-      → (ends : EndState × EndState) → IsRun d t p count ends
-      → AreTried d t p (count + 1) first (joined down (of_one ends.0.stretch)) (joined back (of_one ends.1.stretch))
-  more_tried count down back tried ends run = record {
-    others = tried.others ++ ends ∷ [];
-    runs = subst (λ ns. Each (IsRun d t p) ns (first ∷ tried.others ++ ends ∷ [])) (sym (range_more 0 count))
-        (each_more (IsRun d t p) (range_with_len 0 count) (first ∷ tried.others) (0 + count) ends tried.runs run);
-    down_is = ap (λ e. joined e (of_one ends.0.stretch)) tried.down_is
-        ∙ sym (greatest_more (of_one first.0.stretch) (downs tried.others) ends.0.stretch)
-        ∙ ap (greatest_behind (of_one first.0.stretch))
-        (sym (map-append (λ (r : EndState × EndState). r.0.stretch) tried.others (ends ∷ [])));
-    back_is = ap (λ e. joined e (of_one ends.1.stretch)) tried.back_is
-        ∙ sym (greatest_more (of_one first.1.stretch) (backs tried.others) ends.1.stretch)
-        ∙ ap (greatest_behind (of_one first.1.stretch))
-        (sym (map-append (λ (r : EndState × EndState). r.1.stretch) tried.others (ends ∷ [])));
+module _ (d : DocumentState) (t : Times) (p : Planned) where
+  pub one_tried : (first : EndState × EndState) (down back : Extremes) (follow : List Follow) → IsRun d t p 0 first
+      → down ≡ of_one first.0.stretch → back ≡ of_one first.1.stretch → follow ≡ follows first.0.roots
+      → AreTried d t p 1 down back follow
+  one_tried first down back follow run down_is back_is follow_is = record {
+    first = first;
+    others = [];
+    runs = (run, tt);
+    down_is = down_is;
+    back_is = back_is;
+    follow_is = follow_is;
   }
 
+  pub more_tried : (count : ℕ) (down back down_after back_after : Extremes) (follow : List Follow)
+      → AreTried d t p count down back follow → (ends : EndState × EndState) → IsRun d t p count ends
+      → down_after ≡ joined down (of_one ends.0.stretch) → back_after ≡ joined back (of_one ends.1.stretch)
+      → AreTried d t p (count + 1) down_after back_after follow
+  more_tried count down back down_after back_after follow tried ends run down_is back_is = record {
+    first = tried.first;
+    others = tried.others ++ ends ∷ [];
+    runs = subst (λ ns. Each (IsRun d t p) ns (tried.first ∷ tried.others ++ ends ∷ [])) (sym (range_with_one count))
+        (each_more (IsRun d t p) (range_with_len 0 count) (tried.first ∷ tried.others) count ends tried.runs run);
+    down_is = down_is ∙ ap (λ e. joined e (of_one ends.0.stretch)) tried.down_is
+        ∙ sym (greatest_more (of_one tried.first.0.stretch) (downs tried.others) ends.0.stretch)
+        ∙ ap (greatest_behind (of_one tried.first.0.stretch))
+        (sym (map-append (λ (r : EndState × EndState). r.0.stretch) tried.others (ends ∷ [])));
+    back_is = back_is ∙ ap (λ e. joined e (of_one ends.1.stretch)) tried.back_is
+        ∙ sym (greatest_more (of_one tried.first.1.stretch) (backs tried.others) ends.1.stretch)
+        ∙ ap (greatest_behind (of_one tried.first.1.stretch))
+        (sym (map-append (λ (r : EndState × EndState). r.1.stretch) tried.others (ends ∷ [])));
+    follow_is = tried.follow_is;
+  }
+
+  abbrev outcome : ℕ → Extremes → Extremes → List Follow → OutcomeState
+  outcome number down back follow =
+      record { number = number; failing = p.failing; down = down; back = back; follow = follow }
+
+  -- all of them
+  pub all_tried : (number count : ℕ) (down back : Extremes) (follow : List Follow) (o : OutcomeState)
+      → AreTried d t p count down back follow → count ≡ runs_of t
+      → o ≡ outcome number down back follow
+      → IsOutcome d t number p o
+  all_tried number count down back follow o tried all is = record {
+    first = tried.first;
+    others = tried.others;
+    runs = subst (λ n. Each (IsRun d t p) (range_with_len 0 n) (tried.first ∷ tried.others)) all tried.runs;
+    is = is ∙ ap (λ e. outcome number e back follow) tried.down_is
+        ∙ ap (λ e. outcome number (greatest_behind (of_one tried.first.0.stretch) (downs tried.others)) e follow)
+        tried.back_is
+        ∙ ap (outcome number (greatest_behind (of_one tried.first.0.stretch) (downs tried.others))
+        (greatest_behind (of_one tried.first.1.stretch) (backs tried.others))) tried.follow_is;
+  }
 -- ---- the cases of a part
 
 module _ (parts part count : ℕ) where
   numbers_more : numbers_of parts part (count + 1)
       ≡ numbers_of parts part count ++ filter (belongs parts part) (count ∷ [])
   numbers_more =
-      ap (filter (belongs parts part)) (range_more 0 count)
+      ap (filter (belongs parts part)) (range_with_one count)
       ∙ filter-append (belongs parts part) (range_with_len 0 count) (count ∷ [])
 
   one_number : belongs parts part count ≡ true

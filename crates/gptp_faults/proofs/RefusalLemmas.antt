@@ -3,7 +3,7 @@ use Rattle.std.proofs.Common.{◌≡◌, ◌≤◌, ◌<◌, ◌+◌, ◌||◌, 
 use Rattle.std.proofs.lemmas.Bool.Decides.{nat_tests}
 use Rattle.gptp_faults.specs.Refusals.{any_late, is_late, latest_end, latest_event}
 use Rattle.gptp_faults.specs.Times.{IsInTime, last_moment}
-use Rattle.gptp_faults.specs.declared.times.Planned.{Planned}
+use Rattle.gptp_faults.specs.declared.cases.Planned.{Planned}
 use Rattle.gptp_faults.specs.declared.times.Times.{Times}
 
 neither : (a b : Bool) → (a || b) ≡ false → (a ≡ false) × (b ≡ false)

@@ -1,7 +1,17 @@
 -- Texts of several lines.
-use Rattle.std.proofs.Common.{◌≡◌, ℕ, List, [], ◌∷◌, ◌++◌, ap, ◌∙◌}
+use Rattle.std.proofs.Common.{◌≡◌, ℕ, List, [], ◌∷◌, ◌++◌, codes, length, map, ap, ◌∙◌}
+use Rattle.std.specs.List.{flat_map}
 use Rattle.gptp_spelling.specs.Lines.{text_of}
 use Rattle.gptp_timeline.proofs.LineLemmas.{line_on, line_text, lines_on}
+use Rattle.gptp_timeline.specs.Limits.{first_exceeded, verdict_line}
+use Rattle.gptp_timeline.specs.declared.limits.Exceeded.{Exceeded}
+use Rattle.gptp_timeline.specs.declared.limits.Limits.{Limits}
+use Rattle.gptp_faults.specs.FaultsText.{case_line, exceeded_by, extremes_line, follow_line, head_line, outcome_lines, table_lines, worst_line, worst_of_all}
+use Rattle.gptp_faults.specs.Outcomes.{OutcomeState}
+use Rattle.gptp_faults.specs.declared.cases.Case.{Case}
+use Rattle.gptp_faults.specs.declared.extremes.Extremes.{Extremes}
+use Rattle.gptp_faults.specs.declared.follows.Follow.{Follow}
+use Rattle.gptp_faults.specs.declared.times.Times.{Times}
 
 -- the lines of a case: its own, that of down, those of the roots that are followed, and that of back
 pub case_text : (before a b c d first down back : List ℕ) (follows : List (List ℕ))
@@ -19,3 +29,37 @@ pub table_text : (before a b c d head worst verdict : List ℕ) (cases : List (L
 table_text before a b c d head worst verdict cases one two three four =
     line_on before a d head (cases ++ worst ∷ verdict ∷ []) one
     (lines_on a b d cases (worst ∷ verdict ∷ []) two (line_on b c d worst (verdict ∷ []) three four))
+
+abbrev lines_by : ℕ → Case → Extremes → List Follow → Extremes → List (List ℕ)
+lines_by number failing down follow back =
+    case_line number failing ∷ extremes_line (codes "down") down
+    ∷ map follow_line follow ++ extremes_line (codes "back") back ∷ []
+
+-- the lines of a case, by its parts
+pub outcome_text : (o : OutcomeState) (number : ℕ) (failing : Case) (down back : Extremes) (follow : List Follow)
+    (before a b c d : List ℕ) → number ≡ o.number → failing ≡ o.failing → down ≡ o.down → follow ≡ o.follow
+    → back ≡ o.back → a ≡ before ++ (case_line number failing ++ 10 ∷ [])
+    → b ≡ a ++ (extremes_line (codes "down") down ++ 10 ∷ []) → c ≡ b ++ text_of (map follow_line follow)
+    → d ≡ c ++ (extremes_line (codes "back") back ++ 10 ∷ []) → d ≡ before ++ text_of (outcome_lines o)
+outcome_text o number failing down back follow before a b c d number_is failing_is down_is follow_is back_is one two
+    three four =
+    case_text before a b c d (case_line number failing) (extremes_line (codes "down") down)
+    (extremes_line (codes "back") back) (map follow_line follow) one two three four
+    ∙ ap (λ n. before ++ text_of (lines_by n failing down follow back)) number_is
+    ∙ ap (λ f. before ++ text_of (lines_by o.number f down follow back)) failing_is
+    ∙ ap (λ e. before ++ text_of (lines_by o.number o.failing e follow back)) down_is
+    ∙ ap (λ fs. before ++ text_of (lines_by o.number o.failing o.down fs back)) follow_is
+    ∙ ap (λ e. before ++ text_of (lines_by o.number o.failing o.down o.follow e)) back_is
+
+-- the lines of all cases, by the worst of them
+pub all_text : (limits : Limits) (t : Times) (os : List OutcomeState) (worst : Extremes) (exceeded : Exceeded)
+    (before a b c d : List ℕ) → worst ≡ worst_of_all os → exceeded ≡ exceeded_by limits worst
+    → a ≡ before ++ (head_line (length os) t ++ 10 ∷ []) → b ≡ a ++ text_of (flat_map outcome_lines os)
+    → c ≡ b ++ (worst_line worst ++ 10 ∷ []) → d ≡ c ++ text_of (verdict_line (first_exceeded exceeded) ∷ [])
+    → d ≡ before ++ text_of (table_lines limits t os)
+all_text limits t os worst exceeded before a b c d worst_is exceeded_is one two three four =
+    table_text before a b c d (head_line (length os) t) (worst_line (worst_of_all os))
+    (verdict_line (first_exceeded (exceeded_by limits (worst_of_all os)))) (flat_map outcome_lines os) one two
+    (three ∙ ap (λ w. b ++ (worst_line w ++ 10 ∷ [])) worst_is)
+    (four ∙ ap (λ e. c ++ text_of (verdict_line (first_exceeded e) ∷ []))
+    (exceeded_is ∙ ap (exceeded_by limits) worst_is))

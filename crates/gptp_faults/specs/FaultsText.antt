@@ -1,5 +1,5 @@
 -- The lines of cases (profile).
-use Rattle.std.specs.Prelude.{ℕ, List, [], ◌∷◌, ◌++◌, codes, length, map, is_some, Bool}
+use Rattle.std.specs.Prelude.{ℕ, List, [], ◌∷◌, ◌++◌, codes, length, map, is_some, Bool, Option}
 use Rattle.std.specs.Fmt.{decimal}
 use Rattle.std.specs.List.{flat_map}
 use Rattle.gptp_spelling.specs.Digits.{clock_text, identity_text, or_none}
@@ -76,14 +76,15 @@ worst_behind e (o ∷ os) = worst_behind (joined (joined e o.down) o.back) os
 abbrev pub worst_of_all : List OutcomeState → Extremes
 worst_of_all = worst_behind of_none
 
-abbrev pub worst_words : Extremes → List ℕ
-worst_words e =
-    codes "worst choice " ++ or_none decimal e.choice
-    ++ codes " holdover " ++ decimal (amount_or_0 (amount_of e.holdover))
-    ++ codes " error " ++ near_text (amount_or_0 (amount_of e.error))
+abbrev pub worst_words : Option ℕ → ℕ → ℕ → List ℕ
+worst_words choice holdover error =
+    codes "worst choice " ++ or_none decimal choice
+    ++ codes " holdover " ++ decimal holdover
+    ++ codes " error " ++ near_text error
 
 abbrev pub worst_line : Extremes → List ℕ
-worst_line e = worst_words e ++ counts_text e.counts
+worst_line e =
+    worst_words e.choice (amount_or_0 (amount_of e.holdover)) (amount_or_0 (amount_of e.error)) ++ counts_text e.counts
 
 -- which limits it exceeds; errors are in 2^-16 ns
 abbrev pub exceeded_by : Limits → Extremes → Exceeded

@@ -12,7 +12,7 @@ use Rattle.gptp_faults.specs.declared.cases.Case.{Case}
 use Rattle.gptp_faults.specs.declared.extremes.Extremes.{Extremes}
 use Rattle.gptp_faults.specs.declared.follows.Follow.{Follow}
 use Rattle.gptp_faults.specs.declared.options.FaultsOptions.{FaultsOptions}
-use Rattle.gptp_faults.specs.declared.times.Planned.{Planned}
+use Rattle.gptp_faults.specs.declared.cases.Planned.{Planned}
 use Rattle.gptp_faults.specs.declared.times.Times.{Times}
 
 -- the number of a case, which it is, the greatest of all its runs while it is down and when it is back, and whom systems

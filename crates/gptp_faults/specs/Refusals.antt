@@ -9,7 +9,7 @@ use Rattle.gptp_faults.specs.Cases.{AreCases}
 use Rattle.gptp_faults.specs.Times.{ArePlanned, AreTimes, last_moment}
 use Rattle.gptp_faults.specs.declared.cases.Case.{Case}
 use Rattle.gptp_faults.specs.declared.options.FaultsOptions.{FaultsOptions}
-use Rattle.gptp_faults.specs.declared.times.Planned.{Planned}
+use Rattle.gptp_faults.specs.declared.cases.Planned.{Planned}
 use Rattle.gptp_faults.specs.declared.times.Times.{Times}
 
 -- the latest time that an event may have, and at which a run may end

@@ -11,7 +11,7 @@ use Rattle.gptp_timeline.specs.Ends.{EndState}
 use Rattle.gptp_timeline.specs.LastTwo.{EndsOf}
 use Rattle.gptp_faults.specs.Cases.{fault_of, return_of}
 use Rattle.gptp_faults.specs.Times.{moment}
-use Rattle.gptp_faults.specs.declared.times.Planned.{Planned}
+use Rattle.gptp_faults.specs.declared.cases.Planned.{Planned}
 use Rattle.gptp_faults.specs.declared.times.Times.{Times}
 
 -- delays and losses are drawn from the generator of the seed

@@ -10,7 +10,7 @@ use Rattle.gptp_faults.specs.Cases.{fault_of}
 use Rattle.gptp_faults.specs.Each.{Each}
 use Rattle.gptp_faults.specs.declared.cases.Case.{Case}
 use Rattle.gptp_faults.specs.declared.options.FaultsOptions.{FaultsOptions}
-use Rattle.gptp_faults.specs.declared.times.Planned.{Planned}
+use Rattle.gptp_faults.specs.declared.cases.Planned.{Planned}
 use Rattle.gptp_faults.specs.declared.times.Times.{Times}
 
 -- the numbers of what is asked are in their ranges

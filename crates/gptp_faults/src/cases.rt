@@ -1,6 +1,6 @@
 //! Cases: what fails and comes back.
 
-ghost use Rattle.std.specs.Prelude.{◌≡◌, ◌+◌, if◌then◌else◌, [], IfOk, OnOk, map, filter_map, take};
+ghost use Rattle.std.specs.Prelude.{◌≡◌, ◌+◌, ◌++◌, ◌∷◌, [], IfOk, OnOk, map, filter_map, take};
 ghost use Rattle.gptp_network.specs.Events.{IsInRange};
 ghost use Rattle.gptp_plan.specs.Change.{live_after};
 ghost use Rattle.gptp_faults.specs.Cases.{AreCases, fault_of, has_links, has_systems, link_case, link_cases, live_cases, return_of, system_case, system_cases};
@@ -20,9 +20,44 @@ pub(crate) enum Case {
     System { clock: ClockId },
 }
 
+/// What is planned of a case.
+#[derive(Clone, Copy, Debug)]
+pub(crate) struct Planned {
+    /// What fails.
+    pub failing: Case,
+    /// How long it stays down, in ns.
+    pub hold: u64,
+}
+
+/// The same case.
+fn same(case: &Case) -> Case
+    ensures { result ≡ case.now }
+{
+    match case {
+        Case::Link { a, b } => Case::Link { a: *a, b: *b },
+        Case::System { clock } => Case::System { clock: *clock },
+    }
+}
+
+/// Puts what is planned of a case behind others: how long it stays down, in ns.
+pub(crate) fn push_planned(
+    planned: &mut Vec<Planned>,
+    case: &Case,
+    hold: u64,
+) -> Result<(), AllocError>
+    ensures { OnOk result (planned.new.items
+        ≡ planned.old.items ++ record { failing = case.now; hold = hold } ∷ []) }
+{
+    planned.push(Planned {
+        failing: same(case),
+        hold,
+    })?;
+    Ok(())
+}
+
 /// What it is that fails.
-pub(crate) fn fault_of(case: Case) -> Change
-    ensures is { result ≡ fault_of case }
+pub(crate) fn fault_of(case: &Case) -> Change
+    ensures is { result ≡ fault_of case.now }
     ensures range { IsInRange result }
 {
     match case {
@@ -30,13 +65,13 @@ pub(crate) fn fault_of(case: Case) -> Change
             clock: a.clock,
             port: a.port,
         },
-        Case::System { clock } => Change::Fail { clock },
+        Case::System { clock } => Change::Fail { clock: *clock },
     }
 }
 
 /// What it is that comes back.
-pub(crate) fn return_of(case: Case) -> Change
-    ensures is { result ≡ return_of case }
+pub(crate) fn return_of(case: &Case) -> Change
+    ensures is { result ≡ return_of case.now }
     ensures range { IsInRange result }
 {
     match case {
@@ -44,7 +79,7 @@ pub(crate) fn return_of(case: Case) -> Change
             clock: a.clock,
             port: a.port,
         },
-        Case::System { clock } => Change::Recover { clock },
+        Case::System { clock } => Change::Recover { clock: *clock },
     }
 }
 

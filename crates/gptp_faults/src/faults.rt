@@ -7,13 +7,13 @@ ghost use Rattle.gptp_faults.specs.Ranking.{ranked, ranked_with};
 ghost use Rattle.gptp_faults.specs.Refusals.{any_late};
 ghost use Rattle.gptp_faults.specs.Times.{AreBounded, AreOptions, IsInTime};
 
-use crate::cases::cases_of;
+use crate::cases::{Planned, cases_of};
 use crate::options::FaultsOptions;
 use crate::outcome::{Outcome, try_case};
 use crate::ranking::rank;
 use crate::refusals::{any_late, fault_before};
 use crate::text::write_table;
-use crate::times::{Planned, Times, plan_cases, times_of};
+use crate::times::{Times, plan_cases, times_of};
 use gptp_network::{Document, DocumentFault};
 use gptp_report::sink::Sink;
 use gptp_report::{Cut, write_whole};
@@ -37,17 +37,10 @@ fn belongs(options: &FaultsOptions, number: usize) -> bool
 }
 
 /// How many of so many cases belong to the part.
-fn count_of(options: &FaultsOptions, count: usize) -> usize
+fn count_of(options: &FaultsOptions, count: usize) -> u64
     requires { AreOptions options.now }
-    ensures { result ≤ count }
 {
-    let mut cases = 0;
-    for number in 0..count {
-        if belongs(options, number) {
-            cases += 1;
-        }
-    }
-    cases
+    (count as u64).saturating_add(options.parts - options.part) / options.parts
 }
 
 /// Tells that a case begins, where that is asked for.
@@ -55,7 +48,7 @@ fn tell<P: Sink>(
     alloc: Global,
     asked: bool,
     place: usize,
-    count: usize,
+    count: u64,
     progress: &mut P,
 ) -> Result<(), Cut>
     ensures works { result ≢ Err Cut.Write → P.failures progress.new ≡ P.failures progress.old }
@@ -78,7 +71,7 @@ fn try_next<P: Sink>(
     times: &Times,
     number: usize,
     planned: &Planned,
-    count: usize,
+    count: u64,
     outcomes: &mut Vec<Outcome>,
     progress: &mut P,
 ) -> Result<(), Cut>

@@ -56,14 +56,25 @@ fn follow_of(roots: &[Identity], root: Identity) -> Follow
     }
 }
 
+/// How many systems follow each of some roots.
+fn follows_among(
+    alloc: Global,
+    roots: &[Identity],
+    rising: &[Identity],
+) -> Result<Vec<Follow>, AllocError>
+    ensures { IfOk result (λ v. v.items ≡ map (follow_of roots.now) rising.now) }
+{
+    let mut follows = Vec::new(alloc);
+    for root in rising {
+        follows.push(follow_of(roots, *root))?;
+    }
+    Ok(follows)
+}
+
 /// Each root once, in rising order, with how many systems follow it.
 pub(crate) fn follows_of(alloc: Global, roots: &[Identity]) -> Result<Vec<Follow>, AllocError>
     ensures { IfOk result (λ v. v.items ≡ follows roots.now) }
 {
     let rising = rising_roots(alloc, roots)?;
-    let mut follows = Vec::new(alloc);
-    for root in &rising {
-        follows.push(follow_of(roots, *root))?;
-    }
-    Ok(follows)
+    follows_among(alloc, roots, &rising)
 }

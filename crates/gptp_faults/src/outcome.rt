@@ -4,11 +4,11 @@ ghost use Rattle.std.specs.Prelude.{◌≡◌, ◌≤◌, ◌<◌, ◌+◌, IfEr
 ghost use Rattle.gptp_faults.specs.Outcomes.{IsOutcome};
 ghost use Rattle.gptp_faults.specs.Times.{AreBounded, IsInTime};
 
-use crate::cases::Case;
+use crate::cases::{Case, Planned};
 use crate::extremes::{Extremes, joined, of_one};
 use crate::follows::{Follow, follows_of};
 use crate::runs::{run_case, runs_of};
-use crate::times::{Planned, Times};
+use crate::times::Times;
 use gptp_network::Document;
 use gptp_report::Cut;
 use std::alloc::Global;

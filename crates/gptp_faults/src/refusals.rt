@@ -4,8 +4,8 @@ ghost use Rattle.std.specs.Prelude.{◌≡◌, ◌≤◌};
 ghost use Rattle.gptp_faults.specs.Refusals.{any_late, fault_before, first_fault, is_late};
 ghost use Rattle.gptp_faults.specs.Times.{AreBounded};
 
-use crate::cases::Case;
-use crate::times::{Planned, Times, last_moment};
+use crate::cases::{Case, Planned};
+use crate::times::{Times, last_moment};
 use gptp_network::{Document, DocumentFault};
 
 /// The latest time that an event may have, in ns.

@@ -4,8 +4,8 @@ ghost use Rattle.std.specs.Prelude.{◌≡◌, ◌≤◌, ◌<◌, ◌+◌, IfEr
 ghost use Rattle.gptp_faults.specs.Runs.{IsRun, moment_of, runs_of, seed_of};
 ghost use Rattle.gptp_faults.specs.Times.{AreBounded, IsInTime, last_moment};
 
-use crate::cases::{fault_of, return_of};
-use crate::times::{Planned, Times, add, moment};
+use crate::cases::{Planned, fault_of, return_of};
+use crate::times::{Times, add, moment};
 use gptp_links::PcgFate;
 use gptp_network::Document;
 use gptp_report::Cut;
@@ -70,8 +70,8 @@ pub(crate) fn run_case(
     let count = document.events().len();
     let down = moment_of(times, run);
     let back = down + planned.hold;
-    add(document, down, fault_of(planned.failing))?;
-    add(document, back, return_of(planned.failing))?;
+    add(document, down, fault_of(&planned.failing))?;
+    add(document, back, return_of(&planned.failing))?;
     let fate = PcgFate::new(seed_of(times, run));
     let ends = last_stretches(alloc, document, fate, back + times.behind)?;
     document.truncate(count);

@@ -196,15 +196,19 @@ fn worst_of_all(outcomes: &[Outcome]) -> Extremes
 }
 
 /// Appends the amounts of the greatest of all.
-fn write_worst_amounts(text: &mut String, worst: &Extremes) -> Result<(), AllocError>
-    ensures { OnOk result (string_bytes text.new ≡ string_bytes text.old ++ worst_words worst.now) }
+fn write_worst_amounts(
+    text: &mut String,
+    choice: Option<u128>,
+    holdover: u128,
+    error: u128,
+) -> Result<(), AllocError>
+    ensures { OnOk result (string_bytes text.new ≡ string_bytes text.old ++ worst_words choice holdover error) }
 {
     write!(
         text,
-        "worst choice {} holdover {} error {}",
-        AmountOrNone(worst.choice),
-        amount_or_0(amount_of(worst.holdover)),
-        Near(amount_or_0(amount_of(worst.error)))
+        "worst choice {} holdover {holdover} error {}",
+        AmountOrNone(choice),
+        Near(error)
     )
 }
 
@@ -219,7 +223,9 @@ fn write_counts(text: &mut String, counts: Counts) -> Result<(), AllocError>
 fn write_worst(text: &mut String, worst: &Extremes) -> Result<(), AllocError>
     ensures { OnOk result (string_bytes text.new ≡ string_bytes text.old ++ (worst_line worst.now ++ 10 ∷ [])) }
 {
-    write_worst_amounts(text, worst)?;
+    let holdover = amount_or_0(amount_of(worst.holdover));
+    let error = amount_or_0(amount_of(worst.error));
+    write_worst_amounts(text, worst.choice, holdover, error)?;
     write_counts(text, worst.counts)
 }
 

@@ -1,11 +1,11 @@
 //! When faults come, and how long they stay.
 
-ghost use Rattle.std.specs.Prelude.{◌≡◌, ◌≤◌, ◌<◌, ◌++◌, ◌∷◌, [], IfOk, IfErr, OnOk, None, length, take};
+ghost use Rattle.std.specs.Prelude.{◌≡◌, ◌≤◌, ◌<◌, ◌++◌, ◌∷◌, [], IfOk, IfErr, IfSome, OnOk, None, length, take, unwrap_or};
 ghost use Rattle.gptp_network.specs.Adding.{with_event};
 ghost use Rattle.gptp_network.specs.Events.{IsInRange};
 ghost use Rattle.gptp_faults.specs.Times.{AreBounded, AreOptions, ArePlanned, AreTimes, IsHold, IsPlanned, last_moment, moment};
 
-use crate::cases::{Case, fault_of};
+use crate::cases::{Case, Planned, fault_of, push_planned};
 use crate::options::FaultsOptions;
 use gptp_network::Document;
 use gptp_plan::Change;
@@ -28,16 +28,21 @@ pub(crate) struct Times {
     pub behind: u64,
 }
 
-/// What is planned of a case.
-#[derive(Clone, Copy, Debug)]
-pub(crate) struct Planned {
-    /// What fails.
-    pub failing: Case,
-    /// How long it stays down, in ns.
-    pub hold: u64,
+/// What is asked, or a default.
+fn asked_or(asked: Option<u64>, default: u64) -> u64
+    requires asked { IfSome asked (λ time. time ≤ 1000000000000000) }
+    requires default { default ≤ 1000000000000000 }
+    ensures is { result ≡ unwrap_or asked default }
+    ensures bound { result ≤ 1000000000000000 }
+{
+    match asked {
+        Some(asked) => asked,
+        None => default,
+    }
 }
 
 /// When the faults of a document come.
+#[tactic(auto, using(gptp_network::proofs::EventLemmas::early_from))]
 pub(crate) fn times_of(
     alloc: Global,
     document: &Document,
@@ -49,14 +54,15 @@ pub(crate) fn times_of(
 {
     document.well_formed();
     let network = document.network();
+    network.well_formed();
     let last = document.last_change();
     let span = document.span_at(alloc, last)?;
     Ok(Times {
-        from: options.at.unwrap_or(last + span),
+        from: asked_or(options.at, last + span),
         spread: interval_of(network.largest()) + interval_of(network.params().sync),
         moments: options.moments,
         seeds: options.seeds,
-        behind: options.hold.unwrap_or(span),
+        behind: asked_or(options.hold, span),
     })
 }
 
@@ -97,9 +103,9 @@ fn settling_hold(
     alloc: Global,
     document: &mut Document,
     times: &Times,
-    failing: Case,
+    failing: &Case,
 ) -> Result<u64, Cut>
-    ensures hold { IfOk result (IsHold document.old times.now failing None) }
+    ensures hold { IfOk result (IsHold document.old times.now failing.now None) }
     ensures same { OnOk result (document.new ≡ document.old) }
     ensures memory { IfErr result (λ e. e ≡ Cut.Memory) }
 {
@@ -116,9 +122,9 @@ fn hold_of(
     document: &mut Document,
     options: &FaultsOptions,
     times: &Times,
-    failing: Case,
+    failing: &Case,
 ) -> Result<u64, Cut>
-    ensures hold { IfOk result (IsHold document.old times.now failing options.now.hold) }
+    ensures hold { IfOk result (IsHold document.old times.now failing.now options.now.hold) }
     ensures same { OnOk result (document.new ≡ document.old) }
     ensures memory { IfErr result (λ e. e ≡ Cut.Memory) }
 {
@@ -128,30 +134,22 @@ fn hold_of(
     }
 }
 
-/// Puts what is planned of a case behind others.
-fn push_planned(planned: &mut Vec<Planned>, one: Planned) -> Result<(), AllocError>
-    ensures { OnOk result (planned.new.items ≡ planned.old.items ++ one ∷ []) }
-{
-    planned.push(one)?;
-    Ok(())
-}
-
 /// Plans a case, behind those before it.
 fn plan_case(
     alloc: Global,
     document: &mut Document,
     options: &FaultsOptions,
     times: &Times,
-    failing: Case,
+    failing: &Case,
     planned: &mut Vec<Planned>,
 ) -> Result<(), Cut>
-    ensures planned { OnOk result ((p : Planned) × IsPlanned document.old options.now times.now failing p
+    ensures planned { OnOk result ((p : Planned) × IsPlanned document.old options.now times.now failing.now p
         × (planned.new.items ≡ planned.old.items ++ p ∷ [])) }
     ensures same { OnOk result (document.new ≡ document.old) }
     ensures memory { IfErr result (λ e. e ≡ Cut.Memory) }
 {
     let hold = hold_of(alloc, document, options, times, failing)?;
-    push_planned(planned, Planned { failing, hold })?;
+    push_planned(planned, failing, hold)?;
     Ok(())
 }
 
@@ -169,7 +167,7 @@ pub(crate) fn plan_cases(
 {
     let mut planned = Vec::new(alloc);
     for place in 0..cases.len() {
-        plan_case(alloc, document, options, times, cases[place], &mut planned)?;
+        plan_case(alloc, document, options, times, &cases[place], &mut planned)?;
     }
     Ok(planned)
 }
