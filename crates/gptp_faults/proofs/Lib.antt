@@ -5,3 +5,4 @@ pub mod RunLemmas
 pub mod OutcomeLemmas
 pub mod RefusalLemmas
 pub mod TextLemmas
+pub mod AnswerLemmas

@@ -1,12 +1,13 @@
 -- Texts of several lines.
-use Rattle.std.proofs.Common.{◌≡◌, ℕ, List, [], ◌∷◌, ◌++◌, codes, length, map, ap, ◌∙◌}
+use Rattle.std.proofs.Common.{◌≡◌, ℕ, List, [], ◌∷◌, ◌++◌, append_assoc, codes, length, map, sym, ap, ◌∙◌}
 use Rattle.std.specs.List.{flat_map}
 use Rattle.gptp_spelling.specs.Lines.{text_of}
-use Rattle.gptp_timeline.proofs.LineLemmas.{line_on, line_text, lines_on}
-use Rattle.gptp_timeline.specs.Limits.{first_exceeded, verdict_line}
+use Rattle.gptp_timeline.proofs.LineLemmas.{line_on, line_text, lines_on, words_on}
+use Rattle.gptp_timeline.specs.Limits.{amount_of, first_exceeded, verdict_line}
 use Rattle.gptp_timeline.specs.declared.limits.Exceeded.{Exceeded}
 use Rattle.gptp_timeline.specs.declared.limits.Limits.{Limits}
-use Rattle.gptp_faults.specs.FaultsText.{case_line, exceeded_by, extremes_line, follow_line, head_line, outcome_lines, table_lines, worst_line, worst_of_all}
+use Rattle.gptp_faults.specs.FaultsText.{case_line, counts_text, exceeded_by, extremes_line, follow_line, head_line, outcome_lines, table_lines, worst_line, worst_of_all, worst_words}
+use Rattle.gptp_faults.specs.Ranking.{amount_or_0}
 use Rattle.gptp_faults.specs.Outcomes.{OutcomeState}
 use Rattle.gptp_faults.specs.declared.cases.Case.{Case}
 use Rattle.gptp_faults.specs.declared.extremes.Extremes.{Extremes}
@@ -63,3 +64,15 @@ all_text limits t os worst exceeded before a b c d worst_is exceeded_is one two 
     (three ∙ ap (λ w. b ++ (worst_line w ++ 10 ∷ [])) worst_is)
     (four ∙ ap (λ e. c ++ text_of (verdict_line (first_exceeded e) ∷ []))
     (exceeded_is ∙ ap (exceeded_by limits) worst_is))
+
+-- the line of the worst of all, by its amounts
+pub worst_text : (e : Extremes) (holdover error : ℕ) (before mid after : List ℕ)
+    → holdover ≡ amount_or_0 (amount_of e.holdover) → error ≡ amount_or_0 (amount_of e.error)
+    → mid ≡ before ++ worst_words e.choice holdover error → after ≡ mid ++ (counts_text e.counts ++ 10 ∷ [])
+    → after ≡ before ++ (worst_line e ++ 10 ∷ [])
+worst_text e holdover error before mid after holdover_is error_is one two =
+    words_on before mid after (worst_words e.choice holdover error) (counts_text e.counts ++ 10 ∷ []) one two
+    ∙ ap (λ t. before ++ t) (sym (append_assoc (worst_words e.choice holdover error) (counts_text e.counts) (10 ∷ [])))
+    ∙ ap (λ h. before ++ ((worst_words e.choice h error ++ counts_text e.counts) ++ 10 ∷ [])) holdover_is
+    ∙ ap (λ x. before ++ ((worst_words e.choice (amount_or_0 (amount_of e.holdover)) x ++ counts_text e.counts) ++ 10
+    ∷ [])) error_is

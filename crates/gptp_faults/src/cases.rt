@@ -8,7 +8,7 @@ ghost use Rattle.gptp_faults.specs.Cases.{AreCases, fault_of, has_links, has_sys
 use crate::options::Only;
 use gptp_network::{Document, Snapshot};
 use gptp_plan::Change;
-use gptp_vector::{ClockId, PortId};
+use gptp_vector::{ClockId, Identity, PortId};
 use std::alloc::{AllocError, Global};
 
 /// What fails, and comes back.
@@ -139,19 +139,31 @@ fn link_cases(
     }
 }
 
+/// Puts a live system, which has this identity and so many ports, behind others.
+fn push_live(cases: &mut Vec<Case>, live: (Identity, u8)) -> Result<(), AllocError>
+    ensures { OnOk result (cases.new.items ≡ cases.old.items ++ system_case live ∷ []) }
+{
+    cases.push(Case::System {
+        clock: live.0.clock(),
+    })?;
+    Ok(())
+}
+
 /// Puts the system at a place behind those of the places before, where it lives after all events.
-fn push_system(cases: &mut Vec<Case>, document: &Document, place: usize) -> Result<(), AllocError>
+fn push_system(
+    cases: &mut Vec<Case>,
+    document: &Document,
+    place: usize,
+) -> Result<(), AllocError>
     requires { cases.old.items
         ≡ map system_case (filter_map (live_after document.now.events) (take place document.now.network.systems)) }
     ensures { OnOk result (cases.new.items
         ≡ map system_case (filter_map (live_after document.now.events) (take (place + 1) document.now.network.systems))) }
 {
-    if let Some((identity, _)) = document.network().live_after(place, document.events()) {
-        cases.push(Case::System {
-            clock: identity.clock(),
-        })?;
+    match document.network().live_after(place, document.events()) {
+        Some(live) => push_live(cases, live),
+        None => Ok(()),
     }
-    Ok(())
 }
 
 /// The systems that live after all events.
