@@ -20,6 +20,8 @@ mod failing;
 #[cfg(test)]
 mod far;
 #[cfg(test)]
+mod faults;
+#[cfg(test)]
 mod inject;
 #[cfg(test)]
 mod limits;

@@ -1,10 +1,10 @@
 -- The words that the parser takes of the program's command line: what it finds wrong with any others.
-use Rattle.std.proofs.Common.{◌≡◌, ◌⊎◌, inl, inr, ℕ, suc, Bool, true, false, ◌==◌, List, [], ◌∷◌, Option, Some, None, Result, Ok, Err, length, codes, bytes_eq, refl, sym, subst, ap, ap₂, ◌∙◌, arith, chars, slice_get, slice_index, drop}
+use Rattle.std.proofs.Common.{◌≡◌, ◌⊎◌, inl, inr, ℕ, suc, Bool, true, false, ◌==◌, List, [], ◌∷◌, Option, Some, None, Result, Ok, Err, length, codes, bytes_eq, refl, sym, subst, ap, ap₂, ◌∙◌, arith, chars, slice_get, slice_index, drop, rules}
 use Rattle.std.proofs.lemmas.Slice.Eq.{bytes_eq-Decides}
 use Rattle.std.specs.Option.{option_map_or}
 use Rattle.std.specs.Prelude.{Box, cond, is_some, option_and_then, option_map, unwrap_or}
 use Rattle.std.specs.Box.{box_value}
-use Rattle.clap.specs.Words.{App, HasKind, HasMatchesOf, Kinds, Row, kind_of, first_of, subcommand_name_of, subcommand_of, subcommand_rows, subcommand_rows_of}
+use Rattle.clap.specs.Words.{App, HasKind, HasMatchesOf, Kinds, Row, kind_of, first_of, one_of, subcommand_name_of, subcommand_of, subcommand_rows, subcommand_rows_of}
 use Rattle.clap.specs.declared.parser.matches.ArgMatches.{ArgMatches}
 use Rattle.clap.specs.declared.parser.matches.ArgMatches.TheViews.{out-ArgMatches, out-SubCommand}
 use Rattle.clap.specs.declared.parser.matches.SubCommand.{SubCommand}
@@ -21,11 +21,11 @@ use Rattle.clap.proofs.OnLiterals.{clap_on_literals}
 use Rattle.gptp_network.specs.Values.{clock_of_text}
 use Rattle.gptp_network.specs.declared.fault.DocumentFault.{DocumentFault}
 use Rattle.gptp_network.specs.declared.fault.DocumentFault.TheVariants.{OutOfRange}
-use Rattle.gptp_commands.specs.Command.{AsksFor, BeginsWith, Enters, IsCompare, IsNoOption, IsPlain, LacksClock, OrderIsInRange, QuestionIsInRange, ReadsQuestion, RefusesClock, check_command, explain_command, name_of, program}
+use Rattle.gptp_commands.specs.Command.{AsksFor, BeginsWith, Enters, IsCompare, IsNoOption, IsPlain, LacksClock, LacksKind, LacksPart, OrderIsInRange, QuestionIsInRange, ReadsQuestion, RefusesCases, RefusesClock, WritesNumber, check_command, explain_command, name_of, program}
 use Rattle.gptp_commands.specs.declared.command.CommandLineError.{CommandLineError}
 use Rattle.gptp_commands.specs.declared.command.CommandLineError.TheVariants.{Memory}
 use Rattle.gptp_commands.specs.declared.command.Order.{Order}
-use Rattle.gptp_commands.specs.declared.command.Order.TheVariants.{Ask, Check, Compare, Run, Timeline}
+use Rattle.gptp_commands.specs.declared.command.Order.TheVariants.{Ask, Check, Compare, Faults, Run, Timeline}
 use Rattle.gptp_commands.specs.declared.question.Question.{Question}
 use Rattle.gptp_commands.specs.declared.question.Question.TheVariants.{Accuracy, Choice, Explain, Lint}
 
@@ -209,6 +209,12 @@ stops_at_timeline words =
     ap (λ (w : Walk). w.stopped)
     (sym (walk_stopped help_rules names (walk_from nothing_held) (codes "timeline") [] words))
 
+stops_at_faults : (words : List Text) → stop (codes "faults" ∷ words) ≡ Some (codes "faults", words)
+unfolding walked
+stops_at_faults words =
+    ap (λ (w : Walk). w.stopped)
+    (sym (walk_stopped help_rules names (walk_from nothing_held) (codes "faults") [] words))
+
 -- the words behind `compare` are left to it
 words_behind : (words : List Text) → fault (codes "compare" ∷ words) ≡ [] → (words ≡ []) ⊎ (words ≡ codes "--" ∷ [])
 words_behind words none =
@@ -242,7 +248,7 @@ abbrev IsOther : Text → Type 0
 IsOther name =
     (name ≡ codes "run") ⊎ ((name ≡ codes "check") ⊎ ((name ≡ codes "choice")
     ⊎ ((name ≡ codes "accuracy") ⊎ ((name ≡ codes "explain")
-    ⊎ ((name ≡ codes "lint") ⊎ (name ≡ codes "timeline"))))))
+    ⊎ ((name ≡ codes "lint") ⊎ ((name ≡ codes "timeline") ⊎ (name ≡ codes "faults")))))))
 
 -- one of the commands is named
 abbrev NamesOne : List Text → Type 0
@@ -254,52 +260,56 @@ begins name word words other same =
     inr (name, other, (words, ap (λ first. first ∷ words) (sym ((bytes_eq-Decides name word).0 same))))
 
 -- by what the first word is
-first_word : (is_compare is_run is_check is_choice is_accuracy is_explain is_lint is_timeline is_help is_mark : Bool)
-    (word : Text) (words : List Text)
+first_word : (is_compare is_run is_check is_choice is_accuracy is_explain is_lint is_timeline is_faults is_help is_mark
+    : Bool) (word : Text) (words : List Text)
     → bytes_eq (codes "compare") word ≡ is_compare → bytes_eq (codes "run") word ≡ is_run
     → bytes_eq (codes "check") word ≡ is_check → bytes_eq (codes "choice") word ≡ is_choice
     → bytes_eq (codes "accuracy") word ≡ is_accuracy → bytes_eq (codes "explain") word ≡ is_explain
     → bytes_eq (codes "lint") word ≡ is_lint → bytes_eq (codes "timeline") word ≡ is_timeline
+    → bytes_eq (codes "faults") word ≡ is_faults
     → bytes_eq (codes "help") word ≡ is_help → bytes_eq word (codes "--") ≡ is_mark
     → fault (word ∷ words) ≡ [] → NamesOne (word ∷ words)
 unfolding walk_fault
-first_word true is_run is_check is_choice is_accuracy is_explain is_lint is_timeline is_help is_mark word words
-    compare run check choice accuracy explain lint timeline help mark none =
+first_word true is_run is_check is_choice is_accuracy is_explain is_lint is_timeline is_faults is_help is_mark word words
+    compare run check choice accuracy explain lint timeline faults help mark none =
     let word_is : codes "compare" ≡ word = (bytes_eq-Decides (codes "compare") word).0 compare in
     inl (rw (← word_is) (named words (words_behind words (rw (← word_is) at none))))
-first_word false true is_check is_choice is_accuracy is_explain is_lint is_timeline is_help is_mark word words compare
-    run check choice accuracy explain lint timeline help mark none =
+first_word false true is_check is_choice is_accuracy is_explain is_lint is_timeline is_faults is_help is_mark word words
+    compare run check choice accuracy explain lint timeline faults help mark none =
     begins (codes "run") word words (inl refl) run
-first_word false false true is_choice is_accuracy is_explain is_lint is_timeline is_help is_mark word words compare
-    run check choice accuracy explain lint timeline help mark none =
+first_word false false true is_choice is_accuracy is_explain is_lint is_timeline is_faults is_help is_mark word words
+    compare run check choice accuracy explain lint timeline faults help mark none =
     begins (codes "check") word words (inr (inl refl)) check
-first_word false false false true is_accuracy is_explain is_lint is_timeline is_help is_mark word words compare run
-    check choice accuracy explain lint timeline help mark none =
+first_word false false false true is_accuracy is_explain is_lint is_timeline is_faults is_help is_mark word words compare
+    run check choice accuracy explain lint timeline faults help mark none =
     begins (codes "choice") word words (inr (inr (inl refl))) choice
-first_word false false false false true is_explain is_lint is_timeline is_help is_mark word words compare run check
-    choice accuracy explain lint timeline help mark none =
+first_word false false false false true is_explain is_lint is_timeline is_faults is_help is_mark word words compare run
+    check choice accuracy explain lint timeline faults help mark none =
     begins (codes "accuracy") word words (inr (inr (inr (inl refl)))) accuracy
-first_word false false false false false true is_lint is_timeline is_help is_mark word words compare run check choice
-    accuracy explain lint timeline help mark none =
+first_word false false false false false true is_lint is_timeline is_faults is_help is_mark word words compare run check
+    choice accuracy explain lint timeline faults help mark none =
     begins (codes "explain") word words (inr (inr (inr (inr (inl refl))))) explain
-first_word false false false false false false true is_timeline is_help is_mark word words compare run check choice
-    accuracy explain lint timeline help mark none =
+first_word false false false false false false true is_timeline is_faults is_help is_mark word words compare run check
+    choice accuracy explain lint timeline faults help mark none =
     begins (codes "lint") word words (inr (inr (inr (inr (inr (inl refl)))))) lint
-first_word false false false false false false false true is_help is_mark word words compare run check choice accuracy
-    explain lint timeline help mark none =
-    begins (codes "timeline") word words (inr (inr (inr (inr (inr (inr refl)))))) timeline
-first_word false false false false false false false false true is_mark word words compare run check choice accuracy
-    explain lint timeline help mark none =
+first_word false false false false false false false true is_faults is_help is_mark word words compare run check choice
+    accuracy explain lint timeline faults help mark none =
+    begins (codes "timeline") word words (inr (inr (inr (inr (inr (inr (inl refl))))))) timeline
+first_word false false false false false false false false true is_help is_mark word words compare run check choice
+    accuracy explain lint timeline faults help mark none =
+    begins (codes "faults") word words (inr (inr (inr (inr (inr (inr (inr refl))))))) faults
+first_word false false false false false false false false false true is_mark word words compare run check choice accuracy
+    explain lint timeline faults help mark none =
     let word_is : codes "help" ≡ word = (bytes_eq-Decides (codes "help") word).0 help in
     absurd (help_asked words (rw (← word_is) at none))
-first_word false false false false false false false false false true word words compare run check choice accuracy
-    explain lint timeline help mark none =
+first_word false false false false false false false false false false true word words compare run check choice accuracy
+    explain lint timeline faults help mark none =
     let word_is : word ≡ codes "--" = (bytes_eq-Decides word (codes "--")).0 mark in
     absurd (mark_alone words (rw word_is at none))
-first_word false false false false false false false false false false word words compare run check choice accuracy
-    explain lint timeline help mark none =
+first_word false false false false false false false false false false false word words compare run check choice accuracy
+    explain lint timeline faults help mark none =
     let no_name : subcommand_met names idle word ≡ None =
-    rw (compare, run, timeline, check, choice, accuracy, explain, lint, help) refl in
+    rw (compare, run, timeline, check, choice, accuracy, explain, lint, faults, help) refl in
     absurd (strange top names word no_name mark (first_none _ _ (walk_finds_none (word ∷ words) none)))
 
 -- no word at all
@@ -312,9 +322,9 @@ words_named [] none = absurd (nothing_named none)
 words_named (word ∷ words) none =
     first_word (bytes_eq (codes "compare") word) (bytes_eq (codes "run") word) (bytes_eq (codes "check") word)
     (bytes_eq (codes "choice") word) (bytes_eq (codes "accuracy") word) (bytes_eq (codes "explain") word)
-    (bytes_eq (codes "lint") word) (bytes_eq (codes "timeline") word) (bytes_eq (codes "help") word)
-    (bytes_eq word (codes "--")) word words
-    refl refl refl refl refl refl refl refl refl refl none
+    (bytes_eq (codes "lint") word) (bytes_eq (codes "timeline") word) (bytes_eq (codes "faults") word)
+    (bytes_eq (codes "help") word) (bytes_eq word (codes "--")) word words
+    refl refl refl refl refl refl refl refl refl refl refl none
 
 -- ---- the command that the parser enters is the one that is named
 
@@ -339,8 +349,10 @@ enters_other words name (inr (inr (inr (inr (inl is))))) (others, begins) =
     rw (begins, is, stops_at_explain others) refl
 enters_other words name (inr (inr (inr (inr (inr (inl is)))))) (others, begins) =
     rw (begins, is, stops_at_lint others) refl
-enters_other words name (inr (inr (inr (inr (inr (inr is)))))) (others, begins) =
+enters_other words name (inr (inr (inr (inr (inr (inr (inl is))))))) (others, begins) =
     rw (begins, is, stops_at_timeline others) refl
+enters_other words name (inr (inr (inr (inr (inr (inr (inr is))))))) (others, begins) =
+    rw (begins, is, stops_at_faults others) refl
 
 -- it enters one command only
 one_name : (words : List Text) (name other : Text) → entered_name words ≡ Some name → entered_name words ≡ Some other
@@ -367,8 +379,11 @@ not_compare name (inr (inr (inr (inr (inl is))))) same =
 not_compare name (inr (inr (inr (inr (inr (inl is)))))) same =
     let count : ◌≡◌ {A = ℕ} 7 4 = ap length (same ∙ is) in
     absurd (omega arith)
-not_compare name (inr (inr (inr (inr (inr (inr is)))))) same =
+not_compare name (inr (inr (inr (inr (inr (inr (inl is))))))) same =
     let count : ◌≡◌ {A = ℕ} 7 8 = ap length (same ∙ is) in
+    absurd (omega arith)
+not_compare name (inr (inr (inr (inr (inr (inr (inr is))))))) same =
+    let count : ◌≡◌ {A = ℕ} 7 6 = ap length (same ∙ is) in
     absurd (omega arith)
 
 -- `compare`, where the parser entered none of the others
@@ -437,7 +452,10 @@ asked parsed words m Compare is matches accepted entered =
               | inl explain ↦ entered.4 (same ∙ entered_is ∙ ap Some explain)
               | inr h ↦ elim h [
                 | inl lint ↦ entered.5 (same ∙ entered_is ∙ ap Some lint)
-                | inr timeline ↦ entered.6 (same ∙ entered_is ∙ ap Some timeline)
+                | inr f ↦ elim f [
+                  | inl timeline ↦ entered.6 (same ∙ entered_is ∙ ap Some timeline)
+                  | inr faults ↦ entered.7 (same ∙ entered_is ∙ ap Some faults)
+                ]
               ]
             ]
           ]
@@ -453,7 +471,13 @@ asked parsed words m (Run options) is matches accepted entered =
 asked parsed words m (Timeline order) is matches accepted entered =
     let rows_are = sym (rows_of_words parsed words m is matches) ∙ entered.1 in (
       other_named (drop 1 words) (codes "timeline") (accepted_words parsed words is accepted)
-          (inr (inr (inr (inr (inr (inr refl)))))) (ap name_in rows_are),
+          (inr (inr (inr (inr (inr (inr (inl refl))))))) (ap name_in rows_are),
+      (entered.0, rows_are, entered.2),
+    )
+asked parsed words m (Faults options) is matches accepted entered =
+    let rows_are = sym (rows_of_words parsed words m is matches) ∙ entered.1 in (
+      other_named (drop 1 words) (codes "faults") (accepted_words parsed words is accepted)
+          (inr (inr (inr (inr (inr (inr (inr refl))))))) (ap name_in rows_are),
       (entered.0, rows_are, entered.2),
     )
 asked parsed words m (Check options) is matches accepted entered =
@@ -480,6 +504,19 @@ pub asked_in_range : (words : List Text) (order : Order) → AsksFor words order
 asked_in_range words Compare asks = tt
 asked_in_range words (Run options) asks = (asks.1.2.until.range, asks.1.2.seed.range)
 asked_in_range words (Timeline order) asks = (asks.1.2.until.range, asks.1.2.seed.range)
+asked_in_range words (Faults options) asks =
+    let reads = asks.1.2 in
+    record {
+      some_seed = reads.seeds.some;
+      seeds = reads.seeds.range;
+      some_moment = reads.moments.some;
+      moments = reads.moments.range;
+      at = reads.at.range;
+      hold = reads.hold.range;
+      some_part = reads.part.some;
+      part = reads.there;
+      parts = reads.parts.range;
+    }
 asked_in_range words (Check options) asks = asks.1.2.until.range
 asked_in_range words (Ask question) asks = question_in_range asks.1.0 question asks.1.2
 
@@ -606,7 +643,8 @@ none_wrong words (inr (inr (inr (inl run)))) = rw run refl
 none_wrong words (inr (inr (inr (inr (inl choice))))) = rw choice refl
 none_wrong words (inr (inr (inr (inr (inr (inl accuracy)))))) = rw accuracy refl
 none_wrong words (inr (inr (inr (inr (inr (inr (inl lint))))))) = rw lint refl
-none_wrong words (inr (inr (inr (inr (inr (inr (inr timeline))))))) = rw timeline refl
+none_wrong words (inr (inr (inr (inr (inr (inr (inr (inl timeline)))))))) = rw timeline refl
+none_wrong words (inr (inr (inr (inr (inr (inr (inr (inr faults)))))))) = rw faults refl
 
 no_kind : (error : Error) → HasKind [] error → kind_of error ≡ OutOfMemory
 no_kind error (inl memory) = memory
@@ -688,13 +726,99 @@ plain_with_clock words rows rows_are lacks (inr (inr (inr (inr (inr (inr (inl li
     let count : ◌≡◌ {A = ℕ} 4 7 = same_length (drop 1 words) (codes "lint") (inr (inr (inr (inr (inr (inl refl))))))
     ([], lint) (ap name_in rows_are) in
     absurd (omega arith)
-plain_with_clock words rows rows_are lacks (inr (inr (inr (inr (inr (inr (inr timeline))))))) =
-    let count : ◌≡◌ {A = ℕ} 8 7 = same_length (drop 1 words) (codes "timeline") (inr (inr (inr (inr (inr (inr refl))))))
-    ([], timeline) (ap name_in rows_are) in
+plain_with_clock words rows rows_are lacks (inr (inr (inr (inr (inr (inr (inr (inl timeline)))))))) =
+    let count : ◌≡◌ {A = ℕ} 8 7 = same_length (drop 1 words) (codes "timeline")
+    (inr (inr (inr (inr (inr (inr (inl refl))))))) ([], timeline) (ap name_in rows_are) in
+    absurd (omega arith)
+plain_with_clock words rows rows_are lacks (inr (inr (inr (inr (inr (inr (inr (inr faults)))))))) =
+    let count : ◌≡◌ {A = ℕ} 6 7 = same_length (drop 1 words) (codes "faults")
+    (inr (inr (inr (inr (inr (inr (inr refl))))))) ([], faults) (ap name_in rows_are) in
     absurd (omega arith)
 
+-- ---- a kind or a part that there isn't
+
+-- where `faults` was entered, the command that is named is that
+named_faults : (words : List Text) (rows : List Row) (name : Text)
+    → subcommand_of program words ≡ Some (codes "faults", rows) → IsOther name → BeginsWith name (drop 1 words)
+    → name ≡ codes "faults"
+named_faults words rows name rows_are other begins =
+    one_name (drop 1 words) name (codes "faults") (enters_other (drop 1 words) name other begins) (ap name_in rows_are)
+
+-- what is found behind `faults` alone
+abbrev rows_in : Option (Text × List Row) → List Row
+rows_in entered = option_map_or (λ p. p.1) entered []
+
+abbrev bare_rows : List Row
+bare_rows = rows_in (entered (built program) (stop (codes "faults" ∷ [])))
+
+no_kind_given : first_of (codes "only") bare_rows ≡ None
+unfolding clap_on_literals
+no_kind_given = refl
+
+one_part_given : one_of (codes "part") bare_rows ≡ Some (codes "1")
+unfolding clap_on_literals
+one_part_given = refl
+
+one_in_all : one_of (codes "parts") bare_rows ≡ Some (codes "1")
+unfolding clap_on_literals
+one_in_all = refl
+
+writes_1 : WritesNumber (codes "1") 1
+writes_1 = search rules
+
+lacks_none : (rows : List Row) → rows ≡ bare_rows → LacksKind rows ⊎ LacksPart rows → ⊥
+lacks_none rows is (inl (text, found, isn't)) =
+    some_isn't_none text (sym found ∙ ap (first_of (codes "only")) is ∙ no_kind_given)
+lacks_none rows is (inr lacks) =
+    let one = lacks.part_is.given (codes "1") 1 (ap (one_of (codes "part")) is ∙ one_part_given) writes_1
+        (omega arith) (omega arith) in
+    let all = lacks.parts_is.given (codes "1") 1 (ap (one_of (codes "parts")) is ∙ one_in_all) writes_1
+        (omega arith) (omega arith) in
+    let beyond = lacks.beyond in absurd (omega (arith, one, all, beyond))
+
+plain_with_cases : (words : List Text) (rows : List Row) → subcommand_of program words ≡ Some (codes "faults", rows)
+    → LacksKind rows ⊎ LacksPart rows → IsPlain words → ⊥
+plain_with_cases words rows rows_are lacks (inl compare) =
+    not_compare (codes "faults") (inr (inr (inr (inr (inr (inr (inr refl)))))))
+    (one_name (drop 1 words) (codes "compare") (codes "faults") (enters_compare (drop 1 words) compare)
+    (ap name_in rows_are))
+plain_with_cases words rows rows_are lacks (inr (inl (file, check))) =
+    let count : ◌≡◌ {A = ℕ} 5 6 = ap length
+    (named_faults words rows (codes "check") rows_are (inr (inl refl)) (file ∷ [], check.0)) in
+    absurd (omega arith)
+plain_with_cases words rows rows_are lacks (inr (inr (inl (clock, explain)))) =
+    let count : ◌≡◌ {A = ℕ} 7 6 = ap length
+    (named_faults words rows (codes "explain") rows_are (inr (inr (inr (inr (inl refl))))) (clock ∷ [], explain.0)) in
+    absurd (omega arith)
+plain_with_cases words rows rows_are lacks (inr (inr (inr (inl run)))) =
+    let count : ◌≡◌ {A = ℕ} 3 6 = ap length (named_faults words rows (codes "run") rows_are (inl refl) ([], run)) in
+    absurd (omega arith)
+plain_with_cases words rows rows_are lacks (inr (inr (inr (inr (inl choice))))) =
+    let first : ◌≡◌ {A = ℕ} 99 102 = ap (λ text. slice_index text 0)
+    (named_faults words rows (codes "choice") rows_are (inr (inr (inl refl))) ([], choice)) in
+    absurd (omega arith)
+plain_with_cases words rows rows_are lacks (inr (inr (inr (inr (inr (inl accuracy)))))) =
+    let count : ◌≡◌ {A = ℕ} 8 6 = ap length
+    (named_faults words rows (codes "accuracy") rows_are (inr (inr (inr (inl refl)))) ([], accuracy)) in
+    absurd (omega arith)
+plain_with_cases words rows rows_are lacks (inr (inr (inr (inr (inr (inr (inl lint))))))) =
+    let count : ◌≡◌ {A = ℕ} 4 6 = ap length
+    (named_faults words rows (codes "lint") rows_are (inr (inr (inr (inr (inr (inl refl)))))) ([], lint)) in
+    absurd (omega arith)
+plain_with_cases words rows rows_are lacks (inr (inr (inr (inr (inr (inr (inr (inl timeline)))))))) =
+    let count : ◌≡◌ {A = ℕ} 8 6 = ap length
+    (named_faults words rows (codes "timeline") rows_are (inr (inr (inr (inr (inr (inr (inl refl)))))))
+    ([], timeline)) in
+    absurd (omega arith)
+plain_with_cases words rows rows_are lacks (inr (inr (inr (inr (inr (inr (inr (inr faults)))))))) =
+    lacks_none rows
+    (sym (ap rows_in (sym (ap (λ after. entered (built program) (stop after)) faults) ∙ rows_are))) lacks
+
 pub refused_order : (parsed : App) (words : List Text) (m : ArgMatches) (error : CommandLineError) → parsed ≡ program
-    → HasMatchesOf parsed words m → (error ≡ Memory) ⊎ RefusesClock m → IsPlain words → error ≡ Memory
+    → HasMatchesOf parsed words m → (error ≡ Memory) ⊎ (RefusesClock m ⊎ RefusesCases m) → IsPlain words
+    → error ≡ Memory
 refused_order parsed words m error is matches (inl memory) named = memory
-refused_order parsed words m error is matches (inr (rows, rows_are, lacks)) named =
+refused_order parsed words m error is matches (inr (inr (rows, rows_are, lacks))) named =
+    absurd (plain_with_cases words rows (sym (rows_of_words parsed words m is matches) ∙ rows_are) lacks named)
+refused_order parsed words m error is matches (inr (inl (rows, rows_are, lacks))) named =
     absurd (plain_with_clock words rows (sym (rows_of_words parsed words m is matches) ∙ rows_are) lacks named)

@@ -1,5 +1,5 @@
 -- Command lines that are read: what the parser is told, and the words that it takes then.
-use Rattle.std.specs.Prelude.{◌≡◌, ◌≢◌, ◌⊎◌, ◌<◌, ◌≤◌, ◌^◌, ⊤, IfSome, ℕ, Bool, true, false, List, [], ◌∷◌, Option, Some, None, Ok, Err, drop, codes, string_bytes}
+use Rattle.std.specs.Prelude.{◌≡◌, ◌≢◌, ◌⊎◌, ◌<◌, ◌≤◌, ◌^◌, ⊤, IfSome, ℕ, Bool, true, false, List, [], ◌∷◌, Option, Some, None, Ok, Err, drop, codes, string_bytes, bytes_eq, if◌then◌else◌}
 use Rattle.std.specs.Str.Parse.{IsNumeral, digits_value, without_leading_plus}
 use Rattle.clap.specs.Words.{App, Row, Rule, first_of, new_app, new_rule, one_of, subcommand_name_of, subcommand_of, subcommand_rows_of, with_rule, with_subcommand}
 use Rattle.clap.specs.Lexer.{strip_byte}
@@ -7,13 +7,17 @@ use Rattle.clap.specs.declared.builder.action.ArgAction.TheVariants.{Set, SetTru
 use Rattle.clap.specs.declared.builder.value_parser.ValueParser.TheVariants.{Unsigned}
 use Rattle.clap.specs.declared.parser.matches.ArgMatches.{ArgMatches}
 use Rattle.clap.specs.Simple.{on_top}
+use Rattle.gptp_faults.specs.Times.{AreOptions}
+use Rattle.gptp_faults.specs.declared.options.FaultsOptions.{FaultsOptions}
+use Rattle.gptp_faults.specs.declared.options.Only.{Only}
+use Rattle.gptp_faults.specs.declared.options.Only.TheVariants.{Links, Systems}
 use Rattle.gptp_network.specs.Values.{clock_of_text}
 use Rattle.gptp_network.specs.declared.fault.DocumentFault.TheVariants.{OutOfRange}
 use Rattle.gptp_commands.specs.declared.command.CheckOptions.{CheckOptions}
 use Rattle.gptp_commands.specs.declared.command.CommandLineError.{CommandLineError}
-use Rattle.gptp_commands.specs.declared.command.CommandLineError.TheVariants.{Memory, NotText, NotRead, NotClock}
+use Rattle.gptp_commands.specs.declared.command.CommandLineError.TheVariants.{Memory, NotText, NotRead, NotClock, NotKind, NotPart}
 use Rattle.gptp_commands.specs.declared.command.Order.{Order}
-use Rattle.gptp_commands.specs.declared.command.Order.TheVariants.{Ask, Check, Compare, Run, Timeline}
+use Rattle.gptp_commands.specs.declared.command.Order.TheVariants.{Ask, Check, Compare, Faults, Run, Timeline}
 use Rattle.gptp_commands.specs.declared.question.Question.{Question}
 use Rattle.gptp_commands.specs.declared.question.Question.TheVariants.{Accuracy, Choice, Explain, Lint}
 use Rattle.gptp_commands.specs.declared.run.RunOptions.{RunOptions}
@@ -48,7 +52,34 @@ seed_rule = record (new_rule (codes "seed")) {
   parser = Some (Unsigned 0 4294967295);
 }
 
--- an option of `timeline` that gives the greatest number of something, at most 10^15
+-- an option of `faults` that gives a number of something, from 1 to some, and what it is where it isn't given
+abbrev pub count_rule : List ℕ → ℕ → List ℕ → Rule
+count_rule name most default = record (new_rule name) {
+  long = Some name;
+  action = Some Set;
+  value_names = 1;
+  defaults = default ∷ [];
+  parser = Some (Unsigned 1 most);
+}
+
+-- `--hold NS`, from 1 to 10^15
+abbrev pub hold_rule : Rule
+hold_rule = record (new_rule (codes "hold")) {
+  long = Some (codes "hold");
+  action = Some Set;
+  value_names = 1;
+  parser = Some (Unsigned 1 1000000000000000);
+}
+
+-- `--only KIND`
+abbrev pub only_rule : Rule
+only_rule = record (new_rule (codes "only")) { long = Some (codes "only"); action = Some Set; value_names = 1 }
+
+-- `--progress`
+abbrev pub progress_rule : Rule
+progress_rule = record (new_rule (codes "progress")) { long = Some (codes "progress"); action = Some SetTrue }
+
+-- an option of `timeline` and `faults` that gives the greatest number of something, at most 10^15
 abbrev pub limit_rule : List ℕ → Rule
 limit_rule name = record (new_rule name) {
   long = Some name;
@@ -117,6 +148,26 @@ abbrev pub timeline_command : App
 timeline_command = with_rule (with_rule (with_rule timed_command (limit_rule (codes "max-without")))
     (limit_rule (codes "max-roots"))) (limit_rule (codes "max-alone"))
 
+-- `faults` without its limits, and with those of times
+abbrev pub repeated_command : App
+repeated_command = with_rule (with_rule (new_app (codes "faults")) (count_rule (codes "seeds") 1000 (codes "1")))
+    (count_rule (codes "moments") 1000 (codes "8"))
+
+abbrev pub placed_command : App
+placed_command = with_rule (with_rule (with_rule repeated_command (limit_rule (codes "at"))) hold_rule) only_rule
+
+abbrev pub dealt_command : App
+dealt_command = with_rule (with_rule (with_rule placed_command (count_rule (codes "parts") 10000 (codes "1")))
+    (count_rule (codes "part") 10000 (codes "1"))) progress_rule
+
+abbrev pub measured_command : App
+measured_command = with_rule (with_rule (with_rule dealt_command (limit_rule (codes "max-choice")))
+    (limit_rule (codes "max-holdover"))) (limit_rule (codes "max-error"))
+
+abbrev pub faults_command : App
+faults_command = with_rule (with_rule (with_rule measured_command (limit_rule (codes "max-without")))
+    (limit_rule (codes "max-roots"))) (limit_rule (codes "max-alone"))
+
 abbrev pub check_command : App
 check_command = with_rule (with_rule (with_rule (new_app (codes "check")) file_rule) until_rule) where_rule
 
@@ -149,7 +200,8 @@ abbrev pub choosing_program : App
 choosing_program = with_subcommand (with_subcommand simulating_program choice_command.top) accuracy_command.top
 
 abbrev pub program : App
-program = with_subcommand (with_subcommand choosing_program explain_command.top) lint_command.top
+program = with_subcommand (with_subcommand (with_subcommand choosing_program explain_command.top) lint_command.top)
+    faults_command.top
 
 -- ---- the words that name a command
 
@@ -170,6 +222,9 @@ NamesRun words = BeginsWith (codes "run") (drop 1 words)
 
 abbrev pub NamesTimeline : List (List ℕ) → Type 0
 NamesTimeline words = BeginsWith (codes "timeline") (drop 1 words)
+
+abbrev pub NamesFaults : List (List ℕ) → Type 0
+NamesFaults words = BeginsWith (codes "faults") (drop 1 words)
 
 abbrev pub NamesCheck : List (List ℕ) → Type 0
 NamesCheck words = BeginsWith (codes "check") (drop 1 words)
@@ -199,7 +254,8 @@ abbrev pub IsPlain : List (List ℕ) → Type 0
 IsPlain words =
     NamesCompare words ⊎ (((file : List ℕ) × ChecksOnly file words) ⊎ (((clock : List ℕ) × ExplainsOnly clock words)
     ⊎ (IsBare (codes "run") words ⊎ (IsBare (codes "choice") words
-    ⊎ (IsBare (codes "accuracy") words ⊎ (IsBare (codes "lint") words ⊎ IsBare (codes "timeline") words))))))
+    ⊎ (IsBare (codes "accuracy") words ⊎ (IsBare (codes "lint") words
+    ⊎ (IsBare (codes "timeline") words ⊎ IsBare (codes "faults") words)))))))
 
 -- ---- the options, by the texts that the parser finds
 
@@ -224,6 +280,20 @@ pub record IsSeed (found : Option (List ℕ)) (seed : ℕ) : Type 0 where
   pub range : seed < 2 ^ 32
   pub given : (text : List ℕ) (number : ℕ) → found ≡ Some text → WritesNumber text number
       → number < 2 ^ 32 → seed ≡ number
+
+-- a number from 1 to some, by its text
+pub record IsCount (found : Option (List ℕ)) (most number : ℕ) : Type 0 where
+  pub some : 1 ≤ number
+  pub range : number ≤ most
+  pub given : (text : List ℕ) (asked : ℕ) → found ≡ Some text → WritesNumber text asked
+      → 1 ≤ asked → asked ≤ most → number ≡ asked
+
+-- the kind of cases that a text names
+abbrev pub kind_of_text : List ℕ → Option Only
+kind_of_text text =
+    if bytes_eq text (codes "links") then Some Links
+    else if bytes_eq text (codes "systems") then Some Systems
+    else None
 
 -- a flag, by its text
 pub record IsFlag (found : Option (List ℕ)) (flag : Bool) : Type 0 where
@@ -253,6 +323,36 @@ pub record ReadsTimeline (rows : List Row) (order : TimelineOrder) : Type 0 wher
   pub summary : IsFlag (one_of (codes "summary") rows) order.options.summary
   pub offsets : IsFlag (one_of (codes "offsets") rows) order.options.offsets
   pub limits : ReadsLimits rows order.options.limits
+
+-- the kind of cases, by its text
+abbrev pub ReadsKind : Option (List ℕ) → Option Only → Type 0
+ReadsKind None only = only ≡ None
+ReadsKind (Some text) only = (kind : Only) × (kind_of_text text ≡ Some kind) × (only ≡ Some kind)
+
+-- the text names no kind of cases
+abbrev pub LacksKind : List Row → Type 0
+LacksKind rows = (text : List ℕ) × (first_of (codes "only") rows ≡ Some text) × (kind_of_text text ≡ None)
+
+-- there is no such part
+pub record LacksPart (rows : List Row) : Type 0 where
+  pub part : ℕ
+  pub parts : ℕ
+  pub part_is : IsCount (one_of (codes "part") rows) 10000 part
+  pub parts_is : IsCount (one_of (codes "parts") rows) 10000 parts
+  pub beyond : parts < part
+
+-- the options of `faults`
+pub record ReadsFaults (rows : List Row) (options : FaultsOptions) : Type 0 where
+  pub seeds : IsCount (one_of (codes "seeds") rows) 1000 options.seeds
+  pub moments : IsCount (one_of (codes "moments") rows) 1000 options.moments
+  pub at : IsUntil (one_of (codes "at") rows) options.at
+  pub hold : IsUntil (one_of (codes "hold") rows) options.hold
+  pub only : ReadsKind (first_of (codes "only") rows) options.only
+  pub parts : IsCount (one_of (codes "parts") rows) 10000 options.parts
+  pub part : IsCount (one_of (codes "part") rows) 10000 options.part
+  pub there : options.part ≤ options.parts
+  pub progress : IsFlag (one_of (codes "progress") rows) options.progress
+  pub limits : ReadsLimits rows options.limits
 
 -- the file and the options of `check`, by what was found for its arguments
 pub record ReadsCheck (rows : List Row) (options : CheckOptions) : Type 0 where
@@ -292,6 +392,10 @@ IsRunOf entered options = (rows : List Row) × (entered ≡ Some (codes "run", r
 abbrev pub IsTimelineOf : Option (List ℕ × List Row) → TimelineOrder → Type 0
 IsTimelineOf entered order = (rows : List Row) × (entered ≡ Some (codes "timeline", rows)) × ReadsTimeline rows order
 
+-- it is `faults`, with these options
+abbrev pub IsFaultsOf : Option (List ℕ × List Row) → FaultsOptions → Type 0
+IsFaultsOf entered options = (rows : List Row) × (entered ≡ Some (codes "faults", rows)) × ReadsFaults rows options
+
 -- it is `check`, with these options
 abbrev pub IsCheckOf : Option (List ℕ × List Row) → CheckOptions → Type 0
 IsCheckOf entered options = (rows : List Row) × (entered ≡ Some (codes "check", rows)) × ReadsCheck rows options
@@ -307,9 +411,10 @@ Enters m Compare =
     (subcommand_name_of m ≢ Some (codes "run")) × (subcommand_name_of m ≢ Some (codes "check"))
     × (subcommand_name_of m ≢ Some (codes "choice")) × (subcommand_name_of m ≢ Some (codes "accuracy"))
     × (subcommand_name_of m ≢ Some (codes "explain")) × (subcommand_name_of m ≢ Some (codes "lint"))
-    × (subcommand_name_of m ≢ Some (codes "timeline"))
+    × (subcommand_name_of m ≢ Some (codes "timeline")) × (subcommand_name_of m ≢ Some (codes "faults"))
 Enters m (Run options) = IsRunOf (subcommand_rows_of m) options
 Enters m (Timeline order) = IsTimelineOf (subcommand_rows_of m) order
+Enters m (Faults options) = IsFaultsOf (subcommand_rows_of m) options
 Enters m (Check options) = IsCheckOf (subcommand_rows_of m) options
 Enters m (Ask question) = IsQuestionOf (subcommand_rows_of m) question
 
@@ -317,11 +422,17 @@ Enters m (Ask question) = IsQuestionOf (subcommand_rows_of m) question
 abbrev pub RefusesClock : ArgMatches → Type 0
 RefusesClock m = (rows : List Row) × (subcommand_rows_of m ≡ Some (codes "explain", rows)) × LacksClock rows
 
+-- it is `faults`, with a kind or a part that there isn't
+abbrev pub RefusesCases : ArgMatches → Type 0
+RefusesCases m = (rows : List Row) × (subcommand_rows_of m ≡ Some (codes "faults", rows))
+    × (LacksKind rows ⊎ LacksPart rows)
+
 -- what its words ask for: the command that they name, with what the parser finds behind its name
 abbrev pub AsksFor : List (List ℕ) → Order → Type 0
 AsksFor words Compare = NamesCompare words
 AsksFor words (Run options) = NamesRun words × IsRunOf (subcommand_of program words) options
 AsksFor words (Timeline order) = NamesTimeline words × IsTimelineOf (subcommand_of program words) order
+AsksFor words (Faults options) = NamesFaults words × IsFaultsOf (subcommand_of program words) options
 AsksFor words (Check options) = NamesCheck words × IsCheckOf (subcommand_of program words) options
 AsksFor words (Ask question) =
     BeginsWith (name_of question) (drop 1 words) × IsQuestionOf (subcommand_of program words) question
@@ -342,6 +453,7 @@ abbrev pub OrderIsInRange : Order → Type 0
 OrderIsInRange Compare = ⊤
 OrderIsInRange (Run options) = AreInRange options
 OrderIsInRange (Timeline order) = IsEndInRange order.until × (order.seed < 2 ^ 32)
+OrderIsInRange (Faults options) = AreOptions options
 OrderIsInRange (Check options) = IsEndInRange options.until
 OrderIsInRange (Ask question) = QuestionIsInRange question
 
@@ -357,3 +469,5 @@ command_line_status Memory = 3
 command_line_status (NotText error) = 2
 command_line_status (NotRead error) = 2
 command_line_status (NotClock text) = 2
+command_line_status (NotKind text) = 2
+command_line_status (NotPart part parts) = 2

@@ -9,6 +9,7 @@ pub mod Written
 pub mod CompareText
 pub mod RunText
 pub mod TimelineText
+pub mod FaultsText
 pub mod RunSoFar
 pub mod CheckText
 pub mod WhereText

@@ -10,6 +10,8 @@ ghost use Rattle.gptp_commands.specs.Command.{certificate_rule, clock_rule, file
 ghost use Rattle.gptp_commands.specs.Command.{accuracy_command, check_command, choice_command, explain_command, first_program, played_command, run_command};
 ghost use Rattle.gptp_commands.specs.Command.{choosing_program, lint_command, simulating_program, strict_rule};
 ghost use Rattle.gptp_commands.specs.Command.{timed_command, timeline_command, told_command};
+ghost use Rattle.gptp_commands.specs.Command.{count_rule, dealt_command, faults_command, hold_rule, measured_command, only_rule};
+ghost use Rattle.gptp_commands.specs.Command.{IsCount, LacksKind, LacksPart, ReadsFaults, ReadsKind, RefusesCases, kind_of_text, placed_command, progress_rule, repeated_command};
 ghost use Rattle.gptp_commands.specs.declared.command.CommandLineError.TheVariants.{Memory};
 ghost use Rattle.gptp_network.specs.Values.{clock_of_text};
 ghost use Rattle.gptp_network.specs.declared.fault.DocumentFault.TheVariants.{OutOfRange};
@@ -18,13 +20,15 @@ ghost use Rattle.gptp_commands.specs.declared.question.Question.TheVariants.{Acc
 use crate::check::{check, check_where};
 use crate::compare::compare_lines;
 use crate::failure::{SimError, Status, exit_status};
+use crate::faults::faults;
 use crate::question::{Question, answer_question};
 use crate::run::RunOptions;
 use crate::source::{CountedReader, Source};
 use crate::timeline::{TimelineOrder, timeline};
 use clap::error::ErrorKind;
 use clap::{Arg, ArgAction, ArgMatches, Command};
-use gptp_report::sink::{CountedWriter, Sink};
+use gptp_faults::{FaultsOptions, Only};
+use gptp_report::sink::{CountedWriter, Sink, WriteFailed};
 use gptp_timeline::{Limits, TimelineOptions};
 use gptp_vector::ClockId;
 use hex::FromHex;
@@ -41,6 +45,12 @@ const NOT_READ: u8 = 2;
 
 /// The latest time that `--until` may give, and the greatest error that `--max-error` may give, in ns.
 const MOST_UNTIL: u64 = 1_000_000_000_000_000;
+
+/// The greatest number of seeds and of moments that `faults` may be given.
+const MOST_RUNS: u64 = 1000;
+
+/// The greatest number of parts.
+const MOST_PARTS: u64 = 10_000;
 
 /// The highest seed that `--seed` may give.
 const MOST_SEED: u64 = 4_294_967_295;
@@ -115,6 +125,16 @@ With a --max- the last line is 'within', or 'exceeded' with the first word that 
 Times are in ns.
 Example: gptp_sim timeline --summary --max-choice 4000000000 < examples/vehicle.toml";
 
+/// What help says of the input of `faults`.
+const FAULTS_HELP: &str = "\
+Input: standard input, a document in TOML of at most 32 MiB (33,554,432 octets).
+Output: each link in use and each live system fails at several moments and comes back once the network has
+settled; of each, the worst while it is down ('down') and when it is back ('back'), and how many systems
+follow which root meanwhile; the worst case first. The last line is 'within', or 'exceeded' with the first
+word of 'worst' that is above its --max-.
+Times are in ns. With --parts cases are dealt out: 'tools/planner merge' makes one text of the parts.
+Example: gptp_sim faults --max-holdover 2500000000 < examples/ring.toml";
+
 /// What is asked of `check`.
 #[derive(Debug, Drop, PartialEq, Eq)]
 pub struct CheckOptions {
@@ -136,6 +156,8 @@ enum Order {
     Run(RunOptions),
     /// The command `timeline`, with these options.
     Timeline(TimelineOrder),
+    /// The command `faults`, with these options.
+    Faults(FaultsOptions),
     /// The command `check`, with these options.
     Check(CheckOptions),
     /// A command that answers this question.
@@ -157,6 +179,12 @@ enum CommandLineError {
     /// A word isn't the clock that it ought to be.
     #[error("error: invalid value '{0}' for '<CLOCK>': a clock is 16 hexadecimal digits\n\nFor more information, try '--help'.\n")]
     NotClock(String),
+    /// A word isn't the kind of cases that it ought to be.
+    #[error("error: invalid value '{0}' for '--only <KIND>': it is 'links' or 'systems'\n\nFor more information, try '--help'.\n")]
+    NotKind(String),
+    /// There is no such part.
+    #[error("error: invalid value '{0}' for '--part <K>': there are {1} parts\n\nFor more information, try '--help'.\n")]
+    NotPart(u64, u64),
 }
 
 impl CommandLineError {
@@ -168,7 +196,9 @@ impl CommandLineError {
             CommandLineError::Memory => exit_status(&Err(SimError::Memory)),
             CommandLineError::NotText(_)
             | CommandLineError::NotRead(_)
-            | CommandLineError::NotClock(_) => NOT_READ,
+            | CommandLineError::NotClock(_)
+            | CommandLineError::NotKind(_)
+            | CommandLineError::NotPart(_, _) => NOT_READ,
         }
     }
 }
@@ -259,6 +289,77 @@ fn limit_option<'a>(
         .value_name(value_name)
         .value_parser(clap::value_parser!(u64).range(0..=1_000_000_000_000_000))
         .help(help)
+}
+
+/// An option of `faults` that says how often each case is tried.
+fn runs_option<'a>(
+    alloc: Global,
+    name: &'static str,
+    default: &'static str,
+    help: &'static str,
+) -> Arg<'a>
+    ensures rule { rule_of result ≡ count_rule name.now 1000 default.now }
+    ensures local { result.global ≡ false }
+{
+    Arg::new(alloc, name)
+        .long(name)
+        .action(ArgAction::Set)
+        .value_name("N")
+        .value_parser(clap::value_parser!(u64).range(1..=1000))
+        .default_value(default)
+        .help(help)
+}
+
+/// An option of `faults` that deals out the cases.
+fn part_option<'a>(alloc: Global, name: &'static str, help: &'static str) -> Arg<'a>
+    ensures rule { rule_of result ≡ count_rule name.now 10000 (codes "1") }
+    ensures local { result.global ≡ false }
+{
+    Arg::new(alloc, name)
+        .long(name)
+        .action(ArgAction::Set)
+        .value_name("N")
+        .value_parser(clap::value_parser!(u64).range(1..=10_000))
+        .default_value("1")
+        .help(help)
+}
+
+/// The option of `faults` that says how long a fault stays.
+fn hold_option<'a>(alloc: Global) -> Arg<'a>
+    ensures rule { rule_of result ≡ hold_rule }
+    ensures local { result.global ≡ false }
+{
+    Arg::new(alloc, "hold")
+        .long("hold")
+        .action(ArgAction::Set)
+        .value_name("NS")
+        .value_parser(clap::value_parser!(u64).range(1..=1_000_000_000_000_000))
+        .help(
+            "How long a fault stays, and each run goes on behind it, in ns; by default until it has settled",
+        )
+}
+
+/// The option of `faults` that leaves one kind of cases.
+fn only_option<'a>(alloc: Global) -> Arg<'a>
+    ensures rule { rule_of result ≡ only_rule }
+    ensures local { result.global ≡ false }
+{
+    Arg::new(alloc, "only")
+        .long("only")
+        .action(ArgAction::Set)
+        .value_name("KIND")
+        .help("Let nothing but 'links' fail, or 'systems'")
+}
+
+/// The option of `faults` that asks for a line before each case.
+fn progress_option<'a>(alloc: Global) -> Arg<'a>
+    ensures rule { rule_of result ≡ progress_rule }
+    ensures local { result.global ≡ false }
+{
+    Arg::new(alloc, "progress")
+        .long("progress")
+        .action(ArgAction::SetTrue)
+        .help("Write a line to standard error before each case")
 }
 
 /// The option that asks for fewer lines.
@@ -527,6 +628,113 @@ fn lint_grammar<'a>(alloc: Global) -> Result<Command<'a>, AllocError>
         .arg(strict_option(alloc))
 }
 
+/// The command `faults` with the options that say how often each case is tried.
+fn repeated_grammar<'a>(alloc: Global) -> Result<Command<'a>, AllocError>
+    ensures app { IfOk result (λ command. app_of command ≡ repeated_command) }
+    ensures local { IfOk result (λ command. (fields_of command).has_globals ≡ false) }
+{
+    Command::new(alloc, "faults")
+        .about(
+            "Lets each link and each system fail and come back, and says what that does to the network",
+        )
+        .after_help(FAULTS_HELP)
+        .arg(runs_option(
+            alloc,
+            "seeds",
+            "1",
+            "With how many seeds each case is tried; where nothing is lost it hardly matters",
+        ))?
+        .arg(runs_option(
+            alloc,
+            "moments",
+            "8",
+            "At how many moments each case is tried, within an announce and a Sync interval",
+        ))
+}
+
+/// The same with those that say when, and of what kind.
+fn placed_grammar<'a>(alloc: Global) -> Result<Command<'a>, AllocError>
+    ensures app { IfOk result (λ command. app_of command ≡ placed_command) }
+    ensures local { IfOk result (λ command. (fields_of command).has_globals ≡ false) }
+{
+    repeated_grammar(alloc)?
+        .arg(limit_option(
+            alloc,
+            "at",
+            "NS",
+            "The first moment, in ns; by default when the network has settled behind the last event",
+        ))?
+        .arg(hold_option(alloc))?
+        .arg(only_option(alloc))
+}
+
+/// The same with those that deal out the cases.
+fn dealt_grammar<'a>(alloc: Global) -> Result<Command<'a>, AllocError>
+    ensures app { IfOk result (λ command. app_of command ≡ dealt_command) }
+    ensures local { IfOk result (λ command. (fields_of command).has_globals ≡ false) }
+{
+    placed_grammar(alloc)?
+        .arg(part_option(
+            alloc,
+            "parts",
+            "In how many parts the cases are dealt out, one after another",
+        ))?
+        .arg(part_option(alloc, "part", "The part that is tried"))?
+        .arg(progress_option(alloc))
+}
+
+/// The same with the limits of times.
+fn measured_grammar<'a>(alloc: Global) -> Result<Command<'a>, AllocError>
+    ensures app { IfOk result (λ command. app_of command ≡ measured_command) }
+    ensures local { IfOk result (λ command. (fields_of command).has_globals ≡ false) }
+{
+    dealt_grammar(alloc)?
+        .arg(limit_option(
+            alloc,
+            "max-choice",
+            "NS",
+            "Say whether the choice always stands within this, in ns",
+        ))?
+        .arg(limit_option(
+            alloc,
+            "max-holdover",
+            "NS",
+            "Say whether no system ever waits longer for time than this, in ns",
+        ))?
+        .arg(limit_option(
+            alloc,
+            "max-error",
+            "NS",
+            "Say whether each receipt of time is off by at most this, in ns",
+        ))
+}
+
+/// The command `faults` with all its options.
+fn faults_grammar<'a>(alloc: Global) -> Result<Command<'a>, AllocError>
+    ensures app { IfOk result (λ command. app_of command ≡ faults_command) }
+    ensures local { IfOk result (λ command. (fields_of command).has_globals ≡ false) }
+{
+    measured_grammar(alloc)?
+        .arg(limit_option(
+            alloc,
+            "max-without",
+            "N",
+            "Say whether at most so many systems go without time in the end",
+        ))?
+        .arg(limit_option(
+            alloc,
+            "max-roots",
+            "N",
+            "Say whether at most so many roots are followed then by two systems or more",
+        ))?
+        .arg(limit_option(
+            alloc,
+            "max-alone",
+            "N",
+            "Say whether at most so many systems follow a root then that no other does",
+        ))
+}
+
 /// The program with its first command, of which one has to be named.
 fn first_grammar<'a>(alloc: Global) -> Result<Command<'a>, AllocError>
     ensures app { IfOk result (λ command. app_of command ≡ first_program) }
@@ -568,7 +776,8 @@ fn grammar<'a>(alloc: Global) -> Result<Command<'a>, AllocError>
 {
     choosing_grammar(alloc)?
         .subcommand(explain_grammar(alloc)?)?
-        .subcommand(lint_grammar(alloc)?)
+        .subcommand(lint_grammar(alloc)?)?
+        .subcommand(faults_grammar(alloc)?)
 }
 
 /// The number of ns that an option gives. The parser lets no number through that is above the most.
@@ -644,6 +853,81 @@ fn timeline_in(matches: &ArgMatches) -> TimelineOrder
             limits: limits_in(matches),
         },
     }
+}
+
+/// The number of something that an option of `faults` gives, or its default. The parser lets no number through that isn't
+/// in its range.
+fn count_in(matches: &ArgMatches, option: &'static str, most: u64, default: u64) -> u64
+    requires { (1 ≤ default) × (default ≤ most) }
+    ensures { IsCount (one_text (found_of matches.now) option.now) most result }
+{
+    matches
+        .get_one::<u64>(option)
+        .filter(|number| 1 <= *number && *number <= most)
+        .unwrap_or(default)
+}
+
+/// How long a fault stays, if the command line says so.
+fn hold_in(matches: &ArgMatches) -> Option<u64>
+    ensures { IsUntil (one_text (found_of matches.now) (codes "hold")) result }
+{
+    nanoseconds_in(matches, "hold")
+}
+
+/// The kind of cases that a text names.
+fn kind_of(text: &str) -> Option<Only>
+    ensures { result ≡ kind_of_text text.now }
+{
+    match text {
+        "links" => Some(Only::Links),
+        "systems" => Some(Only::Systems),
+        _ => None,
+    }
+}
+
+/// The error for a word that isn't a kind of cases.
+fn refuse_kind(alloc: Global, word: &str) -> CommandLineError {
+    match String::from_str(alloc, word) {
+        Ok(word) => CommandLineError::NotKind(word),
+        Err(_) => CommandLineError::Memory,
+    }
+}
+
+/// The kind of cases that is left.
+fn only_in(alloc: Global, matches: &ArgMatches) -> Result<Option<Only>, CommandLineError>
+    ensures kind { IfOk result (ReadsKind (first_of (codes "only") (rows_of (found_of matches.now)))) }
+    ensures refused { IfErr result (λ e. (e ≡ Memory) ⊎ LacksKind (rows_of (found_of matches.now))) } {
+    match matches.get_str("only") {
+        None => Ok(None),
+        Some(text) => match kind_of(text) {
+            Some(only) => Ok(Some(only)),
+            None => Err(refuse_kind(alloc, text)),
+        },
+    }
+}
+
+/// What is asked of `faults`.
+fn faults_in(alloc: Global, matches: &ArgMatches) -> Result<FaultsOptions, CommandLineError>
+    ensures asks { IfOk result (ReadsFaults (rows_of (found_of matches.now))) }
+    ensures refused { IfErr result (λ e. (e ≡ Memory)
+        ⊎ (LacksKind (rows_of (found_of matches.now)) ⊎ LacksPart (rows_of (found_of matches.now)))) } {
+    let only = only_in(alloc, matches)?;
+    let parts = count_in(matches, "parts", MOST_PARTS, 1);
+    let part = count_in(matches, "part", MOST_PARTS, 1);
+    if parts < part {
+        return Err(CommandLineError::NotPart(part, parts));
+    }
+    Ok(FaultsOptions {
+        seeds: count_in(matches, "seeds", MOST_RUNS, 1),
+        moments: count_in(matches, "moments", MOST_RUNS, 8),
+        at: nanoseconds_in(matches, "at"),
+        hold: hold_in(matches),
+        only,
+        parts,
+        part,
+        progress: matches.get_flag("progress"),
+        limits: limits_in(matches),
+    })
 }
 
 /// What is asked of `check`. The parser lets no command line through that gives no file.
@@ -724,11 +1008,15 @@ fn strict_in(matches: &ArgMatches) -> bool
 /// What is asked for, by the command that the parser entered.
 fn order_in(alloc: Global, matches: &ArgMatches) -> Result<Order, CommandLineError>
     ensures asks { IfOk result (Enters matches.now) }
-    ensures refused { IfErr result (λ e. (e ≡ Memory) ⊎ RefusesClock matches.now) }
+    ensures refused { IfErr result (λ e. (e ≡ Memory) ⊎ (RefusesClock matches.now ⊎ RefusesCases matches.now)) }
 {
     match matches.subcommand() {
         Some(("run", matches)) => Ok(Order::Run(options_in(matches))),
         Some(("timeline", matches)) => Ok(Order::Timeline(timeline_in(matches))),
+        Some(("faults", matches)) => match faults_in(alloc, matches) {
+            Ok(options) => Ok(Order::Faults(options)),
+            Err(error) => Err(error),
+        },
         Some(("check", matches)) => Ok(Order::Check(check_options_in(alloc, matches)?)),
         Some(("choice", matches)) => Ok(Order::Ask(Question::Choice {
             until: choice_in(matches),
@@ -819,8 +1107,33 @@ fn close<W: Write + Drop>(
     outcome
 }
 
+/// Standard error as a sink.
+#[derive(Drop)]
+struct ErrorSink<'a, R> {
+    rt: &'a R,
+    failures: u64,
+}
+
+impl<R: Eprint> Sink for ErrorSink<'_, R> {
+    ghost use Rattle.std.specs.Prelude.{None};
+
+    ghost written = { λ _. None };
+
+    ghost failures = { λ sink. sink.failures };
+
+    fn write(&mut self, text: &[u8]) -> Result<usize, WriteFailed> {
+        if let Ok(shown) = std::str::from_utf8(text) {
+            if eprint!(self.rt; "{shown}").is_ok() {
+                return Ok(text.len());
+            }
+        }
+        self.failures = self.failures.wrapping_add(1);
+        Err(WriteFailed)
+    }
+}
+
 /// Runs a command from standard input to standard output, which is written in blocks.
-fn carry_out<R: Input + Print + Files + AllocGlobal>(
+fn carry_out<R: Input + Print + Eprint + Files + AllocGlobal>(
     rt: &R,
     order: &Order,
 ) -> Result<Status, SimError>
@@ -835,6 +1148,10 @@ fn carry_out<R: Input + Print + Files + AllocGlobal>(
         Order::Compare => compare_lines(rt.alloc(), &mut source, &mut sink),
         Order::Run(options) => crate::run::run(rt.alloc(), &mut source, &mut sink, options),
         Order::Timeline(order) => timeline(rt.alloc(), &mut source, &mut sink, order),
+        Order::Faults(options) => {
+            let mut progress = ErrorSink { rt, failures: 0 };
+            faults(rt.alloc(), &mut source, &mut sink, &mut progress, options)
+        }
         Order::Check(options) => check_file(rt, &mut source, &mut sink, options),
         Order::Ask(question) => answer_question(rt.alloc(), &mut source, &mut sink, *question),
     };

@@ -21,6 +21,7 @@ pub mod compare;
 mod documents;
 mod explain;
 pub mod failure;
+pub mod faults;
 pub mod laws;
 mod lines;
 mod lint;

@@ -1,5 +1,5 @@
 -- The events of a document.
-use Rattle.std.proofs.Common.{◌≡◌, ◌≤◌, ◌-◌, ◌++◌, ℕ, zero, suc, List, [], ◌∷◌, length, slice_get, Some, refl, sym, ap, subst, ◌∙◌, arith}
+use Rattle.std.proofs.Common.{◌≡◌, ◌≤◌, ◌-◌, ◌++◌, ℕ, zero, suc, List, [], ◌∷◌, length, slice_get, take, Some, refl, sym, ap, subst, ◌∙◌, arith}
 use Rattle.std.specs.List.{AllByRecursion}
 use Rattle.gptp_setup.specs.Intervals.{interval_of, IsLog}
 use Rattle.gptp_setup.proofs.IntervalLemmas.{interval_most}
@@ -41,6 +41,32 @@ pub event_added : (n : NetworkState) (es : List Timed) (e : Event) → AreEvents
 event_added n es e h later early fits = record {
   in_order = in_order_behind es (timed e) h.in_order later;
   each = each_behind n es (timed e) h.each (record { early = early; change = e.change; act = refl; fits = fits });
+}
+
+-- the first events of a document are in order too
+in_order_front : (k : ℕ) (es : List Timed) → AreInOrder es → AreInOrder (take k es)
+in_order_front zero [] h = tt
+in_order_front zero (e ∷ es) h = tt
+in_order_front (suc k) [] h = tt
+in_order_front (suc k) (e ∷ []) h = only k
+  where
+    only : (k : ℕ) → AreInOrder (e ∷ take k [])
+    only zero = tt
+    only (suc k) = tt
+in_order_front (suc zero) (e ∷ f ∷ es) h = tt
+in_order_front (suc (suc k)) (e ∷ f ∷ es) h = (h.0, in_order_front (suc k) (f ∷ es) h.1)
+
+each_front : (n : NetworkState) (k : ℕ) (es : List Timed) → AllByRecursion (IsEvent n) es
+    → AllByRecursion (IsEvent n) (take k es)
+each_front n zero [] h = tt
+each_front n zero (e ∷ es) h = tt
+each_front n (suc k) [] h = tt
+each_front n (suc k) (e ∷ es) h = (h.0, each_front n k es h.1)
+
+pub first_are : (n : NetworkState) (k : ℕ) (es : List Timed) → AreEvents n es → AreEvents n (take k es)
+first_are n k es h = record {
+  in_order = in_order_front k es h.in_order;
+  each = each_front n k es h.each;
 }
 
 -- the last change is early

@@ -7,6 +7,7 @@ pub mod Systems
 pub mod Links
 pub mod Events
 pub mod Document
+pub mod Adding
 pub mod Snapshot
 pub mod SnapshotTables
 pub mod PathBound

@@ -1,6 +1,6 @@
 //! Documents.
 
-ghost use Rattle.std.specs.Prelude.{◌≡◌, ◌≤◌, ◌⊎◌, ◌↔◌, IsTrue, Ok, IfOk, IfErr};
+ghost use Rattle.std.specs.Prelude.{◌≡◌, ◌≤◌, ◌⊎◌, ◌↔◌, IsTrue, None, Ok, Some, IfOk, IfErr, OnErr, OnOk};
 ghost use Rattle.toml.specs.View.{table_view};
 ghost use Rattle.gptp_plan.specs.Calm.{last_change, IsCalm};
 ghost use Rattle.gptp_plan.specs.Network.{smallest_of};
@@ -8,19 +8,20 @@ ghost use Rattle.gptp_setup.specs.Intervals.{interval_of};
 ghost use Rattle.gptp_plan.specs.Allowed.{AreAllowed};
 ghost use Rattle.gptp_plan.specs.Prompt.{ArePromptActs};
 ghost use Rattle.gptp_plan.specs.SettlingTime.{settles};
-ghost use Rattle.gptp_network.specs.Events.{AreEvents};
+ghost use Rattle.gptp_network.specs.Adding.{adding_fault, with_event, with_first};
+ghost use Rattle.gptp_network.specs.Events.{AreEvents, IsInRange};
 ghost use Rattle.gptp_network.specs.Faults.{Refuses};
 ghost use Rattle.gptp_network.specs.Snapshot.{IsSnapshot};
 ghost use Rattle.gptp_network.specs.Document.{document_of, whole_network_of, Parses, Means, Fails, IsNoToml};
 
-use crate::events::{events_by, events_of, last_change};
+use crate::events::{Event, adding_fault, events_by, events_of, last_change, push_event};
 use crate::fault::DocumentFault;
 use crate::links::add_links;
 use crate::params::network_of;
 use crate::snapshot::Snapshot;
 use crate::systems::add_systems;
 use crate::values::natural;
-use gptp_plan::{Network, Timed};
+use gptp_plan::{Change, Network, Timed};
 use std::alloc::{AllocError, Global};
 use std::marker::Model;
 use toml::Table;
@@ -114,6 +115,30 @@ impl Document {
         ensures prompt { ArePromptActs (interval_of (smallest_of self.now.network)) self.now.events }
     {
         self.network.well_formed();
+    }
+
+    /// Puts an event behind the others. Refused by the first test that it fails, as if it were the last of the text: 4,096
+    /// events are there, it is later than 8 * 10^14, earlier than the last, or what its kind asks isn't so. `OutOfMemory` can
+    /// come behind them. A refusal changes nothing.
+    pub fn add(&mut self, at: u64, change: Change) -> Result<(), DocumentFault>
+        requires { IsInRange change }
+        ensures passed { OnOk result (adding_fault self.old at change ≡ None) }
+        ensures added { OnOk result (self.new ≡ with_event at change self.old) }
+        ensures refused { IfErr result (λ e. (e ≡ DocumentFault.OutOfMemory) ⊎ (adding_fault self.old at change ≡ Some e)) }
+        ensures same { OnErr result (self.new ≡ self.old) }
+    {
+        match adding_fault(&self.network, &self.events, at, &change) {
+            Some(fault) => Err(fault),
+            None => push_event(&mut self.events, &self.network, Event { at, change }),
+        }
+    }
+
+    /// Leaves the first events, so many, and takes the others off.
+    #[tactic(auto, using(crate::proofs::EventLemmas::first_are))]
+    pub fn truncate(&mut self, count: usize)
+        ensures { self.new ≡ with_first count self.old }
+    {
+        self.events.truncate(count);
     }
 
     /// What is changed when, in the order of the document.

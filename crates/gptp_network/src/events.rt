@@ -1,12 +1,13 @@
 //! The sections `[[event]]`.
 
-ghost use Rattle.std.specs.Prelude.{◌≡◌, ◌≤◌, ◌++◌, ◌∷◌, [], Ok, Some, None, OnOk, IfOk, IfErr};
+ghost use Rattle.std.specs.Prelude.{◌≡◌, ◌≤◌, ◌++◌, ◌∷◌, [], Ok, Some, None, OnErr, OnOk, IfOk, IfErr};
 ghost use Rattle.toml.specs.View.{view, items_view, table_view};
 ghost use Rattle.gptp_plan.specs.Calm.{last_change};
 ghost use Rattle.gptp_network.specs.Faults.{Refuses};
 ghost use Rattle.gptp_network.specs.Members.{each_of};
 ghost use Rattle.gptp_network.specs.Values.{natural};
 ghost use Rattle.gptp_network.specs.Events.{link_down_of, link_up_of, link_set_of, fail_of, recover_of, priority1_of, inject_of, change_of, event_of, link_fault_at, system_fault_at, change_fault, timed, with_event_of, events_of, AreEvents, AreInOrder, IsInRange, IsChange};
+ghost use Rattle.gptp_network.specs.Adding.{adding_fault};
 ghost use Rattle.gptp_network.specs.Snapshot.{events_by};
 
 use crate::fault::DocumentFault;
@@ -213,6 +214,32 @@ fn change_fault(network: &Network, change: &Change) -> Option<NetworkFault>
     }
 }
 
+/// The first test that an event fails which is put behind others.
+pub(crate) fn adding_fault(
+    network: &Network,
+    events: &[Timed],
+    at: u64,
+    change: &Change,
+) -> Option<DocumentFault>
+    ensures is { result ≡ adding_fault (record { network = network.now; events = events.now }) at change.now }
+    ensures later { result ≡ None → last_change events.now ≤ at }
+    ensures early { result ≡ None → at ≤ 800000000000000 }
+    ensures fits { result ≡ None → IsInRange change.now → IsChange network.now change.now }
+{
+    if 4096 <= events.len() {
+        Some(DocumentFault::TooMany)
+    } else if 800_000_000_000_000 < at {
+        Some(DocumentFault::OutOfRange)
+    } else if at < last_change(events) {
+        Some(DocumentFault::EventOrder)
+    } else {
+        match change_fault(network, change) {
+            Some(fault) => Some(DocumentFault::from(fault)),
+            None => None,
+        }
+    }
+}
+
 /// The time of the last event, or 0.
 #[tactic(auto, using(crate::proofs::EventLemmas::last_from))]
 pub(crate) fn last_change(events: &[Timed]) -> u64
@@ -235,7 +262,11 @@ pub(crate) fn events_by(events: &[Timed], until: u64) -> &[Timed]
 
 /// Puts an event behind the others.
 #[tactic(auto, using(crate::proofs::EventLemmas::event_added))]
-fn push_event(events: &mut Vec<Timed>, network: &Network, event: Event) -> Result<(), DocumentFault>
+pub(crate) fn push_event(
+    events: &mut Vec<Timed>,
+    network: &Network,
+    event: Event,
+) -> Result<(), DocumentFault>
     requires are_events { AreEvents network.now events.old.items }
     requires later { last_change events.old.items ≤ event.at }
     requires early { event.at ≤ 800000000000000 }
@@ -243,6 +274,7 @@ fn push_event(events: &mut Vec<Timed>, network: &Network, event: Event) -> Resul
     ensures are_events { OnOk result (AreEvents network.now events.new.items) }
     ensures events { OnOk result (events.new.items ≡ events.old.items ++ timed event ∷ []) }
     ensures memory { IfErr result (λ e. e ≡ DocumentFault.OutOfMemory) }
+    ensures same { OnErr result (events.new.items ≡ events.old.items) }
 {
     events.push(Timed {
         at: event.at,

@@ -19,6 +19,7 @@ pub mod ActStepLemmas
 pub mod EventLemmas
 pub mod CountLemmas
 pub mod ChainStepLemmas
+pub mod KeptLemmas
 pub mod PassLemmas
 pub mod NameLemmas
 pub mod ObservedLemmas

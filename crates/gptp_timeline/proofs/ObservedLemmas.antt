@@ -17,10 +17,12 @@ use Rattle.gptp_world.specs.Transitions.{Transition}
 use Rattle.gptp_report.specs.Transitions.{Courses, CoursesSoFar}
 use Rattle.gptp_time_error.specs.declared.errors.TimeErrors.{TimeErrors}
 use Rattle.gptp_timeline.specs.Changes.{change_lines}
+use Rattle.gptp_timeline.specs.Ends.{EndState}
+use Rattle.gptp_timeline.specs.LastTwo.{end_in, end_of}
 use Rattle.gptp_timeline.specs.Measures.{greatest, greatest_from, since_after}
 use Rattle.gptp_timeline.specs.Passing.{watch_before}
 use Rattle.gptp_timeline.specs.Shown.{is_expecting, live_among, shown, shown_of}
-use Rattle.gptp_timeline.specs.Stretch.{at_of, counted, ended, error_from, shown_of_all, under_way, waits}
+use Rattle.gptp_timeline.specs.Stretch.{at_of, counted, ended, error_from, roots_of, shown_of_all, under_way, waits}
 use Rattle.gptp_timeline.specs.StretchText.{after_line, ended_stretch, error_among, system_accuracy, wait_of}
 use Rattle.gptp_timeline.specs.Timeline.{Passage, accuracy_at, accuracy_lines, act_lines, end_lines, ended_of, exact_time, is_begun, kept_accuracy, kept_accuracy_at, none_waits, start_lines, stretch_of}
 use Rattle.gptp_timeline.specs.Watch.{WatchState, begun, event_look, lines_all, see_act, see_all, seen_lines, tells_changes, unless, unseen, without_error}
@@ -137,6 +139,10 @@ stands_in names since errors w w' xs same stands = record {
       ap (one_kept name (since name) (errors name)) (same_shown w w' same name));
   still = λ name none. stands.still name (sym (ap is_expecting (same_shown w w' same name)) ∙ none);
 }
+
+-- how a stretch ended of which this became
+abbrev pub ended_with : Stretch → List ℕ → EndState
+ended_with s roots = record { stretch = s; roots = roots }
 
 -- ---- how exact systems were
 
@@ -306,6 +312,14 @@ module _ (options : TimelineOptions) (names : List ℕ) (since : ℕ → Option 
         ∙ ap (λ h. became h (counted (shown_of_all (map (kept now errors p.after) names)))) longest
         ∙ ap (λ shown. became (greatest (ended names since p.acts ++ under_way names now p.to)) (counted shown))
         (kept_shown now errors p.after names)
+
+    -- so it ended
+    pub end_is : end_of plan o ≡ end_in names since p
+    end_is =
+        ap (λ s. ended_with s (roots_of (shown_of_all o.systems))) stretch_ended
+        ∙ ap (λ (xs : List Watched). ended_with (stretch_of names since p) (roots_of (shown_of_all xs)))
+        observes.tracks.stands.are
+        ∙ ap (λ all. ended_with (stretch_of names since p) (roots_of all)) (kept_shown now errors p.after names)
 
     errors_are : (clock : ℕ) → error_among o.systems clock ≡ errors clock
     errors_are clock =

@@ -16,13 +16,14 @@ use Rattle.gptp_report.specs.Transitions.{Courses, CoursesSoFar}
 use Rattle.gptp_world.proofs.FollowLemmas.{text_append}
 use Rattle.gptp_report.proofs.RunLemmas.{made_if_stays, passed_stays}
 use Rattle.gptp_spelling.specs.Lines.{text_of}
-use Rattle.gptp_timeline.specs.Limits.{exceeded_after, not_exceeded}
+use Rattle.gptp_timeline.specs.Ends.{EndState}
+use Rattle.gptp_timeline.specs.LastTwo.{all_kept, end_in, end_of, kept_after, none_kept}
 use Rattle.gptp_timeline.specs.Passing.{BreaksSeen, first_time, IsSeen, IsSeenSoFar, IsSeenToEnd, StopsSeen}
-use Rattle.gptp_timeline.specs.Stretch.{waits}
+use Rattle.gptp_timeline.specs.Stretch.{roots_of, shown_of_all, waits}
 use Rattle.gptp_timeline.specs.StretchText.{after_line, ended_stretch}
-use Rattle.gptp_timeline.specs.Timeline.{accuracy_lines, act_lines, all_exceeded, all_lines, AllPass, AreErrorsBy, end_before, end_lines, ended_of, exact_time, is_begun, kept_accuracy, IsPassage, IsPlan, later_than, none_waits, now_of, Passage, passage_lines, SomePass, stretch_of}
+use Rattle.gptp_timeline.specs.Timeline.{accuracy_lines, act_lines, all_lines, AllPass, AreErrorsBy, end_before, end_lines, ended_of, exact_time, is_begun, kept_accuracy, IsPassage, IsPlan, later_than, none_waits, now_of, Passage, passage_lines, SomePass, stretch_of}
 use Rattle.gptp_timeline.specs.Watch.{begun, tells_changes, WatchState}
-use Rattle.gptp_timeline.specs.declared.limits.Exceeded.{Exceeded}
+use Rattle.gptp_timeline.specs.declared.ends.Kept.{Kept}
 use Rattle.gptp_timeline.specs.declared.measures.Measures.{Measures}
 use Rattle.gptp_timeline.specs.declared.stretch.Stretch.{Stretch}
 use Rattle.gptp_timeline.specs.declared.timeline.Plan.{Plan}
@@ -30,7 +31,7 @@ use Rattle.gptp_timeline.specs.declared.timeline.TimelineOptions.{TimelineOption
 use Rattle.gptp_timeline.specs.declared.watched.Watched.{Watched}
 use Rattle.gptp_timeline.proofs.EventLemmas.{ends_before, some_left}
 use Rattle.gptp_timeline.proofs.LineLemmas.{line_on}
-use Rattle.gptp_timeline.proofs.ObservedLemmas.{broken_told, end_told, IsOfPlan, Observes, Rests, stretch_begins, stretch_ended, stretch_passes, stretch_rests, stretch_told}
+use Rattle.gptp_timeline.proofs.ObservedLemmas.{broken_told, end_is, end_told, ended_with, IsOfPlan, Observes, Rests, stretch_begins, stretch_ended, stretch_passes, stretch_rests, stretch_told}
 
 -- ---- answers
 
@@ -55,6 +56,22 @@ pub appended_text : (empty after octets text : List ℕ) → empty ≡ [] → af
     → octets ≡ text
 appended_text empty after octets text none added same = same ∙ added ∙ ap (λ b. b ++ text) none
 
+-- what became of a stretch, and how it ended
+stretch_is : (plan : Plan) (o : WatchState) (s : Stretch) (m : Measures) (xs : List Watched)
+    → s ≡ ended_stretch plan.from plan.to plan.begins_with_event plan.bound m xs → m ≡ o.measures → xs ≡ o.systems
+    → s ≡ ended_of plan o
+stretch_is plan o s m xs is measures systems =
+    is ∙ ap (λ k. ended_stretch plan.from plan.to plan.begins_with_event plan.bound k xs) measures
+    ∙ ap (ended_stretch plan.from plan.to plan.begins_with_event plan.bound o.measures) systems
+
+pub end_made : (plan : Plan) (o : WatchState) (s : Stretch) (m : Measures) (xs ys : List Watched) (roots : List ℕ)
+    (e : EndState) → s ≡ ended_stretch plan.from plan.to plan.begins_with_event plan.bound m xs → m ≡ o.measures
+    → xs ≡ o.systems → roots ≡ roots_of (shown_of_all ys) → ys ≡ o.systems
+    → e ≡ record { stretch = s; roots = roots } → e ≡ end_of plan o
+end_made plan o s m xs ys roots e is measures systems followed also made =
+    made ∙ ap (λ t. ended_with t roots) (stretch_is plan o s m xs is measures systems)
+    ∙ ap (ended_with (ended_of plan o)) (followed ∙ ap (λ (zs : List Watched). roots_of (shown_of_all zs)) also)
+
 -- the lines where a stretch ends
 pub end_text : (plan : Plan) (o : WatchState) (s : Stretch) (m : Measures) (xs : List Watched)
     (empty between after octets : List ℕ)
@@ -63,9 +80,7 @@ pub end_text : (plan : Plan) (o : WatchState) (s : Stretch) (m : Measures) (xs :
     → after ≡ between ++ text_of (kept_accuracy o.systems plan.errors) → octets ≡ after
     → octets ≡ text_of (end_lines plan o)
 end_text plan o s m xs empty between after octets is measures systems none line rest same =
-    let stretch : s ≡ ended_of plan o =
-    is ∙ ap (λ k. ended_stretch plan.from plan.to plan.begins_with_event plan.bound k xs) measures
-    ∙ ap (ended_stretch plan.from plan.to plan.begins_with_event plan.bound o.measures) systems in
+    let stretch = stretch_is plan o s m xs is measures systems in
     appended_text empty after octets (text_of (end_lines plan o)) none
     (line_on empty between after (after_line s) (kept_accuracy o.systems plan.errors) line rest
     ∙ ap (λ t. empty ++ text_of (after_line t ∷ kept_accuracy o.systems plan.errors)) stretch) same
@@ -93,7 +108,7 @@ module _ {F : Type 0} (answers : Bounds → ℕ → F → Option ℕ → F → T
 module _ {F : Type 0} (answers : Bounds → ℕ → F → Option ℕ → F → Type 0) (d : DocumentState) (until : ℕ)
     (options : TimelineOptions) (names : List ℕ) (events : List Timed) (fate : F) (w : WorldState) where
   -- Stretches passed, the first from 0 on with these events; the next begins at a time with those that are left.
-  pub record Gone (from : ℕ) (left : List Timed) (drawn : F) (between : WorldState) (exceeded : Exceeded)
+  pub record Gone (from : ℕ) (left : List Timed) (drawn : F) (between : WorldState) (kept : Kept)
       (since : ℕ → Option ℕ) (lines : List (List ℕ)) : Type 0 where
     pub passages : List Passage
     pub more : (q : Passage) (qs : List Passage) (fate_after : F) (w' : WorldState)
@@ -103,23 +118,23 @@ module _ {F : Type 0} (answers : Bounds → ℕ → F → Option ℕ → F → T
         → SomePass answers d until 0 events fate w (passages ++ qs) ts
     pub lines_are : (qs : List Passage)
         → lines ++ all_lines options names since qs ≡ all_lines options names none_waits (passages ++ qs)
-    pub exceeded_is : (qs : List Passage) → all_exceeded options.limits names since qs exceeded
-        ≡ all_exceeded options.limits names none_waits (passages ++ qs) not_exceeded
+    pub kept_is : (qs : List Passage) → all_kept options.limits names since qs kept
+        ≡ all_kept options.limits names none_waits (passages ++ qs) none_kept
 
-  pub gone_none : Gone 0 events fate w not_exceeded none_waits []
+  pub gone_none : Gone 0 events fate w none_kept none_waits []
   gone_none = record {
     passages = [];
     more = λ q qs fate_after w' all. all;
     some = λ qs ts some. some;
     lines_are = λ qs. refl;
-    exceeded_is = λ qs. refl;
+    kept_is = λ qs. refl;
   }
 
   -- all stretches passed, to these lines
-  pub record AllGone (fate_after : F) (w' : WorldState) (verdict : Exceeded) (all : List (List ℕ)) : Type 0 where
+  pub record AllGone (fate_after : F) (w' : WorldState) (verdict : Kept) (all : List (List ℕ)) : Type 0 where
     pub passages : List Passage
     pub pass : AllPass answers d until 0 events fate fate_after w w' passages
-    pub verdict_is : verdict ≡ all_exceeded options.limits names none_waits passages not_exceeded
+    pub verdict_is : verdict ≡ all_kept options.limits names none_waits passages none_kept
     pub are : all ≡ all_lines options names none_waits passages
 
   -- or some of them did
@@ -131,8 +146,8 @@ module _ {F : Type 0} (answers : Bounds → ℕ → F → Option ℕ → F → T
         ≡ all_lines options names none_waits passages ++ flat_map (act_lines options names) acts
 
   -- one stretch more behind which another comes
-  module _ (from to : ℕ) (left : List Timed) (drawn next : F) (between : WorldState) (exceeded : Exceeded)
-      (since : ℕ → Option ℕ) (lines : List (List ℕ)) (gone : Gone from left drawn between exceeded since lines)
+  module _ (from to : ℕ) (left : List Timed) (drawn next : F) (between : WorldState) (kept : Kept)
+      (since : ℕ → Option ℕ) (lines : List (List ℕ)) (gone : Gone from left drawn between kept since lines)
       (p : Passage) (passage : IsPassage answers d until from left drawn next between p)
       (is : first_time (later_than from left) ≡ Some to) where
     to_is : p.to ≡ to
@@ -142,7 +157,7 @@ module _ {F : Type 0} (answers : Bounds → ℕ → F → Option ℕ → F → T
     behind qs = sym (append_assoc gone.passages (p ∷ []) qs)
 
     pub gone_more : Gone to (later_than from left) next p.after
-        (exceeded_after options.limits (stretch_of names since p) exceeded) (waits p.acts since)
+        (kept_after options.limits (end_in names since p) kept) (waits p.acts since)
         (lines ++ passage_lines options names since p)
     gone_more = record {
       passages = gone.passages ++ p ∷ [];
@@ -165,21 +180,21 @@ module _ {F : Type 0} (answers : Bounds → ℕ → F → Option ℕ → F → T
           (all_lines options names (waits p.acts since) qs)
           ∙ gone.lines_are (p ∷ qs)
           ∙ ap (all_lines options names none_waits) (behind qs);
-      exceeded_is = λ qs. gone.exceeded_is (p ∷ qs)
-          ∙ ap (λ ps. all_exceeded options.limits names none_waits ps not_exceeded) (behind qs);
+      kept_is = λ qs. gone.kept_is (p ∷ qs)
+          ∙ ap (λ ps. all_kept options.limits names none_waits ps none_kept) (behind qs);
     }
 
   -- the last of them
-  module _ (from : ℕ) (left : List Timed) (drawn : F) (between : WorldState) (exceeded : Exceeded)
-      (since : ℕ → Option ℕ) (lines : List (List ℕ)) (gone : Gone from left drawn between exceeded since lines) where
+  module _ (from : ℕ) (left : List Timed) (drawn : F) (between : WorldState) (kept : Kept)
+      (since : ℕ → Option ℕ) (lines : List (List ℕ)) (gone : Gone from left drawn between kept since lines) where
     pub gone_all : (p : Passage) (next : F) → IsPassage answers d until from left drawn next between p
         → later_than from left ≡ []
-        → AllGone next p.after (exceeded_after options.limits (stretch_of names since p) exceeded)
+        → AllGone next p.after (kept_after options.limits (end_in names since p) kept)
         (lines ++ passage_lines options names since p)
     gone_all p next passage none = record {
       passages = gone.passages ++ p ∷ [];
       pass = gone.more p [] next p.after (passage, none, refl);
-      verdict_is = gone.exceeded_is (p ∷ []);
+      verdict_is = gone.kept_is (p ∷ []);
       are = ap (λ rest. lines ++ rest) (sym (append-nil (passage_lines options names since p)))
           ∙ gone.lines_are (p ∷ []);
     }
@@ -312,8 +327,8 @@ module _ {F : Type 0} (answers : Bounds → ℕ → F → Option ℕ → F → T
         stretch_passes options names since answers (exact_time plan.errors) plan.to now seen.acts fate w
         (begun (exact_time plan.errors) o) o_after told begins seen.tells fate_after w' seen.courses
 
-    pub seen_stretch : ended_of plan o_after ≡ stretch_of names since (passage_of plan now seen.acts w')
-    seen_stretch = stretch_ended options names since plan seen_passage of_plan o_after observes
+    pub seen_end : end_of plan o_after ≡ end_in names since (passage_of plan now seen.acts w')
+    seen_end = end_is options names since plan seen_passage of_plan o_after observes
 
     pub seen_lines : told ++ end_lines plan o_after
         ≡ passage_lines options names since (passage_of plan now seen.acts w')
@@ -339,16 +354,16 @@ module _ {F : Type 0} (answers : Bounds → ℕ → F → Option ℕ → F → T
 module _ {F : Type 0} (answers : Bounds → ℕ → F → Option ℕ → F → Type 0) (d : DocumentState) (until : ℕ)
     (options : TimelineOptions) (names : List ℕ) (events : List Timed) (fate : F) (w : WorldState) where
   -- Stretches passed; the observer is where the next can begin, and this is so of the text of them.
-  pub record GoneSeen (from : ℕ) (left : List Timed) (drawn : F) (between : WorldState) (exceeded : Exceeded)
+  pub record GoneSeen (from : ℕ) (left : List Timed) (drawn : F) (between : WorldState) (kept : Kept)
       (o : WatchState) (So : List ℕ → Type 0) : Type 0 where
     pub since : ℕ → Option ℕ
     pub lines : List (List ℕ)
-    pub gone : Gone answers d until options names events fate w from left drawn between exceeded since lines
+    pub gone : Gone answers d until options names events fate w from left drawn between kept since lines
     pub rests : Rests options names since between o
     pub so : So (text_of lines)
 
   pub seen_none : (o : WatchState) (So : List ℕ → Type 0) → Rests options names none_waits w o → So []
-      → GoneSeen 0 events fate w not_exceeded o So
+      → GoneSeen 0 events fate w none_kept o So
   seen_none o So rests so = record {
     since = none_waits;
     lines = [];
@@ -357,9 +372,9 @@ module _ {F : Type 0} (answers : Bounds → ℕ → F → Option ℕ → F → T
     so = so;
   }
 
-  module _ (from to : ℕ) (left : List Timed) (drawn : F) (between : WorldState) (exceeded : Exceeded) (o : WatchState)
+  module _ (from to : ℕ) (left : List Timed) (drawn : F) (between : WorldState) (kept : Kept) (o : WatchState)
       (First Second Both : List ℕ → Type 0) (both : (one two : List ℕ) → First one → Second two → Both (one ++ two))
-      (so_far : GoneSeen from left drawn between exceeded o First) where
+      (so_far : GoneSeen from left drawn between kept o First) where
     -- what is so of the lines so far and of those of the next is so of both
     joined : (told : List (List ℕ)) → Second (text_of told) → Both (text_of (so_far.lines ++ told))
     joined told so =
@@ -367,9 +382,9 @@ module _ {F : Type 0} (answers : Bounds → ℕ → F → Option ℕ → F → T
 
     -- it passed
     module _ (plan : Plan) (next : F) (after : WorldState) (o_after : WatchState) (told : List (List ℕ))
-        (verdict : Exceeded) (known : IsPlan d from to (is_begun (now_of from left)) plan)
+        (verdict : Kept) (known : IsPlan d from to (is_begun (now_of from left)) plan)
         (seen : IsSeen answers plan (now_of from left) drawn next between after o o_after told)
-        (verdict_is : verdict ≡ exceeded_after options.limits (ended_of plan o_after) exceeded)
+        (verdict_is : verdict ≡ kept_after options.limits (end_of plan o_after) kept)
         (so : Second (text_of (told ++ end_lines plan o_after))) where
       abbrev passed : Passage
       passed = passage_of plan (now_of from left) seen.acts after
@@ -379,11 +394,11 @@ module _ {F : Type 0} (answers : Bounds → ℕ → F → Option ℕ → F → T
           seen_lines answers options names so_far.since plan (now_of from left) drawn between o so_far.rests next after
           o_after told seen known.begins_is
 
-      verdict_so : verdict ≡ exceeded_after options.limits (stretch_of names so_far.since passed) exceeded
+      verdict_so : verdict ≡ kept_after options.limits (end_in names so_far.since passed) kept
       verdict_so =
           verdict_is
-          ∙ ap (λ s. exceeded_after options.limits s exceeded)
-          (seen_stretch answers options names so_far.since plan (now_of from left) drawn between o so_far.rests next
+          ∙ ap (λ e. kept_after options.limits e kept)
+          (seen_end answers options names so_far.since plan (now_of from left) drawn between o so_far.rests next
           after o_after told seen known.begins_is)
 
       both_so : Both (text_of (so_far.lines ++ passage_lines options names so_far.since passed))
@@ -399,7 +414,7 @@ module _ {F : Type 0} (answers : Bounds → ℕ → F → Option ℕ → F → T
         gone = subst (λ e. Gone answers d until options names events fate w to (later_than from left) next after e
             (waits seen.acts so_far.since) (so_far.lines ++ passage_lines options names so_far.since passed))
             (sym verdict_so)
-            (gone_more answers d until options names events fate w from to left drawn next between exceeded
+            (gone_more answers d until options names events fate w from to left drawn next between kept
             so_far.since so_far.lines so_far.gone passed
             (is_passage answers d until from to left (sym (ends_before until (later_than from left) to is)) plan known
             drawn next between after seen.acts seen.courses) is);
@@ -411,11 +426,11 @@ module _ {F : Type 0} (answers : Bounds → ℕ → F → Option ℕ → F → T
       -- and it is the last
       pub seen_all : later_than from left ≡ [] → to ≡ until
           → (passages : List Passage) × AllPass answers d until 0 events fate next w after passages
-          × (verdict ≡ all_exceeded options.limits names none_waits passages not_exceeded)
+          × (verdict ≡ all_kept options.limits names none_waits passages none_kept)
           × Both (text_of (all_lines options names none_waits passages))
       seen_all none last =
           let ends : to ≡ end_before until (later_than from left) = last ∙ ap (end_before until) (sym none) in
-          let all = gone_all answers d until options names events fate w from left drawn between exceeded
+          let all = gone_all answers d until options names events fate w from left drawn between kept
           so_far.since so_far.lines so_far.gone passed next
           (is_passage answers d until from to left ends plan known drawn next between after seen.acts seen.courses) none
           in (
@@ -451,11 +466,11 @@ module _ {F : Type 0} (answers : Bounds → ℕ → F → Option ℕ → F → T
             × Both (text_of (all_lines options names none_waits passages ++ flat_map (act_lines options names) acts))
         by (inl none) =
             some_of [] none
-            (gone_no_further answers d until options names events fate w from left drawn between exceeded
+            (gone_no_further answers d until options names events fate w from left drawn between kept
             so_far.since so_far.lines so_far.gone)
         by (inr (plan, known, inl some)) =
             some_of lines refl
-            (gone_on answers d until options names events fate w from left drawn between exceeded so_far.since
+            (gone_on answers d until options names events fate w from left drawn between kept so_far.since
             so_far.lines so_far.gone some.acts lines
             (some_acts answers d until from to left ends plan known drawn between some.acts some.courses)
             (seen_so_far answers options names so_far.since plan (now_of from left) drawn between o so_far.rests lines
@@ -466,7 +481,7 @@ module _ {F : Type 0} (answers : Bounds → ℕ → F → Option ℕ → F → T
             (whole.are
             ∙ seen_lines answers options names so_far.since plan (now_of from left) drawn between o so_far.rests
             whole.fate_after whole.after whole.o_after whole.told whole.seen known.begins_is)
-            (gone_to_end answers d until options names events fate w from left drawn between exceeded so_far.since
+            (gone_to_end answers d until options names events fate w from left drawn between kept so_far.since
             so_far.lines so_far.gone (passage_of plan (now_of from left) whole.seen.acts whole.after) whole.fate_after
             (is_passage answers d until from to left ends plan known drawn whole.fate_after between whole.after
             whole.seen.acts whole.seen.courses))

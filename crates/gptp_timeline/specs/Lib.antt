@@ -12,5 +12,7 @@ pub mod Limits
 pub mod End
 pub mod Watch
 pub mod Timeline
+pub mod Ends
+pub mod LastTwo
 pub mod Passing
 pub mod Laws

@@ -25,7 +25,7 @@ fn rounded_up(amount: u128) -> u128
 
 /// Such a time, to the nearest.
 #[derive(Clone, Copy)]
-pub(crate) struct Near(pub u128);
+pub struct Near(pub u128);
 
 impl fmt::Display for Near {
     ghost use Rattle.std.specs.Prelude.{Some};

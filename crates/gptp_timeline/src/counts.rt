@@ -9,12 +9,14 @@ use crate::watched::Watched;
 use gptp_vector::Identity;
 use std::alloc::{AllocError, Global};
 
-/// How many live systems have no time, how many roots are followed by two or more, and how many systems follow a root
-/// that no other does.
+/// What is counted of all systems at a time.
 #[derive(Clone, Copy, Debug, PartialEq, Eq)]
-pub(crate) struct Counts {
+pub struct Counts {
+    /// How many live systems have no time.
     pub without: u64,
+    /// How many roots are followed by two or more.
     pub roots: u64,
+    /// How many systems follow a root that no other does.
     pub alone: u64,
 }
 
@@ -59,7 +61,7 @@ fn push_root(roots: &mut Vec<Identity>, shown: &Option<Shown>) -> Result<(), All
 }
 
 /// The roots of all live systems.
-fn roots_of(alloc: Global, systems: &[Watched]) -> Result<Vec<Identity>, AllocError>
+pub(crate) fn roots_of(alloc: Global, systems: &[Watched]) -> Result<Vec<Identity>, AllocError>
     ensures { IfOk result (λ v. v.items ≡ roots_of (shown_of_all systems.now)) }
 {
     let mut roots = Vec::new(alloc);
@@ -70,7 +72,7 @@ fn roots_of(alloc: Global, systems: &[Watched]) -> Result<Vec<Identity>, AllocEr
 }
 
 /// How often a root is there.
-fn times(roots: &[Identity], root: Identity) -> usize
+pub fn times(roots: &[Identity], root: Identity) -> usize
     ensures { result ≡ times roots.now root }
 {
     roots.iter().filter(|other| **other == root).count()

@@ -4,13 +4,15 @@
 //! [`write_timeline`] lets a document run and writes, act by act, the event that is made and what each act leaves another
 //! of what its systems show; then, where a stretch between the times of events ends, how long the choice took to stand,
 //! how long a system went without time, and how far the time that came was off. `specs/Timeline.antt` says what is
-//! written, over the acts of the run (`Courses` of gptp_report).
+//! written, over the acts of the run (`Courses` of gptp_report). [`last_stretches`] lets it run so and answers how the
+//! last two stretches ended, by `specs/LastTwo.antt`, and writes nothing.
 #![tactic(auto)]
 
 mod amounts;
 mod changes;
 mod counts;
 mod end;
+mod ends;
 mod event_line;
 mod laws;
 mod limits;
@@ -20,10 +22,16 @@ mod receipts;
 mod shown;
 mod stretch;
 mod timeline;
+mod unwritten;
 mod watch;
 mod watched;
 
+pub use amounts::Near;
+pub use counts::{Counts, times};
 pub use end::end_by_default;
+pub use ends::StretchEnd;
 pub use laws::{last_lines_tell, stretches_settle, timelines_are_runs};
-pub use limits::Limits;
-pub use timeline::{TimelineOptions, write_timeline};
+pub use limits::{Exceeded, Limits, is_above, is_any_above, write_first_exceeded};
+pub use measures::{Greatest, Measures, better_if};
+pub use stretch::{Longest, Stretch, TimeOrNone, Worst};
+pub use timeline::{TimelineOptions, last_stretches, write_timeline};

@@ -25,6 +25,16 @@ pub struct Limits {
     pub alone: Option<u64>,
 }
 
+/// None is given.
+pub(crate) const NO_LIMITS: Limits = Limits {
+    choice: None,
+    holdover: None,
+    error: None,
+    without: None,
+    roots: None,
+    alone: None,
+};
+
 /// What a limit is given for.
 #[derive(Clone, Copy, Debug, PartialEq, Eq)]
 pub(crate) enum Limit {
@@ -56,7 +66,7 @@ impl fmt::Display for Limit {
 
 /// Which limits some stretch exceeded so far.
 #[derive(Clone, Copy, Debug, PartialEq, Eq)]
-pub(crate) struct Exceeded {
+pub struct Exceeded {
     pub choice: bool,
     pub holdover: bool,
     pub error: bool,
@@ -76,7 +86,7 @@ pub(crate) const NOT_EXCEEDED: Exceeded = Exceeded {
 };
 
 /// Whether an amount is above so many units.
-fn is_above(most: Option<u64>, unit: u32, amount: u128) -> bool
+pub fn is_above(most: Option<u64>, unit: u32, amount: u128) -> bool
     ensures { result ≡ is_above most unit amount }
 {
     match most {
@@ -86,7 +96,7 @@ fn is_above(most: Option<u64>, unit: u32, amount: u128) -> bool
 }
 
 /// Whether there is an amount, and it is above.
-fn is_any_above(most: Option<u64>, unit: u32, amount: Option<u128>) -> bool
+pub fn is_any_above(most: Option<u64>, unit: u32, amount: Option<u128>) -> bool
     ensures { result ≡ is_any_above most unit amount }
 {
     match amount {
@@ -162,6 +172,15 @@ fn write_asked(text: &mut String, first: Option<Limit>) -> Result<bool, AllocErr
 {
     write_first(text, first)?;
     Ok(first.is_some())
+}
+
+/// Appends the line that says which limit is the first that is exceeded, and answers whether one is.
+pub fn write_first_exceeded(text: &mut String, exceeded: Exceeded) -> Result<bool, AllocError>
+    ensures text { OnOk result (string_bytes text.new
+        ≡ string_bytes text.old ++ text_of (verdict_line (first_exceeded exceeded) ∷ [])) }
+    ensures exceeded { IfOk result (λ is. is ≡ is_some (first_exceeded exceeded)) }
+{
+    write_asked(text, first_exceeded(exceeded))
 }
 
 /// Appends the line of a verdict where a limit is given, and answers whether one is exceeded.

@@ -7,14 +7,14 @@ use gptp_vector::ClockId;
 
 /// The greatest amount so far, and the system of which it is.
 #[derive(Clone, Copy, Debug, PartialEq, Eq)]
-pub(crate) struct Greatest {
+pub struct Greatest {
     pub amount: u128,
     pub clock: ClockId,
 }
 
 /// What is measured of the acts of a stretch so far.
 #[derive(Clone, Copy, Debug)]
-pub(crate) struct Measures {
+pub struct Measures {
     /// When the last act was that left some system another as to whether it lives, root, steps or Slave port, in ns.
     pub choice: Option<u64>,
     /// When the last was that did so, or as to a port.
@@ -47,7 +47,7 @@ pub(crate) fn better(best: Option<Greatest>, one: Greatest) -> Option<Greatest>
 }
 
 /// So it is where there is one.
-pub(crate) fn better_if(best: Option<Greatest>, one: Option<Greatest>) -> Option<Greatest>
+pub fn better_if(best: Option<Greatest>, one: Option<Greatest>) -> Option<Greatest>
     ensures { result ≡ better_if best one }
 {
     match one {

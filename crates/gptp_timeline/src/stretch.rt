@@ -22,7 +22,7 @@ use std::fmt;
 
 /// What became of a stretch.
 #[derive(Clone, Copy, Debug)]
-pub(crate) struct Stretch {
+pub struct Stretch {
     /// When it began, in ns.
     pub from: u64,
     /// When it ended, in ns.
@@ -52,7 +52,7 @@ impl Stretch {
     ghost use Rattle.gptp_timeline.specs.Limits.{amount_of, choice_after};
 
     /// How long the choice took to stand, in ns.
-    pub(crate) fn choice_after(&self) -> Option<u128>
+    pub fn choice_after(&self) -> Option<u128>
         ensures { result ≡ choice_after self.now }
     {
         match behind(self.from, self.measures.choice) {
@@ -138,7 +138,7 @@ pub(crate) fn ended(
 
 /// A time that may be absent, in ns.
 #[derive(Clone, Copy)]
-struct TimeOrNone(Option<u64>);
+pub struct TimeOrNone(pub Option<u64>);
 
 impl fmt::Display for TimeOrNone {
     ghost use Rattle.std.specs.Prelude.{Some};
@@ -157,7 +157,7 @@ impl fmt::Display for TimeOrNone {
 
 /// The longest wait, in ns, with its system.
 #[derive(Clone, Copy)]
-struct Longest(Option<Greatest>);
+pub struct Longest(pub Option<Greatest>);
 
 impl fmt::Display for Longest {
     ghost use Rattle.std.specs.Prelude.{Some};
@@ -175,7 +175,7 @@ impl fmt::Display for Longest {
 
 /// The greatest error, in ns, with its system.
 #[derive(Clone, Copy)]
-struct Worst(Option<Greatest>);
+pub struct Worst(pub Option<Greatest>);
 
 impl fmt::Display for Worst {
     ghost use Rattle.std.specs.Prelude.{Some};

@@ -14,13 +14,17 @@ ghost use Rattle.gptp_plan.specs.Calm.{last_change};
 ghost use Rattle.gptp_sink.specs.Sink.{AppendsSome};
 ghost use Rattle.gptp_world.specs.Transitions.{Transition};
 ghost use Rattle.gptp_spelling.specs.Lines.{text_of};
-ghost use Rattle.gptp_timeline.specs.Limits.{exceeded_after, is_exceeded, not_exceeded, verdict_lines};
+ghost use Rattle.gptp_timeline.specs.LastTwo.{EndsOf, all_kept, end_of, kept_after, none_kept};
+ghost use Rattle.gptp_timeline.specs.Limits.{is_exceeded, verdict_lines};
 ghost use Rattle.gptp_timeline.specs.Passing.{BreaksSeen, IsSeen, StopsSeen, first_time, watch_at_start};
-ghost use Rattle.gptp_timeline.specs.Timeline.{AllPass, AreErrorsBy, BeginsTimeline, IsPlan, Passage, SomePass, TimelineOf, act_lines, all_exceeded, all_lines, end_lines, ended_of, exact_time, is_begun, kept_accuracy, later_than, none_waits, now_of};
+ghost use Rattle.gptp_timeline.specs.Timeline.{AllPass, AreErrorsBy, BeginsTimeline, IsPlan, Passage, SomePass, TimelineOf, act_lines, all_lines, end_lines, exact_time, is_begun, kept_accuracy, later_than, none_waits, now_of};
 ghost use Rattle.gptp_timeline.specs.Watch.{event_look, lines_all, see_all};
 
-use crate::limits::{Exceeded, Limits, NOT_EXCEEDED, exceeded_after, write_verdict};
-use crate::stretch::{Stretch, ended, write_accuracies, write_after};
+use crate::counts::roots_of;
+use crate::ends::{Kept, StretchEnd, both_of, keep, none_kept};
+use crate::limits::{Exceeded, Limits, NO_LIMITS, write_verdict};
+use crate::stretch::{ended, write_accuracies, write_after};
+use crate::unwritten::Unwritten;
 use crate::watch::Watch;
 use gptp_links::Fate;
 use gptp_network::Document;
@@ -193,15 +197,15 @@ fn write_errors(
     }
 }
 
-/// Writes the lines of a stretch that ended, and answers what became of it.
+/// Writes the lines of a stretch that ended, and answers how it did.
 fn end_stretch<K: Sink>(
     alloc: Global,
     plan: &Plan,
     watch: &Watch,
     sink: &mut K,
-) -> Result<Stretch, Cut>
+) -> Result<StretchEnd, Cut>
     ensures some { AppendsSome (K.written sink.old) (K.written sink.new) (text_of (end_lines plan.now watch.now)) }
-    ensures stretch { IfOk result (λ s. s ≡ ended_of plan.now watch.now) }
+    ensures end { IfOk result (λ end. end ≡ end_of plan.now watch.now) }
     ensures whole { OnOk result
         (Appends (K.written sink.old) (K.written sink.new) (text_of (end_lines plan.now watch.now))) }
     ensures works { result ≢ Err Cut.Write → K.failures sink.new ≡ K.failures sink.old }
@@ -216,14 +220,15 @@ fn end_stretch<K: Sink>(
         watch.measures(),
         watch.systems(),
     )?;
+    let roots = roots_of(alloc, watch.systems())?;
     let mut text = String::new(alloc);
     write_after(&mut text, &stretch)?;
     write_errors(&mut text, &plan.errors, watch)?;
     write_whole(sink, text.as_bytes())?;
-    Ok(stretch)
+    Ok(StretchEnd::new(stretch, roots))
 }
 
-/// Lets a stretch pass with its events, and writes its lines.
+/// Lets a stretch pass with its events, writes its lines, and answers how it ended.
 fn pass_stretch<F: Fate + Drop, K: Sink>(
     alloc: Global,
     world: &mut World<F>,
@@ -231,15 +236,15 @@ fn pass_stretch<F: Fate + Drop, K: Sink>(
     events: &[Timed],
     watch: &mut Watch,
     sink: &mut K,
-) -> Result<Stretch, Cut>
+) -> Result<StretchEnd, Cut>
     requires allowed { AreAllowed events.now }
     requires prompt { ArePromptIn world.old.scene events.now }
     requires due { events_by plan.now.to events.now ≡ events.now }
     requires moment { plan.now.to ≤ 1000000000000000 }
-    ensures passed { IfOk result (λ stretch. (told : List (List ℕ))
+    ensures passed { IfOk result (λ end. (told : List (List ℕ))
         × IsSeen F.answers plan.now events.now world.old.fate world.new.fate world.old.scene world.new.scene
         watch.old watch.new told
-        × (stretch ≡ ended_of plan.now watch.new)
+        × (end ≡ end_of plan.now watch.new)
         × Appends (K.written sink.old) (K.written sink.new) (text_of (told ++ end_lines plan.now watch.new))) }
     ensures broken { OnErr result ((lines : List (List ℕ))
         × BreaksSeen F.answers plan.now events.now world.old.fate world.old.scene watch.old lines
@@ -252,8 +257,7 @@ fn pass_stretch<F: Fate + Drop, K: Sink>(
     end_stretch(alloc, plan, watch, sink)
 }
 
-/// Lets a stretch pass that begins at a time with its events, and answers which limits some stretch exceeded until
-/// then.
+/// Lets a stretch pass that begins at a time with its events, and answers what is kept of all until then.
 fn next_stretch<F: Fate + Drop, K: Sink>(
     alloc: Global,
     document: &Document,
@@ -262,19 +266,19 @@ fn next_stretch<F: Fate + Drop, K: Sink>(
     to: u64,
     events: &[Timed],
     limits: &Limits,
-    before: Exceeded,
+    before: Kept,
     watch: &mut Watch,
     sink: &mut K,
-) -> Result<Exceeded, Cut>
+) -> Result<Kept, Cut>
     requires allowed { AreAllowed events.now }
     requires prompt { ArePromptIn world.old.scene events.now }
     requires due { events_by to events.now ≡ events.now }
     requires moment { to ≤ 1000000000000000 }
-    ensures passed { IfOk result (λ exceeded. (plan : Plan) × (told : List (List ℕ))
+    ensures passed { IfOk result (λ kept. (plan : Plan) × (told : List (List ℕ))
         × IsPlan document.now from to (is_begun events.now) plan
         × IsSeen F.answers plan events.now world.old.fate world.new.fate world.old.scene world.new.scene
         watch.old watch.new told
-        × (exceeded ≡ exceeded_after limits.now (ended_of plan watch.new) before)
+        × (kept ≡ kept_after limits.now (end_of plan watch.new) before)
         × Appends (K.written sink.old) (K.written sink.new) (text_of (told ++ end_lines plan watch.new))) }
     ensures broken { OnErr result ((lines : List (List ℕ))
         × StopsSeen F.answers document.now from to events.now world.old.fate world.old.scene watch.old lines
@@ -283,11 +287,11 @@ fn next_stretch<F: Fate + Drop, K: Sink>(
     ensures fails { result ≡ Err Cut.Write → K.failures sink.new ≢ K.failures sink.old }
 {
     let plan = plan_of(alloc, document, from, to, !events.is_empty())?;
-    let stretch = pass_stretch(alloc, world, &plan, events, watch, sink)?;
-    Ok(exceeded_after(limits, &stretch, before))
+    let end = pass_stretch(alloc, world, &plan, events, watch, sink)?;
+    Ok(keep(limits, end, before))
 }
 
-/// Lets all stretches pass of a world as it begins, and answers which limits some stretch exceeded.
+/// Lets all stretches pass of a world as it begins, and answers what is kept of them.
 fn all_stretches<F: Fate + Drop, K: Sink>(
     alloc: Global,
     document: &Document,
@@ -296,15 +300,15 @@ fn all_stretches<F: Fate + Drop, K: Sink>(
     options: &TimelineOptions,
     watch: &mut Watch,
     sink: &mut K,
-) -> Result<Exceeded, Cut>
+) -> Result<Kept, Cut>
     requires moment { until ≤ 1000000000000000 }
     requires begun { (fate : F) × Begun F.answers document.now.network fate world.old.fate world.old.scene }
     requires prompt { ArePromptIn world.old.scene document.now.events }
     requires starts { watch.old ≡ watch_at_start options.now world.old.scene }
-    ensures passed { IfOk result (λ exceeded. (passages : List Passage)
+    ensures passed { IfOk result (λ kept. (passages : List Passage)
         × AllPass F.answers document.now until 0 (events_by until document.now.events) world.old.fate world.new.fate
         world.old.scene world.new.scene passages
-        × (exceeded ≡ all_exceeded options.now.limits (rising_clocks world.old.scene) none_waits passages not_exceeded)
+        × (kept ≡ all_kept options.now.limits (rising_clocks world.old.scene) none_waits passages none_kept)
         × Appends (K.written sink.old) (K.written sink.new)
         (text_of (all_lines options.now (rising_clocks world.old.scene) none_waits passages))) }
     ensures broken { OnErr result ((passages : List Passage) × (acts : List Transition)
@@ -321,17 +325,17 @@ fn all_stretches<F: Fate + Drop, K: Sink>(
     let limits = options.limits;
     let mut left = events_by(document.events(), until);
     let mut from = 0;
-    let mut exceeded = NOT_EXCEEDED;
+    let mut kept = none_kept();
     while let Some(to) = next_time(left, from) {
         let now = events_by(left, from);
-        exceeded = next_stretch(
-            alloc, document, world, from, to, now, &limits, exceeded, watch, sink,
+        kept = next_stretch(
+            alloc, document, world, from, to, now, &limits, kept, watch, sink,
         )?;
         left = events_after(left, from);
         from = to;
     }
     next_stretch(
-        alloc, document, world, from, until, left, &limits, exceeded, watch, sink,
+        alloc, document, world, from, until, left, &limits, kept, watch, sink,
     )
 }
 
@@ -404,8 +408,43 @@ pub fn write_timeline<F: Fate + Drop, K: Sink>(
     let mut world = begin(alloc, document, fate)?;
     let mut watch = Watch::new(alloc, &world, options.summary, options.offsets)?;
     write_start(alloc, &world, &mut watch, sink)?;
-    let exceeded = all_stretches(
+    let kept = all_stretches(
         alloc, document, &mut world, until, options, &mut watch, sink,
     )?;
-    end_verdict(alloc, &options.limits, exceeded, sink)
+    end_verdict(alloc, &options.limits, kept.exceeded, sink)
+}
+
+/// What is told where nothing is asked for.
+const NOTHING_TOLD: TimelineOptions = TimelineOptions {
+    summary: true,
+    offsets: false,
+    limits: NO_LIMITS,
+};
+
+/// Lets the world of a document run up to a time, at most 10^15 ns, and answers how the last two stretches between the times
+/// of events ended, where there are two. Nothing is written. Refused as [`write_timeline`] is, for want of memory.
+pub fn last_stretches<F: Fate + Drop>(
+    alloc: Global,
+    document: &Document,
+    fate: F,
+    until: u64,
+) -> Result<Option<(StretchEnd, StretchEnd)>, Cut>
+    requires moment { until ≤ 1000000000000000 }
+    ensures ends { IfOk result (EndsOf F.answers document.now until fate) }
+    ensures memory { IfErr result (λ e. e ≡ Cut.Memory) }
+{
+    let mut sink = Unwritten;
+    let mut world = begin(alloc, document, fate)?;
+    let mut watch = Watch::new(alloc, &world, true, false)?;
+    write_start(alloc, &world, &mut watch, &mut sink)?;
+    let kept = all_stretches(
+        alloc,
+        document,
+        &mut world,
+        until,
+        &NOTHING_TOLD,
+        &mut watch,
+        &mut sink,
+    )?;
+    Ok(both_of(kept))
 }

@@ -22,7 +22,7 @@ loop-to-init g c =
     let rests = subst (Rests options names none_waits w) (sym c.requires.starts)
     (start_rests g.F.Fate.answers d.network c.requires.begun.0 c.args.world.now.fate options w (watch_before options w)
     c.requires.begun.1 c.well_formed-3.ensures.sound.wired refl) in
-    rw (c.events_by-left.ensures, c.events.ensures) (record {
+    rw (c.none_kept-kept.ensures, c.events_by-left.ensures, c.events.ensures) (record {
       gone = seen_none g.F.Fate.answers d c.args.until options names (events_by c.args.until d.events)
           c.args.world.now.fate w c.args.watch.now (Appends old old) rests (appends_none old);
       may = may_begin c.args.until d.events w c.well_formed-2.ensures.events.in_order c.well_formed-2.ensures.allowed
@@ -72,7 +72,7 @@ loop-to-preserved g c =
     let o = c.loop-to.watch in let o_after = c.next_stretch.new.watch in
     let old = g.K.Sink.written c.args.sink.now in let mid = g.K.Sink.written c.loop-to.sink in
     let new = g.K.Sink.written c.next_stretch.new.sink in
-    let i = c.loop-to.invariant in let passed = c.in_ok-exceeded.ensures.passed in
+    let i = c.loop-to.invariant in let passed = c.in_ok-kept.ensures.passed in
     let is : first_time (later_than from left) ≡ Some to = sym c.next_time.ensures ∙ c.in-Some.is in
     let known = subst (λ es. IsPlan d from to (is_begun es) passed.0) c.events_by-now.ensures passed.2 in
     let seen = subst (λ es. IsSeen answers passed.0 es drawn next between after o o_after passed.1)
@@ -80,11 +80,11 @@ loop-to-preserved g c =
     let stays = courses_stay answers passed.0.to (events_by from left) seen.acts drawn next between after
     i.gone.rests.named.setups seen.courses in
     rw c.events_after-left.ensures (record {
-      gone = seen_more answers d until options names events fate w from to left drawn between c.loop-to.exceeded o
+      gone = seen_more answers d until options names events fate w from to left drawn between c.loop-to.kept o
           (Appends old mid) (Appends mid new) (Appends old new) (appends_both old mid new) i.gone passed.0 next after
-          o_after passed.1 c.in_ok-exceeded.exceeded known seen passed.4 passed.5 is;
+          o_after passed.1 c.in_ok-kept.kept known seen passed.4 passed.5 is;
       may = may_next until from to left between after i.may stays is;
-      works = c.in_ok-exceeded.ensures.works (λ no. absurd cc) ∙ i.works;
+      works = c.in_ok-kept.ensures.works (λ no. absurd cc) ∙ i.works;
     })
 
 pub loop-to-smaller : goal.loop-to-smaller
@@ -94,20 +94,20 @@ loop-to-smaller g c =
     subst (λ es. length (later_than to es) < length (later_than from left)) (sym c.events_after-left.ensures)
     (fewer_later (later_than from left) to is)
 
-pub returns-in_err-exceeded-clause-broken : goal.returns-in_err-exceeded-clause-broken
-returns-in_err-exceeded-clause-broken g c =
+pub returns-in_err-kept-clause-broken : goal.returns-in_err-kept-clause-broken
+returns-in_err-kept-clause-broken g c =
     let answers = g.F.Fate.answers in let d = c.args.document.now in let until = c.args.until in
     let names = rising_clocks c.args.world.now.scene in let from = c.loop-to.from in let to = c.in-Some.to in
     let left = c.loop-to.left.now in let drawn = c.loop-to.world.fate in let between = c.loop-to.world.scene in
     let o = c.loop-to.watch in let old = g.K.Sink.written c.args.sink.now in
     let mid = g.K.Sink.written c.loop-to.sink in let new = g.K.Sink.written c.next_stretch.new.sink in
-    let broken = c.in_err-exceeded.ensures.broken in
+    let broken = c.in_err-kept.ensures.broken in
     let is : first_time (later_than from left) ≡ Some to = sym c.next_time.ensures ∙ c.in-Some.is in
     let stops = subst (λ es. StopsSeen answers d from to es drawn between o broken.0) c.events_by-now.ensures broken.1
     in
     after_error c.from_residual.result
     (seen_some answers d until c.args.options.now names (events_by until d.events) c.args.world.now.fate
-    c.args.world.now.scene from to left drawn between c.loop-to.exceeded o (Appends old mid) (AppendsSome mid new)
+    c.args.world.now.scene from to left drawn between c.loop-to.kept o (Appends old mid) (AppendsSome mid new)
     (AppendsSome old new) (some_behind old mid new) c.loop-to.invariant.gone broken.0
     (sym (ends_before until (later_than from left) to is)) stops broken.2)
 
@@ -133,10 +133,10 @@ returns-clause-passed g c =
     let none = none_left (later_than from left)
     (sym c.next_time.ensures ∙ none_there c.next_time.result c.in_default.not-Some) in
     let all = sym (all_now from left none) in
-    IfOk-weaker c.next_stretch-2.result _ _ (λ exceeded passed.
+    IfOk-weaker c.next_stretch-2.result _ _ (λ kept passed.
     seen_all answers d until c.args.options.now names (events_by until d.events) c.args.world.now.fate
-    c.args.world.now.scene from until left drawn between c.loop-to.exceeded o (Appends old mid) (Appends mid new)
-    (Appends old new) (appends_both old mid new) c.loop-to.invariant.gone passed.0 next after o_after passed.1 exceeded
+    c.args.world.now.scene from until left drawn between c.loop-to.kept o (Appends old mid) (Appends mid new)
+    (Appends old new) (appends_both old mid new) c.loop-to.invariant.gone passed.0 next after o_after passed.1 kept
     (subst (λ es. IsPlan d from until (is_begun es) passed.0) all passed.2)
     (subst (λ es. IsSeen answers passed.0 es drawn next between after o o_after passed.1) all passed.3) passed.4
     passed.5
@@ -153,7 +153,7 @@ returns-clause-broken g c =
     (sym c.next_time.ensures ∙ none_there c.next_time.result c.in_default.not-Some) in
     on_err_weaker c.next_stretch-2.result (λ broken.
     seen_some answers d until c.args.options.now names (events_by until d.events) c.args.world.now.fate
-    c.args.world.now.scene from until left drawn between c.loop-to.exceeded o (Appends old mid) (AppendsSome mid new)
+    c.args.world.now.scene from until left drawn between c.loop-to.kept o (Appends old mid) (AppendsSome mid new)
     (AppendsSome old new) (some_behind old mid new) c.loop-to.invariant.gone broken.0
     (sym (ap (end_before until) none))
     (subst (λ es. StopsSeen answers d from until es drawn between o broken.0) (sym (all_now from left none)) broken.1)

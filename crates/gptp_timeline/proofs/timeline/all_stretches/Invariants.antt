@@ -12,7 +12,7 @@ abbrev pub invariant-loop-to : goal.invariant-loop-to
 invariant-loop-to g l = record {
   gone : GoneSeen g.F.Fate.answers l.document l.until l.options (rising_clocks l.initial.world.scene)
       (events_by l.until l.document.events) l.initial.world.fate l.initial.world.scene l.from l.left l.world.fate
-      l.world.scene l.exceeded l.watch (Appends (g.K.Sink.written l.initial.sink) (g.K.Sink.written l.sink));
+      l.world.scene l.kept l.watch (Appends (g.K.Sink.written l.initial.sink) (g.K.Sink.written l.sink));
   may : MayPass l.until l.from l.left l.world.scene;
   works : g.K.Sink.failures l.sink ≡ g.K.Sink.failures l.initial.sink;
 }

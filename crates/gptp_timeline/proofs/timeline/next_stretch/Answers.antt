@@ -1,6 +1,6 @@
 use Rattle.std.proofs.Common.{[], ap, ◌∙◌, inl, inr, refl, subst}
 use Rattle.gptp_sink.proofs.SinkLemmas.{after_error, none_of}
-use Rattle.gptp_timeline.specs.Limits.{exceeded_after}
+use Rattle.gptp_timeline.specs.LastTwo.{kept_after}
 use Rattle.gptp_timeline.specs.Timeline.{IsPlan}
 use Rattle.gptp_timeline.proofs.PassLemmas.{begun_is}
 use Rattle.gptp_timeline.proofs.timeline.next_stretch.Goals as goal
@@ -9,23 +9,23 @@ pub returns-in_err-plan-clause-broken : goal.returns-in_err-plan-clause-broken
 returns-in_err-plan-clause-broken g c =
     after_error c.from_residual.result ([], inl refl, none_of (g.K.Sink.written c.args.sink.now) [])
 
-pub returns-in_err-stretch-clause-broken : goal.returns-in_err-stretch-clause-broken
-returns-in_err-stretch-clause-broken g c =
-    let broken = c.in_err-stretch.ensures.broken in
+pub returns-in_err-end-clause-broken : goal.returns-in_err-end-clause-broken
+returns-in_err-end-clause-broken g c =
+    let broken = c.in_err-end.ensures.broken in
     let known = subst (λ b. IsPlan c.args.document.now c.args.from c.args.to b c.in_ok-plan.plan)
     (begun_is c.args.events.now c.is_empty.result c.is_empty.ensures) c.in_ok-plan.ensures.plan in
-    after_error c.from_residual-in_err-stretch.result
+    after_error c.from_residual-in_err-end.result
     (broken.0, inr (c.in_ok-plan.plan, known, broken.1), broken.2)
 
 pub returns-clause-passed : goal.returns-clause-passed
 returns-clause-passed g c =
-    let passed = c.in_ok-stretch.ensures.passed in
+    let passed = c.in_ok-end.ensures.passed in
     let known = subst (λ b. IsPlan c.args.document.now c.args.from c.args.to b c.in_ok-plan.plan)
     (begun_is c.args.events.now c.is_empty.result c.is_empty.ensures) c.in_ok-plan.ensures.plan in (
       c.in_ok-plan.plan,
       passed.0,
       known,
       passed.1,
-      c.exceeded_after.ensures ∙ ap (λ s. exceeded_after c.args.limits.now s c.args.before) passed.2,
+      c.keep.ensures ∙ ap (λ e. kept_after c.args.limits.now e c.args.before) passed.2,
       passed.3,
     )

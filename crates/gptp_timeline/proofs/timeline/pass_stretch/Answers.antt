@@ -62,4 +62,4 @@ returns-clause-passed g c =
       is,
       subst (Appends old new) (sym (text_append told ends))
           (appends_both old between new (text_of told) (text_of ends) played.2.so whole),
-    )) c.end_stretch.ensures.stretch c.end_stretch.ensures.whole
+    )) c.end_stretch.ensures.end c.end_stretch.ensures.whole

@@ -5,7 +5,9 @@ use Rattle.std.specs.Io.KnownBytes.{Appends}
 use Rattle.gptp_sink.specs.Sink.{AppendsSome}
 use Rattle.gptp_sink.proofs.SinkLemmas.{after_error}
 use Rattle.gptp_spelling.specs.Lines.{text_of}
+use Rattle.gptp_acts.specs.Views.{rising_clocks}
 use Rattle.gptp_timeline.specs.Watch.{event_look, see_all}
+use Rattle.gptp_timeline.proofs.KeptLemmas.{exceeded_is}
 use Rattle.gptp_timeline.proofs.ObservedLemmas.{start_told}
 use Rattle.gptp_timeline.proofs.PassLemmas.{if_ok_both}
 use Rattle.gptp_timeline.proofs.TimelineLemmas.{all_written, nothing_begun, start_begun, stretches_begun, verdict_begun}
@@ -43,16 +45,16 @@ returns-in_err-write_start-clause-some g c =
     c.in_ok-watch.ensures)
     c.in_err-write_start.ensures.some))
 
-pub returns-in_err-exceeded-clause-some : goal.returns-in_err-exceeded-clause-some
-returns-in_err-exceeded-clause-some g c =
+pub returns-in_err-kept-clause-some : goal.returns-in_err-kept-clause-some
+returns-in_err-kept-clause-some g c =
     let w = c.in_ok-world.world.scene in let options = c.args.options.now in
     let old = g.K.Sink.written c.args.sink.now in let first = g.K.Sink.written c.write_start.new.sink in
     let new = g.K.Sink.written c.all_stretches.new.sink in
-    after_error c.from_residual-in_err-exceeded.result
+    after_error c.from_residual-in_err-kept.result
     (stretches_begun g.F.Fate.answers c.args.document.now c.args.until options c.args.fate c.in_ok-world.world.fate w
     c.in_ok-world.ensures.begun old first first new
     (subst (λ lines. Appends old first (text_of lines)) (start_told options w c.in_ok-watch.watch c.in_ok-watch.ensures)
-    c.in_ok-write_start.ensures.whole) c.in_err-exceeded.ensures.broken)
+    c.in_ok-write_start.ensures.whole) c.in_err-kept.ensures.broken)
 
 -- a device that fails is told as such
 
@@ -64,18 +66,18 @@ returns-in_err-write_start-clause-works g c = λ other.
     let is : c.in_err-write_start.field-0.0 ≡ Write = cc in
     other (passed.1 ∙ ap Err (passed.2 ∙ is)))
 
-pub returns-in_err-exceeded-clause-works : goal.returns-in_err-exceeded-clause-works
-returns-in_err-exceeded-clause-works g c = λ other.
-    let passed = err_from_is_err_and c.from_residual-in_err-exceeded.result
-    c.from_residual-in_err-exceeded.ensures.1 in
-    c.in_err-exceeded.ensures.works (λ same.
-    let is : c.in_err-exceeded.field-0.0 ≡ Write = cc in
+pub returns-in_err-kept-clause-works : goal.returns-in_err-kept-clause-works
+returns-in_err-kept-clause-works g c = λ other.
+    let passed = err_from_is_err_and c.from_residual-in_err-kept.result
+    c.from_residual-in_err-kept.ensures.1 in
+    c.in_err-kept.ensures.works (λ same.
+    let is : c.in_err-kept.field-0.0 ≡ Write = cc in
     other (passed.1 ∙ ap Err (passed.2 ∙ is)))
     ∙ c.in_ok-write_start.ensures.works (λ same. absurd cc)
 
 pub returns-clause-works : goal.returns-clause-works
 returns-clause-works g c = λ other.
-    c.end_verdict.ensures.works other ∙ c.in_ok-exceeded.ensures.works (λ same. absurd cc)
+    c.end_verdict.ensures.works other ∙ c.in_ok-kept.ensures.works (λ same. absurd cc)
     ∙ c.in_ok-write_start.ensures.works (λ same. absurd cc)
 
 pub returns-clause-some : goal.returns-clause-some
@@ -83,13 +85,15 @@ returns-clause-some g c =
     let w = c.in_ok-world.world.scene in let options = c.args.options.now in
     let old = g.K.Sink.written c.args.sink.now in let first = g.K.Sink.written c.write_start.new.sink in
     let second = g.K.Sink.written c.all_stretches.new.sink in let new = g.K.Sink.written c.end_verdict.new.sink in
-    let passed = c.in_ok-exceeded.ensures.passed in
+    let passed = c.in_ok-kept.ensures.passed in
     after_error c.end_verdict.result
     (verdict_begun g.F.Fate.answers c.args.document.now c.args.until options c.args.fate c.in_ok-world.world.fate w
     c.in_ok-world.ensures.begun old first second new
     (subst (λ lines. Appends old first (text_of lines)) (start_told options w c.in_ok-watch.watch c.in_ok-watch.ensures)
     c.in_ok-write_start.ensures.whole) c.all_stretches.new.world.fate c.all_stretches.new.world.scene
-    c.in_ok-exceeded.exceeded passed.0 passed.1 passed.2 passed.3 c.end_verdict.ensures.some)
+    c.in_ok-kept.kept.exceeded passed.0 passed.1
+    (exceeded_is options.limits (rising_clocks w) passed.0 c.in_ok-kept.kept passed.2) passed.3
+    c.end_verdict.ensures.some)
 
 -- ---- it ends
 
@@ -99,10 +103,12 @@ returns-clause-whole g c =
     let w = c.in_ok-world.world.scene in let options = c.args.options.now in
     let old = g.K.Sink.written c.args.sink.now in let first = g.K.Sink.written c.write_start.new.sink in
     let second = g.K.Sink.written c.all_stretches.new.sink in let new = g.K.Sink.written c.end_verdict.new.sink in
-    let passed = c.in_ok-exceeded.ensures.passed in
+    let passed = c.in_ok-kept.ensures.passed in
     all_written g.F.Fate.answers c.args.document.now c.args.until options c.args.fate c.in_ok-world.world.fate w
     c.in_ok-world.ensures.begun old first second new
     (subst (λ lines. Appends old first (text_of lines)) (start_told options w c.in_ok-watch.watch c.in_ok-watch.ensures)
     c.in_ok-write_start.ensures.whole) c.all_stretches.new.world.fate c.all_stretches.new.world.scene
-    c.in_ok-exceeded.exceeded passed.0 passed.1 passed.2 passed.3 exceeded is whole) c.end_verdict.ensures.is
+    c.in_ok-kept.kept.exceeded passed.0 passed.1
+    (exceeded_is options.limits (rising_clocks w) passed.0 c.in_ok-kept.kept passed.2) passed.3 exceeded is whole)
+    c.end_verdict.ensures.is
     c.end_verdict.ensures.whole

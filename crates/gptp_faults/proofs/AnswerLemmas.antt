@@ -1,0 +1,40 @@
+-- The table of cases of which none is refused.
+use Rattle.std.proofs.Common.{◌≡◌, false, List, None, refl}
+use Rattle.gptp_network.specs.Document.{DocumentState}
+use Rattle.gptp_faults.specs.Cases.{AreCases}
+use Rattle.gptp_faults.specs.Faults.{Answers, IsTable}
+use Rattle.gptp_faults.specs.FaultsText.{table_lines}
+use Rattle.gptp_faults.specs.Ranking.{ranked}
+use Rattle.gptp_faults.specs.Refusals.{any_late, fault_before}
+use Rattle.gptp_faults.specs.Times.{ArePlanned, AreTimes}
+use Rattle.gptp_faults.specs.declared.cases.Case.{Case}
+use Rattle.gptp_faults.specs.declared.cases.Planned.{Planned}
+use Rattle.gptp_faults.specs.declared.faults.Answer.{Answer}
+use Rattle.gptp_faults.specs.declared.faults.Answer.TheVariants.{Refused, Table}
+use Rattle.gptp_faults.specs.declared.options.FaultsOptions.{FaultsOptions}
+use Rattle.gptp_faults.specs.declared.times.Times.{Times}
+
+pub answered : (d : DocumentState) (options : FaultsOptions) (cases : List Case) (t : Times) (planned : List Planned)
+    → AreCases d options.only cases → AreTimes d options t → fault_before d t cases ≡ None
+    → ArePlanned d options t cases planned → any_late t planned ≡ false
+    → (answer : Answer) → IsTable d options t planned answer → Answers d options answer
+answered d options cases t planned are_cases are_times before are_planned in_time (Refused fault) none = absurd none
+answered d options cases t planned are_cases are_times before are_planned in_time (Table text exceeded)
+    (outcomes, are_outcomes, text_is, exceeded_is) = (
+      table_lines options.limits t (ranked outcomes),
+      record {
+        cases = cases;
+        are_cases = are_cases;
+        times = t;
+        are_times = are_times;
+        before = before;
+        planned = planned;
+        are_planned = are_planned;
+        in_time = in_time;
+        outcomes = outcomes;
+        are_outcomes = are_outcomes;
+        are = refl;
+        exceeded_is = exceeded_is;
+      },
+      text_is,
+    )

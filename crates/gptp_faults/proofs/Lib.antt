@@ -1,0 +1,8 @@
+pub mod EachLemmas
+pub mod CaseLemmas
+pub mod TimesLemmas
+pub mod RunLemmas
+pub mod OutcomeLemmas
+pub mod RefusalLemmas
+pub mod TextLemmas
+pub mod AnswerLemmas

@@ -1,0 +1,153 @@
+-- The worst of runs, and cases in their order, one after another.
+use Rattle.std.proofs.Common.{◌≡◌, ◌+◌, ◌++◌, ◌∷◌, ◌≤◌, ◌<◌, [], ℕ, zero, suc, Bool, true, false, List, Some, filter, length, map, slice_get, refl, sym, ap, subst, ◌∙◌, append-nil, arith}
+use Rattle.std.specs.List.{range_with_len}
+use Rattle.std.proofs.lemmas.List.{map-append}
+use Rattle.std.proofs.lemmas.List.Elements.{filter-append}
+use Rattle.gptp_network.specs.Document.{DocumentState}
+use Rattle.gptp_timeline.specs.Ends.{EndState}
+use Rattle.gptp_timeline.specs.declared.stretch.Stretch.{Stretch}
+use Rattle.gptp_faults.specs.Each.{Each}
+use Rattle.gptp_faults.specs.Extremes.{greatest_behind, joined, of_one}
+use Rattle.gptp_faults.specs.Follows.{follows}
+use Rattle.gptp_faults.specs.Outcomes.{backs, belongs, downs, IsOutcome, IsOutcomeAt, numbers_of, OutcomeState}
+use Rattle.gptp_faults.specs.Ranking.{ranked, ranked_behind, ranked_with}
+use Rattle.gptp_faults.specs.Runs.{IsRun, runs_of}
+use Rattle.gptp_faults.specs.declared.extremes.Extremes.{Extremes}
+use Rattle.gptp_faults.specs.declared.follows.Follow.{Follow}
+use Rattle.gptp_faults.specs.declared.cases.Planned.{Planned}
+use Rattle.gptp_faults.specs.declared.times.Times.{Times}
+use Rattle.gptp_faults.proofs.EachLemmas.{each_more}
+
+-- a range, with one number more
+pub range_more : (from count : ℕ) → range_with_len from (count + 1) ≡ range_with_len from count ++ (from + count) ∷ []
+range_more from zero = let e : from + 0 ≡ from = omega arith in rw e refl
+range_more from (suc count) =
+    let e : suc count + 1 ≡ suc (count + 1) = omega arith in
+    let f : from + 1 + count ≡ from + suc count = omega arith in
+    rw e (ap (λ ns. from ∷ ns) (range_more (from + 1) count ∙ ap (λ n. range_with_len (from + 1) count ++ n ∷ []) f))
+
+range_with_one : (count : ℕ) → range_with_len 0 (count + 1) ≡ range_with_len 0 count ++ count ∷ []
+range_with_one count =
+    let e : 0 + count ≡ count = omega arith in
+    range_more 0 count ∙ ap (λ n. range_with_len 0 count ++ n ∷ []) e
+
+-- ---- the runs of a case
+
+-- with one stretch more
+greatest_more : (e : Extremes) (ss : List Stretch) (s : Stretch)
+    → greatest_behind e (ss ++ s ∷ []) ≡ joined (greatest_behind e ss) (of_one s)
+greatest_more e [] s = refl
+greatest_more e (x ∷ xs) s = greatest_more (joined e (of_one x)) xs s
+
+-- Some runs of a case were made; so great is the worst of them, and so many systems follow which roots in the first.
+pub record AreTried (d : DocumentState) (t : Times) (p : Planned) (count : ℕ) (down back : Extremes)
+    (follow : List Follow) : Type 0 where
+  pub first : EndState × EndState
+  pub others : List (EndState × EndState)
+  pub runs : Each (IsRun d t p) (range_with_len 0 count) (first ∷ others)
+  pub down_is : down ≡ greatest_behind (of_one first.0.stretch) (downs others)
+  pub back_is : back ≡ greatest_behind (of_one first.1.stretch) (backs others)
+  pub follow_is : follow ≡ follows first.0.roots
+
+module _ (d : DocumentState) (t : Times) (p : Planned) where
+  pub one_tried : (first : EndState × EndState) (down back : Extremes) (follow : List Follow) → IsRun d t p 0 first
+      → down ≡ of_one first.0.stretch → back ≡ of_one first.1.stretch → follow ≡ follows first.0.roots
+      → AreTried d t p 1 down back follow
+  one_tried first down back follow run down_is back_is follow_is = record {
+    first = first;
+    others = [];
+    runs = (run, tt);
+    down_is = down_is;
+    back_is = back_is;
+    follow_is = follow_is;
+  }
+
+  pub more_tried : (count : ℕ) (down back down_after back_after : Extremes) (follow : List Follow)
+      → AreTried d t p count down back follow → (ends : EndState × EndState) → IsRun d t p count ends
+      → down_after ≡ joined down (of_one ends.0.stretch) → back_after ≡ joined back (of_one ends.1.stretch)
+      → AreTried d t p (count + 1) down_after back_after follow
+  more_tried count down back down_after back_after follow tried ends run down_is back_is = record {
+    first = tried.first;
+    others = tried.others ++ ends ∷ [];
+    runs = subst (λ ns. Each (IsRun d t p) ns (tried.first ∷ tried.others ++ ends ∷ [])) (sym (range_with_one count))
+        (each_more (IsRun d t p) (range_with_len 0 count) (tried.first ∷ tried.others) count ends tried.runs run);
+    down_is = down_is ∙ ap (λ e. joined e (of_one ends.0.stretch)) tried.down_is
+        ∙ sym (greatest_more (of_one tried.first.0.stretch) (downs tried.others) ends.0.stretch)
+        ∙ ap (greatest_behind (of_one tried.first.0.stretch))
+        (sym (map-append (λ (r : EndState × EndState). r.0.stretch) tried.others (ends ∷ [])));
+    back_is = back_is ∙ ap (λ e. joined e (of_one ends.1.stretch)) tried.back_is
+        ∙ sym (greatest_more (of_one tried.first.1.stretch) (backs tried.others) ends.1.stretch)
+        ∙ ap (greatest_behind (of_one tried.first.1.stretch))
+        (sym (map-append (λ (r : EndState × EndState). r.1.stretch) tried.others (ends ∷ [])));
+    follow_is = tried.follow_is;
+  }
+
+  abbrev outcome : ℕ → Extremes → Extremes → List Follow → OutcomeState
+  outcome number down back follow =
+      record { number = number; failing = p.failing; down = down; back = back; follow = follow }
+
+  -- all of them
+  pub all_tried : (number count : ℕ) (down back : Extremes) (follow : List Follow) (o : OutcomeState)
+      → AreTried d t p count down back follow → count ≡ runs_of t
+      → o ≡ outcome number down back follow
+      → IsOutcome d t number p o
+  all_tried number count down back follow o tried all is = record {
+    first = tried.first;
+    others = tried.others;
+    runs = subst (λ n. Each (IsRun d t p) (range_with_len 0 n) (tried.first ∷ tried.others)) all tried.runs;
+    is = is ∙ ap (λ e. outcome number e back follow) tried.down_is
+        ∙ ap (λ e. outcome number (greatest_behind (of_one tried.first.0.stretch) (downs tried.others)) e follow)
+        tried.back_is
+        ∙ ap (outcome number (greatest_behind (of_one tried.first.0.stretch) (downs tried.others))
+        (greatest_behind (of_one tried.first.1.stretch) (backs tried.others))) tried.follow_is;
+  }
+-- ---- the cases of a part
+
+module _ (parts part count : ℕ) where
+  numbers_more : numbers_of parts part (count + 1)
+      ≡ numbers_of parts part count ++ filter (belongs parts part) (count ∷ [])
+  numbers_more =
+      ap (filter (belongs parts part)) (range_with_one count)
+      ∙ filter-append (belongs parts part) (range_with_len 0 count) (count ∷ [])
+
+  one_number : belongs parts part count ≡ true
+      → numbers_of parts part (count + 1) ≡ numbers_of parts part count ++ count ∷ []
+  one_number is = numbers_more ∙ ap (λ ns. numbers_of parts part count ++ ns) (rw is refl)
+
+  no_number : belongs parts part count ≡ false → numbers_of parts part (count + 1) ≡ numbers_of parts part count
+  no_number is =
+      numbers_more ∙ ap (λ ns. numbers_of parts part count ++ ns) (rw is refl) ∙ append-nil (numbers_of parts part count)
+
+-- one more in its order
+ranked_more : (others os : List OutcomeState) (o : OutcomeState)
+    → ranked_behind others (os ++ o ∷ []) ≡ ranked_with (ranked_behind others os) o
+ranked_more others [] o = refl
+ranked_more others (x ∷ xs) o = ranked_more (ranked_with others x) xs o
+
+-- The first cases were tried, so many, as far as they belong to a part; these are they in their order.
+pub record AreRanked (d : DocumentState) (t : Times) (planned : List Planned) (parts part count : ℕ)
+    (in_order : List OutcomeState) : Type 0 where
+  pub outcomes : List OutcomeState
+  pub are : Each (IsOutcomeAt d t planned) (numbers_of parts part count) outcomes
+  pub order_is : in_order ≡ ranked outcomes
+
+module _ (d : DocumentState) (t : Times) (planned : List Planned) (parts part : ℕ) where
+  pub none_ranked : AreRanked d t planned parts part 0 []
+  none_ranked = record { outcomes = []; are = tt; order_is = refl }
+
+  module _ (count : ℕ) (in_order : List OutcomeState) (so_far : AreRanked d t planned parts part count in_order) where
+    pub one_ranked : belongs parts part count ≡ true → (o : OutcomeState) → IsOutcomeAt d t planned count o
+        → AreRanked d t planned parts part (count + 1) (ranked_with in_order o)
+    one_ranked is o outcome = record {
+      outcomes = so_far.outcomes ++ o ∷ [];
+      are = subst (λ ns. Each (IsOutcomeAt d t planned) ns (so_far.outcomes ++ o ∷ [])) (sym (one_number parts part count is))
+          (each_more (IsOutcomeAt d t planned) (numbers_of parts part count) so_far.outcomes count o so_far.are outcome);
+      order_is = ap (λ os. ranked_with os o) so_far.order_is ∙ sym (ranked_more [] so_far.outcomes o);
+    }
+
+    pub other_ranked : belongs parts part count ≡ false → AreRanked d t planned parts part (count + 1) in_order
+    other_ranked is = record {
+      outcomes = so_far.outcomes;
+      are = subst (λ ns. Each (IsOutcomeAt d t planned) ns so_far.outcomes) (sym (no_number parts part count is)) so_far.are;
+      order_is = so_far.order_is;
+    }

@@ -1,0 +1,12 @@
+-- The runs so far were made, and the document is as it was.
+use Rattle.std.proofs.Common.{◌≡◌, ◌≤◌}
+use Rattle.gptp_faults.specs.Runs.{runs_of}
+use Rattle.gptp_faults.proofs.OutcomeLemmas.{AreTried}
+use Rattle.gptp_faults.proofs.outcome.try_case.Given as goal
+
+abbrev pub invariant-loop-run : goal.invariant-loop-run
+invariant-loop-run l = record {
+  tried : AreTried l.fn.document l.times l.planned l.run l.down l.back l.follow.items;
+  most : l.run ≤ runs_of l.times;
+  same : l.document ≡ l.fn.document;
+}

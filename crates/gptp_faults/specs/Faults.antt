@@ -1,0 +1,47 @@
+-- What becomes of the network of a document where something fails and comes back (profile).
+use Rattle.std.specs.Prelude.{◌≡◌, ℕ, Bool, false, List, None, string_bytes}
+use Rattle.gptp_network.specs.Document.{DocumentState}
+use Rattle.gptp_spelling.specs.Lines.{text_of}
+use Rattle.gptp_faults.specs.Cases.{AreCases}
+use Rattle.gptp_faults.specs.FaultsText.{exceeds, table_lines}
+use Rattle.gptp_faults.specs.Outcomes.{AreOutcomes, OutcomeState}
+use Rattle.gptp_faults.specs.Ranking.{ranked}
+use Rattle.gptp_faults.specs.Refusals.{any_late, fault_before, RefusesFaults}
+use Rattle.gptp_faults.specs.Times.{ArePlanned, AreTimes}
+use Rattle.gptp_faults.specs.declared.cases.Case.{Case}
+use Rattle.gptp_faults.specs.declared.faults.Answer.{Answer}
+use Rattle.gptp_faults.specs.declared.faults.Answer.TheVariants.{Refused, Table}
+use Rattle.gptp_faults.specs.declared.options.FaultsOptions.{FaultsOptions}
+use Rattle.gptp_faults.specs.declared.cases.Planned.{Planned}
+use Rattle.gptp_faults.specs.declared.times.Times.{Times}
+
+-- Each case of a part fails and comes back in several runs, of which none is refused. These are the lines of what becomes
+-- of them, the worst first; and whether a limit is exceeded.
+pub record FaultsOf (d : DocumentState) (options : FaultsOptions) (lines : List (List ℕ)) (exceeded : Bool) : Type 0
+  where
+    pub cases : List Case
+    pub are_cases : AreCases d options.only cases
+    pub times : Times
+    pub are_times : AreTimes d options times
+    pub before : fault_before d times cases ≡ None
+    pub planned : List Planned
+    pub are_planned : ArePlanned d options times cases planned
+    pub in_time : any_late times planned ≡ false
+    pub outcomes : List OutcomeState
+    pub are_outcomes : AreOutcomes d times options planned outcomes
+    pub are : lines ≡ table_lines options.limits times (ranked outcomes)
+    pub exceeded_is : exceeded ≡ exceeds options.limits (ranked outcomes)
+
+-- the table of cases of which none is refused
+abbrev pub IsTable : DocumentState → FaultsOptions → Times → List Planned → Answer → Type 0
+IsTable d options t planned (Refused fault) = ⊥
+IsTable d options t planned (Table text exceeded) =
+    (outcomes : List OutcomeState) × AreOutcomes d t options planned outcomes
+    × (string_bytes text ≡ text_of (table_lines options.limits t (ranked outcomes)))
+    × (exceeded ≡ exceeds options.limits (ranked outcomes))
+
+-- the table, or why there is none
+abbrev pub Answers : DocumentState → FaultsOptions → Answer → Type 0
+Answers d options (Refused fault) = RefusesFaults d options fault
+Answers d options (Table text exceeded) =
+    (lines : List (List ℕ)) × FaultsOf d options lines exceeded × (string_bytes text ≡ text_of lines)

@@ -1,0 +1,108 @@
+-- The lines of cases (profile).
+use Rattle.std.specs.Prelude.{ℕ, List, [], ◌∷◌, ◌++◌, codes, length, map, is_some, Bool, Option}
+use Rattle.std.specs.Fmt.{decimal}
+use Rattle.std.specs.List.{flat_map}
+use Rattle.gptp_spelling.specs.Digits.{clock_text, identity_text, or_none}
+use Rattle.gptp_timeline.specs.Amounts.{near_text}
+use Rattle.gptp_timeline.specs.Limits.{amount_of, first_exceeded, is_above, is_any_above, verdict_line}
+use Rattle.gptp_timeline.specs.StretchText.{longest_text, worst_text}
+use Rattle.gptp_timeline.specs.declared.counts.Counts.{Counts}
+use Rattle.gptp_timeline.specs.declared.limits.Exceeded.{Exceeded}
+use Rattle.gptp_timeline.specs.declared.limits.Limits.{Limits}
+use Rattle.gptp_vector.specs.declared.port.PortId.{PortId}
+use Rattle.gptp_faults.specs.Extremes.{joined, of_none}
+use Rattle.gptp_faults.specs.Outcomes.{OutcomeState}
+use Rattle.gptp_faults.specs.Ranking.{amount_or_0}
+use Rattle.gptp_faults.specs.declared.cases.Case.{Case}
+use Rattle.gptp_faults.specs.declared.cases.Case.TheVariants as cases
+use Rattle.gptp_faults.specs.declared.extremes.Extremes.{Extremes}
+use Rattle.gptp_faults.specs.declared.follows.Follow.{Follow}
+use Rattle.gptp_faults.specs.declared.times.Times.{Times}
+
+-- how many cases there are, and in how many runs each is tried, from when on
+abbrev pub head_line : ℕ → Times → List ℕ
+head_line count t =
+    codes "cases " ++ decimal count
+    ++ codes " moments " ++ decimal t.moments
+    ++ codes " seeds " ++ decimal t.seeds
+    ++ codes " from " ++ decimal t.from
+
+-- ---- a case
+
+abbrev pub port_text : PortId → List ℕ
+port_text p = clock_text p.clock ++ codes " " ++ decimal p.port
+
+abbrev pub case_text : Case → List ℕ
+case_text (cases.Link a b) = codes "link " ++ port_text a ++ codes " " ++ port_text b
+case_text (cases.System clock) = codes "system " ++ clock_text clock
+
+abbrev pub case_line : ℕ → Case → List ℕ
+case_line number c = codes "case " ++ decimal number ++ codes " " ++ case_text c
+
+abbrev pub counts_text : Counts → List ℕ
+counts_text c =
+    codes " without " ++ decimal c.without
+    ++ codes " roots " ++ decimal c.roots
+    ++ codes " alone " ++ decimal c.alone
+
+abbrev pub amounts_words : List ℕ → Extremes → List ℕ
+amounts_words word e =
+    word
+    ++ codes " choice " ++ or_none decimal e.choice
+    ++ codes " holdover " ++ longest_text e.holdover
+    ++ codes " error " ++ worst_text e.error
+
+-- the greatest of all runs, with whose they are
+abbrev pub extremes_line : List ℕ → Extremes → List ℕ
+extremes_line word e =
+    amounts_words word e ++ counts_text e.counts ++ codes " bound " ++ or_none decimal e.bound
+
+abbrev pub follow_line : Follow → List ℕ
+follow_line f = codes "follow " ++ identity_text f.root ++ codes " " ++ decimal f.systems
+
+-- while it is down, whom systems follow then, and when it is back
+abbrev pub outcome_lines : OutcomeState → List (List ℕ)
+outcome_lines o =
+    case_line o.number o.failing ∷ extremes_line (codes "down") o.down
+    ∷ map follow_line o.follow ++ extremes_line (codes "back") o.back ∷ []
+
+-- ---- all cases
+
+-- the greatest of all, behind others
+abbrev pub worst_behind : Extremes → List OutcomeState → Extremes
+worst_behind e [] = e
+worst_behind e (o ∷ os) = worst_behind (joined (joined e o.down) o.back) os
+
+abbrev pub worst_of_all : List OutcomeState → Extremes
+worst_of_all = worst_behind of_none
+
+abbrev pub worst_words : Option ℕ → ℕ → ℕ → List ℕ
+worst_words choice holdover error =
+    codes "worst choice " ++ or_none decimal choice
+    ++ codes " holdover " ++ decimal holdover
+    ++ codes " error " ++ near_text error
+
+abbrev pub worst_line : Extremes → List ℕ
+worst_line e =
+    worst_words e.choice (amount_or_0 (amount_of e.holdover)) (amount_or_0 (amount_of e.error)) ++ counts_text e.counts
+
+-- which limits it exceeds; errors are in 2^-16 ns
+abbrev pub exceeded_by : Limits → Extremes → Exceeded
+exceeded_by limits e = record {
+  choice = is_any_above limits.choice 1 e.choice;
+  holdover = is_any_above limits.holdover 1 (amount_of e.holdover);
+  error = is_any_above limits.error 65536 (amount_of e.error);
+  without = is_above limits.without 1 e.counts.without;
+  roots = is_above limits.roots 1 e.counts.roots;
+  alone = is_above limits.alone 1 e.counts.alone;
+}
+
+abbrev pub exceeds : Limits → List OutcomeState → Bool
+exceeds limits outcomes = is_some (first_exceeded (exceeded_by limits (worst_of_all outcomes)))
+
+-- of cases in the order in which they are told
+abbrev pub table_lines : Limits → Times → List OutcomeState → List (List ℕ)
+table_lines limits t outcomes =
+    head_line (length outcomes) t ∷ flat_map outcome_lines outcomes
+    ++ worst_line (worst_of_all outcomes)
+    ∷ verdict_line (first_exceeded (exceeded_by limits (worst_of_all outcomes))) ∷ []

@@ -1,0 +1,11 @@
+pub mod Each
+pub mod Cases
+pub mod Times
+pub mod Runs
+pub mod Extremes
+pub mod Follows
+pub mod Outcomes
+pub mod Ranking
+pub mod Refusals
+pub mod FaultsText
+pub mod Faults

@@ -1,0 +1,66 @@
+-- What becomes of a case (profile).
+use Rattle.std.specs.Prelude.{◌≡◌, ◌==◌, ◌+◌, ◌%◌, ℕ, Bool, List, ◌∷◌, filter, map, length, slice_get, Some}
+use Rattle.std.specs.List.{range_with_len}
+use Rattle.gptp_network.specs.Document.{DocumentState}
+use Rattle.gptp_timeline.specs.Ends.{EndState}
+use Rattle.gptp_timeline.specs.declared.stretch.Stretch.{Stretch}
+use Rattle.gptp_faults.specs.Extremes.{greatest_behind, of_one}
+use Rattle.gptp_faults.specs.Follows.{follows}
+use Rattle.gptp_faults.specs.Each.{Each}
+use Rattle.gptp_faults.specs.Runs.{IsRun, runs_of}
+use Rattle.gptp_faults.specs.declared.cases.Case.{Case}
+use Rattle.gptp_faults.specs.declared.extremes.Extremes.{Extremes}
+use Rattle.gptp_faults.specs.declared.follows.Follow.{Follow}
+use Rattle.gptp_faults.specs.declared.options.FaultsOptions.{FaultsOptions}
+use Rattle.gptp_faults.specs.declared.cases.Planned.{Planned}
+use Rattle.gptp_faults.specs.declared.times.Times.{Times}
+
+-- the number of a case, which it is, the greatest of all its runs while it is down and when it is back, and whom systems
+-- follow where it comes back in the first run
+pub record OutcomeState : Type 0 where
+  pub number : ℕ
+  pub failing : Case
+  pub down : Extremes
+  pub back : Extremes
+  pub follow : List Follow
+
+abbrev pub downs : List (EndState × EndState) → List Stretch
+downs = map (λ (r : EndState × EndState). r.0.stretch)
+
+abbrev pub backs : List (EndState × EndState) → List Stretch
+backs = map (λ (r : EndState × EndState). r.1.stretch)
+
+-- by its first run, and the others
+abbrev pub outcome_by : ℕ → Case → EndState × EndState → List (EndState × EndState) → OutcomeState
+outcome_by number c first others = record {
+  number = number;
+  failing = c;
+  down = greatest_behind (of_one first.0.stretch) (downs others);
+  back = greatest_behind (of_one first.1.stretch) (backs others);
+  follow = follows first.0.roots;
+}
+
+pub record IsOutcome (d : DocumentState) (t : Times) (number : ℕ) (p : Planned) (o : OutcomeState) : Type 0 where
+  pub first : EndState × EndState
+  pub others : List (EndState × EndState)
+  pub runs : Each (IsRun d t p) (range_with_len 0 (runs_of t)) (first ∷ others)
+  pub is : o ≡ outcome_by number p.failing first others
+
+-- ---- the cases of a part
+
+-- a case by its number belongs to this part of so many, from 1
+abbrev pub belongs : ℕ → ℕ → ℕ → Bool
+belongs parts part number = number % parts + 1 == part
+
+abbrev pub numbers_of : ℕ → ℕ → ℕ → List ℕ
+numbers_of parts part count = filter (belongs parts part) (range_with_len 0 count)
+
+-- a case by its number, with how long it stays down
+abbrev pub IsOutcomeAt : DocumentState → Times → List Planned → ℕ → OutcomeState → Type 0
+IsOutcomeAt d t planned number o =
+    (p : Planned) × (slice_get planned number ≡ Some p) × IsOutcome d t number p o
+
+-- those that belong to a part, in order
+abbrev pub AreOutcomes : DocumentState → Times → FaultsOptions → List Planned → List OutcomeState → Type 0
+AreOutcomes d t options planned outcomes =
+    Each (IsOutcomeAt d t planned) (numbers_of options.parts options.part (length planned)) outcomes

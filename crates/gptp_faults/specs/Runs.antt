@@ -1,0 +1,41 @@
+-- The runs of a case (profile).
+use Rattle.std.specs.Prelude.{◌≡◌, ℕ, ◌+◌, ◌*◌, ◌/◌, ◌%◌, Option, Some}
+use Rattle.rand_core.specs.Pcg32Seed.{pcg32_seed}
+use Rattle.rand_pcg.specs.Lcg.{Lcg}
+use Rattle.rand_pcg.specs.Pcg.{pcg64_of_seed}
+use Rattle.gptp_links.specs.Draws.{drawn}
+use Rattle.gptp_links.specs.declared.bounds.Bounds.{Bounds}
+use Rattle.gptp_network.specs.Adding.{with_event}
+use Rattle.gptp_network.specs.Document.{DocumentState}
+use Rattle.gptp_timeline.specs.Ends.{EndState}
+use Rattle.gptp_timeline.specs.LastTwo.{EndsOf}
+use Rattle.gptp_faults.specs.Cases.{fault_of, return_of}
+use Rattle.gptp_faults.specs.Times.{moment}
+use Rattle.gptp_faults.specs.declared.cases.Planned.{Planned}
+use Rattle.gptp_faults.specs.declared.times.Times.{Times}
+
+-- delays and losses are drawn from the generator of the seed
+abbrev pub draws : Bounds → ℕ → Lcg → Option ℕ → Lcg → Type 0
+draws bounds sent before answer after = (answer, after) ≡ drawn bounds before
+
+abbrev pub generator : ℕ → Lcg
+generator seed = pcg64_of_seed (pcg32_seed 32 seed)
+
+-- runs are numbered from 0, by moment, then seed; seeds from 1
+abbrev pub moment_of : Times → ℕ → ℕ
+moment_of t run = moment t (run / t.seeds)
+
+abbrev pub seed_of : Times → ℕ → ℕ
+seed_of t run = run % t.seeds + 1
+
+abbrev pub runs_of : Times → ℕ
+runs_of t = t.moments * t.seeds
+
+-- a document in which a case fails at a time, and comes back when it was held so long
+abbrev pub with_case : ℕ → Planned → DocumentState → DocumentState
+with_case at p d = with_event (at + p.hold) (return_of p.failing) (with_event at (fault_of p.failing) d)
+
+-- So end the last two stretches of a run, in which a case is down and is back.
+abbrev pub IsRun : DocumentState → Times → Planned → ℕ → EndState × EndState → Type 0
+IsRun d t p run ends = EndsOf draws (with_case (moment_of t run) p d) (moment_of t run + p.hold + t.behind)
+    (generator (seed_of t run)) (Some ends)

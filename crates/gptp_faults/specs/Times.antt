@@ -1,0 +1,72 @@
+-- When faults come, and how long they stay (profile).
+use Rattle.std.specs.Prelude.{◌≡◌, ◌≤◌, ℕ, ◌+◌, ◌-◌, ◌*◌, ◌/◌, List, Option, Some, None, IfSome, unwrap_or}
+use Rattle.gptp_network.specs.Adding.{with_event}
+use Rattle.gptp_network.specs.Document.{DocumentState}
+use Rattle.gptp_network.specs.Span.{IsSpan}
+use Rattle.gptp_plan.specs.Calm.{last_change}
+use Rattle.gptp_plan.specs.Network.{largest_of}
+use Rattle.gptp_setup.specs.Intervals.{interval_of}
+use Rattle.gptp_faults.specs.Cases.{fault_of}
+use Rattle.gptp_faults.specs.Each.{Each}
+use Rattle.gptp_faults.specs.declared.cases.Case.{Case}
+use Rattle.gptp_faults.specs.declared.options.FaultsOptions.{FaultsOptions}
+use Rattle.gptp_faults.specs.declared.cases.Planned.{Planned}
+use Rattle.gptp_faults.specs.declared.times.Times.{Times}
+
+-- the numbers of what is asked are in their ranges
+pub record AreOptions (o : FaultsOptions) : Type 0 where
+  pub some_seed : 1 ≤ o.seeds
+  pub seeds : o.seeds ≤ 1000
+  pub some_moment : 1 ≤ o.moments
+  pub moments : o.moments ≤ 1000
+  pub at : IfSome o.at (λ at. at ≤ 1000000000000000)
+  pub hold : IfSome o.hold (λ hold. hold ≤ 1000000000000000)
+  pub some_part : 1 ≤ o.part
+  pub part : o.part ≤ o.parts
+  pub parts : o.parts ≤ 10000
+
+-- The moments lie from `from` on within `spread`, an announce interval (the largest of any port) and a Sync interval: so
+-- they meet the Announce and the Sync at different phases. By default the first is as long behind the last event as the
+-- network takes at most to settle then, and so long each run goes on behind the return.
+pub record AreTimes (d : DocumentState) (options : FaultsOptions) (t : Times) : Type 0 where
+  pub span : ℕ
+  pub span_is : IsSpan d (last_change d.events) span
+  pub from_is : t.from ≡ unwrap_or options.at (last_change d.events + span)
+  pub spread_is : t.spread ≡ interval_of (largest_of d.network) + interval_of d.network.params.sync
+  pub moments_are : t.moments ≡ options.moments
+  pub seeds_are : t.seeds ≡ options.seeds
+  pub behind_is : t.behind ≡ unwrap_or options.hold span
+
+-- so that they are bounded
+pub record AreBounded (t : Times) : Type 0 where
+  pub from : t.from ≤ 1000000000000000
+  pub spread : t.spread ≤ 32000000000
+  pub some_moment : 1 ≤ t.moments
+  pub moments : t.moments ≤ 1000
+  pub some_seed : 1 ≤ t.seeds
+  pub seeds : t.seeds ≤ 1000
+  pub behind : t.behind ≤ 1000000000000000
+
+-- a moment by its number, from 0
+abbrev pub moment : Times → ℕ → ℕ
+moment t number = t.from + number * t.spread / t.moments
+
+-- the last of them, which is the latest
+abbrev pub last_moment : Times → ℕ
+last_moment t = moment t (t.moments - 1)
+
+-- How long the fault of a case stays: by default as long as the network takes at most to settle behind it.
+abbrev pub IsHold : DocumentState → Times → Case → Option ℕ → ℕ → Type 0
+IsHold d t c (Some asked) hold = hold ≡ asked
+IsHold d t c None hold = IsSpan (with_event t.from (fault_of c) d) t.from hold
+
+-- Each of its runs ends no later than one may.
+abbrev pub IsInTime : Times → Planned → Type 0
+IsInTime t p = last_moment t + p.hold + t.behind ≤ 1000000000000000
+
+-- what is planned of each case
+abbrev pub IsPlanned : DocumentState → FaultsOptions → Times → Case → Planned → Type 0
+IsPlanned d options t c p = (p.failing ≡ c) × IsHold d t c options.hold p.hold
+
+abbrev pub ArePlanned : DocumentState → FaultsOptions → Times → List Case → List Planned → Type 0
+ArePlanned d options t = Each (IsPlanned d options t)

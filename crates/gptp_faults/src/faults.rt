@@ -1,0 +1,184 @@
+//! What becomes of a network where something fails and comes back.
+
+ghost use Rattle.std.specs.Prelude.{◌≡◌, ◌≢◌, ◌≤◌, List, Err, IfOk, OnOk, false, length};
+ghost use Rattle.gptp_faults.specs.Faults.{Answers, IsTable};
+ghost use Rattle.gptp_faults.specs.Outcomes.{AreOutcomes, belongs, IsOutcome, OutcomeState};
+ghost use Rattle.gptp_faults.specs.Ranking.{ranked, ranked_with};
+ghost use Rattle.gptp_faults.specs.Refusals.{any_late};
+ghost use Rattle.gptp_faults.specs.Times.{AreBounded, AreOptions, IsInTime};
+
+use crate::cases::{Planned, cases_of};
+use crate::options::FaultsOptions;
+use crate::outcome::{Outcome, try_case};
+use crate::ranking::rank;
+use crate::refusals::{any_late, fault_before};
+use crate::text::write_table;
+use crate::times::{Times, plan_cases, times_of};
+use gptp_network::{Document, DocumentFault};
+use gptp_report::sink::Sink;
+use gptp_report::{Cut, write_whole};
+use std::alloc::{AllocError, Global};
+
+/// What is answered of a document.
+#[derive(Debug, Drop)]
+pub enum Answer {
+    /// It would be refused with the two events of some run, by this fault.
+    Refused(DocumentFault),
+    /// The table of its cases, and whether a limit is exceeded.
+    Table { text: String, exceeded: bool },
+}
+
+/// Whether a case by its number belongs to a part of so many.
+fn belongs(options: &FaultsOptions, number: usize) -> bool
+    requires { AreOptions options.now }
+    ensures { result ≡ belongs options.now.parts options.now.part number }
+{
+    number as u64 % options.parts + 1 == options.part
+}
+
+/// How many of so many cases belong to the part.
+fn count_of(options: &FaultsOptions, count: usize) -> u64
+    requires { AreOptions options.now }
+{
+    (count as u64).saturating_add(options.parts - options.part) / options.parts
+}
+
+/// Tells that a case begins, where that is asked for.
+fn tell<P: Sink>(
+    alloc: Global,
+    asked: bool,
+    place: usize,
+    count: u64,
+    progress: &mut P,
+) -> Result<(), Cut>
+    ensures works { result ≢ Err Cut.Write → P.failures progress.new ≡ P.failures progress.old }
+    ensures fails { result ≡ Err Cut.Write → P.failures progress.new ≢ P.failures progress.old }
+{
+    if !asked {
+        return Ok(());
+    }
+    let mut text = String::new(alloc);
+    writeln!(text, "case {place} of {count}")?;
+    write_whole(progress, text.as_bytes())?;
+    Ok(())
+}
+
+/// Tries a case that belongs to the part, and puts it among those before.
+fn try_next<P: Sink>(
+    alloc: Global,
+    document: &mut Document,
+    options: &FaultsOptions,
+    times: &Times,
+    number: usize,
+    planned: &Planned,
+    count: u64,
+    outcomes: &mut Vec<Outcome>,
+    progress: &mut P,
+) -> Result<(), Cut>
+    requires bounded { AreBounded times.now }
+    requires in_time { IsInTime times.now planned.now }
+    ensures tried { OnOk result ((o : OutcomeState) × IsOutcome document.old times.now number planned.now o
+        × (outcomes.new.items ≡ ranked_with outcomes.old.items o)) }
+    ensures same { OnOk result (document.new ≡ document.old) }
+    ensures works { result ≢ Err Cut.Write → P.failures progress.new ≡ P.failures progress.old }
+    ensures fails { result ≡ Err Cut.Write → P.failures progress.new ≢ P.failures progress.old }
+{
+    tell(
+        alloc,
+        options.progress,
+        outcomes.len().saturating_add(1),
+        count,
+        progress,
+    )?;
+    let outcome = try_case(alloc, document, times, number, planned)?;
+    rank(outcomes, outcome)?;
+    Ok(())
+}
+
+/// Tries all cases that belong to the part, and answers what becomes of them, the worst first.
+fn try_cases<P: Sink>(
+    alloc: Global,
+    document: &mut Document,
+    options: &FaultsOptions,
+    times: &Times,
+    planned: &[Planned],
+    progress: &mut P,
+) -> Result<Vec<Outcome>, Cut>
+    requires options { AreOptions options.now }
+    requires bounded { AreBounded times.now }
+    requires in_time { any_late times.now planned.now ≡ false }
+    ensures outcomes { IfOk result (λ v. (outcomes : List OutcomeState)
+        × AreOutcomes document.old times.now options.now planned.now outcomes × (v.items ≡ ranked outcomes)) }
+    ensures works { result ≢ Err Cut.Write → P.failures progress.new ≡ P.failures progress.old }
+    ensures fails { result ≡ Err Cut.Write → P.failures progress.new ≢ P.failures progress.old }
+{
+    let count = count_of(options, planned.len());
+    let mut outcomes = Vec::new(alloc);
+    for number in 0..planned.len() {
+        if belongs(options, number) {
+            try_next(
+                alloc,
+                document,
+                options,
+                times,
+                number,
+                &planned[number],
+                count,
+                &mut outcomes,
+                progress,
+            )?;
+        }
+    }
+    Ok(outcomes)
+}
+
+/// The table of cases of which none is refused.
+fn table_of<P: Sink>(
+    alloc: Global,
+    document: &mut Document,
+    options: &FaultsOptions,
+    times: &Times,
+    planned: &[Planned],
+    progress: &mut P,
+) -> Result<Answer, Cut>
+    requires options { AreOptions options.now }
+    requires bounded { AreBounded times.now }
+    requires in_time { any_late times.now planned.now ≡ false }
+    ensures table { IfOk result (IsTable document.old options.now times.now planned.now) }
+    ensures works { result ≢ Err Cut.Write → P.failures progress.new ≡ P.failures progress.old }
+    ensures fails { result ≡ Err Cut.Write → P.failures progress.new ≢ P.failures progress.old }
+{
+    let outcomes = try_cases(alloc, document, options, times, planned, progress)?;
+    let mut text = String::new(alloc);
+    let exceeded = write_table(&mut text, &options.limits, times, &outcomes)?;
+    Ok(Answer::Table { text, exceeded })
+}
+
+/// Lets each link in use and each live system of a document fail at several moments and come back, as far as they belong to
+/// the part that is asked for, and answers what becomes of the network: for each case the worst of its runs, the worst case
+/// first. A line is written to `progress` before each case, where that is asked for.
+///
+/// Errors: [`Cut::Write`] exactly where a write to `progress` failed, after which nothing more happens; [`Cut::Memory`] as
+/// the timeline of a document has it.
+pub fn fail_each<P: Sink>(
+    alloc: Global,
+    document: &mut Document,
+    options: &FaultsOptions,
+    progress: &mut P,
+) -> Result<Answer, Cut>
+    requires { AreOptions options.now }
+    ensures answer { IfOk result (Answers document.old options.now) }
+    ensures works { result ≢ Err Cut.Write → P.failures progress.new ≡ P.failures progress.old }
+    ensures fails { result ≡ Err Cut.Write → P.failures progress.new ≢ P.failures progress.old }
+{
+    let cases = cases_of(alloc, document, options.only)?;
+    let times = times_of(alloc, document, options)?;
+    if let Some(fault) = fault_before(document, &times, &cases) {
+        return Ok(Answer::Refused(fault));
+    }
+    let planned = plan_cases(alloc, document, options, &times, &cases)?;
+    if any_late(&times, &planned) {
+        return Ok(Answer::Refused(DocumentFault::OutOfRange));
+    }
+    table_of(alloc, document, options, &times, &planned, progress)
+}

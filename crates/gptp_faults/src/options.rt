@@ -1,0 +1,37 @@
+//! What is asked of the faults of a document.
+
+use gptp_timeline::Limits;
+
+/// The kind of cases that is left, where one is left out.
+#[derive(Clone, Copy, Debug, PartialEq, Eq)]
+pub enum Only {
+    /// Links alone.
+    Links,
+    /// Systems alone.
+    Systems,
+}
+
+/// Which cases are tried, when, and how often.
+#[derive(Clone, Copy, Debug, PartialEq, Eq)]
+pub struct FaultsOptions {
+    /// With how many seeds each is tried, from 1 on; at least 1, at most 1,000.
+    pub seeds: u64,
+    /// At how many moments; at least 1, at most 1,000.
+    pub moments: u64,
+    /// The first moment, in ns, at most 10^15; `None` where that is the time by which the network has settled behind its
+    /// last event.
+    pub at: Option<u64>,
+    /// How long a fault stays and how long each run goes on behind it, in ns, at most 10^15; `None` where that is as long
+    /// as the network takes at most to settle then.
+    pub hold: Option<u64>,
+    /// Which kind is left.
+    pub only: Option<Only>,
+    /// In how many parts the cases are dealt out, one after another; at least 1, at most 10,000.
+    pub parts: u64,
+    /// The part that is tried, from 1 to that.
+    pub part: u64,
+    /// Whether it is told before each case that it begins.
+    pub progress: bool,
+    /// What is asked of the worst of all.
+    pub limits: Limits,
+}

@@ -1,0 +1,79 @@
+//! The runs of a case.
+
+ghost use Rattle.std.specs.Prelude.{◌≡◌, ◌≤◌, ◌<◌, ◌+◌, IfErr, IfOk, OnOk, Some};
+ghost use Rattle.gptp_faults.specs.Runs.{IsRun, moment_of, runs_of, seed_of};
+ghost use Rattle.gptp_faults.specs.Times.{AreBounded, IsInTime, last_moment};
+
+use crate::cases::{Planned, fault_of, return_of};
+use crate::times::{Times, add, moment};
+use gptp_links::PcgFate;
+use gptp_network::Document;
+use gptp_report::Cut;
+use gptp_timeline::{StretchEnd, last_stretches};
+use std::alloc::Global;
+
+/// In how many runs each case is tried.
+pub(crate) fn runs_of(times: &Times) -> u64
+    requires { AreBounded times.now }
+    ensures is { result ≡ runs_of times.now }
+    ensures some { 0 < result }
+{
+    times.moments * times.seeds
+}
+
+/// The moment of a run, in ns.
+fn moment_of(times: &Times, run: u64) -> u64
+    requires bounded { AreBounded times.now }
+    requires run { run < runs_of times.now }
+    ensures is { result ≡ moment_of times.now run }
+    ensures last { result ≤ last_moment times.now }
+    ensures bound { result ≤ 2000000000000000 }
+{
+    moment(times, run / times.seeds)
+}
+
+/// The seed of a run.
+fn seed_of(times: &Times, run: u64) -> u64
+    requires { AreBounded times.now }
+    ensures { result ≡ seed_of times.now run }
+{
+    run % times.seeds + 1
+}
+
+/// How the last two stretches ended, of which there are two.
+fn both(ends: Option<(StretchEnd, StretchEnd)>) -> Result<(StretchEnd, StretchEnd), Cut>
+    ensures both { IfOk result (λ both. ends ≡ Some both) }
+    ensures memory { IfErr result (λ e. e ≡ Cut.Memory) }
+{
+    match ends {
+        Some(both) => Ok(both),
+        // an event behind time 0 begins the last
+        None => Err(Cut::Memory),
+    }
+}
+
+/// Lets a case fail and come back in a run, and answers how the stretches ended in which it was down and was back.
+pub(crate) fn run_case(
+    alloc: Global,
+    document: &mut Document,
+    times: &Times,
+    planned: &Planned,
+    run: u64,
+) -> Result<(StretchEnd, StretchEnd), Cut>
+    requires bounded { AreBounded times.now }
+    requires run { run < runs_of times.now }
+    requires in_time { IsInTime times.now planned.now }
+    ensures run { IfOk result (IsRun document.old times.now planned.now run) }
+    ensures same { OnOk result (document.new ≡ document.old) }
+    ensures memory { IfErr result (λ e. e ≡ Cut.Memory) }
+{
+    let count = document.events().len();
+    let down = moment_of(times, run);
+    let back = down + planned.hold;
+    add(document, down, fault_of(&planned.failing))?;
+    add(document, back, return_of(&planned.failing))?;
+    let fate = PcgFate::new(seed_of(times, run));
+    let ends = last_stretches(alloc, document, fate, back + times.behind)?;
+    document.truncate(count);
+    both(ends)
+}

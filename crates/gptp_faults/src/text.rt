@@ -1,0 +1,263 @@
+//! The lines of cases.
+
+ghost use Rattle.std.specs.Prelude.{◌≡◌, ◌++◌, ◌∷◌, [], IfOk, OnOk, codes, map, string_bytes};
+ghost use Rattle.std.specs.Fmt.{decimal};
+ghost use Rattle.std.specs.List.{flat_map};
+ghost use Rattle.gptp_spelling.specs.Lines.{text_of};
+ghost use Rattle.gptp_spelling.specs.Digits.{or_none};
+ghost use Rattle.gptp_faults.specs.FaultsText.{amounts_words, case_line, counts_text, exceeded_by, exceeds, extremes_line, follow_line, head_line, outcome_lines, table_lines, worst_line, worst_of_all, worst_words};
+
+use crate::cases::Case;
+use crate::extremes::{Extremes, OF_NONE, joined};
+use crate::follows::Follow;
+use crate::outcome::Outcome;
+use crate::ranking::{amount_of, amount_or_0};
+use crate::times::Times;
+use gptp_spelling::{ClockDigits, IdentityDigits};
+use gptp_timeline::{
+    Counts, Exceeded, Limits, Longest, Near, TimeOrNone, Worst, is_above, is_any_above,
+    write_first_exceeded,
+};
+use gptp_vector::PortId;
+use std::alloc::AllocError;
+use std::fmt;
+
+/// A port, by its clock and its number.
+#[derive(Clone, Copy)]
+struct PortText(PortId);
+
+impl fmt::Display for PortText {
+    ghost use Rattle.std.specs.Prelude.{Some};
+    ghost use Rattle.gptp_faults.specs.FaultsText.{port_text};
+
+    ghost output = { λ port. Some (port_text port.0) };
+
+    fn fmt<W: fmt::Write>(&self, f: &mut fmt::Formatter<W>) -> fmt::Result {
+        write!(f, "{} {}", ClockDigits(self.0.clock), self.0.port)
+    }
+}
+
+/// What fails.
+#[derive(Clone, Copy)]
+struct CaseText(Case);
+
+impl fmt::Display for CaseText {
+    ghost use Rattle.std.specs.Prelude.{Some};
+    ghost use Rattle.gptp_faults.specs.FaultsText.{case_text};
+
+    ghost output = { λ failing. Some (case_text failing.0) };
+
+    fn fmt<W: fmt::Write>(&self, f: &mut fmt::Formatter<W>) -> fmt::Result {
+        match self.0 {
+            Case::Link { a, b } => write!(f, "link {} {}", PortText(a), PortText(b)),
+            Case::System { clock } => write!(f, "system {}", ClockDigits(clock)),
+        }
+    }
+}
+
+/// An amount that may be absent.
+#[derive(Clone, Copy)]
+struct AmountOrNone(Option<u128>);
+
+impl fmt::Display for AmountOrNone {
+    ghost use Rattle.std.specs.Prelude.{Some};
+    ghost use Rattle.std.specs.Fmt.{decimal};
+    ghost use Rattle.gptp_spelling.specs.Digits.{or_none};
+
+    ghost output = { λ amount. Some (or_none decimal amount.0) };
+
+    fn fmt<W: fmt::Write>(&self, f: &mut fmt::Formatter<W>) -> fmt::Result {
+        match self.0 {
+            Some(amount) => write!(f, "{amount}"),
+            None => f.write_str("none"),
+        }
+    }
+}
+
+/// What was counted.
+#[derive(Clone, Copy)]
+struct CountsText(Counts);
+
+impl fmt::Display for CountsText {
+    ghost use Rattle.std.specs.Prelude.{Some};
+    ghost use Rattle.gptp_faults.specs.FaultsText.{counts_text};
+
+    ghost output = { λ counts. Some (counts_text counts.0) };
+
+    fn fmt<W: fmt::Write>(&self, f: &mut fmt::Formatter<W>) -> fmt::Result {
+        let counts = self.0;
+        write!(
+            f,
+            " without {} roots {} alone {}",
+            counts.without, counts.roots, counts.alone
+        )
+    }
+}
+
+/// Appends the line of how many cases there are.
+fn write_head(text: &mut String, count: usize, times: &Times) -> Result<(), AllocError>
+    ensures { OnOk result (string_bytes text.new ≡ string_bytes text.old ++ (head_line count times.now ++ 10 ∷ [])) }
+{
+    writeln!(
+        text,
+        "cases {count} moments {} seeds {} from {}",
+        times.moments, times.seeds, times.from
+    )
+}
+
+/// Appends the line of a case.
+fn write_case(text: &mut String, number: usize, failing: Case) -> Result<(), AllocError>
+    ensures { OnOk result (string_bytes text.new ≡ string_bytes text.old ++ (case_line number failing ++ 10 ∷ [])) }
+{
+    writeln!(text, "case {number} {}", CaseText(failing))
+}
+
+/// Appends how long the choice took, the longest wait and the greatest error.
+fn write_amounts(text: &mut String, word: &str, extremes: &Extremes) -> Result<(), AllocError>
+    ensures { OnOk result (string_bytes text.new ≡ string_bytes text.old ++ amounts_words word.now extremes.now) }
+{
+    write!(
+        text,
+        "{word} choice {} holdover {} error {}",
+        AmountOrNone(extremes.choice),
+        Longest(extremes.holdover),
+        Worst(extremes.error)
+    )
+}
+
+/// Appends what was counted, and the bound.
+fn write_bound(text: &mut String, counts: Counts, bound: Option<u64>) -> Result<(), AllocError>
+    ensures { OnOk result (string_bytes text.new
+        ≡ string_bytes text.old ++ ((counts_text counts ++ codes " bound " ++ or_none decimal bound) ++ 10 ∷ [])) }
+{
+    writeln!(text, "{} bound {}", CountsText(counts), TimeOrNone(bound))
+}
+
+/// Appends the line of the greatest of all runs.
+fn write_extremes(text: &mut String, word: &str, extremes: &Extremes) -> Result<(), AllocError>
+    ensures { OnOk result (string_bytes text.new
+        ≡ string_bytes text.old ++ (extremes_line word.now extremes.now ++ 10 ∷ [])) }
+{
+    write_amounts(text, word, extremes)?;
+    write_bound(text, extremes.counts, extremes.bound)
+}
+
+/// Appends the line of how many systems follow a root.
+fn write_follow(text: &mut String, follow: &Follow) -> Result<(), AllocError>
+    ensures { OnOk result (string_bytes text.new ≡ string_bytes text.old ++ (follow_line follow.now ++ 10 ∷ [])) }
+{
+    writeln!(
+        text,
+        "follow {} {}",
+        IdentityDigits(follow.root),
+        follow.systems
+    )
+}
+
+/// Appends the lines of all of them.
+fn write_follows(text: &mut String, follows: &[Follow]) -> Result<(), AllocError>
+    ensures { OnOk result (string_bytes text.new ≡ string_bytes text.old ++ text_of (map follow_line follows.now)) }
+{
+    for follow in follows {
+        write_follow(text, follow)?;
+    }
+    Ok(())
+}
+
+/// Appends the lines of a case.
+fn write_outcome(text: &mut String, outcome: &Outcome) -> Result<(), AllocError>
+    ensures { OnOk result (string_bytes text.new ≡ string_bytes text.old ++ text_of (outcome_lines outcome.now)) }
+{
+    write_case(text, outcome.number(), outcome.failing())?;
+    write_extremes(text, "down", outcome.down())?;
+    write_follows(text, outcome.follow())?;
+    write_extremes(text, "back", outcome.back())
+}
+
+/// Appends the lines of all cases.
+fn write_outcomes(text: &mut String, outcomes: &[Outcome]) -> Result<(), AllocError>
+    ensures { OnOk result (string_bytes text.new ≡ string_bytes text.old ++ text_of (flat_map outcome_lines outcomes.now)) }
+{
+    for outcome in outcomes {
+        write_outcome(text, outcome)?;
+    }
+    Ok(())
+}
+
+/// The greatest of all cases.
+fn worst_of_all(outcomes: &[Outcome]) -> Extremes
+    ensures { result ≡ worst_of_all outcomes.now }
+{
+    let mut worst = OF_NONE;
+    for outcome in outcomes {
+        worst = joined(&joined(&worst, outcome.down()), outcome.back());
+    }
+    worst
+}
+
+/// Appends the amounts of the greatest of all.
+fn write_worst_amounts(
+    text: &mut String,
+    choice: Option<u128>,
+    holdover: u128,
+    error: u128,
+) -> Result<(), AllocError>
+    ensures { OnOk result (string_bytes text.new ≡ string_bytes text.old ++ worst_words choice holdover error) }
+{
+    write!(
+        text,
+        "worst choice {} holdover {holdover} error {}",
+        AmountOrNone(choice),
+        Near(error)
+    )
+}
+
+/// Appends what was counted, at the end of a line.
+fn write_counts(text: &mut String, counts: Counts) -> Result<(), AllocError>
+    ensures { OnOk result (string_bytes text.new ≡ string_bytes text.old ++ (counts_text counts ++ 10 ∷ [])) }
+{
+    writeln!(text, "{}", CountsText(counts))
+}
+
+/// Appends the line of the greatest of all.
+fn write_worst(text: &mut String, worst: &Extremes) -> Result<(), AllocError>
+    ensures { OnOk result (string_bytes text.new ≡ string_bytes text.old ++ (worst_line worst.now ++ 10 ∷ [])) }
+{
+    let holdover = amount_or_0(amount_of(worst.holdover));
+    let error = amount_or_0(amount_of(worst.error));
+    write_worst_amounts(text, worst.choice, holdover, error)?;
+    write_counts(text, worst.counts)
+}
+
+/// Which limits it exceeds.
+fn exceeded_by(limits: &Limits, worst: &Extremes) -> Exceeded
+    ensures { result ≡ exceeded_by limits.now worst.now }
+{
+    let counts = worst.counts;
+    Exceeded {
+        choice: is_any_above(limits.choice, 1, worst.choice),
+        holdover: is_any_above(limits.holdover, 1, amount_of(worst.holdover)),
+        error: is_any_above(limits.error, 65_536, amount_of(worst.error)),
+        without: is_above(limits.without, 1, u128::from(counts.without)),
+        roots: is_above(limits.roots, 1, u128::from(counts.roots)),
+        alone: is_above(limits.alone, 1, u128::from(counts.alone)),
+    }
+}
+
+/// Appends the table of cases in the order in which they are told, and answers whether a limit is exceeded.
+pub(crate) fn write_table(
+    text: &mut String,
+    limits: &Limits,
+    times: &Times,
+    outcomes: &[Outcome],
+) -> Result<bool, AllocError>
+    ensures text { OnOk result (string_bytes text.new
+        ≡ string_bytes text.old ++ text_of (table_lines limits.now times.now outcomes.now)) }
+    ensures exceeded { IfOk result (λ exceeded. exceeded ≡ exceeds limits.now outcomes.now) }
+{
+    let worst = worst_of_all(outcomes);
+    write_head(text, outcomes.len(), times)?;
+    write_outcomes(text, outcomes)?;
+    write_worst(text, &worst)?;
+    write_first_exceeded(text, exceeded_by(limits, &worst))
+}

@@ -1,0 +1,77 @@
+-- The last two stretches of a run (profile).
+use Rattle.std.specs.Prelude.{◌≡◌, ℕ, List, [], ◌∷◌, map, Option, Some, None}
+use Rattle.gptp_acts.specs.Course.{Begun}
+use Rattle.gptp_acts.specs.Views.{rising_clocks}
+use Rattle.gptp_acts.specs.World.{WorldState}
+use Rattle.gptp_links.specs.declared.bounds.Bounds.{Bounds}
+use Rattle.gptp_network.specs.Document.{DocumentState}
+use Rattle.gptp_network.specs.Snapshot.{events_by}
+use Rattle.gptp_timeline.specs.Ends.{EndState}
+use Rattle.gptp_timeline.specs.Limits.{exceeded_after, not_exceeded}
+use Rattle.gptp_timeline.specs.Shown.{shown}
+use Rattle.gptp_timeline.specs.Stretch.{roots_of, shown_of_all, waits}
+use Rattle.gptp_timeline.specs.Timeline.{AllPass, ended_of, none_waits, Passage, stretch_of}
+use Rattle.gptp_timeline.specs.Watch.{WatchState}
+use Rattle.gptp_timeline.specs.declared.ends.Kept.{Kept}
+use Rattle.gptp_timeline.specs.declared.limits.Limits.{Limits}
+use Rattle.gptp_timeline.specs.declared.timeline.Plan.{Plan}
+
+-- how a stretch ended that passed, where each system had been waiting since then
+abbrev pub end_in : List ℕ → (ℕ → Option ℕ) → Passage → EndState
+end_in names since p = record {
+  stretch = stretch_of names since p;
+  roots = roots_of (map (λ name. shown name p.after) names);
+}
+
+-- so did several, one after another
+abbrev pub ends_in : List ℕ → (ℕ → Option ℕ) → List Passage → List EndState
+ends_in names since [] = []
+ends_in names since (p ∷ ps) = end_in names since p ∷ ends_in names (waits p.acts since) ps
+
+-- the last two of several
+abbrev pub last_two : List EndState → Option (EndState × EndState)
+last_two [] = None
+last_two (a ∷ []) = None
+last_two (a ∷ (b ∷ [])) = Some (a, b)
+last_two (a ∷ (b ∷ (c ∷ cs))) = last_two (b ∷ (c ∷ cs))
+
+-- The world of a document begins, all stretches of its run pass, and so ended the last two of them, if there are two.
+pub record EndsOf {F : Type 0} (answers : Bounds → ℕ → F → Option ℕ → F → Type 0) (d : DocumentState) (until : ℕ)
+    (fate : F) (two : Option (EndState × EndState)) : Type 0 where
+  pub started : F
+  pub start : WorldState
+  pub begun : Begun answers d.network fate started start
+  pub passages : List Passage
+  pub fate_after : F
+  pub after : WorldState
+  pub pass : AllPass answers d until 0 (events_by until d.events) started fate_after start after passages
+  pub are : two ≡ last_two (ends_in (rising_clocks start) none_waits passages)
+
+-- ---- by what an observer keeps, and what is kept of each stretch
+
+abbrev pub end_of : Plan → WatchState → EndState
+end_of plan o = record { stretch = ended_of plan o; roots = roots_of (shown_of_all o.systems) }
+
+-- nothing is kept yet
+abbrev pub none_kept : Kept
+none_kept = record { exceeded = not_exceeded; before = None; last = None }
+
+-- what is kept with one stretch more
+abbrev pub kept_after : Limits → EndState → Kept → Kept
+kept_after limits e kept = record {
+  exceeded = exceeded_after limits e.stretch kept.exceeded;
+  before = kept.last;
+  last = Some e;
+}
+
+-- and with several
+abbrev pub all_kept : Limits → List ℕ → (ℕ → Option ℕ) → List Passage → Kept → Kept
+all_kept limits names since [] kept = kept
+all_kept limits names since (p ∷ ps) kept =
+    all_kept limits names (waits p.acts since) ps (kept_after limits (end_in names since p) kept)
+
+-- the last two stretches of which something is kept
+abbrev pub both_of : Option EndState → Option EndState → Option (EndState × EndState)
+both_of None last = None
+both_of (Some before) None = None
+both_of (Some before) (Some last) = Some (before, last)
