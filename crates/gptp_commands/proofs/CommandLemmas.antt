@@ -771,9 +771,9 @@ lacks_none rows is (inl (text, found, isn't)) =
     some_isn't_none text (sym found ∙ ap (first_of (codes "only")) is ∙ no_kind_given)
 lacks_none rows is (inr lacks) =
     let one = lacks.part_is.given (codes "1") 1 (ap (one_of (codes "part")) is ∙ one_part_given) writes_1
-        (omega arith) (omega arith) in
+    (omega arith) (omega arith) in
     let all = lacks.parts_is.given (codes "1") 1 (ap (one_of (codes "parts")) is ∙ one_in_all) writes_1
-        (omega arith) (omega arith) in
+    (omega arith) (omega arith) in
     let beyond = lacks.beyond in absurd (omega (arith, one, all, beyond))
 
 plain_with_cases : (words : List Text) (rows : List Row) → subcommand_of program words ≡ Some (codes "faults", rows)

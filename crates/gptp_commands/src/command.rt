@@ -896,7 +896,8 @@ fn refuse_kind(alloc: Global, word: &str) -> CommandLineError {
 /// The kind of cases that is left.
 fn only_in(alloc: Global, matches: &ArgMatches) -> Result<Option<Only>, CommandLineError>
     ensures kind { IfOk result (ReadsKind (first_of (codes "only") (rows_of (found_of matches.now)))) }
-    ensures refused { IfErr result (λ e. (e ≡ Memory) ⊎ LacksKind (rows_of (found_of matches.now))) } {
+    ensures refused { IfErr result (λ e. (e ≡ Memory) ⊎ LacksKind (rows_of (found_of matches.now))) }
+{
     match matches.get_str("only") {
         None => Ok(None),
         Some(text) => match kind_of(text) {
@@ -910,7 +911,8 @@ fn only_in(alloc: Global, matches: &ArgMatches) -> Result<Option<Only>, CommandL
 fn faults_in(alloc: Global, matches: &ArgMatches) -> Result<FaultsOptions, CommandLineError>
     ensures asks { IfOk result (ReadsFaults (rows_of (found_of matches.now))) }
     ensures refused { IfErr result (λ e. (e ≡ Memory)
-        ⊎ (LacksKind (rows_of (found_of matches.now)) ⊎ LacksPart (rows_of (found_of matches.now)))) } {
+        ⊎ (LacksKind (rows_of (found_of matches.now)) ⊎ LacksPart (rows_of (found_of matches.now)))) }
+{
     let only = only_in(alloc, matches)?;
     let parts = count_in(matches, "parts", MOST_PARTS, 1);
     let part = count_in(matches, "part", MOST_PARTS, 1);

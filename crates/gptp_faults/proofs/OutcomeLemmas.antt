@@ -101,6 +101,7 @@ module _ (d : DocumentState) (t : Times) (p : Planned) where
         ∙ ap (outcome number (greatest_behind (of_one tried.first.0.stretch) (downs tried.others))
         (greatest_behind (of_one tried.first.1.stretch) (backs tried.others))) tried.follow_is;
   }
+
 -- ---- the cases of a part
 
 module _ (parts part count : ℕ) where

@@ -150,11 +150,7 @@ fn push_live(cases: &mut Vec<Case>, live: (Identity, u8)) -> Result<(), AllocErr
 }
 
 /// Puts the system at a place behind those of the places before, where it lives after all events.
-fn push_system(
-    cases: &mut Vec<Case>,
-    document: &Document,
-    place: usize,
-) -> Result<(), AllocError>
+fn push_system(cases: &mut Vec<Case>, document: &Document, place: usize) -> Result<(), AllocError>
     requires { cases.old.items
         ≡ map system_case (filter_map (live_after document.now.events) (take place document.now.network.systems)) }
     ensures { OnOk result (cases.new.items
