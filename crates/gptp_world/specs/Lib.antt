@@ -1,10 +1,12 @@
 pub mod Aim
 pub mod Buffers
 pub mod Cable
+pub mod Credit
 pub mod Delivering
 pub mod Directory
 pub mod Filed
 pub mod Following
+pub mod Memory
 pub mod Net
 pub mod Observing
 pub mod Performing

@@ -5,11 +5,11 @@ ghost use Rattle.gptp_world.specs.Performing.{octets_of};
 
 use crate::aim::Aim;
 use crate::cable::Lane;
+use crate::credit::Credit;
 use crate::delivering::Reached;
 use crate::stage::Stage;
 use gptp_acts::{Act, Change, Done};
 use gptp_links::{Bounds, Fate};
-use gptp_system::Reach;
 use std::alloc::AllocError;
 
 /// What an act injects; no other injects anything.
@@ -30,17 +30,19 @@ fn octets_of(act: &Act) -> &[u8]
 }
 
 impl Stage {
-    ghost use Rattle.std.specs.Prelude.{◌≡◌, ◌<◌, ◌≤◌, [], length};
+    ghost use Rattle.std.specs.Prelude.{◌≡◌, ◌<◌, ◌≤◌, [], length, true, false};
     ghost use Rattle.gptp_links.specs.Bounds.{Fit};
     ghost use Rattle.gptp_world.specs.declared.aim.Aim.TheVariants.{LinkDown, LinkUp, LinkSet, Fail, Recover};
     ghost use Rattle.gptp_plan.specs.declared.change.Act.TheVariants.{Deliver};
     ghost use Rattle.gptp_acts.specs.Acts.{AtPlace, IsOldestDue};
     ghost use Rattle.gptp_acts.specs.Agrees.{Agrees};
+    ghost use Rattle.gptp_world.specs.Credit.{HearUses};
     ghost use Rattle.gptp_world.specs.Delivering.{HasRoomToHear};
+    ghost use Rattle.gptp_world.specs.Net.{LinkIs};
     ghost use Rattle.gptp_world.specs.Performing.{Acted, CanChange, HasRoomForAim, Injected, Turned, Turns};
     ghost use Rattle.gptp_acts.specs.Sound.{IsWired};
     ghost use Rattle.gptp_world.specs.Room.{HasRoomToInject};
-    ghost use Rattle.gptp_world.specs.Stage.{world_of, HasRoomToCall, IsStage};
+    ghost use Rattle.gptp_world.specs.Stage.{world_of, IsStage, SystemIs};
     ghost use Rattle.gptp_world.specs.Starting.{CanStart, HasRoomToStart};
     ghost use Rattle.gptp_world.specs.Telling.{HasRoomAtEnds};
 
@@ -53,6 +55,7 @@ impl Stage {
         requires room { HasRoomToHear lane self.old }
         ensures stage { IsStage self.new }
         ensures arrived { Acted F.answers (Deliver lane.link lane.direction) result fate.old fate.new self.old self.new }
+        ensures uses { HearUses lane self.old self.new.net }
     {
         let Reached { at, answer, frame } = self.deliver(lane, fate);
         Done::Heard {
@@ -67,7 +70,7 @@ impl Stage {
     fn take_link_down<F: Fate>(&mut self, link: usize, fate: &mut F)
         requires stage { IsStage self.old }
         requires link { link < length self.old.net.cables.items }
-        requires room { HasRoomAtEnds link self.old }
+        requires room { LinkIs true link self.old.net → HasRoomAtEnds link self.old }
         ensures stage { IsStage self.new }
         ensures down { Turned F.answers (LinkDown link) fate.old fate.new self.old self.new }
     {
@@ -80,7 +83,7 @@ impl Stage {
     fn bring_link_up<F: Fate>(&mut self, link: usize, fate: &mut F)
         requires stage { IsStage self.old }
         requires link { link < length self.old.net.cables.items }
-        requires room { HasRoomAtEnds link self.old }
+        requires room { LinkIs false link self.old.net → HasRoomAtEnds link self.old }
         ensures stage { IsStage self.new }
         ensures up { Turned F.answers (LinkUp link) fate.old fate.new self.old self.new }
     {
@@ -103,7 +106,7 @@ impl Stage {
     /// A system fails, where it is live.
     fn fail_if_live(&mut self, place: usize)
         requires stage { IsStage self.old }
-        requires room { HasRoomToCall place self.old }
+        requires place { place < length self.old.stations.items }
         ensures stage { IsStage self.new }
         ensures failed { Turns (Fail place) (world_of self.old) [] (world_of self.new) }
     {
@@ -116,7 +119,7 @@ impl Stage {
     fn recover<F: Fate>(&mut self, place: usize, fate: &mut F)
         requires stage { IsStage self.old }
         requires can { CanStart place self.old }
-        requires room { HasRoomToStart place self.old }
+        requires room { SystemIs false place self.old → HasRoomToStart place self.old }
         ensures stage { IsStage self.new }
         ensures recovered { Turned F.answers (Recover place) fate.old fate.new self.old self.new }
     {
@@ -130,7 +133,7 @@ impl Stage {
         requires stage { IsStage self.old }
         requires link { lane.link < length self.old.net.cables.items }
         requires few { length octets.now ≤ 2116 }
-        requires room { HasRoomToInject lane self.old.net }
+        requires room { LinkIs true lane.link self.old.net → HasRoomToInject lane self.old.net }
         ensures stage { IsStage self.new }
         ensures injected { Injected F.answers lane octets.now fate.old fate.new self.old self.new }
     {
@@ -162,33 +165,65 @@ impl Stage {
 }
 
 impl Stage {
-    ghost use Rattle.std.specs.Prelude.{◌≡◌, OnOk};
+    ghost use Rattle.std.specs.Prelude.{◌≡◌, IsOk, OnOk};
     ghost use Rattle.gptp_acts.specs.Acts.{IsDueThen};
     ghost use Rattle.gptp_plan.specs.Allowed.{IsFitAct};
     ghost use Rattle.gptp_world.specs.Aim.{IsAimOf};
+    ghost use Rattle.gptp_world.specs.Credit.{IsChange, IsCovered, LeavesCredit, UsesForAim};
+    ghost use Rattle.gptp_world.specs.Memory.{AsksForNoMemory};
     ghost use Rattle.gptp_world.specs.Performing.{Acted, HasRoomForAim};
     ghost use Rattle.gptp_acts.specs.Sound.{IsSound};
     ghost use Rattle.gptp_world.specs.Stage.{world_of, IsStage};
 
-    /// Makes room for whatever an act can leave. Refused where there is no memory for it. The state of the world doesn't
-    /// change.
-    pub(crate) fn make_room_for(&mut self, act: &Act, aim: Aim) -> Result<(), AllocError>
+    /// Makes room for whatever a change can leave: none for a failure, or where nothing will change. Refused where there is no
+    /// memory for it. The state of the world doesn't change.
+    fn make_room_to_change(&mut self, act: &Act, aim: Aim) -> Result<(), AllocError>
         requires stage { IsStage self.old }
         requires aim { IsAimOf act.now (world_of self.old) aim }
+        requires change { IsChange aim }
         ensures stage { IsStage self.new }
         ensures world { world_of self.new ≡ world_of self.old }
         ensures room { OnOk result (HasRoomForAim aim self.new) }
+        ensures free { AsksForNoMemory act.now (world_of self.old) → IsOk result }
     {
         match aim {
-            Aim::Arrival(lane) => self.make_room_to_hear(lane),
-            Aim::Timer { place, timer } => self.make_room_to_expire(place, timer),
-            Aim::LinkDown(link) => self.make_room_at_ends(link),
-            Aim::LinkUp(link) => self.make_room_at_ends(link),
+            Aim::LinkDown(link) => self.make_room_to_take_down(link),
+            Aim::LinkUp(link) => self.make_room_to_bring_up(link),
             Aim::LinkSet { link: _, bounds: _ } => Ok(()),
-            Aim::Fail(place) => self.make_room(place, Reach::All),
-            Aim::Recover(place) => self.make_room_to_start(place),
-            Aim::Priority1 { place, value: _ } => self.make_room(place, Reach::All),
+            Aim::Fail(_) => Ok(()),
+            Aim::Recover(place) => self.make_room_to_recover(place),
+            Aim::Priority1 { place, value: _ } => self.make_room(place),
             Aim::Inject(lane) => self.make_room_to_inject(lane),
+            Aim::Arrival(_) => Ok(()),
+            Aim::Timer { place: _, timer: _ } => Ok(()),
+        }
+    }
+
+    /// Makes room for whatever an act can leave, beyond the credit that is left then; a change gives all credit up. Refused
+    /// where there is no memory for it. The state of the world doesn't change.
+    pub(crate) fn make_room_for(
+        &mut self,
+        act: &Act,
+        aim: Aim,
+        credit: &mut Credit,
+    ) -> Result<(), AllocError>
+        requires stage { IsStage self.old }
+        requires aim { IsAimOf act.now (world_of self.old) aim }
+        requires covered { IsCovered credit.old self.old.net }
+        ensures stage { IsStage self.new }
+        ensures world { world_of self.new ≡ world_of self.old }
+        ensures covered { IsCovered credit.new self.new.net }
+        ensures room { OnOk result (HasRoomForAim aim self.new) }
+        ensures left { OnOk result (LeavesCredit aim credit.new self.new) }
+        ensures free { AsksForNoMemory act.now (world_of self.old) → IsOk result }
+    {
+        match aim {
+            Aim::Arrival(lane) => self.make_room_to_hear(lane, credit),
+            Aim::Timer { place, timer } => self.make_room_to_expire(place, timer, credit),
+            _ => {
+                credit.give_up();
+                self.make_room_to_change(act, aim)
+            }
         }
     }
 
@@ -202,6 +237,7 @@ impl Stage {
         requires room { HasRoomForAim aim self.old }
         ensures stage { IsStage self.new }
         ensures acted { Acted F.answers act.now result fate.old fate.new self.old self.new }
+        ensures uses { UsesForAim aim self.old self.new.net }
     {
         match aim {
             Aim::Arrival(lane) => self.arrive(lane, fate),

@@ -8,7 +8,6 @@ use crate::cable::{Cable, Lane};
 use crate::net::Net;
 use crate::pending::Pending;
 use crate::stage::Stage;
-use gptp_system::Reach;
 use std::alloc::AllocError;
 
 /// Makes room for so many more frames in each direction of a link. Refused where there is no memory for them. No frame
@@ -35,7 +34,7 @@ impl Net {
     ghost use Rattle.std.specs.Prelude.{◌≡◌, ◌≤◌, ◌<◌, ◌+◌, ◌*◌, ℕ, length, Some, slice_get, OnOk};
     ghost use Rattle.gptp_world.specs.Net.{IsNet};
     ghost use Rattle.gptp_acts.specs.World.{port_id};
-    ghost use Rattle.gptp_world.specs.Room.{HasRoomAtPorts, HasRoomAtReach, HasRoomBothWays, HasRoomFrom, OnlyRoom};
+    ghost use Rattle.gptp_world.specs.Room.{HasRoomAtPorts, HasRoomBothWays, HasRoomFrom, OnlyRoom};
 
     /// Makes room for so many more frames that a port of the system at a place sends. Refused where there is no memory for
     /// them.
@@ -58,7 +57,7 @@ impl Net {
     }
 
     /// So it does for each port up to this one. Nothing changes but the room that there is.
-    fn make_room_at_ports(
+    pub(crate) fn make_room_at_ports(
         &mut self,
         place: usize,
         ports: u8,
@@ -78,27 +77,6 @@ impl Net {
         Ok(())
     }
 
-    /// So it does for each of these ports that is reached. Nothing changes but the room that there is.
-    fn make_room_at_reach(
-        &mut self,
-        place: usize,
-        ports: u8,
-        reach: Reach,
-        frames: usize,
-    ) -> Result<(), AllocError>
-        requires net { IsNet self.old }
-        requires place { place < length self.old.directory.clocks }
-        ensures net { IsNet self.new }
-        ensures only { OnlyRoom self.old self.new }
-        ensures ok { OnOk result (HasRoomAtReach frames place ports reach self.new) }
-    {
-        match reach {
-            Reach::Nothing => Ok(()),
-            Reach::Port(port) => self.make_room_at(place, port, frames),
-            Reach::All => self.make_room_at_ports(place, ports, frames),
-        }
-    }
-
     /// Makes room for one more frame in each direction of a link. Refused where there is no memory for it. Nothing changes but
     /// the room that there is.
     fn make_room_on_link(&mut self, link: usize) -> Result<(), AllocError>
@@ -113,7 +91,7 @@ impl Net {
 
     /// Makes room for so many more entries, and buffers until so many stand ready. Refused where there is no memory for
     /// them. Nothing changes but the room that there is.
-    fn reserve(&mut self, entries: usize, buffers: usize) -> Result<(), AllocError>
+    pub(crate) fn reserve(&mut self, entries: usize, buffers: usize) -> Result<(), AllocError>
         requires net { IsNet self.old }
         ensures net { IsNet self.new }
         ensures only { OnlyRoom self.old self.new }
@@ -126,24 +104,25 @@ impl Net {
 }
 
 impl Stage {
-    ghost use Rattle.std.specs.Prelude.{◌≡◌, ◌≢◌, ◌≤◌, ◌<◌, length, OnOk};
+    ghost use Rattle.std.specs.Prelude.{◌≡◌, ◌≢◌, ◌≤◌, ◌<◌, length, true, false, IsOk, OnOk};
+    ghost use Rattle.gptp_world.specs.Net.{LinkIs};
     ghost use Rattle.gptp_world.specs.Room.{HasRoomToInject};
-    ghost use Rattle.gptp_world.specs.Stage.{world_of, HasRoomToCallBoth, HasRoomWithin, IsStage};
+    ghost use Rattle.gptp_world.specs.Stage.{world_of, HasRoomToCall, HasRoomToCallBoth, IsStage, SystemIs};
     ghost use Rattle.gptp_world.specs.Starting.{HasRoomToStart};
 
-    /// Makes room for whatever a call of the system at a place can leave that reaches so far: each of its timers, and two
-    /// frames at each port that it reaches. Refused where there is no memory for it. The state of the world doesn't change.
-    pub(crate) fn make_room(&mut self, place: usize, reach: Reach) -> Result<(), AllocError>
+    /// Makes room for whatever a call of the system at a place can leave: each of its timers, and two frames at each port.
+    /// Refused where there is no memory for it. The state of the world doesn't change.
+    pub(crate) fn make_room(&mut self, place: usize) -> Result<(), AllocError>
         requires stage { IsStage self.old }
         requires place { place < length self.old.stations.items }
         ensures stage { IsStage self.new }
         ensures world { world_of self.new ≡ world_of self.old }
-        ensures room { OnOk result (HasRoomWithin reach place self.new) }
+        ensures room { OnOk result (HasRoomToCall place self.new) }
     {
         let ports = self.stations[place].system.ports();
         let count = usize::from(ports);
         self.net.reserve(6 * count + 2, 2 * count)?;
-        self.net.make_room_at_reach(place, ports, reach, 2)
+        self.net.make_room_at_ports(place, ports, 2)
     }
 
     /// Makes room for a start of the system at a place: each of its timers, and a call for each of its ports. Refused where
@@ -159,6 +138,22 @@ impl Stage {
         let count = usize::from(ports);
         self.net.reserve(4 * count + 2 + count * (6 * count + 2), count * (2 * count))?;
         self.net.make_room_at_ports(place, ports, 2 * count)
+    }
+
+    /// Makes room for the system at a place to start again, where it has failed. Refused where there is no memory for it. The
+    /// state of the world doesn't change.
+    pub(crate) fn make_room_to_recover(&mut self, place: usize) -> Result<(), AllocError>
+        requires stage { IsStage self.old }
+        requires place { place < length self.old.stations.items }
+        ensures stage { IsStage self.new }
+        ensures world { world_of self.new ≡ world_of self.old }
+        ensures room { OnOk result (SystemIs false place self.new → HasRoomToStart place self.new) }
+        ensures free { SystemIs true place self.old → IsOk result }
+    {
+        match self.stations[place].live {
+            true => Ok(()),
+            false => self.make_room_to_start(place),
+        }
     }
 
     /// Makes room for one call of each of two systems. Refused where there is no memory for it. The state of the world
@@ -184,9 +179,10 @@ impl Stage {
         self.net.make_room_at_ports(first, near, 2)?;
         self.net.make_room_at_ports(second, far, 2)
     }
-    /// Makes room for a frame that is injected on a lane: an entry, a buffer, and a place behind those in flight. Refused
-    /// where there is no memory for it. The state of the world doesn't change.
-    pub(crate) fn make_room_to_inject(&mut self, lane: Lane) -> Result<(), AllocError>
+
+    /// Makes room for one more frame on a lane: an entry, a buffer, and a place behind those in flight. Refused where there is
+    /// no memory for it. The state of the world doesn't change.
+    fn make_room_for_frame(&mut self, lane: Lane) -> Result<(), AllocError>
         requires stage { IsStage self.old }
         requires link { lane.link < length self.old.net.cables.items }
         ensures stage { IsStage self.new }
@@ -195,5 +191,21 @@ impl Stage {
     {
         self.net.reserve(1, 1)?;
         self.net.make_room_on_link(lane.link)
+    }
+
+    /// Makes room for a frame that is injected on a lane, where its link is up. Refused where there is no memory for it. The
+    /// state of the world doesn't change.
+    pub(crate) fn make_room_to_inject(&mut self, lane: Lane) -> Result<(), AllocError>
+        requires stage { IsStage self.old }
+        requires link { lane.link < length self.old.net.cables.items }
+        ensures stage { IsStage self.new }
+        ensures world { world_of self.new ≡ world_of self.old }
+        ensures room { OnOk result (LinkIs true lane.link self.new.net → HasRoomToInject lane self.new.net) }
+        ensures free { LinkIs false lane.link self.old.net → IsOk result }
+    {
+        match self.net.is_up(lane.link) {
+            true => self.make_room_for_frame(lane),
+            false => Ok(()),
+        }
     }
 }

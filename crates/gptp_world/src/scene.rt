@@ -6,16 +6,18 @@ ghost use Rattle.gptp_world.specs.Scene.{IsFounded, SystemsStarted};
 
 use crate::aim::Aim;
 use crate::checking::sets_an_octet;
+use crate::credit::Credit;
 use crate::stage::Stage;
 use gptp_acts::{Done, Network, Refused, Timed};
 use gptp_links::Fate;
 use std::alloc::{AllocError, Global};
 use std::marker::Model;
 
-/// A world without its fate: its systems, and what is between them.
+/// A world without its fate: its systems, and what is between them; and for how many frames there is room ahead.
 #[derive(Drop)]
 pub(crate) struct Scene {
     pub(crate) stage: Stage,
+    credit: Credit,
 }
 
 impl Model for Scene {
@@ -28,7 +30,7 @@ impl Model for Scene {
 
     ghost view = { λ s. world_of s.stage };
 
-    ghost invariant = { λ s. IsScene s.stage };
+    ghost invariant = { λ s. IsScene s.credit s.stage };
 }
 
 /// The system at a place starts, once room is made for it. Refused where there is no memory for that.
@@ -57,13 +59,15 @@ fn start_all<F: Fate>(stage: &mut Stage, fate: &mut F) -> Result<(), AllocError>
 }
 
 impl Scene {
-    ghost use Rattle.std.specs.Prelude.{◌≡◌, ◌≤◌, IfErr, IfOk, OnErr};
+    ghost use Rattle.std.specs.Prelude.{◌≡◌, ◌≢◌, ◌≤◌, IfErr, IfOk, IsOk, OnErr};
+    ghost use Rattle.gptp_acts.specs.declared.done.Refused.TheVariants.{OutOfMemory};
     ghost use Rattle.gptp_plan.specs.Allowed.{IsFitAct};
     ghost use Rattle.gptp_acts.specs.Acts.{IsReadyAct, Refuses};
     ghost use Rattle.gptp_acts.specs.Prompt.{IsPromptIn};
     ghost use Rattle.gptp_kept.specs.LegibleLaws.{SetsAnOctet};
     ghost use Rattle.gptp_kept.specs.Traces.{IsHeardClean};
     ghost use Rattle.gptp_world.specs.Aim.{IsAimOf};
+    ghost use Rattle.gptp_world.specs.Memory.{AsksForNoMemory};
     ghost use Rattle.gptp_acts.specs.Course.{Begun, WasDone};
 
     /// The world of a network at time 0, whose systems have all started, in their order. Refused for want of memory alone.
@@ -77,7 +81,8 @@ impl Scene {
         network.well_formed();
         let mut stage = Stage::found(alloc, network)?;
         start_all(&mut stage, fate)?;
-        Ok(Scene { stage })
+        let credit = Credit::new(alloc, stage.stations.len())?;
+        Ok(Scene { stage, credit })
     }
 
     /// An act is done at its time, where it can be; otherwise the first test that it fails is answered, and nothing changes.
@@ -88,6 +93,7 @@ impl Scene {
         ensures done { IfOk result (WasDone F.answers timed.now fate.old fate.new self.old self.new) }
         ensures clean { IfOk result (IsHeardClean self.old timed.now.at) }
         ensures refused { IfErr result (Refuses timed.now.act timed.now.at self.old) }
+        ensures free { AsksForNoMemory timed.now.act self.old → IfErr result (λ refused. refused ≢ OutOfMemory) }
         ensures kept { OnErr result (self.new ≡ self.old) }
         ensures fate { OnErr result (fate.new ≡ fate.old) }
     {
@@ -117,10 +123,11 @@ impl Scene {
         requires aim { IsAimOf timed.now.act self.old aim }
         requires ready { IsReadyAct timed.now.act timed.now.at self.old }
         ensures done { IfOk result (WasDone F.answers timed.now fate.old fate.new self.old self.new) }
+        ensures free { AsksForNoMemory timed.now.act self.old → IsOk result }
         ensures kept { OnErr result (self.new ≡ self.old) }
         ensures fate { OnErr result (fate.new ≡ fate.old) }
     {
-        self.stage.make_room_for(&timed.act, aim)?;
+        self.stage.make_room_for(&timed.act, aim, &mut self.credit)?;
         self.stage.now = timed.at;
         Ok(self.stage.perform(&timed.act, aim, fate))
     }

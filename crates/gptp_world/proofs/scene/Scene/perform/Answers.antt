@@ -1,11 +1,13 @@
 use Rattle.std.proofs.Common.{◌≡◌, subst, sym, ◌∙◌}
 use Rattle.gptp_acts.specs.Acts.{at}
 use Rattle.gptp_world.specs.Aim.{IsAimOf}
+use Rattle.gptp_world.specs.Memory.{AsksForNoMemory}
 use Rattle.gptp_acts.specs.Sound.{IsSound}
 use Rattle.gptp_world.specs.Stage.{world_of}
 use Rattle.gptp_kept.specs.Claimed.{Claimed}
 use Rattle.gptp_world.proofs.ClaimedLemmas.{acted_claimed}
-use Rattle.gptp_world.proofs.LaterLemmas.{aim_later, room_later}
+use Rattle.gptp_world.proofs.CreditLemmas.{covered_after, leaves_later}
+use Rattle.gptp_world.proofs.LaterLemmas.{aim_later, at_time, room_later}
 use Rattle.gptp_world.proofs.SceneLemmas.{ready_sound}
 use Rattle.gptp_acts.proofs.SoundLemmas.{acts_sound}
 use Rattle.gptp_world.proofs.scene.Scene.perform.Goals as goal
@@ -27,6 +29,11 @@ pub perform-requires-clause-room : goal.perform-requires-clause-room
 perform-requires-clause-room g c =
     room_later c.args.aim c.make_room_for.new.self c.args.timed.now.at c.in_ok-make_room_for.ensures.room
 
+pub returns-in_err-make_room_for-clause-free : goal.returns-in_err-make_room_for-clause-free
+returns-in_err-make_room_for-clause-free g c = λ asks.
+    let done = c.in_err-make_room_for.ensures.free
+    (subst (AsksForNoMemory c.args.timed.now.act) (sym c.self.view_is) asks) in absurd cc
+
 pub invariant_of-self-2 : goal.invariant_of-self-2
 invariant_of-self-2 g c =
     let act = c.args.timed.now.act in let time = c.args.timed.now.at in let made = world_of c.make_room_for.new.self in
@@ -41,4 +48,7 @@ invariant_of-self-2 g c =
           (world_of c.perform.new.self) acted.draws c.perform.result
           (subst Claimed c.self.view_is c.self.invariant.claimed) (c.make_room_for.ensures.world ∙ c.self.view_is)
           c.requires.fit c.requires.prompt c.requires.octet c.requires.ready acted.drawn acted.acts;
+      covered = let stage = c.make_room_for.new.self in let credit = c.make_room_for.new.credit in
+          covered_after c.args.aim credit (at_time time stage) c.perform.new.self.net c.perform.ensures.stage.net
+          (leaves_later c.args.aim credit stage time c.in_ok-make_room_for.ensures.left) c.perform.ensures.uses;
     }
