@@ -1,5 +1,5 @@
 -- A document and what is asked of its timeline have one text, and one status.
-use Rattle.std.proofs.Common.{◌≡◌, ◌≢◌, ℕ, Bool, true, false, nat_le, List, [], ◌∷◌, ◌++◌, ⊤, length, map, Option, Some, None, refl, sym, ap, subst, ◌∙◌, inl, inr}
+use Rattle.std.proofs.Common.{◌≡◌, ◌≢◌, ℕ, Bool, true, false, nat_le, List, [], ◌∷◌, ◌++◌, ⊤, length, map, Option, Some, None, refl, sym, ap, ap₂, subst, ◌∙◌, inl, inr}
 use Rattle.std.specs.Bool.{MatchBool}
 use Rattle.std.specs.List.{flat_map}
 use Rattle.gptp_links.specs.declared.bounds.Bounds.{Bounds}
@@ -164,7 +164,8 @@ same_accuracy ts us None None k same = refl
 same_accuracy ts us None (Some u) k same = absurd same
 same_accuracy ts us (Some t) None k same = absurd same
 same_accuracy ts us (Some t) (Some u) k (from, systems) =
-    (λ i. accuracy_at (from i) ts (systems i)) ∙ same_accuracy_at u.from ts us u.systems.items k
+    ap₂ (λ (time : Option ℕ) (errors : List SystemError). accuracy_at time ts errors) from systems
+    ∙ same_accuracy_at u.from ts us u.systems.items k
 
 same_stretch : (names : List ℕ) (since : ℕ → Option ℕ) (p q : Passage) → IsSamePassage p q
     → stretch_of names since p ≡ stretch_of names since q
@@ -206,9 +207,10 @@ same_exceeded limits names since [] [] before k = refl
 same_exceeded limits names since [] (q ∷ qs) before k = absurd k
 same_exceeded limits names since (p ∷ ps) [] before k = absurd k
 same_exceeded limits names since (p ∷ ps) (q ∷ qs) before (first, rest) =
-    let stretch = same_stretch names since p q first in
-    let begun = same_waits p.acts q.acts since first.acts in
-    (λ i. all_exceeded limits names (begun i) ps (exceeded_after limits (stretch i) before))
+    let front = ap₂ (λ (begun : ℕ → Option ℕ) (stretch : Stretch).
+    all_exceeded limits names begun ps (exceeded_after limits stretch before))
+    (same_waits p.acts q.acts since first.acts) (same_stretch names since p q first) in
+    front
     ∙ same_exceeded limits names (waits q.acts since) ps qs
     (exceeded_after limits (stretch_of names since q) before) rest
 
@@ -239,8 +241,9 @@ one_timeline_of {F} answers once d until options fate xs ys a b names is k l =
     ∙ sym l.verdict_is in
     let told = same_lines options (rising_clocks l.start) none_waits k.passages l.passages same in (
       k.are ∙ ap (λ (w : WorldState). Lines w k.passages k.verdict) starts
-          ∙ (λ i. start_lines options (rising_clocks l.start) l.start ++ told i
-          ++ verdict_lines options.limits (verdicts i))
+          ∙ ap₂ (λ (lines : List (List ℕ)) (verdict : Exceeded).
+          start_lines options (rising_clocks l.start) l.start ++ lines ++ verdict_lines options.limits verdict)
+          told verdicts
           ∙ sym l.are,
       k.exceeded_is ∙ ap (is_exceeded options.limits) verdicts ∙ sym l.exceeded_is,
     )

@@ -136,16 +136,23 @@ errors_if : (t : Transition) (passes : Bool) (ts : List Transition)
 errors_if t true ts = refl
 errors_if t false ts = refl
 
+same_if : (p q : Bool) (one other : Option Greatest) (xs ys : List Greatest) → p ≡ q → one ≡ other → xs ≡ ys
+    → cond p (cons_option one xs) xs ≡ cond q (cons_option other ys) ys
+same_if p q one other xs ys tests ones others =
+    λ i. cond (tests i) (cons_option (ones i) (others i)) (others i)
+
 counted_errors : (name : ℕ) (from : Option ℕ) (ts us : List Transition) → SameTransitions ts us
     → filter_map error_in (filter (counts_for name from) ts) ≡ filter_map error_in (filter (counts_for name from) us)
 counted_errors name from [] [] k = refl
 counted_errors name from [] (u ∷ us) k = absurd k
 counted_errors name from (t ∷ ts) [] k = absurd k
 counted_errors name from (t ∷ ts) (u ∷ us) (first, rest) =
-    let others = counted_errors name from ts us rest in
-    errors_if t (counts_for name from t) (filter (counts_for name from) ts)
-    ∙ (λ i. cond (same_counts name from t u first i) (cons_option (same_error t u first i) (others i)) (others i))
-    ∙ sym (errors_if u (counts_for name from u) (filter (counts_for name from) us))
+    let counts : Transition → Bool = counts_for name from in
+    errors_if t (counts t) (filter counts ts)
+    ∙ same_if (counts t) (counts u) (error_in t) (error_in u) (filter_map error_in (filter counts ts))
+    (filter_map error_in (filter counts us)) (same_counts name from t u first) (same_error t u first)
+    (counted_errors name from ts us rest)
+    ∙ sym (errors_if u (counts u) (filter counts us))
 
 pub same_errors_from : (name : ℕ) (from : Option ℕ) (ts us : List Transition) → SameTransitions ts us
     → error_from name from ts ≡ error_from name from us
