@@ -1,6 +1,6 @@
 -- A document and what is asked of its timeline have one text, and one status.
-use Rattle.std.proofs.Common.{◌≡◌, ◌≢◌, ℕ, Bool, true, false, nat_le, List, [], ◌∷◌, ◌++◌, ⊤, length, map, Option, Some, None, refl, sym, ap, ap₂, subst, ◌∙◌, inl, inr}
-use Rattle.std.specs.Bool.{MatchBool}
+use Rattle.std.proofs.Common.{◌≡◌, ◌≢◌, ℕ, Bool, true, false, nat_le, List, [], ◌∷◌, ◌++◌, length, map, Option, Some, None, refl, sym, ap, ap₂, subst, ◌∙◌, inl, inr}
+use Rattle.std.specs.Bool.{⊤, MatchBool}
 use Rattle.std.specs.List.{flat_map}
 use Rattle.gptp_links.specs.declared.bounds.Bounds.{Bounds}
 use Rattle.gptp_acts.specs.Initial.{initial}
@@ -35,9 +35,7 @@ use Rattle.gptp_timeline.specs.Shown.{shown}
 use Rattle.gptp_timeline.specs.Stretch.{counted, error_from, measured, waits}
 use Rattle.gptp_timeline.specs.StretchText.{after_line, system_accuracy}
 use Rattle.gptp_timeline.specs.Timeline.{AllPass, AreErrorsBy, HoldsBy, IsPassage, Passage, TimelineOf, accuracy_at, accuracy_lines, act_lines, all_exceeded, all_lines, end_before, is_begun, later_than, none_waits, now_of, passage_lines, start_lines, stretch_of}
-use Rattle.gptp_timeline.specs.declared.limits.Exceeded.{Exceeded}
 use Rattle.gptp_timeline.specs.declared.limits.Limits.{Limits}
-use Rattle.gptp_timeline.specs.declared.stretch.Stretch.{Stretch}
 use Rattle.gptp_timeline.specs.declared.timeline.TimelineOptions.{TimelineOptions}
 use Rattle.gptp_commands.specs.declared.failure.Status.{Status}
 use Rattle.gptp_commands.specs.declared.timeline.TimelineOrder.{TimelineOrder}
@@ -70,7 +68,8 @@ one_errors : (d : DocumentState) (at to : ℕ) (a b : Option TimeErrors) → Has
 one_errors d at to None None names x y = tt
 one_errors d at to None (Some u) names x y = absurd (x u y.0 y.1)
 one_errors d at to (Some t) None names x y = absurd (y t x.0 x.1)
-one_errors d at to (Some t) (Some u) names x y = (errors_once d at t u names x.0 y.0).1
+one_errors d at to (Some t) (Some u) names x y =
+    let (time, from, systems) = errors_once d at t u names x.0 y.0 in (from, systems)
 
 -- ---- one stretch
 
@@ -200,19 +199,19 @@ same_lines options names since (p ∷ ps) (q ∷ qs) (first, rest) =
     ∙ same_lines options names (waits q.acts since) ps qs rest in
     λ i. same_passage options names since p q first i ++ later i
 
-same_exceeded : (limits : Limits) (names : List ℕ) (since : ℕ → Option ℕ) (ps qs : List Passage) (before : Exceeded)
-    → SamePassages ps qs
-    → all_exceeded limits names since ps before ≡ all_exceeded limits names since qs before
-same_exceeded limits names since [] [] before k = refl
-same_exceeded limits names since [] (q ∷ qs) before k = absurd k
-same_exceeded limits names since (p ∷ ps) [] before k = absurd k
-same_exceeded limits names since (p ∷ ps) (q ∷ qs) before (first, rest) =
-    let front = ap₂ (λ (begun : ℕ → Option ℕ) (stretch : Stretch).
-    all_exceeded limits names begun ps (exceeded_after limits stretch before))
-    (same_waits p.acts q.acts since first.acts) (same_stretch names since p q first) in
-    front
-    ∙ same_exceeded limits names (waits q.acts since) ps qs
-    (exceeded_after limits (stretch_of names since q) before) rest
+same_exceeded : (limits : Limits) (names : List ℕ) (since begun : ℕ → Option ℕ) (ps qs : List Passage)
+    → ◌≡◌ {A = ℕ → Option ℕ} since begun → SamePassages ps qs
+    → all_exceeded limits names since ps ≡ all_exceeded limits names begun qs
+same_exceeded limits names since begun [] [] e k = refl
+same_exceeded limits names since begun [] (q ∷ qs) e k = absurd k
+same_exceeded limits names since begun (p ∷ ps) [] e k = absurd k
+same_exceeded limits names since begun (p ∷ ps) (q ∷ qs) e (first, rest) =
+    let later : ◌≡◌ {A = ℕ → Option ℕ} (waits p.acts since) (waits q.acts begun) =
+    ap (λ (s : ℕ → Option ℕ). waits p.acts s) e ∙ same_waits p.acts q.acts begun first.acts in
+    let stretch : stretch_of names since p ≡ stretch_of names begun q =
+    ap (λ (s : ℕ → Option ℕ). stretch_of names s p) e ∙ same_stretch names begun p q first in
+    λ i before. same_exceeded limits names (waits p.acts since) (waits q.acts begun) ps qs later rest i
+    (exceeded_after limits (stretch i) before)
 
 -- ---- the whole text
 
@@ -230,21 +229,26 @@ one_timeline_of {F} answers once d until options fate xs ys a b names is k l =
     (subst (λ (f : F). AllPass answers d until 0 events f k.fate_after k.start k.after k.passages) fates k.pass) in
     let same = all_pass_once answers once d names until 0 events l.started k.fate_after l.fate_after l.start k.after
     l.after k.passages l.passages (begun_named answers d.network fate l.started l.start is l.begun) pass l.pass in
-    let Lines : WorldState → List Passage → Exceeded → List (List ℕ) = λ start passages verdict.
-    start_lines options (rising_clocks start) start
-    ++ all_lines options (rising_clocks start) none_waits passages ++ verdict_lines options.limits verdict in
-    let Verdict : WorldState → List Passage → Exceeded = λ start passages.
-    all_exceeded options.limits (rising_clocks start) none_waits passages not_exceeded in
+    let clocks = rising_clocks l.start in
+    let counted : all_exceeded options.limits clocks none_waits k.passages not_exceeded
+    ≡ all_exceeded options.limits clocks none_waits l.passages not_exceeded = λ i.
+    same_exceeded options.limits clocks none_waits none_waits k.passages l.passages refl same i not_exceeded in
     let verdicts : k.verdict ≡ l.verdict =
-    k.verdict_is ∙ ap (λ (w : WorldState). Verdict w k.passages) starts
-    ∙ same_exceeded options.limits (rising_clocks l.start) none_waits k.passages l.passages not_exceeded same
-    ∙ sym l.verdict_is in
-    let told = same_lines options (rising_clocks l.start) none_waits k.passages l.passages same in (
-      k.are ∙ ap (λ (w : WorldState). Lines w k.passages k.verdict) starts
-          ∙ ap₂ (λ (lines : List (List ℕ)) (verdict : Exceeded).
-          start_lines options (rising_clocks l.start) l.start ++ lines ++ verdict_lines options.limits verdict)
-          told verdicts
-          ∙ sym l.are,
+    k.verdict_is
+    ∙ ap (λ (w : WorldState).
+    all_exceeded options.limits (rising_clocks w) none_waits k.passages not_exceeded) starts
+    ∙ counted ∙ sym l.verdict_is in
+    let told = same_lines options clocks none_waits k.passages l.passages same in
+    let parts : start_lines options clocks l.start ++ all_lines options clocks none_waits k.passages
+    ++ verdict_lines options.limits k.verdict
+    ≡ start_lines options clocks l.start ++ all_lines options clocks none_waits l.passages
+    ++ verdict_lines options.limits l.verdict = λ i.
+    start_lines options clocks l.start ++ told i ++ verdict_lines options.limits (verdicts i) in (
+      k.are
+          ∙ ap (λ (w : WorldState).
+          start_lines options (rising_clocks w) w ++ all_lines options (rising_clocks w) none_waits k.passages
+          ++ verdict_lines options.limits k.verdict) starts
+          ∙ parts ∙ sym l.are,
       k.exceeded_is ∙ ap (is_exceeded options.limits) verdicts ∙ sym l.exceeded_is,
     )
 

@@ -8,19 +8,16 @@ use Rattle.gptp_acts.specs.declared.done.Done.{Done}
 use Rattle.gptp_acts.specs.declared.done.Done.TheVariants.{Heard, Quiet}
 use Rattle.gptp_plan.specs.declared.change.Timed.{Timed}
 use Rattle.gptp_report.specs.Transitions.{Transition, transition}
-use Rattle.gptp_system.specs.declared.answer.Answer.{Answer}
 use Rattle.gptp_outcome.specs.ActLaws.{SameDone}
 use Rattle.gptp_outcome.specs.TransitionLaws.{IsSameTransition, SameTransitions}
 use Rattle.gptp_timeline.specs.Changes.{change_lines}
+use Rattle.gptp_timeline.specs.Limits.{amount_of}
 use Rattle.gptp_timeline.specs.Measures.{ended_by, greatest, one_at, since_after}
 use Rattle.gptp_timeline.specs.Receipts.{received_by, receiver}
 use Rattle.gptp_timeline.specs.Shown.{is_expecting, same_choice, same_roles, shown}
 use Rattle.gptp_timeline.specs.Stretch.{at_of, counts_for, ended, ended_in, error_at, error_from, error_in, holdover, is_change, last_at, leaves_another, measured, same_known, under_way, waits, waits_after, worst_error}
 use Rattle.gptp_timeline.specs.Timeline.{act_lines, event_lines, offset_lines}
 use Rattle.gptp_timeline.specs.Watch.{unless}
-use Rattle.gptp_timeline.specs.declared.measures.Greatest.{Greatest}
-use Rattle.gptp_timeline.specs.declared.measures.Measures.{Measures}
-use Rattle.gptp_timeline.specs.declared.shown.Shown.{Shown}
 use Rattle.gptp_timeline.specs.declared.timeline.TimelineOptions.{TimelineOptions}
 
 -- ---- one act
@@ -67,13 +64,6 @@ same_ended names since t u k =
     filter_map (λ name. option_map (one_at name) (ended_by timed.at (is_change timed.act) (receives_of name received)
     (is_expecting (shown name w')) (since name))) names) t u k
 
-same_last : (same : Option Shown → Option Shown → Bool) (names : List ℕ) (t u : Transition) → IsSameTransition t u
-    → ◌≡◌ {A = Option ℕ} (if leaves_another same names t then Some (at_of t) else None)
-    (if leaves_another same names u then Some (at_of u) else None)
-same_last same names t u k =
-    same_by (λ (timed : Timed) (received : Option ℕ) (w w' : WorldState).
-    if list_any (λ name. not (same (shown name w) (shown name w'))) names then Some timed.at else None) t u k
-
 same_error : (t u : Transition) → IsSameTransition t u → error_in t ≡ error_in u
 same_error t u k =
     same_by (λ (timed : Timed) (received : Option ℕ) (w w' : WorldState).
@@ -115,13 +105,31 @@ all_ended names (t ∷ ts) (u ∷ us) since (first, rest) =
     ∙ all_ended names ts us (waits_after u since) rest in
     λ i. same_ended names since t u first i ++ later i
 
-last_same : (same : Option Shown → Option Shown → Bool) (names : List ℕ) (ts us : List Transition)
-    → SameTransitions ts us → last_at (leaves_another same names) ts ≡ last_at (leaves_another same names) us
-last_same same names [] [] k = refl
-last_same same names [] (u ∷ us) k = absurd k
-last_same same names (t ∷ ts) [] k = absurd k
-last_same same names (t ∷ ts) (u ∷ us) (first, rest) =
-    λ i. option_or (last_same same names ts us rest i) (same_last same names t u first i)
+-- a test of acts has the same answer
+abbrev SameTest : (Transition → Bool) → Type 0
+SameTest test = (t u : Transition) → IsSameTransition t u → test t ≡ test u
+
+last_same : (test : Transition → Bool) (ts us : List Transition) → SameTest test → SameTransitions ts us
+    → last_at test ts ≡ last_at test us
+last_same test [] [] same k = refl
+last_same test [] (u ∷ us) same k = absurd k
+last_same test (t ∷ ts) [] same k = absurd k
+last_same test (t ∷ ts) (u ∷ us) same (first, rest) =
+    let passes = same t u first in
+    let later = last_same test ts us same rest in
+    λ i. option_or (later i) (if passes i then Some (first.timed i).at else None)
+
+choice_same : (names : List ℕ) → SameTest (leaves_another same_choice names)
+choice_same names t u k =
+    λ i. list_any (λ name. not (same_choice (shown name (k.before i)) (shown name (k.after i)))) names
+
+roles_same : (names : List ℕ) → SameTest (leaves_another same_roles names)
+roles_same names t u k =
+    λ i. list_any (λ name. not (same_roles (shown name (k.before i)) (shown name (k.after i)))) names
+
+known_same : (names : List ℕ) → SameTest (leaves_another same_known names)
+known_same names t u k =
+    λ i. list_any (λ name. not (same_known (shown name (k.before i)) (shown name (k.after i)))) names
 
 all_errors : (ts us : List Transition) → SameTransitions ts us → filter_map error_in ts ≡ filter_map error_in us
 all_errors [] [] k = refl
@@ -136,7 +144,7 @@ errors_if : (t : Transition) (passes : Bool) (ts : List Transition)
 errors_if t true ts = refl
 errors_if t false ts = refl
 
-same_if : (p q : Bool) (one other : Option Greatest) (xs ys : List Greatest) → p ≡ q → one ≡ other → xs ≡ ys
+same_if : {X : Type 0} (p q : Bool) (one other : Option X) (xs ys : List X) → p ≡ q → one ≡ other → xs ≡ ys
     → cond p (cons_option one xs) xs ≡ cond q (cons_option other ys) ys
 same_if p q one other xs ys tests ones others =
     λ i. cond (tests i) (cons_option (ones i) (others i)) (others i)
@@ -156,17 +164,15 @@ counted_errors name from (t ∷ ts) (u ∷ us) (first, rest) =
 
 pub same_errors_from : (name : ℕ) (from : Option ℕ) (ts us : List Transition) → SameTransitions ts us
     → error_from name from ts ≡ error_from name from us
-same_errors_from name from ts us k =
-    ap (λ (errors : List Greatest). option_map (λ (g : Greatest). g.amount) (greatest errors))
-    (counted_errors name from ts us k)
+same_errors_from name from ts us k = λ i. amount_of (greatest (counted_errors name from ts us k i))
 
 -- what is measured of them
 pub same_measures : (names : List ℕ) (since : ℕ → Option ℕ) (time : ℕ) (ts us : List Transition)
     → SameTransitions ts us → measured names since time ts ≡ measured names since time us
 same_measures names since time ts us k =
-    let choice = last_same same_choice names ts us k in
-    let roles = last_same same_roles names ts us k in
-    let offsets = last_same same_known names ts us k in
+    let choice = last_same (leaves_another same_choice names) ts us (choice_same names) k in
+    let roles = last_same (leaves_another same_roles names) ts us (roles_same names) k in
+    let offsets = last_same (leaves_another same_known names) ts us (known_same names) k in
     let waited = all_ended names ts us since k in
     let begun = same_waits ts us since k in
     let errors = all_errors ts us k in
