@@ -9,7 +9,8 @@ use Rattle.gptp_world.specs.Directory.{Join}
 use Rattle.gptp_acts.specs.declared.item.Item.TheVariants.{Arrival}
 use Rattle.gptp_acts.specs.Act.{Takes}
 use Rattle.gptp_world.specs.Cable.{join_of, channel_of, net_of}
-use Rattle.gptp_acts.specs.Pending.{PendingState, without_first}
+use Rattle.gptp_world.specs.Pending.{PendingState}
+use Rattle.gptp_acts.specs.Pending.{without_first}
 use Rattle.gptp_acts.specs.World.{with_queue}
 use Rattle.gptp_lists.proofs.MappedLemmas.{mapped_there}
 use Rattle.gptp_lists.proofs.PlaceLemmas.{map-set, map-set_same}

@@ -181,7 +181,7 @@ pub reach_less : (r : Reach) (place : ℕ) (credit : List ℕ) (net : Between)
 reach_less r place credit net has number port lane known begins =
     let left = credit_of net.directory.clocks credit port.clock in
     fewer ((if is_reached r port.port && (port.clock == number) then 2 else 0) + left)
-    ((if port.clock == number then 2 else 0) + left) lane net.cables.items net.pending
+    ((if port.clock == number then 2 else 0) + left) lane net.cables.items
     (by (is_reached r port.port) (port.clock == number) left) (has number port lane known begins)
   where
     by : (reached test : Bool) (left : ℕ) → (if reached && test then 2 else 0) + left ≤ (if test then 2 else 0) + left
@@ -194,7 +194,7 @@ pub reach_none : (place : ℕ) (credit : List ℕ) (net : Between) → IsCovered
     → HasReachBeyond reaches.Nothing place credit net
 reach_none place credit net has number port lane known begins =
     let left = credit_of net.directory.clocks credit port.clock in
-    fewer (0 + left) left lane net.cables.items net.pending (omega arith) (has port lane begins)
+    fewer (0 + left) left lane net.cables.items (omega arith) (has port lane begins)
 
 -- what is beyond the credit is so beside it
 pub beyond_covers : (r : Reach) (place : ℕ) (credit : List ℕ) (net : Between)
@@ -203,7 +203,7 @@ beyond_covers r place credit net within has port lane begins =
     let (number, known) = member_there net.directory.clocks place within in
     let left = credit_of net.directory.clocks credit port.clock in
     let more = if is_reached r port.port && (port.clock == number) then 2 else 0 in
-    fewer left (more + left) lane net.cables.items net.pending (omega arith) (has number port lane known begins)
+    fewer left (more + left) lane net.cables.items (omega arith) (has number port lane known begins)
 
 -- two are drawn
 pub drawn : (place : ℕ) (credit after : List ℕ) (net : Between) → IsDirectory net.directory
@@ -213,7 +213,7 @@ drawn place credit after net directory draws has number port lane known begins =
     let is : after ≡ left = draws.is in
     rw is
     (fewer ((if port.clock == number then 2 else 0) + credit_of clocks left port.clock)
-    (credit_of clocks credit port.clock) lane net.cables.items net.pending
+    (credit_of clocks credit port.clock) lane net.cables.items
     (spent clocks credit place number frames port.clock directory.plan.differ known draws.there draws.enough)
     (has port lane begins))
 
@@ -238,19 +238,19 @@ ahead place ports credit net net' directory its has only made number port lane k
     most = raised net.directory.clocks credit place number port.clock directory.plan.differ before
 
     by : (test : Bool) → (port.clock == number) ≡ test
-        → HasRoomOn ((if port.clock == number then 2 else 0) + left) lane net'.cables.items net'.pending
+        → HasRoomOn ((if port.clock == number then 2 else 0) + left) lane net'.cables.items
     by true test =
         let named = eqb-true port.clock number test in let range = its number port lane before named starts in
         let at_port : BeginsAt net'.directory.joins (port_id number port.port) lane =
         subst (λ n. BeginsAt net'.directory.joins (port_id n port.port) lane) named begins in
         let room = made number port.port known range.0 range.1 lane at_port in
         let few = most in
-        rw test (fewer (2 + left) 32 lane net'.cables.items net'.pending (rw test at few) room)
+        rw test (fewer (2 + left) 32 lane net'.cables.items (rw test at few) room)
     by false test =
         let had = credit_of net.directory.clocks credit port.clock in
         let room = only.lanes had lane (has port lane starts) in
         let few = most in
-        rw test (fewer (0 + left) had lane net'.cables.items net'.pending (rw test at few) room)
+        rw test (fewer (0 + left) had lane net'.cables.items (rw test at few) room)
 
 -- ---- room for a call
 

@@ -14,9 +14,10 @@ use Rattle.gptp_acts.specs.declared.item.Item.TheVariants.{Expiry, Arrival}
 use Rattle.gptp_acts.proofs.PendingLemmas.{without_first-none}
 use Rattle.gptp_acts.proofs.TimerLemmas.{kind_below}
 use Rattle.gptp_world.proofs.SlotLemmas.{cut, length-cut, in_slot-push_same, in_slot-push_other, in_slot-cut_same, in_slot-cut_other, all-cut, removed, times-plain, plain-cut}
-use Rattle.gptp_world.proofs.QueueLemmas.{queue-same, queue-other, popped_numbers, length-plain}
+use Rattle.gptp_world.proofs.QueueLemmas.{queue-same, queue-other, length-plain}
 use Rattle.gptp_acts.specs.Pending.{Entry, plain, times, without_first, IsKnown, arrival_place}
-use Rattle.gptp_world.specs.Filed.{QueueState, FiledState, queue_at, with_queue, slot_of, timer_place, in_slot, running, number_of, one_or_none, pushed, popped, AreFiled}
+use Rattle.gptp_world.specs.Chain.{rest_of}
+use Rattle.gptp_world.specs.Filed.{FiledState, queue_at, with_queue, slot_of, timer_place, in_slot, running, number_of, one_or_none, AreFiled}
 
 -- ---- places
 
@@ -86,7 +87,7 @@ module _ (systems links : ℕ) (filed : FiledState) (es : List (Numbered Item))
 
   -- a direction of a link with no number has nothing pending
   pub times-no_arrival : (link : ℕ) (direction : Direction) → link < links
-      → (queue_at (arrival_place link direction) filed).numbers ≡ []
+      → queue_at (arrival_place link direction) filed ≡ []
       → times (Arrival link direction) (plain es) ≡ []
   times-no_arrival link direction known none =
       times-plain systems links (Arrival link direction) es known are.known
@@ -214,32 +215,44 @@ module _ (systems links : ℕ) (filed : FiledState) (es : List (Numbered Item))
         → AreFiled systems links (record filed { timers = without_timer }) (without_number r.number es)
     filed-stopped next rises = rw (removed-timer next rises) filed-cut_timer
 
+  -- there is other room
+  pub filed-roomy : (room : ℕ) → AreFiled systems links (record filed { room = room }) es
+  filed-roomy room = record {
+    few_systems = are.few_systems;
+    few_links = are.few_links;
+    timers_len = are.timers_len;
+    queues_len = are.queues_len;
+    known = are.known;
+    timers = are.timers;
+    queues = are.queues;
+  }
+
   -- an arrival is put
-  module _ (link : ℕ) (direction : Direction) (time number : ℕ) (known : link < links) where
+  module _ (link : ℕ) (direction : Direction) (time number room : ℕ) (known : link < links) where
     abbrev put_arrival : Numbered Item
     put_arrival = numbered time number (Arrival link direction)
 
     abbrev longer : FiledState
-    longer = with_queue (arrival_place link direction) (pushed number (queue_at
-        (arrival_place link direction) filed)) filed
+    longer = with_queue (arrival_place link direction) (queue_at (arrival_place link direction) filed ++ number ∷ [])
+        room filed
 
     queues-put : (p : ℕ) (t : Bool) → (p == arrival_place link direction) ≡ t
-        → map number_of (in_slot (2 * p + 1) (es ++ put_arrival ∷ [])) ≡ (queue_at p longer).numbers
+        → map number_of (in_slot (2 * p + 1) (es ++ put_arrival ∷ [])) ≡ queue_at p longer
     queues-put p true t =
         let same : p ≡ arrival_place link direction = grind (arith, nat_tests) in
         let within : arrival_place link direction < length filed.queues =
         omega (arith, are.queues_len, arrival_within links link direction known) in
-        let now = queue-same filed (arrival_place link direction) (pushed number (queue_at
-        (arrival_place link direction) filed)) within in
+        let now = queue-same filed (arrival_place link direction) (queue_at (arrival_place link direction) filed
+        ++ number ∷ []) room within in
         ap (map number_of) (in_slot-push_same (2 * p + 1) es put_arrival (ap (λ i. 2 * i + 1) same))
         ∙ map-push number_of (in_slot (2 * p + 1) es) put_arrival
-        ∙ ap (λ ns. ns ++ number ∷ []) (are.queues p ∙ ap (λ i. (queue_at i filed).numbers) same)
-        ∙ sym (ap (λ i. (queue_at i longer).numbers) same ∙ ap (λ (q : QueueState). q.numbers) now)
+        ∙ ap (λ ns. ns ++ number ∷ []) (are.queues p ∙ ap (λ i. queue_at i filed) same)
+        ∙ sym (ap (λ i. queue_at i longer) same ∙ now)
     queues-put p false t =
         let differ : p ≡ arrival_place link direction → ⊥ = λ same. grind (arith, nat_tests) in
         ap (map number_of) (in_slot-push_other (2 * p + 1) es put_arrival (λ same. differ (omega arith)))
         ∙ are.queues p
-        ∙ sym (ap (λ (q : QueueState). q.numbers) (queue-other filed (arrival_place link direction) p _ differ))
+        ∙ sym (queue-other filed (arrival_place link direction) p _ room differ)
 
     pub filed-put_arrival : AreFiled systems links longer (es ++ put_arrival ∷ [])
     filed-put_arrival = record {
@@ -253,8 +266,8 @@ module _ (systems links : ℕ) (filed : FiledState) (es : List (Numbered Item))
     }
 
   -- the first arrival is taken out
-  module _ (link : ℕ) (direction : Direction) (known : link < links) (n : ℕ) (ns : List ℕ)
-      (first : (queue_at (arrival_place link direction) filed).numbers ≡ n ∷ ns) where
+  module _ (link : ℕ) (direction : Direction) (known : link < links) (n : ℕ) (ns : List ℕ) (room : ℕ)
+      (first : queue_at (arrival_place link direction) filed ≡ n ∷ ns) where
     abbrev arrival_slot : ℕ
     arrival_slot = slot_of (Arrival link direction)
 
@@ -267,10 +280,11 @@ module _ (systems links : ℕ) (filed : FiledState) (es : List (Numbered Item))
         ap (λ m. without_number m es) (sym front.3) ∙ removed arrival_slot 0 next es front.0 front.1 rises front.2
 
     abbrev shorter : FiledState
-    shorter = with_queue (arrival_place link direction) (popped (queue_at (arrival_place link direction) filed)) filed
+    shorter = with_queue (arrival_place link direction) (rest_of (queue_at (arrival_place link direction) filed)) room
+        filed
 
     queues-cut : (p : ℕ) (t : Bool) → (p == arrival_place link direction) ≡ t
-        → map number_of (in_slot (2 * p + 1) (cut arrival_slot es)) ≡ (queue_at p shorter).numbers
+        → map number_of (in_slot (2 * p + 1) (cut arrival_slot es)) ≡ queue_at p shorter
     queues-cut p true t =
         let same : p ≡ arrival_place link direction = grind (arith, nat_tests) in
         let within : arrival_place link direction < length filed.queues =
@@ -278,16 +292,15 @@ module _ (systems links : ℕ) (filed : FiledState) (es : List (Numbered Item))
         let gone : in_slot (2 * p + 1) (cut arrival_slot es) ≡ front.1 =
         ap (λ i. in_slot (2 * i + 1) (cut arrival_slot es)) same
         ∙ in_slot-cut_same arrival_slot es front.0 front.1 front.2 in
-        let now = queue-same filed (arrival_place link direction) (popped (queue_at
-        (arrival_place link direction) filed)) within in
+        let now = queue-same filed (arrival_place link direction) (rest_of (queue_at
+        (arrival_place link direction) filed)) room within in
         ap (map number_of) gone ∙ front.4
-        ∙ sym (ap (λ i. (queue_at i shorter).numbers) same ∙ ap (λ (q : QueueState). q.numbers) now
-        ∙ popped_numbers (queue_at (arrival_place link direction) filed) n ns first)
+        ∙ sym (ap (λ i. queue_at i shorter) same ∙ now ∙ ap rest_of first)
     queues-cut p false t =
         let differ : p ≡ arrival_place link direction → ⊥ = λ same. grind (arith, nat_tests) in
         ap (map number_of) (in_slot-cut_other arrival_slot (2 * p + 1) es (λ same. differ (omega arith)))
         ∙ are.queues p
-        ∙ sym (ap (λ (q : QueueState). q.numbers) (queue-other filed (arrival_place link direction) p _ differ))
+        ∙ sym (queue-other filed (arrival_place link direction) p _ room differ)
 
     filed-cut_arrival : AreFiled systems links shorter (cut arrival_slot es)
     filed-cut_arrival = record {

@@ -21,6 +21,8 @@ pub mod FiledLemmas
 pub mod FollowLemmas
 pub mod SlotLemmas
 pub mod QueueLemmas
+pub mod PendingLemmas
+pub mod ChainLemmas
 pub mod TimingLemmas
 pub mod ArrivingLemmas
 pub mod ChangingLemmas

@@ -15,18 +15,16 @@ use Rattle.gptp_world.specs.Cable.{HasRoomOn}
 use Rattle.gptp_world.specs.Directory.{start_of, BeginsAt}
 use Rattle.gptp_world.specs.Net.{IsUpLane, OnlyEntries}
 use Rattle.gptp_acts.specs.World.{port_id}
-use Rattle.gptp_acts.specs.Pending.{PendingState}
 use Rattle.gptp_world.specs.Room.{both, for_sends, for_timers, nothing, repeated, sends_from, HasRoom, KeepsRoomOn, Need, Uses}
 use Rattle.gptp_world.proofs.SendingLemmas.{same_lane}
 
 -- ---- more and less
 
-pub fewer : (less more : ℕ) (lane : Lane) (cables : List Cable) (pending : PendingState) → less ≤ more
-    → HasRoomOn more lane cables pending
-    → HasRoomOn less lane cables pending
-fewer less more lane cables pending at_most has =
-    let room = has.room in let arrivals = has.arrivals in
-    record { cable = has.cable; here = has.here; room = omega arith; arrivals = omega arith }
+pub fewer : (less more : ℕ) (lane : Lane) (cables : List Cable) → less ≤ more
+    → HasRoomOn more lane cables
+    → HasRoomOn less lane cables
+fewer less more lane cables at_most has =
+    let room = has.room in record { cable = has.cable; here = has.here; room = omega arith }
 
 -- one needs no more than the other
 pub record Covers (large small : Need) : Type 0 where
@@ -38,7 +36,7 @@ pub covered : (large small : Need) (net : Between) → Covers large small → Ha
 covered large small net covers has = record {
   entries = let had = has.entries in let less = covers.entries in omega arith;
   buffers = let had = has.buffers in let less = covers.buffers in omega arith;
-  lanes = λ port lane begins. fewer (small.frames port) (large.frames port) lane net.cables.items net.pending
+  lanes = λ port lane begins. fewer (small.frames port) (large.frames port) lane net.cables.items
       (covers.frames port)
       (has.lanes port lane begins);
 }
@@ -75,7 +73,7 @@ uses_both first second net between net' a b = record {
 -- where there is no less room than there was
 pub uses_nothing : (net net' : Between) → net'.directory ≡ net.directory → net'.pending.systems ≡ net.pending.systems
     → net.pending.room ≤ net'.pending.room → net.buffers.ready ≤ net'.buffers.ready
-    → KeepsRoomOn net.cables.items net.pending net'.cables.items net'.pending → Uses nothing net net'
+    → KeepsRoomOn net.cables.items net'.cables.items → Uses nothing net net'
 uses_nothing net net' directory systems entries buffers lanes = record {
   directory = directory;
   systems = systems;
@@ -84,7 +82,7 @@ uses_nothing net net' directory systems entries buffers lanes = record {
     buffers = let had = has.buffers in omega arith;
     lanes = λ port lane begins.
         lanes (more.frames port) lane
-        (fewer (more.frames port) ((both nothing more).frames port) lane net.cables.items net.pending (omega arith)
+        (fewer (more.frames port) ((both nothing more).frames port) lane net.cables.items (omega arith)
         (has.lanes port lane (rw (← directory) begins)));
   };
 }
@@ -101,8 +99,7 @@ nothing_with need = record { entries = omega arith; buffers = omega arith; frame
 
 pub uses_timers : (used : ℕ) (net net' : Between) → OnlyEntries used net net' → Uses (for_timers used) net net'
 uses_timers used net net' only =
-    let cables = only.cables in let directory = only.directory in let rooms = only.rooms in
-    let buffers = only.buffers in
+    let cables = only.cables in let directory = only.directory in let buffers = only.buffers in
     record {
       directory = directory;
       systems = only.systems;
@@ -111,12 +108,11 @@ uses_timers used net net' only =
         buffers = let had = has.buffers in rw buffers (omega arith);
         lanes = λ port lane begins.
             let had = has.lanes port lane (rw (← directory) begins) in
-            let frames = had.room in let arrivals = had.arrivals in
+            let frames = had.room in
             record {
               cable = had.cable;
               here = rw cables had.here;
               room = omega arith;
-              arrivals = rw rooms (omega arith);
             };
       };
     }
@@ -167,19 +163,19 @@ one_from clock x = let same = eq-eqb clock clock refl in let at = eq-eqb x.port 
 
 -- there is room for a send
 pub room_first : (clock : ℕ) (x : Sending) (net : Between) (lane : Lane) → HasRoom (for_sends clock (x ∷ [])) net
-    → IsUpLane net (port_id clock x.port) lane → HasRoomOn 1 lane net.cables.items net.pending
+    → IsUpLane net (port_id clock x.port) lane → HasRoomOn 1 lane net.cables.items
 room_first clock x net lane has up =
-    subst (λ n. HasRoomOn n lane net.cables.items net.pending) (one_from clock x)
+    subst (λ n. HasRoomOn n lane net.cables.items) (one_from clock x)
     (has.lanes (port_id clock x.port) lane up.begins)
 
 -- a send that goes onto a lane uses room for one frame there
 pub sent_uses : (clock : ℕ) (x : Sending) (net net' : Between) (lane : Lane) → net'.directory ≡ net.directory
     → net'.pending.systems ≡ net.pending.systems → BeginsAt net.directory.joins (port_id clock x.port) lane
     → net.pending.room ≤ net'.pending.room + 1 → net.buffers.ready ≤ net'.buffers.ready + 1
-    → ((more : ℕ) (other : Lane) → HasRoomOn (more + 1) other net.cables.items net.pending
-    → HasRoomOn more other net'.cables.items net'.pending)
-    → ((more : ℕ) (other : Lane) → other ≢ lane → HasRoomOn more other net.cables.items net.pending
-    → HasRoomOn more other net'.cables.items net'.pending)
+    → ((more : ℕ) (other : Lane) → HasRoomOn (more + 1) other net.cables.items
+    → HasRoomOn more other net'.cables.items)
+    → ((more : ℕ) (other : Lane) → other ≢ lane → HasRoomOn more other net.cables.items
+    → HasRoomOn more other net'.cables.items)
     → Uses (for_sends clock (x ∷ [])) net net'
 sent_uses clock x net net' lane same systems begins entries buffers room elsewhere = record {
   directory = same;
@@ -205,17 +201,17 @@ sent_uses clock x net net' lane same systems begins entries buffers room elsewhe
 
     by : (more : Need) (port : PortId) (other : Lane) → BeginsAt net.directory.joins port other → (other ≡ lane)
         ⊎ (other ≢ lane)
-        → HasRoomOn ((both (for_sends clock (x ∷ [])) more).frames port) other net.cables.items net.pending
-        → HasRoomOn (more.frames port) other net'.cables.items net'.pending
+        → HasRoomOn ((both (for_sends clock (x ∷ [])) more).frames port) other net.cables.items
+        → HasRoomOn (more.frames port) other net'.cables.items
     by more port other starts (inl is) had =
         let one : sends_from clock (x ∷ []) port ≡ 1 =
         ap (sends_from clock (x ∷ [])) (sym (ports port other starts is)) ∙ one_from clock x in
         let next : sends_from clock (x ∷ []) port + more.frames port ≡ more.frames port + 1 = omega (arith, one) in
-        room (more.frames port) other (subst (λ n. HasRoomOn n other net.cables.items net.pending) next had)
+        room (more.frames port) other (subst (λ n. HasRoomOn n other net.cables.items) next had)
     by more port other starts (inr apart) had =
         elsewhere (more.frames port) other apart
         (fewer (more.frames port) ((both (for_sends clock (x ∷ [])) more).frames port) other net.cables.items
-        net.pending (omega arith) had)
+        (omega arith) had)
 
 -- ---- one call, and several
 

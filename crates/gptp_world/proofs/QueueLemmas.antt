@@ -1,127 +1,36 @@
--- The queues of the table in which what is pending is filed, and their room.
-use Rattle.std.proofs.Common.{◌≡◌, ℕ, ◌+◌, ◌<◌, ◌≤◌, ◌==◌, Bool, true, false, List, [], ◌∷◌, map, length, Some, None, get_or, length-set, refl, sym, ap, subst, ◌∙◌, arith}
-use Prim.Native.Nat.{zero, suc}
-use Rattle.std.specs.Prelude.{slice_index_or}
+-- The queues of the table in which what is pending is filed.
+use Rattle.std.proofs.Common.{◌≡◌, ℕ, zero, suc, ◌-◌, ◌<◌, replicate, List, [], ◌∷◌, map, length, Option, Some, None, slice_index_or, slice_set, refl, sym, ap, ap₂, ◌∙◌, arith}
 use Rattle.std.specs.Prelude.{Result, Ok, Err, OnOk}
-use Rattle.std.proofs.lemmas.Bool.Decides.{nat_tests}
-use Rattle.std.proofs.lemmas.List.{get_or-set_same, get_or-set_other}
-use Rattle.gptp_links.specs.declared.link.Direction.{Direction}
+use Rattle.std.proofs.lemmas.List.{get_or-set_same, get_or-set_other, length-map}
+use Rattle.std.proofs.lemmas.Option.{slice_get-get_or}
+use Rattle.gptp_lists.proofs.PlaceLemmas.{read}
 use Rattle.gptp_scheduler.specs.Pending.{Entry as Numbered}
 use Rattle.gptp_acts.specs.declared.item.Item.{Item}
-use Rattle.gptp_acts.specs.declared.item.Item.TheVariants.{Arrival}
-use Rattle.gptp_world.proofs.SlotLemmas.{same_slot}
-use Rattle.gptp_acts.specs.Item.{same_item}
-use Rattle.gptp_acts.specs.Pending.{plain, arrival_place}
-use Rattle.gptp_world.specs.Filed.{QueueState, FiledState, no_queue, queue_at, with_queue, slot_of, popped, popped_from, head_of, first_number, rooms_of}
+use Rattle.gptp_acts.specs.Pending.{plain}
+use Rattle.slab.specs.Slab.{Slab, get, slab_len}
+use Rattle.gptp_world.specs.declared.chain.Chain.{Chain}
+use Rattle.gptp_world.specs.declared.chain.Node.{Node}
+use Rattle.gptp_world.specs.declared.filed.Running.{Running}
+use Rattle.gptp_world.specs.Chain.{chain_at, head_of, no_chain, numbers_in, AreChained, ChangesOne}
+use Rattle.gptp_world.specs.Filed.{FiledState, queue_at, with_queue}
+use Rattle.gptp_world.proofs.ChainLemmas.{numbers-changed, numbers_there}
 
--- ---- queues with no number
+pub queue-same : (filed : FiledState) (place : ℕ) (queue : List ℕ) (room : ℕ) → place < length filed.queues
+    → queue_at place (with_queue place queue room filed) ≡ queue
+queue-same filed place queue room within = get_or-set_same filed.queues place queue [] within
 
--- so many queues, with no number
-pub record AreEmpty (count : ℕ) (queues : List QueueState) : Type 0 where
-  pub len : length queues ≡ count
-  pub empty : (place : ℕ) → (slice_index_or queues place no_queue).numbers ≡ []
-
--- ---- queues
-
-pub queue-same : (filed : FiledState) (place : ℕ) (q : QueueState) → place < length filed.queues
-    → queue_at place (with_queue place q filed) ≡ q
-queue-same filed place q within = get_or-set_same filed.queues place q no_queue within
-
-pub queue-other : (filed : FiledState) (place other : ℕ) (q : QueueState) → (other ≡ place → ⊥)
-    → queue_at other (with_queue place q filed) ≡ queue_at other filed
-queue-other filed place other q differ = get_or-set_other filed.queues place other q no_queue differ
-
-room-at : (qs : List QueueState) (i : ℕ) → get_or (map (λ (q : QueueState). q.room) qs) i 0 ≡
-    (get_or qs i no_queue).room
-room-at [] i = refl
-room-at (q ∷ qs) zero = refl
-room-at (q ∷ qs) (suc i) = room-at qs i
-
--- the room at a place is that of its queue
-pub room_is : (filed : FiledState) (place : ℕ) → slice_index_or (rooms_of filed) place 0 ≡ (queue_at place filed).room
-room_is filed place = room-at filed.queues place
-
-room-step : (filed : FiledState) (place other : ℕ) (q : QueueState) → place < length filed.queues
-    → (queue_at place filed).room ≤ q.room → (t : Bool) → (other == place) ≡ t
-    → slice_index_or (rooms_of filed) other 0 ≤ slice_index_or (rooms_of (with_queue place q filed)) other 0
-room-step filed place other q within more true t =
-    let same : other ≡ place = grind (arith, nat_tests) in
-    let old = room_is filed place in
-    let new = room_is (with_queue place q filed) place ∙ ap (λ (x : QueueState). x.room)
-    (queue-same filed place q within) in
-    rw same (omega (arith, old, new, more))
-room-step filed place other q within more false t =
-    let differ : other ≡ place → ⊥ = λ same. grind (arith, nat_tests) in
-    let old = room_is filed other in
-    let new = room_is (with_queue place q filed) other ∙ ap (λ (x : QueueState). x.room)
-    (queue-other filed place other q differ) in
-    omega (arith, old, new)
-
--- a queue with no less room leaves no less room anywhere
-pub room-kept : (filed : FiledState) (place other : ℕ) (q : QueueState) → place < length filed.queues
-    → (queue_at place filed).room ≤ q.room
-    → slice_index_or (rooms_of filed) other 0 ≤ slice_index_or (rooms_of (with_queue place q filed)) other 0
-room-kept filed place other q within more = room-step filed place other q within more (other == place) refl
-
-pub room-other : (filed : FiledState) (place other : ℕ) (q : QueueState) → (other ≡ place → ⊥)
-    → slice_index_or (rooms_of (with_queue place q filed)) other 0 ≡ slice_index_or (rooms_of filed) other 0
-room-other filed place other q differ =
-    room_is (with_queue place q filed) other ∙ ap (λ (x : QueueState). x.room) (queue-other filed place other q differ)
-    ∙ sym (room_is filed other)
-
-pub room-here : (filed : FiledState) (place : ℕ) (q : QueueState) → place < length filed.queues
-    → slice_index_or (rooms_of (with_queue place q filed)) place 0 ≡ q.room
-room-here filed place q within =
-    room_is (with_queue place q filed) place ∙ ap (λ (x : QueueState). x.room) (queue-same filed place q within)
-
--- room was made at a place
-module _ (filed new : FiledState) (place : ℕ) (within : place < length filed.queues)
-    (kept : new ≡ with_queue place (record (queue_at place filed) { room = (queue_at place new).room }) filed) where
-  pub made-len : length new.queues ≡ length filed.queues
-  made-len = ap (λ (f : FiledState). length f.queues) kept ∙ length-set filed.queues place _
-
-  pub made-kept : (queue_at place filed).room ≤ (queue_at place new).room → (other : ℕ)
-      → slice_index_or (rooms_of filed) other 0 ≤ slice_index_or (rooms_of new) other 0
-  made-kept more other =
-      subst (λ (f : FiledState). slice_index_or (rooms_of filed) other 0 ≤ slice_index_or (rooms_of f) other 0)
-      (sym kept)
-      (room-kept filed place other _ within more)
-
--- another arrival has another place
-pub other_place : (link : ℕ) (direction : Direction) (other : ℕ) (way : Direction)
-    → same_item (Arrival link direction) (Arrival other way) ≡ false
-    → arrival_place other way ≡ arrival_place link direction → ⊥
-other_place link direction other way differ same =
-    let slots = same_slot 0 (link + other + 1) (Arrival link direction) (Arrival other way) (omega arith)
-    (omega arith) in
-    let e : slot_of (Arrival link direction) ≡ slot_of (Arrival other way) = omega arith in
-    let t : (slot_of (Arrival link direction) == slot_of (Arrival other way)) ≡ true = grind (arith, nat_tests) in
-    let f : true ≡ false = sym t ∙ slots ∙ differ in absurd (grind (arith, f))
-
-pub popped_numbers : (q : QueueState) (n : ℕ) (ns : List ℕ) → q.numbers ≡ n ∷ ns → (popped q).numbers ≡ ns
-popped_numbers q n ns is = rw is refl
-
-pub popped-room : (q : QueueState) → q.room ≤ (popped q).room
-popped-room q = popped-room_step q.numbers
-  where
-    popped-room_step : (ns : List ℕ) → q.room ≤ (popped_from ns q).room
-    popped-room_step [] = omega arith
-    popped-room_step (n ∷ ns) = omega arith
-
-head-some : (ns : List ℕ) (n : ℕ) → Some n ≡ head_of ns → (rest : List ℕ) × (ns ≡ n ∷ rest)
-head-some [] n is = absurd (grind (arith, is))
-head-some (m ∷ ns) n is = let e : n ≡ m = cc in (ns, ap (λ x. x ∷ ns) (sym e))
-
-head-none : (ns : List ℕ) → None ≡ head_of ns → ns ≡ []
-head-none [] is = refl
-head-none (m ∷ ns) is = absurd (grind (arith, is))
+pub queue-other : (filed : FiledState) (place other : ℕ) (queue : List ℕ) (room : ℕ) → (other ≡ place → ⊥)
+    → queue_at other (with_queue place queue room filed) ≡ queue_at other filed
+queue-other filed place other queue room differ = get_or-set_other filed.queues place other queue [] differ
 
 -- the first number of a queue, and that there is none
-pub front_is : (q : QueueState) (n : ℕ) → Some n ≡ first_number q → (rest : List ℕ) × (q.numbers ≡ n ∷ rest)
-front_is q n is = head-some q.numbers n is
+pub front_is : (ns : List ℕ) (n : ℕ) → Some n ≡ head_of ns → (rest : List ℕ) × (ns ≡ n ∷ rest)
+front_is [] n is = absurd (grind (arith, is))
+front_is (m ∷ ns) n is = let e : n ≡ m = cc in (ns, ap (λ x. x ∷ ns) (sym e))
 
-pub no_front : (q : QueueState) → None ≡ first_number q → q.numbers ≡ []
-no_front q is = head-none q.numbers is
+pub no_front : (ns : List ℕ) → None ≡ head_of ns → ns ≡ []
+no_front [] is = refl
+no_front (m ∷ ns) is = absurd (grind (arith, is))
 
 pub on_ok : {X E : Type 0} (r : Result X E) (P Q : Type 0) → (P → Q) → OnOk r P → OnOk r Q
 on_ok (Ok x) P Q f p = f p
@@ -130,3 +39,48 @@ on_ok (Err e) P Q f p = p
 pub length-plain : (es : List (Numbered Item)) → length (plain es) ≡ length es
 length-plain [] = refl
 length-plain (e ∷ es) = let ih = length-plain es in omega arith
+
+-- ---- the table as it is kept
+
+abbrev table : List (Option Running) → Slab Node → List Chain → FiledState
+table timers nodes chains = record {
+  timers = timers;
+  queues = map (numbers_in (get nodes)) chains;
+  room = nodes.capacity - slab_len nodes;
+}
+
+abbrev made : List (Option Running) → List (List ℕ) → ℕ → FiledState
+made timers queues room = record { timers = timers; queues = queues; room = room }
+
+-- the chain at a place changed, so the queue there did
+pub queue_changed : (timers : List (Option Running)) (s t : Slab Node) (chains : List Chain) (place : ℕ)
+    (after : Chain) (change : List ℕ → List ℕ) (room : ℕ) → AreChained s chains → place < length chains
+    → ChangesOne (get s) (get t) (chain_at place chains) after
+    → numbers_in (get t) after ≡ change (numbers_in (get s) (chain_at place chains)) → t.capacity - slab_len t ≡ room
+    → table timers t (slice_set chains place after)
+    ≡ with_queue place (change (queue_at place (table timers s chains))) room (table timers s chains)
+queue_changed timers s t chains place after change room are within changes numbers left =
+    let queue = numbers ∙ ap change (sym (numbers_there (get s) chains place)) in
+    ap₂ (made timers)
+    (numbers-changed s t chains place after are within changes
+    ∙ ap (slice_set (map (numbers_in (get s)) chains) place) queue)
+    left
+
+-- a place of a queue is one of a chain
+pub in_queues : (s : ℕ → Option Node) (chains : List Chain) (place : ℕ) → place < length (map (numbers_in s) chains)
+    → place < length chains
+in_queues s chains place within = let same = length-map chains (numbers_in s) in omega (arith, within, same)
+
+-- the chain that a call is lent is the one at that place
+pub chain_lent : (chains : List Chain) (place : ℕ) (lent : Chain) → place < length chains
+    → lent ≡ slice_index_or chains place lent → chain_at place chains ≡ lent
+chain_lent chains place lent within value =
+    read chains place (slice_index_or chains place lent) no_chain (slice_get-get_or chains place lent within)
+    ∙ sym value
+
+-- nothing is filed at the beginning
+pub none_filed : (s : ℕ → Option Node) (count place : ℕ)
+    → slice_index_or (map (numbers_in s) (replicate count no_chain)) place [] ≡ []
+none_filed s zero place = refl
+none_filed s (suc count) zero = refl
+none_filed s (suc count) (suc place) = none_filed s count place

@@ -18,7 +18,6 @@ use Rattle.gptp_world.specs.Cable.{channel_of, join_of, HasRoomOn}
 use Rattle.gptp_world.specs.Directory.{BeginsAt, IsDirectory, Join}
 use Rattle.gptp_world.specs.Net.{IsNet}
 use Rattle.gptp_acts.specs.World.{port_id}
-use Rattle.gptp_acts.specs.Pending.{PendingState, arrival_room, HasArrivalRoom, KeepsArrivalRoom}
 use Rattle.gptp_world.specs.Room.{both, for_call, for_timers, repeated, HasRoomAtPorts, HasRoomBothWays, HasRoomFrom, KeepsRoomOn, Need, OnlyRoom}
 use Rattle.gptp_world.specs.Stage.{clock_at, HasRoomToCall, HasRoomToCallBoth, IsStage}
 use Rattle.gptp_world.specs.Starting.{for_start, HasRoomToStart}
@@ -42,53 +41,41 @@ queue_roomier : (d : Direction) (old new : links.State) → links.KeepsRoom old 
 queue_roomier FromA old new kept = kept.from_a
 queue_roomier FromB old new kept = kept.from_b
 
-pub kept_on : (cables : List Cable) (link : ℕ) (old new : Cable) (pending pending' : PendingState)
-    → slice_get cables link ≡ Some old
-    → links.KeepsRoom old.link new.link → KeepsArrivalRoom pending pending'
-    → KeepsRoomOn cables pending (slice_set cables link new) pending'
-kept_on cables link old new pending pending' here roomier arrivals =
+pub kept_on : (cables : List Cable) (link : ℕ) (old new : Cable) → slice_get cables link ≡ Some old
+    → links.KeepsRoom old.link new.link
+    → KeepsRoomOn cables (slice_set cables link new)
+kept_on cables link old new here roomier =
     λ more lane has. by more lane has (same_place lane.link link)
   where
-    by : (more : ℕ) (lane : Lane) → HasRoomOn more lane cables pending → (lane.link ≡ link) ⊎ (lane.link ≢ link)
-        → HasRoomOn more lane (slice_set cables link new) pending'
+    by : (more : ℕ) (lane : Lane) → HasRoomOn more lane cables → (lane.link ≡ link) ⊎ (lane.link ≢ link)
+        → HasRoomOn more lane (slice_set cables link new)
     by more lane has (inl places) =
         let same : has.cable ≡ old = same_Some has.cable old (sym has.here ∙ (ap (slice_get cables) places ∙ here)) in
         let room : more ≤ (links.queue lane.direction old.link).room = rw (← same) has.room in
         let more_room = queue_roomier lane.direction old.link new.link roomier in
-        let arrived = has.arrivals in let kept = arrivals lane.link lane.direction in
         record {
           cable = new;
           here = ap (slice_get (slice_set cables link new)) places ∙ get-set_same cables link old new here;
           room = omega arith;
-          arrivals = omega arith;
         }
-    by more lane has (inr apart) =
-        let arrived = has.arrivals in let kept = arrivals lane.link lane.direction in
-        record {
-          cable = has.cable;
-          here = get-set_other cables link lane.link new apart ∙ has.here;
-          room = has.room;
-          arrivals = omega arith;
-        }
+    by more lane has (inr apart) = record {
+      cable = has.cable;
+      here = get-set_other cables link lane.link new apart ∙ has.here;
+      room = has.room;
+    }
 
-pub both_ways : (more link : ℕ) (cables : List Cable) (old new : Cable) (pending : PendingState)
-    → slice_get cables link ≡ Some old
-    → links.HasRoom more new.link → HasArrivalRoom link more pending
-    → HasRoomBothWays more link (slice_set cables link new) pending
-both_ways more link cables old new pending here room arrivals = λ direction. record {
+pub both_ways : (more link : ℕ) (cables : List Cable) (old new : Cable) → slice_get cables link ≡ Some old
+    → links.HasRoom more new.link
+    → HasRoomBothWays more link (slice_set cables link new)
+both_ways more link cables old new here room = λ direction. record {
   cable = new;
   here = get-set_same cables link old new here;
   room = queue_room direction;
-  arrivals = arrival direction;
 }
   where
     queue_room : (d : Direction) → more ≤ (links.queue d new.link).room
     queue_room FromA = room.from_a
     queue_room FromB = room.from_b
-
-    arrival : (d : Direction) → more ≤ arrival_room link d pending
-    arrival FromA = arrivals.from_a
-    arrival FromB = arrivals.from_b
 
 -- ---- what is between the systems
 
@@ -178,10 +165,10 @@ ports_kept more place ports net net' only has = λ number p here least most.
 
 -- a lane that is known has room for none
 pub no_frames : (net : Between) (port : PortId) (lane : Lane) → IsNet net → BeginsAt net.directory.joins port lane
-    → HasRoomOn 0 lane net.cables.items net.pending
+    → HasRoomOn 0 lane net.cables.items
 no_frames net port lane is begins =
     let known = known_cable net port lane is begins in
-    record { cable = known.0; here = known.1; room = omega arith; arrivals = omega arith }
+    record { cable = known.0; here = known.1; room = omega arith }
 
 -- the number of frames that a port may send, where it is one of the system with this clock
 abbrev most_from : ℕ → ℕ → PortId → ℕ
@@ -192,13 +179,13 @@ pub frames_from : (stage : Stage) (more place : ℕ) (station : Station) → IsS
     → slice_get stage.stations.items place ≡ Some station
     → HasRoomAtPorts more place (length station.system.ports) stage.net → (port : PortId) (lane : Lane)
     → BeginsAt stage.net.directory.joins port lane
-    → HasRoomOn (most_from more (clock station.system) port) lane stage.net.cables.items stage.net.pending
+    → HasRoomOn (most_from more (clock station.system) port) lane stage.net.cables.items
 frames_from stage more place station is here has port lane begins =
     by (eqb_tells port.clock (clock station.system))
   where
     by : ((eqb port.clock (clock station.system) ≡ true) × (port.clock ≡ clock station.system))
         ⊎ ((eqb port.clock (clock station.system) ≡ false) × (port.clock ≢ clock station.system))
-        → HasRoomOn (most_from more (clock station.system) port) lane stage.net.cables.items stage.net.pending
+        → HasRoomOn (most_from more (clock station.system) port) lane stage.net.cables.items
     by (inl (test, same)) =
         let known : slice_get stage.net.directory.clocks place ≡ Some (clock station.system) =
         ap (λ cs. slice_get cs place) (sym is.clocks) ∙ mapped_there clock_at stage.stations.items place station here in
@@ -326,19 +313,18 @@ room_to_call_both stage first second near far is here there apart entries buffer
     by : (port : PortId) (lane : Lane)
         → ((eqb port.clock (clock near.system) ≡ true) × (port.clock ≡ clock near.system))
         ⊎ ((eqb port.clock (clock near.system) ≡ false) × (port.clock ≢ clock near.system))
-        → HasRoomOn (most_from 2 (clock near.system) port) lane stage.net.cables.items stage.net.pending
-        → HasRoomOn (most_from 2 (clock far.system) port) lane stage.net.cables.items stage.net.pending
+        → HasRoomOn (most_from 2 (clock near.system) port) lane stage.net.cables.items
+        → HasRoomOn (most_from 2 (clock far.system) port) lane stage.net.cables.items
         → HasRoomOn (most_from 2 (clock near.system) port + most_from 2 (clock far.system) port) lane
         stage.net.cables.items
-        stage.net.pending
     by port lane (inl (test, same)) from-near from-far =
         let other = not_same port.clock (clock far.system) (λ e. apart (sym same ∙ e)) in
         let only : most_from 2 (clock near.system) port + most_from 2 (clock far.system) port
         ≡ most_from 2 (clock near.system) port =
         rw (test, other) (omega arith) in
-        subst (λ n. HasRoomOn n lane stage.net.cables.items stage.net.pending) (sym only) from-near
+        subst (λ n. HasRoomOn n lane stage.net.cables.items) (sym only) from-near
     by port lane (inr (test, differ)) from-near from-far =
         let only : most_from 2 (clock near.system) port + most_from 2 (clock far.system) port
         ≡ most_from 2 (clock far.system) port =
         rw test (omega arith) in
-        subst (λ n. HasRoomOn n lane stage.net.cables.items stage.net.pending) (sym only) from-far
+        subst (λ n. HasRoomOn n lane stage.net.cables.items) (sym only) from-far

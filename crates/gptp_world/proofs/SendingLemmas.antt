@@ -13,11 +13,11 @@ use Rattle.gptp_links.specs.State as links
 use Rattle.gptp_world.specs.declared.cable.Cable.{Cable}
 use Rattle.gptp_world.specs.declared.cable.Lane.{Lane}
 use Rattle.gptp_acts.specs.declared.item.Item.TheVariants.{Arrival}
-use Rattle.gptp_acts.specs.Item.{same_item}
-use Rattle.gptp_acts.specs.Pending.{PendingState, put_if, arrival_room, KeepsOtherRoom}
+use Rattle.gptp_acts.specs.Pending.{put_if}
 use Rattle.gptp_acts.specs.World.{Channel, sender, queue, with_queue}
 use Rattle.gptp_acts.specs.Sends.{entered}
 use Rattle.gptp_world.specs.Cable.{net_of, channel_of, HasRoomOn, SentOne}
+use Rattle.gptp_world.specs.Pending.{PendingState}
 use Rattle.gptp_lists.proofs.MappedLemmas.{mapped_there}
 use Rattle.gptp_lists.proofs.PlaceLemmas.{get-set_same, get-set_other, map-set, map-set_same, same_place}
 
@@ -110,23 +110,6 @@ sent answers now lane octets fate fate_after cables old new due pending after he
 abbrev lane_of : ℕ → Direction → Lane
 lane_of link direction = record { link = link; direction = direction }
 
--- lanes that differ have other arrivals
-items_apart : (d e : Direction) (l k : ℕ) → lane_of k e ≢ lane_of l d → same_item (Arrival l d) (Arrival k e) ≡ false
-items_apart d e l k apart = by d e (same_place l k) apart
-  where
-    other : (d e : Direction) → ((eqb l k ≡ true) × (l ≡ k)) ⊎ ((eqb l k ≡ false) × (l ≢ k)) → l ≢ k
-        → same_item (Arrival l d) (Arrival k e) ≡ false
-    other d e (inl (test, is)) places = absurd (places is)
-    other d e (inr (test, apart)) places = rw test refl
-
-    by : (d e : Direction) → (l ≡ k) ⊎ (l ≢ k) → lane_of k e ≢ lane_of l d
-        → same_item (Arrival l d) (Arrival k e) ≡ false
-    by FromA FromA (inl places) apart = absurd (apart (ap (λ n. lane_of n FromA) (sym places)))
-    by FromA FromB (inl places) apart = let test = eq-eqb l k places in rw test refl
-    by FromB FromA (inl places) apart = let test = eq-eqb l k places in rw test refl
-    by FromB FromB (inl places) apart = absurd (apart (ap (λ n. lane_of n FromB) (sym places)))
-    by d e (inr places) apart = other d e (eqb_tells l k) places
-
 -- the two directions of a link: this one, or the other
 queue_other : (d e : Direction) (old new : links.State) → links.ChangesOnly d old new → (d ≡ e)
     ⊎ (links.queue e new ≡ links.queue e old)
@@ -137,22 +120,13 @@ queue_other FromB FromB old new only = inl refl
 
 -- a send takes room for one frame on its lane, and none on any other
 pub room_elsewhere : (more : ℕ) (lane other : Lane) (cables : List Cable) (old new : Cable)
-    (pending after : PendingState)
-    → slice_get cables lane.link ≡ Some old → links.ChangesOnly lane.direction old.link new.link
-    → KeepsOtherRoom lane.link lane.direction pending after → other ≢ lane
-    → HasRoomOn more other cables pending → HasRoomOn more other (slice_set cables lane.link new) after
-room_elsewhere more lane other cables old new pending after here only takes apart has =
-    by (same_place other.link lane.link)
+    → slice_get cables lane.link ≡ Some old → links.ChangesOnly lane.direction old.link new.link → other ≢ lane
+    → HasRoomOn more other cables → HasRoomOn more other (slice_set cables lane.link new)
+room_elsewhere more lane other cables old new here only apart has = by (same_place other.link lane.link)
   where
-    arrivals : more ≤ arrival_room other.link other.direction after
-    arrivals =
-        let kept = takes other.link other.direction
-        (items_apart lane.direction other.direction lane.link other.link apart) in
-        rw kept has.arrivals
-
     on_same : (other.link ≡ lane.link) → (lane.direction ≡ other.direction)
         ⊎ (links.queue other.direction new.link ≡ links.queue other.direction old.link)
-        → HasRoomOn more other (slice_set cables lane.link new) after
+        → HasRoomOn more other (slice_set cables lane.link new)
     on_same places (inl directions) = absurd (apart (ap₂ lane_of places (sym directions)))
     on_same places (inr queues) =
         let cable_is : has.cable
@@ -161,41 +135,34 @@ room_elsewhere more lane other cables old new pending after here only takes apar
           cable = new;
           here = ap (slice_get (slice_set cables lane.link new)) places ∙ get-set_same cables lane.link old new here;
           room = rw (queues, ← cable_is) has.room;
-          arrivals = arrivals;
         }
 
     by : (other.link ≡ lane.link) ⊎ (other.link ≢ lane.link)
-        → HasRoomOn more other (slice_set cables lane.link new) after
+        → HasRoomOn more other (slice_set cables lane.link new)
     by (inl places) = on_same places (queue_other lane.direction other.direction old.link new.link only)
     by (inr places) = record {
       cable = has.cable;
       here = get-set_other cables lane.link other.link new places ∙ has.here;
       room = has.room;
-      arrivals = arrivals;
     }
 
-room_here : (more : ℕ) (lane : Lane) (cables : List Cable) (old new : Cable) (pending after : PendingState)
+room_here : (more : ℕ) (lane : Lane) (cables : List Cable) (old new : Cable)
     → slice_get cables lane.link ≡ Some old → links.ChangesOnly lane.direction old.link new.link
     → (links.queue lane.direction old.link).room ≤ (links.queue lane.direction new.link).room + 1
-    → arrival_room lane.link lane.direction pending ≤ arrival_room lane.link lane.direction after + 1
-    → HasRoomOn (more + 1) lane cables pending → HasRoomOn more lane (slice_set cables lane.link new) after
-room_here more lane cables old new pending after here only room arrived has =
+    → HasRoomOn (more + 1) lane cables → HasRoomOn more lane (slice_set cables lane.link new)
+room_here more lane cables old new here only room has =
     let cable_is : has.cable ≡ old = same_Some has.cable old (sym has.here ∙ here) in
     let had : more + 1 ≤ (links.queue lane.direction old.link).room = rw (← cable_is) has.room in
-    let arrivals = has.arrivals in
     record {
       cable = new;
       here = get-set_same cables lane.link old new here;
       room = omega arith;
-      arrivals = omega arith;
     }
 
-pub less_room : (more : ℕ) (lane : Lane) (cables : List Cable) (pending : PendingState)
-    → HasRoomOn (more + 1) lane cables pending
-    → HasRoomOn more lane cables pending
-less_room more lane cables pending has =
-    let room = has.room in let arrivals = has.arrivals in
-    record { cable = has.cable; here = has.here; room = omega arith; arrivals = omega arith }
+pub less_room : (more : ℕ) (lane : Lane) (cables : List Cable) → HasRoomOn (more + 1) lane cables
+    → HasRoomOn more lane cables
+less_room more lane cables has =
+    let room = has.room in record { cable = has.cable; here = has.here; room = omega arith }
 
 pub same_lane : (lane other : Lane) → (other ≡ lane) ⊎ (other ≢ lane)
 same_lane lane other = by other.direction lane.direction (same_place other.link lane.link) refl refl
@@ -214,20 +181,17 @@ same_lane lane other = by other.direction lane.direction (same_place other.link 
     by FromB FromA (inl places) is-e is-d =
         inr (λ same. turned (sym is-d ∙ (sym (ap (λ (l : Lane). l.direction) same) ∙ is-e)))
 
-pub room_left : (more : ℕ) (lane other : Lane) (cables : List Cable) (old new : Cable) (pending after : PendingState)
+pub room_left : (more : ℕ) (lane other : Lane) (cables : List Cable) (old new : Cable)
     → slice_get cables lane.link ≡ Some old → links.ChangesOnly lane.direction old.link new.link
     → (links.queue lane.direction old.link).room ≤ (links.queue lane.direction new.link).room + 1
-    → arrival_room lane.link lane.direction pending ≤ arrival_room lane.link lane.direction after + 1
-    → KeepsOtherRoom lane.link lane.direction pending after
-    → HasRoomOn (more + 1) other cables pending → HasRoomOn more other (slice_set cables lane.link new) after
-room_left more lane other cables old new pending after here only room arrived takes has = by (same_lane lane other)
+    → HasRoomOn (more + 1) other cables → HasRoomOn more other (slice_set cables lane.link new)
+room_left more lane other cables old new here only room has = by (same_lane lane other)
   where
-    by : (other ≡ lane) ⊎ (other ≢ lane) → HasRoomOn more other (slice_set cables lane.link new) after
+    by : (other ≡ lane) ⊎ (other ≢ lane) → HasRoomOn more other (slice_set cables lane.link new)
     by (inl same) =
-        let had : HasRoomOn (more + 1) lane cables pending =
-        subst (λ l. HasRoomOn (more + 1) l cables pending) same has in
-        subst (λ l. HasRoomOn more l (slice_set cables lane.link new) after) (sym same)
-        (room_here more lane cables old new pending after here only room arrived had)
+        let had : HasRoomOn (more + 1) lane cables =
+        subst (λ l. HasRoomOn (more + 1) l cables) same has in
+        subst (λ l. HasRoomOn more l (slice_set cables lane.link new)) (sym same)
+        (room_here more lane cables old new here only room had)
     by (inr apart) =
-        room_elsewhere more lane other cables old new pending after here only takes apart
-        (less_room more other cables pending has)
+        room_elsewhere more lane other cables old new here only apart (less_room more other cables has)

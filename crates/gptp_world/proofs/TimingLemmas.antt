@@ -45,7 +45,6 @@ only_more m n first second third a b = record {
   buffers = b.buffers ∙ a.buffers;
   systems = b.systems ∙ a.systems;
   links = b.links ∙ a.links;
-  rooms = b.rooms ∙ a.rooms;
   room = let r = a.room in let q = b.room in omega arith;
 }
 

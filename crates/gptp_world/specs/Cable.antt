@@ -9,8 +9,8 @@ use Rattle.gptp_vector.specs.declared.port.PortId.{PortId}
 use Rattle.gptp_world.specs.declared.cable.Cable.{Cable}
 use Rattle.gptp_world.specs.declared.cable.Lane.{Lane}
 use Rattle.gptp_world.specs.Directory.{Join}
-use Rattle.gptp_acts.specs.Pending.{PendingState, arrival_room}
 use Rattle.gptp_acts.specs.World.{Channel, Net}
+use Rattle.gptp_world.specs.Pending.{PendingState}
 use Rattle.gptp_acts.specs.Sends.{SendsOne, SendsAll}
 
 -- a link without the room that it has
@@ -31,12 +31,11 @@ join_of cable = record { a = cable.a; b = cable.b }
 abbrev pub net_of : List Cable → PendingState → Net
 net_of cables pending = record { channels = map channel_of cables; pending = pending.entries }
 
--- a link has room for so many more frames in a direction, and so has what is pending
-pub record HasRoomOn (more : ℕ) (lane : Lane) (cables : List Cable) (pending : PendingState) : Type 0 where
+-- a link has room for so many more frames in a direction
+pub record HasRoomOn (more : ℕ) (lane : Lane) (cables : List Cable) : Type 0 where
   pub cable : Cable
   pub here : slice_get cables lane.link ≡ Some cable
   pub room : more ≤ (links.queue lane.direction cable.link).room
-  pub arrivals : more ≤ arrival_room lane.link lane.direction pending
 
 -- One frame was sent: the fate drew once.
 pub record SentOne {F : Type 0} (answers : Bounds → ℕ → F → Option ℕ → F → Type 0) (now : ℕ) (from : PortId)

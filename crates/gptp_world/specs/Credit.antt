@@ -44,7 +44,7 @@ pub record DrawsTwo (place : ℕ) (credit after : List ℕ) : Type 0 where
 -- each lane has room for the credit of the system at whose port it begins
 abbrev pub IsCovered : List ℕ → Between → Type 0
 IsCovered credit net = (port : PortId) (lane : Lane) → BeginsAt net.directory.joins port lane
-    → HasRoomOn (credit_of net.directory.clocks credit port.clock) lane net.cables.items net.pending
+    → HasRoomOn (credit_of net.directory.clocks credit port.clock) lane net.cables.items
 
 -- ---- room beyond the credit
 
@@ -59,7 +59,7 @@ abbrev pub HasReachBeyond : Reach → ℕ → List ℕ → Between → Type 0
 HasReachBeyond r place credit net = (number : ℕ) (port : PortId) (lane : Lane)
     → slice_get net.directory.clocks place ≡ Some number → BeginsAt net.directory.joins port lane
     → HasRoomOn ((if is_reached r port.port && (port.clock == number) then 2 else 0)
-    + credit_of net.directory.clocks credit port.clock) lane net.cables.items net.pending
+    + credit_of net.directory.clocks credit port.clock) lane net.cables.items
 
 -- there is room for whatever a call of the system at a place can leave, where it reaches so far
 pub record HasRoomBeyond (r : Reach) (place : ℕ) (credit : List ℕ) (stage : Stage) : Type 0 where

@@ -1,5 +1,5 @@
 -- What is pending, filed by item: a table with the timers that run, and the numbers of the arrivals.
-use Rattle.std.specs.Prelude.{◌≡◌, ℕ, ◌+◌, ◌-◌, ◌*◌, ◌≤◌, ◌==◌, List, [], ◌∷◌, ◌++◌, map, length, Option, Some, None, slice_index_or, slice_set}
+use Rattle.std.specs.Prelude.{◌≡◌, ℕ, ◌+◌, ◌*◌, ◌≤◌, ◌==◌, List, [], ◌∷◌, map, length, Option, Some, None, slice_index_or, slice_set}
 use Rattle.std.specs.List.{AllByRecursion, filter}
 use Rattle.gptp_scheduler.specs.Pending.{Entry as Numbered}
 use Rattle.gptp_setup.specs.declared.timer.Timer.{Timer}
@@ -9,48 +9,20 @@ use Rattle.gptp_acts.specs.declared.item.Item.TheVariants.{Expiry, Arrival}
 use Rattle.gptp_acts.specs.Item.{timer_kind, timer_port}
 use Rattle.gptp_acts.specs.Pending.{IsKnown, arrival_place}
 
--- the numbers of the entries of one direction of a link, in order of putting, and room for more
-pub record QueueState : Type 0 where
-  pub numbers : List ℕ
-  pub room : ℕ
-
--- the table
+-- the table: timers, the numbers of the entries of each direction of a link, in order of putting, and room for more
 pub record FiledState : Type 0 where
   pub timers : List (Option Running)
-  pub queues : List QueueState
+  pub queues : List (List ℕ)
+  pub room : ℕ
 
 -- ---- queues
 
-abbrev pub no_queue : QueueState
-no_queue = record { numbers = []; room = 0 }
+abbrev pub queue_at : ℕ → FiledState → List ℕ
+queue_at place filed = slice_index_or filed.queues place []
 
-abbrev pub queue_at : ℕ → FiledState → QueueState
-queue_at place filed = slice_index_or filed.queues place no_queue
-
-abbrev pub with_queue : ℕ → QueueState → FiledState → FiledState
-with_queue place queue filed = record filed { queues = slice_set filed.queues place queue }
-
--- how many more numbers can be put at each place
-abbrev pub rooms_of : FiledState → List ℕ
-rooms_of filed = map (λ (q : QueueState). q.room) filed.queues
-
-abbrev pub pushed : ℕ → QueueState → QueueState
-pushed number queue = record { numbers = queue.numbers ++ number ∷ []; room = queue.room - 1 }
-
-abbrev pub popped_from : List ℕ → QueueState → QueueState
-popped_from [] queue = queue
-popped_from (number ∷ numbers) queue = record queue { numbers = numbers }
-
--- a queue without its first number
-abbrev pub popped : QueueState → QueueState
-popped queue = popped_from queue.numbers queue
-
-abbrev pub head_of : List ℕ → Option ℕ
-head_of [] = None
-head_of (number ∷ numbers) = Some number
-
-abbrev pub first_number : QueueState → Option ℕ
-first_number queue = head_of queue.numbers
+-- the queue at a place is this, and there is so much room
+abbrev pub with_queue : ℕ → List ℕ → ℕ → FiledState → FiledState
+with_queue place queue room filed = record filed { queues = slice_set filed.queues place queue; room = room }
 
 -- ---- places
 
@@ -86,4 +58,4 @@ pub record AreFiled (systems links : ℕ) (filed : FiledState) (es : List (Numbe
   pub queues_len : length filed.queues ≡ links * 2
   pub known : AllByRecursion (λ (e : Numbered Item). IsKnown systems links e.item) es
   pub timers : (place : ℕ) → map running (in_slot (2 * place) es) ≡ one_or_none (slice_index_or filed.timers place None)
-  pub queues : (place : ℕ) → map number_of (in_slot (2 * place + 1) es) ≡ (queue_at place filed).numbers
+  pub queues : (place : ℕ) → map number_of (in_slot (2 * place + 1) es) ≡ queue_at place filed

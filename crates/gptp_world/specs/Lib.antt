@@ -1,6 +1,7 @@
 pub mod Aim
 pub mod Buffers
 pub mod Cable
+pub mod Chain
 pub mod Credit
 pub mod Delivering
 pub mod Directory
@@ -9,6 +10,7 @@ pub mod Following
 pub mod Memory
 pub mod Net
 pub mod Observing
+pub mod Pending
 pub mod Performing
 pub mod Room
 pub mod Scene

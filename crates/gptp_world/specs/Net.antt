@@ -28,7 +28,6 @@ pub record OnlyEntries (used : ℕ) (net net' : Between) : Type 0 where
   pub buffers : net'.buffers ≡ net.buffers
   pub systems : net'.pending.systems ≡ net.pending.systems
   pub links : net'.pending.links ≡ net.pending.links
-  pub rooms : net'.pending.rooms ≡ net.pending.rooms
   pub room : net.pending.room ≤ net'.pending.room + used
 
 -- the link at a place is up, or down

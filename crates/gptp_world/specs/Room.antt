@@ -14,7 +14,6 @@ use Rattle.gptp_world.specs.Cable.{HasRoomOn}
 use Rattle.gptp_world.specs.Directory.{BeginsAt}
 use Rattle.gptp_world.specs.Net.{between}
 use Rattle.gptp_acts.specs.World.{port_id}
-use Rattle.gptp_acts.specs.Pending.{PendingState}
 
 -- ---- what is needed
 
@@ -86,7 +85,7 @@ pub record HasRoom (need : Need) (net : Between) : Type 0 where
   pub entries : need.entries ≤ net.pending.room
   pub buffers : need.buffers ≤ net.buffers.ready
   pub lanes : (port : PortId) (lane : Lane) → BeginsAt net.directory.joins port lane
-      → HasRoomOn (need.frames port) lane net.cables.items net.pending
+      → HasRoomOn (need.frames port) lane net.cables.items
 
 -- who is where stays, and where there was room for this and more, there still is room for what is more
 pub record Uses (need : Need) (net net' : Between) : Type 0 where
@@ -95,15 +94,14 @@ pub record Uses (need : Need) (net net' : Between) : Type 0 where
   pub left : (more : Need) → HasRoom (both need more) net → HasRoom more net'
 
 -- where there was room on a link for so many more frames, there still is
-abbrev pub KeepsRoomOn : List Cable → PendingState → List Cable → PendingState → Type 0
-KeepsRoomOn cables pending cables' pending' =
-    (more : ℕ) (lane : Lane) → HasRoomOn more lane cables pending → HasRoomOn more lane cables' pending'
+abbrev pub KeepsRoomOn : List Cable → List Cable → Type 0
+KeepsRoomOn cables cables' = (more : ℕ) (lane : Lane) → HasRoomOn more lane cables → HasRoomOn more lane cables'
 
 -- there is room for a frame that is injected on a lane
 pub record HasRoomToInject (lane : Lane) (net : Between) : Type 0 where
   pub entry : 1 ≤ net.pending.room
   pub buffer : 1 ≤ net.buffers.ready
-  pub frame : HasRoomOn 1 lane net.cables.items net.pending
+  pub frame : HasRoomOn 1 lane net.cables.items
 
 -- nothing changes but the room that there is, and there is no less of it
 pub record OnlyRoom (net net' : Between) : Type 0 where
@@ -113,17 +111,17 @@ pub record OnlyRoom (net net' : Between) : Type 0 where
   pub links : net'.pending.links ≡ net.pending.links
   pub entries : net.pending.room ≤ net'.pending.room
   pub buffers : net.buffers.ready ≤ net'.buffers.ready
-  pub lanes : KeepsRoomOn net.cables.items net.pending net'.cables.items net'.pending
+  pub lanes : KeepsRoomOn net.cables.items net'.cables.items
 
--- a link has room for so many more frames in each direction, and so has what is pending
-abbrev pub HasRoomBothWays : ℕ → ℕ → List Cable → PendingState → Type 0
-HasRoomBothWays more link cables pending =
-    (direction : Direction) → HasRoomOn more (record { link = link; direction = direction }) cables pending
+-- a link has room for so many more frames in each direction
+abbrev pub HasRoomBothWays : ℕ → ℕ → List Cable → Type 0
+HasRoomBothWays more link cables =
+    (direction : Direction) → HasRoomOn more (record { link = link; direction = direction }) cables
 
 -- a lane that begins at this port has room for so many more frames
 abbrev pub HasRoomFrom : ℕ → PortId → Between → Type 0
 HasRoomFrom more port net =
-    (lane : Lane) → BeginsAt net.directory.joins port lane → HasRoomOn more lane net.cables.items net.pending
+    (lane : Lane) → BeginsAt net.directory.joins port lane → HasRoomOn more lane net.cables.items
 
 -- so has each port of the system at a place, up to this one
 abbrev pub HasRoomAtPorts : ℕ → ℕ → ℕ → Between → Type 0

@@ -1,14 +1,16 @@
 //! What is pending, filed by item.
 
-ghost use Rattle.std.specs.Prelude.{◌≡◌, ℕ, ◌+◌, ◌*◌, ◌<◌, ◌≤◌, [], length, IsOk, IfOk, OnOk, None, slice_index_or, slice_set};
+ghost use Rattle.std.specs.Prelude.{◌≡◌, ℕ, ◌+◌, ◌-◌, ◌*◌, ◌<◌, ◌≤◌, [], ◌∷◌, ◌++◌, length, IsOk, IfOk, OnOk, None, slice_index_or, slice_set};
 ghost use Rattle.gptp_acts.specs.Item.{timer_kind, timer_port};
 ghost use Rattle.gptp_acts.specs.Pending.{arrival_place};
-ghost use Rattle.gptp_world.specs.Filed.{first_number, no_queue, popped, pushed, queue_at, timer_place, with_queue};
+ghost use Rattle.gptp_world.specs.Chain.{head_of, rest_of};
+ghost use Rattle.gptp_world.specs.Filed.{queue_at, timer_place, with_queue};
 
+use crate::chain::{Chain, Node};
 use gptp_links::Direction;
 use gptp_system::Timer;
+use slab::Slab;
 use std::alloc::{AllocError, Global};
-use std::collections::VecDeque;
 use std::marker::Model;
 
 /// A timer that runs: when it is due, in ns, and the number of its entry.
@@ -18,75 +20,14 @@ pub(crate) struct Running {
     pub number: u64,
 }
 
-/// The numbers of the entries of one direction of a link, in order of putting. It is seen as their list, and how many
-/// more can be put behind them.
-#[derive(Drop)]
-pub(crate) struct Queue {
-    numbers: VecDeque<u64>,
-    // There is room for so many more, or for more than that: whether there is room is one comparison.
-    spare: usize,
-}
-
-impl Model for Queue {
-    ghost use Rattle.std.specs.Prelude.{◌+◌, ◌≤◌};
-    ghost use Rattle.std.specs.VecDeque.{deque_len, deque_capacity};
-    ghost use Rattle.gptp_world.specs.Filed.{QueueState};
-
-    ghost Value = { QueueState };
-
-    ghost view = { λ q. record { numbers = q.numbers.items; room = q.spare } };
-
-    ghost invariant = { λ q. deque_len q.numbers + q.spare ≤ deque_capacity q.numbers };
-}
-
-impl Queue {
-    /// No number. Takes no memory.
-    fn new(alloc: Global) -> Self
-        ensures { result.numbers ≡ [] }
-    {
-        Queue {
-            numbers: VecDeque::new(alloc),
-            spare: 0,
-        }
-    }
-
-    /// Makes room for so many more numbers.
-    fn reserve(&mut self, additional: usize) -> Result<(), AllocError>
-        ensures kept { self.new ≡ record self.old { room = self.new.room } }
-        ensures room { self.old.room ≤ self.new.room }
-        ensures ok { OnOk result (additional ≤ self.new.room) }
-        ensures succeeds { additional ≤ self.old.room → IsOk result }
-    {
-        if self.spare < additional {
-            self.numbers.reserve(additional)?;
-            self.spare = self.numbers.capacity() - self.numbers.len();
-        }
-        Ok(())
-    }
-
-    /// Puts a number behind all others.
-    fn push(&mut self, number: u64)
-        requires { 0 < self.old.room }
-        ensures { self.new ≡ pushed number self.old }
-    {
-        self.numbers.push_back_reserved(number);
-        self.spare -= 1;
-    }
-
-    /// Takes the first number out.
-    fn pop(&mut self) -> Option<u64>
-        ensures number { result ≡ first_number self.old }
-        ensures rest { self.new ≡ popped self.old }
-    {
-        self.numbers.pop_front()
-    }
-}
-
-/// The timers that run, and the numbers of the arrivals, each at the place of its item. It is seen as the two lists.
+/// The timers that run, and the numbers of the arrivals, each at the place of its item. It is seen as the two lists, and
+/// how many more numbers can be put.
 #[derive(Drop)]
 pub(crate) struct Filed {
     timers: Vec<Option<Running>>,
-    queues: Vec<Queue>,
+    // The numbers of all queues.
+    nodes: Slab<Node>,
+    queues: Vec<Chain>,
 }
 
 impl Model for Filed {
@@ -94,10 +35,17 @@ impl Model for Filed {
 
     ghost Value = { FiledState };
 
+    ghost use Rattle.std.specs.Prelude.{◌-◌, map};
+    ghost use Rattle.slab.specs.Slab.{get, slab_len};
+    ghost use Rattle.gptp_world.specs.Chain.{numbers_in, AreChained};
+
     ghost view = { λ f. record {
       timers = f.timers.items;
-      queues = f.queues.items;
+      queues = map (numbers_in (get f.nodes)) f.queues.items;
+      room = f.nodes.capacity - slab_len f.nodes;
     } };
+
+    ghost invariant = { λ f. AreChained f.nodes f.queues.items };
 }
 
 impl Filed {
@@ -106,11 +54,15 @@ impl Filed {
         ensures timers_len { IfOk result (λ filed. length filed.timers ≡ timers) }
         ensures queues_len { IfOk result (λ filed. length filed.queues ≡ queues) }
         ensures timers { IfOk result (λ filed. (place : ℕ) → slice_index_or filed.timers place None ≡ None) }
-        ensures queues { IfOk result (λ filed. (place : ℕ) → (queue_at place filed).numbers ≡ []) }
+        ensures queues { IfOk result (λ filed. (place : ℕ) → queue_at place filed ≡ []) }
     {
         let timers = vec![in alloc; None; timers]?;
-        let queues = empty_queues(alloc, queues)?;
-        Ok(Filed { timers, queues })
+        let queues = vec![in alloc; Chain::new(); queues]?;
+        Ok(Filed {
+            timers,
+            nodes: Slab::new(alloc),
+            queues,
+        })
     }
 
     /// The timer at a place, where it runs.
@@ -129,46 +81,34 @@ impl Filed {
         self.timers[place] = running;
     }
 
-    /// Makes room for so many more numbers at a place.
-    pub fn reserve(&mut self, place: usize, additional: usize) -> Result<(), AllocError>
-        requires { place < length self.old.queues }
-        ensures kept { self.new ≡ with_queue place (record (queue_at place self.old) { room = (queue_at place self.new).room }) self.old }
-        ensures room { (queue_at place self.old).room ≤ (queue_at place self.new).room }
-        ensures ok { OnOk result (additional ≤ (queue_at place self.new).room) }
-        ensures succeeds { additional ≤ (queue_at place self.old).room → IsOk result }
+    /// Makes room for so many more numbers, wherever they are put.
+    pub fn reserve(&mut self, additional: usize) -> Result<(), AllocError>
+        ensures kept { self.new ≡ record self.old { room = self.new.room } }
+        ensures room { self.old.room ≤ self.new.room }
+        ensures ok { OnOk result (additional ≤ self.new.room) }
+        ensures succeeds { additional ≤ self.old.room → IsOk result }
     {
-        self.queues[place].reserve(additional)
+        self.nodes.reserve(additional)
     }
 
     /// Puts a number behind the others at a place.
     pub fn push(&mut self, place: usize, number: u64)
         requires place { place < length self.old.queues }
-        requires room { 0 < (queue_at place self.old).room }
-        ensures { self.new ≡ with_queue place (pushed number (queue_at place self.old)) self.old }
+        requires room { 0 < self.old.room }
+        ensures { self.new ≡ with_queue place (queue_at place self.old ++ number ∷ []) (self.old.room - 1) self.old }
     {
-        self.queues[place].push(number);
+        self.queues[place].push(&mut self.nodes, number);
     }
 
     /// Takes the first number at a place out.
     pub fn pop(&mut self, place: usize) -> Option<u64>
         requires { place < length self.old.queues }
-        ensures number { result ≡ first_number (queue_at place self.old) }
-        ensures rest { self.new ≡ with_queue place (popped (queue_at place self.old)) self.old }
+        ensures number { result ≡ head_of (queue_at place self.old) }
+        ensures rest { self.new ≡ with_queue place (rest_of (queue_at place self.old)) self.new.room self.old }
+        ensures room { self.old.room ≤ self.new.room }
     {
-        self.queues[place].pop()
+        self.queues[place].pop(&mut self.nodes)
     }
-}
-
-/// So many queues with no number.
-fn empty_queues(alloc: Global, count: usize) -> Result<Vec<Queue>, AllocError>
-    ensures len { IfOk result (λ queues. length queues.items ≡ count) }
-    ensures empty { IfOk result (λ queues. (place : ℕ) → (slice_index_or queues.items place no_queue).numbers ≡ []) }
-{
-    let mut queues = Vec::new(alloc);
-    for _made in 0..count {
-        queues.push(Queue::new(alloc))?;
-    }
-    Ok(queues)
 }
 
 /// The place of a timer.

@@ -11,6 +11,7 @@ mod aim;
 mod arriving;
 mod buffers;
 mod cable;
+mod chain;
 mod changing;
 mod checking;
 mod credit;

@@ -3,7 +3,7 @@
 ghost use Rattle.std.specs.Prelude.{◌≡◌, ℕ, ◌+◌, ◌<◌, ◌≤◌, [], length, not, true, false, Option, IsOk, IfOk, OnOk, IfSome, IfNone, IsTrue};
 ghost use Rattle.std.specs.List.{AllByRecursion};
 ghost use Rattle.gptp_acts.specs.Item.{timer_port};
-ghost use Rattle.gptp_acts.specs.Pending.{arrival_room, listed, put, set_due, times, without, without_first, HasArrivalRoom, IsKnown, IsNext, KeepsArrivalRoom, KeepsOtherRoom};
+ghost use Rattle.gptp_acts.specs.Pending.{listed, put, set_due, times, without, without_first, IsKnown, IsNext};
 ghost use Rattle.gptp_acts.specs.declared.item.Item.TheVariants.{Expiry, Arrival};
 ghost use Rattle.gptp_links.specs.declared.link.Direction.TheVariants.{FromA, FromB};
 ghost use Rattle.gptp_scheduler.specs.Pending.{without as without_number};
@@ -36,8 +36,7 @@ fn take_out(agenda: &mut Agenda<Item>, number: u64)
 /// are named by their places, from 0, and ports by their numbers, up to 16.
 ///
 /// It is seen as how many systems and links there are, the list of what is pending, each with its time in ns, in order
-/// of putting, how many more entries can be put without being refused, and how many more arrivals in each direction of
-/// each link.
+/// of putting, and how many more entries can be put without being refused.
 #[derive(Drop)]
 pub struct Pending {
     systems: usize,
@@ -47,19 +46,19 @@ pub struct Pending {
 }
 
 impl Model for Pending {
-    ghost use Rattle.gptp_acts.specs.Pending.{PendingState};
+    ghost use Rattle.gptp_world.specs.Pending.{PendingState};
 
     ghost Value = { PendingState };
 
+    ghost use Rattle.std.specs.Prelude.{min};
     ghost use Rattle.gptp_acts.specs.Pending.{plain};
-    ghost use Rattle.gptp_world.specs.Filed.{rooms_of, AreFiled};
+    ghost use Rattle.gptp_world.specs.Filed.{AreFiled};
 
     ghost view = { λ p. record {
       systems = p.systems;
       links = p.links;
       entries = plain p.agenda.entries;
-      room = p.agenda.room;
-      rooms = rooms_of p.filed;
+      room = min p.agenda.room p.filed.room;
     } };
 
     ghost invariant = { λ p. AreFiled p.systems p.links p.filed p.agenda.entries };
@@ -92,22 +91,8 @@ impl Pending {
         ensures ok { OnOk result (additional ≤ self.new.room) }
         ensures succeeds { additional ≤ self.old.room → IsOk result }
     {
-        self.agenda.reserve(additional)
-    }
-
-    /// Makes room for so many more arrivals in each direction of a link: after `Ok` the next so many in each find it,
-    /// where there is room for entries. Refused where there is no memory for them. Nothing else changes.
-    pub fn reserve_arrivals(&mut self, link: usize, additional: usize) -> Result<(), AllocError>
-        requires { link < self.old.links }
-        ensures kept { self.new ≡ record self.old { rooms = self.new.rooms } }
-        ensures room { KeepsArrivalRoom self.old self.new }
-        ensures ok { OnOk result (HasArrivalRoom link additional self.new) }
-        ensures succeeds { HasArrivalRoom link additional self.old → IsOk result }
-    {
-        self.filed
-            .reserve(arrival_place(link, Direction::FromA), additional)?;
-        self.filed
-            .reserve(arrival_place(link, Direction::FromB), additional)
+        self.agenda.reserve(additional)?;
+        self.filed.reserve(additional)
     }
 
     /// When a timer of a system is due, in ns, where it runs.
@@ -166,7 +151,6 @@ impl Pending {
         requires { IsKnown self.old.systems self.old.links (Expiry place timer) }
         ensures kept { self.new ≡ record self.old { entries = without_first (Expiry place timer) self.old.entries; room = self.new.room } }
         ensures room { self.old.room ≤ self.new.room }
-        ensures arrivals { KeepsArrivalRoom self.old self.new }
         ensures once { length (times (Expiry place timer) self.old.entries) ≤ 1 }
     {
         self.agenda.numbers_rise();
@@ -184,11 +168,8 @@ impl Pending {
     pub fn put_arrival(&mut self, link: usize, direction: Direction, due: u64)
         requires link { link < self.old.links }
         requires room { 0 < self.old.room }
-        requires arrivals { 0 < arrival_room link direction self.old }
-        ensures kept { self.new ≡ record self.old { entries = put due (Arrival link direction) self.old.entries; room = self.new.room; rooms = self.new.rooms } }
+        ensures kept { self.new ≡ record self.old { entries = put due (Arrival link direction) self.old.entries; room = self.new.room } }
         ensures room { self.old.room ≤ self.new.room + 1 }
-        ensures arrivals { arrival_room link direction self.old ≤ arrival_room link direction self.new + 1 }
-        ensures others { KeepsOtherRoom link direction self.old self.new }
     {
         let number = self
             .agenda
@@ -206,9 +187,8 @@ impl Pending {
     /// Takes the first arrival over a link in a direction out, and answers whether there was one.
     pub fn take_arrival(&mut self, link: usize, direction: Direction) -> bool
         requires { link < self.old.links }
-        ensures kept { self.new ≡ record self.old { entries = without_first (Arrival link direction) self.old.entries; room = self.new.room; rooms = self.new.rooms } }
+        ensures kept { self.new ≡ record self.old { entries = without_first (Arrival link direction) self.old.entries; room = self.new.room } }
         ensures room { self.old.room ≤ self.new.room }
-        ensures arrivals { KeepsArrivalRoom self.old self.new }
         ensures none { result ≡ false → times (Arrival link direction) self.old.entries ≡ [] }
         ensures one { result ≡ true → length self.new.entries < length self.old.entries }
     {
@@ -225,9 +205,8 @@ impl Pending {
     /// Cancels all arrivals over a link.
     pub fn cancel_arrivals(&mut self, link: usize)
         requires { link < self.old.links }
-        ensures kept { self.new ≡ record self.old { entries = without (Arrival link FromB) (without (Arrival link FromA) self.old.entries); room = self.new.room; rooms = self.new.rooms } }
+        ensures kept { self.new ≡ record self.old { entries = without (Arrival link FromB) (without (Arrival link FromA) self.old.entries); room = self.new.room } }
         ensures room { self.old.room ≤ self.new.room }
-        ensures arrivals { KeepsArrivalRoom self.old self.new }
     {
         self.cancel_direction(link, Direction::FromA);
         self.cancel_direction(link, Direction::FromB);
@@ -236,9 +215,8 @@ impl Pending {
     /// Cancels all arrivals over a link in a direction.
     fn cancel_direction(&mut self, link: usize, direction: Direction)
         requires { link < self.old.links }
-        ensures kept { self.new ≡ record self.old { entries = without (Arrival link direction) self.old.entries; room = self.new.room; rooms = self.new.rooms } }
+        ensures kept { self.new ≡ record self.old { entries = without (Arrival link direction) self.old.entries; room = self.new.room } }
         ensures room { self.old.room ≤ self.new.room }
-        ensures arrivals { KeepsArrivalRoom self.old self.new }
     {
         while self.take_arrival(link, direction) {}
     }

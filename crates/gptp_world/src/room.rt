@@ -6,28 +6,19 @@ ghost use Rattle.gptp_world.specs.Room.{HasRoomBothWays, KeepsRoomOn};
 
 use crate::cable::{Cable, Lane};
 use crate::net::Net;
-use crate::pending::Pending;
 use crate::stage::Stage;
 use std::alloc::AllocError;
 
 /// Makes room for so many more frames in each direction of a link. Refused where there is no memory for them. No frame
 /// changes.
-fn make_room_on(
-    cables: &mut [Cable],
-    pending: &mut Pending,
-    link: usize,
-    frames: usize,
-) -> Result<(), AllocError>
-    requires link { link < length cables.old }
-    requires links { length cables.old ≤ pending.old.links }
+fn make_room_on(cables: &mut [Cable], link: usize, frames: usize) -> Result<(), AllocError>
+    requires { link < length cables.old }
     ensures joins { map join_of cables.new ≡ map join_of cables.old }
     ensures channels { map channel_of cables.new ≡ map channel_of cables.old }
-    ensures pending { pending.new ≡ record pending.old { rooms = pending.new.rooms } }
-    ensures kept { KeepsRoomOn cables.old pending.old cables.new pending.new }
-    ensures ok { OnOk result (HasRoomBothWays frames link cables.new pending.new) }
+    ensures kept { KeepsRoomOn cables.old cables.new }
+    ensures ok { OnOk result (HasRoomBothWays frames link cables.new) }
 {
-    cables[link].link.reserve(frames)?;
-    pending.reserve_arrivals(link, frames)
+    cables[link].link.reserve(frames)
 }
 
 impl Net {
@@ -46,12 +37,7 @@ impl Net {
         ensures ok { OnOk result ((clock : ℕ) → slice_get self.new.directory.clocks place ≡ Some clock → HasRoomFrom frames (port_id clock port) self.new) }
     {
         match self.directory.lane_from(place, port) {
-            Some(lane) => make_room_on(
-                self.cables.as_mut_slice(),
-                &mut self.pending,
-                lane.link,
-                frames,
-            ),
+            Some(lane) => make_room_on(self.cables.as_mut_slice(), lane.link, frames),
             None => Ok(()),
         }
     }
@@ -84,9 +70,9 @@ impl Net {
         requires link { link < length self.old.cables.items }
         ensures net { IsNet self.new }
         ensures only { OnlyRoom self.old self.new }
-        ensures ok { OnOk result (HasRoomBothWays 1 link self.new.cables.items self.new.pending) }
+        ensures ok { OnOk result (HasRoomBothWays 1 link self.new.cables.items) }
     {
-        make_room_on(self.cables.as_mut_slice(), &mut self.pending, link, 1)
+        make_room_on(self.cables.as_mut_slice(), link, 1)
     }
 
     /// Makes room for so many more entries, and buffers until so many stand ready. Refused where there is no memory for

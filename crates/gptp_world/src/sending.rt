@@ -3,7 +3,7 @@
 ghost use Rattle.std.specs.Prelude.{◌≡◌, ◌≢◌, ℕ, ◌<◌, ◌≤◌, ◌+◌, ◌^◌, map, length, Some, None, true, slice_get};
 ghost use Rattle.gptp_links.specs.Queue.{IsSent};
 ghost use Rattle.gptp_links.specs.State.{queue, ChangesOnly};
-ghost use Rattle.gptp_acts.specs.Pending.{put_if, arrival_room, KeepsOtherRoom};
+ghost use Rattle.gptp_acts.specs.Pending.{put_if};
 ghost use Rattle.gptp_world.specs.Cable.{join_of, net_of, channel_of, HasRoomOn, SentOne};
 ghost use Rattle.gptp_acts.specs.World.{sender};
 
@@ -36,13 +36,10 @@ fn send_on<F: Fate>(
 fn await_arrival(pending: &mut Pending, lane: Lane, due: Option<u64>)
     requires link { lane.link < pending.old.links }
     requires room { 0 < pending.old.room }
-    requires arrivals { 0 < arrival_room lane.link lane.direction pending.old }
     ensures entries { pending.new.entries ≡ put_if (Item.Arrival lane.link lane.direction) due pending.old.entries }
     ensures systems { pending.new.systems ≡ pending.old.systems }
     ensures links { pending.new.links ≡ pending.old.links }
     ensures room { pending.old.room ≤ pending.new.room + 1 }
-    ensures arrivals { arrival_room lane.link lane.direction pending.old ≤ arrival_room lane.link lane.direction pending.new + 1 }
-    ensures others { KeepsOtherRoom lane.link lane.direction pending.old pending.new }
 {
     match due {
         Some(due) => pending.put_arrival(lane.link, lane.direction, due),
@@ -62,15 +59,15 @@ pub(crate) fn send_one<F: Fate>(
     requires early { now ≤ 10 ^ 15 }
     requires links { length cables.old ≤ pending.old.links }
     requires entry { 0 < pending.old.room }
-    requires room { HasRoomOn 1 lane cables.old pending.old }
+    requires room { HasRoomOn 1 lane cables.old }
     requires up { (c : Cable) → slice_get cables.old lane.link ≡ Some c → c.link.up ≡ true }
     ensures sent { (c : Cable) → slice_get cables.old lane.link ≡ Some c → SentOne F.answers now (sender lane.direction (channel_of c)) octets.items fate.old fate.new (net_of cables.old pending.old) (net_of cables.new pending.new) }
     ensures systems { pending.new.systems ≡ pending.old.systems }
     ensures links { pending.new.links ≡ pending.old.links }
     ensures entries { pending.old.room ≤ pending.new.room + 1 }
     ensures joins { map join_of cables.new ≡ map join_of cables.old }
-    ensures room { (more : ℕ) (other : Lane) → HasRoomOn (more + 1) other cables.old pending.old → HasRoomOn more other cables.new pending.new }
-    ensures elsewhere { (more : ℕ) (other : Lane) → other ≢ lane → HasRoomOn more other cables.old pending.old → HasRoomOn more other cables.new pending.new }
+    ensures room { (more : ℕ) (other : Lane) → HasRoomOn (more + 1) other cables.old → HasRoomOn more other cables.new }
+    ensures elsewhere { (more : ℕ) (other : Lane) → other ≢ lane → HasRoomOn more other cables.old → HasRoomOn more other cables.new }
 {
     let due = send_on(&mut cables[lane.link], lane.direction, octets, now, fate);
     await_arrival(pending, lane, due);

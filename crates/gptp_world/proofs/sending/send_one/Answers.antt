@@ -39,14 +39,13 @@ returns-clause-room g c = λ more other has.
     let room = c.requires.room in
     let here = stands cables link room.cable d room.here in
     let e = c.send_on-due.ensures in
-    room_left more c.args.lane other cables (slice_index_or cables link d) c.send_on-due.new.cable c.args.pending.now
-    c.await_arrival.new.pending here e.others e.room c.await_arrival.ensures.arrivals c.await_arrival.ensures.others has
+    room_left more c.args.lane other cables (slice_index_or cables link d) c.send_on-due.new.cable here e.others e.room
+    has
 
 pub returns-clause-elsewhere : goal.returns-clause-elsewhere
 returns-clause-elsewhere g c = λ more other apart has.
     let d = c.index-cables-lane.result in let cables = c.args.cables.now in let link = c.args.lane.link in
     let room = c.requires.room in
     let here = stands cables link room.cable d room.here in
-    room_elsewhere more c.args.lane other cables (slice_index_or cables link d) c.send_on-due.new.cable
-    c.args.pending.now
-    c.await_arrival.new.pending here c.send_on-due.ensures.others c.await_arrival.ensures.others apart has
+    room_elsewhere more c.args.lane other cables (slice_index_or cables link d) c.send_on-due.new.cable here
+    c.send_on-due.ensures.others apart has

@@ -25,5 +25,4 @@ returns-clause-uses c =
     let here = slice_get-get_or cables c.args.link one c.requires.link ∙ ap Some (sym c.index_mut.ensures.value) in
     let link = c.up.ensures in
     uses_nothing c.args.self.now _ refl refl (omega arith) (omega arith)
-    (kept_on cables c.args.link one _ c.args.self.now.pending c.args.self.now.pending here
-    (rw link (record { from_a = omega arith; from_b = omega arith })) (λ other direction. omega arith))
+    (kept_on cables c.args.link one _ here (rw link (record { from_a = omega arith; from_b = omega arith })))

@@ -4,8 +4,8 @@ use Rattle.gptp_world.proofs.NetLemmas.{known_cable, written_back}
 use Rattle.gptp_world.proofs.QueueLemmas.{on_ok}
 use Rattle.gptp_world.proofs.net.Net.make_room_at.Goals as goal
 
-pub make_room_on-requires-clause-link : goal.make_room_on-requires-clause-link
-make_room_on-requires-clause-link c =
+pub make_room_on-requires : goal.make_room_on-requires
+make_room_on-requires c =
     let here = slice_get-get_or c.args.self.now.directory.clocks c.args.place 0 c.requires.place in
     let begins = c.in-Some.ensures.some _ here in
     let known = known_cable c.args.self.now _ c.in-Some.lane c.requires.net begins in

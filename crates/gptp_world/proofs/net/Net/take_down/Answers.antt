@@ -1,6 +1,6 @@
 use Rattle.std.proofs.Common.{◌≡◌, Some, refl, ap, sym, ◌∙◌, arith}
 use Rattle.std.proofs.lemmas.Option.{slice_get-get_or}
-use Rattle.gptp_acts.specs.Pending.{PendingState}
+use Rattle.gptp_world.specs.Pending.{PendingState}
 use Rattle.gptp_lists.proofs.PlaceLemmas.{read}
 use Rattle.gptp_world.proofs.NeedLemmas.{uses_nothing}
 use Rattle.gptp_world.proofs.RoomLemmas.{kept_on}
@@ -29,5 +29,4 @@ returns-clause-uses c =
     let here = slice_get-get_or cables c.args.link one c.requires.link ∙ ap Some (sym c.index_mut.ensures.value) in
     let e = c.cancel_arrivals.ensures in
     uses_nothing c.args.self.now _ refl (ap (λ (p : PendingState). p.systems) e.kept) e.room (omega arith)
-    (kept_on cables c.args.link one _ c.args.self.now.pending c.cancel_arrivals.new.self here c.down.ensures.room
-    e.arrivals)
+    (kept_on cables c.args.link one _ here c.down.ensures.room)

@@ -1,7 +1,7 @@
 use Rattle.std.proofs.Common.{◌≡◌, Some, refl, ap, sym, ◌∙◌, arith}
 use Rattle.std.proofs.lemmas.List.{length-set}
 use Rattle.std.proofs.lemmas.Option.{same_Some}
-use Rattle.gptp_acts.specs.Pending.{PendingState}
+use Rattle.gptp_world.specs.Pending.{PendingState}
 use Rattle.gptp_lists.proofs.PlaceLemmas.{read}
 use Rattle.gptp_world.proofs.ArrivingLemmas.{joins_kept, taken}
 use Rattle.gptp_world.proofs.NeedLemmas.{uses_nothing}
@@ -42,5 +42,4 @@ returns-clause-uses c =
     let e = c.deliver_on-octets.ensures in let gone = c.take_arrival.ensures in
     let systems = ap (λ (p : PendingState). p.systems) gone.kept in
     uses_nothing c.args.self.now _ refl systems gone.room (omega arith)
-    (kept_on cables c.args.lane.link one c.deliver_on-octets.new.cable c.args.self.now.pending
-    c.take_arrival.new.self here e.room gone.arrivals)
+    (kept_on cables c.args.lane.link one c.deliver_on-octets.new.cable here e.room)

@@ -1,5 +1,5 @@
 use Rattle.std.proofs.Common.{refl, ap, arith}
-use Rattle.gptp_acts.specs.Pending.{PendingState}
+use Rattle.gptp_world.specs.Pending.{PendingState}
 use Rattle.gptp_world.proofs.NeedLemmas.{uses_nothing}
 use Rattle.gptp_world.proofs.net.Net.take_timer.Goals as goal
 
@@ -7,6 +7,4 @@ pub returns-clause-uses : goal.returns-clause-uses
 returns-clause-uses c =
     let e = c.stop.ensures in let room = e.room in
     uses_nothing c.args.self.now _ refl (ap (λ (p : PendingState). p.systems) e.kept) room (omega arith)
-    (λ more lane has.
-    let had = has.arrivals in let no_less = e.arrivals lane.link lane.direction in
-    record { cable = has.cable; here = has.here; room = has.room; arrivals = omega (arith, had, no_less) })
+    (λ more lane has. has)

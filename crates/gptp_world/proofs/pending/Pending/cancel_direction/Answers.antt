@@ -1,7 +1,9 @@
 use Rattle.std.proofs.Common.{refl, sym, ap, ◌∙◌, arith}
 use Rattle.gptp_acts.specs.declared.item.Item.TheVariants.{Arrival}
-use Rattle.gptp_acts.specs.Pending.{PendingState, without}
-use Rattle.gptp_acts.proofs.PendingLemmas.{same_state, without-first, without-none, without_first-none}
+use Rattle.gptp_acts.specs.Pending.{without}
+use Rattle.gptp_world.specs.Pending.{PendingState}
+use Rattle.gptp_world.proofs.PendingLemmas.{same_state}
+use Rattle.gptp_acts.proofs.PendingLemmas.{without-first, without-none, without_first-none}
 use Rattle.gptp_world.proofs.pending.Pending.cancel_direction.Goals as goal
 
 pub loop-direction-preserved : goal.loop-direction-preserved
@@ -16,8 +18,6 @@ loop-direction-preserved c =
           ∙ without-first item c.loop-direction.self.entries
           ∙ so_far.entries;
       room = omega (arith, took.room, so_far.room);
-      arrivals = λ link direction. let a = so_far.arrivals link direction in let b =
-          took.arrivals link direction in omega (arith, a, b);
     }
 
 pub returns-clause-kept : goal.returns-clause-kept
@@ -30,4 +30,4 @@ returns-clause-kept c =
     (ap (λ (p : PendingState). p.links) took.kept ∙ so_far.links)
     (ap (λ (p : PendingState). p.entries) took.kept ∙ without_first-none item c.loop-direction.self.entries none
     ∙ sym (without-none item c.loop-direction.self.entries none) ∙ so_far.entries)
-    refl refl
+    refl

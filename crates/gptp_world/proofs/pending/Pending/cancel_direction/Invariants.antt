@@ -1,6 +1,6 @@
 use Rattle.std.proofs.Common.{length}
 use Rattle.gptp_acts.specs.declared.item.Item.TheVariants.{Arrival}
-use Rattle.gptp_acts.proofs.PendingLemmas.{Cancels}
+use Rattle.gptp_world.proofs.PendingLemmas.{Cancels}
 use Rattle.gptp_world.proofs.pending.Pending.cancel_direction.Given as goal
 
 abbrev pub invariant-loop-direction : goal.invariant-loop-direction

@@ -1,7 +1,9 @@
 use Rattle.std.proofs.Common.{◌≡◌, refl, sym, ap, ◌∙◌}
 use Rattle.gptp_acts.specs.declared.item.Item.TheVariants.{Expiry}
-use Rattle.gptp_acts.specs.Pending.{PendingState, put, put_if, set_due, times, without_first}
-use Rattle.gptp_acts.proofs.PendingLemmas.{not_listed, same_state, set_due-replaced, times-stopped}
+use Rattle.gptp_acts.specs.Pending.{put, put_if, set_due, times, without_first}
+use Rattle.gptp_acts.proofs.PendingLemmas.{not_listed, set_due-replaced, times-stopped}
+use Rattle.gptp_world.specs.Pending.{PendingState}
+use Rattle.gptp_world.proofs.PendingLemmas.{same_state}
 use Rattle.gptp_world.proofs.pending.Pending.set_due.Goals as goal
 
 pub start-requires-clause-stopped : goal.start-requires-clause-stopped
@@ -23,7 +25,7 @@ returns-in-Some-clause-kept c =
     (p : PendingState). p.links) c.stop.ensures.kept)
     (ap (λ (p : PendingState). put c.in-Some.time item p.entries) c.stop.ensures.kept
     ∙ sym (replaced ∙ ap (λ due. put_if item due (without_first item c.args.self.now.entries)) c.in-Some.is))
-    refl (ap (λ (p : PendingState). p.rooms) c.stop.ensures.kept)
+    refl
 
 pub returns-in-None-clause-kept : goal.returns-in-None-clause-kept
 returns-in-None-clause-kept c =
@@ -36,4 +38,4 @@ returns-in-None-clause-kept c =
     c.stop.ensures.once in
     c.stop.ensures.kept
     ∙ same_state _ _ refl refl
-    (sym (replaced ∙ ap (λ due. put_if item due (without_first item c.args.self.now.entries)) c.in-None.is)) refl refl
+    (sym (replaced ∙ ap (λ due. put_if item due (without_first item c.args.self.now.entries)) c.in-None.is)) refl

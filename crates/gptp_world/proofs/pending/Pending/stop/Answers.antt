@@ -1,5 +1,5 @@
 use Rattle.std.proofs.Common.{refl, sym, ◌∙◌}
-use Rattle.gptp_acts.proofs.PendingLemmas.{same_state}
+use Rattle.gptp_world.proofs.PendingLemmas.{same_state}
 use Rattle.gptp_world.proofs.FiledLemmas.{filed-stopped, plain-stopped, plain-not_filed, times-once}
 use Rattle.gptp_world.proofs.pending.Pending.stop.Goals as goal
 
@@ -22,7 +22,7 @@ returns-in-Some-clause-kept c =
     (same_state _ _ refl refl
     (plain-stopped p.systems p.links p.filed p.agenda.entries c.self.invariant c.args.place c.args.timer known
     c.in-Some.running
-    runs p.agenda.next c.numbers_rise.ensures) refl refl)
+    runs p.agenda.next c.numbers_rise.ensures) refl)
 
 pub returns-in-Some-clause-once : goal.returns-in-Some-clause-once
 returns-in-Some-clause-once c =
@@ -40,7 +40,7 @@ returns-in-None-clause-kept c =
     (same_state _ _ refl refl
     (sym (plain-not_filed p.systems p.links p.filed p.agenda.entries c.self.invariant c.args.place c.args.timer known
     none))
-    refl refl)
+    refl)
 
 pub returns-in-None-clause-once : goal.returns-in-None-clause-once
 returns-in-None-clause-once c =

@@ -1,10 +1,11 @@
-use Rattle.std.proofs.Common.{◌<◌, length, refl, sym, ◌∙◌, arith}
+use Rattle.std.proofs.Common.{refl, sym, ◌∙◌}
 use Rattle.gptp_acts.specs.Pending.{arrival_place, plain}
-use Rattle.gptp_world.specs.Filed.{popped, queue_at}
+use Rattle.gptp_world.specs.Filed.{queue_at}
 use Rattle.gptp_acts.specs.declared.item.Item.TheVariants.{Arrival}
-use Rattle.gptp_acts.proofs.PendingLemmas.{same_state, without_first-none}
-use Rattle.gptp_world.proofs.QueueLemmas.{front_is, no_front, popped-room, room-kept}
-use Rattle.gptp_world.proofs.FiledLemmas.{arrival_within, filed-taken, plain-taken, shrinks-taken, times-no_arrival}
+use Rattle.gptp_acts.proofs.PendingLemmas.{without_first-none}
+use Rattle.gptp_world.proofs.PendingLemmas.{same_state}
+use Rattle.gptp_world.proofs.QueueLemmas.{front_is, no_front}
+use Rattle.gptp_world.proofs.FiledLemmas.{filed-taken, plain-taken, shrinks-taken, times-no_arrival}
 use Rattle.gptp_world.proofs.pending.Pending.take_arrival.Goals as goal
 
 pub invariant_of-self : goal.invariant_of-self
@@ -15,7 +16,7 @@ invariant_of-self c =
     (sym c.in-Some.is ∙ rw c.arrival_place.ensures at c.pop.ensures.number) in
     rw (c.pop.ensures.rest, c.arrival_place.ensures, c.take_out.ensures.taken)
     (filed-taken p.systems p.links p.filed p.agenda.entries c.self.invariant c.args.link c.args.direction known
-    c.in-Some.number first.0 first.1
+    c.in-Some.number first.0 c.pop.new.self.room first.1
     p.agenda.next c.numbers_rise.ensures)
 
 pub returns-in-Some-clause-kept : goal.returns-in-Some-clause-kept
@@ -27,20 +28,8 @@ returns-in-Some-clause-kept c =
     rw (← c.self.view_is, c.take_out.ensures.taken)
     (same_state _ _ refl refl
     (plain-taken p.systems p.links p.filed p.agenda.entries c.self.invariant c.args.link c.args.direction known
-    c.in-Some.number first.0 first.1
-    p.agenda.next c.numbers_rise.ensures) refl refl)
-
-pub returns-in-Some-clause-arrivals : goal.returns-in-Some-clause-arrivals
-returns-in-Some-clause-arrivals c = λ link direction.
-    let p = c.self.inside in
-    let known = rw (← c.self.view_is) at c.requires in
-    let place = c.arrival_place.ensures in
-    let within : c.arrival_place.result < length p.filed.queues =
-    omega (arith, c.self.invariant.queues_len, arrival_within p.links c.args.link c.args.direction known) in
-    rw (← c.self.view_is, c.pop.ensures.rest)
-    (room-kept p.filed c.arrival_place.result (arrival_place link direction)
-    (popped (queue_at c.arrival_place.result p.filed)) within
-    (popped-room (queue_at c.arrival_place.result p.filed)))
+    c.in-Some.number first.0 c.pop.new.self.room first.1
+    p.agenda.next c.numbers_rise.ensures) refl)
 
 pub returns-in-Some-clause-one : goal.returns-in-Some-clause-one
 returns-in-Some-clause-one c = λ _.
@@ -50,7 +39,7 @@ returns-in-Some-clause-one c = λ _.
     (sym c.in-Some.is ∙ rw c.arrival_place.ensures at c.pop.ensures.number) in
     rw (← c.self.view_is, c.take_out.ensures.taken)
     (shrinks-taken p.systems p.links p.filed p.agenda.entries c.self.invariant c.args.link c.args.direction known
-    c.in-Some.number first.0 first.1
+    c.in-Some.number first.0 c.pop.new.self.room first.1
     p.agenda.next c.numbers_rise.ensures)
 
 pub returns-in-None-clause-kept : goal.returns-in-None-clause-kept
@@ -64,7 +53,7 @@ returns-in-None-clause-kept c =
     (sym (without_first-none (Arrival c.args.link c.args.direction) (plain p.agenda.entries)
     (times-no_arrival p.systems p.links p.filed p.agenda.entries c.self.invariant c.args.link c.args.direction known
     none)))
-    refl refl)
+    refl)
 
 pub returns-in-None-clause-none : goal.returns-in-None-clause-none
 returns-in-None-clause-none c = λ _.
