@@ -1,5 +1,5 @@
 -- A document and what is asked of its timeline have one text, and one status.
-use Rattle.std.proofs.Common.{◌≡◌, ◌≢◌, ℕ, Bool, true, false, nat_le, List, [], ◌∷◌, ◌++◌, length, map, Option, Some, None, refl, sym, ap, ap₂, subst, ◌∙◌, inl, inr}
+use Rattle.std.proofs.Common.{◌≡◌, ℕ, Bool, true, false, nat_le, List, [], ◌∷◌, ◌++◌, length, map, Option, Some, None, refl, sym, ap, ap₂, subst, ◌∙◌, inl, inr}
 use Rattle.std.specs.Bool.{⊤, MatchBool}
 use Rattle.std.specs.List.{flat_map}
 use Rattle.gptp_links.specs.declared.bounds.Bounds.{Bounds}
@@ -19,22 +19,21 @@ use Rattle.gptp_plan.specs.SettlingTime.{settling_span}
 use Rattle.gptp_plan.specs.declared.change.Timed.{Timed}
 use Rattle.gptp_report.specs.Transitions.{Courses, Transition}
 use Rattle.gptp_outcome.specs.Named.{AnswersOnce, IsNamed}
-use Rattle.gptp_outcome.specs.TransitionLaws.{IsSameWay, SameTransitions}
+use Rattle.gptp_outcome.specs.TransitionLaws.{SameTransitions}
 use Rattle.gptp_outcome.proofs.CourseLemmas.{begins_once}
 use Rattle.gptp_outcome.proofs.MeantLemmas.{meant_named, meant_names}
 use Rattle.gptp_outcome.proofs.NameLemmas.{begun_named, NamesOne}
 use Rattle.gptp_outcome.proofs.TransitionLemmas.{courses_named, courses_once}
-use Rattle.gptp_time_error.specs.TimeErrors.{AreTimeErrors}
 use Rattle.gptp_time_error.specs.declared.errors.SystemError.{SystemError}
 use Rattle.gptp_time_error.specs.declared.errors.TimeErrors.{TimeErrors}
 use Rattle.gptp_time_error.proofs.OneLemmas.{errors_once}
 use Rattle.gptp_time_error.proofs.WayLemmas.{HasOneEach}
-use Rattle.gptp_timeline.specs.End.{IsDefaultEnd, end_behind}
+use Rattle.gptp_timeline.specs.End.{end_behind}
 use Rattle.gptp_timeline.specs.Limits.{exceeded_after, is_exceeded, not_exceeded, verdict_lines}
 use Rattle.gptp_timeline.specs.Shown.{shown}
-use Rattle.gptp_timeline.specs.Stretch.{counted, error_from, measured, waits}
+use Rattle.gptp_timeline.specs.Stretch.{counted, measured, waits}
 use Rattle.gptp_timeline.specs.StretchText.{after_line, system_accuracy}
-use Rattle.gptp_timeline.specs.Timeline.{AllPass, AreErrorsBy, HoldsBy, IsPassage, Passage, TimelineOf, accuracy_at, accuracy_lines, act_lines, all_exceeded, all_lines, end_before, is_begun, later_than, none_waits, now_of, passage_lines, start_lines, stretch_of}
+use Rattle.gptp_timeline.specs.Timeline.{AllPass, AreErrorsBy, IsPassage, Passage, TimelineOf, accuracy_at, accuracy_lines, all_exceeded, all_lines, is_begun, later_than, none_waits, passage_lines, start_lines, stretch_of}
 use Rattle.gptp_timeline.specs.declared.limits.Limits.{Limits}
 use Rattle.gptp_timeline.specs.declared.timeline.TimelineOptions.{TimelineOptions}
 use Rattle.gptp_commands.specs.declared.failure.Status.{Status}

@@ -1,5 +1,5 @@
 -- What a timeline tells of acts follows from their times, the worlds between them, and who received.
-use Rattle.std.proofs.Common.{◌≡◌, ◌==◌, ◌&&◌, ℕ, Bool, true, false, cond, not, nat_le, if◌then◌else◌, List, [], ◌∷◌, ◌++◌, map, Option, Some, None, refl, sym, ap, ap₂, ◌∙◌}
+use Rattle.std.proofs.Common.{◌≡◌, ◌==◌, ◌&&◌, ℕ, Bool, true, false, cond, not, nat_le, if◌then◌else◌, List, [], ◌∷◌, ◌++◌, Option, Some, None, refl, sym, ap, ◌∙◌}
 use Rattle.std.specs.Prelude.{unsigned_abs}
 use Rattle.std.specs.List.{cons_option, filter, filter_map, flat_map, list_any}
 use Rattle.std.specs.Option.{option_and_then, option_map, option_map_or, option_or}
@@ -15,7 +15,7 @@ use Rattle.gptp_timeline.specs.Limits.{amount_of}
 use Rattle.gptp_timeline.specs.Measures.{ended_by, greatest, one_at, since_after}
 use Rattle.gptp_timeline.specs.Receipts.{received_by, receiver}
 use Rattle.gptp_timeline.specs.Shown.{is_expecting, same_choice, same_roles, shown}
-use Rattle.gptp_timeline.specs.Stretch.{at_of, counts_for, ended, ended_in, error_at, error_from, error_in, holdover, is_change, last_at, leaves_another, measured, same_known, under_way, waits, waits_after, worst_error}
+use Rattle.gptp_timeline.specs.Stretch.{counts_for, ended, ended_in, error_at, error_from, error_in, holdover, is_change, last_at, leaves_another, measured, same_known, under_way, waits, waits_after}
 use Rattle.gptp_timeline.specs.Timeline.{act_lines, event_lines, offset_lines}
 use Rattle.gptp_timeline.specs.Watch.{unless}
 use Rattle.gptp_timeline.specs.declared.timeline.TimelineOptions.{TimelineOptions}
