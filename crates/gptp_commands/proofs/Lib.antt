@@ -9,6 +9,8 @@ pub mod LawLemmas
 pub mod VerdictLemmas
 pub mod OneRunLemmas
 pub mod OnePlaceLemmas
+pub mod SameActLemmas
+pub mod OneTimelineLemmas
 pub mod CertifiedLemmas
 pub mod CommandLemmas
 pub mod OptionLemmas

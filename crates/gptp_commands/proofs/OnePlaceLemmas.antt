@@ -7,7 +7,6 @@ use Rattle.gptp_graph.specs.Labelling.{line_clocks}
 use Rattle.gptp_graph.specs.Order.{IsRising}
 use Rattle.gptp_graph.specs.Snapshot.{IsWellFormed, Snapshot}
 use Rattle.gptp_network.specs.Document.{DocumentState, Fails as FailsDocument, Means}
-use Rattle.gptp_network.specs.Snapshot.{IsSnapshot}
 use Rattle.gptp_network.specs.declared.fault.DocumentFault.{DocumentFault}
 use Rattle.gptp_network.specs.declared.fault.DocumentFault.TheVariants.{TooMany}
 use Rattle.gptp_network.proofs.LawLemmas as network_laws
@@ -18,17 +17,15 @@ use Rattle.gptp_certificate_text.specs.Parsing.{Fails}
 use Rattle.gptp_certificate_text.specs.declared.fault.CertificateFault.{CertificateFault}
 use Rattle.gptp_certificate_text.specs.declared.fault.CertificateFault.TheVariants.{Line}
 use Rattle.gptp_certificate_text.proofs.LawLemmas as certificate_laws
-use Rattle.gptp_checker.specs.Faults.{IsFirstFault}
 use Rattle.gptp_checker.specs.Located.{IsLocation}
 use Rattle.gptp_checker.specs.declared.fault.Fault.{Fault}
 use Rattle.gptp_checker.specs.declared.location.Location.{Location}
 use Rattle.gptp_checker.proofs.LawLemmas as checker_laws
 use Rattle.gptp_checker.proofs.OneLocationLemmas.{one_location}
 use Rattle.gptp_commands.specs.declared.failure.Status.{Status}
-use Rattle.gptp_commands.specs.CheckText.{AnswersBoth, AnswersCertificate, CheckText, JudgesAt, RefusesCertificate, certificate_limit, moment_of}
-use Rattle.gptp_commands.specs.Limited.{Limited}
+use Rattle.gptp_commands.specs.CheckText.{AnswersBoth, AnswersCertificate, JudgesAt, RefusesCertificate, certificate_limit, moment_of}
 use Rattle.gptp_commands.specs.RunText.{RefusesFault, document_limit}
-use Rattle.gptp_commands.specs.WhereText.{LocatesAt, LocatesBoth, LocatesCertificate, LocatesDocument, LocatesEnd, LocatesFault, LocatesLimited, LocatesLine, WhereText, line_behind, place_text}
+use Rattle.gptp_commands.specs.WhereText.{LocatesAt, LocatesCertificate, LocatesDocument, LocatesEnd, LocatesFault, LocatesLimited, LocatesLine, WhereText, line_behind, place_text}
 use Rattle.gptp_commands.proofs.VerdictLemmas.{AreSame, one_check, same_content}
 
 -- ---- the place of a fault

@@ -22,7 +22,7 @@ use Rattle.gptp_commands.specs.RunText.{document_limit, draws, generator, until_
 use Rattle.gptp_commands.proofs.VerdictLemmas.{same_refusal, AreSame}
 
 -- a generator gives one number
-draws_once : AnswersOnce draws
+pub draws_once : AnswersOnce draws
 draws_once bounds sent fate f g answer said k l =
     let e = k ∙ sym l in (ap (λ (x : Option ℕ × Lcg). x.0) e, ap (λ (x : Option ℕ × Lcg). x.1) e)
 

@@ -5,10 +5,12 @@ ghost use Rattle.gptp_commands.specs.declared.failure.Status.{Status};
 ghost use Rattle.gptp_graph.specs.Snapshot.{Snapshot};
 ghost use Rattle.gptp_network.specs.Document.{DocumentState};
 ghost use Rattle.gptp_commands.specs.declared.run.RunOptions.{RunOptions};
+ghost use Rattle.gptp_commands.specs.declared.timeline.TimelineOrder.{TimelineOrder};
 ghost use Rattle.gptp_commands.specs.Certified.{AsksAtRest, AsksTheSame, EndsAccepted};
 ghost use Rattle.gptp_commands.specs.CheckText.{CheckText};
 ghost use Rattle.gptp_commands.specs.CompareText.{BeginsCompare, CompareText};
 ghost use Rattle.gptp_commands.specs.RunText.{BeginsRun, RunText};
+ghost use Rattle.gptp_commands.specs.TimelineText.{TimelineText};
 ghost use Rattle.gptp_commands.specs.WhereText.{WhereText};
 
 /// An input has one text and one status at most. `compare_lines` finds them wherever memory and the
@@ -46,6 +48,13 @@ pub fn one_place()
 pub fn one_run()
     ensures { (options : RunOptions) (input : List ℕ) (a b : List (List ℕ)) (s t : Status)
         → RunText options input a s → RunText options input b t → (a ≡ b) × (s ≡ t) }
+{}
+
+/// A document and what is asked of its timeline have one text and one status at most.
+/// [`timeline`](crate::timeline::timeline) finds them wherever memory and the devices serve.
+pub fn one_timeline()
+    ensures { (order : TimelineOrder) (input : List ℕ) (a b : List (List ℕ)) (s t : Status)
+        → TimelineText order input a s → TimelineText order input b t → (a ≡ b) × (s ≡ t) }
 {}
 
 /// Whatever text a document and options have, the lines that `run` may have begun with are its first lines. So what

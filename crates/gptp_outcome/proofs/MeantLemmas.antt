@@ -272,5 +272,8 @@ document_named t d made =
     let same = same_ok (put network events) (record { network = network; events = events }) d refl last in
     subst NamesOne (ap (λ (x : DocumentState). x.network) same) (network_named version t network second)
 
+pub meant_names : (text : List ℕ) (d : DocumentState) → Means text d → NamesOne d.network
+meant_names text d means = document_named means.table d means.is
+
 pub meant_named : (text : List ℕ) (d : DocumentState) → Means text d → IsNamed (initial d.network)
-meant_named text d means = names_one-initial d.network (document_named means.table d means.is)
+meant_named text d means = names_one-initial d.network (meant_names text d means)

@@ -8,4 +8,4 @@ mod EventLemmas
 pub mod ExactLemmas
 mod TextLemmas
 pub mod WayLemmas
-mod OneLemmas
+pub mod OneLemmas

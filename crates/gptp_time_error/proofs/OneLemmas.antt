@@ -6,7 +6,7 @@ use Rattle.gptp_graph.specs.Distance.{IsDistance}
 use Rattle.gptp_graph.specs.Snapshot.{IsWellFormed, Snapshot, System}
 use Rattle.gptp_graph.proofs.BestLemmas.{IsBest-unique}
 use Rattle.gptp_graph.proofs.DistanceLemmas.{IsDistance-unique}
-use Rattle.gptp_plan.specs.Network.{IsNetwork, NetworkState}
+use Rattle.gptp_plan.specs.Network.{NetworkState}
 use Rattle.gptp_plan.specs.declared.change.Timed.{Timed}
 use Rattle.gptp_network.specs.Document.{DocumentState}
 use Rattle.gptp_network.specs.Snapshot.{events_by}
@@ -18,7 +18,7 @@ use Rattle.gptp_time_error.specs.TimeErrors.{AreExact, AreTimeErrors, IsErrorOf,
 use Rattle.gptp_time_error.specs.Ways.{IsWay}
 use Rattle.gptp_time_error.specs.declared.errors.SystemError.{SystemError}
 use Rattle.gptp_time_error.specs.declared.errors.TimeErrors.{TimeErrors}
-use Rattle.gptp_time_error.proofs.WayLemmas.{one_way}
+use Rattle.gptp_time_error.proofs.WayLemmas.{HasOneEach, one_each, one_way_of}
 
 -- whether steps are too many is one thing
 far_once : (one other : Bool) (steps : ℕ) → (one ≡ false → steps < 255) → (one ≡ true → 255 ≤ steps)
@@ -28,7 +28,7 @@ far_once false false steps a b c d = refl
 far_once true false steps a b c d = let above = b refl in let below = c refl in absurd (omega (arith, above, below))
 far_once false true steps a b c d = let below = a refl in let above = d refl in absurd (omega (arith, above, below))
 
-module _ (n : NetworkState) (events : List Timed) (g : Snapshot) (network : IsNetwork n) (well_formed : IsWellFormed g)
+module _ (n : NetworkState) (events : List Timed) (g : Snapshot) (network : HasOneEach n) (well_formed : IsWellFormed g)
   where
     -- an error, or none
     error_once : (s : SystemError) (one other : Option ℕ) → IsErrorOf n events g s one → IsErrorOf n events g s other
@@ -43,8 +43,8 @@ module _ (n : NetworkState) (events : List Timed) (g : Snapshot) (network : IsNe
     error_once s (Some e) (Some f) a b =
         let (v, way, error) = a.3 in
         let (w, way_too, error_too) = b.3 in
-        let same = one_way n events g s.clock s.steps s.steps v w network well_formed way way_too in
-        ap Some (error ∙ ap time_error same.0 ∙ sym error_too)
+        let same = one_way_of n network events g s.steps s.clock v w way way_too in
+        ap Some (error ∙ ap time_error same ∙ sym error_too)
 
     -- what is said of a system
     exact_once : (s t : SystemError) → s.clock ≡ t.clock → IsExact n events g s → IsExact n events g t → s ≡ t
@@ -91,21 +91,26 @@ module _ (n : NetworkState) (events : List Timed) (g : Snapshot) (network : IsNe
     from_once one other (inr a) (inl b) = absurd (a.0 b.0)
     from_once one other (inr a) (inr b) = a.1 ∙ sym b.1
 
-pub one_accuracy : OneAccuracy
-one_accuracy d until most lines others one other network a b =
+-- what is said of a document at a time: the last time of events, from when on errors hold, and those of all systems
+pub errors_once : (d : DocumentState) (until : ℕ) (t u : TimeErrors) → HasOneEach d.network → AreTimeErrors d until t
+    → AreTimeErrors d until u → (t.time ≡ u.time) × (t.from ≡ u.from) × (t.systems.items ≡ u.systems.items)
+errors_once d until t u network a b =
     let n = d.network in
     let events = events_by until d.events in
-    let g = a.are.snapshot in
-    let same : b.are.snapshot ≡ g = one_snapshot d until b.are.snapshot g b.are.is a.are.is in
-    let time : a.errors.time ≡ b.errors.time = a.are.time ∙ sym b.are.time in
-    let from : a.errors.from ≡ b.errors.from =
-    from_once n events g network a.are.network a.errors.from b.errors.from a.are.from
-    (subst (λ h. IsFrom n events h b.errors.from) same b.are.from) in
-    let exact : AreExact n events g b.errors.systems.items =
-    subst (λ h. AreExact n events h b.errors.systems.items) same b.are.systems in
-    let systems : a.errors.systems.items ≡ b.errors.systems.items =
-    all_once n events g network a.are.network a.errors.systems.items b.errors.systems.items
-    (a.are.systems.clocks ∙ sym exact.clocks) a.are.systems.each exact.each in
+    let g = a.snapshot in
+    let same : b.snapshot ≡ g = one_snapshot d until b.snapshot g b.is a.is in
+    let exact : AreExact n events g u.systems.items =
+    subst (λ h. AreExact n events h u.systems.items) same b.systems in (
+      a.time ∙ sym b.time,
+      from_once n events g network a.network t.from u.from a.from (subst (λ h. IsFrom n events h u.from) same b.from),
+      all_once n events g network a.network t.systems.items u.systems.items (a.systems.clocks ∙ sym exact.clocks)
+          a.systems.each exact.each,
+    )
+
+pub one_accuracy : OneAccuracy
+one_accuracy d until most lines others one other network a b =
+    let (time, from, systems) =
+    errors_once d until a.errors b.errors (one_each d.network network) a.are b.are in
     let shown : List SystemError → List (List ℕ) = λ ss. map system_line ss ++ verdict_lines most ss in (
       a.shown
           ∙ ap₂ (λ (t : ℕ) (f : Option ℕ). time_line t f ∷ shown a.errors.systems.items) time from

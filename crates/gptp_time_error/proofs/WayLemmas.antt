@@ -11,10 +11,12 @@ use Rattle.gptp_graph.proofs.DistanceLemmas.{IsDistance-unique}
 use Rattle.gptp_graph.proofs.ParentLemmas.{IsParent-unique}
 use Rattle.gptp_pdelay.specs.Clock.{IsDrift}
 use Rattle.gptp_plan.specs.Change.{link_after}
-use Rattle.gptp_plan.specs.Network.{IsNetwork, NetworkState}
+use Rattle.gptp_plan.specs.Network.{IsEnd, IsNetwork, NetworkState}
 use Rattle.gptp_plan.specs.declared.change.Timed.{Timed}
 use Rattle.gptp_plan.specs.declared.network.Member.{Member}
 use Rattle.gptp_plan.specs.declared.network.Wire.{Wire}
+use Rattle.gptp_roles.specs.Selection.{clock_of}
+use Rattle.gptp_vector.specs.declared.port.PortId.{PortId}
 use Rattle.gptp_accuracy.specs.TimeError.{Link, Way, drift_at, link_at}
 use Rattle.gptp_accuracy.specs.WayLaws.{IsDocumented, longer}
 use Rattle.gptp_accuracy.proofs.LongerLemmas.{link_same}
@@ -35,7 +37,17 @@ way_distance n events g (suc h) clock w network (parent, above, l, follows, way,
       ap (λ (v : Way). length v.links) is ∙ longer_length above l ∙ ap suc before.1,
     )
 
-module _ (n : NetworkState) (network : IsNetwork n) where
+-- what ways are determined by: a clock names one system, and at a port is one link
+pub record HasOneEach (n : NetworkState) : Type 0 where
+  pub clocks : (i j : ℕ) (l m : Member) → slice_get n.systems i ≡ Some l → slice_get n.systems j ≡ Some m
+      → clock_of l.identity ≡ clock_of m.identity → i ≡ j
+  pub one_link : (i j : ℕ) (v w : Wire) (p : PortId) → slice_get n.links i ≡ Some v → slice_get n.links j ≡ Some w
+      → IsEnd p v → IsEnd p w → i ≡ j
+
+pub one_each : (n : NetworkState) → IsNetwork n → HasOneEach n
+one_each n network = record { clocks = network.clocks; one_link = network.one_link }
+
+module _ (n : NetworkState) (network : HasOneEach n) where
   -- a clock has one drift
   one_drift : (clock : ℕ) (d e : ℤ) → HasDrift n clock d → HasDrift n clock e → d ≡ e
   one_drift clock d e one other =
@@ -68,7 +80,7 @@ module _ (n : NetworkState) (network : IsNetwork n) where
         let drift : k.drift ≡ l.drift = one_drift clock k.drift l.drift one.drift other.drift in
         λ i. record { least = least i; most = most i; drift = drift i }
 
-    one_way_of : (g : Snapshot) (h clock : ℕ) (v w : Way) → IsWay n events g h clock v → IsWay n events g h clock w
+    pub one_way_of : (g : Snapshot) (h clock : ℕ) (v w : Way) → IsWay n events g h clock v → IsWay n events g h clock w
         → v ≡ w
     one_way_of g zero clock v w (distance, (d, has, is)) (other_distance, (e, has_too, is_too)) =
         is ∙ ap (root_way n.params) (one_drift clock d e has has_too) ∙ sym is_too
@@ -87,7 +99,7 @@ one_way n events g clock h k v w network well_formed one other =
     let first = way_distance n events g h clock v well_formed one in
     let second = way_distance n events g k clock w well_formed other in
     let steps = IsDistance-unique g clock k h well_formed second.0 first.0 in (
-      one_way_of n network events g h clock v w one (subst (λ d. IsWay n events g d clock w) steps other),
+      one_way_of n (one_each n network) events g h clock v w one (subst (λ d. IsWay n events g d clock w) steps other),
       first.1,
       sym steps,
     )

@@ -1,0 +1,298 @@
+-- A document and what is asked of its timeline have one text, and one status.
+use Rattle.std.proofs.Common.{◌≡◌, ℕ, Bool, true, false, nat_le, List, [], ◌∷◌, ◌++◌, length, map, Option, Some, None, refl, sym, ap, ap₂, subst, ◌∙◌, inl, inr}
+use Rattle.std.specs.Bool.{⊤, MatchBool}
+use Rattle.std.specs.List.{flat_map}
+use Rattle.gptp_links.specs.declared.bounds.Bounds.{Bounds}
+use Rattle.gptp_acts.specs.Initial.{initial}
+use Rattle.gptp_acts.specs.Views.{rising_clocks}
+use Rattle.gptp_acts.specs.World.{WorldState}
+use Rattle.gptp_graph.specs.PathBound.{path_bound}
+use Rattle.gptp_graph.specs.Snapshot.{Snapshot}
+use Rattle.gptp_network.specs.Document.{DocumentState}
+use Rattle.gptp_network.specs.Snapshot.{events_by}
+use Rattle.gptp_network.specs.Span.{IsBound}
+use Rattle.gptp_network.specs.declared.fault.DocumentFault.TheVariants.{TooMany}
+use Rattle.gptp_network.proofs.LawLemmas as network_laws
+use Rattle.gptp_plan.specs.Calm.{last_change}
+use Rattle.gptp_plan.specs.Network.{pace_of}
+use Rattle.gptp_plan.specs.SettlingTime.{settling_span}
+use Rattle.gptp_plan.specs.declared.change.Timed.{Timed}
+use Rattle.gptp_report.specs.Transitions.{Courses, Transition}
+use Rattle.gptp_outcome.specs.Named.{AnswersOnce, IsNamed}
+use Rattle.gptp_outcome.specs.TransitionLaws.{SameTransitions}
+use Rattle.gptp_outcome.proofs.CourseLemmas.{begins_once}
+use Rattle.gptp_outcome.proofs.MeantLemmas.{meant_named, meant_names}
+use Rattle.gptp_outcome.proofs.NameLemmas.{begun_named, NamesOne}
+use Rattle.gptp_outcome.proofs.TransitionLemmas.{courses_named, courses_once}
+use Rattle.gptp_time_error.specs.declared.errors.SystemError.{SystemError}
+use Rattle.gptp_time_error.specs.declared.errors.TimeErrors.{TimeErrors}
+use Rattle.gptp_time_error.proofs.OneLemmas.{errors_once}
+use Rattle.gptp_time_error.proofs.WayLemmas.{HasOneEach}
+use Rattle.gptp_timeline.specs.End.{end_behind}
+use Rattle.gptp_timeline.specs.Limits.{exceeded_after, is_exceeded, not_exceeded, verdict_lines}
+use Rattle.gptp_timeline.specs.Shown.{shown}
+use Rattle.gptp_timeline.specs.Stretch.{counted, measured, waits}
+use Rattle.gptp_timeline.specs.StretchText.{after_line, system_accuracy}
+use Rattle.gptp_timeline.specs.Timeline.{AllPass, AreErrorsBy, IsPassage, Passage, TimelineOf, accuracy_at, accuracy_lines, all_exceeded, all_lines, is_begun, later_than, none_waits, passage_lines, start_lines, stretch_of}
+use Rattle.gptp_timeline.specs.declared.limits.Limits.{Limits}
+use Rattle.gptp_timeline.specs.declared.timeline.TimelineOptions.{TimelineOptions}
+use Rattle.gptp_commands.specs.declared.failure.Status.{Status}
+use Rattle.gptp_commands.specs.declared.timeline.TimelineOrder.{TimelineOrder}
+use Rattle.gptp_commands.specs.Failure.{status_by}
+use Rattle.gptp_commands.specs.RunText.{RefusesFault, document_limit, draws, generator}
+use Rattle.gptp_commands.specs.TimelineText.{AnswersTimeline, EndsAt, PlaysTimeline, TimelineText}
+use Rattle.gptp_commands.proofs.OneRunLemmas.{draws_once}
+use Rattle.gptp_commands.proofs.SameActLemmas.{same_acts, same_errors_from, same_measures, same_waits}
+use Rattle.gptp_commands.proofs.VerdictLemmas.{AreSame, same_refusal}
+
+-- ---- what is known of a stretch by the document
+
+one_bound : (d : DocumentState) (at : ℕ) (a b : Option ℕ) → IsBound d at a → IsBound d at b → a ≡ b
+one_bound d at None None x y = refl
+one_bound d at None (Some span) x y = absurd (x y.0)
+one_bound d at (Some span) None x y = absurd (y x.0)
+one_bound d at (Some m) (Some n) (_, x) (_, y) =
+    let same = network_laws.one_snapshot d at x.snapshot y.snapshot x.stands y.stands in
+    ap Some (x.is ∙ ap (λ (g : Snapshot). settling_span (pace_of d.network) (path_bound g)) same ∙ sym y.is)
+
+-- as far as they are told, errors are the same, or there are none
+abbrev SameErrors : Option TimeErrors → Option TimeErrors → Type 0
+SameErrors None None = ⊤
+SameErrors None (Some u) = ⊥
+SameErrors (Some t) None = ⊥
+SameErrors (Some t) (Some u) = (t.from ≡ u.from) × (t.systems.items ≡ u.systems.items)
+
+one_errors : (d : DocumentState) (at to : ℕ) (a b : Option TimeErrors) → HasOneEach d.network
+    → AreErrorsBy d at to a → AreErrorsBy d at to b → SameErrors a b
+one_errors d at to None None names x y = tt
+one_errors d at to None (Some u) names x y = absurd (x u y.0 y.1)
+one_errors d at to (Some t) None names x y = absurd (y t x.0 x.1)
+one_errors d at to (Some t) (Some u) names x y =
+    let (time, from, systems) = errors_once d at t u names x.0 y.0 in (from, systems)
+
+-- ---- one stretch
+
+-- two stretches are one: when they are, what happens in them, and what is known of them
+record IsSamePassage (p q : Passage) : Type 0 where
+  from : p.from ≡ q.from
+  to : p.to ≡ q.to
+  events : p.events ≡ q.events
+  acts : SameTransitions p.acts q.acts
+  after : p.after ≡ q.after
+  bound : p.bound ≡ q.bound
+  errors : SameErrors p.errors q.errors
+
+module _ {F : Type 0} (answers : Bounds → ℕ → F → Option ℕ → F → Type 0) (once : AnswersOnce answers)
+    (d : DocumentState) (names : HasOneEach d.network) (until : ℕ) where
+  one_passage : (from : ℕ) (events : List Timed) (fate f g : F) (w : WorldState) (p q : Passage) → IsNamed w
+      → IsPassage answers d until from events fate f w p → IsPassage answers d until from events fate g w q
+      → IsSamePassage p q × (f ≡ g)
+  one_passage from events fate f g w p q is k l =
+      let to : p.to ≡ q.to = k.to_is ∙ sym l.to_is in
+      let made : p.events ≡ q.events = k.events_are ∙ sym l.events_are in
+      let way = courses_once answers once q.to q.events p.acts q.acts fate f g w p.after q.after is
+      (subst (λ (es : List Timed). Courses answers q.to es p.acts fate f w p.after) made
+      (subst (λ (time : ℕ). Courses answers time p.events p.acts fate f w p.after) to k.courses)) l.courses in
+      let errors : AreErrorsBy d from q.to p.errors =
+      subst (λ (time : ℕ). AreErrorsBy d from time p.errors) to k.errors_are in (
+        record {
+          from = k.from_is ∙ sym l.from_is;
+          to = to;
+          events = made;
+          acts = way.acts;
+          after = way.world;
+          bound = one_bound d from p.bound q.bound k.bound_is l.bound_is;
+          errors = one_errors d from q.to p.errors q.errors names errors l.errors_are;
+        },
+        way.fate_is,
+      )
+
+  passage_named : (from : ℕ) (events : List Timed) (fate f : F) (w : WorldState) (p : Passage) → IsNamed w
+      → IsPassage answers d until from events fate f w p → IsNamed p.after
+  passage_named from events fate f w p is k =
+      courses_named answers p.to p.events p.acts fate f w p.after is k.courses
+
+-- ---- all stretches
+
+abbrev SamePassages : List Passage → List Passage → Type 0
+SamePassages [] [] = ⊤
+SamePassages [] (q ∷ qs) = ⊥
+SamePassages (p ∷ ps) [] = ⊥
+SamePassages (p ∷ ps) (q ∷ qs) = IsSamePassage p q × SamePassages ps qs
+
+module _ {F : Type 0} (answers : Bounds → ℕ → F → Option ℕ → F → Type 0) (once : AnswersOnce answers)
+    (d : DocumentState) (names : HasOneEach d.network) (until : ℕ) where
+  all_pass_once : (from : ℕ) (events : List Timed) (fate f g : F) (w v u : WorldState) (ps qs : List Passage)
+      → IsNamed w → AllPass answers d until from events fate f w v ps
+      → AllPass answers d until from events fate g w u qs → SamePassages ps qs
+  all_pass_once from events fate f g w v u [] qs is k l = absurd k
+  all_pass_once from events fate f g w v u (p ∷ []) [] is k l = absurd l
+  all_pass_once from events fate f g w v u (p ∷ []) (q ∷ []) is (k, _, _) (l, _, _) =
+      ((one_passage answers once d names until from events fate f g w p q is k l).0, tt)
+  all_pass_once from events fate f g w v u (p ∷ []) (q ∷ (q2 ∷ qs)) is (_, last, _) (_, _, more, _) =
+      absurd (more last)
+  all_pass_once from events fate f g w v u (p ∷ (p2 ∷ ps)) [] is k l = absurd l
+  all_pass_once from events fate f g w v u (p ∷ (p2 ∷ ps)) (q ∷ []) is (_, _, more, _) (_, last, _) =
+      absurd (more last)
+  all_pass_once from events fate f g w v u (p ∷ (p2 ∷ ps)) (q ∷ (q2 ∷ qs)) is (x, k, _, ks) (y, l, _, ls) =
+      let (first, fates) = one_passage answers once d names until from events fate x y w p q is k l in
+      let left = later_than from events in
+      let On : ℕ → F → WorldState → Type 0 =
+      λ time drawn a. AllPass answers d until time left drawn f a v (p2 ∷ ps) in
+      let on : On q.to y q.after =
+      subst (λ (a : WorldState). On q.to y a) first.after
+      (subst (λ (drawn : F). On q.to drawn p.after) fates
+      (subst (λ (time : ℕ). On time x p.after) first.to ks)) in (
+        first,
+        all_pass_once q.to left y f g q.after v u (p2 ∷ ps) (q2 ∷ qs)
+            (passage_named answers once d names until from events fate y w q is l) on ls,
+      )
+
+-- ---- their lines
+
+same_accuracy_at : (from : Option ℕ) (ts us : List Transition) (systems : List SystemError) → SameTransitions ts us
+    → accuracy_at from ts systems ≡ accuracy_at from us systems
+same_accuracy_at None ts us systems k = refl
+same_accuracy_at (Some from) ts us systems k =
+    λ i. flat_map (system_accuracy from (λ name. same_errors_from name (Some from) ts us k i)) systems
+
+same_accuracy : (ts us : List Transition) (a b : Option TimeErrors) → SameTransitions ts us → SameErrors a b
+    → accuracy_lines ts a ≡ accuracy_lines us b
+same_accuracy ts us None None k same = refl
+same_accuracy ts us None (Some u) k same = absurd same
+same_accuracy ts us (Some t) None k same = absurd same
+same_accuracy ts us (Some t) (Some u) k (from, systems) =
+    ap₂ (λ (time : Option ℕ) (errors : List SystemError). accuracy_at time ts errors) from systems
+    ∙ same_accuracy_at u.from ts us u.systems.items k
+
+same_stretch : (names : List ℕ) (since : ℕ → Option ℕ) (p q : Passage) → IsSamePassage p q
+    → stretch_of names since p ≡ stretch_of names since q
+same_stretch names since p q k =
+    let measures = same_measures names since p.to p.acts q.acts k.acts
+    ∙ ap (λ (to : ℕ). measured names since to q.acts) k.to in
+    λ i. record {
+      from = k.from i;
+      to = k.to i;
+      begins_with_event = is_begun (k.events i);
+      bound = k.bound i;
+      measures = measures i;
+      counts = counted (map (λ name. shown name (k.after i)) names);
+    }
+
+same_passage : (options : TimelineOptions) (names : List ℕ) (since : ℕ → Option ℕ) (p q : Passage) → IsSamePassage p q
+    → passage_lines options names since p ≡ passage_lines options names since q
+same_passage options names since p q k =
+    let acts = same_acts options names p.acts q.acts k.acts in
+    let stretch = same_stretch names since p q k in
+    let accuracy = same_accuracy p.acts q.acts p.errors q.errors k.acts k.errors in
+    λ i. acts i ++ after_line (stretch i) ∷ accuracy i
+
+same_lines : (options : TimelineOptions) (names : List ℕ) (since : ℕ → Option ℕ) (ps qs : List Passage)
+    → SamePassages ps qs → all_lines options names since ps ≡ all_lines options names since qs
+same_lines options names since [] [] k = refl
+same_lines options names since [] (q ∷ qs) k = absurd k
+same_lines options names since (p ∷ ps) [] k = absurd k
+same_lines options names since (p ∷ ps) (q ∷ qs) (first, rest) =
+    let later = ap (λ (begun : ℕ → Option ℕ). all_lines options names begun ps)
+    (same_waits p.acts q.acts since first.acts)
+    ∙ same_lines options names (waits q.acts since) ps qs rest in
+    λ i. same_passage options names since p q first i ++ later i
+
+same_exceeded : (limits : Limits) (names : List ℕ) (since begun : ℕ → Option ℕ) (ps qs : List Passage)
+    → ◌≡◌ {A = ℕ → Option ℕ} since begun → SamePassages ps qs
+    → all_exceeded limits names since ps ≡ all_exceeded limits names begun qs
+same_exceeded limits names since begun [] [] e k = refl
+same_exceeded limits names since begun [] (q ∷ qs) e k = absurd k
+same_exceeded limits names since begun (p ∷ ps) [] e k = absurd k
+same_exceeded limits names since begun (p ∷ ps) (q ∷ qs) e (first, rest) =
+    let later : ◌≡◌ {A = ℕ → Option ℕ} (waits p.acts since) (waits q.acts begun) =
+    ap (λ (s : ℕ → Option ℕ). waits p.acts s) e ∙ same_waits p.acts q.acts begun first.acts in
+    let stretch : stretch_of names since p ≡ stretch_of names begun q =
+    ap (λ (s : ℕ → Option ℕ). stretch_of names s p) e ∙ same_stretch names begun p q first in
+    λ i before. same_exceeded limits names (waits p.acts since) (waits q.acts begun) ps qs later rest i
+    (exceeded_after limits (stretch i) before)
+
+-- ---- the whole text
+
+-- a document has one timeline to a time, and it exceeds limits or doesn't
+one_timeline_of : {F : Type 0} (answers : Bounds → ℕ → F → Option ℕ → F → Type 0) → AnswersOnce answers
+    → (d : DocumentState) (until : ℕ) (options : TimelineOptions) (fate : F) (xs ys : List (List ℕ)) (a b : Bool)
+    → HasOneEach d.network → IsNamed (initial d.network) → TimelineOf answers d until options fate xs a
+    → TimelineOf answers d until options fate ys b → (xs ≡ ys) × (a ≡ b)
+one_timeline_of {F} answers once d until options fate xs ys a b names is k l =
+    let (fates, starts) =
+    begins_once answers once d.network fate k.started l.started k.start l.start is k.begun l.begun in
+    let events = events_by until d.events in
+    let pass : AllPass answers d until 0 events l.started k.fate_after l.start k.after k.passages =
+    subst (λ (w : WorldState). AllPass answers d until 0 events l.started k.fate_after w k.after k.passages) starts
+    (subst (λ (f : F). AllPass answers d until 0 events f k.fate_after k.start k.after k.passages) fates k.pass) in
+    let same = all_pass_once answers once d names until 0 events l.started k.fate_after l.fate_after l.start k.after
+    l.after k.passages l.passages (begun_named answers d.network fate l.started l.start is l.begun) pass l.pass in
+    let clocks = rising_clocks l.start in
+    let counted : all_exceeded options.limits clocks none_waits k.passages not_exceeded
+    ≡ all_exceeded options.limits clocks none_waits l.passages not_exceeded = λ i.
+    same_exceeded options.limits clocks none_waits none_waits k.passages l.passages refl same i not_exceeded in
+    let verdicts : k.verdict ≡ l.verdict =
+    k.verdict_is
+    ∙ ap (λ (w : WorldState).
+    all_exceeded options.limits (rising_clocks w) none_waits k.passages not_exceeded) starts
+    ∙ counted ∙ sym l.verdict_is in
+    let told = same_lines options clocks none_waits k.passages l.passages same in
+    let parts : start_lines options clocks l.start ++ all_lines options clocks none_waits k.passages
+    ++ verdict_lines options.limits k.verdict
+    ≡ start_lines options clocks l.start ++ all_lines options clocks none_waits l.passages
+    ++ verdict_lines options.limits l.verdict = λ i.
+    start_lines options clocks l.start ++ told i ++ verdict_lines options.limits (verdicts i) in (
+      k.are
+          ∙ ap (λ (w : WorldState).
+          start_lines options (rising_clocks w) w ++ all_lines options (rising_clocks w) none_waits k.passages
+          ++ verdict_lines options.limits k.verdict) starts
+          ∙ parts ∙ sym l.are,
+      k.exceeded_is ∙ ap (is_exceeded options.limits) verdicts ∙ sym l.exceeded_is,
+    )
+
+-- it ends at one time
+one_end : (asked : Option ℕ) (d : DocumentState) (m n : ℕ) → EndsAt asked d m → EndsAt asked d n → m ≡ n
+one_end (Some asked) d m n x y = x ∙ sym y
+one_end None d m n x y =
+    let last = last_change d.events in
+    let same = network_laws.one_snapshot d last x.snapshot y.snapshot x.stands y.stands in
+    x.is ∙ ap (end_behind d.network last) same ∙ sym y.is
+
+-- ways are determined where names mean one thing
+each_named : (d : DocumentState) → NamesOne d.network → HasOneEach d.network
+each_named d names = record { clocks = names.clocks; one_link = names.one_link }
+
+plays_timeline_once : (d : DocumentState) (order : TimelineOrder) (a b : List (List ℕ)) (s t : Status)
+    → HasOneEach d.network → IsNamed (initial d.network) → PlaysTimeline d order a s → PlaysTimeline d order b t
+    → AreSame a s b t
+plays_timeline_once d order a b s t names is k l =
+    let ends = one_end order.until d k.until l.until k.ends l.ends in
+    let (texts, exceeded) = one_timeline_of draws draws_once d l.until order.options (generator order.seed) a b
+    k.exceeded l.exceeded names is
+    (subst (λ (until : ℕ). TimelineOf draws d until order.options (generator order.seed) a k.exceeded) ends k.timeline)
+    l.timeline in
+    (texts, k.status_is ∙ ap status_by exceeded ∙ sym l.status_is)
+
+answers_once : (order : TimelineOrder) (input : List ℕ) (a b : List (List ℕ)) (s t : Status)
+    → AnswersTimeline order input a s → AnswersTimeline order input b t → AreSame a s b t
+answers_once order input a b s t (inl (d, d-means, k)) (inl (e, e-means, l)) =
+    let same = network_laws.one_meaning input e d e-means d-means in
+    plays_timeline_once d order a b s t (each_named d (meant_names input d d-means)) (meant_named input d d-means) k
+    (subst (λ (x : DocumentState). PlaysTimeline x order b t) same l)
+answers_once order input a b s t (inl (d, means, _)) (inr (fault, fails, _)) =
+    absurd (network_laws.never_both input d fault means fails)
+answers_once order input a b s t (inr (fault, fails, _)) (inl (d, means, _)) =
+    absurd (network_laws.never_both input d fault means fails)
+answers_once order input a b s t (inr (f, f-fails, k)) (inr (g, g-fails, l)) =
+    same_refusal f g a b s t (network_laws.one_fault input f g f-fails g-fails) k l
+
+by_size : (order : TimelineOrder) (input : List ℕ) (a b : List (List ℕ)) (s t : Status) (fits : Bool)
+    → MatchBool fits (AnswersTimeline order input a s) (RefusesFault TooMany a s)
+    → MatchBool fits (AnswersTimeline order input b t) (RefusesFault TooMany b t) → AreSame a s b t
+by_size order input a b s t true k l = answers_once order input a b s t k l
+by_size order input a b s t false k l = same_refusal TooMany TooMany a b s t refl k l
+
+pub one_timeline : (order : TimelineOrder) (input : List ℕ) (a b : List (List ℕ)) (s t : Status)
+    → TimelineText order input a s → TimelineText order input b t → AreSame a s b t
+one_timeline order input a b s t k l = by_size order input a b s t (nat_le (length input) document_limit) k l

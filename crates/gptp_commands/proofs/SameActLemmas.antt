@@ -1,0 +1,185 @@
+-- What a timeline tells of acts follows from their times, the worlds between them, and who received.
+use Rattle.std.proofs.Common.{◌≡◌, ◌==◌, ◌&&◌, ℕ, Bool, true, false, cond, not, nat_le, if◌then◌else◌, List, [], ◌∷◌, ◌++◌, Option, Some, None, refl, sym, ap, ◌∙◌}
+use Rattle.std.specs.Prelude.{unsigned_abs}
+use Rattle.std.specs.List.{cons_option, filter, filter_map, flat_map, list_any}
+use Rattle.std.specs.Option.{option_and_then, option_map, option_map_or, option_or}
+use Rattle.gptp_acts.specs.World.{WorldState}
+use Rattle.gptp_acts.specs.declared.done.Done.{Done}
+use Rattle.gptp_acts.specs.declared.done.Done.TheVariants.{Heard, Quiet}
+use Rattle.gptp_plan.specs.declared.change.Timed.{Timed}
+use Rattle.gptp_report.specs.Transitions.{Transition, transition}
+use Rattle.gptp_outcome.specs.ActLaws.{SameDone}
+use Rattle.gptp_outcome.specs.TransitionLaws.{IsSameTransition, SameTransitions}
+use Rattle.gptp_timeline.specs.Changes.{change_lines}
+use Rattle.gptp_timeline.specs.Limits.{amount_of}
+use Rattle.gptp_timeline.specs.Measures.{ended_by, greatest, one_at, since_after}
+use Rattle.gptp_timeline.specs.Receipts.{received_by, receiver}
+use Rattle.gptp_timeline.specs.Shown.{is_expecting, same_choice, same_roles, shown}
+use Rattle.gptp_timeline.specs.Stretch.{counts_for, ended, ended_in, error_at, error_from, error_in, holdover, is_change, last_at, leaves_another, measured, same_known, under_way, waits, waits_after}
+use Rattle.gptp_timeline.specs.Timeline.{act_lines, event_lines, offset_lines}
+use Rattle.gptp_timeline.specs.Watch.{unless}
+use Rattle.gptp_timeline.specs.declared.timeline.TimelineOptions.{TimelineOptions}
+
+-- ---- one act
+
+same_received : (done said : Done) → SameDone done said → received_by done ≡ received_by said
+same_received Quiet Quiet k = refl
+same_received Quiet (Heard number reached said octets) k = absurd k
+same_received (Heard clock port answer frame) Quiet k = absurd k
+same_received (Heard clock port answer frame) (Heard number reached said octets) (clocks, ports, answers, items) =
+    λ i. receiver (clocks i) (answers i) (items i)
+
+-- what depends on these alone is the same
+same_by : {X : Type 0} (G : Timed → Option ℕ → WorldState → WorldState → X) (t u : Transition) → IsSameTransition t u
+    → G t.told.timed (received_by t.told.done) t.before t.after
+    ≡ G u.told.timed (received_by u.told.done) u.before u.after
+same_by G t u k = λ i. G (k.timed i) (same_received t.told.done u.told.done k.done i) (k.before i) (k.after i)
+
+-- an act of which nothing is told, at this time and between these worlds
+abbrev quiet : Timed → WorldState → WorldState → Transition
+quiet timed w w' = transition timed Quiet w w'
+
+same_act : (options : TimelineOptions) (names : List ℕ) (t u : Transition) → IsSameTransition t u
+    → act_lines options names t ≡ act_lines options names u
+same_act options names t u k =
+    same_by (λ (timed : Timed) (received : Option ℕ) (w w' : WorldState).
+    unless options.summary (event_lines timed.at timed.act
+    ++ flat_map (λ name. change_lines timed.at name (shown name w) (shown name w')) names)
+    ++ unless (not options.offsets) (offset_lines (quiet timed w w') received)) t u k
+
+abbrev receives_of : ℕ → Option ℕ → Bool
+receives_of name received = option_map_or (λ clock. clock == name) received false
+
+same_wait : (since : ℕ → Option ℕ) (t u : Transition) → IsSameTransition t u
+    → ◌≡◌ {A = ℕ → Option ℕ} (waits_after t since) (waits_after u since)
+same_wait since t u k =
+    same_by (λ (timed : Timed) (received : Option ℕ) (w w' : WorldState) (name : ℕ).
+    since_after timed.at (receives_of name received) (is_expecting (shown name w)) (is_expecting (shown name w'))
+    (since name)) t u k
+
+same_ended : (names : List ℕ) (since : ℕ → Option ℕ) (t u : Transition) → IsSameTransition t u
+    → ended_in names since t ≡ ended_in names since u
+same_ended names since t u k =
+    same_by (λ (timed : Timed) (received : Option ℕ) (w w' : WorldState).
+    filter_map (λ name. option_map (one_at name) (ended_by timed.at (is_change timed.act) (receives_of name received)
+    (is_expecting (shown name w')) (since name))) names) t u k
+
+same_error : (t u : Transition) → IsSameTransition t u → error_in t ≡ error_in u
+same_error t u k =
+    same_by (λ (timed : Timed) (received : Option ℕ) (w w' : WorldState).
+    option_and_then (λ name.
+    option_map (λ error. one_at name (unsigned_abs error)) (error_at name (quiet timed w w'))) received) t u k
+
+same_counts : (name : ℕ) (from : Option ℕ) (t u : Transition) → IsSameTransition t u
+    → counts_for name from t ≡ counts_for name from u
+same_counts name from t u k =
+    same_by (λ (timed : Timed) (received : Option ℕ) (w w' : WorldState).
+    option_map_or (λ time. nat_le time timed.at) from false && receives_of name received) t u k
+
+-- ---- several acts
+
+pub same_acts : (options : TimelineOptions) (names : List ℕ) (ts us : List Transition) → SameTransitions ts us
+    → flat_map (act_lines options names) ts ≡ flat_map (act_lines options names) us
+same_acts options names [] [] k = refl
+same_acts options names [] (u ∷ us) k = absurd k
+same_acts options names (t ∷ ts) [] k = absurd k
+same_acts options names (t ∷ ts) (u ∷ us) (first, rest) =
+    λ i. same_act options names t u first i ++ same_acts options names ts us rest i
+
+pub same_waits : (ts us : List Transition) (since : ℕ → Option ℕ) → SameTransitions ts us
+    → ◌≡◌ {A = ℕ → Option ℕ} (waits ts since) (waits us since)
+same_waits [] [] since k = refl
+same_waits [] (u ∷ us) since k = absurd k
+same_waits (t ∷ ts) [] since k = absurd k
+same_waits (t ∷ ts) (u ∷ us) since (first, rest) =
+    ap (λ (begun : ℕ → Option ℕ). waits ts begun) (same_wait since t u first)
+    ∙ same_waits ts us (waits_after u since) rest
+
+all_ended : (names : List ℕ) (ts us : List Transition) (since : ℕ → Option ℕ) → SameTransitions ts us
+    → ended names since ts ≡ ended names since us
+all_ended names [] [] since k = refl
+all_ended names [] (u ∷ us) since k = absurd k
+all_ended names (t ∷ ts) [] since k = absurd k
+all_ended names (t ∷ ts) (u ∷ us) since (first, rest) =
+    let later = ap (λ (begun : ℕ → Option ℕ). ended names begun ts) (same_wait since t u first)
+    ∙ all_ended names ts us (waits_after u since) rest in
+    λ i. same_ended names since t u first i ++ later i
+
+-- a test of acts has the same answer
+abbrev SameTest : (Transition → Bool) → Type 0
+SameTest test = (t u : Transition) → IsSameTransition t u → test t ≡ test u
+
+last_same : (test : Transition → Bool) (ts us : List Transition) → SameTest test → SameTransitions ts us
+    → last_at test ts ≡ last_at test us
+last_same test [] [] same k = refl
+last_same test [] (u ∷ us) same k = absurd k
+last_same test (t ∷ ts) [] same k = absurd k
+last_same test (t ∷ ts) (u ∷ us) same (first, rest) =
+    let passes = same t u first in
+    let later = last_same test ts us same rest in
+    λ i. option_or (later i) (if passes i then Some (first.timed i).at else None)
+
+choice_same : (names : List ℕ) → SameTest (leaves_another same_choice names)
+choice_same names t u k =
+    λ i. list_any (λ name. not (same_choice (shown name (k.before i)) (shown name (k.after i)))) names
+
+roles_same : (names : List ℕ) → SameTest (leaves_another same_roles names)
+roles_same names t u k =
+    λ i. list_any (λ name. not (same_roles (shown name (k.before i)) (shown name (k.after i)))) names
+
+known_same : (names : List ℕ) → SameTest (leaves_another same_known names)
+known_same names t u k =
+    λ i. list_any (λ name. not (same_known (shown name (k.before i)) (shown name (k.after i)))) names
+
+all_errors : (ts us : List Transition) → SameTransitions ts us → filter_map error_in ts ≡ filter_map error_in us
+all_errors [] [] k = refl
+all_errors [] (u ∷ us) k = absurd k
+all_errors (t ∷ ts) [] k = absurd k
+all_errors (t ∷ ts) (u ∷ us) (first, rest) = λ i. cons_option (same_error t u first i) (all_errors ts us rest i)
+
+-- of those that pass a test
+errors_if : (t : Transition) (passes : Bool) (ts : List Transition)
+    → filter_map error_in (cond passes (t ∷ ts) ts)
+    ≡ cond passes (cons_option (error_in t) (filter_map error_in ts)) (filter_map error_in ts)
+errors_if t true ts = refl
+errors_if t false ts = refl
+
+same_if : {X : Type 0} (p q : Bool) (one other : Option X) (xs ys : List X) → p ≡ q → one ≡ other → xs ≡ ys
+    → cond p (cons_option one xs) xs ≡ cond q (cons_option other ys) ys
+same_if p q one other xs ys tests ones others =
+    λ i. cond (tests i) (cons_option (ones i) (others i)) (others i)
+
+counted_errors : (name : ℕ) (from : Option ℕ) (ts us : List Transition) → SameTransitions ts us
+    → filter_map error_in (filter (counts_for name from) ts) ≡ filter_map error_in (filter (counts_for name from) us)
+counted_errors name from [] [] k = refl
+counted_errors name from [] (u ∷ us) k = absurd k
+counted_errors name from (t ∷ ts) [] k = absurd k
+counted_errors name from (t ∷ ts) (u ∷ us) (first, rest) =
+    let counts : Transition → Bool = counts_for name from in
+    errors_if t (counts t) (filter counts ts)
+    ∙ same_if (counts t) (counts u) (error_in t) (error_in u) (filter_map error_in (filter counts ts))
+    (filter_map error_in (filter counts us)) (same_counts name from t u first) (same_error t u first)
+    (counted_errors name from ts us rest)
+    ∙ sym (errors_if u (counts u) (filter counts us))
+
+pub same_errors_from : (name : ℕ) (from : Option ℕ) (ts us : List Transition) → SameTransitions ts us
+    → error_from name from ts ≡ error_from name from us
+same_errors_from name from ts us k = λ i. amount_of (greatest (counted_errors name from ts us k i))
+
+-- what is measured of them
+pub same_measures : (names : List ℕ) (since : ℕ → Option ℕ) (time : ℕ) (ts us : List Transition)
+    → SameTransitions ts us → measured names since time ts ≡ measured names since time us
+same_measures names since time ts us k =
+    let choice = last_same (leaves_another same_choice names) ts us (choice_same names) k in
+    let roles = last_same (leaves_another same_roles names) ts us (roles_same names) k in
+    let offsets = last_same (leaves_another same_known names) ts us (known_same names) k in
+    let waited = all_ended names ts us since k in
+    let begun = same_waits ts us since k in
+    let errors = all_errors ts us k in
+    λ i. record {
+      choice = choice i;
+      roles = roles i;
+      offsets = offsets i;
+      holdover = greatest (waited i ++ under_way names (begun i) time);
+      error = greatest (errors i);
+    }
