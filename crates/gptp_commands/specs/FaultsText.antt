@@ -11,7 +11,8 @@ use Rattle.gptp_commands.specs.Failure.{status_by}
 use Rattle.gptp_commands.specs.Limited.{Limited}
 use Rattle.gptp_commands.specs.RunText.{document_limit, RefusesFault}
 
--- the table of its cases; it is refused where a limit is exceeded, and where it would be with the two events of some run
+-- the table of its cases; it is refused where a limit is exceeded, and where it would be with the two events of some
+-- run
 abbrev pub TellsFaults : DocumentState → FaultsOptions → List (List ℕ) → Status → Type 0
 TellsFaults d options output status =
     ((exceeded : Bool) × FaultsOf d options output exceeded × (status ≡ status_by exceeded))

@@ -117,7 +117,8 @@ module _ (parts part count : ℕ) where
 
   no_number : belongs parts part count ≡ false → numbers_of parts part (count + 1) ≡ numbers_of parts part count
   no_number is =
-      numbers_more ∙ ap (λ ns. numbers_of parts part count ++ ns) (rw is refl) ∙ append-nil (numbers_of parts part count)
+      numbers_more ∙ ap (λ ns. numbers_of parts part count ++ ns) (rw is refl)
+      ∙ append-nil (numbers_of parts part count)
 
 -- one more in its order
 ranked_more : (others os : List OutcomeState) (o : OutcomeState)
@@ -141,14 +142,17 @@ module _ (d : DocumentState) (t : Times) (planned : List Planned) (parts part : 
         → AreRanked d t planned parts part (count + 1) (ranked_with in_order o)
     one_ranked is o outcome = record {
       outcomes = so_far.outcomes ++ o ∷ [];
-      are = subst (λ ns. Each (IsOutcomeAt d t planned) ns (so_far.outcomes ++ o ∷ [])) (sym (one_number parts part count is))
-          (each_more (IsOutcomeAt d t planned) (numbers_of parts part count) so_far.outcomes count o so_far.are outcome);
+      are = subst (λ ns. Each (IsOutcomeAt d t planned) ns (so_far.outcomes ++ o ∷ []))
+          (sym (one_number parts part count is))
+          (each_more (IsOutcomeAt d t planned) (numbers_of parts part count) so_far.outcomes count o so_far.are
+          outcome);
       order_is = ap (λ os. ranked_with os o) so_far.order_is ∙ sym (ranked_more [] so_far.outcomes o);
     }
 
     pub other_ranked : belongs parts part count ≡ false → AreRanked d t planned parts part (count + 1) in_order
     other_ranked is = record {
       outcomes = so_far.outcomes;
-      are = subst (λ ns. Each (IsOutcomeAt d t planned) ns so_far.outcomes) (sym (no_number parts part count is)) so_far.are;
+      are = subst (λ ns. Each (IsOutcomeAt d t planned) ns so_far.outcomes) (sym (no_number parts part count is))
+          so_far.are;
       order_is = so_far.order_is;
     }

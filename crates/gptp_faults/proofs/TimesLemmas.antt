@@ -30,5 +30,6 @@ module _ (t : Times) (bounded : AreBounded t) where
       let some = bounded.some_moment in
       let product : number * t.spread ≤ (t.moments - 1) * t.spread =
       mul-le number t.spread (t.moments - 1) t.spread (omega (arith, below)) (omega arith) in
-      let quotient = div_grows (number * t.spread) ((t.moments - 1) * t.spread) t.moments (omega (arith, some)) product in
+      let quotient = div_grows (number * t.spread) ((t.moments - 1) * t.spread) t.moments (omega (arith, some))
+      product in
       omega (arith, quotient)

@@ -15,8 +15,8 @@ use Rattle.gptp_faults.specs.declared.options.FaultsOptions.{FaultsOptions}
 use Rattle.gptp_faults.specs.declared.cases.Planned.{Planned}
 use Rattle.gptp_faults.specs.declared.times.Times.{Times}
 
--- Each case of a part fails and comes back in several runs, of which none is refused. These are the lines of what becomes
--- of them, the worst first; and whether a limit is exceeded.
+-- Each case of a part fails and comes back in several runs, of which none is refused. These are the lines of what
+-- becomes of them, the worst first; and whether a limit is exceeded.
 pub record FaultsOf (d : DocumentState) (options : FaultsOptions) (lines : List (List ℕ)) (exceeded : Bool) : Type 0
   where
     pub cases : List Case

@@ -15,8 +15,8 @@ use Rattle.gptp_faults.specs.declared.options.FaultsOptions.{FaultsOptions}
 use Rattle.gptp_faults.specs.declared.cases.Planned.{Planned}
 use Rattle.gptp_faults.specs.declared.times.Times.{Times}
 
--- the number of a case, which it is, the greatest of all its runs while it is down and when it is back, and whom systems
--- follow where it comes back in the first run
+-- the number of a case, which it is, the greatest of all its runs while it is down and when it is back, and whom
+-- systems follow where it comes back in the first run
 pub record OutcomeState : Type 0 where
   pub number : ℕ
   pub failing : Case

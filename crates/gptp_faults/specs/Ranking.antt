@@ -36,7 +36,8 @@ worst_of o = joined o.down o.back
 abbrev pub is_worse : OutcomeState → OutcomeState → Bool
 is_worse a b = is_gt (order (worst_of a) (worst_of b))
 
--- One more case among others, the worse first, behind those that it isn't worse than: so of equals the first comes first.
+-- One more case among others, the worse first, behind those that it isn't worse than: so of equals the first comes
+-- first.
 abbrev pub ranked_with : List OutcomeState → OutcomeState → List OutcomeState
 ranked_with others o = insert others (prefix_len (λ other. not (is_worse o other)) others) o
 

@@ -25,9 +25,9 @@ pub record AreOptions (o : FaultsOptions) : Type 0 where
   pub part : o.part ≤ o.parts
   pub parts : o.parts ≤ 10000
 
--- The moments lie from `from` on within `spread`, an announce interval (the largest of any port) and a Sync interval: so
--- they meet the Announce and the Sync at different phases. By default the first is as long behind the last event as the
--- network takes at most to settle then, and so long each run goes on behind the return.
+-- The moments lie from `from` on within `spread`, an announce interval (the largest of any port) and a Sync interval:
+-- so they meet the Announce and the Sync at different phases. By default the first is as long behind the last event as
+-- the network takes at most to settle then, and so long each run goes on behind the return.
 pub record AreTimes (d : DocumentState) (options : FaultsOptions) (t : Times) : Type 0 where
   pub span : ℕ
   pub span_is : IsSpan d (last_change d.events) span

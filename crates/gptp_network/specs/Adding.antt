@@ -10,8 +10,8 @@ use Rattle.gptp_network.specs.Faults.{document_fault}
 use Rattle.gptp_network.specs.declared.fault.DocumentFault.{DocumentFault}
 use Rattle.gptp_network.specs.declared.fault.DocumentFault.TheVariants.{EventOrder, OutOfRange, TooMany}
 
--- the first test that one more event fails: a document has as many as it may have, the event is later than one may be or
--- earlier than the last, or what its kind asks isn't so
+-- the first test that one more event fails: a document has as many as it may have, the event is later than one may be
+-- or earlier than the last, or what its kind asks isn't so
 abbrev pub adding_fault : DocumentState → ℕ → Change → Option DocumentFault
 adding_fault d at change =
     if nat_le 4096 (length d.events) then Some TooMany

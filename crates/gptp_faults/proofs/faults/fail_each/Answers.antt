@@ -16,8 +16,10 @@ returns-clause-answer g c =
     IfOk-weaker c.table_of.result _ _ (λ answer table.
     answered d options cases t planned c.in_ok-cases.ensures c.in_ok-times.ensures.times
     (ap (fault_before d t) (sym c.deref.ensures.value) ∙ sym c.fault_before.ensures ∙ c.in_default.is)
-    (subst (λ (cs : List Case). ArePlanned d options t cs planned) c.deref-2.ensures.value c.in_ok-planned.ensures.planned)
+    (subst (λ (cs : List Case). ArePlanned d options t cs planned) c.deref-2.ensures.value
+    c.in_ok-planned.ensures.planned)
     (ap (any_late t) (sym c.deref-3.ensures.value) ∙ sym c.any_late.ensures ∙ c.if-any_late.false) answer
     (subst (λ (ps : List Planned). IsTable d options t ps answer) c.deref-4.ensures.value
-    (subst (λ (e : DocumentState). IsTable e options t c.deref-4.result.now answer) c.in_ok-planned.ensures.same table)))
+    (subst (λ (e : DocumentState). IsTable e options t c.deref-4.result.now answer) c.in_ok-planned.ensures.same
+    table)))
     c.table_of.ensures.table
