@@ -18,7 +18,8 @@ use Rattle.gptp_outcome.proofs.RunLemmas.{leads_once, played_named}
 use Rattle.gptp_outcome.proofs.SoFarLemmas.{leads_begin_so}
 use Rattle.gptp_commands.specs.declared.failure.Status.{Status}
 use Rattle.gptp_commands.specs.declared.run.RunOptions.{RunOptions}
-use Rattle.gptp_commands.specs.RunText.{document_limit, draws, generator, until_of, AnswersDocument, BeginsRun, CertifiesIf, PlaysDocument, RefusesFault, ReportsRun, RunsSoFar, RunText}
+use Rattle.gptp_commands.specs.Documents.{document_limit, AnswersSoFar, RefusesFault}
+use Rattle.gptp_commands.specs.RunText.{draws, generator, until_of, AnswersDocument, BeginsRun, CertifiesIf, LeadsDocument, PlaysDocument, ReportsRun, RunText}
 use Rattle.gptp_commands.proofs.VerdictLemmas.{same_refusal, AreSame}
 
 -- a generator gives one number
@@ -102,7 +103,7 @@ document_begins_so d options begun output status is so k =
     )
 
 answer_begins_so : (options : RunOptions) (input : List ℕ) (begun output : List (List ℕ)) (status : Status)
-    → RunsSoFar options input begun → AnswersDocument options input output status
+    → AnswersSoFar (LeadsDocument options) input begun → AnswersDocument options input output status
     → (rest : List (List ℕ)) × (output ≡ begun ++ rest)
 answer_begins_so options input begun output status (d, d-means, so) (inl (e, e-means, k, _)) =
     let same = network_laws.one_meaning input e d e-means d-means in
