@@ -10,8 +10,8 @@ use std::fmt;
 pub enum Done {
     /// That it was done.
     Quiet,
-    /// A frame reached that port of the system with that clock, and what was answered there; `None` where the system has
-    /// failed.
+    /// A frame reached that port of the system with that clock, and what was answered there; `None` where the system
+    /// has failed.
     Heard {
         clock: ClockId,
         port: u16,

@@ -2,7 +2,8 @@
 
 use gptp_system::{Setup, System};
 
-/// A system of the world: what it starts with, its state, and whether it is live. The state of a failed system says nothing.
+/// A system of the world: what it starts with, its state, and whether it is live. The state of a failed system says
+/// nothing.
 #[derive(Drop)]
 pub struct Station {
     /// What it starts with, as it has become: a changed priority1 stays.

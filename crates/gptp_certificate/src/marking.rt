@@ -147,8 +147,8 @@ fn list_starts(
     Ok(starts)
 }
 
-/// The line of a system that is far, by the lowest root of its component, becomes that of a far system, so many links away
-/// from one that isn't.
+/// The line of a system that is far, by the lowest root of its component, becomes that of a far system, so many links
+/// away from one that isn't.
 fn mark(line: &mut SystemLine, lowest: Identity, links: u16)
     requires { links ≤ 65281 }
     ensures { Marks lowest links (line_of line.old) (line_of line.new) }
@@ -167,7 +167,8 @@ fn mark_each(lines: &mut Vec<SystemLine>, lowest: &[Identity], links: &[u16])
     requires lowest { length lowest.now ≡ length lines.old.items }
     requires links { length links.now ≡ length lines.old.items }
     requires few { (i : ℕ) → value links.now i ≤ 65281 }
-    ensures { AreMarked (length lines.old.items) lowest.now links.now (lines_of lines.old.items) (lines_of lines.new.items) }
+    ensures { AreMarked (length lines.old.items) lowest.now links.now (lines_of lines.old.items)
+        (lines_of lines.new.items) }
 {
     for place in 0..lines.len() {
         mark(&mut lines[place], lowest[place], links[place]);

@@ -5,8 +5,8 @@ use gptp_vector::{ClockId, Identity, PortId};
 use std::marker::Model;
 
 /// What one system says: the root that it follows, how many steps away that is (stepsRemoved), the number of its Slave
-/// port with the port at the other end that it follows, if it has one, and the role of each port, by rising number. A far
-/// line is that of a system 255 or more steps from the best of its component: it has no parent and no ports.
+/// port with the port at the other end that it follows, if it has one, and the role of each port, by rising number. A
+/// far line is that of a system 255 or more steps from the best of its component: it has no parent and no ports.
 #[derive(Debug, Drop)]
 pub struct SystemLine {
     pub clock: ClockId,
@@ -17,8 +17,8 @@ pub struct SystemLine {
     pub ports: Vec<(u16, Role)>,
 }
 
-/// What the systems of a network say, by rising clock, in version 1 or 2; far lines stand in version 2 alone. It is seen
-/// as its version and its lines, as gptp_graph has them.
+/// What the systems of a network say, by rising clock, in version 1 or 2; far lines stand in version 2 alone. It is
+/// seen as its version and its lines, as gptp_graph has them.
 #[derive(Debug, Drop)]
 pub struct Certificate {
     pub(crate) version: u8,
@@ -39,8 +39,8 @@ impl Certificate {
     ghost use Rattle.std.specs.Prelude.{◌≡◌, length, option_map, slice_get};
     ghost use Rattle.gptp_certificate_text.specs.Certificate.{line_of, lines_of, IsCertificate};
 
-    /// The certificate of this version, 1 or 2, with these lines, whose clocks rise, as do the port numbers of each line.
-    /// Far lines are bare, and stand in version 2 alone.
+    /// The certificate of this version, 1 or 2, with these lines, whose clocks rise, as do the port numbers of each
+    /// line. Far lines are bare, and stand in version 2 alone.
     pub fn of_lines(version: u8, lines: Vec<SystemLine>) -> Self
         requires is { IsCertificate version (lines_of lines.items) }
         ensures version { result.version ≡ version }
@@ -70,8 +70,8 @@ impl Certificate {
         self.lines.as_slice().get(place)
     }
 
-    /// Its version is 1 or 2, its clocks rise, and so do the port numbers of each line; far lines are bare, and stand in
-    /// version 2 alone.
+    /// Its version is 1 or 2, its clocks rise, and so do the port numbers of each line; far lines are bare, and stand
+    /// in version 2 alone.
     pub fn well_formed(&self)
         ensures { IsCertificate self.now.version self.now.lines }
     {

@@ -42,7 +42,8 @@ pub(crate) enum Entry {
 fn link(words: ParentWords<'_>) -> Option<(u16, PortId)>
     ensures readable { IfSome result (λ link. IsReadableLink (parent_of link)) }
     ensures found { IfSome result (λ link. text.parent_words (parent_of link) ≡ parent_words_of words.entry) }
-    ensures absent { IfNone result ((link : ParentLink) → IsReadableLink link → text.parent_words link ≢ parent_words_of words.entry) }
+    ensures absent { IfNone result
+        ((link : ParentLink) → IsReadableLink link → text.parent_words link ≢ parent_words_of words.entry) }
 {
     let own_port = port_number(words.own_port)?;
     let clock = clock(words.clock)?;
@@ -53,8 +54,12 @@ fn link(words: ParentWords<'_>) -> Option<(u16, PortId)>
 /// The parent that three words spell, or none.
 fn parent(words: Option<ParentWords<'_>>) -> Option<Option<(u16, PortId)>>
     ensures readable { IfSome result (λ parent. IsReadableParent (option_map parent_of parent)) }
-    ensures found { IfSome result (λ parent. option_map text.parent_words (option_map parent_of parent) ≡ option_map parent_words_of words.entry) }
-    ensures absent { IfNone result ((parent : Option ParentLink) → IsReadableParent parent → option_map text.parent_words parent ≢ option_map parent_words_of words.entry) }
+    ensures found { IfSome result
+        (λ parent. option_map text.parent_words (option_map parent_of parent)
+        ≡ option_map parent_words_of words.entry) }
+    ensures absent { IfNone result
+        ((parent : Option ParentLink) → IsReadableParent parent
+        → option_map text.parent_words parent ≢ option_map parent_words_of words.entry) }
 {
     match words {
         None => Some(None),
@@ -100,7 +105,9 @@ fn far(words: FarWords<'_>) -> Option<Entry>
 fn port(words: PortWords<'_>) -> Option<Entry>
     ensures readable { IfSome result (λ entry. (version : ℕ) → IsReadableEntry version (entry_of entry)) }
     ensures found { IfSome result (λ entry. spelled (entry_of entry) ≡ form_of (Form.Port words.entry)) }
-    ensures absent { IfNone result ((version clock : ℕ) (port : PortLine) → IsReadableEntry version (entries.PortEntry clock port) → text.port_words clock port ≢ port_words_of words.entry) }
+    ensures absent { IfNone result
+        ((version clock : ℕ) (port : PortLine) → IsReadableEntry version (entries.PortEntry clock port)
+        → text.port_words clock port ≢ port_words_of words.entry) }
 {
     let clock = clock(words.clock)?;
     let number = port_number(words.number)?;
@@ -116,7 +123,8 @@ fn spelled_entry(form: Form<'_>, version: u8, after_far: bool) -> Option<Entry>
     requires { FitsHere version after_far (form_of form) }
     ensures readable { IfSome result (λ entry. IsReadableEntry version (entry_of entry)) }
     ensures found { IfSome result (λ entry. spelled (entry_of entry) ≡ form_of form.entry) }
-    ensures absent { IfNone result ((entry : entries.Entry) → IsReadableEntry version entry → spelled entry ≢ form_of form.entry) }
+    ensures absent { IfNone result
+        ((entry : entries.Entry) → IsReadableEntry version entry → spelled entry ≢ form_of form.entry) }
 {
     match form {
         Form::System(words) => system(words),
@@ -131,7 +139,8 @@ fn entry_of_form(form: Form<'_>, version: u8, after_far: bool) -> Result<Entry, 
     ensures readable { IfOk result (λ entry. IsReadableEntry version (entry_of entry)) }
     ensures read { IfOk result (λ entry. spelled (entry_of entry) ≡ form_of form.entry) }
     ensures fault { IfErr result (λ fault. fault ≡ CertificateFault.Spelling) }
-    ensures refused { OnErr result ((entry : entries.Entry) → IsReadableEntry version entry → spelled entry ≢ form_of form.entry) }
+    ensures refused { OnErr result
+        ((entry : entries.Entry) → IsReadableEntry version entry → spelled entry ≢ form_of form.entry) }
 {
     match spelled_entry(form, version, after_far) {
         None => Err(CertificateFault::Spelling),
@@ -139,8 +148,8 @@ fn entry_of_form(form: Form<'_>, version: u8, after_far: bool) -> Result<Entry, 
     }
 }
 
-/// Reads a line of a text of this version, right after a far system's line or not. The error is Line where it has no form
-/// that can stand there, and Spelling where its words spell no entry.
+/// Reads a line of a text of this version, right after a far system's line or not. The error is Line where it has no
+/// form that can stand there, and Spelling where its words spell no entry.
 pub(crate) fn read_entry(
     line: &[u8],
     version: u8,

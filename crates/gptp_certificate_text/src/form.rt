@@ -69,7 +69,8 @@ fn role(word: &[u8]) -> Option<Role>
 fn link_words(text: &[u8]) -> Option<ParentWords<'_>>
     ensures words { IfSome result (λ link. forms.AreParentWords (parent_words_of link)) }
     ensures found { IfSome result (λ link. text.now ≡ parent_text (Some (parent_words_of link))) }
-    ensures absent { IfNone result ((link : forms.ParentWords) → forms.AreParentWords link → text.now ≢ parent_text (Some link)) }
+    ensures absent { IfNone result
+        ((link : forms.ParentWords) → forms.AreParentWords link → text.now ≢ parent_text (Some link)) }
 {
     let (own_port, rest) = word(text)?;
     let (clock, port) = word(rest)?;
@@ -88,7 +89,8 @@ fn link_words(text: &[u8]) -> Option<ParentWords<'_>>
 fn parent_words(text: &[u8]) -> Option<Option<ParentWords<'_>>>
     ensures words { IfSome result (λ parent. HasParentWords (option_map parent_words_of parent)) }
     ensures found { IfSome result (λ parent. text.now ≡ parent_text (option_map parent_words_of parent)) }
-    ensures absent { IfNone result ((parent : Option forms.ParentWords) → HasParentWords parent → text.now ≢ parent_text parent) }
+    ensures absent { IfNone result
+        ((parent : Option forms.ParentWords) → HasParentWords parent → text.now ≢ parent_text parent) }
 {
     if text == b"none".as_slice() {
         return Some(None);

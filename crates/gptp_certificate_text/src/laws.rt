@@ -17,7 +17,8 @@ pub fn a_text_that_fails_is_no_certificates()
 
 /// A text fails in one way at most.
 pub fn a_text_fails_in_one_way()
-    ensures { (text : List ℕ) (first second : CertificateFault) → Fails text first → Fails text second → first ≡ second }
+    ensures { (text : List ℕ) (first second : CertificateFault) → Fails text first → Fails text second
+        → first ≡ second }
 {}
 
 /// Two certificates that can be read differ in their texts: so what was printed is read back.

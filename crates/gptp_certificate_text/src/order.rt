@@ -27,7 +27,8 @@ fn last_number(line: &SystemLine) -> u16
 
 /// Whether the line of a port can follow the last line of a system that isn't far.
 fn can_follow(line: &SystemLine, clock: ClockId, number: u16) -> bool
-    ensures { IsTrue result ↔ ((clock_of (last_entry (line_of line.now)) ≡ clock) × (number_of (last_entry (line_of line.now)) < number)) }
+    ensures { IsTrue result ↔
+        ((clock_of (last_entry (line_of line.now)) ≡ clock) × (number_of (last_entry (line_of line.now)) < number)) }
 {
     if line.clock != clock {
         return false;
@@ -67,8 +68,11 @@ fn append_port(
 ) -> Result<(), CertificateFault>
     requires stand { StandInOrder (entries_of (lines_of lines.old)) }
     requires near { ends_far (entries_of (lines_of lines.old)) ≡ false }
-    ensures appended { OnOk result (Appends (entries_of (lines_of lines.old)) (entries.PortEntry clock (port_line_of (number, role))) (entries_of (lines_of lines.new))) }
-    ensures refused { IfErr result (RefusesOrder (entries_of (lines_of lines.old)) (entries.PortEntry clock (port_line_of (number, role)))) }
+    ensures appended { OnOk result
+        (Appends (entries_of (lines_of lines.old)) (entries.PortEntry clock (port_line_of (number, role)))
+        (entries_of (lines_of lines.new))) }
+    ensures refused { IfErr result
+        (RefusesOrder (entries_of (lines_of lines.old)) (entries.PortEntry clock (port_line_of (number, role)))) }
 {
     match lines.last_mut() {
         None => Err(CertificateFault::Order),
@@ -137,7 +141,8 @@ fn append(alloc: Global, lines: &mut Vec<SystemLine>, entry: Entry) -> Result<()
     requires stand { StandInOrder (entries_of (lines_of lines.old.items)) }
     requires near { (clock : ℕ) (port : PortLine) → entry_of entry ≡ entries.PortEntry clock port
         → ends_far (entries_of (lines_of lines.old.items)) ≡ false }
-    ensures appended { OnOk result (Appends (entries_of (lines_of lines.old.items)) (entry_of entry) (entries_of (lines_of lines.new.items))) }
+    ensures appended { OnOk result
+        (Appends (entries_of (lines_of lines.old.items)) (entry_of entry) (entries_of (lines_of lines.new.items))) }
     ensures refused { IfErr result (RefusesOrder (entries_of (lines_of lines.old.items)) (entry_of entry)) }
 {
     match entry {

@@ -50,7 +50,9 @@ fn read_line<'a>(
     ensures read { IfOk result (λ more. (line : List ℕ)
         × ReadsLine version (entries_of (lines_of lines.old.items)) line (entries_of (lines_of lines.new.items))
         × (rest.now ≡ line ++ 10 ∷ more.now)) }
-    ensures refused { IfErr result (λ fault. (fault ≡ CertificateFault.OutOfMemory) ⊎ RestFails version (entries_of (lines_of lines.old.items)) rest.now fault) }
+    ensures refused { IfErr result
+        (λ fault. (fault ≡ CertificateFault.OutOfMemory)
+        ⊎ RestFails version (entries_of (lines_of lines.old.items)) rest.now fault) }
 {
     let (line, more) = first_line(rest)?;
     match append_line(alloc, lines, version, line) {
@@ -88,8 +90,8 @@ pub fn parse_located(alloc: Global, text: &[u8]) -> Result<Certificate, (Certifi
     Ok(Certificate::of_lines(version, lines))
 }
 
-/// The certificate that a text spells, as [`print`](crate::print) writes it (profile). The text is read line by line, and
-/// the first line that fails tells the fault:
+/// The certificate that a text spells, as [`print`](crate::print) writes it (profile). The text is read line by line,
+/// and the first line that fails tells the fault:
 ///
 /// - [`CertificateFault::Head`]: the text doesn't begin with the first line of version 1 or 2, whole
 /// - [`CertificateFault::Line`]: a line is missing or lacks its line feed, isn't one by its words, or stands behind `end`;

@@ -105,8 +105,8 @@ fn write_systems(text: &mut String, lines: &[SystemLine]) -> Result<(), AllocErr
     Ok(())
 }
 
-/// Appends the text of a certificate of this version with these lines, whether or not they can be those of one. The only
-/// error is that memory ran out; what stands appended then isn't said.
+/// Appends the text of a certificate of this version with these lines, whether or not they can be those of one. The
+/// only error is that memory ran out; what stands appended then isn't said.
 pub fn print_lines(text: &mut String, version: u8, lines: &[SystemLine]) -> Result<(), AllocError>
     ensures { OnOk result (string_bytes text.new
         ≡ string_bytes text.old ++ certificate_text version (lines_of lines.now)) }

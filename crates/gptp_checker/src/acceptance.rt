@@ -57,8 +57,8 @@ fn passes(snapshot: &Snapshot, certificate: &Certificate, fault: Fault) -> bool
     every_line_passes(snapshot, certificate, test)
 }
 
-/// Whether a certificate is the choice that the network of a snapshot settles at, in version 1 with all steps below 255.
-/// Refused by the first fault, looked for over the whole certificate in this order:
+/// Whether a certificate is the choice that the network of a snapshot settles at, in version 1 with all steps below
+/// 255. Refused by the first fault, looked for over the whole certificate in this order:
 ///
 /// - [`Fault::Systems`]: its systems aren't the live ones, the ports of one that isn't far aren't all its ports, or a far
 ///   one has some

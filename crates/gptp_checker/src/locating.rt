@@ -101,12 +101,13 @@ fn locate_systems(snapshot: &Snapshot, certificate: &Certificate) -> Option<Loca
     Some(Location::System(clock))
 }
 
-/// The first place at which a certificate fails the test of a fault, by rising clock and then by rising port; `None` where
-/// it passes that. Other faults than [`Fault::Systems`] are looked for where the systems are right, as
+/// The first place at which a certificate fails the test of a fault, by rising clock and then by rising port; `None`
+/// where it passes that. Other faults than [`Fault::Systems`] are looked for where the systems are right, as
 /// [`accepts`](crate::accepts) does.
 ///
-/// It is the system of the first line that fails; at [`Fault::Parent`] the link to the parent that this states, if it does;
-/// at [`Fault::Link`] and [`Fault::Tie`] the link, its own end first; at [`Fault::Role`] the port. Takes no memory.
+/// It is the system of the first line that fails; at [`Fault::Parent`] the link to the parent that this states, if it
+/// does; at [`Fault::Link`] and [`Fault::Tie`] the link, its own end first; at [`Fault::Role`] the port. Takes no
+/// memory.
 pub fn locate(snapshot: &Snapshot, certificate: &Certificate, fault: Fault) -> Option<Location>
     requires { fault ≢ Fault.Systems → PassesSystems snapshot.now certificate.now.lines }
     ensures some { IfSome result (IsLocation fault snapshot.now certificate.now.lines) }

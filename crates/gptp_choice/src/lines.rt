@@ -59,8 +59,8 @@ fn follows_at(parent: &Option<(u16, PortId)>, port: u16) -> bool {
     }
 }
 
-/// Whether a port of a system so many links from its best is its Master port for the other end: that is farther, or as far
-/// with the higher clock.
+/// Whether a port of a system so many links from its best is its Master port for the other end: that is farther, or as
+/// far with the higher clock.
 fn leads(
     snapshot: &Snapshot,
     reached: &[Option<Reached>],

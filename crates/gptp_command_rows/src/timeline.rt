@@ -1,6 +1,6 @@
-//! What changes at which system when. The times were worked out by hand: the two systems of [`TWO`] measure their link from
-//! 0 on, are capable after their second exchange, 2,000 ns behind 1 s, and the Announce of the first takes 500 ns; it sends
-//! time each eighth of a second, and what comes is exact.
+//! What changes at which system when. The times were worked out by hand: the two systems of [`TWO`] measure their link
+//! from 0 on, are capable after their second exchange, 2,000 ns behind 1 s, and the Announce of the first takes 500 ns;
+//! it sends time each eighth of a second, and what comes is exact.
 
 ghost use Rattle.std.specs.Prelude.{◌≢◌, IfSome, ◌≤◌};
 
@@ -54,25 +54,27 @@ fn told(
     Ok((written, status))
 }
 
-/// Two systems, and what happens to them: the lines up to a time.
+/// Two systems, and what happens to them: the lines up to a time, those of the start and the others.
 fn changes_are_told(
     rt: &impl Abort,
     alloc: Global,
     events: &str,
     order: &TimelineOrder,
-    want: &str,
+    start: &str,
+    others: &str,
 ) -> Result<(), Fail>
     requires { IfSome order.now.until (λ until. until ≤ 1000000000000000) }
 {
     let document = format!(in alloc; "{TWO}{events}")?;
     let (text, status) = told(alloc, document.as_bytes(), order)?;
+    let want = format!(in alloc; "{start}{others}")?;
     same_at(rt, &events, text.as_slice(), want.as_bytes());
     same_at(rt, &events, status, Status::Done);
     Ok(())
 }
 
-/// With the receipts of time.
-const SETTLING: &str =
+/// They start, measure their link, and the second follows the first and knows its time.
+const SETTLED: &str =
     "at 0 system 0000000000000001 root f6f8fe436af80000000000000001 steps 0 gm yes slave none offset none
 at 0 port 0000000000000001 1 disabled capable no
 at 0 system 0000000000000002 root f6f8fe436af80000000000000002 steps 0 gm yes slave none offset none
@@ -82,7 +84,10 @@ at 1000002000 port 0000000000000002 1 master capable yes
 at 1000002500 system 0000000000000002 root f6f8fe436af80000000000000001 steps 1 gm yes slave 1 offset none
 at 1000002500 port 0000000000000002 1 slave capable yes
 at 1125000500 system 0000000000000002 root f6f8fe436af80000000000000001 steps 1 gm yes slave 1 offset known
-offset 1125000500 0000000000000002 1000000.000 error 0.000
+";
+
+/// With the receipts of time.
+const RECEIVING: &str = "offset 1125000500 0000000000000002 1000000.000 error 0.000
 offset 1250000500 0000000000000002 1000000.000 error 0.000
 after 0 to 1300000000 choice 1000002500 roles 1000002500 offsets 1125000500 holdover 125000000 0000000000000002 error 0.000 0000000000000002 without 0 roots 1 alone 0 bound 26000000000
 ";
@@ -97,7 +102,7 @@ fn two_systems_settle_and_receive_time(rt: HostRuntime) -> Result<(), Fail> {
         },
         ..up_to(1_300_000_000)
     };
-    changes_are_told(&rt, rt.alloc(), "", &order, SETTLING)
+    changes_are_told(&rt, rt.alloc(), "", &order, SETTLED, RECEIVING)
 }
 
 /// The second is the better from the start on.
@@ -125,7 +130,14 @@ after 0 to 1125000500 choice 1000002500 roles 1000002500 offsets 1125000500 hold
 
 #[test]
 fn an_event_at_0_belongs_to_the_first_stretch(rt: HostRuntime) -> Result<(), Fail> {
-    changes_are_told(&rt, rt.alloc(), PRIORITY, &up_to(1_125_000_500), SECOND_LEADS)
+    changes_are_told(
+        &rt,
+        rt.alloc(),
+        PRIORITY,
+        &up_to(1_125_000_500),
+        "",
+        SECOND_LEADS,
+    )
 }
 
 /// The link goes down and comes up at one time, where the run ends.
@@ -141,17 +153,7 @@ clock = \"0000000000000001\"
 port = 1
 ";
 
-const NO_LENGTH: &str =
-    "at 0 system 0000000000000001 root f6f8fe436af80000000000000001 steps 0 gm yes slave none offset none
-at 0 port 0000000000000001 1 disabled capable no
-at 0 system 0000000000000002 root f6f8fe436af80000000000000002 steps 0 gm yes slave none offset none
-at 0 port 0000000000000002 1 disabled capable no
-at 1000002000 port 0000000000000001 1 master capable yes
-at 1000002000 port 0000000000000002 1 master capable yes
-at 1000002500 system 0000000000000002 root f6f8fe436af80000000000000001 steps 1 gm yes slave 1 offset none
-at 1000002500 port 0000000000000002 1 slave capable yes
-at 1125000500 system 0000000000000002 root f6f8fe436af80000000000000001 steps 1 gm yes slave 1 offset known
-after 0 to 3000000000 choice 1000002500 roles 1000002500 offsets 1125000500 holdover 125000000 0000000000000002 error 0.000 0000000000000002 without 0 roots 1 alone 0 bound 26000000000
+const NO_LENGTH: &str = "after 0 to 3000000000 choice 1000002500 roles 1000002500 offsets 1125000500 holdover 125000000 0000000000000002 error 0.000 0000000000000002 without 0 roots 1 alone 0 bound 26000000000
 event 3000000000 link_down 0000000000000002 1
 at 3000000000 port 0000000000000001 1 disabled capable no
 at 3000000000 system 0000000000000002 root f6f8fe436af80000000000000002 steps 0 gm yes slave none offset none
@@ -162,7 +164,14 @@ after 3000000000 to 3000000000 choice 0 roles 0 offsets 0 holdover 0 none error 
 
 #[test]
 fn events_at_the_end_begin_a_stretch_of_no_length(rt: HostRuntime) -> Result<(), Fail> {
-    changes_are_told(&rt, rt.alloc(), AT_THE_END, &up_to(3_000_000_000), NO_LENGTH)
+    changes_are_told(
+        &rt,
+        rt.alloc(),
+        AT_THE_END,
+        &up_to(3_000_000_000),
+        SETTLED,
+        NO_LENGTH,
+    )
 }
 
 /// The second fails while it waits for time, and recovers.
@@ -176,17 +185,7 @@ kind = \"recover\"
 clock = \"0000000000000002\"
 ";
 
-const FAILED: &str =
-    "at 0 system 0000000000000001 root f6f8fe436af80000000000000001 steps 0 gm yes slave none offset none
-at 0 port 0000000000000001 1 disabled capable no
-at 0 system 0000000000000002 root f6f8fe436af80000000000000002 steps 0 gm yes slave none offset none
-at 0 port 0000000000000002 1 disabled capable no
-at 1000002000 port 0000000000000001 1 master capable yes
-at 1000002000 port 0000000000000002 1 master capable yes
-at 1000002500 system 0000000000000002 root f6f8fe436af80000000000000001 steps 1 gm yes slave 1 offset none
-at 1000002500 port 0000000000000002 1 slave capable yes
-at 1125000500 system 0000000000000002 root f6f8fe436af80000000000000001 steps 1 gm yes slave 1 offset known
-after 0 to 2500000000 choice 1000002500 roles 1000002500 offsets 1125000500 holdover 125000000 0000000000000002 error 0.000 0000000000000002 without 0 roots 1 alone 0 bound 26000000000
+const FAILED: &str = "after 0 to 2500000000 choice 1000002500 roles 1000002500 offsets 1125000500 holdover 125000000 0000000000000002 error 0.000 0000000000000002 without 0 roots 1 alone 0 bound 26000000000
 event 2500000000 fail 0000000000000002
 at 2500000000 system 0000000000000002 failed
 after 2500000000 to 3000000000 choice 0 roles 0 offsets 0 holdover 0 none error 0.000 none without 0 roots 0 alone 1 bound 20000000000
@@ -202,7 +201,14 @@ after 3000000000 to 4200000000 choice 1000002500 roles 1000002500 offsets 112500
 
 #[test]
 fn a_wait_that_an_event_ends_counts_where_it_is_looked_at(rt: HostRuntime) -> Result<(), Fail> {
-    changes_are_told(&rt, rt.alloc(), FAILS, &up_to(4_200_000_000), FAILED)
+    changes_are_told(
+        &rt,
+        rt.alloc(),
+        FAILS,
+        &up_to(4_200_000_000),
+        SETTLED,
+        FAILED,
+    )
 }
 
 /// A third system hangs at the first, as the second does.
@@ -257,9 +263,9 @@ min = 500
 max = 500
 ";
 
-/// The second fails before it ever received time; at the time at which it receives it; the first fails while its Sync is in
-/// flight; the second's priority1 is another, which changes nobody's choice, at the time of a receipt, where the run ends.
-/// Nobody can be grandmaster. Two waits end in one ns. The Slave port is another from one ns to the next.
+/// The second fails before it ever received time; at the time at which it receives it; the first fails while its Sync
+/// is in flight; the second's priority1 is another, which changes nobody's choice, at the time of a receipt, where the
+/// run ends. Nobody can be grandmaster. Two waits end in one ns. The Slave port is another from one ns to the next.
 const STRETCHES: [(&str, &str, u64, &str); 7] = [
     (
         TWO,

@@ -70,6 +70,7 @@ const CHECK_HELP: &str = "\
 Input: standard input, a document in TOML of at most 32 MiB (33,554,432 octets), and FILE, a
 certificate of at most 1 MiB (1,048,576 octets), such as 'run --certificate' writes.
 The document comes by '<', the certificate by its name.
+Output: 'accepted', or the first test that the certificate fails; with --where a second line says at which place.
 Example: gptp_sim check certificate.txt < examples/vehicle.toml";
 
 /// What help says of `--until` where it is the time of a network.

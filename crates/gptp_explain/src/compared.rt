@@ -86,7 +86,8 @@ pub(crate) fn win(steps: u16, clock: ClockId, there: u16, other: ClockId) -> Com
     }
 }
 
-/// What a way loses by against the way over the Slave port: each by the steps that it offers and by the port at its end.
+/// What a way loses by against the way over the Slave port: each by the steps that it offers and by the port at its
+/// end.
 pub(crate) fn loss(slave_offers: u32, parent: &PortId, offers: u32, there: &PortId) -> Compared
     ensures { result ≡ loss slave_offers parent.now offers there.now }
 {

@@ -75,8 +75,8 @@ fn write_all(
 }
 
 /// What the network of a document settles at for the live system with a clock, as the network stands at a time, in ns,
-/// after all events with time up to it: which root it follows and why, over which systems, the role of each port and why,
-/// and the systems of its component in their order. `None` where no live system has that clock then.
+/// after all events with time up to it: which root it follows and why, over which systems, the role of each port and
+/// why, and the systems of its component in their order. `None` where no live system has that clock then.
 ///
 /// Errors: [`ChoiceFault::OutOfMemory`]; the others don't come where the search for the settled choice is right.
 pub fn explain(

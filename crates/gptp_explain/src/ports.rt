@@ -50,7 +50,8 @@ fn why_slave(snapshot: &Snapshot, line: &SystemLine, port: &PortId) -> Why
     }
 }
 
-/// Why a Passive port has its role, whose link leads to this one, where the system there is so many links from the root.
+/// Why a Passive port has its role, whose link leads to this one, where the system there is so many links from the
+/// root.
 fn why_passive(line: &SystemLine, there: PortId, beyond: u16) -> Why
     ensures { (parent : ℕ × PortId) → line.now.parent ≡ Some parent
         → result ≡ Why.Loses there (beyond + 1) (loss line.now.steps parent.1 (beyond + 1) there) }

@@ -26,7 +26,8 @@ fn distance_word(steps: u16) -> &'static str
     if steps < 255 { "steps" } else { "far" }
 }
 
-/// Appends what a system is and which root it follows, over how many links, or from how many links that is too far away.
+/// Appends what a system is and which root it follows, over how many links, or from how many links that is too far
+/// away.
 pub(crate) fn write_system(
     text: &mut String,
     own: Identity,

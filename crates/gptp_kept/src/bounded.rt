@@ -2,10 +2,10 @@
 
 ghost use Rattle.gptp_kept.specs.BoundedLaws.{ClaimedBounded, ClaimedBoundedByPaths};
 
-/// Where a world of which the claim holds has been calm for the settling span of its live systems, none of them, near or
-/// far, states a root below the identity of its component's best, nor that root over fewer steps than its distance; where
-/// the distance is below 255, it states both. So it is where the world has been calm for the settling span of m systems,
-/// and no path of its snapshot has more.
+/// Where a world of which the claim holds has been calm for the settling span of its live systems, none of them, near
+/// or far, states a root below the identity of its component's best, nor that root over fewer steps than its distance;
+/// where the distance is below 255, it states both. So it is where the world has been calm for the settling span of m
+/// systems, and no path of its snapshot has more.
 pub fn worlds_are_bounded()
     ensures systems { ClaimedBounded }
     ensures by_paths { ClaimedBoundedByPaths }

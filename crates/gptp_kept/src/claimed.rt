@@ -77,8 +77,8 @@ pub fn calls_show_it()
 {}
 
 /// Traces in such a world become clean: those that systems announce, those that their ports hold, and those of frames
-/// that reach a port. In the end all that is held is wholly clean; then it names no better root than the best's, and for
-/// the best no fewer steps than its sender is away.
+/// that reach a port. In the end all that is held is wholly clean; then it names no better root than the best's, and
+/// for the best no fewer steps than its sender is away.
 pub fn traces_become_clean<F: Fate>()
     ensures traces { TracesBecomeClean }
     ensures held { HeldBecomesClean }

@@ -17,18 +17,18 @@ pub fn known_later()
 {}
 
 /// Every act of a sound world keeps what is known, whatever was drawn for its frames: a delivery, an expiry, and every
-/// change, where it sets no link to a delay above the announce interval of any port, or above the largest. So it is kept
-/// from act to act.
+/// change, where it sets no link to a delay above the announce interval of any port, or above the largest. So it is
+/// kept from act to act.
 pub fn known_after_acts<F: Fate>()
     ensures acts { ActsKnown }
     ensures done { DoneKnown F.answers }
 {}
 
 /// In a sound and known world a Master port of a live system announces now or later, and within its announce interval;
-/// what a port received came by now, and no longer ago than the announce receipt timeout, by the interval that it named;
-/// a port whose Pdelay timer runs asks now or later, and within one pdelay interval; one whose Respond timer runs answers
-/// now or later, and within one turnaround. What names the announce interval of a port stays longer than that interval
-/// and the greatest delay of any link.
+/// what a port received came by now, and no longer ago than the announce receipt timeout, by the interval that it
+/// named; a port whose Pdelay timer runs asks now or later, and within one pdelay interval; one whose Respond timer
+/// runs answers now or later, and within one turnaround. What names the announce interval of a port stays longer than
+/// that interval and the greatest delay of any link.
 pub fn ports_are_due()
     ensures due { PortsKnown }
     ensures long { ReceiptsOutlast }

@@ -1,7 +1,7 @@
 //! What every world of a network keeps, and that it settles.
 //!
-//! The state of a world is that of `gptp_acts`, and so are its acts. Each subject has its definitions in `specs/`, and its
-//! laws in a module:
+//! The state of a world is that of `gptp_acts`, and so are its acts. Each subject has its definitions in `specs/`, and
+//! its laws in a module:
 //!
 //! - [`known`]: what is known of every item at every time, in lossy and changing networks too: when timers and frames are
 //!   due, and which ports measure;
@@ -15,8 +15,8 @@
 //!   settle, and what the calls of a world show then;
 //! - [`bounded`]: what the systems of a world state of themselves then, far ones too.
 //!
-//! Each port announces at an interval of its own. What is counted in announce intervals is counted in the largest of them
-//! in the network.
+//! Each port announces at an interval of its own. What is counted in announce intervals is counted in the largest of
+//! them in the network.
 //!
 //! Each function of this crate is a law: it does nothing, and its contract is a theorem about the definitions.
 #![tactic(auto)]

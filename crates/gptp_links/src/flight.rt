@@ -34,7 +34,8 @@ pub(crate) fn due_at(flights: &Slab<Flight>, key: Key) -> u64
 
 /// Makes a frame lead to another.
 pub(crate) fn set_next(flights: &mut Slab<Flight>, key: Key, next: Key)
-    ensures updates { Updates flights.old flights.new key.place (option_map (with_next next) (get flights.old key.place)) }
+    ensures updates { Updates flights.old flights.new key.place
+        (option_map (with_next next) (get flights.old key.place)) }
     ensures room { SameRoom flights.old flights.new }
 {
     if let Some(flight) = flights.get_mut(key.place) {

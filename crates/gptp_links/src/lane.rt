@@ -95,7 +95,8 @@ impl Lane {
         requires chained { IsChained (get flights.old) self.old }
         requires few { self.old.count < self.old.limit }
         requires room { HasRoomFor flights.old 1 }
-        ensures sent { IsSent F.answers bounds.now now fate.old fate.new (frames_in (get flights.old) self.old) octets.items (frames_in (get flights.new) self.new) result }
+        ensures sent { IsSent F.answers bounds.now now fate.old fate.new
+            (frames_in (get flights.old) self.old) octets.items (frames_in (get flights.new) self.new) result }
         ensures others { ChangesOne flights.old flights.new self.old self.new }
         ensures count { self.new.count ≤ self.old.count + 1 }
         ensures few { self.new.count ≤ self.new.limit }
@@ -118,7 +119,9 @@ impl Lane {
     ) -> Result<Vec<u8>, NotDue>
         requires chained { IsChained (get flights.old) self.old }
         ensures due { IsOk result ↔ IsDue (frames_in (get flights.old) self.old) now }
-        ensures taken { IfOk result (λ octets. IsTaken (frames_in (get flights.old) self.old) octets.items (frames_in (get flights.new) self.new)) }
+        ensures taken { IfOk result
+            (λ octets. IsTaken (frames_in (get flights.old) self.old) octets.items
+            (frames_in (get flights.new) self.new)) }
         ensures others { ChangesOne flights.old flights.new self.old self.new }
         ensures count { self.new.count ≤ self.old.count }
         ensures kept_flights { OnErr result (flights.new ≡ flights.old) }
@@ -158,7 +161,8 @@ impl Lane {
         requires late { newest_due (frames_in (get flights.old) self.old) ≤ due }
         requires few { self.old.count < self.old.limit }
         requires room { HasRoomFor flights.old 1 }
-        ensures frames { frames_in (get flights.new) self.new ≡ frames_in (get flights.old) self.old ++ frame due octets.items ∷ [] }
+        ensures frames { frames_in (get flights.new) self.new ≡ frames_in (get flights.old) self.old
+            ++ frame due octets.items ∷ [] }
         ensures others { ChangesOne flights.old flights.new self.old self.new }
         ensures count { self.new.count ≡ self.old.count + 1 }
     {
@@ -199,7 +203,8 @@ impl Lane {
     fn take(&mut self, flights: &mut Slab<Flight>) -> Vec<u8>
         requires chained { IsChained (get flights.old) self.old }
         requires some { 0 < self.old.count }
-        ensures taken { frames_in (get flights.old) self.old ≡ frame self.old.first_due result.items ∷ frames_in (get flights.new) self.new }
+        ensures taken { frames_in (get flights.old) self.old
+            ≡ frame self.old.first_due result.items ∷ frames_in (get flights.new) self.new }
         ensures others { ChangesOne flights.old flights.new self.old self.new }
         ensures count { self.new.count + 1 ≡ self.old.count }
     {

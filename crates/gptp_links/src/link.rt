@@ -106,7 +106,9 @@ impl Link {
     ) -> Result<Option<u64>, AllocError>
         requires up { self.old.up ≡ true }
         requires early { now ≤ 10 ^ 15 }
-        ensures sent { IfOk result (IsSent F.answers self.old.bounds now fate.old fate.new (queue direction self.old).frames octets.items (queue direction self.new).frames) }
+        ensures sent { IfOk result
+            (IsSent F.answers self.old.bounds now fate.old fate.new (queue direction self.old).frames octets.items
+            (queue direction self.new).frames) }
         ensures others { ChangesOnly direction self.old self.new }
         ensures refused { OnErr result (SameFrames self.old self.new) }
         ensures undrawn { OnErr result (fate.new ≡ fate.old) }
@@ -126,7 +128,8 @@ impl Link {
     /// in flight, it is `NotDue`, and nothing changes.
     pub fn deliver(&mut self, direction: Direction, now: u64) -> Result<Vec<u8>, NotDue>
         ensures due { IsOk result ↔ IsDue (queue direction self.old).frames now }
-        ensures taken { IfOk result (λ octets. IsTaken (queue direction self.old).frames octets.items (queue direction self.new).frames) }
+        ensures taken { IfOk result
+            (λ octets. IsTaken (queue direction self.old).frames octets.items (queue direction self.new).frames) }
         ensures others { ChangesOnly direction self.old self.new }
         ensures kept { OnErr result (self.new ≡ self.old) }
         ensures room { KeepsRoom self.old self.new }

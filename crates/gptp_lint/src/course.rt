@@ -293,7 +293,8 @@ pub(crate) fn course_of(
     names: &[ClockId],
 ) -> Result<Vec<Standing>, AllocError>
     requires { names.now ≡ names_of events.now }
-    ensures { IfOk result (λ course. course.items ≡ course_from (first (wire_of cable.now)) (naming cable.now events.now)) }
+    ensures { IfOk result (λ course. course.items
+        ≡ course_from (first (wire_of cable.now)) (naming cable.now events.now)) }
 {
     let mut course = Vec::new(alloc);
     let mut standing = first(cable);

@@ -1,5 +1,5 @@
-//! The first test that a document fails, with its place and what it saw: the tests again that refuse a document, in their
-//! order.
+//! The first test that a document fails, with its place and what it saw: the tests again that refuse a document, in
+//! their order.
 
 use crate::place::{Place, Section};
 use crate::seen::Seen;

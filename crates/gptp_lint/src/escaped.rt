@@ -27,8 +27,8 @@ impl Front {
     }
 }
 
-/// The front of a text, shown in one word: octets that aren't printed, and `\`, as `\x` and two digits; an empty text as
-/// `\`.
+/// The front of a text, shown in one word: octets that aren't printed, and `\`, as `\x` and two digits; an empty text
+/// as `\`.
 #[derive(Clone, Copy)]
 pub(crate) struct Escaped<'a>(pub &'a [u8]);
 

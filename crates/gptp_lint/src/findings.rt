@@ -46,7 +46,8 @@ fn tell(
     next: u64,
 ) -> Result<(), AllocError>
     requires { length tables.now.nodes.items ≤ 512 }
-    ensures { OnOk result (calm.new.items ≡ told next at (bound_of network.now tables.now.marks.items tables.now.nodes.items) calm.old.items) }
+    ensures { OnOk result (calm.new.items
+        ≡ told next at (bound_of network.now tables.now.marks.items tables.now.nodes.items) calm.old.items) }
 {
     if next != at {
         calm.push(CalmTime {
@@ -139,7 +140,8 @@ fn push_troubles(
 ) -> Result<(), AllocError>
     requires { names.now ≡ names_of document.now.events }
     ensures long { OnOk result (long.new.items ≡ long.old.items ++ longs_of document.now (wire_of cable.now ∷ [])) }
-    ensures lossy { OnOk result (lossy.new.items ≡ lossy.old.items ++ lossies_of document.now (wire_of cable.now ∷ [])) }
+    ensures lossy { OnOk result
+        (lossy.new.items ≡ lossy.old.items ++ lossies_of document.now (wire_of cable.now ∷ [])) }
 {
     document.well_formed();
     let course = course_of(alloc, cable, document.events(), names)?;
@@ -148,8 +150,8 @@ fn push_troubles(
 }
 
 /// What a planner may have overlooked in a document: its links in use that are too long or lose frames, systems that no
-/// link names, components, and each time with its bound. There is no such link exactly where each time is calm. Refused for
-/// want of memory alone.
+/// link names, components, and each time with its bound. There is no such link exactly where each time is calm. Refused
+/// for want of memory alone.
 pub fn find(alloc: Global, document: &Document) -> Result<Findings, AllocError>
     ensures { IfOk result (AreFound document.now) }
 {

@@ -1,5 +1,5 @@
-//! What isn't as it should be in the document of a network, without a run: where and why it is refused, or what a planner
-//! may have overlooked.
+//! What isn't as it should be in the document of a network, without a run: where and why it is refused, or what a
+//! planner may have overlooked.
 #![tactic(auto)]
 
 mod components;

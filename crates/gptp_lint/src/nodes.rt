@@ -97,7 +97,8 @@ fn push_clock_at(
 ) -> Result<(), AllocError>
     requires place { place < length network.now.systems }
     requires before { clocks.old.items ≡ map (λ (m : Member). clock_of m.identity) (take place network.now.systems) }
-    ensures { OnOk result (clocks.new.items ≡ map (λ (m : Member). clock_of m.identity) (take (place + 1) network.now.systems)) }
+    ensures { OnOk result (clocks.new.items
+        ≡ map (λ (m : Member). clock_of m.identity) (take (place + 1) network.now.systems)) }
 {
     match network.system_at(place) {
         Some(system) => push_clock(clocks, system.0.clock()),

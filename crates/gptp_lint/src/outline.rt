@@ -13,8 +13,8 @@ pub(crate) struct Entry {
     pub key: Vec<u8>,
 }
 
-/// The keys at the top, in `[network]` and in each member of the other sections, in the order of the text; and the lines,
-/// from 1, of the headers of these members. A key may stand there several times.
+/// The keys at the top, in `[network]` and in each member of the other sections, in the order of the text; and the
+/// lines, from 1, of the headers of these members. A key may stand there several times.
 #[derive(Drop)]
 pub(crate) struct Outline {
     pub entries: Vec<Entry>,

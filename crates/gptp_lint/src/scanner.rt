@@ -48,8 +48,8 @@ enum Open {
     Marks(Quote, u8, usize),
     /// A text in one line that begins at this place; whether the last octet escapes the next.
     Line(Quote, usize, bool),
-    /// A text in several lines that begins at this place; whether the last octet escapes the next, and how many quotation
-    /// marks it ends with.
+    /// A text in several lines that begins at this place; whether the last octet escapes the next, and how many
+    /// quotation marks it ends with.
     Lines(Quote, usize, bool, u8),
 }
 

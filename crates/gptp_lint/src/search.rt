@@ -44,8 +44,8 @@ impl Reach {
     }
 }
 
-/// Where two systems aren't joined, even over others, one of them with all that it is joined to; which are joined to which
-/// is given by place.
+/// Where two systems aren't joined, even over others, one of them with all that it is joined to; which are joined to
+/// which is given by place.
 pub(crate) fn cut_off(joined: &[Set], one: usize, other: usize) -> Option<Set> {
     let mut from = Reach::from(one);
     let mut to = Reach::from(other);

@@ -42,7 +42,8 @@ fn write_long(
     line: Option<usize>,
     long: &Long,
 ) -> Result<(), AllocError>
-    ensures { OnOk result (string_bytes text.new ≡ string_bytes text.old ++ (long_line threshold line long.now ++ 10 ∷ [])) }
+    ensures { OnOk result (string_bytes text.new ≡ string_bytes text.old
+        ++ (long_line threshold line long.now ++ 10 ∷ [])) }
 {
     writeln!(
         text,
@@ -208,8 +209,8 @@ fn write_unread(
     }
 }
 
-/// Appends the findings of a document, which a text spells and whose links have this threshold, in ns; answers whether there
-/// is one but on calm.
+/// Appends the findings of a document, which a text spells and whose links have this threshold, in ns; answers whether
+/// there is one but on calm.
 pub fn write_findings(
     alloc: Global,
     text: &mut String,

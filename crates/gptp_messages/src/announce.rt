@@ -102,7 +102,8 @@ impl<'a> AnnounceView<'a> {
         ensures head { IfOk result (λ a. a.head ≡ head_of frame.now) }
         ensures body { IfOk result (λ a. a.body ≡ announce_body_of frame.now) }
         ensures path { IfOk result (λ a. ReadsPath (announce_tlvs frame.now) a.path) }
-        ensures refused { IfErr result (λ e. (e ≡ Refused.Tlv) × ((path : List ℕ) → ReadsPath (announce_tlvs frame.now) path → ⊥)) }
+        ensures refused { IfErr result
+            (λ e. (e ≡ Refused.Tlv) × ((path : List ℕ) → ReadsPath (announce_tlvs frame.now) path → ⊥)) }
     {
         let length = usize::from(u16_at(frame, 2));
         Ok(AnnounceView {
@@ -145,7 +146,8 @@ pub fn encode_announce(
     path: &Trace,
     out: &mut Vec<u8>,
 ) -> Result<(), AllocError>
-    ensures ok { OnOk result (out.new.items ≡ out.old.items ++ written_message Announce head.now (written_announce body.now path.now)) }
+    ensures ok { OnOk result (out.new.items ≡ out.old.items
+        ++ written_message Announce head.now (written_announce body.now path.now)) }
     ensures err { OnErr result (out.new.items ≡ out.old.items) }
     ensures full { OnErr result (vec_capacity out.old < vec_len out.old + (68 + 8 * length path.now)) }
 {
@@ -164,7 +166,8 @@ pub fn encode_announce_behind(
     out: &mut Vec<u8>,
 ) -> Result<(), AllocError>
     requires { length path.now ≤ 255 }
-    ensures ok { OnOk result (out.new.items ≡ out.old.items ++ written_message Announce head.now (written_announce body.now (path.now ++ last ∷ []))) }
+    ensures ok { OnOk result (out.new.items ≡ out.old.items
+        ++ written_message Announce head.now (written_announce body.now (path.now ++ last ∷ []))) }
     ensures err { OnErr result (out.new.items ≡ out.old.items) }
     ensures full { OnErr result (vec_capacity out.old < vec_len out.old + (76 + 8 * length path.now)) }
 {
@@ -203,7 +206,8 @@ impl AnnounceView<'_> {
     /// Appends the Announce in its one spelling.
     pub(crate) fn encode(&self, out: &mut Vec<u8>) -> Result<(), AllocError>
         requires { length self.now.path ≤ 256 }
-        ensures ok { OnOk result (out.new.items ≡ out.old.items ++ written_message Announce self.now.head (written_announce self.now.body self.now.path)) }
+        ensures ok { OnOk result (out.new.items ≡ out.old.items
+            ++ written_message Announce self.now.head (written_announce self.now.body self.now.path)) }
         ensures err { OnErr result (out.new.items ≡ out.old.items) }
         ensures full { OnErr result (vec_capacity out.old < vec_len out.old + (68 + 8 * length self.now.path)) }
     {

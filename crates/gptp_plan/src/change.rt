@@ -18,8 +18,8 @@ pub enum Change {
         clock: ClockId,
         port: u16,
     },
-    /// Frames that are sent on that link from then on have these bounds: the least and the greatest delay, in ns, and how
-    /// many of a thousand are lost.
+    /// Frames that are sent on that link from then on have these bounds: the least and the greatest delay, in ns, and
+    /// how many of a thousand are lost.
     LinkSet {
         clock: ClockId,
         port: u16,
@@ -40,8 +40,8 @@ pub enum Change {
         clock: ClockId,
         value: u8,
     },
-    /// These octets enter the link at that port as a frame, as if its system had sent it. Where the link is down nothing
-    /// is sent.
+    /// These octets enter the link at that port as a frame, as if its system had sent it. Where the link is down
+    /// nothing is sent.
     Inject {
         clock: ClockId,
         port: u16,

@@ -1,10 +1,10 @@
-//! What is planned: a network, and what is to be done to it, as a document or a certificate knows it; no frames, no timers
-//! that run, no state of a system.
+//! What is planned: a network, and what is to be done to it, as a document or a certificate knows it; no frames, no
+//! timers that run, no state of a system.
 //!
 //! A [`Network`] is what a world starts from: systems, and links that join two of their ports, each within its limits
 //! (profile). A [`Change`] is what can be done to it, and a [`Timed`] act is what happens at a moment: a frame is
-//! delivered, a timer expires, or a change is made. `specs/Calm.antt` says when a network with such changes is calm, and
-//! `specs/SettlingTime.antt` by when it has settled.
+//! delivered, a timer expires, or a change is made. `specs/Calm.antt` says when a network with such changes is calm,
+//! and `specs/SettlingTime.antt` by when it has settled.
 #![tactic(auto)]
 
 mod calm;

@@ -71,8 +71,8 @@ impl Model for Network {
 impl Network {
     /// A network with no system. Takes no memory.
     ///
-    /// Refused with `OutOfRange` where a value lies outside of its range, and with `Timing` where the intervals don't go
-    /// together: twice the threshold and the turnaround are less than the interval of requests, that is at most the
+    /// Refused with `OutOfRange` where a value lies outside of its range, and with `Timing` where the intervals don't
+    /// go together: twice the threshold and the turnaround are less than the interval of requests, that is at most the
     /// announce interval, and the residence is less than the sync interval.
     pub fn new(alloc: Global, params: Params) -> Result<Self, NetworkFault>
         ensures passed { OnOk result (params_fault params ≡ None) }
@@ -91,14 +91,14 @@ impl Network {
         }
     }
 
-    /// Adds a system with that identity and so many ports, 0 to 16, whose local clock is that phase ahead at time 0, 0 to
-    /// 10^18 ns, and runs faster by that drift, -219,902,325 to 219,902,325 in units of 2^-41. Its ports announce at these
-    /// intervals, one for each in their order, as logarithms to base 2 of seconds, -4 to 4.
+    /// Adds a system with that identity and so many ports, 0 to 16, whose local clock is that phase ahead at time 0, 0
+    /// to 10^18 ns, and runs faster by that drift, -219,902,325 to 219,902,325 in units of 2^-41. Its ports announce at
+    /// these intervals, one for each in their order, as logarithms to base 2 of seconds, -4 to 4.
     ///
-    /// Refused, in this order, with `TooMany` where there are 512 systems, `OutOfRange` also where the intervals aren't as
-    /// many as the ports, `Timing` where the interval of requests is above one of them, `DuplicateClock` where another
-    /// system has that clock, `DelayTooLong` where a link's greatest delay is above one of them, and `OutOfMemory`. Then
-    /// nothing changes.
+    /// Refused, in this order, with `TooMany` where there are 512 systems, `OutOfRange` also where the intervals aren't
+    /// as many as the ports, `Timing` where the interval of requests is above one of them, `DuplicateClock` where
+    /// another system has that clock, `DelayTooLong` where a link's greatest delay is above one of them, and
+    /// `OutOfMemory`. Then nothing changes.
     pub fn add_system(
         &mut self,
         identity: Identity,
@@ -108,7 +108,8 @@ impl Network {
         intervals: ArrayVec<i8, 16>,
     ) -> Result<(), NetworkFault>
         ensures passed { OnOk result (system_fault self.old (member identity ports phase drift intervals) ≡ None) }
-        ensures refused { IfErr result (IsRefusal (system_fault self.old (member identity ports phase drift intervals))) }
+        ensures refused { IfErr result
+            (IsRefusal (system_fault self.old (member identity ports phase drift intervals))) }
         ensures added { OnOk result (self.new ≡ with_system (member identity ports phase drift intervals) self.old) }
         ensures kept { OnErr result (self.new ≡ self.old) }
     {
@@ -128,10 +129,10 @@ impl Network {
     /// Adds a link that joins two ports, 1 to 16 each: the delays of its frames lie between `min` and `max`, 1 to
     /// 16 * 10^9 ns each, and of a thousand frames so many are lost, 0 to 1000. It is up or down at first.
     ///
-    /// Refused, in this order, with `TooMany` where there are 2,048 links, `OutOfRange` also where `min` is above `max`,
-    /// `SelfLink` where both ports are of one clock, `NoSuchPort` where no system has one of them, `PortTaken` where
-    /// another link is at one of them, `DelayTooLong` where `max` is above the announce interval of a port of the network,
-    /// and `OutOfMemory`. Then nothing changes.
+    /// Refused, in this order, with `TooMany` where there are 2,048 links, `OutOfRange` also where `min` is above
+    /// `max`, `SelfLink` where both ports are of one clock, `NoSuchPort` where no system has one of them, `PortTaken`
+    /// where another link is at one of them, `DelayTooLong` where `max` is above the announce interval of a port of the
+    /// network, and `OutOfMemory`. Then nothing changes.
     pub fn add_link(
         &mut self,
         a: PortId,
@@ -142,7 +143,8 @@ impl Network {
         up: bool,
     ) -> Result<(), NetworkFault>
         ensures passed { OnOk result (link_fault self.old (wire (length self.old.links) a b min max loss up) ≡ None) }
-        ensures refused { IfErr result (IsRefusal (link_fault self.old (wire (length self.old.links) a b min max loss up))) }
+        ensures refused { IfErr result
+            (IsRefusal (link_fault self.old (wire (length self.old.links) a b min max loss up))) }
         ensures added { OnOk result (self.new ≡ with_link (wire (length self.old.links) a b min max loss up) self.old) }
         ensures kept { OnErr result (self.new ≡ self.old) }
     {
@@ -185,9 +187,11 @@ impl Network {
         self.links.len()
     }
 
-    /// A system by its place from 0: its identity, ports, phase, drift and the intervals of its ports, as they were given.
+    /// A system by its place from 0: its identity, ports, phase, drift and the intervals of its ports, as they were
+    /// given.
     pub fn system_at(&self, place: usize) -> Option<(Identity, u8, u64, i32, ArrayVec<i8, 16>)>
-        ensures { result ≡ option_map (λ m. (m.identity, m.ports, m.phase, m.drift, m.intervals)) (slice_get self.now.systems place) }
+        ensures { result ≡ option_map (λ m. (m.identity, m.ports, m.phase, m.drift, m.intervals))
+            (slice_get self.now.systems place) }
     {
         match self.systems.as_slice().get(place) {
             Some(member) => {
@@ -264,8 +268,8 @@ impl Network {
         joined_after(events, self.links.as_slice().get(place)?)
     }
 
-    /// Whether the network is calm after these events: each link that then is up between two live systems loses nothing,
-    /// and its greatest delay is short enough for the threshold.
+    /// Whether the network is calm after these events: each link that then is up between two live systems loses
+    /// nothing, and its greatest delay is short enough for the threshold.
     pub fn is_calm(&self, events: &[Timed]) -> bool
         ensures { IsTrue result ↔ IsCalm self.now events.now }
     {
@@ -285,8 +289,8 @@ impl Network {
     }
 
     /// How long the network takes at most to settle where no path over its live systems and the links between them has
-    /// more than so many systems, in ns: k + 3 of its largest announce intervals for each, and L + 5 more, with announce
-    /// receipt timeout k and L lost responses allowed.
+    /// more than so many systems, in ns: k + 3 of its largest announce intervals for each, and L + 5 more, with
+    /// announce receipt timeout k and L lost responses allowed.
     pub fn settling_span_over(&self, systems: usize) -> u64
         requires { systems ≤ 512 }
         ensures span { result ≡ settling_span (pace_of self.now) systems }

@@ -53,8 +53,8 @@ pub fn events_are_made()
     ensures { EventsAreMade }
 {}
 
-/// The world that a document leads to by a time is sound, its time is that, and it stands as the network of the document
-/// does after the events up to then.
+/// The world that a document leads to by a time is sound, its time is that, and it stands as the network of the
+/// document does after the events up to then.
 pub fn documents_stand<F: Fate>()
     ensures { PlayedStands F.answers }
 {}
@@ -75,8 +75,8 @@ pub fn documents_are_calm()
     ensures { DocumentIsCalm }
 {}
 
-/// Where a document is at rest at a time, what is stated of the live systems of the world that it leads to is the settled
-/// choice of its snapshot.
+/// Where a document is at rest at a time, what is stated of the live systems of the world that it leads to is the
+/// settled choice of its snapshot.
 pub fn documents_settle()
     ensures { DocumentsSettle }
 {}

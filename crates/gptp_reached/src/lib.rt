@@ -5,10 +5,10 @@
 //! those events. So it begins, every delivery and every expiry leaves it so, and a change leads to the events with that
 //! change behind them.
 //!
-//! So the snapshot of the world is that of the network, but for the order of its systems (`specs/StandingLaws.antt`), of
-//! which nothing depends that a network settles at (`specs/AlikeLaws.antt`); and it is as calm as the network is. What the
-//! systems of a document's world say is then the settled choice of the document's snapshot (`specs/SettleLaws.antt`), on
-//! which the command `run` stands.
+//! So the snapshot of the world is that of the network, but for the order of its systems (`specs/StandingLaws.antt`),
+//! of which nothing depends that a network settles at (`specs/AlikeLaws.antt`); and it is as calm as the network is.
+//! What the systems of a document's world say is then the settled choice of the document's snapshot
+//! (`specs/SettleLaws.antt`), on which the command `run` stands.
 //!
 //! The settling theorem as a whole stands on one page, `specs/Headline.antt`: what it asks of a world, and what every
 //! world then is. The module `headline` has its laws.

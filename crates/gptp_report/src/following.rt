@@ -22,7 +22,8 @@ pub(crate) fn done_of<F: Fate + Drop>(
 ) -> Result<Done, AllocError>
     requires allowed { IsAllowed timed.now }
     requires prompt { IsPromptIn world.old.scene timed.now.act }
-    ensures done { IfOk result (WasDone F.answers timed.now world.old.fate world.new.fate world.old.scene world.new.scene) }
+    ensures done { IfOk result
+        (WasDone F.answers timed.now world.old.fate world.new.fate world.old.scene world.new.scene) }
     ensures kept { OnErr result (world.new ≡ world.old) }
 {
     match world.carry_out(timed) {

@@ -5,9 +5,9 @@
 //! `none`. A call appends whole lines to a text.
 //!
 //! [`begin`] makes the world of a document, and [`play`] lets it go on with its events up to a time before an
-//! [`Observer`], which sees each act as it was done and writes its lines (`specs/Transitions.antt`). [`run_document`] is
-//! that with the lines of frames: `specs/Run.antt` says what it leads to.
-//! [`write_report`] tells of a world, by `specs/Report.antt`.
+//! [`Observer`], which sees each act as it was done and writes its lines (`specs/Transitions.antt`). [`run_document`]
+//! is that with the lines of frames: `specs/Run.antt` says what it leads to. [`write_report`] tells of a world, by
+//! `specs/Report.antt`.
 #![tactic(auto)]
 
 mod following;

@@ -32,7 +32,8 @@ fn write_restless(text: &mut String, document: &Document) -> Result<(), AllocErr
 
 /// The line of the last change of a document.
 fn write_change(text: &mut String, document: &Document) -> Result<(), AllocError>
-    ensures { OnOk result ((line : List ℕ) × IsChangeLine document.now line × (string_bytes text.new ≡ string_bytes text.old ++ (line ++ 10 ∷ []))) }
+    ensures { OnOk result ((line : List ℕ) × IsChangeLine document.now line
+        × (string_bytes text.new ≡ string_bytes text.old ++ (line ++ 10 ∷ []))) }
 {
     match document.calm() {
         true => write_calm(text, document),
@@ -61,7 +62,8 @@ fn write_system_at<F: Fate + Drop>(
     world: &World<F>,
     place: usize,
 ) -> Result<(), AllocError>
-    ensures { OnOk result ((clock : ℕ) → slice_get (rising_clocks world.now.scene) place ≡ Some clock → WritesSystem clock world.now.scene (string_bytes text.old) (string_bytes text.new)) }
+    ensures { OnOk result ((clock : ℕ) → slice_get (rising_clocks world.now.scene) place ≡ Some clock
+        → WritesSystem clock world.now.scene (string_bytes text.old) (string_bytes text.new)) }
 {
     match world.clock_at(place) {
         Some(clock) => write_system_of(text, world, clock),
@@ -71,7 +73,8 @@ fn write_system_at<F: Fate + Drop>(
 
 /// The lines of all systems, by rising clock.
 fn write_systems<F: Fate + Drop>(text: &mut String, world: &World<F>) -> Result<(), AllocError>
-    ensures { OnOk result ((lines : List (List ℕ)) × ShowsSystems (rising_clocks world.now.scene) world.now.scene lines × (string_bytes text.new ≡ string_bytes text.old ++ text_of lines)) }
+    ensures { OnOk result ((lines : List (List ℕ)) × ShowsSystems (rising_clocks world.now.scene) world.now.scene lines
+        × (string_bytes text.new ≡ string_bytes text.old ++ text_of lines)) }
 {
     for place in 0..world.count() {
         write_system_at(text, world, place)?;
@@ -86,15 +89,16 @@ fn write_time(text: &mut String, until: u64) -> Result<(), AllocError>
     writeln!(text, "time {until}")
 }
 
-/// Writes the report of a world that a document led to: its time, the last change of the whole document with the time by
-/// which it settles where it is calm then, and each system with its ports, by rising clock.
+/// Writes the report of a world that a document led to: its time, the last change of the whole document with the time
+/// by which it settles where it is calm then, and each system with its ports, by rising clock.
 pub fn write_report<F: Fate + Drop>(
     text: &mut String,
     document: &Document,
     until: u64,
     world: &World<F>,
 ) -> Result<(), AllocError>
-    ensures { OnOk result ((lines : List (List ℕ)) × Reports document.now until world.now.scene lines × (string_bytes text.new ≡ string_bytes text.old ++ text_of lines)) }
+    ensures { OnOk result ((lines : List (List ℕ)) × Reports document.now until world.now.scene lines
+        × (string_bytes text.new ≡ string_bytes text.old ++ text_of lines)) }
 {
     write_time(text, until)?;
     write_change(text, document)?;

@@ -74,13 +74,14 @@ fn make_if_due<F: Fate + Drop, O: Observer, K: Sink>(
     }
 }
 
-/// The world goes on up to a time, at most 10^15 ns, with the events up to then, before an observer, which sees each act as
-/// it was done: each that is due by the time of an event before that, the event, and what is due by the end behind the
-/// last.
+/// The world goes on up to a time, at most 10^15 ns, with the events up to then, before an observer, which sees each
+/// act as it was done: each that is due by the time of an event before that, the event, and what is due by the end
+/// behind the last.
 ///
-/// Errors: [`Cut::Write`] exactly where a write failed, after which nothing more happens; [`Cut::Memory`] where the observer
-/// says so or an act was refused, which is meant to be for want of memory alone; that it is so isn't promised. What the
-/// observer told until then stands written, or a front of it.
+/// Errors: [`Cut::Write`] exactly where a write failed, after which nothing more happens; [`Cut::Memory`] where the
+/// observer says so, where a time lies before that of the world, or where an act was refused, which is meant to be for
+/// want of memory alone; that it is so isn't promised. What the observer told until then stands written, or a front of
+/// it.
 pub fn play<F: Fate + Drop, O: Observer, K: Sink>(
     alloc: Global,
     world: &mut World<F>,
@@ -125,13 +126,13 @@ pub fn begin<F: Fate + Drop>(
     World::new(alloc, network, fate)
 }
 
-/// The world of a document as it is at a time, at most 10^15 ns: it begins at time 0, and goes on with the events of the
-/// document up to then. All that is due by the time of an event happens before it. Where frames are asked for, a line is
-/// written for each frame that reached a port, as it does.
+/// The world of a document as it is at a time, at most 10^15 ns: it begins at time 0, and goes on with the events of
+/// the document up to then. All that is due by the time of an event happens before it. Where frames are asked for, a
+/// line is written for each frame that reached a port, as it does.
 ///
-/// Errors: [`Cut::Write`] exactly where a write failed, after which nothing more happens; [`Cut::Memory`] where an act was
-/// refused, which is meant to be for want of memory alone; that it is so isn't promised. The lines of the frames until
-/// then stand written, or a front of them.
+/// Errors: [`Cut::Write`] exactly where a write failed, after which nothing more happens; [`Cut::Memory`] where an act
+/// was refused, which is meant to be for want of memory alone; that it is so isn't promised. The lines of the frames
+/// until then stand written, or a front of them.
 pub fn run_document<F: Fate + Drop, K: Sink>(
     alloc: Global,
     document: &Document,

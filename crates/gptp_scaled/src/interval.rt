@@ -6,7 +6,8 @@ ghost use Rattle.gptp_scaled.specs.Interval.{FitsInterval};
 use crate::ScaledNs;
 use std::marker::Model;
 
-/// An interval in units of 2^-16 ns, of 64 bits with its sign: a TimeInterval (IEEE 1588-2019, 5.3.2), as the correctionField of a message holds it.
+/// An interval in units of 2^-16 ns, of 64 bits with its sign: a TimeInterval (IEEE 1588-2019, 5.3.2), as the
+/// correctionField of a message holds it.
 #[derive(Clone, Copy, Debug, PartialEq, Eq, PartialOrd, Ord, Hash, Default)]
 pub struct Interval {
     value: i64,

@@ -1,4 +1,5 @@
-//! What follows from the definitions alone. Each function does nothing, and its contract is the law; `LawProofs` and `CountLemmas` of `proofs/` have each law as a lemma for the crates above.
+//! What follows from the definitions alone. Each function does nothing, and its contract is the law; `LawProofs` and
+//! `CountLemmas` of `proofs/` have each law as a lemma for the crates above.
 
 ghost use Rattle.gptp_scaled.specs.Counts.{MeasuredWithin, RateIsWithin};
 ghost use Rattle.gptp_scaled.specs.Laws.{FloorIsExact, FloorIsMonotone, RateRoundsDown, RateZeroIsIdentity, RateIsMonotone, NeighborRateIsNear, SplitIsExact};

@@ -13,7 +13,8 @@ const UNIT: i128 = 1 << 41;
 /// The largest neighbour rate, 200 parts in a million.
 const LIMIT: i128 = 439_804_651;
 
-/// A rate: the whole number q stands for 1 + q/2^41, as cumulativeScaledRateOffset does (IEEE 802.1AS-2020, 11.4.4.3.6).
+/// A rate: the whole number q stands for 1 + q/2^41, as cumulativeScaledRateOffset does (IEEE 802.1AS-2020,
+/// 11.4.4.3.6).
 #[derive(Clone, Copy, Debug, PartialEq, Eq, PartialOrd, Ord, Hash, Default)]
 pub struct Rate {
     q: i32,
@@ -49,8 +50,9 @@ impl Rate {
         self.q
     }
 
-    /// The rate of a neighbour's clock against one's own, from the time that passed on each between two exchanges: `responder` on the neighbour's, `requester` on one's own
-    /// (neighborRateRatio, IEEE 802.1AS-2020, 11.2.19.3.3). It is rounded down and kept within 200 parts in a million, and is 0 where no time passed on one's own (profile).
+    /// The rate of a neighbour's clock against one's own, from the time that passed on each between two exchanges:
+    /// `responder` on the neighbour's, `requester` on one's own (neighborRateRatio, IEEE 802.1AS-2020, 11.2.19.3.3). It
+    /// is rounded down and kept within 200 parts in a million, and is 0 where no time passed on one's own (profile).
     pub fn of_elapsed(responder: ScaledNs, requester: ScaledNs) -> Rate
         ensures rate { result ≡ rate_of responder requester }
         ensures within { IsNeighborRate result }
@@ -78,7 +80,8 @@ impl Rate {
         ScaledNs::new(unscaled(self.q, time.value()))
     }
 
-    /// The rate whose q is the sum of both, as a bridge adds the rate of its neighbour to that of the Sync (IEEE 802.1AS-2020, 10.2.8); refused where it does not fit.
+    /// The rate whose q is the sum of both, as a bridge adds the rate of its neighbour to that of the Sync (IEEE
+    /// 802.1AS-2020, 10.2.8); refused where it does not fit.
     pub fn plus(self, other: Rate) -> Result<Rate, OutOfRange>
         ensures { OkIff result (FitsRate (self +ℤ other)) (self +ℤ other) }
     {
@@ -106,7 +109,8 @@ fn unscaled(q: i32, x: i128) -> i128
     x + (-(x * q)).div_euclid(UNIT + q)
 }
 
-// gain / elapsed in units of 2^-41, rounded down and kept within the limit. From 1/4096 on it is past the limit, and below that the product with 2^41 fits.
+// gain / elapsed in units of 2^-41, rounded down and kept within the limit. From 1/4096 on it is past the limit, and
+// below that the product with 2^41 fits.
 #[tactic(auto, using(crate::proofs::RateLemmas::past_high, crate::proofs::RateLemmas::past_low))]
 fn neighbor_rate(gain: i128, elapsed: i128) -> i32
     requires positive { pos 0 <ℤ elapsed }

@@ -73,7 +73,8 @@ impl ScaledNs {
         ScaledNs::new(self.value - other.value)
     }
 
-    /// Half of it, rounded down (the propagation delay is half of a difference: IEEE 802.1AS-2020, 11.2.19.3.4; the rounding is of the profile).
+    /// Half of it, rounded down (the propagation delay is half of a difference: IEEE 802.1AS-2020, 11.2.19.3.4; the
+    /// rounding is of the profile).
     pub fn halve(self) -> ScaledNs
         ensures { result ≡ floor_div self (pos 2) }
     {
@@ -82,8 +83,8 @@ impl ScaledNs {
         }
     }
 
-    /// The whole nanoseconds as a stamp, and the rest in units of 2^-16 ns; refused where it is negative or its seconds pass 48 bits.
-    /// A frame carries such a time as a timestamp and a correctionField (IEEE 802.1AS-2020, 11.4.4).
+    /// The whole nanoseconds as a stamp, and the rest in units of 2^-16 ns; refused where it is negative or its seconds
+    /// pass 48 bits. A frame carries such a time as a timestamp and a correctionField (IEEE 802.1AS-2020, 11.4.4).
     pub fn split(self) -> Result<(Stamp, u16), OutOfRange>
         ensures range { IsOk result ↔ FitsStamp self }
         ensures parts { IfOk result (λ r. IsSplit self r.0 r.1) }

@@ -39,7 +39,8 @@ impl fmt::Display for StampError {
 
 impl Error for StampError {}
 
-/// A timestamp: seconds below 2^48 and nanoseconds below 10^9 (IEEE 1588-2019, 5.3.3; IEEE 802.1AS-2020, 6.4.3.4). Stamps are ordered in time.
+/// A timestamp: seconds below 2^48 and nanoseconds below 10^9 (IEEE 1588-2019, 5.3.3; IEEE 802.1AS-2020, 6.4.3.4).
+/// Stamps are ordered in time.
 #[derive(Clone, Copy, Debug, PartialEq, Eq, PartialOrd, Ord, Hash, Default)]
 pub struct Stamp {
     seconds: u64,
@@ -61,11 +62,13 @@ impl Model for Stamp {
 impl Stamp {
     /// The stamp of these seconds and nanoseconds.
     ///
-    /// Refused with `NanosTooLarge` where `nanos` is 10^9 or more, and else with `SecondsTooLarge` where `seconds` is 2^48 or more.
+    /// Refused with `NanosTooLarge` where `nanos` is 10^9 or more, and else with `SecondsTooLarge` where `seconds` is
+    /// 2^48 or more.
     pub const fn new(seconds: u64, nanos: u32) -> Result<Stamp, StampError>
         ensures made { IfOk result (λ s. (s.seconds ≡ seconds) × (s.nanos ≡ nanos)) }
         ensures nanos_too_large { IsErrOf result StampError.NanosTooLarge ↔ (1000000000 ≤ nanos) }
-        ensures seconds_too_large { IsErrOf result StampError.SecondsTooLarge ↔ (nanos < 1000000000) × (2 ^ 48 ≤ seconds) }
+        ensures seconds_too_large { IsErrOf result StampError.SecondsTooLarge
+            ↔ (nanos < 1000000000) × (2 ^ 48 ≤ seconds) }
     {
         if nanos >= SECOND {
             Err(StampError::NanosTooLarge)

@@ -205,7 +205,9 @@ impl<T: Drop> Agenda<T> {
     /// The slot at which the entry of a number stands.
     pub(crate) fn slot(&self, number: u64) -> Option<usize>
         ensures there { is_some result ≡ is_some (entry_at self.now.entries number) }
-        ensures stands { IfSome result (λ slot. (e : Entry T) → entry_at self.now.entries number ≡ Some e → (base : ℕ) × IsPlace base e.time slot) }
+        ensures stands { IfSome result
+            (λ slot. (e : Entry T) → entry_at self.now.entries number ≡ Some e → (base : ℕ)
+            × IsPlace base e.time slot) }
     {
         let key = find(&self.filed, number)?;
         let node = self.nodes.get(key.place)?;

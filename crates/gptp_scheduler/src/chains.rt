@@ -21,7 +21,8 @@ fn set_after<T>(nodes: &mut Slab<Node<T>>, key: Key, after: Option<Key>)
 
 /// Makes the link before an entry lead elsewhere.
 fn set_before<T>(nodes: &mut Slab<Node<T>>, key: Key, before: Option<Key>)
-    ensures updates { Updates nodes.old nodes.new key.place (option_map (with_before before) (get nodes.old key.place)) }
+    ensures updates { Updates nodes.old nodes.new key.place
+        (option_map (with_before before) (get nodes.old key.place)) }
     ensures room { SameRoom nodes.old nodes.new }
 {
     if let Some(node) = nodes.get_mut(key.place) {
@@ -37,7 +38,8 @@ fn set_place<T>(
     before: Option<Key>,
     after: Option<Key>,
 )
-    ensures updates { Updates nodes.old nodes.new key.place (option_map (with_place slot before after) (get nodes.old key.place)) }
+    ensures updates { Updates nodes.old nodes.new key.place
+        (option_map (with_place slot before after) (get nodes.old key.place)) }
     ensures room { SameRoom nodes.old nodes.new }
 {
     if let Some(node) = nodes.get_mut(key.place) {

@@ -44,7 +44,8 @@ pub(crate) fn is_live<T>(nodes: &Slab<Node<T>>, filed: Filed) -> bool
 /// Drops the numbers whose entries are gone.
 fn sweep<T>(filed: &mut Vec<Filed>, nodes: &Slab<Node<T>>)
     ensures listed { listed (get nodes.now) filed.new.items ≡ listed (get nodes.now) filed.old.items }
-    ensures filed { (next : ℕ) → AreFiled (get nodes.now) filed.old.items next → AreFiled (get nodes.now) filed.new.items next }
+    ensures filed { (next : ℕ) → AreFiled (get nodes.now) filed.old.items next
+        → AreFiled (get nodes.now) filed.new.items next }
     ensures len { vec_len filed.new ≤ vec_len filed.old }
     ensures capacity { vec_capacity filed.new ≡ vec_capacity filed.old }
 {
@@ -59,7 +60,8 @@ pub(crate) fn reserve<T>(
     nodes: &Slab<Node<T>>,
 ) -> Result<(), AllocError>
     ensures listed { listed (get nodes.now) filed.new.items ≡ listed (get nodes.now) filed.old.items }
-    ensures filed { (next : ℕ) → AreFiled (get nodes.now) filed.old.items next → AreFiled (get nodes.now) filed.new.items next }
+    ensures filed { (next : ℕ) → AreFiled (get nodes.now) filed.old.items next
+        → AreFiled (get nodes.now) filed.new.items next }
     ensures room { vec_capacity filed.old - vec_len filed.old ≤ vec_capacity filed.new - vec_len filed.new }
     ensures ok { OnOk result (additional ≤ vec_capacity filed.new - vec_len filed.new) }
 {

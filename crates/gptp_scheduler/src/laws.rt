@@ -11,7 +11,9 @@ use crate::agenda::Agenda;
 /// `None` where no entry has that number.
 pub fn place<T: Drop>(agenda: &Agenda<T>, number: u64) -> Option<(u8, u8)>
     ensures there { is_some result ≡ is_some (entry_at agenda.now.entries number) }
-    ensures stands { IfSome result (λ place. (e : Entry T) → entry_at agenda.now.entries number ≡ Some e → (base : ℕ) × StandsAt base e.time place.0 place.1) }
+    ensures stands { IfSome result
+        (λ place. (e : Entry T) → entry_at agenda.now.entries number ≡ Some e → (base : ℕ)
+        × StandsAt base e.time place.0 place.1) }
 {
     let slot = agenda.slot(number)?;
     if slot == 2048 {

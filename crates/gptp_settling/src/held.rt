@@ -10,8 +10,8 @@ pub fn no_loop_is_taken<C: Coding>()
     ensures { NoLoopIsTaken C.says }
 {}
 
-/// No port of a live system is aged between steps, and every master port holds its system's root and steps and announces
-/// within its interval: every step of the machine keeps that.
+/// No port of a live system is aged between steps, and every master port holds its system's root and steps and
+/// announces within its interval: every step of the machine keeps that.
 pub fn ports_stay_selected<C: Coding>()
     ensures { SelectionIsKept C.says }
 {}

@@ -1,7 +1,7 @@
 //! What texts are written to.
 //!
-//! A [`Sink`] tells the octets that were written to it and counts the writes that failed. [`write_whole`] writes a text, or a
-//! front of it; [`Cut`] says why a text ends before its end.
+//! A [`Sink`] tells the octets that were written to it and counts the writes that failed. [`write_whole`] writes a
+//! text, or a front of it; [`Cut`] says why a text ends before its end.
 #![tactic(auto)]
 
 mod cut;

@@ -73,7 +73,8 @@ fn says_again(held: &Held, own: PortId, announce: &AnnounceView<'_>) -> bool
     }
 }
 
-/// Whether selection can change anything after an Announce: it took the place of what was held, and says something else.
+/// Whether selection can change anything after an Announce: it took the place of what was held, and says something
+/// else.
 fn can_change(heard: Heard, again: bool) -> bool
     ensures { result ≡ (is_taken heard && not again) }
 {
@@ -86,8 +87,10 @@ fn hear_at(held: &mut [Held], own: PortId, announce: &AnnounceView<'_>, now: u64
     requires most { own.port ≤ length held.old }
     requires qualified { Qualified announce.now own.clock }
     requires enabled { option_map_or (λ h. h) (number held.old own.port) Held.Disabled ≢ Held.Disabled }
-    ensures heard { result ≡ comparison (option_map_or (λ h. h) (number held.old own.port) Held.Disabled) own announce.now }
-    ensures held { held.new ≡ change (λ h. held_after (comparison h own announce.now) h (reception announce.now own now)) own.port held.old }
+    ensures heard { result ≡ comparison
+        (option_map_or (λ h. h) (number held.old own.port) Held.Disabled) own announce.now }
+    ensures held { held.new ≡ change
+        (λ h. held_after (comparison h own announce.now) h (reception announce.now own now)) own.port held.old }
 {
     hear(&mut held[usize::from(own.port) - 1], own, announce, now)
 }
@@ -132,7 +135,8 @@ fn announce_at(
     requires moment { IsMoment now }
     requires empty { outbox.old.items ≡ [] }
     ensures ports { ports.new ≡ change (announced now) own.port ports.old }
-    ensures sends { outbox.new.items ≡ option_map_or (λ q. announcement own root steps q ∷ []) (number ports.old own.port) [] }
+    ensures sends { outbox.new.items
+        ≡ option_map_or (λ q. announcement own root steps q ∷ []) (number ports.old own.port) [] }
 {
     announce(
         &mut ports[usize::from(own.port) - 1],
@@ -190,7 +194,8 @@ impl State {
     fn hears_again(&self, port: u8, announce: &AnnounceView<'_>) -> bool
         requires least { 1 ≤ port }
         requires most { port ≤ length (state_of self.now).held }
-        ensures { IsTrue result ↔ SaysAgain (held_at (state_of self.now) port) (own (state_of self.now) port) announce.now }
+        ensures { IsTrue result ↔ SaysAgain (held_at (state_of self.now) port)
+            (own (state_of self.now) port) announce.now }
     {
         let own = self.own(port);
         says_again(&self.held[usize::from(port) - 1], own, announce)

@@ -68,7 +68,8 @@ impl State {
         requires held { AreHeld (state_of self.old) }
         requires rest { IsAtRest (state_of self.old) }
         requires empty { outbox.old.items ≡ [] }
-        ensures step { HearsMessage port message.now now (state_of self.old) (state_of self.new) outbox.new.items result.answer }
+        ensures step { HearsMessage port message.now now (state_of self.old)
+            (state_of self.new) outbox.new.items result.answer }
         ensures touched { result.touched ≡ message_touches (state_of self.old) port message.now result.answer }
         ensures ready { IsReady (state_of self.new) }
     {
@@ -111,7 +112,8 @@ impl State {
         requires held { AreHeld (state_of self.old) }
         requires rest { IsAtRest (state_of self.old) }
         requires empty { outbox.old.items ≡ [] }
-        ensures step { HearsFrame port frame.now now (state_of self.old) (state_of self.new) outbox.new.items result.answer }
+        ensures step { HearsFrame port frame.now now (state_of self.old)
+            (state_of self.new) outbox.new.items result.answer }
         ensures touches { Touches (Frame port frame.now) result.touched (state_of self.old) (state_of self.new) }
         ensures ready { IsReady (state_of self.new) }
     {
@@ -156,7 +158,8 @@ impl State {
         requires moment { IsMoment now }
         requires timely { IsTimely (state_of self.old) now (given input) }
         requires empty { outbox.old.items ≡ [] }
-        ensures step { Steps (given input.entry) now (state_of self.old) (state_of self.new) outbox.new.items result.answer }
+        ensures step { Steps (given input.entry) now (state_of self.old)
+            (state_of self.new) outbox.new.items result.answer }
         ensures touches { Touches (given input.entry) result.touched (state_of self.old) (state_of self.new) }
         ensures ready { IsReady (state_of self.new) }
     {

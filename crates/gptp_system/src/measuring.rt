@@ -213,8 +213,8 @@ impl State {
         }
     }
 
-    /// A port asks its neighbour, and again one interval later (IEEE 802.1AS-2020, 11.2.19). Its request goes behind what
-    /// this port and the lower ones send.
+    /// A port asks its neighbour, and again one interval later (IEEE 802.1AS-2020, 11.2.19). Its request goes behind
+    /// what this port and the lower ones send.
     fn send_request(&mut self, port: u8, now: u64, outbox: &mut Outbox)
         requires ready { IsReady (state_of self.old) }
         requires moment { IsMoment now }
@@ -313,7 +313,8 @@ impl State {
         }
     }
 
-    /// A port hears a Pdelay_Req: it answers one turnaround later, in place of an older request (IEEE 802.1AS-2020, 11.2.20).
+    /// A port hears a Pdelay_Req: it answers one turnaround later, in place of an older request (IEEE 802.1AS-2020,
+    /// 11.2.20).
     pub(crate) fn hear_request(&mut self, port: u8, head: &Head, now: u64) -> Answer
         requires ready { IsReady (state_of self.old) }
         requires moment { IsMoment now }
@@ -349,8 +350,8 @@ impl State {
     }
 
     /// A port hears a Pdelay_Resp_Follow_Up: the one that its recorded response waits for completes the exchange (IEEE
-    /// 802.1AS-2020, 11.2.19). What the port holds follows, and selection, where it becomes asCapable or stops being so:
-    /// whether it does, and what became of the message.
+    /// 802.1AS-2020, 11.2.19). What the port holds follows, and selection, where it becomes asCapable or stops being
+    /// so: whether it does, and what became of the message.
     pub(crate) fn hear_response_follow_up(
         &mut self,
         port: u8,
@@ -363,7 +364,8 @@ impl State {
         requires least { 1 ≤ port }
         requires most { port ≤ length (state_of self.old).ports }
         requires empty { outbox.old.items ≡ [] }
-        ensures step { HearsResponseFollowUp port message.now now (state_of self.old) (state_of self.new) outbox.new.items result.1 }
+        ensures step { HearsResponseFollowUp port message.now now (state_of self.old)
+            (state_of self.new) outbox.new.items result.1 }
         ensures turned { result.0 ≡ is_turned (after_follow_up message.now) (number (state_of self.old).ports port) }
         ensures ready { IsReady (state_of self.new) }
     {

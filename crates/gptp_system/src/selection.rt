@@ -82,7 +82,8 @@ fn announce_if(
     requires moment { IsMoment now }
     requires room { array_vec_len outbox.old < 64 }
     ensures port { port.new ≡ (if fresh then announced now port.old else port.old) }
-    ensures sends { outbox.new.items ≡ outbox.old.items ++ (if fresh then announcement own root steps port.old ∷ [] else []) }
+    ensures sends { outbox.new.items ≡ outbox.old.items
+        ++ (if fresh then announcement own root steps port.old ∷ [] else []) }
 {
     if fresh {
         announce(port, own, root, steps, now, outbox);

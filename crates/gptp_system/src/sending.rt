@@ -59,8 +59,8 @@ pub enum Body {
 /// Pdelay_Resp directly before its Pdelay_Resp_Follow_Up, and a Pdelay_Req last.
 pub type Outbox = ArrayVec<Sending, 64>;
 
-/// Puts one more send behind the others. (Its parts are named since the borrow checker finds the type of a body only where
-/// a function names one.)
+/// Puts one more send behind the others. (Its parts are named since the borrow checker finds the type of a body only
+/// where a function names one.)
 pub(crate) fn push(outbox: &mut Outbox, sending: Sending)
     requires { array_vec_len outbox.old < 64 }
     ensures { outbox.new.items ≡ outbox.old.items ++ sending ∷ [] }

@@ -78,13 +78,14 @@ fn send_follow_up(port: &Port, own: PortId, log_interval: i8, told: &Relayed, ou
     push(outbox, follow_up_of(own, log_interval, told, port));
 }
 
-/// A port tells a time: it sends both, and counts one Sync more. (Its identity is named twice since the borrow checker lets a
-/// struct be passed by value once.)
+/// A port tells a time: it sends both, and counts one Sync more. (Its identity is named twice since the borrow checker
+/// lets a struct be passed by value once.)
 fn tell(port: &mut Port, own: PortId, log_interval: i8, told: &Relayed, outbox: &mut Outbox)
     requires number { own.port ≤ 255 }
     requires room { array_vec_len outbox.old < 63 }
     ensures port { port.new ≡ counting port.old }
-    ensures sends { outbox.new.items ≡ outbox.old.items ++ sync_of own log_interval port.old ∷ follow_up_of own log_interval told.now port.old ∷ [] }
+    ensures sends { outbox.new.items ≡ outbox.old.items
+        ++ sync_of own log_interval port.old ∷ follow_up_of own log_interval told.now port.old ∷ [] }
 {
     let the_same = own;
     send_sync(port, own, log_interval, outbox);
@@ -197,7 +198,8 @@ fn port_at(ports: &[Port], port: u8) -> Option<&Port>
 
 /// The meanLinkDelay of a port; 0 where nothing was measured.
 fn delay_at(ports: &[Port], port: u8) -> ScaledNs
-    ensures { result ≡ option_map_or (λ (q : Port). option_map_or (λ d. d) (delay_of q.peer) (pos 0)) (number ports.now port) (pos 0) }
+    ensures { result ≡ option_map_or (λ (q : Port). option_map_or (λ d. d) (delay_of q.peer) (pos 0))
+        (number ports.now port) (pos 0) }
 {
     match port_at(ports, port) {
         Some(one) => one.peer.delay().unwrap_or_default(),
@@ -215,7 +217,8 @@ fn rate_at(ports: &[Port], port: u8) -> Rate
     }
 }
 
-/// How far the own clock was ahead of the grandmaster's when a Sync came; refused where a number on the way doesn't fit.
+/// How far the own clock was ahead of the grandmaster's when a Sync came; refused where a number on the way doesn't
+/// fit.
 fn offset_of(info: &SyncInfo, delay: ScaledNs, rate: Rate) -> Result<ScaledNs, OutOfRange>
     ensures { OkIff result (OffsetFits info.now delay rate) (offset_of info.now delay rate) }
 {
@@ -247,8 +250,8 @@ impl State {
         );
     }
 
-    /// The Sync timer runs out (IEEE 802.1AS-2020, 10.2.9): it is started again, and a system that is its own root and may be
-    /// grandmaster tells its own time.
+    /// The Sync timer runs out (IEEE 802.1AS-2020, 10.2.9): it is started again, and a system that is its own root and
+    /// may be grandmaster tells its own time.
     pub(crate) fn on_sync_timer(&mut self, now: u64, outbox: &mut Outbox)
         requires ready { IsReady (state_of self.old) }
         requires moment { IsMoment now }
@@ -302,8 +305,8 @@ impl State {
         Answer::Used
     }
 
-    /// The time is known where all numbers on the way fit, and is sent on one residence later; where one doesn't, what was
-    /// kept is forgotten.
+    /// The time is known where all numbers on the way fit, and is sent on one residence later; where one doesn't, what
+    /// was kept is forgotten.
     fn know(&mut self, info: SyncInfo, delay: ScaledNs, rate: Rate, now: u64) -> Answer
         requires ready { IsReady (state_of self.old) }
         requires moment { IsMoment now }
@@ -327,8 +330,8 @@ impl State {
         }
     }
 
-    /// A port hears a Follow_Up: with its Sync it says how far the own clock is ahead, and is sent on one residence later.
-    /// Where a number on the way doesn't fit, what was known is forgotten (IEEE 802.1AS-2020, 11.2.14).
+    /// A port hears a Follow_Up: with its Sync it says how far the own clock is ahead, and is sent on one residence
+    /// later. Where a number on the way doesn't fit, what was known is forgotten (IEEE 802.1AS-2020, 11.2.14).
     pub(crate) fn hear_follow_up(&mut self, port: u8, follow_up: &FollowUp, now: u64) -> Answer
         requires ready { IsReady (state_of self.old) }
         requires moment { IsMoment now }

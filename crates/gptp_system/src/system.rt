@@ -72,8 +72,8 @@ impl System {
     }
 
     /// The system is given an input at `now`, in ns: what became of it, and which timers the step can have set or
-    /// stopped. A port is one of the system; a frame comes where the link is up, and a timer expires when it is due. The
-    /// outbox is empty at entry of this and of every other call, and holds what the step sends.
+    /// stopped. A port is one of the system; a frame comes where the link is up, and a timer expires when it is due.
+    /// The outbox is empty at entry of this and of every other call, and holds what the step sends.
     pub fn step(&mut self, input: Input<'_>, now: u64, outbox: &mut Outbox) -> Stepped
         requires moment { IsMoment now }
         requires timely { IsTimely self.old now (given input) }
@@ -143,8 +143,8 @@ impl System {
         (self.state.root, self.state.steps, self.state.slave)
     }
 
-    /// The number of the Slave port, if there is one, and the port at the other end that it follows (parentPortIdentity,
-    /// IEEE 1588-2019, 8.2.3.2).
+    /// The number of the Slave port, if there is one, and the port at the other end that it follows
+    /// (parentPortIdentity, IEEE 1588-2019, 8.2.3.2).
     pub fn parent(&self) -> Option<(u8, PortId)>
         ensures { result ≡ parent self.now }
     {
@@ -166,8 +166,8 @@ impl System {
         self.state.trace()
     }
 
-    /// The same in its two parts: the path of its Slave port, at most 255 clocks and none where there is no such port, and the
-    /// own clock. No clock is copied.
+    /// The same in its two parts: the path of its Slave port, at most 255 clocks and none where there is no such port,
+    /// and the own clock. No clock is copied.
     pub fn trace_parts(&self) -> (&[ClockId], ClockId)
         ensures parts { trace self.now ≡ result.0.now ++ result.1 ∷ [] }
         ensures few { length result.0.now ≤ 255 }

@@ -66,7 +66,8 @@ fn announce_at(ports: &[Port], held: &[Held], port: u8) -> Option<u64>
     requires least { 1 ≤ port }
     requires most { port ≤ length ports.now }
     requires places { length held.now ≡ length ports.now }
-    ensures { result ≡ option_and_then (λ q. announce_due q (option_map_or (λ h. h) (number held.now port) Held.Disabled)) (number ports.now port) }
+    ensures { result ≡ option_and_then
+        (λ q. announce_due q (option_map_or (λ h. h) (number held.now port) Held.Disabled)) (number ports.now port) }
 {
     let place = usize::from(port) - 1;
     announce_due(&ports[place], &held[place])

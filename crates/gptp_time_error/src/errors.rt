@@ -156,7 +156,8 @@ fn systems_of(
 /// How exact the time is that each live system gets, of the network of a document as it stands after all events with
 /// time up to `until`, in ns.
 ///
-/// Errors are those of [`settled_choice`]: [`ChoiceFault::OutOfMemory`]; the others don't come where its search is right.
+/// Errors are those of [`settled_choice`]: [`ChoiceFault::OutOfMemory`]; the others don't come where its search is
+/// right.
 pub fn time_errors(
     alloc: Global,
     document: &Document,

@@ -71,7 +71,8 @@ fn steady_rate(neighbour: i32, own: i32) -> i32
 fn true_rate(clock: i32, own: i32) -> i128
     requires clock { IsDrift clock }
     requires own { IsDrift own }
-    ensures rate { result ≡ floor_div ((pos (clock_rate clock) -ℤ pos (clock_rate own)) *ℤ unit) (pos (clock_rate own)) }
+    ensures rate { result ≡ floor_div ((pos (clock_rate clock) -ℤ pos (clock_rate own)) *ℤ unit)
+        (pos (clock_rate own)) }
     ensures low { neg_ℤ (pos 450000000) ≤ℤ result }
     ensures high { result ≤ℤ pos 450000000 }
 {

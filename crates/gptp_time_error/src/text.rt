@@ -142,7 +142,8 @@ fn write_verdict_if_asked(
     most: Option<u64>,
     systems: &[SystemError],
 ) -> Result<bool, AllocError>
-    ensures text { OnOk result (string_bytes text.new ≡ string_bytes text.old ++ text_of (verdict_lines most systems.now)) }
+    ensures text { OnOk result
+        (string_bytes text.new ≡ string_bytes text.old ++ text_of (verdict_lines most systems.now)) }
     ensures exceeded { IfOk result (λ exceeded. exceeded ≡ is_exceeded most systems.now) }
 {
     match most {
@@ -163,7 +164,8 @@ pub fn write_accuracy(
     most: Option<u64>,
     errors: &TimeErrors,
 ) -> Result<bool, AllocError>
-    ensures text { OnOk result (string_bytes text.new ≡ string_bytes text.old ++ text_of (accuracy_lines most errors.now)) }
+    ensures text { OnOk result
+        (string_bytes text.new ≡ string_bytes text.old ++ text_of (accuracy_lines most errors.now)) }
     ensures exceeded { IfOk result (λ exceeded. exceeded ≡ is_exceeded most errors.now.systems.items) }
 {
     write_time(text, errors.time, errors.from)?;

@@ -153,8 +153,8 @@ fn no_sums(alloc: Global, count: usize) -> Result<Vec<Sums>, AllocError>
     Ok(sums)
 }
 
-/// What is summed up on the way to each system of a certificate, by its place. In one pass from the roots down: each way
-/// is that of the parent, and one link more.
+/// What is summed up on the way to each system of a certificate, by its place. In one pass from the roots down: each
+/// way is that of the parent, and one link more.
 pub(crate) fn sums_of_all(
     alloc: Global,
     network: &Network,

@@ -2,9 +2,9 @@
 //! (profile).
 //!
 //! [`write_timeline`] lets a document run and writes, act by act, the event that is made and what each act leaves another
-//! of what its systems show; then, where a stretch ends that an event began, how long the choice took to stand, how long
-//! a system went without time, and how far the time that came was off. `specs/Timeline.antt` says what is written, over
-//! the acts of `specs/Transitions.antt` of gptp_report.
+//! of what its systems show; then, where a stretch between the times of events ends, how long the choice took to stand,
+//! how long a system went without time, and how far the time that came was off. `specs/Timeline.antt` says what is
+//! written, over the acts of the run (`Courses` of gptp_report).
 #![tactic(auto)]
 
 mod amounts;
