@@ -153,7 +153,8 @@ clock = \"0000000000000001\"
 port = 1
 ";
 
-const NO_LENGTH: &str = "after 0 to 3000000000 choice 1000002500 roles 1000002500 offsets 1125000500 holdover 125000000 0000000000000002 error 0.000 0000000000000002 without 0 roots 1 alone 0 bound 26000000000
+const NO_LENGTH: &str =
+    "after 0 to 3000000000 choice 1000002500 roles 1000002500 offsets 1125000500 holdover 125000000 0000000000000002 error 0.000 0000000000000002 without 0 roots 1 alone 0 bound 26000000000
 event 3000000000 link_down 0000000000000002 1
 at 3000000000 port 0000000000000001 1 disabled capable no
 at 3000000000 system 0000000000000002 root f6f8fe436af80000000000000002 steps 0 gm yes slave none offset none
@@ -185,7 +186,8 @@ kind = \"recover\"
 clock = \"0000000000000002\"
 ";
 
-const FAILED: &str = "after 0 to 2500000000 choice 1000002500 roles 1000002500 offsets 1125000500 holdover 125000000 0000000000000002 error 0.000 0000000000000002 without 0 roots 1 alone 0 bound 26000000000
+const FAILED: &str =
+    "after 0 to 2500000000 choice 1000002500 roles 1000002500 offsets 1125000500 holdover 125000000 0000000000000002 error 0.000 0000000000000002 without 0 roots 1 alone 0 bound 26000000000
 event 2500000000 fail 0000000000000002
 at 2500000000 system 0000000000000002 failed
 after 2500000000 to 3000000000 choice 0 roles 0 offsets 0 holdover 0 none error 0.000 none without 0 roots 0 alone 1 bound 20000000000
@@ -528,7 +530,8 @@ fn limits_are_asked_of_systems_without_time(rt: HostRuntime) -> Result<(), Fail>
 }
 
 /// The stretches of the ring; behind them stands how exact its systems were.
-const RING_STRETCHES: &str = "after 0 to 30000000000 choice 1000002603 roles 1000002603 offsets 1125001800 \
+const RING_STRETCHES: &str =
+    "after 0 to 30000000000 choice 1000002603 roles 1000002603 offsets 1125001800 \
 holdover 125000028 000000000000000c error 28.000 000000000000000c without 0 roots 1 alone 0 bound 38000000000
 after 30000000000 to 69000007200 choice 797 roles 797 offsets 3222 \
 holdover 125000037 000000000000000b error 40.500 000000000000000b without 0 roots 1 alone 0 bound 38000000000
@@ -554,8 +557,18 @@ fn a_ring_is_told_by_its_stretches(rt: HostRuntime) -> Result<(), Fail> {
             },
         };
         let (text, ends) = told(alloc, RING.as_bytes(), &order)?;
-        same_at(&rt, &error, text.as_slice().starts_with(RING_STRETCHES.as_bytes()), true);
-        same_at(&rt, &error, text.as_slice().ends_with(verdict.as_bytes()), true);
+        same_at(
+            &rt,
+            &error,
+            text.as_slice().starts_with(RING_STRETCHES.as_bytes()),
+            true,
+        );
+        same_at(
+            &rt,
+            &error,
+            text.as_slice().ends_with(verdict.as_bytes()),
+            true,
+        );
         same_at(&rt, &error, ends, status);
     }
     Ok(())

@@ -18,8 +18,7 @@ mod run;
 mod system_lines;
 
 pub use frame_line::{AnswerWord, FrameType, type_of, write_frame_line};
-pub use gptp_sink::sink;
-pub use gptp_sink::{Cut, write_whole};
+pub use gptp_sink::{Cut, sink, write_whole};
 pub use gptp_world::Observer;
 pub use report::write_report;
 pub use run::{begin, play, run_document};

@@ -73,7 +73,7 @@ module _ (summary offsets : Bool) (from : Option ℕ) (names : List ℕ) (rising
       ap (λ p. see_placed (at_of t) t.after clock received p o)
       (kept_place names rising clock i member (waits ts begun) errors t.before o.systems tracks.stands)
       ∙ ap (λ x. see_receipt_if received (at_of t) t.after clock i
-          (see_one (own_look (at_of t) received) t.after i x o))
+      (see_one (own_look (at_of t) received) t.after i x o))
       (kept_there names rising clock i member (waits ts begun) errors t.before o.systems tracks.stands)
 
   -- nobody receives time

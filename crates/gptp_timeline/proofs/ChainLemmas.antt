@@ -82,5 +82,5 @@ module _ {F : Type 0} (answers : Bounds → ℕ → F → Option ℕ → F → T
         after,
         subst (λ us. Chain us w.stations after) (sym is)
             (chain-append first rest w.stations between.stations after
-                (makes_chain e first fate drawn w between makes) chain),
+            (makes_chain e first fate drawn w between makes) chain),
       )

@@ -38,7 +38,7 @@ module _ (since errors : ℕ → Option ℕ) (w : WorldState) where
     where
       by : (t : Bool) → n == clock ≡ t
           → (((In clock ns → ⊥) → errors clock ≡ None) → error_among (map (kept since errors w) ns) clock ≡ errors
-              clock)
+          clock)
           → error_among (map (kept since errors w) (n ∷ ns)) clock ≡ errors clock
       by true test next = let same : n ≡ clock = grind (arith, nat_tests) in rw test (ap errors same)
       by false test next =

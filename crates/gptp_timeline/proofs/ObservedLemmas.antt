@@ -233,7 +233,7 @@ module _ (options : TimelineOptions) (names : List ℕ) (since : ℕ → Option 
         (between, one, others, (is, told), tells, are) observes =
         let step = act_step ts t o (moved ts w t.before o (first ∙ start) observes) done in
         let next = chained us (ts ++ t ∷ []) t.after w' t.after.stations after between o_after others refl rest end
-            tells
+        tells
         (subst (Observes options names since from (ts ++ t ∷ []) t.after) (sym is) step.0) in (
           subst (λ vs. Observes options names since from vs w' o_after) (append_assoc ts (t ∷ []) us) next.0,
           are ∙ ap (λ ls. ls ++ others) (told ∙ step.1) ∙ ap (λ ls. act_lines options names t ++ ls) next.1,

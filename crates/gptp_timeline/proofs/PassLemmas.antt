@@ -207,7 +207,7 @@ module _ {F : Type 0} (answers : Bounds → ℕ → F → Option ℕ → F → T
     pub gone_no_further : SomeGone (lines ++ [])
     gone_no_further =
         some_gone [] [] [] (none_done answers (end_before until (later_than from left)) (now_of from left) drawn
-            between)
+        between)
         refl
 
     -- among its acts
@@ -227,7 +227,7 @@ module _ {F : Type 0} (answers : Bounds → ℕ → F → Option ℕ → F → T
               (now_of p.to (later_than from left)) next p.after,
         )
         (sym (append-nil (passage_lines options names since p ++ []) ∙ append-nil
-            (passage_lines options names since p)))
+        (passage_lines options names since p)))
 
 -- ---- what passed before an observer
 

@@ -51,16 +51,20 @@ module _ (summary offsets : Bool) (from : Option ℕ) (names : List ℕ) (rising
         ap (λ xs. slice_get xs place) takes.stands.are ∙ slice_get-map (kept since errors t.after) names place
         ∙ ap (option_map (kept since errors t.after)) here in
         let amount : next clock ≡ error_after (counts_from from (at_of t)) (errors clock)
-            (option_map unsigned_abs error) =
+        (option_map unsigned_abs error) =
         ap (λ r. if r then
         error_after (counts_from from (at_of t)) (errors clock) (option_map unsigned_abs (error_at clock t))
         else errors clock) own
         ∙ ap (λ e. error_after (counts_from from (at_of t)) (errors clock) (option_map unsigned_abs e)) error_is in
-        let new : record x { error = error_after (counts_from o.exact_from (at_of t)) x.error
-            (option_map unsigned_abs error) }
+        let new : record x {
+          error = error_after (counts_from o.exact_from (at_of t)) x.error
+              (option_map unsigned_abs error);
+        }
         ≡ kept since next t.after clock =
-        ap (λ f. record x { error = error_after (counts_from f (at_of t)) (errors clock)
-            (option_map unsigned_abs error) })
+        ap (λ f. record x {
+          error = error_after (counts_from f (at_of t)) (errors clock)
+              (option_map unsigned_abs error);
+        })
         takes.from_is
         ∙ ap (λ e. record x { error = e }) (sym amount) in
         subst (Tracks summary offsets from names begun next (ts ++ t ∷ []) t.after)
@@ -81,8 +85,10 @@ module _ (summary offsets : Bool) (from : Option ℕ) (names : List ℕ) (rising
             still = takes.stands.still;
           };
           measures_are =
-              ap (λ (m : Measures). record m { error = better_if m.error
-                  (option_map (λ e. one_at clock (unsigned_abs e)) error) })
+              ap (λ (m : Measures). record m {
+                error = better_if m.error
+                    (option_map (λ e. one_at clock (unsigned_abs e)) error);
+              })
               takes.measures_are
               ∙ ap (made (last_at (leaves_another same_choice names) (ts ++ t ∷ []))
               (last_at (leaves_another same_roles names) (ts ++ t ∷ []))

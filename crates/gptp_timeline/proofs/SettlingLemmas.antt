@@ -286,7 +286,7 @@ module _ {F : Type 0} (answers : Bounds → ℕ → F → Option ℕ → F → T
   keeps_passes events until [] fate fate_after w w' (same, is) keeps = subst (Keeps events) (sym is) keeps
   keeps_passes events until (t ∷ ts) fate fate_after w w' (drawn, before, happens, rest) keeps =
       keeps_passes events until ts drawn fate_after t.after w' rest
-          (keeps_act events until t fate drawn w happens keeps)
+      (keeps_act events until t fate drawn w happens keeps)
 
   -- an act was done at its time
   act_time : (until : ℕ) (t : Transition) (fate drawn : F) (w : WorldState) → IsSound w
@@ -397,7 +397,7 @@ module _ {F : Type 0} (answers : Bounds → ℕ → F → Option ℕ → F → T
         let world = keeps_then.claimed.world in
         let shows = λ (name : ℕ).
         shown_same (snapshot_of moved) (stands_well moved world.sound world.between world.legible) moved t.after refl
-            same
+        same
         world.sound.wired.clocks keeps_after.claimed.world.sound.wired.clocks name
         (rests moved keeps_then late near name)
         (λ s is. subst (λ (h : Snapshot). IsAtRest h s) same
@@ -523,7 +523,7 @@ module _ {F : Type 0} (answers : Bounds → ℕ → F → Option ℕ → F → T
       → events_by from d.events ≡ before ++ now_of from left
   events_then until from before left is =
       sym (by_sooner from until d.events is.within) ∙ ap (events_by from) (sym is.are) ∙ by_past from before left
-          is.past
+      is.past
 
   -- ---- the stretches of a timeline
 
@@ -545,7 +545,7 @@ module _ {F : Type 0} (answers : Bounds → ℕ → F → Option ℕ → F → T
         (subst (λ es. StandsAfter d.network es span.snapshot) are span.stands)
         (last_past from (before ++ now) (past_both from before left is.past)) span.is
         (subst (λ es. Courses answers p.to es p.acts fate fate_after w p.after) passage.events_are passage.courses)
-            keeps
+        keeps
         near)
 
     keeps_one : (from : ℕ) (before left : List Timed) (fate fate_after : F) (w : WorldState) (p : Passage)
@@ -556,7 +556,7 @@ module _ {F : Type 0} (answers : Bounds → ℕ → F → Option ℕ → F → T
         keeps_courses before (now_of from left) p.to p.acts fate fate_after w p.after
         (filter_each IsFitEvent (λ (e : Timed). nat_le e.at from) left is.fits)
         (subst (λ es. Courses answers p.to es p.acts fate fate_after w p.after) passage.events_are passage.courses)
-            keeps
+        keeps
 
     settles_all : (passages : List Passage) (from : ℕ) (before left : List Timed) (fate fate_after : F)
         (w w' : WorldState) (p : Passage) (bound : ℕ) → IsLeft until from before left → Keeps before w
@@ -576,7 +576,7 @@ module _ {F : Type 0} (answers : Bounds → ℕ → F → Option ℕ → F → T
     settles_all (q ∷ (r ∷ rs)) from before left fate fate_after w w' p bound is keeps (drawn, passage, some, rest)
         (inr member) bounded_by near =
         settles_all (r ∷ rs) q.to (before ++ now_of from left) (later_than from left) drawn fate_after q.after w' p
-            bound
+        bound
         (left_next until from q.to before left is some passage.to_is)
         (keeps_one from before left fate drawn w q is keeps passage) rest member bounded_by near
 

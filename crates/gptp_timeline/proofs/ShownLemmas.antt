@@ -71,7 +71,7 @@ pub live_other : (name place : ℕ) (stations : List Station) (old new : Station
 live_other name place [] old new there before behind = absurd cc
 live_other name zero (s ∷ ss) old new there before behind =
     live_head name s new ss (subst (λ (x : Station). clock x.system ≡ name → ⊥) (sym (same_Some s old there)) before)
-        behind
+    behind
 live_other name (suc place) (s ∷ ss) old new there before behind =
     live_step name s (slice_set ss place new) ss (live_other name place ss old new there before behind)
 

@@ -89,10 +89,10 @@ same_truth false true is = absurd cc
 same_truth false false is = refl
 
 role_from : ℕ → Role
-role_from 0 = Disabled
-role_from 1 = Master
-role_from 2 = Slave
-role_from n = Passive
+role_from zero = Disabled
+role_from (suc zero) = Master
+role_from (suc (suc zero)) = Slave
+role_from (suc (suc (suc n))) = Passive
 
 role_back : (r : Role) → role_from (role_number r) ≡ r
 role_back Disabled = refl

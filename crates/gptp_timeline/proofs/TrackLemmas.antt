@@ -61,7 +61,7 @@ module _ (look : Look) (since errors : ℕ → Option ℕ) (w w' : WorldState) w
     where
       first : (begun : Option ℕ) → look.by_event ≡ true
           → measures_after look (record { clock = n; shown = shown n w; since = begun; error = errors n })
-              (shown n w') m
+          (shown n w') m
           ≡ made (last_if (same_choice (shown n w) (shown n w')) look.at m.choice)
           (last_if (same_roles (shown n w) (shown n w')) look.at m.roles)
           (last_if (same_known (shown n w) (shown n w')) look.at m.offsets) m.holdover m.error

@@ -211,7 +211,7 @@ module _ {F : Type 0} (answers : Bounds → ℕ → F → Option ℕ → F → T
     pub timeline_plays : (told : List Told) × Plays answers d until fate told t.after
     timeline_plays =
         let goes = courses_go until (events_by until d.events) (all_acts t.passages) t.started t.fate_after t.start
-            t.after
+        t.after
         course in (
           goes.0,
           record { started = t.started; start = t.start; begun = t.begun; drawn = t.fate_after; goes = goes.1 },

@@ -33,7 +33,7 @@ received_by (Heard clock port answer frame) = receiver clock answer frame.items
 abbrev pub error_of : ℕ → SystemState → WorldState → Option ℤ
 error_of at s w = option_and_then (λ offset.
     option_map (λ leader. offset -ℤ (local_time s at -ℤ local_time leader at)) (live_system (clock_of s.root) w))
-        s.offset
+    s.offset
 
 -- the line of a receipt
 abbrev pub offset_line : ℕ → ℕ → Option ℤ → Option ℤ → List ℕ

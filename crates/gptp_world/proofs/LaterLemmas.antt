@@ -152,11 +152,11 @@ room_later (aims.Arrival lane) stage time has =
     (has join place octets there named oldest)
 room_later (aims.Timer place set) stage time has =
     λ station here. room_at (timer_reach set station.system) place stage time (has station here)
-room_later (aims.LinkDown link) stage time has = ends_at link stage time has
-room_later (aims.LinkUp link) stage time has = ends_at link stage time has
+room_later (aims.LinkDown link) stage time has = λ up. ends_at link stage time (has up)
+room_later (aims.LinkUp link) stage time has = λ down. ends_at link stage time (has down)
 room_later (aims.LinkSet link bounds) stage time has = has
-room_later (aims.Fail place) stage time has = room_at reaches.All place stage time has
-room_later (aims.Recover place) stage time has = start_at place stage time has
+room_later (aims.Fail place) stage time has = has
+room_later (aims.Recover place) stage time has = λ failed. start_at place stage time (has failed)
 room_later (aims.Priority1 place set) stage time has = room_at reaches.All place stage time has
 room_later (aims.Inject lane) stage time has = has
 

@@ -1,5 +1,6 @@
 -- Acts that are there, and due, are carried out.
-use Rattle.std.proofs.Common.{◌≡◌, ◌≢◌, ◌<◌, ℕ, Bool, true, false, List, [], ◌∷◌, map, length, Option, Some, slice_get, slice_index_or, refl, ap, sym, subst, ◌∙◌}
+use Rattle.std.proofs.Common.{◌≡◌, ◌≢◌, ◌<◌, ℕ, Bool, true, false, not, List, [], ◌∷◌, map, length, Option, Some, slice_get, slice_index_or, refl, ap, sym, subst, ◌∙◌}
+use Rattle.std.specs.Prelude.{⊤}
 use Rattle.std.proofs.lemmas.List.{length-map}
 use Rattle.std.proofs.lemmas.Option.{same_Some, slice_get_within}
 use Rattle.gptp_links.specs.declared.bounds.Bounds.{Bounds}
@@ -35,17 +36,18 @@ use Rattle.gptp_world.specs.Cable.{channel_of, join_of, SentOne}
 use Rattle.gptp_acts.specs.Changing.{with_bounds, with_setup, with_station, CallsIfLive, InjectsIf}
 use Rattle.gptp_world.specs.Delivering.{Delivered, MayHear}
 use Rattle.gptp_world.specs.Directory.{end_of, Join}
-use Rattle.gptp_world.specs.Net.{between, IsFrameDue}
+use Rattle.gptp_world.specs.Memory.{AsksForNoMemory, ChangesWithoutMemory}
+use Rattle.gptp_world.specs.Net.{between, IsFrameDue, LinkIs}
 use Rattle.gptp_world.specs.Performing.{octets_of, Acted, CanChange, HasRoomForAim, Injected, OfLink, OfSystem, Turned, Turns}
 use Rattle.gptp_acts.specs.Sound.{AreLinked, Flows, IsSound, IsWired}
-use Rattle.gptp_world.specs.Stage.{clock_at, world_of, HasRoomWithin, HasTimerAt, IsStage}
+use Rattle.gptp_world.specs.Stage.{clock_at, world_of, HasRoomWithin, HasTimerAt, IsStage, SystemIs}
 use Rattle.gptp_world.specs.Telling.{HasRoomAtEnds}
 use Rattle.gptp_acts.specs.World.{Channel, WorldState, port_id, queue, receiver, sender}
 use Rattle.gptp_world.proofs.AimLemmas.{lane_joins}
 use Rattle.gptp_world.proofs.EndLemmas.{end_same, known_join}
 use Rattle.gptp_world.proofs.NetLemmas.{from_map}
 use Rattle.gptp_lists.proofs.MappedLemmas.{mapped_there}
-use Rattle.gptp_lists.proofs.PlaceLemmas.{read}
+use Rattle.gptp_lists.proofs.PlaceLemmas.{member_there, read}
 use Rattle.gptp_world.proofs.SendingLemmas.{queue_same}
 
 -- ---- where it is
@@ -93,6 +95,64 @@ aim_within (Expire number timer) (aims.Timer place set) stage (at, same) =
     slice_get_within stage.stations.items place at.station at.is.here
 aim_within (Changing change) aim stage at = change_within change aim stage at
 aim_within act aim stage at = absurd at
+
+-- ---- what asks for no room
+
+-- a link is up or down, and not both
+pub never_both : (net : Between) (link : ℕ) (up : Bool) → link < length net.cables.items
+    → ((cable : Cable) → slice_get net.cables.items link ≡ Some cable → up ≡ cable.link.up)
+    → LinkIs (not up) link net → ⊥
+never_both net link up within found is =
+    let (cable, here) = member_there net.cables.items link within in by up (found cable here ∙ is cable here)
+  where
+    by : (up : Bool) → up ≡ not up → ⊥
+    by true same = absurd cc
+    by false same = absurd cc
+
+-- an act about this asks for none
+abbrev pub AsksForNone : Aim → Stage → Type 0
+AsksForNone (aims.LinkDown link) stage = LinkIs false link stage.net
+AsksForNone (aims.LinkUp link) stage = LinkIs true link stage.net
+AsksForNone (aims.LinkSet link bounds) stage = ⊤
+AsksForNone (aims.Fail place) stage = ⊤
+AsksForNone (aims.Recover place) stage = SystemIs true place stage
+AsksForNone (aims.Inject lane) stage = LinkIs false lane.link stage.net
+AsksForNone aim stage = ⊥
+
+link_is : (stage : Stage) (link : ℕ) (up : Bool) (channel : Channel)
+    → slice_get (world_of stage).net.channels link ≡ Some channel → channel.up ≡ up → LinkIs up link stage.net
+link_is stage link up channel here is = λ cable there.
+    let same : channel_of cable ≡ channel =
+    same_Some (channel_of cable) channel
+    (sym (mapped_there channel_of stage.net.cables.items link cable there) ∙ here) in
+    ap (λ (x : Channel). x.up) same ∙ is
+
+system_is : (stage : Stage) (place : ℕ) (live : Bool) (station : Station)
+    → slice_get stage.stations.items place ≡ Some station → station.live ≡ live → SystemIs live place stage
+system_is stage place live station here is = λ other there.
+    let same : other ≡ station = same_Some other station (sym there ∙ here) in ap (λ (x : Station). x.live) same ∙ is
+
+free_change : (change : Change) (aim : Aim) (stage : Stage) → IsAimOfChange change (world_of stage) aim
+    → ChangesWithoutMemory change (world_of stage) → AsksForNone aim stage
+free_change (changes.LinkDown number port) (aims.LinkDown link) stage at asks =
+    link_is stage link false at.channel at.is.here (asks link at.channel at.is)
+free_change (changes.LinkUp number port) (aims.LinkUp link) stage at asks =
+    link_is stage link true at.channel at.is.here (asks link at.channel at.is)
+free_change (changes.LinkSet number port min max loss) (aims.LinkSet link bounds) stage at asks = tt
+free_change (changes.Fail number) (aims.Fail place) stage at asks = tt
+free_change (changes.Recover number) (aims.Recover place) stage at asks =
+    system_is stage place true at.station at.is.here (asks place at.station at.is)
+free_change (changes.Priority1 number value) (aims.Priority1 place set) stage at asks = asks
+free_change (changes.Inject number port octets) (aims.Inject lane) stage at asks =
+    link_is stage lane.link false at.channel at.here
+    (asks lane.link at.channel (lane_joins (port_id number port) (world_of stage) lane at))
+free_change change aim stage at asks = absurd at
+
+-- what an act that asks for no memory is about asks for none
+pub free_aim : (act : Act) (aim : Aim) (stage : Stage) → IsAimOf act (world_of stage) aim
+    → AsksForNoMemory act (world_of stage) → AsksForNone aim stage
+free_aim (Changing change) aim stage at asks = free_change change aim stage at asks
+free_aim act aim stage at asks = absurd asks
 
 -- a timer that an act is about is one of the system
 pub timer_there : (act : Act) (place : ℕ) (timer : Timer) (stage : Stage)
@@ -360,11 +420,12 @@ same_room (aims.Arrival lane) stage has = λ join place octets there placed olde
     same_room_within (frame_reach octets) place stage (has join place octets there placed oldest)
 same_room (aims.Timer place timer) stage has = λ station here.
     same_room_within (timer_reach timer station.system) place stage (has station here)
-same_room (aims.LinkDown link) stage has = same_room_at_ends link stage has
-same_room (aims.LinkUp link) stage has = same_room_at_ends link stage has
+same_room (aims.LinkDown link) stage has = λ up. same_room_at_ends link stage (has up)
+same_room (aims.LinkUp link) stage has = λ down. same_room_at_ends link stage (has down)
 same_room (aims.LinkSet link bounds) stage has = has
-same_room (aims.Fail place) stage has = same_room_within reaches.All place stage has
-same_room (aims.Recover place) stage has = record { station = has.station; here = has.here; room = has.room }
+same_room (aims.Fail place) stage has = has
+same_room (aims.Recover place) stage has = λ failed.
+    let room = has failed in record { station = room.station; here = room.here; room = room.room }
 same_room (aims.Priority1 place value) stage has = same_room_within reaches.All place stage has
 same_room (aims.Inject lane) stage has = has
 

@@ -1,5 +1,5 @@
 -- How systems start, fail, and get another priority1.
-use Rattle.std.proofs.Common.{◌≡◌, ◌+◌, ◌*◌, ℕ, false, [], length, map, Option, Some, slice_get, refl, ap, subst, sym, ◌∙◌, inl, inr, arith}
+use Rattle.std.proofs.Common.{◌≡◌, ◌+◌, ◌*◌, ℕ, true, false, [], length, map, Option, Some, slice_get, refl, ap, subst, sym, ◌∙◌, inl, inr, arith}
 use Rattle.std.specs.List.{filter, range_with_len}
 use Rattle.std.proofs.lemmas.Option.{same_Some, slice_get_within}
 use Rattle.gptp_links.specs.declared.bounds.Bounds.{Bounds}
@@ -16,7 +16,7 @@ use Rattle.gptp_world.specs.Net.{OnlyEntries}
 use Rattle.gptp_world.specs.Room.{both, for_call, for_timers, repeated, HasRoom, Need}
 use Rattle.gptp_acts.specs.Sound.{IsItsSetup}
 use Rattle.gptp_world.specs.Stage.{world_of, Called, HasRoomToCall, IsStage}
-use Rattle.gptp_world.specs.Starting.{for_all_timers, for_start, CameUp, CanSetTimers, CanStart, HasRoomForPorts, HasRoomForTimers, HasRoomToStart, HasSetTimers, Prioritized, Replaces, Started}
+use Rattle.gptp_world.specs.Starting.{for_all_timers, for_start, CameUp, CanSetTimers, CanStart, HasRoomForPorts, HasRoomToStart, HasSetTimers, Prioritized, Replaces, Started}
 use Rattle.gptp_acts.specs.World.{WorldState}
 use Rattle.gptp_acts.proofs.AgreeLemmas.{replaced}
 use Rattle.gptp_world.proofs.NeedLemmas.{covered, left_of, uses_timers}
@@ -49,7 +49,7 @@ replaced_stage stage left place old new is here ports clocks by =
 -- the timers of a system of the stage can be set
 pub can_set_timers : (stage : Stage) (place : ℕ) (station : Station) → IsStage stage
     → slice_get stage.stations.items place ≡ Some station
-    → HasRoom (for_all_timers station.system) stage.net → CanSetTimers place stage
+    → (station.live ≡ true → HasRoom (for_all_timers station.system) stage.net) → CanSetTimers place stage
 can_set_timers stage place station is here room =
     let within = slice_get_within stage.stations.items place station here in let places = is.systems in
     record {
@@ -57,7 +57,7 @@ can_set_timers stage place station is here room =
       here = here;
       known = omega arith;
       few = is.few place station here;
-      room = room.entries;
+      room = λ live. (room live).entries;
     }
 
 pub timers_stage : (stage stage' : Stage) (place : ℕ) → IsStage stage → HasSetTimers place stage stage' → IsStage stage'
@@ -86,15 +86,6 @@ replaced_world stage left stage' place old new here by set =
     let timers = set.timers in let stations = set.stations in let now = set.now in let last = set.last_change in
     let list = by.stations in let net = by.net in let moment = by.now in let change = by.last_change in
     rw (timers, stations, now, last, list, net, moment, change, one) refl
-
--- where a system can be called, its timers can be set
-pub room_for_timers : (place : ℕ) (stage : Stage) → HasRoomToCall place stage → HasRoomForTimers place stage
-room_for_timers place stage has = record {
-  station = has.station;
-  here = has.here;
-  room = covered (for_call has.station.system) (for_all_timers has.station.system) stage.net
-      (record { entries = omega arith; buffers = omega arith; frames = λ port. omega arith }) has.room;
-}
 
 -- ---- a start
 
@@ -139,7 +130,7 @@ renewed_timers stage left place can is has by =
     let new : Station = fresh stage.now can.station in
     can_set_timers left place new (renewed_stage stage left place can is by)
     (stands_there stage left place can.station new can.here by)
-    (covered (for_start new.system) (for_all_timers new.system) left.net
+    (λ live. covered (for_start new.system) (for_all_timers new.system) left.net
     (record { entries = omega arith; buffers = omega arith; frames = λ port. omega arith })
     (renewed_room stage left place can has by))
 

@@ -1,6 +1,6 @@
 -- What is pending of a system's timers: a step touches few of them, and each other is pending when it is due, before
 -- the step and after it. To set those that are touched makes the same of what is pending as to set all.
-use Rattle.std.proofs.Common.{◌≡◌, ℕ, zero, suc, ◌+◌, ◌<◌, Bool, true, false, drop, List, [], ◌∷◌, length, Option, refl, sym, ap, subst, ◌∙◌, inl, inr, arith}
+use Rattle.std.proofs.Common.{◌≡◌, ℕ, zero, suc, ◌+◌, ◌<◌, Bool, true, false, drop, List, [], ◌∷◌, length, ◌≤◌, Option, Some, None, IfSome, refl, sym, ap, subst, ◌∙◌, inl, inr, arith}
 use Rattle.std.specs.List.{AllByRecursion, filter}
 use Rattle.std.proofs.lemmas.Bool.Decides.{nat_tests}
 use Rattle.gptp_lists.specs.Members.{In}
@@ -8,7 +8,6 @@ use Rattle.gptp_system.specs.declared.answer.Answer.{Answer}
 use Rattle.gptp_system.specs.declared.port.Port.{Port}
 use Rattle.gptp_setup.specs.declared.timer.Timer.{Timer}
 use Rattle.gptp_setup.specs.declared.timer.Timer.TheVariants as timers
-use Rattle.gptp_system.specs.declared.sending.Sending.{Sending}
 use Rattle.gptp_system.specs.Input.{Input}
 use Rattle.gptp_system.specs.Reach.{is_selected, same_timer}
 use Rattle.gptp_system.specs.State.{SystemState, due}
@@ -49,6 +48,20 @@ only_more m n first second third a b = record {
   rooms = b.rooms ∙ a.rooms;
   room = let r = a.room in let q = b.room in omega arith;
 }
+
+-- a timer is put only where its system lives, so only there it takes room
+pub room_if_live : (timer : Timer) (station : Station) (due : Option ℕ) (room : ℕ) → due ≡ station_due timer station
+    → (station.live ≡ true → 1 ≤ room) → IfSome due (λ _. 0 < room)
+room_if_live timer station due room is has = by station.live refl
+  where
+    whenever : (due : Option ℕ) → 0 < room → IfSome due (λ _. 0 < room)
+    whenever None some = tt
+    whenever (Some time) some = some
+
+    by : (live : Bool) → station.live ≡ live → IfSome due (λ _. 0 < room)
+    by true lives = let some = has lives in whenever due (omega arith)
+    by false fails =
+        let none : due ≡ None = is ∙ rw fails refl in subst (λ d. IfSome d (λ _. 0 < room)) (sym none) tt
 
 -- what is left of a list at a place within it
 pub drop_here : {X : Type 0} (i : ℕ) (xs : List X) → i < length xs → (x : X) × (drop i xs ≡ x ∷ drop (i + 1) xs)

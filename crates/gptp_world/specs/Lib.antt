@@ -5,6 +5,7 @@ pub mod Delivering
 pub mod Directory
 pub mod Filed
 pub mod Following
+pub mod Memory
 pub mod Net
 pub mod Observing
 pub mod Performing

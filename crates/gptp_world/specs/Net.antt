@@ -1,5 +1,5 @@
 -- What the code keeps between the systems of a world.
-use Rattle.std.specs.Prelude.{◌≡◌, ◌⊎◌, ◌+◌, ◌≤◌, ℕ, true, List, ◌∷◌, Option, Some, length, map, slice_get}
+use Rattle.std.specs.Prelude.{◌≡◌, ◌⊎◌, ◌+◌, ◌≤◌, ℕ, Bool, true, List, ◌∷◌, Option, Some, length, map, slice_get}
 use Rattle.gptp_links.specs.declared.bounds.Bounds.{Bounds}
 use Rattle.gptp_links.specs.Queue.{Frame}
 use Rattle.gptp_links.specs.State as links
@@ -30,6 +30,10 @@ pub record OnlyEntries (used : ℕ) (net net' : Between) : Type 0 where
   pub links : net'.pending.links ≡ net.pending.links
   pub rooms : net'.pending.rooms ≡ net.pending.rooms
   pub room : net.pending.room ≤ net'.pending.room + used
+
+-- the link at a place is up, or down
+abbrev pub LinkIs : Bool → ℕ → Between → Type 0
+LinkIs up link net = (cable : Cable) → slice_get net.cables.items link ≡ Some cable → cable.link.up ≡ up
 
 -- a lane of a link that is up begins at this port
 pub record IsUpLane (net : Between) (port : PortId) (lane : Lane) : Type 0 where

@@ -1,5 +1,5 @@
 -- How the code carries out an act that is there, and due.
-use Rattle.std.specs.Prelude.{◌≡◌, ◌<◌, ℕ, ⊤, List, [], length, Option, Some, slice_get}
+use Rattle.std.specs.Prelude.{◌≡◌, ◌<◌, ℕ, ⊤, true, false, List, [], length, Option, Some, slice_get}
 use Rattle.gptp_links.specs.declared.bounds.Bounds.{Bounds}
 use Rattle.gptp_links.specs.Bounds.{Fit}
 use Rattle.gptp_links.specs.Fate.{Draw, Draws}
@@ -18,24 +18,26 @@ use Rattle.gptp_acts.specs.Act.{Expires}
 use Rattle.gptp_acts.specs.Acts.{Acts}
 use Rattle.gptp_acts.specs.Changing.{with_bounds, with_setup, with_station, CallsIfLive, ComesUpIf, FailsIf, GoesDownIf, InjectsIf, RecoversIf}
 use Rattle.gptp_world.specs.Delivering.{HasRoomToHear}
+use Rattle.gptp_world.specs.Net.{LinkIs}
 use Rattle.gptp_world.specs.Room.{HasRoomToInject}
-use Rattle.gptp_world.specs.Stage.{world_of, HasRoomToCall, HasRoomToGive}
+use Rattle.gptp_world.specs.Stage.{world_of, HasRoomToCall, HasRoomToGive, SystemIs}
 use Rattle.gptp_world.specs.Starting.{CanStart, HasRoomToStart}
 use Rattle.gptp_world.specs.Telling.{HasRoomAtEnds}
 use Rattle.gptp_acts.specs.World.{Channel, WorldState, sender}
 
 -- ---- room for what an act can leave
 
+-- a failure leaves nothing, nor does what changes nothing
 abbrev pub HasRoomForAim : Aim → Stage → Type 0
 HasRoomForAim (aims.Arrival lane) stage = HasRoomToHear lane stage
 HasRoomForAim (aims.Timer place timer) stage = HasRoomToGive (TimerExpires timer) place stage
-HasRoomForAim (aims.LinkDown link) stage = HasRoomAtEnds link stage
-HasRoomForAim (aims.LinkUp link) stage = HasRoomAtEnds link stage
+HasRoomForAim (aims.LinkDown link) stage = LinkIs true link stage.net → HasRoomAtEnds link stage
+HasRoomForAim (aims.LinkUp link) stage = LinkIs false link stage.net → HasRoomAtEnds link stage
 HasRoomForAim (aims.LinkSet link bounds) stage = ⊤
-HasRoomForAim (aims.Fail place) stage = HasRoomToCall place stage
-HasRoomForAim (aims.Recover place) stage = HasRoomToStart place stage
+HasRoomForAim (aims.Fail place) stage = ⊤
+HasRoomForAim (aims.Recover place) stage = SystemIs false place stage → HasRoomToStart place stage
 HasRoomForAim (aims.Priority1 place value) stage = HasRoomToCall place stage
-HasRoomForAim (aims.Inject lane) stage = HasRoomToInject lane stage.net
+HasRoomForAim (aims.Inject lane) stage = LinkIs true lane.link stage.net → HasRoomToInject lane stage.net
 
 -- ---- what is done, by place
 

@@ -1,5 +1,5 @@
 -- What the code keeps of a world.
-use Rattle.std.specs.Prelude.{◌≡◌, ◌<◌, ◌≤◌, ◌+◌, ◌*◌, ◌^◌, ℕ, ⊤, true, List, [], length, map, Option, Some, slice_get, slice_set}
+use Rattle.std.specs.Prelude.{◌≡◌, ◌<◌, ◌≤◌, ◌+◌, ◌*◌, ◌^◌, ℕ, ⊤, Bool, true, List, [], length, map, Option, Some, slice_get, slice_set}
 use Rattle.gptp_links.specs.declared.bounds.Bounds.{Bounds}
 use Rattle.gptp_links.specs.Fate.{Draw, Draws}
 use Rattle.gptp_system.specs.declared.answer.Answer.{Answer}
@@ -56,6 +56,11 @@ pub record IsLiveAt (place : ℕ) (stage : Stage) : Type 0 where
   pub station : Station
   pub here : slice_get stage.stations.items place ≡ Some station
   pub live : station.live ≡ true
+
+-- the system at a place is live, or isn't
+abbrev pub SystemIs : Bool → ℕ → Stage → Type 0
+SystemIs live place stage =
+    (station : Station) → slice_get stage.stations.items place ≡ Some station → station.live ≡ live
 
 -- a timer of the system at a place
 pub record HasTimerAt (place : ℕ) (timer : Timer) (stage : Stage) : Type 0 where

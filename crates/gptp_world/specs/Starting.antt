@@ -1,5 +1,5 @@
 -- Systems of the code's world that start, fail, or get another priority1.
-use Rattle.std.specs.Prelude.{◌≡◌, ◌≤◌, ◌<◌, ◌+◌, ◌*◌, ℕ, List, Option, Some, length, map, slice_get, slice_set}
+use Rattle.std.specs.Prelude.{◌≡◌, ◌≤◌, ◌<◌, ◌+◌, ◌*◌, ℕ, true, List, Option, Some, length, map, slice_get, slice_set}
 use Rattle.std.specs.List.{filter}
 use Rattle.gptp_links.specs.declared.bounds.Bounds.{Bounds}
 use Rattle.gptp_links.specs.Fate.{Draw, Draws}
@@ -31,19 +31,13 @@ pub record Replaces (place : ℕ) (new : Station) (stage stage_after : Stage) : 
 abbrev pub for_all_timers : SystemState → Need
 for_all_timers s = for_timers (4 * length s.ports + 2)
 
--- there is room for all timers of the system at a place
-pub record HasRoomForTimers (place : ℕ) (stage : Stage) : Type 0 where
-  pub station : Station
-  pub here : slice_get stage.stations.items place ≡ Some station
-  pub room : HasRoom (for_all_timers station.system) stage.net
-
--- they can be set
+-- those of the system at a place can be set; where it has failed that takes no room
 pub record CanSetTimers (place : ℕ) (stage : Stage) : Type 0 where
   pub station : Station
   pub here : slice_get stage.stations.items place ≡ Some station
   pub known : place < stage.net.pending.systems
   pub few : length station.system.ports ≤ 16
-  pub room : 4 * length station.system.ports + 2 ≤ stage.net.pending.room
+  pub room : station.live ≡ true → 4 * length station.system.ports + 2 ≤ stage.net.pending.room
 
 -- they were set, and nothing else has changed
 pub record HasSetTimers (place : ℕ) (stage stage_after : Stage) : Type 0 where

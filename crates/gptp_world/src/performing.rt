@@ -30,17 +30,18 @@ fn octets_of(act: &Act) -> &[u8]
 }
 
 impl Stage {
-    ghost use Rattle.std.specs.Prelude.{◌≡◌, ◌<◌, ◌≤◌, [], length};
+    ghost use Rattle.std.specs.Prelude.{◌≡◌, ◌<◌, ◌≤◌, [], length, true, false};
     ghost use Rattle.gptp_links.specs.Bounds.{Fit};
     ghost use Rattle.gptp_world.specs.declared.aim.Aim.TheVariants.{LinkDown, LinkUp, LinkSet, Fail, Recover};
     ghost use Rattle.gptp_plan.specs.declared.change.Act.TheVariants.{Deliver};
     ghost use Rattle.gptp_acts.specs.Acts.{AtPlace, IsOldestDue};
     ghost use Rattle.gptp_acts.specs.Agrees.{Agrees};
     ghost use Rattle.gptp_world.specs.Delivering.{HasRoomToHear};
+    ghost use Rattle.gptp_world.specs.Net.{LinkIs};
     ghost use Rattle.gptp_world.specs.Performing.{Acted, CanChange, HasRoomForAim, Injected, Turned, Turns};
     ghost use Rattle.gptp_acts.specs.Sound.{IsWired};
     ghost use Rattle.gptp_world.specs.Room.{HasRoomToInject};
-    ghost use Rattle.gptp_world.specs.Stage.{world_of, HasRoomToCall, IsStage};
+    ghost use Rattle.gptp_world.specs.Stage.{world_of, IsStage, SystemIs};
     ghost use Rattle.gptp_world.specs.Starting.{CanStart, HasRoomToStart};
     ghost use Rattle.gptp_world.specs.Telling.{HasRoomAtEnds};
 
@@ -67,7 +68,7 @@ impl Stage {
     fn take_link_down<F: Fate>(&mut self, link: usize, fate: &mut F)
         requires stage { IsStage self.old }
         requires link { link < length self.old.net.cables.items }
-        requires room { HasRoomAtEnds link self.old }
+        requires room { LinkIs true link self.old.net → HasRoomAtEnds link self.old }
         ensures stage { IsStage self.new }
         ensures down { Turned F.answers (LinkDown link) fate.old fate.new self.old self.new }
     {
@@ -80,7 +81,7 @@ impl Stage {
     fn bring_link_up<F: Fate>(&mut self, link: usize, fate: &mut F)
         requires stage { IsStage self.old }
         requires link { link < length self.old.net.cables.items }
-        requires room { HasRoomAtEnds link self.old }
+        requires room { LinkIs false link self.old.net → HasRoomAtEnds link self.old }
         ensures stage { IsStage self.new }
         ensures up { Turned F.answers (LinkUp link) fate.old fate.new self.old self.new }
     {
@@ -103,7 +104,7 @@ impl Stage {
     /// A system fails, where it is live.
     fn fail_if_live(&mut self, place: usize)
         requires stage { IsStage self.old }
-        requires room { HasRoomToCall place self.old }
+        requires place { place < length self.old.stations.items }
         ensures stage { IsStage self.new }
         ensures failed { Turns (Fail place) (world_of self.old) [] (world_of self.new) }
     {
@@ -116,7 +117,7 @@ impl Stage {
     fn recover<F: Fate>(&mut self, place: usize, fate: &mut F)
         requires stage { IsStage self.old }
         requires can { CanStart place self.old }
-        requires room { HasRoomToStart place self.old }
+        requires room { SystemIs false place self.old → HasRoomToStart place self.old }
         ensures stage { IsStage self.new }
         ensures recovered { Turned F.answers (Recover place) fate.old fate.new self.old self.new }
     {
@@ -130,7 +131,7 @@ impl Stage {
         requires stage { IsStage self.old }
         requires link { lane.link < length self.old.net.cables.items }
         requires few { length octets.now ≤ 2116 }
-        requires room { HasRoomToInject lane self.old.net }
+        requires room { LinkIs true lane.link self.old.net → HasRoomToInject lane self.old.net }
         ensures stage { IsStage self.new }
         ensures injected { Injected F.answers lane octets.now fate.old fate.new self.old self.new }
     {
@@ -162,31 +163,33 @@ impl Stage {
 }
 
 impl Stage {
-    ghost use Rattle.std.specs.Prelude.{◌≡◌, OnOk};
+    ghost use Rattle.std.specs.Prelude.{◌≡◌, IsOk, OnOk};
     ghost use Rattle.gptp_acts.specs.Acts.{IsDueThen};
     ghost use Rattle.gptp_plan.specs.Allowed.{IsFitAct};
     ghost use Rattle.gptp_world.specs.Aim.{IsAimOf};
+    ghost use Rattle.gptp_world.specs.Memory.{AsksForNoMemory};
     ghost use Rattle.gptp_world.specs.Performing.{Acted, HasRoomForAim};
     ghost use Rattle.gptp_acts.specs.Sound.{IsSound};
     ghost use Rattle.gptp_world.specs.Stage.{world_of, IsStage};
 
-    /// Makes room for whatever an act can leave. Refused where there is no memory for it. The state of the world doesn't
-    /// change.
+    /// Makes room for whatever an act can leave: none for a failure, or where nothing will change. Refused where there is no
+    /// memory for it. The state of the world doesn't change.
     pub(crate) fn make_room_for(&mut self, act: &Act, aim: Aim) -> Result<(), AllocError>
         requires stage { IsStage self.old }
         requires aim { IsAimOf act.now (world_of self.old) aim }
         ensures stage { IsStage self.new }
         ensures world { world_of self.new ≡ world_of self.old }
         ensures room { OnOk result (HasRoomForAim aim self.new) }
+        ensures free { AsksForNoMemory act.now (world_of self.old) → IsOk result }
     {
         match aim {
             Aim::Arrival(lane) => self.make_room_to_hear(lane),
             Aim::Timer { place, timer } => self.make_room_to_expire(place, timer),
-            Aim::LinkDown(link) => self.make_room_at_ends(link),
-            Aim::LinkUp(link) => self.make_room_at_ends(link),
+            Aim::LinkDown(link) => self.make_room_to_take_down(link),
+            Aim::LinkUp(link) => self.make_room_to_bring_up(link),
             Aim::LinkSet { link: _, bounds: _ } => Ok(()),
-            Aim::Fail(place) => self.make_room(place, Reach::All),
-            Aim::Recover(place) => self.make_room_to_start(place),
+            Aim::Fail(_) => Ok(()),
+            Aim::Recover(place) => self.make_room_to_recover(place),
             Aim::Priority1 { place, value: _ } => self.make_room(place, Reach::All),
             Aim::Inject(lane) => self.make_room_to_inject(lane),
         }

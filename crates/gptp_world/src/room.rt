@@ -126,9 +126,10 @@ impl Net {
 }
 
 impl Stage {
-    ghost use Rattle.std.specs.Prelude.{◌≡◌, ◌≢◌, ◌≤◌, ◌<◌, length, OnOk};
+    ghost use Rattle.std.specs.Prelude.{◌≡◌, ◌≢◌, ◌≤◌, ◌<◌, length, true, false, IsOk, OnOk};
+    ghost use Rattle.gptp_world.specs.Net.{LinkIs};
     ghost use Rattle.gptp_world.specs.Room.{HasRoomToInject};
-    ghost use Rattle.gptp_world.specs.Stage.{world_of, HasRoomToCallBoth, HasRoomWithin, IsStage};
+    ghost use Rattle.gptp_world.specs.Stage.{world_of, HasRoomToCallBoth, HasRoomWithin, IsStage, SystemIs};
     ghost use Rattle.gptp_world.specs.Starting.{HasRoomToStart};
 
     /// Makes room for whatever a call of the system at a place can leave that reaches so far: each of its timers, and two
@@ -161,6 +162,22 @@ impl Stage {
         self.net.make_room_at_ports(place, ports, 2 * count)
     }
 
+    /// Makes room for the system at a place to start again, where it has failed. Refused where there is no memory for it. The
+    /// state of the world doesn't change.
+    pub(crate) fn make_room_to_recover(&mut self, place: usize) -> Result<(), AllocError>
+        requires stage { IsStage self.old }
+        requires place { place < length self.old.stations.items }
+        ensures stage { IsStage self.new }
+        ensures world { world_of self.new ≡ world_of self.old }
+        ensures room { OnOk result (SystemIs false place self.new → HasRoomToStart place self.new) }
+        ensures free { SystemIs true place self.old → IsOk result }
+    {
+        match self.stations[place].live {
+            true => Ok(()),
+            false => self.make_room_to_start(place),
+        }
+    }
+
     /// Makes room for one call of each of two systems. Refused where there is no memory for it. The state of the world
     /// doesn't change.
     pub(crate) fn make_room_for_both(
@@ -184,9 +201,10 @@ impl Stage {
         self.net.make_room_at_ports(first, near, 2)?;
         self.net.make_room_at_ports(second, far, 2)
     }
-    /// Makes room for a frame that is injected on a lane: an entry, a buffer, and a place behind those in flight. Refused
-    /// where there is no memory for it. The state of the world doesn't change.
-    pub(crate) fn make_room_to_inject(&mut self, lane: Lane) -> Result<(), AllocError>
+
+    /// Makes room for one more frame on a lane: an entry, a buffer, and a place behind those in flight. Refused where there is
+    /// no memory for it. The state of the world doesn't change.
+    fn make_room_for_frame(&mut self, lane: Lane) -> Result<(), AllocError>
         requires stage { IsStage self.old }
         requires link { lane.link < length self.old.net.cables.items }
         ensures stage { IsStage self.new }
@@ -195,5 +213,21 @@ impl Stage {
     {
         self.net.reserve(1, 1)?;
         self.net.make_room_on_link(lane.link)
+    }
+
+    /// Makes room for a frame that is injected on a lane, where its link is up. Refused where there is no memory for it. The
+    /// state of the world doesn't change.
+    pub(crate) fn make_room_to_inject(&mut self, lane: Lane) -> Result<(), AllocError>
+        requires stage { IsStage self.old }
+        requires link { lane.link < length self.old.net.cables.items }
+        ensures stage { IsStage self.new }
+        ensures world { world_of self.new ≡ world_of self.old }
+        ensures room { OnOk result (LinkIs true lane.link self.new.net → HasRoomToInject lane self.new.net) }
+        ensures free { LinkIs false lane.link self.old.net → IsOk result }
+    {
+        match self.net.is_up(lane.link) {
+            true => self.make_room_for_frame(lane),
+            false => Ok(()),
+        }
     }
 }

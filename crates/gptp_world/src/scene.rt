@@ -57,13 +57,15 @@ fn start_all<F: Fate>(stage: &mut Stage, fate: &mut F) -> Result<(), AllocError>
 }
 
 impl Scene {
-    ghost use Rattle.std.specs.Prelude.{◌≡◌, ◌≤◌, IfErr, IfOk, OnErr};
+    ghost use Rattle.std.specs.Prelude.{◌≡◌, ◌≢◌, ◌≤◌, IfErr, IfOk, IsOk, OnErr};
+    ghost use Rattle.gptp_acts.specs.declared.done.Refused.TheVariants.{OutOfMemory};
     ghost use Rattle.gptp_plan.specs.Allowed.{IsFitAct};
     ghost use Rattle.gptp_acts.specs.Acts.{IsReadyAct, Refuses};
     ghost use Rattle.gptp_acts.specs.Prompt.{IsPromptIn};
     ghost use Rattle.gptp_kept.specs.LegibleLaws.{SetsAnOctet};
     ghost use Rattle.gptp_kept.specs.Traces.{IsHeardClean};
     ghost use Rattle.gptp_world.specs.Aim.{IsAimOf};
+    ghost use Rattle.gptp_world.specs.Memory.{AsksForNoMemory};
     ghost use Rattle.gptp_acts.specs.Course.{Begun, WasDone};
 
     /// The world of a network at time 0, whose systems have all started, in their order. Refused for want of memory alone.
@@ -88,6 +90,7 @@ impl Scene {
         ensures done { IfOk result (WasDone F.answers timed.now fate.old fate.new self.old self.new) }
         ensures clean { IfOk result (IsHeardClean self.old timed.now.at) }
         ensures refused { IfErr result (Refuses timed.now.act timed.now.at self.old) }
+        ensures free { AsksForNoMemory timed.now.act self.old → IfErr result (λ refused. refused ≢ OutOfMemory) }
         ensures kept { OnErr result (self.new ≡ self.old) }
         ensures fate { OnErr result (fate.new ≡ fate.old) }
     {
@@ -117,6 +120,7 @@ impl Scene {
         requires aim { IsAimOf timed.now.act self.old aim }
         requires ready { IsReadyAct timed.now.act timed.now.at self.old }
         ensures done { IfOk result (WasDone F.answers timed.now fate.old fate.new self.old self.new) }
+        ensures free { AsksForNoMemory timed.now.act self.old → IsOk result }
         ensures kept { OnErr result (self.new ≡ self.old) }
         ensures fate { OnErr result (fate.new ≡ fate.old) }
     {

@@ -10,7 +10,7 @@ impl Stage {
     ghost use Rattle.gptp_acts.specs.declared.station.Station.{Station};
     ghost use Rattle.gptp_acts.specs.Changing.{failed, fresh, with_setup};
     ghost use Rattle.gptp_world.specs.Stage.{world_of, CallUses, HasRoomToCall, IsLiveAt, IsPortAt, IsStage};
-    ghost use Rattle.gptp_world.specs.Starting.{CameUp, CanSetTimers, CanStart, HasRoomForPorts, HasRoomForTimers, HasRoomToStart, HasSetTimers, Prioritized, Replaces, Started};
+    ghost use Rattle.gptp_world.specs.Starting.{CameUp, CanSetTimers, CanStart, HasRoomForPorts, HasRoomToStart, HasSetTimers, Prioritized, Replaces, Started};
 
     /// What is pending of the timers of the system at a place follows from its state.
     fn set_timers(&mut self, place: usize)
@@ -91,7 +91,7 @@ impl Stage {
     /// The system at a place fails: all its timers stop.
     pub(crate) fn fail(&mut self, place: usize)
         requires stage { IsStage self.old }
-        requires room { HasRoomForTimers place self.old }
+        requires place { place < length self.old.stations.items }
         ensures stage { IsStage self.new }
         ensures failed { (station : Station) → slice_get self.old.stations.items place ≡ Some station
             → world_of self.new ≡ failed place station (world_of self.old) }

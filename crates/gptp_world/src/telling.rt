@@ -65,7 +65,8 @@ fn link_input<'a>(port: u8, up: bool) -> Input<'a>
 }
 
 impl Stage {
-    ghost use Rattle.std.specs.Prelude.{◌≡◌, ◌<◌, length, OnOk};
+    ghost use Rattle.std.specs.Prelude.{◌≡◌, ◌<◌, length, true, false, IsOk, OnOk};
+    ghost use Rattle.gptp_world.specs.Net.{LinkIs};
     ghost use Rattle.gptp_world.specs.Stage.{world_of, CallUses, HasRoomToCall, IsPortAt, IsStage};
     ghost use Rattle.gptp_world.specs.Telling.{link_input, ComeUp, GoneDown, HasRoomAtEnds, Told};
 
@@ -116,7 +117,7 @@ impl Stage {
 
     /// Makes room for one call of each of the systems at the ends of a link. Refused where there is no memory for it. The
     /// state of the world doesn't change.
-    pub(crate) fn make_room_at_ends(&mut self, link: usize) -> Result<(), AllocError>
+    fn make_room_at_ends(&mut self, link: usize) -> Result<(), AllocError>
         requires stage { IsStage self.old }
         requires link { link < length self.old.net.cables.items }
         ensures stage { IsStage self.new }
@@ -125,5 +126,35 @@ impl Stage {
     {
         let (a, b) = ends_of(&self.net.directory, link);
         self.make_room_for_both(a.place, b.place)
+    }
+
+    /// So it does for a link that goes down, where it is up.
+    pub(crate) fn make_room_to_take_down(&mut self, link: usize) -> Result<(), AllocError>
+        requires stage { IsStage self.old }
+        requires link { link < length self.old.net.cables.items }
+        ensures stage { IsStage self.new }
+        ensures world { world_of self.new ≡ world_of self.old }
+        ensures room { OnOk result (LinkIs true link self.new.net → HasRoomAtEnds link self.new) }
+        ensures free { LinkIs false link self.old.net → IsOk result }
+    {
+        match self.net.is_up(link) {
+            true => self.make_room_at_ends(link),
+            false => Ok(()),
+        }
+    }
+
+    /// So it does for a link that comes up, where it is down.
+    pub(crate) fn make_room_to_bring_up(&mut self, link: usize) -> Result<(), AllocError>
+        requires stage { IsStage self.old }
+        requires link { link < length self.old.net.cables.items }
+        ensures stage { IsStage self.new }
+        ensures world { world_of self.new ≡ world_of self.old }
+        ensures room { OnOk result (LinkIs false link self.new.net → HasRoomAtEnds link self.new) }
+        ensures free { LinkIs true link self.old.net → IsOk result }
+    {
+        match self.net.is_up(link) {
+            true => Ok(()),
+            false => self.make_room_at_ends(link),
+        }
     }
 }

@@ -1,11 +1,26 @@
 //! What is pending of a system's timers.
 
+ghost use Rattle.std.specs.Prelude.{◌≡◌};
+ghost use Rattle.gptp_system.specs.Steps.{IsTimerOf};
+ghost use Rattle.gptp_acts.specs.World.{station_due};
+
 use crate::net::Net;
 use gptp_acts::Station;
 use gptp_system::{Timer, Touched};
 
+/// When a timer runs out, in ns, where it runs. None does where the system has failed.
+fn due_of(station: &Station, timer: Timer) -> Option<u64>
+    requires { IsTimerOf station.now.system timer }
+    ensures { result ≡ station_due timer station.now }
+{
+    match station.live {
+        true => station.system.due(timer),
+        false => None,
+    }
+}
+
 impl Net {
-    ghost use Rattle.std.specs.Prelude.{◌≡◌, ◌≤◌, ◌<◌, ◌+◌, ◌*◌, ◌∷◌, [], length};
+    ghost use Rattle.std.specs.Prelude.{◌≡◌, ◌≤◌, ◌<◌, ◌+◌, ◌*◌, ◌∷◌, [], length, true};
     ghost use Rattle.gptp_system.specs.Steps.{IsPortOf, IsTimerOf};
     ghost use Rattle.gptp_setup.specs.declared.timer.Timer.TheVariants as timers;
     ghost use Rattle.gptp_acts.specs.Item.{timer_port};
@@ -15,26 +30,23 @@ impl Net {
     ghost use Rattle.gptp_world.specs.Timing.{selected_from, AreSetBut};
     ghost use Rattle.gptp_acts.specs.World.{timers_from};
 
-    /// A timer of the system at a place is pending when it is due, and isn't where it doesn't run.
+    /// A timer of the system at a place is pending when it is due, and isn't where it doesn't run. That takes room only where
+    /// the system lives.
     fn set_timer(&mut self, place: usize, station: &Station, timer: Timer)
         requires place { place < self.old.pending.systems }
-        requires room { 1 ≤ self.old.pending.room }
+        requires room { station.now.live ≡ true → 1 ≤ self.old.pending.room }
         requires timer { IsTimerOf station.now.system timer }
         requires port { timer_port timer ≤ 16 }
         ensures entries { self.new.pending.entries ≡ set_timers place station.now (timer ∷ []) self.old.pending.entries }
         ensures only { OnlyEntries 1 self.old self.new }
     {
-        let due = match station.live {
-            true => station.system.due(timer),
-            false => None,
-        };
-        self.pending.set_due(place, timer, due);
+        self.pending.set_due(place, timer, due_of(station, timer));
     }
 
     /// So are the timers of a port.
     fn set_port_timers(&mut self, place: usize, station: &Station, port: u8)
         requires place { place < self.old.pending.systems }
-        requires room { 4 ≤ self.old.pending.room }
+        requires room { station.now.live ≡ true → 4 ≤ self.old.pending.room }
         requires port { IsPortOf station.now.system port }
         requires few { port ≤ 16 }
         ensures entries { self.new.pending.entries ≡ set_timers place station.now (timers.Pdelay port ∷ timers.Respond port ∷ timers.Announce port ∷ timers.Age port ∷ []) self.old.pending.entries }
@@ -50,7 +62,7 @@ impl Net {
     pub(crate) fn set_timers(&mut self, place: usize, station: &Station)
         requires place { place < self.old.pending.systems }
         requires few { length station.now.system.ports ≤ 16 }
-        requires room { 4 * length station.now.system.ports + 2 ≤ self.old.pending.room }
+        requires room { station.now.live ≡ true → 4 * length station.now.system.ports + 2 ≤ self.old.pending.room }
         ensures entries { self.new.pending.entries ≡ set_timers place station.now (timers_from 1 station.now.system.ports) self.old.pending.entries }
         ensures only { OnlyEntries (4 * length station.now.system.ports + 2) self.old self.new }
     {

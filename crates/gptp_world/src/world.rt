@@ -18,8 +18,9 @@ pub struct World<F> {
 }
 
 impl<F: Fate + Drop> World<F> {
-    ghost use Rattle.std.specs.Prelude.{◌≡◌, ◌≤◌, ◌↔◌, IsTrue, IfErr, IfNone, IfOk, IfSome, List, OnErr, OnOk, length, map, option_map, slice_get, []};
+    ghost use Rattle.std.specs.Prelude.{◌≡◌, ◌≢◌, ◌≤◌, ◌↔◌, IsTrue, IfErr, IfNone, IfOk, IfSome, List, OnErr, OnOk, length, map, option_map, slice_get, []};
     ghost use Rattle.gptp_acts.specs.Acts.{AtSystem, Refuses};
+    ghost use Rattle.gptp_acts.specs.declared.done.Refused.TheVariants.{OutOfMemory};
     ghost use Rattle.gptp_plan.specs.Allowed.{IsFitAct};
     ghost use Rattle.gptp_plan.specs.Allowed.{AreAllowed, IsAllowed};
     ghost use Rattle.gptp_acts.specs.Playing.{IsPlayed, Plays, StopsAt};
@@ -33,6 +34,7 @@ impl<F: Fate + Drop> World<F> {
     ghost use Rattle.gptp_kept.specs.Shown.{PlaysByDistance, PlaysByPaths, PlaysInTime};
     ghost use Rattle.gptp_kept.specs.Traces.{AreHeldCleanInTime, AreHeldWholeInTime, IsCleanInTime, IsHeardClean};
     ghost use Rattle.gptp_acts.specs.Views.{Follows, HasPort, HasRole, IsLiveSystem, IsNextAct, ShowsLive, rising_clocks};
+    ghost use Rattle.gptp_world.specs.Memory.{AsksForNoMemory};
     ghost use Rattle.gptp_world.specs.Used.{link_of};
 
     /// The world of a network at time 0: all its systems have started, in their order, and their first frames are in flight.
@@ -52,6 +54,9 @@ impl<F: Fate + Drop> World<F> {
     /// Refused, in this order, with `InThePast` where its time has passed, `Untimely` where something is due earlier, `NoSuch`
     /// where there is no such link or system, no such port of a timer, or no link at the port of a change, `NotDue`, and
     /// `OutOfMemory`. Then nothing changes. A frame that is due is delivered to a failed system too, and dropped there.
+    ///
+    /// A failure and other bounds of a link ask for no memory, nor does a change that finds its link or system as it should
+    /// become, or an injection where the link is down: these are never refused with `OutOfMemory`.
     pub fn act(&mut self, timed: Timed) -> Result<Done, Refused>
         requires moment { timed.at ≤ 1000000000000000 }
         requires fit { IsFitAct timed.act }
@@ -59,6 +64,7 @@ impl<F: Fate + Drop> World<F> {
         ensures done { IfOk result (WasDone F.answers timed self.old.fate self.new.fate self.old.scene self.new.scene) }
         ensures clean { IfOk result (IsHeardClean self.old.scene timed.at) }
         ensures refused { IfErr result (Refuses timed.act timed.at self.old.scene) }
+        ensures free { AsksForNoMemory timed.act self.old.scene → IfErr result (λ refused. refused ≢ OutOfMemory) }
         ensures kept { OnErr result (self.new ≡ self.old) }
     {
         self.carry_out(&timed)
@@ -72,6 +78,7 @@ impl<F: Fate + Drop> World<F> {
         ensures done { IfOk result (WasDone F.answers timed.now self.old.fate self.new.fate self.old.scene self.new.scene) }
         ensures clean { IfOk result (IsHeardClean self.old.scene timed.now.at) }
         ensures refused { IfErr result (Refuses timed.now.act timed.now.at self.old.scene) }
+        ensures free { AsksForNoMemory timed.now.act self.old.scene → IfErr result (λ refused. refused ≢ OutOfMemory) }
         ensures kept { OnErr result (self.new ≡ self.old) }
     {
         self.scene.act(timed, &mut self.fate)

@@ -163,8 +163,73 @@ fn inject_all(rt: &HostRuntime, world: &mut World<PcgFate>, octets: Octets) -> R
         if world.carry_out(&injection).is_err() {
             done = inject_again(rt, world, &injection, &before)? && done;
         }
+        done = change_nothing(world) && done;
     }
     Ok(done)
+}
+
+/// Whether a change is done, once the world has settled.
+fn change(world: &mut World<PcgFate>, change: Change) -> bool
+    requires fit { IsFitAct (Act.Change change) }
+    requires prompt { IsPromptIn world.old.scene (Act.Change change) }
+{
+    let timed = Timed {
+        at: SETTLED,
+        act: Act::Change(change),
+    };
+    world.act(timed).is_ok()
+}
+
+/// Whether a link that is up comes up, and a system that lives starts again. Neither asks for memory.
+fn change_nothing(world: &mut World<PcgFate>) -> bool {
+    let up = Change::LinkUp {
+        clock: ClockId::from(1),
+        port: 1,
+    };
+    let live = Change::Recover {
+        clock: ClockId::from(2),
+    };
+    change(world, up) && change(world, live)
+}
+
+/// Whether the link goes down, in the end.
+fn take_down(rt: &HostRuntime, world: &mut World<PcgFate>) -> Result<bool, Fail> {
+    let down = Change::LinkDown {
+        clock: ClockId::from(1),
+        port: 1,
+    };
+    if change(world, down) {
+        return Ok(true);
+    }
+    tell(rt, "link_down")?;
+    let again = Change::LinkDown {
+        clock: ClockId::from(1),
+        port: 1,
+    };
+    Ok(change(world, again))
+}
+
+/// Whether nothing comes of octets that are injected where the link is down, and of a link that goes down again. Neither
+/// asks for memory.
+fn change_nothing_below(world: &mut World<PcgFate>, octets: Octets) -> bool {
+    let inject = Change::Inject {
+        clock: ClockId::from(1),
+        port: 1,
+        octets,
+    };
+    let down = Change::LinkDown {
+        clock: ClockId::from(2),
+        port: 1,
+    };
+    change(world, inject) && change(world, down)
+}
+
+/// Whether the first system fails. That asks for no memory.
+fn fail(world: &mut World<PcgFate>) -> bool {
+    let failure = Change::Fail {
+        clock: ClockId::from(1),
+    };
+    change(world, failure)
 }
 
 /// Expects what the world has come to.
@@ -198,5 +263,19 @@ fn a_refused_allocation_leaves_the_world(rt: HostRuntime) -> Result<(), Fail> {
     let octets = frame(&rt)?;
     assert!(rt; inject_all(&rt, &mut world, octets)?);
     same(&rt, world.last_change(), SETTLED);
+    Ok(())
+}
+
+#[test]
+fn a_failure_asks_for_no_memory(rt: HostRuntime) -> Result<(), Fail> {
+    let network = build(&rt)?;
+    let mut world = begin(&rt, &network)?;
+    assert!(rt; settle(&rt, &mut world)?);
+    let octets = frame(&rt)?;
+    assert!(rt; take_down(&rt, &mut world)?);
+    assert!(rt; change_nothing_below(&mut world, octets));
+    assert!(rt; fail(&mut world));
+    assert!(rt; fail(&mut world));
+    same(&rt, world.live(ClockId::from(1)), false);
     Ok(())
 }

@@ -10,7 +10,7 @@ use Rattle.gptp_report.proofs.following.go_on.Goals as goal
 pub returns-then-until-now-clause-broken : goal.returns-then-until-now-clause-broken
 returns-then-until-now-clause-broken g c =
     let known = g.K.Sink.written c.args.sink.now in let w = c.args.world.now.scene in let fate =
-        c.args.world.now.fate in
+    c.args.world.now.fate in
     breaks_seen g.F.Fate.answers g.O.Observer.tells c.args.until fate fate w w c.args.observer.now c.args.observer.now
     (AppendsSome known known) (follows_none g.F.Fate.answers g.O.Observer.tells c.args.until fate w
     c.args.observer.now (AppendsSome known known) (none_of known []))

@@ -57,7 +57,7 @@ next_stretch-requires-clause-moment g c =
     let from = c.loop-to.from in let left = c.loop-to.left.now in let to = c.in-Some.to in
     let is : first_time (later_than from left) ≡ Some to = sym c.next_time.ensures ∙ c.in-Some.is in
     let early : to ≤ c.args.until = ends_in_time c.args.until from to left c.loop-to.world.scene
-        c.loop-to.invariant.may is
+    c.loop-to.invariant.may is
     in
     let moment = c.requires.moment in omega (arith, early, moment)
 
@@ -104,7 +104,7 @@ returns-in_err-exceeded-clause-broken g c =
     let broken = c.in_err-exceeded.ensures.broken in
     let is : first_time (later_than from left) ≡ Some to = sym c.next_time.ensures ∙ c.in-Some.is in
     let stops = subst (λ es. StopsSeen answers d from to es drawn between o broken.0) c.events_by-now.ensures broken.1
-        in
+    in
     after_error c.from_residual.result
     (seen_some answers d until c.args.options.now names (events_by until d.events) c.args.world.now.fate
     c.args.world.now.scene from to left drawn between c.loop-to.exceeded o (Appends old mid) (AppendsSome mid new)
@@ -139,7 +139,7 @@ returns-clause-passed g c =
     (Appends old new) (appends_both old mid new) c.loop-to.invariant.gone passed.0 next after o_after passed.1 exceeded
     (subst (λ es. IsPlan d from until (is_begun es) passed.0) all passed.2)
     (subst (λ es. IsSeen answers passed.0 es drawn next between after o o_after passed.1) all passed.3) passed.4
-        passed.5
+    passed.5
     none refl) c.next_stretch-2.ensures.passed
 
 pub returns-clause-broken : goal.returns-clause-broken

@@ -16,7 +16,7 @@ pub returns-in_default-clause-errors : goal.returns-in_default-clause-errors
 returns-in_default-clause-errors c =
     let events = c.args.document.now.events in
     let last = c.last_by-last.ensures ∙ ap (λ (es : List Timed). last_change (events_by c.args.from es))
-        c.events.ensures in
+    c.events.ensures in
     none_before c.args.document.now c.args.from c.args.to c.args.bound c.requires (λ span is.
     elim c.in_default.branch [
       | in_default-via-in-Some+else-saturating_add-to w ↦

@@ -40,7 +40,7 @@ returns-in_err-write_start-clause-some g c =
     (start_begun g.F.Fate.answers c.args.document.now c.args.until options c.args.fate c.in_ok-world.world.fate w
     c.in_ok-world.ensures.begun old old old new
     (subst (λ lines. AppendsSome old new (text_of lines)) (start_told options w c.in_ok-watch.watch
-        c.in_ok-watch.ensures)
+    c.in_ok-watch.ensures)
     c.in_err-write_start.ensures.some))
 
 pub returns-in_err-exceeded-clause-some : goal.returns-in_err-exceeded-clause-some
@@ -59,7 +59,7 @@ returns-in_err-exceeded-clause-some g c =
 pub returns-in_err-write_start-clause-works : goal.returns-in_err-write_start-clause-works
 returns-in_err-write_start-clause-works g c = λ other.
     let passed = err_from_is_err_and c.from_residual-in_err-write_start.result
-        c.from_residual-in_err-write_start.ensures.1 in
+    c.from_residual-in_err-write_start.ensures.1 in
     c.in_err-write_start.ensures.works (λ same.
     let is : c.in_err-write_start.field-0.0 ≡ Write = cc in
     other (passed.1 ∙ ap Err (passed.2 ∙ is)))
@@ -67,7 +67,7 @@ returns-in_err-write_start-clause-works g c = λ other.
 pub returns-in_err-exceeded-clause-works : goal.returns-in_err-exceeded-clause-works
 returns-in_err-exceeded-clause-works g c = λ other.
     let passed = err_from_is_err_and c.from_residual-in_err-exceeded.result
-        c.from_residual-in_err-exceeded.ensures.1 in
+    c.from_residual-in_err-exceeded.ensures.1 in
     c.in_err-exceeded.ensures.works (λ same.
     let is : c.in_err-exceeded.field-0.0 ≡ Write = cc in
     other (passed.1 ∙ ap Err (passed.2 ∙ is)))

@@ -24,3 +24,18 @@ loop-port-preserved c =
           (ap (λ qs. set_timers c.args.place c.args.station.now (timers_from (i + 1) qs)
           c.loop-port.self.pending.entries) (sym rest.1) ∙ before);
     }
+
+pub set_port_timers-requires-clause-room : goal.set_port_timers-requires-clause-room
+set_port_timers-requires-clause-room c = λ live.
+    let all = c.requires.room live in let so_far = c.loop-port.invariant.only.room in
+    let test = c.loop-port-test.true in let count = c.ports.ensures in omega (arith, test, count)
+
+pub set_timer-requires-clause-room : goal.set_timer-requires-clause-room
+set_timer-requires-clause-room c = λ live.
+    let all = c.requires.room live in let so_far = c.loop-port.invariant.only.room in
+    let within = c.loop-port.invariant.within in omega arith
+
+pub set_timer-requires-2-clause-room : goal.set_timer-requires-2-clause-room
+set_timer-requires-2-clause-room c = λ live.
+    let all = c.requires.room live in let so_far = c.loop-port.invariant.only.room in
+    let within = c.loop-port.invariant.within in let first = c.set_timer.ensures.only.room in omega arith

@@ -1,6 +1,7 @@
 use Rattle.std.proofs.Common.{◌≡◌, subst, sym, ◌∙◌}
 use Rattle.gptp_acts.specs.Acts.{at}
 use Rattle.gptp_world.specs.Aim.{IsAimOf}
+use Rattle.gptp_world.specs.Memory.{AsksForNoMemory}
 use Rattle.gptp_acts.specs.Sound.{IsSound}
 use Rattle.gptp_world.specs.Stage.{world_of}
 use Rattle.gptp_kept.specs.Claimed.{Claimed}
@@ -26,6 +27,11 @@ perform-requires-clause-aim g c =
 pub perform-requires-clause-room : goal.perform-requires-clause-room
 perform-requires-clause-room g c =
     room_later c.args.aim c.make_room_for.new.self c.args.timed.now.at c.in_ok-make_room_for.ensures.room
+
+pub returns-in_err-make_room_for-clause-free : goal.returns-in_err-make_room_for-clause-free
+returns-in_err-make_room_for-clause-free g c = λ asks.
+    let done = c.in_err-make_room_for.ensures.free
+    (subst (AsksForNoMemory c.args.timed.now.act) (sym c.self.view_is) asks) in absurd cc
 
 pub invariant_of-self-2 : goal.invariant_of-self-2
 invariant_of-self-2 g c =

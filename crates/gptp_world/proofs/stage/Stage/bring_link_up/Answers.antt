@@ -4,6 +4,10 @@ use Rattle.gptp_world.specs.Stage.{world_of}
 use Rattle.gptp_world.proofs.PerformingLemmas.{of_link, of_this}
 use Rattle.gptp_world.proofs.stage.Stage.bring_link_up.Goals as goal
 
+pub link_up-requires-clause-room : goal.link_up-requires-clause-room
+link_up-requires-clause-room g c =
+    c.requires.room (λ cable here. sym (c.is_up.ensures cable here) ∙ c.if-not-is_up.true)
+
 pub returns-then-not-is_up-clause-up : goal.returns-then-not-is_up-clause-up
 returns-then-not-is_up-clause-up g c =
     let w = world_of c.args.self.now in let w' = world_of c.link_up.new.self in let up = c.link_up.ensures.up in

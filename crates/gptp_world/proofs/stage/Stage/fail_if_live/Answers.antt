@@ -2,11 +2,7 @@ use Rattle.std.proofs.Common.{true, false, [], refl}
 use Rattle.gptp_acts.specs.Changing.{FailsIf}
 use Rattle.gptp_world.specs.Stage.{world_of}
 use Rattle.gptp_world.proofs.PerformingLemmas.{of_system}
-use Rattle.gptp_world.proofs.StartingLemmas.{room_for_timers}
 use Rattle.gptp_world.proofs.stage.Stage.fail_if_live.Goals as goal
-
-pub fail-requires-clause-room : goal.fail-requires-clause-room
-fail-requires-clause-room c = room_for_timers c.args.place c.args.self.now c.requires.room
 
 pub returns-then-index-clause-failed : goal.returns-then-index-clause-failed
 returns-then-index-clause-failed c =

@@ -3,6 +3,9 @@ use Rattle.gptp_world.proofs.PerformingLemmas.{injected, not_injected}
 use Rattle.gptp_world.proofs.TellingLemmas.{net_becomes}
 use Rattle.gptp_world.proofs.stage.Stage.inject.Goals as goal
 
+pub inject-requires-clause-room : goal.inject-requires-clause-room
+inject-requires-clause-room g c = c.requires.room (λ cable here. sym (c.is_up.ensures cable here) ∙ c.if-is_up.true)
+
 pub inject-requires-clause-up : goal.inject-requires-clause-up
 inject-requires-clause-up g c = λ cable here. sym (c.is_up.ensures cable here) ∙ c.if-is_up.true
 
@@ -13,7 +16,8 @@ returns-then-is_up-clause-stage g c =
 
 pub returns-then-is_up-clause-injected : goal.returns-then-is_up-clause-injected
 returns-then-is_up-clause-injected g c =
-    let frame = c.requires.room.frame in
+    let room = c.requires.room (λ cable here. sym (c.is_up.ensures cable here) ∙ c.if-is_up.true) in
+    let frame = room.frame in
     injected g.F.Fate.answers c.args.lane c.args.octets.now c.args.fate.now c.inject.new.fate c.args.self.now
     c.inject.new.self frame.cable frame.here (sym (c.is_up.ensures frame.cable frame.here) ∙ c.if-is_up.true)
     (c.inject.ensures.sent frame.cable frame.here)

@@ -1,7 +1,7 @@
 use Rattle.std.proofs.Common.{subst}
 use Rattle.gptp_world.specs.Aim.{IsAimOf}
 use Rattle.gptp_world.specs.Stage.{world_of}
-use Rattle.gptp_world.proofs.PerformingLemmas.{aim_within, timer_there, IsWithin}
+use Rattle.gptp_world.proofs.PerformingLemmas.{aim_within, free_aim, timer_there, AsksForNone, IsWithin}
 use Rattle.gptp_world.proofs.stage.Stage.make_room_for.Goals as goal
 
 pub make_room_to_hear-requires-clause-link : goal.make_room_to_hear-requires-clause-link
@@ -15,28 +15,23 @@ make_room_to_expire-requires-clause-timer c =
     timer_there c.args.act.now c.in-Timer.place c.in-Timer.timer stage
     (subst (λ aim. IsAimOf c.args.act.now (world_of stage) aim) c.in-Timer.is c.requires.aim)
 
-pub make_room_at_ends-requires-clause-link : goal.make_room_at_ends-requires-clause-link
-make_room_at_ends-requires-clause-link c =
+pub make_room_to_take_down-requires-clause-link : goal.make_room_to_take_down-requires-clause-link
+make_room_to_take_down-requires-clause-link c =
     let stage = c.args.self.now in
     subst (λ aim. IsWithin aim stage) c.in-LinkDown.is (aim_within c.args.act.now c.args.aim stage c.requires.aim)
 
-pub make_room_at_ends-requires-in-LinkUp-clause-link : goal.make_room_at_ends-requires-in-LinkUp-clause-link
-make_room_at_ends-requires-in-LinkUp-clause-link c =
+pub make_room_to_bring_up-requires-clause-link : goal.make_room_to_bring_up-requires-clause-link
+make_room_to_bring_up-requires-clause-link c =
     let stage = c.args.self.now in
     subst (λ aim. IsWithin aim stage) c.in-LinkUp.is (aim_within c.args.act.now c.args.aim stage c.requires.aim)
 
-pub make_room-requires-clause-place : goal.make_room-requires-clause-place
-make_room-requires-clause-place c =
-    let stage = c.args.self.now in
-    subst (λ aim. IsWithin aim stage) c.in-Fail.is (aim_within c.args.act.now c.args.aim stage c.requires.aim)
-
-pub make_room_to_start-requires-clause-place : goal.make_room_to_start-requires-clause-place
-make_room_to_start-requires-clause-place c =
+pub make_room_to_recover-requires-clause-place : goal.make_room_to_recover-requires-clause-place
+make_room_to_recover-requires-clause-place c =
     let stage = c.args.self.now in
     subst (λ aim. IsWithin aim stage) c.in-Recover.is (aim_within c.args.act.now c.args.aim stage c.requires.aim)
 
-pub make_room-requires-in-Priority1-clause-place : goal.make_room-requires-in-Priority1-clause-place
-make_room-requires-in-Priority1-clause-place c =
+pub make_room-requires-clause-place : goal.make_room-requires-clause-place
+make_room-requires-clause-place c =
     let stage = c.args.self.now in
     subst (λ aim. IsWithin aim stage) c.in-Priority1.is (aim_within c.args.act.now c.args.aim stage c.requires.aim)
 
@@ -44,3 +39,52 @@ pub make_room_to_inject-requires-clause-link : goal.make_room_to_inject-requires
 make_room_to_inject-requires-clause-link c =
     let stage = c.args.self.now in
     subst (λ aim. IsWithin aim stage) c.in-Inject.is (aim_within c.args.act.now c.args.aim stage c.requires.aim)
+
+pub returns-in-Arrival-clause-free : goal.returns-in-Arrival-clause-free
+returns-in-Arrival-clause-free c = λ asks.
+    let stage = c.args.self.now in
+    absurd
+    (subst (λ aim. AsksForNone aim stage) c.in-Arrival.is
+    (free_aim c.args.act.now c.args.aim stage c.requires.aim asks))
+
+pub returns-in-Timer-clause-free : goal.returns-in-Timer-clause-free
+returns-in-Timer-clause-free c = λ asks.
+    let stage = c.args.self.now in
+    absurd
+    (subst (λ aim. AsksForNone aim stage) c.in-Timer.is
+    (free_aim c.args.act.now c.args.aim stage c.requires.aim asks))
+
+pub returns-in-LinkDown-clause-free : goal.returns-in-LinkDown-clause-free
+returns-in-LinkDown-clause-free c = λ asks.
+    let stage = c.args.self.now in
+    c.make_room_to_take_down.ensures.free
+    (subst (λ aim. AsksForNone aim stage) c.in-LinkDown.is
+    (free_aim c.args.act.now c.args.aim stage c.requires.aim asks))
+
+pub returns-in-LinkUp-clause-free : goal.returns-in-LinkUp-clause-free
+returns-in-LinkUp-clause-free c = λ asks.
+    let stage = c.args.self.now in
+    c.make_room_to_bring_up.ensures.free
+    (subst (λ aim. AsksForNone aim stage) c.in-LinkUp.is
+    (free_aim c.args.act.now c.args.aim stage c.requires.aim asks))
+
+pub returns-in-Recover-clause-free : goal.returns-in-Recover-clause-free
+returns-in-Recover-clause-free c = λ asks.
+    let stage = c.args.self.now in
+    c.make_room_to_recover.ensures.free
+    (subst (λ aim. AsksForNone aim stage) c.in-Recover.is
+    (free_aim c.args.act.now c.args.aim stage c.requires.aim asks))
+
+pub returns-in-Priority1-clause-free : goal.returns-in-Priority1-clause-free
+returns-in-Priority1-clause-free c = λ asks.
+    let stage = c.args.self.now in
+    absurd
+    (subst (λ aim. AsksForNone aim stage) c.in-Priority1.is
+    (free_aim c.args.act.now c.args.aim stage c.requires.aim asks))
+
+pub returns-in-Inject-clause-free : goal.returns-in-Inject-clause-free
+returns-in-Inject-clause-free c = λ asks.
+    let stage = c.args.self.now in
+    c.make_room_to_inject.ensures.free
+    (subst (λ aim. AsksForNone aim stage) c.in-Inject.is
+    (free_aim c.args.act.now c.args.aim stage c.requires.aim asks))

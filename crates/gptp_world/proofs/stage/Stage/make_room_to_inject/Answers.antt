@@ -1,25 +1,17 @@
-use Rattle.std.proofs.Common.{◌≤◌, refl, arith}
-use Rattle.gptp_world.proofs.QueueLemmas.{on_ok}
-use Rattle.gptp_world.proofs.RoomLemmas.{one_after_another, stage_stays}
+use Rattle.std.proofs.lemmas.Result.{on_ok_weaker}
+use Rattle.gptp_world.proofs.PerformingLemmas.{never_both}
 use Rattle.gptp_world.proofs.stage.Stage.make_room_to_inject.Goals as goal
 
-pub returns-in_err-reserve-clause-stage : goal.returns-in_err-reserve-clause-stage
-returns-in_err-reserve-clause-stage c =
-    stage_stays c.args.self.now _ refl refl refl c.reserve.ensures.only c.requires.stage
+pub returns-in-true-clause-room : goal.returns-in-true-clause-room
+returns-in-true-clause-room c =
+    on_ok_weaker c.make_room_for_frame.result (λ has up. has) c.make_room_for_frame.ensures.room
 
-pub returns-clause-stage : goal.returns-clause-stage
-returns-clause-stage c =
-    stage_stays c.args.self.now _ refl refl refl
-    (one_after_another c.args.self.now.net c.reserve.new.self c.make_room_on_link.new.self c.reserve.ensures.only
-    c.make_room_on_link.ensures.only) c.requires.stage
+pub returns-in-true-clause-free : goal.returns-in-true-clause-free
+returns-in-true-clause-free c = λ down. absurd
+    (never_both c.args.self.now.net c.args.lane.link c.is_up.result c.requires.link c.is_up.ensures (rw c.in-true.is
+    down))
 
-pub returns-clause-room : goal.returns-clause-room
-returns-clause-room c =
-    let net = c.make_room_on_link.new.self in let more = c.make_room_on_link.ensures.only in
-    let made = c.in_ok-reserve.ensures in let entries = more.entries in let buffers = more.buffers in
-    let had_entries = made.entries in let had_buffers = made.buffers in
-    let entry : 1 ≤ net.pending.room = omega arith in
-    let buffer : 1 ≤ net.buffers.ready = omega arith in
-    on_ok c.make_room_on_link.result _ _
-    (λ room. record { entry = entry; buffer = buffer; frame = room c.args.lane.direction })
-    c.make_room_on_link.ensures.ok
+pub returns-in-false-clause-room : goal.returns-in-false-clause-room
+returns-in-false-clause-room c = λ up. absurd
+    (never_both c.args.self.now.net c.args.lane.link c.is_up.result c.requires.link c.is_up.ensures (rw c.in-false.is
+    up))

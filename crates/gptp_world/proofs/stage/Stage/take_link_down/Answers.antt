@@ -4,6 +4,9 @@ use Rattle.gptp_world.specs.Stage.{world_of}
 use Rattle.gptp_world.proofs.PerformingLemmas.{of_link, of_this}
 use Rattle.gptp_world.proofs.stage.Stage.take_link_down.Goals as goal
 
+pub link_down-requires-clause-room : goal.link_down-requires-clause-room
+link_down-requires-clause-room g c = c.requires.room (λ cable here. sym (c.is_up.ensures cable here) ∙ c.if-is_up.true)
+
 pub returns-then-is_up-clause-down : goal.returns-then-is_up-clause-down
 returns-then-is_up-clause-down g c =
     let w = world_of c.args.self.now in let w' = world_of c.link_down.new.self in let down = c.link_down.ensures.down in
