@@ -18,7 +18,7 @@ use Rattle.gptp_certificate_text.specs.Certificate.{IsCertificate, IsVersion}
 use Rattle.gptp_certificate_text.specs.CertificateText.{certificate_text, end_text, entry_text, far_words, front_text, head_text, parent_words, port_words, spelled, system_words}
 use Rattle.gptp_certificate_text.specs.Entries.{Entry, SystemEntry, PortEntry, FollowEach, IsReadable, IsReadableEntry, IsReadableLink, IsReadableParent, StandInOrder, clock_of, ends_far, entries_of, is_far, number_of, system_entry}
 use Rattle.gptp_certificate_text.specs.Forms.{Form, SystemForm, FarForm, PortForm, FitsHere, HasForm, ParentWords, PortWords, FarWords, SystemWords, form_text}
-use Rattle.gptp_certificate_text.specs.Parsing.{Fails, FailsBehind, RestFails}
+use Rattle.gptp_certificate_text.specs.Parsing.{Fails, FailsBehind, FailsFrom, IsFailingPart, LacksHead, RestFails}
 use Rattle.gptp_certificate_text.proofs.LineLemmas.{entry_words, one_form}
 use Rattle.gptp_certificate_text.proofs.OrderLemmas.{all_behind}
 use Rattle.gptp_certificate_text.proofs.ReadingLemmas.{entry_lacks_feed, head_lacks_feed, line_lacks_feed}
@@ -391,19 +391,70 @@ one_fault_behind text f g a b same (inr goes) =
     sym (one_fault_of a.version g f b.before a.before b.rest a.rest a.stand.readable a.stand.order
     (subst (λ v. RestFails v b.before b.rest g) (sym same) b.fails) a.fails goes)
 
+-- a text that fails behind a head line has that of its version
+has_head : (text : List ℕ) (f : CertificateFault) → FailsBehind text f → LacksHead text → ⊥
+has_head text f b lacks =
+    lacks b.version (entries_text b.before ++ b.rest) b.is_version
+    (b.stand.split ∙ head_first b.version b.before b.rest)
+
+-- of two failures of a text one goes on with the other's lines
+abbrev GoOn : (text : List ℕ) (f g : CertificateFault) → FailsBehind text f → FailsBehind text g → Type 0
+GoOn text f g a b = GoesOn a.before b.before a.rest b.rest ⊎ GoesOn b.before a.before b.rest a.rest
+
+both_behind : (text : List ℕ) (f g : CertificateFault) (a : FailsBehind text f) (b : FailsBehind text g)
+    → (a.version ≡ b.version) × GoOn text f g a b
+both_behind text f g a b =
+    let behind = behind_head a.version b.version a.before b.before a.rest b.rest a.is_version b.is_version
+    (sym a.stand.split ∙ b.stand.split) in (
+      behind.0,
+      fronts a.version b.version a.before b.before a.rest b.rest a.stand.readable b.stand.readable behind.1,
+    )
+
 pub one_fault : (text : List ℕ) (f g : CertificateFault) → Fails text f → Fails text g → f ≡ g
 one_fault text f g (inl (d, lacks)) (inl (e, also)) = d ∙ sym e
-one_fault text f g (inl (d, lacks)) (inr b) =
-    absurd (lacks b.version (entries_text b.before ++ b.rest) b.is_version
-    (b.stand.split ∙ head_first b.version b.before b.rest))
-one_fault text f g (inr a) (inl (e, lacks)) =
-    absurd (lacks a.version (entries_text a.before ++ a.rest) a.is_version
-    (a.stand.split ∙ head_first a.version a.before a.rest))
+one_fault text f g (inl (d, lacks)) (inr b) = absurd (has_head text g b lacks)
+one_fault text f g (inr a) (inl (e, lacks)) = absurd (has_head text f a lacks)
 one_fault text f g (inr a) (inr b) =
-    let behind = behind_head a.version b.version a.before b.before a.rest b.rest a.is_version b.is_version
-    (sym a.stand.split ∙ b.stand.split) in
-    one_fault_behind text f g a b behind.0 (fronts a.version b.version a.before b.before a.rest b.rest a.stand.readable
-    b.stand.readable behind.1)
+    let both = both_behind text f g a b in
+    one_fault_behind text f g a b both.0 both.1
+
+-- ---- where a text fails
+
+-- the rest of the one that goes on is that of the other
+same_rest : (v : ℕ) (fault : CertificateFault) (xs ys : List Entry) (x y : List ℕ)
+    → AllByRecursion (IsReadableEntry v) ys → StandInOrder ys → RestFails v xs x fault → GoesOn xs ys x y → x ≡ y
+same_rest v fault xs ys x y readable order fails goes =
+    (at_fault v xs ys goes.0 x y fault readable order goes.1 goes.2 fails).1
+
+one_rest : (text : List ℕ) (f g : CertificateFault) (a : FailsBehind text f) (b : FailsBehind text g)
+    → a.version ≡ b.version → GoOn text f g a b → a.rest ≡ b.rest
+one_rest text f g a b same (inl goes) =
+    same_rest b.version f a.before b.before a.rest b.rest b.stand.readable b.stand.order
+    (subst (λ v. RestFails v a.before a.rest f) same a.fails) goes
+one_rest text f g a b same (inr goes) =
+    sym (same_rest a.version g b.before a.before b.rest a.rest a.stand.readable a.stand.order
+    (subst (λ v. RestFails v b.before b.rest g) (sym same) b.fails) goes)
+
+one_part_of : (rest p q : List ℕ) → IsFailingPart rest p → IsFailingPart rest q → p ≡ q
+one_part_of rest p q (inl e) (inl f) = append_cancel_left end_text p q (sym e ∙ f)
+one_part_of rest p q (inl e) (inr (goes_on, f)) = absurd (goes_on p e)
+one_part_of rest p q (inr (goes_on, e)) (inl f) = absurd (goes_on q f)
+one_part_of rest p q (inr (_, e)) (inr (_, f)) = e ∙ sym f
+
+pub one_part : (text : List ℕ) (f g : CertificateFault) (p q : List ℕ) → FailsFrom text f p → FailsFrom text g q
+    → p ≡ q
+one_part text f g p q (inl (_, _, e)) (inl (_, _, h)) = e ∙ sym h
+one_part text f g p q (inl (_, lacks, _)) (inr (b, _)) = absurd (has_head text g b lacks)
+one_part text f g p q (inr (a, _)) (inl (_, lacks, _)) = absurd (has_head text f a lacks)
+one_part text f g p q (inr (a, x)) (inr (b, y)) =
+    let both = both_behind text f g a b in
+    one_part_of b.rest p q (subst (λ (rest : List ℕ). IsFailingPart rest p) (one_rest text f g a b both.0 both.1) x) y
+
+-- what fails from somewhere fails
+pub fails_somewhere : (text : List ℕ) (fault : CertificateFault) (part : List ℕ) → FailsFrom text fault part
+    → Fails text fault
+fails_somewhere text fault part (inl (e, lacks, _)) = inl (e, lacks)
+fails_somewhere text fault part (inr (b, _)) = inr b
 
 same_ports : (c d : ℕ) (ps qs : List PortLine) (xs ys : List SystemLine)
     → map (PortEntry c) ps ++ entries_of xs ≡ map (PortEntry d) qs ++ entries_of ys → (ps ≡ qs)

@@ -6,7 +6,7 @@ ghost use Rattle.gptp_certificate_text.specs.declared.fault.CertificateFault.{Ce
 ghost use Rattle.gptp_certificate_text.specs.Certificate.{IsCertificate, IsVersion};
 ghost use Rattle.gptp_certificate_text.specs.CertificateText.{certificate_text};
 ghost use Rattle.gptp_certificate_text.specs.Entries.{IsReadable};
-ghost use Rattle.gptp_certificate_text.specs.Parsing.{Fails};
+ghost use Rattle.gptp_certificate_text.specs.Parsing.{Fails, FailsFrom};
 
 /// A text that fails is the text of no certificate that can be read.
 pub fn a_text_that_fails_is_no_certificates()
@@ -19,6 +19,12 @@ pub fn a_text_that_fails_is_no_certificates()
 pub fn a_text_fails_in_one_way()
     ensures { (text : List ℕ) (first second : CertificateFault) → Fails text first → Fails text second
         → first ≡ second }
+{}
+
+/// A text fails at one place at most.
+pub fn a_text_fails_at_one_place()
+    ensures { (text : List ℕ) (first second : CertificateFault) (part other : List ℕ)
+        → FailsFrom text first part → FailsFrom text second other → part ≡ other }
 {}
 
 /// Two certificates that can be read differ in their texts: so what was printed is read back.

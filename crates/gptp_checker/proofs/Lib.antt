@@ -8,3 +8,4 @@ pub mod LawLemmas
 pub mod ReadableLemmas
 pub mod LocatedLemmas
 pub mod EndLemmas
+pub mod OneLocationLemmas

@@ -9,12 +9,21 @@ ghost use Rattle.gptp_certificate_text.specs.Certificate.{IsVersion};
 ghost use Rattle.gptp_certificate_text.specs.CertificateText.{certificate_text};
 ghost use Rattle.gptp_certificate_text.specs.Entries.{IsReadable};
 ghost use Rattle.gptp_checker.specs.Faults.{IsAccepted, IsFirstFault};
+ghost use Rattle.gptp_checker.specs.Located.{IsLocation};
 ghost use Rattle.gptp_checker.specs.declared.fault.Fault.{Fault};
+ghost use Rattle.gptp_checker.specs.declared.location.Location.{Location};
 
 /// A certificate has one first fault at most.
 pub fn a_certificate_has_one_first_fault()
     ensures { (version : ℕ) (g : Snapshot) (lines : List SystemLine) (one other : Fault)
         → IsFirstFault version g lines one → IsFirstFault version g lines other → one ≡ other }
+{}
+
+/// A fault of a certificate has one first place at most.
+pub fn a_fault_has_one_place()
+    ensures { (fault : Fault) (g : Snapshot) (lines : List SystemLine) (one other : Location) → IsWellFormed g
+        → IsRising (line_clocks lines)
+        → IsLocation fault g lines one → IsLocation fault g lines other → one ≡ other }
 {}
 
 /// The choice that a network settles at, in version 1 with all steps below 255, has no fault.

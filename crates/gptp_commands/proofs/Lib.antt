@@ -8,6 +8,7 @@ pub mod CompareLemmas
 pub mod LawLemmas
 pub mod VerdictLemmas
 pub mod OneRunLemmas
+pub mod OnePlaceLemmas
 pub mod CertifiedLemmas
 pub mod CommandLemmas
 pub mod OptionLemmas

@@ -60,7 +60,7 @@ abbrev content : ℕ → List SystemLine → CertificateContent
 content version lines = record { version = version; lines = lines }
 
 -- two certificates of one text are one
-same_content : (c e : CertificateContent) → (c.version ≡ e.version) × (c.lines ≡ e.lines) → c ≡ e
+pub same_content : (c e : CertificateContent) → (c.version ≡ e.version) × (c.lines ≡ e.lines) → c ≡ e
 same_content c e (version, lines) =
     ap (λ (v : ℕ). content v c.lines) version ∙ ap (λ (ls : List SystemLine). content e.version ls) lines
 

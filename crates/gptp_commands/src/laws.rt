@@ -9,6 +9,7 @@ ghost use Rattle.gptp_commands.specs.Certified.{AsksAtRest, AsksTheSame, EndsAcc
 ghost use Rattle.gptp_commands.specs.CheckText.{CheckText};
 ghost use Rattle.gptp_commands.specs.CompareText.{BeginsCompare, CompareText};
 ghost use Rattle.gptp_commands.specs.RunText.{BeginsRun, RunText};
+ghost use Rattle.gptp_commands.specs.WhereText.{WhereText};
 
 /// An input has one text and one status at most. `compare_lines` finds them wherever memory and the
 /// devices serve.
@@ -30,6 +31,14 @@ pub fn a_comparison_begins_so()
 pub fn one_check()
     ensures { (until : Option ℕ) (certificate document : List ℕ) (a b : List (List ℕ)) (s t : Status)
         → CheckText until certificate document a s → CheckText until certificate document b t → (a ≡ b) × (s ≡ t) }
+{}
+
+/// A document and a certificate have one text with the place at which the certificate first fails, and one status, at
+/// most, for the network at the time that is asked for. [`check_where`](crate::check::check_where) finds them wherever
+/// memory and the devices serve.
+pub fn one_place()
+    ensures { (until : Option ℕ) (certificate document : List ℕ) (a b : List (List ℕ)) (s t : Status)
+        → WhereText until certificate document a s → WhereText until certificate document b t → (a ≡ b) × (s ≡ t) }
 {}
 
 /// A document and the options of its run have one text and one status at most. [`run`](crate::run::run) finds them

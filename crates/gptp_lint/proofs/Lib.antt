@@ -10,3 +10,4 @@ mod BoundLemmas
 mod PassedLemmas
 mod TextLemmas
 mod FoundLemmas
+mod EscapedLemmas

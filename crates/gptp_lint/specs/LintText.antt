@@ -1,23 +1,21 @@
 -- What `lint` writes for a document (profile).
-use Rattle.std.specs.Prelude.{◌≡◌, ◌==◌, ℕ, not, Bool, codes, List, [], ◌∷◌, ◌++◌, length, map, Option, Some, None}
+use Rattle.std.specs.Prelude.{◌≡◌, ◌==◌, ℕ, not, Bool, codes, List, ◌++◌, length, map, Option, Some, None}
 use Rattle.std.specs.Fmt.{decimal}
 use Rattle.gptp_network.specs.Faults as documents
 use Rattle.gptp_network.specs.declared.fault.DocumentFault.{DocumentFault}
-use Rattle.gptp_spelling.specs.Digits.{or_none}
+use Rattle.gptp_spelling.specs.Digits.{clock_text, identity_text, or_none}
 use Rattle.gptp_spelling.specs.Lines.{text_of}
+use Rattle.gptp_lint.specs.declared.components.Apart.{Apart}
+use Rattle.gptp_lint.specs.declared.components.Nobody.{Nobody}
 use Rattle.gptp_lint.specs.declared.findings.CalmTime.{CalmTime}
 use Rattle.gptp_lint.specs.declared.findings.Findings.{Findings}
 use Rattle.gptp_lint.specs.declared.trouble.Long.{Long}
 use Rattle.gptp_lint.specs.declared.trouble.Lossy.{Lossy}
+use Rattle.gptp_lint.specs.Unread.{UnreadKey, line_words, unread_line}
 
 -- the line of a document that is refused: the fault, and behind it where it is and why it is one
 abbrev pub refused_line : DocumentFault → List ℕ → List ℕ
 refused_line fault place = codes "refused " ++ documents.fault_text fault ++ place
-
--- the line of the header of a member, where it has one
-abbrev pub line_words : Option ℕ → List ℕ
-line_words (Some line) = codes " line " ++ decimal line
-line_words None = []
 
 -- the line of a link that isn't good at some time
 abbrev pub long_line : ℕ → Option ℕ → Long → List ℕ
@@ -39,25 +37,42 @@ calm_words None = codes " no"
 abbrev pub calm_line : CalmTime → List ℕ
 calm_line t = codes "calm " ++ decimal t.at ++ calm_words t.bound
 
--- some lines, whatever they say
-abbrev pub AppendsLines : List ℕ → List ℕ → Type 0
-AppendsLines old new = (lines : List (List ℕ)) × (new ≡ old ++ text_of lines)
+-- the line of a system that no link names
+abbrev pub unlinked_line : ℕ → List ℕ
+unlinked_line clock = codes "unlinked " ++ clock_text clock
+
+-- that of a time after which there are several components
+abbrev pub apart_line : Apart → List ℕ
+apart_line a = codes "apart " ++ decimal a.at ++ codes " components " ++ decimal a.components
+
+-- that of two systems between which a clock decides
+abbrev pub chance_line : ℕ × ℕ → List ℕ
+chance_line two = codes "chance " ++ identity_text two.0 ++ codes " " ++ identity_text two.1
+
+-- that of a best that can't be grandmaster
+abbrev pub nobody_line : Nobody → List ℕ
+nobody_line n = codes "nobody " ++ decimal n.at ++ codes " " ++ identity_text n.best
+
+-- the lines of what isn't asked of single links or times
+abbrev pub other_lines : Findings → List (List ℕ)
+other_lines f =
+    map unlinked_line f.unlinked.items ++ map apart_line f.components.apart.items
+    ++ map chance_line f.components.chance.items ++ map nobody_line f.components.nobody.items
 
 -- all lines but those of the times
-abbrev pub found_lines : ℕ → Findings → List (List ℕ) → List (List ℕ) → (ℕ → Option ℕ) → List (List ℕ)
-found_lines threshold f unread others header =
-    unread ++ map (λ (l : Long). long_line threshold (header l.link) l) f.long.items
-    ++ map (λ (l : Lossy). lossy_line (header l.link) l) f.lossy.items ++ others
+abbrev pub found_lines : ℕ → Findings → List UnreadKey → (ℕ → Option ℕ) → List (List ℕ)
+found_lines threshold f unread header =
+    map unread_line unread ++ map (λ (l : Long). long_line threshold (header l.link) l) f.long.items
+    ++ map (λ (l : Lossy). lossy_line (header l.link) l) f.lossy.items ++ other_lines f
 
 -- The findings of a document of this threshold: the keys that aren't read, the links that are too long or lose frames,
 -- each with the line of its header, the other findings, and the times; and whether there is a line but those of the
--- times.
+-- times. There is no other line: which keys aren't read, and the lines of headers, are left open here.
 pub record AreLines (threshold : ℕ) (f : Findings) (lines : List (List ℕ)) (found : Bool) : Type 0 where
-  pub unread : List (List ℕ)
-  pub others : List (List ℕ)
+  pub unread : List UnreadKey
   pub header : ℕ → Option ℕ
-  pub lines_are : lines ≡ found_lines threshold f unread others header ++ map calm_line f.calm.items
-  pub found_is : found ≡ not (length (found_lines threshold f unread others header) == 0)
+  pub lines_are : lines ≡ found_lines threshold f unread header ++ map calm_line f.calm.items
+  pub found_is : found ≡ not (length (found_lines threshold f unread header) == 0)
 
 abbrev pub AppendsFindings : ℕ → Findings → List ℕ → List ℕ → Bool → Type 0
 AppendsFindings threshold f old new found =

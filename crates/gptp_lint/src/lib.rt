@@ -9,7 +9,6 @@ mod escaped;
 mod findings;
 mod graph;
 mod keys;
-mod lines;
 mod nearest;
 mod nodes;
 mod outline;

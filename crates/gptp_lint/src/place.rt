@@ -1,5 +1,8 @@
 //! Where something stands in a document.
 
+ghost use Rattle.std.specs.Prelude.{◌≡◌};
+ghost use Rattle.gptp_lint.specs.Unread.{section_name};
+
 use std::fmt;
 
 /// A section that is an array, by its order in a document.
@@ -12,7 +15,9 @@ pub(crate) enum Section {
 
 impl Section {
     /// Its key.
-    pub(crate) fn name(self) -> &'static str {
+    pub(crate) fn name(self) -> &'static str
+        ensures { result.now ≡ section_name self }
+    {
         match self {
             Section::System => "system",
             Section::Link => "link",
@@ -54,7 +59,7 @@ pub(crate) struct LineWords(pub Option<usize>);
 
 impl fmt::Display for LineWords {
     ghost use Rattle.std.specs.Prelude.{Some};
-    ghost use Rattle.gptp_lint.specs.LintText.{line_words};
+    ghost use Rattle.gptp_lint.specs.Unread.{line_words};
 
     ghost output = { λ words. Some (line_words words.0) };
 
@@ -74,6 +79,11 @@ pub(crate) struct PlaceWords {
 }
 
 impl fmt::Display for PlaceWords {
+    ghost use Rattle.std.specs.Prelude.{Some};
+    ghost use Rattle.gptp_lint.specs.Unread.{place_words};
+
+    ghost output = { λ words. Some (place_words words.place words.line) };
+
     fn fmt<W: fmt::Write>(&self, f: &mut fmt::Formatter<W>) -> fmt::Result {
         match self.place {
             Place::Top => f.write_str("top"),

@@ -2,17 +2,17 @@
 
 ghost use Rattle.std.specs.Prelude.{◌≡◌, ◌++◌, ◌∷◌, ◌↔◌, [], Bool, List, ℕ, IfOk, IsTrue, OnOk, map, slice_get, string_bytes};
 ghost use Rattle.gptp_spelling.specs.Lines.{text_of};
-ghost use Rattle.gptp_lint.specs.LintText.{AppendsFindings, AppendsLines, calm_line, long_line, lossy_line};
+ghost use Rattle.gptp_lint.specs.LintText.{AppendsFindings, apart_line, calm_line, chance_line, long_line, lossy_line, nobody_line, other_lines, unlinked_line};
+ghost use Rattle.gptp_lint.specs.Unread.{AppendsUnread};
 
-use crate::components::Components;
+use crate::components::{Apart, Nobody};
 use crate::findings::{CalmTime, Findings};
-use crate::lines::push_line;
 use crate::outline::{Outline, outline_of};
 use crate::place::LineWords;
 use crate::trouble::{Long, Lossy};
 use crate::unknown::write_unknown_keys;
 use gptp_spelling::{ClockDigits, IdentityDigits};
-use gptp_vector::ClockId;
+use gptp_vector::{ClockId, Identity};
 use std::alloc::{AllocError, Global};
 use std::fmt;
 
@@ -110,62 +110,88 @@ fn write_stretches(
     Ok(())
 }
 
+/// Appends the line of a system that no link names.
+fn write_unlinked_line(text: &mut String, clock: ClockId) -> Result<(), AllocError>
+    ensures { OnOk result (string_bytes text.new ≡ string_bytes text.old ++ (unlinked_line clock ++ 10 ∷ [])) }
+{
+    writeln!(text, "unlinked {}", ClockDigits(clock))
+}
+
 /// Appends the lines of systems that no link names.
-fn write_unlinked(alloc: Global, text: &mut String, clocks: &[ClockId]) -> Result<(), AllocError>
-    ensures { OnOk result (AppendsLines (string_bytes text.old) (string_bytes text.new)) }
+fn write_unlinked(text: &mut String, clocks: &[ClockId]) -> Result<(), AllocError>
+    ensures { OnOk result (string_bytes text.new ≡ string_bytes text.old ++ text_of (map unlinked_line clocks.now)) }
 {
     for clock in clocks {
-        let line = format!(in alloc; "unlinked {}", ClockDigits(*clock))?;
-        push_line(text, line.as_str())?;
+        write_unlinked_line(text, *clock)?;
     }
     Ok(())
 }
 
-/// Appends the lines of times at which there are several components.
-fn write_apart(alloc: Global, text: &mut String, components: &Components) -> Result<(), AllocError>
-    ensures { OnOk result (AppendsLines (string_bytes text.old) (string_bytes text.new)) }
+/// Appends the line of a time after which there are several components.
+fn write_apart_line(text: &mut String, apart: &Apart) -> Result<(), AllocError>
+    ensures { OnOk result (string_bytes text.new ≡ string_bytes text.old ++ (apart_line apart.now ++ 10 ∷ [])) }
 {
-    for apart in &components.apart {
-        let line = format!(in alloc; "apart {} components {}", apart.at, apart.components)?;
-        push_line(text, line.as_str())?;
+    writeln!(text, "apart {} components {}", apart.at, apart.components)
+}
+
+/// Appends the lines of times after which there are several components.
+fn write_apart(text: &mut String, times: &[Apart]) -> Result<(), AllocError>
+    ensures { OnOk result (string_bytes text.new ≡ string_bytes text.old ++ text_of (map apart_line times.now)) }
+{
+    for time in times {
+        write_apart_line(text, time)?;
     }
     Ok(())
+}
+
+/// Appends the line of two systems between which a clock decides.
+fn write_chance_line(text: &mut String, two: &(Identity, Identity)) -> Result<(), AllocError>
+    ensures { OnOk result (string_bytes text.new ≡ string_bytes text.old ++ (chance_line two.now ++ 10 ∷ [])) }
+{
+    let (one, other) = *two;
+    writeln!(
+        text,
+        "chance {} {}",
+        IdentityDigits(one),
+        IdentityDigits(other)
+    )
 }
 
 /// Appends the lines of systems between which a clock decides.
-fn write_chance(alloc: Global, text: &mut String, components: &Components) -> Result<(), AllocError>
-    ensures { OnOk result (AppendsLines (string_bytes text.old) (string_bytes text.new)) }
+fn write_chance(text: &mut String, pairs: &[(Identity, Identity)]) -> Result<(), AllocError>
+    ensures { OnOk result (string_bytes text.new ≡ string_bytes text.old ++ text_of (map chance_line pairs.now)) }
 {
-    for (one, other) in &components.chance {
-        let line = format!(in alloc;
-            "chance {} {}",
-            IdentityDigits(*one),
-            IdentityDigits(*other)
-        )?;
-        push_line(text, line.as_str())?;
+    for two in pairs {
+        write_chance_line(text, two)?;
     }
     Ok(())
 }
 
-/// Appends the lines of bests that can't be grandmaster.
-fn write_nobody(alloc: Global, text: &mut String, components: &Components) -> Result<(), AllocError>
-    ensures { OnOk result (AppendsLines (string_bytes text.old) (string_bytes text.new)) }
+/// Appends the line of a best that can't be grandmaster.
+fn write_nobody_line(text: &mut String, nobody: &Nobody) -> Result<(), AllocError>
+    ensures { OnOk result (string_bytes text.new ≡ string_bytes text.old ++ (nobody_line nobody.now ++ 10 ∷ [])) }
 {
-    for nobody in &components.nobody {
-        let line = format!(in alloc; "nobody {} {}", nobody.at, IdentityDigits(nobody.best))?;
-        push_line(text, line.as_str())?;
+    writeln!(text, "nobody {} {}", nobody.at, IdentityDigits(nobody.best))
+}
+
+/// Appends the lines of bests that can't be grandmaster.
+fn write_nobody(text: &mut String, times: &[Nobody]) -> Result<(), AllocError>
+    ensures { OnOk result (string_bytes text.new ≡ string_bytes text.old ++ text_of (map nobody_line times.now)) }
+{
+    for time in times {
+        write_nobody_line(text, time)?;
     }
     Ok(())
 }
 
 /// Appends the lines of what isn't asked of single links or times.
-fn write_others(alloc: Global, text: &mut String, findings: &Findings) -> Result<(), AllocError>
-    ensures { OnOk result (AppendsLines (string_bytes text.old) (string_bytes text.new)) }
+fn write_others(text: &mut String, findings: &Findings) -> Result<(), AllocError>
+    ensures { OnOk result (string_bytes text.new ≡ string_bytes text.old ++ text_of (other_lines findings.now)) }
 {
-    write_unlinked(alloc, text, &findings.unlinked)?;
-    write_apart(alloc, text, &findings.components)?;
-    write_chance(alloc, text, &findings.components)?;
-    write_nobody(alloc, text, &findings.components)
+    write_unlinked(text, &findings.unlinked)?;
+    write_apart(text, &findings.components.apart)?;
+    write_chance(text, &findings.components.chance)?;
+    write_nobody(text, &findings.components.nobody)
 }
 
 /// Appends the line of a time.
@@ -195,7 +221,7 @@ fn write_unread(
     input: &[u8],
     outline: &Outline,
 ) -> Result<(), AllocError>
-    ensures { OnOk result (AppendsLines (string_bytes text.old) (string_bytes text.new)) }
+    ensures { OnOk result (AppendsUnread (string_bytes text.old) (string_bytes text.new)) }
 {
     match toml::table_from_slice(alloc, input) {
         Ok(document) => write_unknown_keys(alloc, text, &document, outline),
@@ -225,7 +251,7 @@ pub fn write_findings(
     write_unread(alloc, text, input, &outline)?;
     write_longs(text, threshold, &outline, &findings.long)?;
     write_stretches(text, &outline, &findings.lossy)?;
-    write_others(alloc, text, findings)?;
+    write_others(text, findings)?;
     let found = before < text.as_bytes().len();
     write_calm_times(text, &findings.calm)?;
     Ok(found)

@@ -1,11 +1,10 @@
 //! Keys that aren't read.
 
-ghost use Rattle.std.specs.Prelude.{◌≡◌, OnOk, string_bytes};
-ghost use Rattle.gptp_lint.specs.LintText.{AppendsLines};
+ghost use Rattle.std.specs.Prelude.{OnOk, string_bytes};
+ghost use Rattle.gptp_lint.specs.Unread.{AppendsUnread};
 
 use crate::escaped::Escaped;
 use crate::keys::{is_known, keys_at, table_at};
-use crate::lines::push_line;
 use crate::nearest::{is_nearer, near};
 use crate::outline::{Entry, Outline, outline_of};
 use crate::place::{Place, PlaceWords};
@@ -90,20 +89,40 @@ fn meant(document: &Table, place: Place, key: &[u8]) -> Option<&'static str> {
     found
 }
 
-/// Appends what is told of a key that isn't read.
+/// Appends the line of a key that isn't read.
 fn write_unknown(
-    line: &mut String,
+    text: &mut String,
     document: &Table,
     outline: &Outline,
     entry: &Entry,
-) -> Result<(), AllocError> {
+) -> Result<(), AllocError>
+    ensures { OnOk result (AppendsUnread (string_bytes text.old) (string_bytes text.new)) }
+{
     let place = PlaceWords {
         place: entry.place,
         line: outline.line(entry.place),
     };
-    write!(line, "unknown {place} key {}", Escaped(&entry.key))?;
+    let key = Escaped(&entry.key);
     match meant(document, entry.place, &entry.key) {
-        Some(known) => write!(line, " near {known}"),
+        Some(known) => {
+            let known = Escaped(known.as_bytes());
+            writeln!(text, "unknown {place} key {key} near {known}")
+        }
+        None => writeln!(text, "unknown {place} key {key}"),
+    }
+}
+
+/// Appends the line of the key of this number among all keys of the text, if there is one.
+fn write_entry(
+    text: &mut String,
+    document: &Table,
+    outline: &Outline,
+    number: usize,
+) -> Result<(), AllocError>
+    ensures { OnOk result (AppendsUnread (string_bytes text.old) (string_bytes text.new)) }
+{
+    match outline.entries.get(number) {
+        Some(entry) => write_unknown(text, document, outline, entry),
         None => Ok(()),
     }
 }
@@ -115,16 +134,12 @@ pub(crate) fn write_unknown_keys(
     document: &Table,
     outline: &Outline,
 ) -> Result<(), AllocError>
-    ensures { OnOk result (AppendsLines (string_bytes text.old) (string_bytes text.new)) }
+    ensures { OnOk result (AppendsUnread (string_bytes text.old) (string_bytes text.new)) }
 {
     let unknown = unknown_keys(alloc, document, outline)?;
     let firsts = firsts(alloc, &unknown)?;
     for (_, number) in &firsts {
-        let mut line = String::new(alloc);
-        if let Some(entry) = outline.entries.get(*number) {
-            write_unknown(&mut line, document, outline, entry)?;
-        }
-        push_line(text, line.as_str())?;
+        write_entry(text, document, outline, *number)?;
     }
     Ok(())
 }

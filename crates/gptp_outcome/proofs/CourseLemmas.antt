@@ -108,7 +108,7 @@ module _ {F : Type 0} (answers : Bounds → ℕ → F → Option ℕ → F → T
       )
 
   -- what is next by a time isn't left out
-  not_left : (until : ℕ) (one : Timed) (w : WorldState) → IsNextAct w one → one.at ≤ until
+  pub not_left : (until : ℕ) (one : Timed) (w : WorldState) → IsNextAct w one → one.at ≤ until
       → NothingBefore (until + 1) w.net.pending → ⊥
   not_left until one w next early none =
       let late = next_not_before (until + 1) w.net.pending one.at next.item next.next none in omega arith

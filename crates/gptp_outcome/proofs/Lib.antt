@@ -8,3 +8,4 @@ pub mod LineLemmas
 pub mod RunLemmas
 pub mod MeantLemmas
 pub mod SoFarLemmas
+pub mod TransitionLemmas

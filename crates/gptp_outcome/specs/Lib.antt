@@ -4,3 +4,4 @@ pub mod ActLaws
 pub mod CourseLaws
 pub mod RunLaws
 pub mod SoFar
+pub mod TransitionLaws

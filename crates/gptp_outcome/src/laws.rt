@@ -5,6 +5,7 @@ ghost use Rattle.gptp_outcome.specs.CourseLaws.{AdvancesOnce, BeginsOnce, NextOn
 ghost use Rattle.gptp_outcome.specs.RunLaws.{LeadsOnce, MeantIsNamed, PlayedIsNamed, PlaysOnce, ReportsOnce, StatesOnce};
 ghost use Rattle.gptp_outcome.specs.SoFar.{LeadsBeginSo};
 ghost use Rattle.gptp_outcome.specs.StepLaws.{StepsOnce};
+ghost use Rattle.gptp_outcome.specs.TransitionLaws.{CoursesAreNamed, CoursesOnce};
 
 use gptp_links::Fate;
 
@@ -40,6 +41,13 @@ pub fn worlds_go_on_in_one_way<F: Fate>()
     ensures begins { BeginsOnce F.answers }
     ensures advances { AdvancesOnce F.answers }
     ensures stops { StopsOnTheWay F.answers }
+{}
+
+/// What happens in a world with events up to a time, act by act with the worlds between, follows from the world, the
+/// events, and the state of a fate that answers in one way; and names go on to mean one thing.
+pub fn worlds_unfold_in_one_way<F: Fate>()
+    ensures courses { CoursesOnce F.answers }
+    ensures named { CoursesAreNamed F.answers }
 {}
 
 /// In the world that the network of a document makes names mean one thing, and so they do in the world that the

@@ -7,6 +7,7 @@ pub mod PlaceLemmas
 pub mod StandLemmas
 pub mod EachLemmas
 pub mod SameLemmas
+pub mod StillLemmas
 pub mod ActLemmas
 pub mod MeasuredLemmas
 pub mod ChainLemmas

@@ -134,3 +134,10 @@ cleared_more (x ∷ xs) zero d below = refl
 cleared_more (x ∷ xs) (suc i) d below =
     let e : suc i + 1 ≡ suc (i + 1) = omega arith in
     rw e (ap (λ rest. without_error x ∷ rest) (cleared_more xs i d (omega arith)))
+
+-- ---- what stands at a place
+
+pub at_place : (xs : List Watched) (place : ℕ) → place < length xs → (x : Watched) × (slice_get xs place ≡ Some x)
+at_place [] place below = absurd (omega (arith, below))
+at_place (x ∷ xs) zero below = (x, refl)
+at_place (x ∷ xs) (suc place) below = at_place xs place (omega (arith, below))

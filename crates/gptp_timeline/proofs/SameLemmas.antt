@@ -1,8 +1,10 @@
 -- What is as it was has no lines.
 use Rattle.std.proofs.lemmas.Option.{same_Some}
-use Rattle.std.proofs.Common.{◌≡◌, ◌+◌, ◌==◌, append-nil, ℕ, zero, suc, Bool, true, false, List, [], ◌∷◌, ◌++◌, Option, Some, None, slice_get, refl, sym, ap, ◌∙◌, arith}
+use Rattle.std.proofs.Common.{◌≡◌, ◌&&◌, ◌+◌, ◌==◌, append-nil, ℕ, zero, suc, Bool, true, false, List, [], ◌∷◌, ◌++◌, Option, Some, None, slice_get, refl, sym, ap, ◌∙◌, arith}
 use Rattle.std.specs.List.{flat_map}
 use Rattle.std.proofs.lemmas.Bool.Decides.{nat_tests}
+use Rattle.gptp_roles.specs.declared.role.Role.{Role}
+use Rattle.gptp_roles.specs.declared.role.Role.TheVariants.{Disabled, Master, Slave, Passive}
 use Rattle.gptp_timeline.specs.Changes.{change_lines, port_lines, same_line}
 use Rattle.gptp_timeline.specs.Ports.{role_number, same_bool, same_port, same_ports}
 use Rattle.gptp_timeline.specs.Shown.{is_known, same_choice, same_roles, same_slave, same_way}
@@ -53,6 +55,42 @@ no_port_lines at name port (p ∷ ps) = rw (port_itself p, no_port_lines at name
 pub no_change_lines : (at name : ℕ) (s : Option Shown) → change_lines at name s s ≡ []
 no_change_lines at name None = refl
 no_change_lines at name (Some s) = rw (line_itself (Some s), no_port_lines at name 1 s.ports) refl
+
+-- ---- what tests of sameness say
+
+pub both : (a b : Bool) → a && b ≡ true → (a ≡ true) × (b ≡ true)
+both true b is = (refl, is)
+both false b is = absurd cc
+
+pub same_number : (a b : ℕ) → a == b ≡ true → a ≡ b
+same_number a b is = grind (arith, nat_tests)
+
+pub same_truth : (a b : Bool) → same_bool a b ≡ true → a ≡ b
+same_truth true true is = refl
+same_truth true false is = absurd cc
+same_truth false true is = absurd cc
+same_truth false false is = refl
+
+abbrev role_from : ℕ → Role
+role_from zero = Disabled
+role_from (suc zero) = Master
+role_from (suc (suc zero)) = Slave
+role_from (suc (suc (suc n))) = Passive
+
+role_back : (r : Role) → role_from (role_number r) ≡ r
+role_back Disabled = refl
+role_back Master = refl
+role_back Slave = refl
+role_back Passive = refl
+
+pub same_port_is : (p q : ShownPort) → same_port p q ≡ true → p ≡ q
+same_port_is p q is =
+    let (roles, capable) = both (role_number p.role == role_number q.role) (same_bool p.capable q.capable) is in
+    let role : p.role ≡ q.role =
+    sym (role_back p.role) ∙ ap role_from (same_number (role_number p.role) (role_number q.role) roles)
+    ∙ role_back q.role in
+    ap (λ (r : Role). record { role = r; capable = p.capable }) role
+    ∙ ap (λ (c : Bool). record { role = q.role; capable = c }) (same_truth p.capable q.capable capable)
 
 -- ---- lines of several names
 

@@ -10,12 +10,10 @@ use Rattle.gptp_links.specs.declared.bounds.Bounds.{Bounds}
 use Rattle.gptp_network.specs.Document.{DocumentState}
 use Rattle.gptp_network.specs.Events.{AreEvents}
 use Rattle.gptp_network.specs.Snapshot.{events_by}
-use Rattle.gptp_roles.specs.declared.role.Role.{Role}
-use Rattle.gptp_roles.specs.declared.role.Role.TheVariants.{Disabled, Master, Slave, Passive}
 use Rattle.gptp_world.specs.Transitions.{Transition}
 use Rattle.gptp_timeline.specs.Changes.{change_lines, is_same, port_lines, port_lines_if, same_line, system_lines_if}
 use Rattle.gptp_timeline.specs.Laws.{all_acts}
-use Rattle.gptp_timeline.specs.Ports.{role_number, same_bool, same_port}
+use Rattle.gptp_timeline.specs.Ports.{same_bool, same_port}
 use Rattle.gptp_timeline.specs.Shown.{live_among, same_slave, shown, shown_of}
 use Rattle.gptp_timeline.specs.Tellings.{all_tellings, IsAlike, last_by, of_port, of_system, OfFailure, OfPort, OfSystem, port_telling, port_tellings, Telling, telling_line, tellings, TellLast}
 use Rattle.gptp_timeline.specs.Timeline.{TimelineOf}
@@ -23,7 +21,7 @@ use Rattle.gptp_timeline.specs.declared.ports.ShownPort.{ShownPort}
 use Rattle.gptp_timeline.specs.declared.shown.Shown.{Shown}
 use Rattle.gptp_timeline.specs.declared.timeline.TimelineOptions.{TimelineOptions}
 use Rattle.gptp_timeline.proofs.ChainLemmas.{Chain, courses_chain}
-use Rattle.gptp_timeline.proofs.SameLemmas.{number_itself}
+use Rattle.gptp_timeline.proofs.SameLemmas.{both, number_itself, same_number, same_port_is, same_truth}
 use Rattle.gptp_timeline.proofs.UnfoldLemmas.{timeline_unfolds}
 
 -- ---- lines are those of what is told
@@ -73,41 +71,7 @@ module _ (at name : ℕ) where
       ∙ ap (λ ls. ls ++ map (telling_line at name) (port_tellings 0 s.ports t.ports)) (system_told same t)
       ∙ sym (map-append (telling_line at name) (if same then [] else OfSystem t ∷ []) (port_tellings 0 s.ports t.ports))
 
--- ---- what tests of sameness say
-
-both : (a b : Bool) → a && b ≡ true → (a ≡ true) × (b ≡ true)
-both true b is = (refl, is)
-both false b is = absurd cc
-
-same_number : (a b : ℕ) → a == b ≡ true → a ≡ b
-same_number a b is = grind (arith, nat_tests)
-
-same_truth : (a b : Bool) → same_bool a b ≡ true → a ≡ b
-same_truth true true is = refl
-same_truth true false is = absurd cc
-same_truth false true is = absurd cc
-same_truth false false is = refl
-
-role_from : ℕ → Role
-role_from zero = Disabled
-role_from (suc zero) = Master
-role_from (suc (suc zero)) = Slave
-role_from (suc (suc (suc n))) = Passive
-
-role_back : (r : Role) → role_from (role_number r) ≡ r
-role_back Disabled = refl
-role_back Master = refl
-role_back Slave = refl
-role_back Passive = refl
-
-same_port_is : (p q : ShownPort) → same_port p q ≡ true → p ≡ q
-same_port_is p q is =
-    let (roles, capable) = both (role_number p.role == role_number q.role) (same_bool p.capable q.capable) is in
-    let role : p.role ≡ q.role =
-    sym (role_back p.role) ∙ ap role_from (same_number (role_number p.role) (role_number q.role) roles)
-    ∙ role_back q.role in
-    ap (λ (r : Role). record { role = r; capable = p.capable }) role
-    ∙ ap (λ (c : Bool). record { role = q.role; capable = c }) (same_truth p.capable q.capable capable)
+-- ---- lines that are the same
 
 same_slave_is : (a b : Option ℕ) → same_slave a b ≡ true → a ≡ b
 same_slave_is None None is = refl
@@ -240,13 +204,14 @@ at_port : (place low i : ℕ) (before after : List ShownPort) (q : ShownPort) �
     → option_or (last_by (of_port place) (port_tellings low before after)) (slice_get before i) ≡ Some q
 at_port place low i before [] q is there = absurd cc
 at_port place low zero [] (r ∷ rs) q is there =
-    let same : place ≡ low = omega (arith, is) in
-    rw same (first_port low None r (port_tellings (low + 1) [] rs)
-    (ports_of_others low (low + 1) [] rs (omega arith)) ∙ there)
+    let same : low ≡ place = omega (arith, is) in
+    subst (λ p. option_or (last_by (of_port p) (port_tellings low [] (r ∷ rs))) None ≡ Some q) same
+    (first_port low None r (port_tellings (low + 1) [] rs) (ports_of_others low (low + 1) [] rs (omega arith)) ∙ there)
 at_port place low zero (p ∷ ps) (r ∷ rs) q is there =
-    let same : place ≡ low = omega (arith, is) in
-    rw same (first_port low (Some p) r (port_tellings (low + 1) ps rs)
-    (ports_of_others low (low + 1) ps rs (omega arith)) ∙ there)
+    let same : low ≡ place = omega (arith, is) in
+    subst (λ n. option_or (last_by (of_port n) (port_tellings low (p ∷ ps) (r ∷ rs))) (Some p) ≡ Some q) same
+    (first_port low (Some p) r (port_tellings (low + 1) ps rs) (ports_of_others low (low + 1) ps rs (omega arith))
+    ∙ there)
 at_port place low (suc i) [] (r ∷ rs) q is there =
     later_port place low None None r q (port_tellings (low + 1) [] rs) (λ e. absurd (omega (arith, is)))
     (at_port place (low + 1) i [] rs q (omega (arith, is)) there)
@@ -315,11 +280,11 @@ tells_on (Some s) (Some t) told k = by (same_line (Some s) (Some t)) refl
 
 -- ---- several acts
 
-shown_in : ℕ → List Station → Option Shown
+abbrev shown_in : ℕ → List Station → Option Shown
 shown_in name stations = option_map shown_of (live_among name stations)
 
 module _ (name : ℕ) where
-  tells : Transition → List Telling
+  abbrev tells : Transition → List Telling
   tells t = tellings (shown name t.before) (shown name t.after)
 
   chain_tells : (ts : List Transition) (before after : List Station) (told : List Telling) → Chain ts before after

@@ -1,5 +1,5 @@
 -- What an observer keeps and tells of an act, by what it kept before and the world behind the act.
-use Rattle.std.specs.Prelude.{◌≡◌, ℕ, ◌+◌, ◌==◌, nat_le, nat_lt, not, Bool, true, false, if◌then◌else◌, List, [], ◌∷◌, ◌++◌, length, map, Option, Some, None, is_some, slice_get, slice_set, ℤ, unsigned_abs}
+use Rattle.std.specs.Prelude.{◌≡◌, ℕ, ◌+◌, ◌==◌, ◌&&◌, ◌||◌, nat_le, nat_lt, not, Bool, true, false, if◌then◌else◌, List, [], ◌∷◌, ◌++◌, length, map, Option, Some, None, is_none, is_some, slice_get, slice_set, ℤ, unsigned_abs}
 use Rattle.std.specs.List.{range_with_len}
 use Rattle.std.specs.Option.{option_map, option_map_or}
 use Rattle.gptp_acts.specs.Advancing.{Told}
@@ -27,6 +27,11 @@ use Rattle.gptp_timeline.specs.declared.watched.Watched.{Watched}
 abbrev pub since_behind : Look → Watched → Option Shown → Option ℕ
 since_behind look x after = since_after look.at look.received (is_expecting x.shown) (is_expecting after) x.since
 
+-- an act that leaves a system as it is neither begins nor ends a wait of it: none is received, and it goes on to expect
+-- time where it waits
+abbrev pub leaves_wait : Look → Watched → Bool
+leaves_wait look x = not look.received && (is_none x.since || is_expecting x.shown)
+
 abbrev pub wait_behind : Look → Watched → Option Shown → Option Greatest
 wait_behind look x after =
     option_map (one_at x.clock) (ended_by look.at look.by_event look.received (is_expecting after) x.since)
@@ -42,6 +47,11 @@ measures_after look x after m = record {
 
 abbrev pub watched_after : Look → Option Shown → Watched → Watched
 watched_after look after x = record x { shown = after; since = since_behind look x after }
+
+-- an act leaves all that is kept of it as it was
+pub record StaysSo (look : Look) (w : WorldState) (x : Watched) : Type 0 where
+  pub shown_so : shown x.clock w ≡ x.shown
+  pub waits_so : leaves_wait look x ≡ true
 
 -- the greater of two amounts, where the second counts
 abbrev pub greater : Option ℕ → ℕ → Option ℕ

@@ -1,6 +1,6 @@
 //! What is shown of the ports of a system.
 
-ghost use Rattle.std.specs.Prelude.{◌≡◌, ◌≤◌, length};
+ghost use Rattle.std.specs.Prelude.{◌≡◌, ◌≤◌, true, length};
 ghost use Rattle.gptp_system.specs.Steps.{IsPortOf};
 ghost use Rattle.gptp_timeline.specs.Ports.{role_number, same_bool, same_port, same_ports, shown_port, shown_ports};
 
@@ -104,4 +104,20 @@ pub(crate) fn ports_of(system: &System) -> Ports
         ports.push(shown_port(system, place + 1));
     }
     Ports { ports }
+}
+
+/// Whether the ports of a system show this.
+pub(crate) fn show_ports(system: &System, ports: &[ShownPort]) -> bool
+    requires { length system.now.ports ≤ 16 }
+    ensures { result ≡ true → shown_ports system.now ≡ ports.now }
+{
+    if ports.len() != usize::from(system.ports()) {
+        return false;
+    }
+    for place in 0..system.ports() {
+        if !same_port(shown_port(system, place + 1), ports[usize::from(place)]) {
+            return false;
+        }
+    }
+    true
 }

@@ -1,9 +1,9 @@
 //! What is shown of a system.
 
-ghost use Rattle.std.specs.Prelude.{◌≡◌, ◌≤◌, length};
+ghost use Rattle.std.specs.Prelude.{◌≡◌, ◌≤◌, true, length};
 ghost use Rattle.gptp_timeline.specs.Shown.{is_expecting, is_known, same_choice, same_roles, same_slave, same_way, shown_of};
 
-use crate::ports::{Ports, ports_of, same_ports};
+use crate::ports::{Ports, ports_of, same_ports, show_ports};
 use gptp_system::System;
 use gptp_vector::Identity;
 
@@ -53,6 +53,19 @@ fn same_way(a: &Shown, b: &Shown) -> bool
     ensures { result ≡ same_way a.now b.now }
 {
     a.root == b.root && a.steps == b.steps && same_slave(a.slave, b.slave)
+}
+
+/// Whether a live system shows this.
+pub(crate) fn shows(system: &System, shown: &Shown) -> bool
+    requires { length system.now.ports ≤ 16 }
+    ensures { result ≡ true → shown_of system.now ≡ shown.now }
+{
+    let (root, steps, slave) = system.follows();
+    root == shown.root
+        && steps == shown.steps
+        && same_slave(slave, shown.slave)
+        && system.offset().is_some() == shown.known
+        && show_ports(system, shown.ports.as_slice())
 }
 
 /// Whether a system is as before as to whether it lives, root, steps and Slave port.

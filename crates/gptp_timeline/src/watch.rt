@@ -1,6 +1,6 @@
 //! An observer that tells what changes at which system when.
 
-ghost use Rattle.std.specs.Prelude.{◌≡◌, ◌≤◌, ◌<◌, ◌+◌, ◌++◌, IfOk, OnOk, length, map, option_map, string_bytes, take, unsigned_abs};
+ghost use Rattle.std.specs.Prelude.{◌≡◌, ◌≤◌, ◌<◌, ◌+◌, ◌++◌, true, IfOk, OnOk, length, map, option_map, string_bytes, take, unsigned_abs};
 ghost use Rattle.gptp_acts.specs.Views.{rising_clocks};
 ghost use Rattle.gptp_spelling.specs.Lines.{text_of};
 ghost use Rattle.gptp_timeline.specs.Measures.{one_at};
@@ -11,8 +11,8 @@ use crate::changes::write_changes;
 use crate::event_line::write_event;
 use crate::measures::{Greatest, Measures, NOTHING, better_if};
 use crate::receipts::{error_of, received_by, write_offset};
-use crate::shown::{Shown, shown_of};
-use crate::watched::{Look, Watched, error_after, measures_after, since_behind};
+use crate::shown::{Shown, shown_of, shows};
+use crate::watched::{Look, Watched, error_after, leaves_wait, measures_after, since_behind};
 use gptp_links::Fate;
 use gptp_plan::Change;
 use gptp_report::sink::Sink;
@@ -64,6 +64,18 @@ fn shown_in<F: Fate + Drop>(world: &World<F>, clock: ClockId) -> Option<Shown>
     match world.system(clock) {
         Some(system) => Some(shown_of(system)),
         None => None,
+    }
+}
+
+/// Whether the system with a clock shows this, or doesn't live as nothing is shown.
+fn shows_in<F: Fate + Drop>(world: &World<F>, clock: ClockId, last: &Option<Shown>) -> bool
+    ensures { result ≡ true → shown clock world.now.scene ≡ last.now }
+{
+    world.well_formed();
+    match (world.system(clock), last) {
+        (Some(system), Some(last)) => shows(system, last),
+        (None, None) => true,
+        _ => false,
     }
 }
 
@@ -148,12 +160,12 @@ fn clear_errors(systems: &mut Vec<Watched>)
 }
 
 impl Watch {
-    ghost use Rattle.std.specs.Prelude.{◌≡◌, ◌≤◌, ◌<◌, ◌++◌, ◌∷◌, [], None, false, IfOk, IfSome, OnOk, length, map, slice_get, Some, string_bytes};
+    ghost use Rattle.std.specs.Prelude.{◌≡◌, ◌≤◌, ◌<◌, ◌++◌, ◌∷◌, [], None, false, true, IfOk, IfSome, OnOk, length, map, slice_get, Some, string_bytes};
     ghost use Rattle.gptp_acts.specs.Views.{rising_clocks};
     ghost use Rattle.gptp_spelling.specs.Lines.{text_of};
     ghost use Rattle.gptp_timeline.specs.Changes.{change_lines};
     ghost use Rattle.gptp_timeline.specs.EventLine.{event_line};
-    ghost use Rattle.gptp_timeline.specs.Watch.{RisesByClock, begun, delivery_lines, event_look, lines_all, lines_at, nothing, place_of, placed_lines, receipt_lines, receipt_lines_if, see_act, see_all, see_at, see_delivery, see_placed, see_receipt, see_receipt_if, see_system, seen_lines, system_lines, take_error, taken, unless, unseen};
+    ghost use Rattle.gptp_timeline.specs.Watch.{RisesByClock, StaysSo, begun, delivery_lines, event_look, lines_all, lines_at, nothing, place_of, placed_lines, receipt_lines, receipt_lines_if, see_act, see_all, see_at, see_delivery, see_placed, see_receipt, see_receipt_if, see_system, seen_lines, system_lines, take_error, taken, unless, unseen};
     ghost use Rattle.gptp_timeline.specs.declared.watched.Watched.{Watched};
 
     /// An observer of a world whose systems start, before it has seen that.
@@ -261,8 +273,17 @@ impl Watch {
         };
     }
 
-    /// Looks at the system at a place behind an act.
-    fn see_at<F: Fate + Drop>(
+    /// Whether an act leaves all that is kept of the system at a place as it was.
+    fn stays_at<F: Fate + Drop>(&self, world: &World<F>, look: Look, place: usize) -> bool
+        requires { place < length self.now.systems }
+        ensures { result ≡ true → (x : Watched) → slice_get self.now.systems place ≡ Some x → StaysSo look world.now.scene x }
+    {
+        let system = &self.systems[place];
+        leaves_wait(look, system) && shows_in(world, system.clock, &system.shown)
+    }
+
+    /// Takes up what an act leaves of the system at a place.
+    fn see_anew<F: Fate + Drop>(
         &mut self,
         text: &mut String,
         world: &World<F>,
@@ -278,6 +299,25 @@ impl Watch {
         self.write_changes_at(text, look.at, place, &after)?;
         self.take(look, place, after);
         Ok(())
+    }
+
+    /// Looks at the system at a place behind an act.
+    fn see_at<F: Fate + Drop>(
+        &mut self,
+        text: &mut String,
+        world: &World<F>,
+        look: Look,
+        place: usize,
+    ) -> Result<(), AllocError>
+        requires { place < length self.old.systems }
+        ensures sees { OnOk result (self.new ≡ see_at look world.now.scene place self.old) }
+        ensures tells { OnOk result (string_bytes text.new
+            ≡ string_bytes text.old ++ text_of (lines_at look world.now.scene place self.old)) }
+    {
+        match self.stays_at(world, look, place) {
+            true => Ok(()),
+            false => self.see_anew(text, world, look, place),
+        }
     }
 
     /// Looks at all systems behind an act.

@@ -1,7 +1,7 @@
 //! What is kept of each system while a document runs.
 
 ghost use Rattle.std.specs.Prelude.{◌≡◌};
-ghost use Rattle.gptp_timeline.specs.Watch.{error_after, measures_after, since_behind, wait_behind};
+ghost use Rattle.gptp_timeline.specs.Watch.{error_after, measures_after, since_behind, wait_behind, leaves_wait};
 
 use crate::measures::{Greatest, Measures, better_if, ended_by, last_if, since_after};
 use crate::ports::same_bool;
@@ -31,6 +31,13 @@ pub(crate) struct Watched {
     /// The greatest absolute error of its receipts from the time on from which they are promised to be exact, in units of
     /// 2^-16 ns.
     pub error: Option<u128>,
+}
+
+/// Whether an act that leaves a system as it is neither begins nor ends a wait of it.
+pub(crate) fn leaves_wait(look: Look, system: &Watched) -> bool
+    ensures { result ≡ leaves_wait look system.now }
+{
+    !look.received && (system.since.is_none() || is_expecting(&system.shown))
 }
 
 /// When the wait under way of a system began, behind an act that left it as `after`.

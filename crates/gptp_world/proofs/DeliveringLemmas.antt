@@ -1,4 +1,4 @@
--- Room is made where a frame is heard.
+-- What is found where a frame is heard.
 use Rattle.std.proofs.Common.{◌≡◌, ◌<◌, ℕ, List, length, map, Some, slice_get, refl, ap, sym, subst, ◌∙◌}
 use Rattle.gptp_system.specs.declared.reach.Reach.{Reach}
 use Rattle.gptp_system.specs.Reach.{frame_reach}
@@ -9,10 +9,9 @@ use Rattle.gptp_world.specs.declared.stage.Stage.{Stage}
 use Rattle.gptp_acts.specs.Act.{Takes}
 use Rattle.gptp_acts.specs.World.{WorldState, queue}
 use Rattle.gptp_world.specs.Cable.{channel_of, join_of}
-use Rattle.gptp_world.specs.Delivering.{HasRoomToHear}
 use Rattle.gptp_world.specs.Directory.{end_of, DirectoryState, IsDirectory, Join}
 use Rattle.gptp_world.specs.Net.{between, IsFrameDue, IsOldest}
-use Rattle.gptp_world.specs.Stage.{world_of, HasRoomWithin, IsStage}
+use Rattle.gptp_world.specs.Stage.{world_of, IsStage}
 use Rattle.gptp_lists.proofs.MappedLemmas.{mapped_there}
 use Rattle.gptp_lists.proofs.PlaceLemmas.{member_there}
 use Rattle.gptp_world.proofs.EndLemmas.{known_join, place_within}
@@ -66,18 +65,22 @@ oldest_before stage stage' lane octets world oldest =
       these = oldest.these;
     }
 
-pub room_to_hear : (stage stage' : Stage) (lane : Lane) (receiver : ℕ) (r : Reach) → IsStage stage → IsStage stage'
+-- what is so of how far the oldest frame of a lane reaches, and where it does
+pub so_heard : (stage stage' : Stage) (lane : Lane) (receiver : ℕ) (r : Reach) (So : Reach → ℕ → Type 0)
+    → IsStage stage → IsStage stage'
     → world_of stage' ≡ world_of stage → IsDirectory stage.net.directory → IsReceiver lane receiver stage.net.directory
     → ((octets : List ℕ) → IsOldest lane octets stage.net → r ≡ frame_reach octets)
-    → HasRoomWithin r receiver stage' → HasRoomToHear lane stage'
-room_to_hear stage stage' lane receiver r is is' world directory hears tells has =
-    λ join place octets there placed oldest.
+    → So r receiver → (join : Join) (place : ℕ) (octets : List ℕ)
+    → slice_get stage'.net.directory.joins lane.link ≡ Some join
+    → slice_get stage'.net.directory.clocks place ≡ Some (end_of lane.direction join).clock
+    → IsOldest lane octets stage'.net → So (frame_reach octets) place
+so_heard stage stage' lane receiver r So is is' world directory hears tells has join place octets there placed oldest =
     let d = stage.net.directory in
     let known : slice_get d.joins lane.link ≡ Some join =
     ap (λ js. slice_get js lane.link) (sym (same_joins stage stage' is is' world)) ∙ there in
     let stands : slice_get d.clocks place ≡ Some (end_of lane.direction join).clock =
     ap (λ cs. slice_get cs place) (sym (same_clocks stage stage' is is' world)) ∙ placed in
-    let here : HasRoomWithin r place stage' = subst (λ p. HasRoomWithin r p stage')
+    let here : So r place = subst (λ p. So r p)
     (directory.plan.differ receiver place (end_of lane.direction join).clock (hears join known) stands) has in
-    subst (λ (reach : Reach). HasRoomWithin reach place stage')
+    subst (λ (reach : Reach). So reach place)
     (tells octets (oldest_before stage stage' lane octets world oldest)) here

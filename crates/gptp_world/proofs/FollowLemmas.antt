@@ -1,14 +1,17 @@
 -- Acts one after another, and what an observer tells of them.
-use Rattle.std.proofs.Common.{◌≡◌, ◌≤◌, ◌+◌, ℕ, List, [], ◌∷◌, ◌++◌, map, Option, refl, ap, sym, subst, ◌∙◌, append_assoc, append-nil, arith}
+use Rattle.std.proofs.Common.{◌≡◌, ◌<◌, ◌≤◌, ◌+◌, ℕ, List, [], ◌∷◌, ◌++◌, map, Option, Some, None, IfSome, IfNone, refl, ap, sym, subst, ◌∙◌, append_assoc, append-nil, arith}
 use Rattle.std.proofs.lemmas.List.Concat.{flat_map-append}
 use Rattle.gptp_links.specs.declared.bounds.Bounds.{Bounds}
 use Rattle.gptp_plan.specs.declared.change.Timed.{Timed}
 use Rattle.gptp_acts.specs.declared.done.Done.{Done}
 use Rattle.gptp_acts.specs.Acts.{at}
 use Rattle.gptp_acts.specs.Advancing.{Advances, Advanced, Happens, Stopped, Told}
-use Rattle.gptp_acts.specs.Pending.{NothingBefore}
+use Rattle.gptp_acts.specs.declared.item.Item.{Item}
+use Rattle.gptp_acts.specs.Pending.{Entry, IsNext, NothingBefore}
+use Rattle.gptp_acts.proofs.AdvanceLemmas.{nothing_sooner}
+use Rattle.gptp_acts.proofs.MomentLemmas.{nothing_before-next}
 use Rattle.gptp_acts.specs.World.{WorldState}
-use Rattle.gptp_world.specs.Following.{Follows, PassesSeen}
+use Rattle.gptp_world.specs.Following.{Follows, IsUpcoming, PassesSeen}
 use Rattle.gptp_world.specs.Observing.{Observed, Tells, TellsAct}
 use Rattle.gptp_world.specs.Transitions.{Passes, Transition, transition}
 use Rattle.gptp_spelling.specs.Lines.{text_of}
@@ -184,3 +187,19 @@ module _ {F O : Type 0} (answers : Bounds → ℕ → F → Option ℕ → F →
     nothing_left = seen.passes.nothing_left;
     is = seen.passes.is;
   }
+
+-- ---- what is next
+
+pub is_upcoming : (next : Option (ℕ × Item)) (es : List Entry) → IfSome next (λ due. IsNext es due.0 due.1)
+    → IfNone next (es ≡ []) → IsUpcoming next es
+is_upcoming None es some none = none
+is_upcoming (Some due) es some none = some
+
+pub nothing_upcoming : (until : ℕ) (es : List Entry) → es ≡ [] → NothingBefore (until + 1) es
+nothing_upcoming until es none = subst (NothingBefore (until + 1)) (sym none) (λ place d within. absurd (omega arith))
+
+-- nothing is pending before what is next
+pub later_than : (time until : ℕ) (item : Item) (es : List Entry) → until < time → IsNext es time item
+    → NothingBefore (until + 1) es
+later_than time until item es late next =
+    nothing_sooner (until + 1) time es (omega arith) (nothing_before-next es time item next)

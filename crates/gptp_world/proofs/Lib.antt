@@ -9,6 +9,7 @@ pub mod ClaimedLemmas
 pub mod InitialLemmas
 pub mod SendsLemmas
 pub mod RoomLemmas
+pub mod CreditLemmas
 pub mod StageLemmas
 pub mod TellingLemmas
 pub mod StartingLemmas

@@ -1,15 +1,12 @@
 -- What making room leaves as it was.
-use Rattle.std.proofs.Common.{◌≡◌, ◌≢◌, ◌⊎◌, ℕ, ◌+◌, ◌*◌, ◌≤◌, ◌==◌, if◌then◌else◌, Bool, true, false, ◌&&◌, List, [], ◌∷◌, length, map, Some, slice_get, slice_set, refl, ap, sym, subst, ◌∙◌, inl, inr, arith}
+use Rattle.std.proofs.Common.{◌≡◌, ◌≢◌, ◌⊎◌, ℕ, ◌+◌, ◌*◌, ◌≤◌, ◌==◌, if◌then◌else◌, Bool, true, false, List, [], ◌∷◌, length, map, Some, slice_get, slice_set, refl, ap, sym, subst, ◌∙◌, inl, inr, arith}
 use Rattle.std.proofs.lemmas.Option.{same_Some}
 use Rattle.std.proofs.lemmas.List.{length-map}
-use Rattle.std.proofs.lemmas.Bool.{eqb-true}
 use Rattle.std.proofs.lemmas.Bool.Decides.{eqb_tells}
 use Rattle.std.proofs.Math.Dec.{eqb}
 use Rattle.gptp_links.specs.declared.link.Direction.{Direction}
 use Rattle.gptp_links.specs.declared.link.Direction.TheVariants.{FromA, FromB}
 use Rattle.gptp_links.specs.State as links
-use Rattle.gptp_system.specs.declared.reach.Reach.{Reach}
-use Rattle.gptp_system.specs.declared.reach.Reach.TheVariants as reaches
 use Rattle.gptp_system.specs.State.{clock}
 use Rattle.gptp_vector.specs.declared.port.PortId.{PortId}
 use Rattle.gptp_world.specs.declared.cable.Cable.{Cable}
@@ -22,8 +19,8 @@ use Rattle.gptp_world.specs.Directory.{BeginsAt, IsDirectory, Join}
 use Rattle.gptp_world.specs.Net.{IsNet}
 use Rattle.gptp_acts.specs.World.{port_id}
 use Rattle.gptp_acts.specs.Pending.{PendingState, arrival_room, HasArrivalRoom, KeepsArrivalRoom}
-use Rattle.gptp_world.specs.Room.{both, for_call, for_timers, is_reached, repeated, HasRoomAtPorts, HasRoomAtReach, HasRoomBothWays, HasRoomFrom, KeepsRoomOn, Need, OnlyRoom}
-use Rattle.gptp_world.specs.Stage.{clock_at, HasRoomToCallBoth, HasRoomWithin, IsStage}
+use Rattle.gptp_world.specs.Room.{both, for_call, for_timers, repeated, HasRoomAtPorts, HasRoomBothWays, HasRoomFrom, KeepsRoomOn, Need, OnlyRoom}
+use Rattle.gptp_world.specs.Stage.{clock_at, HasRoomToCall, HasRoomToCallBoth, IsStage}
 use Rattle.gptp_world.specs.Starting.{for_start, HasRoomToStart}
 use Rattle.gptp_acts.specs.World.{Channel, Net}
 use Rattle.gptp_world.proofs.NeedLemmas.{covered, repeated-covered, Covers}
@@ -156,18 +153,6 @@ one_more_port more place ports net net' only has last =
         from_kept more (port_id clock p) net net' only
         (has clock p (rw (← directory) here) least (omega (arith, apart)))
 
--- where a reach is one port
-pub one_reached : (more place ports one : ℕ) (net : Between)
-    → ((clock : ℕ) → slice_get net.directory.clocks place ≡ Some clock → HasRoomFrom more (port_id clock one) net)
-    → HasRoomAtReach more place ports (reaches.Port one) net
-one_reached more place ports one net has = λ clock p here least most reached.
-    rw (eqb-true p one reached) (has clock here)
-
--- whatever is reached, all ports have room
-pub all_reached : (more place ports : ℕ) (r : Reach) (net : Between) → HasRoomAtPorts more place ports net
-    → HasRoomAtReach more place ports r net
-all_reached more place ports r net has = λ clock p here least most reached. has clock p here least most
-
 -- ---- the stage
 
 pub stage_stays : (stage stage' : Stage) → stage'.stations ≡ stage.stations → stage'.now ≡ stage.now
@@ -192,51 +177,36 @@ ports_kept more place ports net net' only has = λ number p here least most.
     from_kept more (port_id number p) net net' only (has number p (rw (← directory) here) least most)
 
 -- a lane that is known has room for none
-no_frames : (net : Between) (port : PortId) (lane : Lane) → IsNet net → BeginsAt net.directory.joins port lane
+pub no_frames : (net : Between) (port : PortId) (lane : Lane) → IsNet net → BeginsAt net.directory.joins port lane
     → HasRoomOn 0 lane net.cables.items net.pending
 no_frames net port lane is begins =
     let known = known_cable net port lane is begins in
     record { cable = known.0; here = known.1; room = omega arith; arrivals = omega arith }
 
--- the number of frames that a port of the system with this clock may send, where it is reached
-abbrev most_within : Reach → ℕ → ℕ → PortId → ℕ
-most_within r more number port = if is_reached r port.port && (port.clock == number) then more else 0
-
+-- the number of frames that a port may send, where it is one of the system with this clock
 abbrev most_from : ℕ → ℕ → PortId → ℕ
-most_from more number port = most_within reaches.All more number port
+most_from more number port = if port.clock == number then more else 0
 
--- so many frames from each port of the system at a place that is reached, and none from others
-pub frames_within : (stage : Stage) (r : Reach) (more place : ℕ) (station : Station) → IsStage stage
-    → slice_get stage.stations.items place ≡ Some station
-    → HasRoomAtReach more place (length station.system.ports) r stage.net → (port : PortId) (lane : Lane)
-    → BeginsAt stage.net.directory.joins port lane
-    → HasRoomOn (most_within r more (clock station.system) port) lane stage.net.cables.items stage.net.pending
-frames_within stage r more place station is here has port lane begins =
-    by (is_reached r port.port) refl (eqb_tells port.clock (clock station.system))
-  where
-    by : (reached : Bool) → is_reached r port.port ≡ reached
-        → ((eqb port.clock (clock station.system) ≡ true) × (port.clock ≡ clock station.system))
-        ⊎ ((eqb port.clock (clock station.system) ≡ false) × (port.clock ≢ clock station.system))
-        → HasRoomOn (most_within r more (clock station.system) port) lane stage.net.cables.items stage.net.pending
-    by true reached (inl (test, same)) =
-        let known : slice_get stage.net.directory.clocks place ≡ Some (clock station.system) =
-        ap (λ cs. slice_get cs place) (sym is.clocks) ∙ mapped_there clock_at stage.stations.items place station here in
-        let starts : BeginsAt stage.net.directory.joins (port_id (clock station.system) port.port) lane =
-        subst (λ number. BeginsAt stage.net.directory.joins (port_id number port.port) lane) same begins in
-        let range = is.ports place station port.port lane here starts in
-        rw (reached, test) (has (clock station.system) port.port known range.0 range.1 reached lane starts)
-    by true reached (inr (test, apart)) = rw (reached, test) (no_frames stage.net port lane is.net begins)
-    by false reached known = rw reached (no_frames stage.net port lane is.net begins)
-
--- where all are reached
+-- so many frames from each port of the system at a place, and none from others
 pub frames_from : (stage : Stage) (more place : ℕ) (station : Station) → IsStage stage
     → slice_get stage.stations.items place ≡ Some station
     → HasRoomAtPorts more place (length station.system.ports) stage.net → (port : PortId) (lane : Lane)
     → BeginsAt stage.net.directory.joins port lane
     → HasRoomOn (most_from more (clock station.system) port) lane stage.net.cables.items stage.net.pending
 frames_from stage more place station is here has port lane begins =
-    frames_within stage reaches.All more place station is here
-    (all_reached more place (length station.system.ports) reaches.All stage.net has) port lane begins
+    by (eqb_tells port.clock (clock station.system))
+  where
+    by : ((eqb port.clock (clock station.system) ≡ true) × (port.clock ≡ clock station.system))
+        ⊎ ((eqb port.clock (clock station.system) ≡ false) × (port.clock ≢ clock station.system))
+        → HasRoomOn (most_from more (clock station.system) port) lane stage.net.cables.items stage.net.pending
+    by (inl (test, same)) =
+        let known : slice_get stage.net.directory.clocks place ≡ Some (clock station.system) =
+        ap (λ cs. slice_get cs place) (sym is.clocks) ∙ mapped_there clock_at stage.stations.items place station here in
+        let starts : BeginsAt stage.net.directory.joins (port_id (clock station.system) port.port) lane =
+        subst (λ number. BeginsAt stage.net.directory.joins (port_id number port.port) lane) same begins in
+        let range = is.ports place station port.port lane here starts in
+        rw test (has (clock station.system) port.port known range.0 range.1 lane starts)
+    by (inr (test, apart)) = rw test (no_frames stage.net port lane is.net begins)
 
 times : (calls number : ℕ) (port : PortId)
     → calls * (if port.clock == number then 2 else 0) ≤ most_from (2 * calls) number port
@@ -270,19 +240,19 @@ with_timers timers large small covers = record {
   frames = λ port. let e = covers.frames port in omega (arith, e);
 }
 
--- there is room for a call of a system where each port that it reaches has it
-pub room_within : (stage : Stage) (r : Reach) (place : ℕ) (station : Station) → IsStage stage
+-- there is room for a call of a system where each of its ports has it
+pub room_to_call : (stage : Stage) (place : ℕ) (station : Station) → IsStage stage
     → slice_get stage.stations.items place ≡ Some station
     → 6 * length station.system.ports + 2 ≤ stage.net.pending.room
     → 2 * length station.system.ports ≤ stage.net.buffers.ready
-    → HasRoomAtReach 2 place (length station.system.ports) r stage.net → HasRoomWithin r place stage
-room_within stage r place station is here entries buffers has = record {
+    → HasRoomAtPorts 2 place (length station.system.ports) stage.net → HasRoomToCall place stage
+room_to_call stage place station is here entries buffers has = record {
   station = station;
   here = here;
   room = record {
     entries = entries;
     buffers = buffers;
-    lanes = frames_within stage r 2 place station is here has;
+    lanes = frames_from stage 2 place station is here has;
   };
 }
 
@@ -322,7 +292,7 @@ clocks_apart stage first second near far is directory here there apart = λ same
     apart (directory.plan.differ first second (clock near.system) (known first near here)
     (known second far there ∙ ap Some (sym same)))
 
-not_same : (m n : ℕ) → m ≢ n → eqb m n ≡ false
+pub not_same : (m n : ℕ) → m ≢ n → eqb m n ≡ false
 not_same m n apart = by (eqb_tells m n)
   where
     by : ((eqb m n ≡ true) × (m ≡ n)) ⊎ ((eqb m n ≡ false) × (m ≢ n)) → eqb m n ≡ false

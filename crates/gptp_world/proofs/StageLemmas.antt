@@ -30,7 +30,7 @@ use Rattle.gptp_system.specs.Steps.{IsTimerOf}
 use Rattle.gptp_system.proofs.ReachLemmas.{steps_reach}
 use Rattle.gptp_system.proofs.TimelyLemmas.{timely_timer}
 use Rattle.gptp_world.specs.declared.stage.Stage.{Stage}
-use Rattle.gptp_world.specs.Stage.{clock_at, for_left, Called, CallUses, CarriesOut, HasRoomToCall, HasRoomToGive, HasRoomWithin, HasStepped, IsLiveAt, IsStage, IsTimelyAt}
+use Rattle.gptp_world.specs.Stage.{clock_at, for_left, Called, CallUses, CarriesOut, GiveUses, HasRoomToCall, HasRoomToGive, HasRoomWithin, HasStepped, IsLiveAt, IsStage, IsTimelyAt}
 use Rattle.gptp_acts.specs.World.{timers_from}
 use Rattle.gptp_world.proofs.NeedLemmas.{covered, nothing_with, uses_less, Covers}
 use Rattle.gptp_acts.proofs.SteadyLemmas.{same_clock, same_ports}
@@ -323,14 +323,14 @@ called answers fate fate_after stage left stage' place input answer step sent st
       };
     }
 
--- it used no more room than a call can
-pub call_uses : (stage left : Stage) (net : Between) (place : ℕ) (input : Input) (answer : Answer)
+-- it used no more room than one that reaches as far can
+pub give_uses : (stage left : Stage) (net : Between) (place : ℕ) (input : Input) (answer : Answer)
     → HasStepped place input answer stage left
     → IsTimelyAt input place stage
     → ((station : Station) → slice_get left.stations.items place ≡ Some station
     → Uses (for_left station.system left.outbox.items) left.net net)
-    → CallUses place stage net
-call_uses stage left net place input answer step timely uses = λ station here.
+    → GiveUses input place stage net
+give_uses stage left net place input answer step timely uses = λ station here.
     let old = step.station in let after = step.after in let sends = left.outbox.items in
     let new = in_state after old in
     let ports = same_ports input stage.now old.system after sends answer step.steps in
@@ -344,9 +344,16 @@ call_uses stage left net place input answer step timely uses = λ station here.
     let between = step.net in
     let used : Uses (for_left after sends) stage.net net = rw (← between) (uses new now_here) in
     let r = reach input old.system in
-    rw one (uses_less (for_call old.system) (for_reach r old.system) stage.net net (reach_covers r old.system)
+    rw one
     (uses_less (for_reach r old.system) (for_left after sends) stage.net net
-    (call_covers r old.system after sends ports clocks few) used))
+    (call_covers r old.system after sends ports clocks few) used)
+
+-- so it used no more than any call can
+pub call_uses : (input : Input) (place : ℕ) (stage : Stage) (net : Between) → GiveUses input place stage net
+    → CallUses place stage net
+call_uses input place stage net uses = λ station here.
+    let s = station.system in let r = reach input s in
+    uses_less (for_call s) (for_reach r s) stage.net net (reach_covers r s) (uses station here)
 
 -- ---- another net
 

@@ -1,10 +1,17 @@
 -- A world that goes on before an observer, and what is told meanwhile.
-use Rattle.std.specs.Prelude.{ℕ, List, Option}
+use Rattle.std.specs.Prelude.{◌≡◌, ℕ, List, [], Option, Some, None}
 use Rattle.gptp_links.specs.declared.bounds.Bounds.{Bounds}
 use Rattle.gptp_acts.specs.Advancing.{Told}
+use Rattle.gptp_acts.specs.declared.item.Item.{Item}
+use Rattle.gptp_acts.specs.Pending.{Entry, IsNext}
 use Rattle.gptp_acts.specs.World.{WorldState}
 use Rattle.gptp_world.specs.Observing.{Observed}
 use Rattle.gptp_world.specs.Transitions.{Passes, PassesTo, Transition}
+
+-- what is next of all that is pending, where something is
+abbrev pub IsUpcoming : Option (ℕ × Item) → List Entry → Type 0
+IsUpcoming None es = es ≡ []
+IsUpcoming (Some due) es = IsNext es due.0 due.1
 
 -- Acts were done, each the next that was pending then, none later than a time, and this is so of the text that an
 -- observer told of them.

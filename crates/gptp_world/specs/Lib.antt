@@ -1,6 +1,7 @@
 pub mod Aim
 pub mod Buffers
 pub mod Cable
+pub mod Credit
 pub mod Delivering
 pub mod Directory
 pub mod Filed

@@ -130,10 +130,3 @@ abbrev pub HasRoomAtPorts : ℕ → ℕ → ℕ → Between → Type 0
 HasRoomAtPorts more place ports net = (clock p : ℕ) → slice_get net.directory.clocks place ≡ Some clock → 1 ≤ p
     → p ≤ ports
     → HasRoomFrom more (port_id clock p) net
-
--- so has each of them that is reached
-abbrev pub HasRoomAtReach : ℕ → ℕ → ℕ → Reach → Between → Type 0
-HasRoomAtReach more place ports r net = (clock p : ℕ) → slice_get net.directory.clocks place ≡ Some clock → 1 ≤ p
-    → p ≤ ports
-    → is_reached r p ≡ true
-    → HasRoomFrom more (port_id clock p) net

@@ -6,6 +6,7 @@ use Rattle.gptp_links.specs.Fate.{Draw, Draws}
 use Rattle.gptp_world.specs.declared.stage.Stage.{Stage}
 use Rattle.gptp_acts.specs.Changing.{StartsAll}
 use Rattle.gptp_acts.specs.Sound.{IsSound}
+use Rattle.gptp_world.specs.Credit.{IsCovered}
 use Rattle.gptp_world.specs.Stage.{world_of, IsStage}
 use Rattle.gptp_kept.specs.Claimed.{Claimed}
 
@@ -14,11 +15,13 @@ pub record IsFounded (stage : Stage) : Type 0 where
   pub stage_kept : IsStage stage
   pub sound : IsSound (world_of stage)
 
--- what it keeps between acts: also what every world of a network keeps, from which it follows that the world settles
-pub record IsScene (stage : Stage) : Type 0 where
+-- what it keeps between acts: also what every world of a network keeps, from which it follows that the world settles;
+-- and there is room for the credit of each system
+pub record IsScene (credit : List ℕ) (stage : Stage) : Type 0 where
   pub stage_kept : IsStage stage
   pub sound : IsSound (world_of stage)
   pub claimed : Claimed (world_of stage)
+  pub covered : IsCovered credit stage.net
 
 -- so many systems started, one after another
 pub record SystemsStarted {F : Type 0} (answers : Bounds → ℕ → F → Option ℕ → F → Type 0) (count : ℕ)

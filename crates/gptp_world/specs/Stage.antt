@@ -134,6 +134,11 @@ abbrev pub CallUses : ℕ → Stage → Between → Type 0
 CallUses place stage net = (station : Station) → slice_get stage.stations.items place ≡ Some station
     → Uses (for_call station.system) stage.net net
 
+-- a call by this input uses no more room than one that reaches as far can
+abbrev pub GiveUses : Input → ℕ → Stage → Between → Type 0
+GiveUses input place stage net = (station : Station) → slice_get stage.stations.items place ≡ Some station
+    → Uses (for_reach (reach input station.system) station.system) stage.net net
+
 -- A live system was called and answered so, and what it left was carried out: the fate drew once for each send that a
 -- link carries.
 pub record Called {F : Type 0} (answers : Bounds → ℕ → F → Option ℕ → F → Type 0) (place : ℕ) (input : Input)

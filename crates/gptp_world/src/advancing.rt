@@ -36,14 +36,23 @@ impl Scene {
     ghost use Rattle.gptp_acts.specs.Acts.{at};
     ghost use Rattle.gptp_acts.specs.Pending.{IsNext, NothingBefore};
     ghost use Rattle.gptp_acts.specs.Views.{IsActOf};
+    ghost use Rattle.gptp_world.specs.Following.{IsUpcoming};
 
-    /// The next that is pending, and its time, where that is at most this.
-    fn next_by(&self, until: u64) -> Option<(u64, Item)>
+    /// What is next, and its time.
+    fn upcoming(&self) -> Option<(u64, Item)>
+        ensures { IsUpcoming result self.now.net.pending }
+    {
+        self.stage.net.pending.next()
+    }
+
+    /// What is next, which is this, where its time is at most that.
+    fn next_by(&self, next: Option<(u64, Item)>, until: u64) -> Option<(u64, Item)>
+        requires { IsUpcoming next self.now.net.pending }
         ensures next { IfSome result (λ due. IsNext self.now.net.pending due.0 due.1) }
         ensures early { IfSome result (λ due. due.0 ≤ until) }
         ensures none { IfNone result (NothingBefore (until + 1) self.now.net.pending) }
     {
-        match self.stage.net.pending.next() {
+        match next {
             Some((time, item)) => match time <= until {
                 true => Some((time, item)),
                 false => None,
@@ -97,7 +106,7 @@ impl<F: Fate + Drop> World<F> {
     ghost use Rattle.gptp_acts.specs.Ahead.{due_by};
     ghost use Rattle.gptp_acts.specs.Pending.{IsNext, NothingBefore};
     ghost use Rattle.gptp_sink.specs.Sink.{AppendsSome};
-    ghost use Rattle.gptp_world.specs.Following.{Follows, PassesSeen};
+    ghost use Rattle.gptp_world.specs.Following.{Follows, IsUpcoming, PassesSeen};
 
     /// What is next is done at its time, and seen; then the buffer of a frame that arrived stands ready for another.
     /// [`Cut::Memory`] where there is no memory for what it can leave, and then nothing changes.
@@ -130,39 +139,47 @@ impl<F: Fate + Drop> World<F> {
     }
 
     /// All that is due at a time, before which nothing is pending, is done and seen, and what is put for that time meanwhile.
+    /// It is told what is next, and tells what is next then.
     fn finish<O: Observer, K: Sink>(
         &mut self,
         alloc: Global,
         time: u64,
+        next: Option<(u64, Item)>,
         observer: &mut O,
         sink: &mut K,
-    ) -> Result<(), Cut>
+    ) -> Result<Option<(u64, Item)>, Cut>
+        requires next { IsUpcoming next self.old.scene.net.pending }
         requires first { NothingBefore time self.old.scene.net.pending }
         requires moment { time ≤ 1000000000000000 }
         ensures went { (o_after : O) × Follows F.answers O.tells time self.old.fate self.new.fate self.old.scene
             self.new.scene observer.old o_after (AppendsSome (K.written sink.old) (K.written sink.new)) }
         ensures followed { OnOk result (Follows F.answers O.tells time self.old.fate self.new.fate self.old.scene
             self.new.scene observer.old observer.new (Appends (K.written sink.old) (K.written sink.new))) }
+        ensures next { IfOk result (λ next. IsUpcoming next self.new.scene.net.pending) }
         ensures done { OnOk result (NothingBefore (time + 1) self.new.scene.net.pending) }
         ensures works { result ≢ Err Cut.Write → K.failures sink.new ≡ K.failures sink.old }
         ensures fails { result ≡ Err Cut.Write → K.failures sink.new ≢ K.failures sink.old }
     {
-        while let Some((due, item)) = self.scene.next_by(time) {
+        let mut next = next;
+        while let Some((due, item)) = self.scene.next_by(next, time) {
             self.do_next(alloc, due, item, observer, sink)?;
+            next = self.scene.upcoming();
         }
-        Ok(())
+        Ok(next)
     }
 
     /// All that is due at the next time, at most this, at which something is pending is done and seen: a time before which
-    /// nothing is left.
+    /// nothing is left, and what is next then.
     fn finish_next<O: Observer, K: Sink>(
         &mut self,
         alloc: Global,
         from: u64,
+        next: Option<(u64, Item)>,
         until: u64,
         observer: &mut O,
         sink: &mut K,
-    ) -> Result<u64, Cut>
+    ) -> Result<(u64, Option<(u64, Item)>), Cut>
+        requires next { IsUpcoming next self.old.scene.net.pending }
         requires first { NothingBefore from self.old.scene.net.pending }
         requires ahead { from ≤ until }
         requires moment { until ≤ 1000000000000000 }
@@ -170,17 +187,18 @@ impl<F: Fate + Drop> World<F> {
             self.new.scene observer.old o_after (AppendsSome (K.written sink.old) (K.written sink.new)) }
         ensures followed { OnOk result (Follows F.answers O.tells until self.old.fate self.new.fate self.old.scene
             self.new.scene observer.old observer.new (Appends (K.written sink.old) (K.written sink.new))) }
-        ensures done { IfOk result (λ next. NothingBefore next self.new.scene.net.pending) }
-        ensures later { IfOk result (λ next. from < next) }
+        ensures next { IfOk result (λ left. IsUpcoming left.1 self.new.scene.net.pending) }
+        ensures done { IfOk result (λ left. NothingBefore left.0 self.new.scene.net.pending) }
+        ensures later { IfOk result (λ left. from < left.0) }
         ensures works { result ≢ Err Cut.Write → K.failures sink.new ≡ K.failures sink.old }
         ensures fails { result ≡ Err Cut.Write → K.failures sink.new ≢ K.failures sink.old }
     {
-        match self.scene.next_by(until) {
+        match self.scene.next_by(next, until) {
             Some((time, _)) => {
-                self.finish(alloc, time, observer, sink)?;
-                Ok(time + 1)
+                let further = self.finish(alloc, time, next, observer, sink)?;
+                Ok((time + 1, further))
             }
-            None => Ok(until + 1),
+            None => Ok((until + 1, next)),
         }
     }
 
@@ -202,8 +220,11 @@ impl<F: Fate + Drop> World<F> {
         ensures fails { result ≡ Err Cut.Write → K.failures sink.new ≢ K.failures sink.old }
     {
         let mut from = 0;
+        let mut next = self.scene.upcoming();
         while from <= until {
-            from = self.finish_next(alloc, from, until, observer, sink)?;
+            let (later, further) = self.finish_next(alloc, from, next, until, observer, sink)?;
+            from = later;
+            next = further;
         }
         Ok(())
     }

@@ -3,6 +3,7 @@
 ghost use Rattle.std.specs.Prelude.{◌≡◌, ◌≤◌};
 
 use crate::cable::Lane;
+use crate::credit::Credit;
 use crate::stage::Stage;
 use gptp_links::Fate;
 use gptp_system::{Answer, Input, Reach};
@@ -31,7 +32,8 @@ impl Stage {
     ghost use Rattle.gptp_system.specs.Input.{Frame};
     ghost use Rattle.gptp_system.specs.Reach.{frame_reach};
     ghost use Rattle.gptp_world.specs.Net.{IsFrameDue, IsOldest};
-    ghost use Rattle.gptp_world.specs.Stage.{world_of, HasRoomToGive, IsStage};
+    ghost use Rattle.gptp_world.specs.Stage.{world_of, GiveUses, HasRoomToGive, IsStage};
+    ghost use Rattle.gptp_world.specs.Credit.{HearsBeyond, HearUses, IsCovered};
     ghost use Rattle.gptp_world.specs.Delivering.{Delivered, HasRoomToHear, HeardAt, IsHeardAt, MayHear};
     ghost use Rattle.gptp_world.specs.Timing.{AreSetFor};
 
@@ -50,6 +52,7 @@ impl Stage {
         requires room { HasRoomToGive (Frame port frame.now) place self.old }
         ensures stage { IsStage self.new }
         ensures heard { HeardAt F.answers place port frame.now result fate.old fate.new self.old self.new }
+        ensures uses { GiveUses (Frame port frame.now) place self.old self.new.net }
     {
         match self.stations[place].live {
             true => Some(self.give(
@@ -73,6 +76,7 @@ impl Stage {
         requires room { HasRoomToHear lane self.old }
         ensures stage { IsStage self.new }
         ensures delivered { Delivered F.answers lane result.at result.answer result.frame.items fate.old fate.new self.old self.new }
+        ensures uses { HearUses lane self.old self.new.net }
     {
         self.net.directory.well_formed();
         let frame = self.net.take_frame(lane, self.now);
@@ -94,18 +98,24 @@ impl Stage {
         }
     }
 
-    /// Makes room for whatever the system at the end of a lane can leave when it hears the oldest frame of the lane. Refused
-    /// where there is no memory for it. The state of the world doesn't change.
-    pub(crate) fn make_room_to_hear(&mut self, lane: Lane) -> Result<(), AllocError>
+    /// Makes room for whatever the system at the end of a lane can leave when it hears the oldest frame of the lane, beyond
+    /// the credit that is left then. Refused where there is no memory for it. The state of the world doesn't change.
+    pub(crate) fn make_room_to_hear(
+        &mut self,
+        lane: Lane,
+        credit: &mut Credit,
+    ) -> Result<(), AllocError>
         requires stage { IsStage self.old }
         requires link { lane.link < length self.old.net.cables.items }
+        requires covered { IsCovered credit.old self.old.net }
         ensures stage { IsStage self.new }
         ensures world { world_of self.new ≡ world_of self.old }
-        ensures room { OnOk result (HasRoomToHear lane self.new) }
+        ensures covered { IsCovered credit.new self.new.net }
+        ensures room { OnOk result (HearsBeyond lane credit.new self.new) }
     {
         self.net.directory.well_formed();
         let place = self.net.directory.receiver(lane);
         let reach = self.reach_of_oldest(place, lane);
-        self.make_room(place, reach)
+        self.make_room_beyond(credit, place, reach)
     }
 }

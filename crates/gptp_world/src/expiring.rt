@@ -1,5 +1,6 @@
 //! Timers that expire.
 
+use crate::credit::Credit;
 use crate::net::Net;
 use crate::stage::Stage;
 use gptp_links::Fate;
@@ -30,6 +31,7 @@ impl Stage {
     ghost use Rattle.gptp_acts.specs.Agrees.{Agrees};
     ghost use Rattle.gptp_system.specs.Input.{Expires};
     ghost use Rattle.gptp_world.specs.Aim.{IsTimerDue};
+    ghost use Rattle.gptp_world.specs.Credit.{ExpiresBeyond, ExpiryUses, IsCovered};
     ghost use Rattle.gptp_world.specs.Performing.{Expired};
     ghost use Rattle.gptp_world.specs.Stage.{world_of, HasRoomToGive, HasTimerAt, IsStage};
 
@@ -41,25 +43,29 @@ impl Stage {
         requires room { HasRoomToGive (Expires timer) place self.old }
         ensures stage { IsStage self.new }
         ensures expired { Expired F.answers place timer fate.old fate.new self.old self.new }
+        ensures uses { ExpiryUses place timer self.old self.new.net }
     {
         self.net.take_timer(place, timer);
         self.give(place, Input::Expires(timer), fate);
     }
 
-    /// Makes room for whatever the system at a place can leave when a timer of it expires. Refused where there is no memory
-    /// for it. The state of the world doesn't change.
+    /// Makes room for whatever the system at a place can leave when a timer of it expires, beyond the credit that is left
+    /// then. Refused where there is no memory for it. The state of the world doesn't change.
     pub(crate) fn make_room_to_expire(
         &mut self,
         place: usize,
         timer: Timer,
+        credit: &mut Credit,
     ) -> Result<(), AllocError>
         requires stage { IsStage self.old }
         requires timer { HasTimerAt place timer self.old }
+        requires covered { IsCovered credit.old self.old.net }
         ensures stage { IsStage self.new }
         ensures world { world_of self.new ≡ world_of self.old }
-        ensures room { OnOk result (HasRoomToGive (Expires timer) place self.new) }
+        ensures covered { IsCovered credit.new self.new.net }
+        ensures room { OnOk result (ExpiresBeyond place timer credit.new self.new) }
     {
         let reach = self.stations[place].system.timer_reach(timer);
-        self.make_room(place, reach)
+        self.make_room_beyond(credit, place, reach)
     }
 }

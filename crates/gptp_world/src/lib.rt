@@ -13,6 +13,7 @@ mod buffers;
 mod cable;
 mod changing;
 mod checking;
+mod credit;
 mod delivering;
 mod directory;
 mod expiring;

@@ -5,11 +5,11 @@ ghost use Rattle.gptp_world.specs.Performing.{octets_of};
 
 use crate::aim::Aim;
 use crate::cable::Lane;
+use crate::credit::Credit;
 use crate::delivering::Reached;
 use crate::stage::Stage;
 use gptp_acts::{Act, Change, Done};
 use gptp_links::{Bounds, Fate};
-use gptp_system::Reach;
 use std::alloc::AllocError;
 
 /// What an act injects; no other injects anything.
@@ -36,6 +36,7 @@ impl Stage {
     ghost use Rattle.gptp_plan.specs.declared.change.Act.TheVariants.{Deliver};
     ghost use Rattle.gptp_acts.specs.Acts.{AtPlace, IsOldestDue};
     ghost use Rattle.gptp_acts.specs.Agrees.{Agrees};
+    ghost use Rattle.gptp_world.specs.Credit.{HearUses};
     ghost use Rattle.gptp_world.specs.Delivering.{HasRoomToHear};
     ghost use Rattle.gptp_world.specs.Net.{LinkIs};
     ghost use Rattle.gptp_world.specs.Performing.{Acted, CanChange, HasRoomForAim, Injected, Turned, Turns};
@@ -54,6 +55,7 @@ impl Stage {
         requires room { HasRoomToHear lane self.old }
         ensures stage { IsStage self.new }
         ensures arrived { Acted F.answers (Deliver lane.link lane.direction) result fate.old fate.new self.old self.new }
+        ensures uses { HearUses lane self.old self.new.net }
     {
         let Reached { at, answer, frame } = self.deliver(lane, fate);
         Done::Heard {
@@ -167,31 +169,61 @@ impl Stage {
     ghost use Rattle.gptp_acts.specs.Acts.{IsDueThen};
     ghost use Rattle.gptp_plan.specs.Allowed.{IsFitAct};
     ghost use Rattle.gptp_world.specs.Aim.{IsAimOf};
+    ghost use Rattle.gptp_world.specs.Credit.{IsChange, IsCovered, LeavesCredit, UsesForAim};
     ghost use Rattle.gptp_world.specs.Memory.{AsksForNoMemory};
     ghost use Rattle.gptp_world.specs.Performing.{Acted, HasRoomForAim};
     ghost use Rattle.gptp_acts.specs.Sound.{IsSound};
     ghost use Rattle.gptp_world.specs.Stage.{world_of, IsStage};
 
-    /// Makes room for whatever an act can leave: none for a failure, or where nothing will change. Refused where there is no
+    /// Makes room for whatever a change can leave: none for a failure, or where nothing will change. Refused where there is no
     /// memory for it. The state of the world doesn't change.
-    pub(crate) fn make_room_for(&mut self, act: &Act, aim: Aim) -> Result<(), AllocError>
+    fn make_room_to_change(&mut self, act: &Act, aim: Aim) -> Result<(), AllocError>
         requires stage { IsStage self.old }
         requires aim { IsAimOf act.now (world_of self.old) aim }
+        requires change { IsChange aim }
         ensures stage { IsStage self.new }
         ensures world { world_of self.new ≡ world_of self.old }
         ensures room { OnOk result (HasRoomForAim aim self.new) }
         ensures free { AsksForNoMemory act.now (world_of self.old) → IsOk result }
     {
         match aim {
-            Aim::Arrival(lane) => self.make_room_to_hear(lane),
-            Aim::Timer { place, timer } => self.make_room_to_expire(place, timer),
             Aim::LinkDown(link) => self.make_room_to_take_down(link),
             Aim::LinkUp(link) => self.make_room_to_bring_up(link),
             Aim::LinkSet { link: _, bounds: _ } => Ok(()),
             Aim::Fail(_) => Ok(()),
             Aim::Recover(place) => self.make_room_to_recover(place),
-            Aim::Priority1 { place, value: _ } => self.make_room(place, Reach::All),
+            Aim::Priority1 { place, value: _ } => self.make_room(place),
             Aim::Inject(lane) => self.make_room_to_inject(lane),
+            Aim::Arrival(_) => Ok(()),
+            Aim::Timer { place: _, timer: _ } => Ok(()),
+        }
+    }
+
+    /// Makes room for whatever an act can leave, beyond the credit that is left then; a change gives all credit up. Refused
+    /// where there is no memory for it. The state of the world doesn't change.
+    pub(crate) fn make_room_for(
+        &mut self,
+        act: &Act,
+        aim: Aim,
+        credit: &mut Credit,
+    ) -> Result<(), AllocError>
+        requires stage { IsStage self.old }
+        requires aim { IsAimOf act.now (world_of self.old) aim }
+        requires covered { IsCovered credit.old self.old.net }
+        ensures stage { IsStage self.new }
+        ensures world { world_of self.new ≡ world_of self.old }
+        ensures covered { IsCovered credit.new self.new.net }
+        ensures room { OnOk result (HasRoomForAim aim self.new) }
+        ensures left { OnOk result (LeavesCredit aim credit.new self.new) }
+        ensures free { AsksForNoMemory act.now (world_of self.old) → IsOk result }
+    {
+        match aim {
+            Aim::Arrival(lane) => self.make_room_to_hear(lane, credit),
+            Aim::Timer { place, timer } => self.make_room_to_expire(place, timer, credit),
+            _ => {
+                credit.give_up();
+                self.make_room_to_change(act, aim)
+            }
         }
     }
 
@@ -205,6 +237,7 @@ impl Stage {
         requires room { HasRoomForAim aim self.old }
         ensures stage { IsStage self.new }
         ensures acted { Acted F.answers act.now result fate.old fate.new self.old self.new }
+        ensures uses { UsesForAim aim self.old self.new.net }
     {
         match aim {
             Aim::Arrival(lane) => self.arrive(lane, fate),

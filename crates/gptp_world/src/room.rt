@@ -8,7 +8,6 @@ use crate::cable::{Cable, Lane};
 use crate::net::Net;
 use crate::pending::Pending;
 use crate::stage::Stage;
-use gptp_system::Reach;
 use std::alloc::AllocError;
 
 /// Makes room for so many more frames in each direction of a link. Refused where there is no memory for them. No frame
@@ -35,7 +34,7 @@ impl Net {
     ghost use Rattle.std.specs.Prelude.{◌≡◌, ◌≤◌, ◌<◌, ◌+◌, ◌*◌, ℕ, length, Some, slice_get, OnOk};
     ghost use Rattle.gptp_world.specs.Net.{IsNet};
     ghost use Rattle.gptp_acts.specs.World.{port_id};
-    ghost use Rattle.gptp_world.specs.Room.{HasRoomAtPorts, HasRoomAtReach, HasRoomBothWays, HasRoomFrom, OnlyRoom};
+    ghost use Rattle.gptp_world.specs.Room.{HasRoomAtPorts, HasRoomBothWays, HasRoomFrom, OnlyRoom};
 
     /// Makes room for so many more frames that a port of the system at a place sends. Refused where there is no memory for
     /// them.
@@ -58,7 +57,7 @@ impl Net {
     }
 
     /// So it does for each port up to this one. Nothing changes but the room that there is.
-    fn make_room_at_ports(
+    pub(crate) fn make_room_at_ports(
         &mut self,
         place: usize,
         ports: u8,
@@ -78,27 +77,6 @@ impl Net {
         Ok(())
     }
 
-    /// So it does for each of these ports that is reached. Nothing changes but the room that there is.
-    fn make_room_at_reach(
-        &mut self,
-        place: usize,
-        ports: u8,
-        reach: Reach,
-        frames: usize,
-    ) -> Result<(), AllocError>
-        requires net { IsNet self.old }
-        requires place { place < length self.old.directory.clocks }
-        ensures net { IsNet self.new }
-        ensures only { OnlyRoom self.old self.new }
-        ensures ok { OnOk result (HasRoomAtReach frames place ports reach self.new) }
-    {
-        match reach {
-            Reach::Nothing => Ok(()),
-            Reach::Port(port) => self.make_room_at(place, port, frames),
-            Reach::All => self.make_room_at_ports(place, ports, frames),
-        }
-    }
-
     /// Makes room for one more frame in each direction of a link. Refused where there is no memory for it. Nothing changes but
     /// the room that there is.
     fn make_room_on_link(&mut self, link: usize) -> Result<(), AllocError>
@@ -113,7 +91,7 @@ impl Net {
 
     /// Makes room for so many more entries, and buffers until so many stand ready. Refused where there is no memory for
     /// them. Nothing changes but the room that there is.
-    fn reserve(&mut self, entries: usize, buffers: usize) -> Result<(), AllocError>
+    pub(crate) fn reserve(&mut self, entries: usize, buffers: usize) -> Result<(), AllocError>
         requires net { IsNet self.old }
         ensures net { IsNet self.new }
         ensures only { OnlyRoom self.old self.new }
@@ -129,22 +107,22 @@ impl Stage {
     ghost use Rattle.std.specs.Prelude.{◌≡◌, ◌≢◌, ◌≤◌, ◌<◌, length, true, false, IsOk, OnOk};
     ghost use Rattle.gptp_world.specs.Net.{LinkIs};
     ghost use Rattle.gptp_world.specs.Room.{HasRoomToInject};
-    ghost use Rattle.gptp_world.specs.Stage.{world_of, HasRoomToCallBoth, HasRoomWithin, IsStage, SystemIs};
+    ghost use Rattle.gptp_world.specs.Stage.{world_of, HasRoomToCall, HasRoomToCallBoth, IsStage, SystemIs};
     ghost use Rattle.gptp_world.specs.Starting.{HasRoomToStart};
 
-    /// Makes room for whatever a call of the system at a place can leave that reaches so far: each of its timers, and two
-    /// frames at each port that it reaches. Refused where there is no memory for it. The state of the world doesn't change.
-    pub(crate) fn make_room(&mut self, place: usize, reach: Reach) -> Result<(), AllocError>
+    /// Makes room for whatever a call of the system at a place can leave: each of its timers, and two frames at each port.
+    /// Refused where there is no memory for it. The state of the world doesn't change.
+    pub(crate) fn make_room(&mut self, place: usize) -> Result<(), AllocError>
         requires stage { IsStage self.old }
         requires place { place < length self.old.stations.items }
         ensures stage { IsStage self.new }
         ensures world { world_of self.new ≡ world_of self.old }
-        ensures room { OnOk result (HasRoomWithin reach place self.new) }
+        ensures room { OnOk result (HasRoomToCall place self.new) }
     {
         let ports = self.stations[place].system.ports();
         let count = usize::from(ports);
         self.net.reserve(6 * count + 2, 2 * count)?;
-        self.net.make_room_at_reach(place, ports, reach, 2)
+        self.net.make_room_at_ports(place, ports, 2)
     }
 
     /// Makes room for a start of the system at a place: each of its timers, and a call for each of its ports. Refused where

@@ -6,16 +6,18 @@ ghost use Rattle.gptp_world.specs.Scene.{IsFounded, SystemsStarted};
 
 use crate::aim::Aim;
 use crate::checking::sets_an_octet;
+use crate::credit::Credit;
 use crate::stage::Stage;
 use gptp_acts::{Done, Network, Refused, Timed};
 use gptp_links::Fate;
 use std::alloc::{AllocError, Global};
 use std::marker::Model;
 
-/// A world without its fate: its systems, and what is between them.
+/// A world without its fate: its systems, and what is between them; and for how many frames there is room ahead.
 #[derive(Drop)]
 pub(crate) struct Scene {
     pub(crate) stage: Stage,
+    credit: Credit,
 }
 
 impl Model for Scene {
@@ -28,7 +30,7 @@ impl Model for Scene {
 
     ghost view = { λ s. world_of s.stage };
 
-    ghost invariant = { λ s. IsScene s.stage };
+    ghost invariant = { λ s. IsScene s.credit s.stage };
 }
 
 /// The system at a place starts, once room is made for it. Refused where there is no memory for that.
@@ -79,7 +81,8 @@ impl Scene {
         network.well_formed();
         let mut stage = Stage::found(alloc, network)?;
         start_all(&mut stage, fate)?;
-        Ok(Scene { stage })
+        let credit = Credit::new(alloc, stage.stations.len())?;
+        Ok(Scene { stage, credit })
     }
 
     /// An act is done at its time, where it can be; otherwise the first test that it fails is answered, and nothing changes.
@@ -124,7 +127,7 @@ impl Scene {
         ensures kept { OnErr result (self.new ≡ self.old) }
         ensures fate { OnErr result (fate.new ≡ fate.old) }
     {
-        self.stage.make_room_for(&timed.act, aim)?;
+        self.stage.make_room_for(&timed.act, aim, &mut self.credit)?;
         self.stage.now = timed.at;
         Ok(self.stage.perform(&timed.act, aim, fate))
     }

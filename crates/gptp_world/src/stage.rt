@@ -20,7 +20,7 @@ impl Stage {
     ghost use Rattle.gptp_system.specs.declared.answer.Answer.{Answer};
     ghost use Rattle.gptp_system.specs.Input.{given, Input as Given};
     ghost use Rattle.gptp_world.specs.declared.stage.Stage.{Stage};
-    ghost use Rattle.gptp_world.specs.Stage.{Called, CallUses, CarriesOut, HasRoomToGive, HasStepped, IsLiveAt, IsStage, IsTimelyAt};
+    ghost use Rattle.gptp_world.specs.Stage.{Called, CallUses, CarriesOut, GiveUses, HasRoomToGive, HasStepped, IsLiveAt, IsStage, IsTimelyAt};
     ghost use Rattle.gptp_world.specs.Timing.{AreSetFor, HasTouched};
 
     /// What a step of the system at a place left is carried out: its timers follow, of which it touched no others than
@@ -32,8 +32,8 @@ impl Stage {
             → HasStepped place input answer before self.old → IsStage self.new }
         ensures called { (before : Stage) (input : Given) (answer : Answer) → HasStepped place input answer before self.old
             → Called F.answers place input answer fate.old fate.new before self.new }
-        ensures uses { (before : Stage) (input : Given) (answer : Answer) → HasStepped place input answer before self.old
-            → IsTimelyAt input place before → CallUses place before self.new.net }
+        ensures within { (before : Stage) (input : Given) (answer : Answer) → HasStepped place input answer before self.old
+            → IsTimelyAt input place before → GiveUses input place before self.new.net }
     {
         let station = &self.stations[place];
         self.net.set_touched(place, station, touched);
@@ -57,6 +57,7 @@ impl Stage {
         requires room { HasRoomToGive (given input) place self.old }
         ensures stage { IsStage self.new }
         ensures called { Called F.answers place (given input.entry) result fate.old fate.new self.old self.new }
+        ensures within { GiveUses (given input.entry) place self.old self.new.net }
         ensures uses { CallUses place self.old self.new.net }
     {
         let system = &mut self.stations[place].system;

@@ -1,16 +1,22 @@
 -- Lines of one kind behind those of another.
+use Rattle.std.proofs.Common.{map}
 use Rattle.std.specs.Prelude.{string_bytes}
 use Rattle.std.proofs.lemmas.Result.{on_ok_weaker}
-use Rattle.gptp_lint.proofs.TextLemmas.{more_lines}
+use Rattle.gptp_lint.specs.LintText.{apart_line, chance_line, nobody_line, unlinked_line}
+use Rattle.gptp_lint.proofs.TextLemmas.{four_kinds}
 use Rattle.gptp_lint.proofs.text.write_others.Goals as goal
 
 pub returns : goal.returns
 returns c =
-    let t0 = string_bytes c.args.text.now in
-    let t1 = string_bytes c.write_unlinked.new.text in
-    let t2 = string_bytes c.write_apart.new.text in
-    let t3 = string_bytes c.write_chance.new.text in
-    let two = more_lines t0 t1 t2 c.in_ok-write_unlinked.ensures c.in_ok-write_apart.ensures in
-    let three = more_lines t0 t2 t3 two c.in_ok-write_chance.ensures in
-    on_ok_weaker c.write_nobody.result (more_lines t0 t3 (string_bytes c.write_nobody.new.text) three)
-    c.write_nobody.ensures
+    let f = c.args.findings.now in
+    let unlinked = map unlinked_line f.unlinked.items in
+    let apart = map apart_line f.components.apart.items in
+    let chance = map chance_line f.components.chance.items in
+    let nobody = map nobody_line f.components.nobody.items in
+    on_ok_weaker c.write_nobody.result
+    (four_kinds (string_bytes c.args.text.now) (string_bytes c.write_unlinked.new.text)
+    (string_bytes c.write_apart.new.text) (string_bytes c.write_chance.new.text) (string_bytes c.write_nobody.new.text)
+    unlinked apart chance nobody (rw c.deref.ensures.value at c.in_ok-write_unlinked.ensures)
+    (rw c.deref-2.ensures.value at c.in_ok-write_apart.ensures)
+    (rw c.deref-3.ensures.value at c.in_ok-write_chance.ensures))
+    (rw c.deref-4.ensures.value at c.write_nobody.ensures)

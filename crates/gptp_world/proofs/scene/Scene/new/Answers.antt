@@ -1,6 +1,7 @@
 use Rattle.gptp_acts.specs.Initial.{initial}
 use Rattle.gptp_world.specs.Stage.{world_of}
 use Rattle.gptp_world.proofs.ClaimedLemmas.{begun_claimed, begun_from}
+use Rattle.gptp_world.proofs.CreditLemmas.{none_covered}
 use Rattle.gptp_world.proofs.InitialLemmas.{initial_sound}
 use Rattle.gptp_world.proofs.SceneLemmas.{same_sound}
 use Rattle.gptp_world.proofs.scene.Scene.new.Goals as goal
@@ -22,4 +23,5 @@ invariant_of-result g c =
           c.well_formed-2.ensures
           (begun_from g.F.Fate.answers n c.args.fate.now c.start_all.new.fate c.in_ok-stage.stage after
           c.in_ok-stage.ensures.world done.started);
+      covered = none_covered c.in_ok-credit.credit after.net done.scene.stage_kept.net c.in_ok-credit.ensures;
     }

@@ -20,4 +20,5 @@ invariant_of-self c =
       stage_kept = stage_later stage until c.requires.moment c.self.invariant.stage_kept;
       sound = later_sound (world_of stage) until stage.last_change c.self.invariant.sound first;
       claimed = claimed_later (world_of stage) until early first c.self.invariant.claimed;
+      covered = c.self.invariant.covered;
     }

@@ -8,7 +8,7 @@ use Rattle.gptp_world.specs.Room.{for_sends, for_timers, HasRoom, Uses}
 use Rattle.gptp_world.specs.Stage.{for_left}
 use Rattle.gptp_world.proofs.NeedLemmas.{left_of, uses_both, uses_timers}
 use Rattle.gptp_lists.proofs.PlaceLemmas.{read, get-set_same}
-use Rattle.gptp_world.proofs.StageLemmas.{call_uses, called, stays, timers_set}
+use Rattle.gptp_world.proofs.StageLemmas.{called, give_uses, stays, timers_set}
 use Rattle.gptp_world.proofs.stage.Stage.carry_out.Goals as goal
 
 pub send_all-requires-clause-room : goal.send_all-requires-clause-room
@@ -23,8 +23,8 @@ send_all-requires-clause-room g c =
     (left_of (for_timers used) (for_sends (clock one.system) c.args.self.now.outbox.items) net
     c.set_touched.new.self (uses_timers used net c.set_touched.new.self c.set_touched.ensures.only) room)
 
-pub returns-clause-uses : goal.returns-clause-uses
-returns-clause-uses g c = λ before input answer step given.
+pub returns-clause-within : goal.returns-clause-within
+returns-clause-within g c = λ before input answer step given.
     let one = c.index-station.result.now in let net = c.args.self.now.net in
     let used = 4 * length one.system.ports + 2 in let sends = c.args.self.now.outbox.items in
     let sent : Uses (for_sends (clock one.system) sends) c.set_touched.new.self c.send_all.new.self =
@@ -32,7 +32,7 @@ returns-clause-uses g c = λ before input answer step given.
     let all : Uses (for_left one.system sends) net c.send_all.new.self =
     uses_both (for_timers used) (for_sends (clock one.system) sends) net c.set_touched.new.self c.send_all.new.self
     (uses_timers used net c.set_touched.new.self c.set_touched.ensures.only) sent in
-    call_uses before c.args.self.now c.send_all.new.self c.args.place input answer step given
+    give_uses before c.args.self.now c.send_all.new.self c.args.place input answer step given
     (λ station here.
     let is : one ≡ station = c.index-station.ensures
     ∙ read c.args.self.now.stations.items c.args.place station one here in

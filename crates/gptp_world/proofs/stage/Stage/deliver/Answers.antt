@@ -5,6 +5,8 @@ use Rattle.gptp_vector.specs.declared.port.PortId.{PortId}
 use Rattle.gptp_world.specs.Cable.{channel_of, join_of}
 use Rattle.gptp_world.specs.Directory.{end_of, DirectoryState}
 use Rattle.gptp_world.specs.Net.{between, IsOldest}
+use Rattle.gptp_world.specs.Room.{for_reach}
+use Rattle.gptp_world.proofs.CreditLemmas.{after_nothing}
 use Rattle.gptp_world.proofs.DeliveringLemmas.{oldest_taken}
 use Rattle.gptp_world.proofs.EndLemmas.{end_placed, end_same, known_join, place_within, station_at}
 use Rattle.gptp_world.proofs.StageLemmas.{net_replaced, room_kept}
@@ -106,4 +108,32 @@ returns-clause-delivered g c =
         is_end = stands.named ∙ ap (λ (p : PortId). p.clock) ends;
         hears = rw (← port, ← c.deref.ensures.value) heard.hears;
       };
+    }
+
+pub returns-clause-uses : goal.returns-clause-uses
+returns-clause-uses g c =
+    let net = c.args.self.now.net in let due = c.requires.due in let lane = c.args.lane in
+    let join = join_of due.cable in
+    let there = known_join net lane.link due.cable c.requires.stage.net due.here in
+    let same = c.take_frame-frame.ensures.uses.directory in
+    let place = c.receiver-place.ensures join (ap (λ (d : DirectoryState). slice_get d.joins lane.link) same ∙ there) in
+    let placed = ap (λ (d : DirectoryState). slice_get d.clocks c.receiver-place.result) (sym same) ∙ place in
+    let octets = c.deref.result.now in
+    let takes = c.take_frame-frame.ensures.takes due.cable due.here in
+    let stands = station_at c.args.self.now c.receiver-place.result (end_of lane.direction join).clock c.requires.stage
+    placed in
+    record {
+      join = join;
+      place = c.receiver-place.result;
+      octets = octets;
+      station = stands.station;
+      there = there;
+      placed = placed;
+      oldest = rw c.deref.ensures.value
+          (oldest_taken net c.take_frame-frame.new.self lane c.args.self.now.now c.take_frame-frame.result.items due
+          takes);
+      here = stands.here;
+      uses = after_nothing (for_reach (frame_reach octets) stands.station.system) net c.take_frame-frame.new.self
+          c.hear_if_live-answer.new.self.net c.take_frame-frame.ensures.uses
+          (c.hear_if_live-answer.ensures.uses stands.station stands.here);
     }

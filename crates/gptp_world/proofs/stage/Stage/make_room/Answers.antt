@@ -1,7 +1,7 @@
 use Rattle.std.proofs.Common.{◌≡◌, ◌*◌, ◌+◌, ◌≤◌, length, Some, slice_get, refl, ap, sym, ◌∙◌, arith}
 use Rattle.std.proofs.lemmas.Option.{slice_get-get_or}
 use Rattle.gptp_world.proofs.QueueLemmas.{on_ok}
-use Rattle.gptp_world.proofs.RoomLemmas.{one_after_another, room_within, stage_stays}
+use Rattle.gptp_world.proofs.RoomLemmas.{one_after_another, room_to_call, stage_stays}
 use Rattle.gptp_world.proofs.stage.Stage.make_room.Goals as goal
 
 pub returns-in_err-reserve-clause-stage : goal.returns-in_err-reserve-clause-stage
@@ -11,25 +11,25 @@ returns-in_err-reserve-clause-stage c =
 pub returns-clause-stage : goal.returns-clause-stage
 returns-clause-stage c =
     stage_stays c.args.self.now _ refl refl refl
-    (one_after_another c.args.self.now.net c.reserve.new.self c.make_room_at_reach.new.self c.reserve.ensures.only
-    c.make_room_at_reach.ensures.only) c.requires.stage
+    (one_after_another c.args.self.now.net c.reserve.new.self c.make_room_at_ports.new.self c.reserve.ensures.only
+    c.make_room_at_ports.ensures.only) c.requires.stage
 
 pub returns-clause-room : goal.returns-clause-room
 returns-clause-room c =
     let one = c.index.result.now in let stage = c.args.self.now in
     let here : slice_get stage.stations.items c.args.place ≡ Some one =
     slice_get-get_or stage.stations.items c.args.place one c.requires.place ∙ ap Some (sym c.index.ensures) in
-    let only = one_after_another stage.net c.reserve.new.self c.make_room_at_reach.new.self c.reserve.ensures.only
-    c.make_room_at_reach.ensures.only in
-    let after = record stage { net = c.make_room_at_reach.new.self } in
+    let only = one_after_another stage.net c.reserve.new.self c.make_room_at_ports.new.self c.reserve.ensures.only
+    c.make_room_at_ports.ensures.only in
+    let after = record stage { net = c.make_room_at_ports.new.self } in
     let is = stage_stays stage after refl refl refl only c.requires.stage in
     let count = c.ports-ports.ensures in
-    let more = c.make_room_at_reach.ensures.only in let entries = more.entries in let buffers = more.buffers in
+    let more = c.make_room_at_ports.ensures.only in let entries = more.entries in let buffers = more.buffers in
     let ports = c.from-count.ensures in let made = c.in_ok-reserve.ensures in
     let made_entries : 6 * c.ports-ports.result + 2 ≤ c.reserve.new.self.pending.room = rw (← ports) made.entries in
     let made_buffers : 2 * c.ports-ports.result ≤ c.reserve.new.self.buffers.ready = rw (← ports) made.buffers in
     let room : 6 * length one.system.ports + 2 ≤ after.net.pending.room = rw (← count) (omega arith) in
     let ready : 2 * length one.system.ports ≤ after.net.buffers.ready = rw (← count) (omega arith) in
-    on_ok c.make_room_at_reach.result _ _
-    (λ has. room_within after c.args.reach c.args.place one is here room ready (rw (← count) has))
-    c.make_room_at_reach.ensures.ok
+    on_ok c.make_room_at_ports.result _ _
+    (λ has. room_to_call after c.args.place one is here room ready (rw (← count) has))
+    c.make_room_at_ports.ensures.ok

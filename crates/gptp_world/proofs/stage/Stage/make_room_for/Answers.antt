@@ -1,7 +1,11 @@
-use Rattle.std.proofs.Common.{subst}
+use Rattle.std.proofs.Common.{subst, sym}
 use Rattle.gptp_world.specs.Aim.{IsAimOf}
+use Rattle.gptp_world.specs.Credit.{LeavesCredit}
+use Rattle.gptp_world.specs.Performing.{HasRoomForAim}
 use Rattle.gptp_world.specs.Stage.{world_of}
+use Rattle.gptp_world.proofs.CreditLemmas.{change_leaves, expires_room, hears_room, is_changing, none_covered}
 use Rattle.gptp_world.proofs.PerformingLemmas.{aim_within, free_aim, timer_there, AsksForNone, IsWithin}
+use Rattle.gptp_world.proofs.QueueLemmas.{on_ok}
 use Rattle.gptp_world.proofs.stage.Stage.make_room_for.Goals as goal
 
 pub make_room_to_hear-requires-clause-link : goal.make_room_to_hear-requires-clause-link
@@ -15,30 +19,19 @@ make_room_to_expire-requires-clause-timer c =
     timer_there c.args.act.now c.in-Timer.place c.in-Timer.timer stage
     (subst (λ aim. IsAimOf c.args.act.now (world_of stage) aim) c.in-Timer.is c.requires.aim)
 
-pub make_room_to_take_down-requires-clause-link : goal.make_room_to_take_down-requires-clause-link
-make_room_to_take_down-requires-clause-link c =
-    let stage = c.args.self.now in
-    subst (λ aim. IsWithin aim stage) c.in-LinkDown.is (aim_within c.args.act.now c.args.aim stage c.requires.aim)
+pub returns-in-Arrival-clause-room : goal.returns-in-Arrival-clause-room
+returns-in-Arrival-clause-room c =
+    let stage = c.make_room_to_hear.new.self in let credit = c.make_room_to_hear.new.credit in
+    on_ok c.make_room_to_hear.result _ _
+    (λ has. subst (λ aim. HasRoomForAim aim stage) (sym c.in-Arrival.is)
+    (hears_room c.in-Arrival.lane credit stage has))
+    c.make_room_to_hear.ensures.room
 
-pub make_room_to_bring_up-requires-clause-link : goal.make_room_to_bring_up-requires-clause-link
-make_room_to_bring_up-requires-clause-link c =
-    let stage = c.args.self.now in
-    subst (λ aim. IsWithin aim stage) c.in-LinkUp.is (aim_within c.args.act.now c.args.aim stage c.requires.aim)
-
-pub make_room_to_recover-requires-clause-place : goal.make_room_to_recover-requires-clause-place
-make_room_to_recover-requires-clause-place c =
-    let stage = c.args.self.now in
-    subst (λ aim. IsWithin aim stage) c.in-Recover.is (aim_within c.args.act.now c.args.aim stage c.requires.aim)
-
-pub make_room-requires-clause-place : goal.make_room-requires-clause-place
-make_room-requires-clause-place c =
-    let stage = c.args.self.now in
-    subst (λ aim. IsWithin aim stage) c.in-Priority1.is (aim_within c.args.act.now c.args.aim stage c.requires.aim)
-
-pub make_room_to_inject-requires-clause-link : goal.make_room_to_inject-requires-clause-link
-make_room_to_inject-requires-clause-link c =
-    let stage = c.args.self.now in
-    subst (λ aim. IsWithin aim stage) c.in-Inject.is (aim_within c.args.act.now c.args.aim stage c.requires.aim)
+pub returns-in-Arrival-clause-left : goal.returns-in-Arrival-clause-left
+returns-in-Arrival-clause-left c =
+    let stage = c.make_room_to_hear.new.self in let credit = c.make_room_to_hear.new.credit in
+    on_ok c.make_room_to_hear.result _ _ (λ has. subst (λ aim. LeavesCredit aim credit stage) (sym c.in-Arrival.is) has)
+    c.make_room_to_hear.ensures.room
 
 pub returns-in-Arrival-clause-free : goal.returns-in-Arrival-clause-free
 returns-in-Arrival-clause-free c = λ asks.
@@ -47,6 +40,20 @@ returns-in-Arrival-clause-free c = λ asks.
     (subst (λ aim. AsksForNone aim stage) c.in-Arrival.is
     (free_aim c.args.act.now c.args.aim stage c.requires.aim asks))
 
+pub returns-in-Timer-clause-room : goal.returns-in-Timer-clause-room
+returns-in-Timer-clause-room c =
+    let stage = c.make_room_to_expire.new.self in let credit = c.make_room_to_expire.new.credit in
+    on_ok c.make_room_to_expire.result _ _
+    (λ has. subst (λ aim. HasRoomForAim aim stage) (sym c.in-Timer.is)
+    (expires_room c.in-Timer.place c.in-Timer.timer credit stage has))
+    c.make_room_to_expire.ensures.room
+
+pub returns-in-Timer-clause-left : goal.returns-in-Timer-clause-left
+returns-in-Timer-clause-left c =
+    let stage = c.make_room_to_expire.new.self in let credit = c.make_room_to_expire.new.credit in
+    on_ok c.make_room_to_expire.result _ _ (λ has. subst (λ aim. LeavesCredit aim credit stage) (sym c.in-Timer.is) has)
+    c.make_room_to_expire.ensures.room
+
 pub returns-in-Timer-clause-free : goal.returns-in-Timer-clause-free
 returns-in-Timer-clause-free c = λ asks.
     let stage = c.args.self.now in
@@ -54,37 +61,19 @@ returns-in-Timer-clause-free c = λ asks.
     (subst (λ aim. AsksForNone aim stage) c.in-Timer.is
     (free_aim c.args.act.now c.args.aim stage c.requires.aim asks))
 
-pub returns-in-LinkDown-clause-free : goal.returns-in-LinkDown-clause-free
-returns-in-LinkDown-clause-free c = λ asks.
-    let stage = c.args.self.now in
-    c.make_room_to_take_down.ensures.free
-    (subst (λ aim. AsksForNone aim stage) c.in-LinkDown.is
-    (free_aim c.args.act.now c.args.aim stage c.requires.aim asks))
+pub make_room_to_change-requires-clause-change : goal.make_room_to_change-requires-clause-change
+make_room_to_change-requires-clause-change c =
+    is_changing c.args.aim c.in_default.not-Arrival c.in_default.not-Timer
 
-pub returns-in-LinkUp-clause-free : goal.returns-in-LinkUp-clause-free
-returns-in-LinkUp-clause-free c = λ asks.
-    let stage = c.args.self.now in
-    c.make_room_to_bring_up.ensures.free
-    (subst (λ aim. AsksForNone aim stage) c.in-LinkUp.is
-    (free_aim c.args.act.now c.args.aim stage c.requires.aim asks))
+pub returns-in_default-clause-covered : goal.returns-in_default-clause-covered
+returns-in_default-clause-covered c =
+    let stage = c.make_room_to_change.new.self in
+    none_covered c.give_up.new.self stage.net c.make_room_to_change.ensures.stage.net c.give_up.ensures
 
-pub returns-in-Recover-clause-free : goal.returns-in-Recover-clause-free
-returns-in-Recover-clause-free c = λ asks.
-    let stage = c.args.self.now in
-    c.make_room_to_recover.ensures.free
-    (subst (λ aim. AsksForNone aim stage) c.in-Recover.is
-    (free_aim c.args.act.now c.args.aim stage c.requires.aim asks))
-
-pub returns-in-Priority1-clause-free : goal.returns-in-Priority1-clause-free
-returns-in-Priority1-clause-free c = λ asks.
-    let stage = c.args.self.now in
-    absurd
-    (subst (λ aim. AsksForNone aim stage) c.in-Priority1.is
-    (free_aim c.args.act.now c.args.aim stage c.requires.aim asks))
-
-pub returns-in-Inject-clause-free : goal.returns-in-Inject-clause-free
-returns-in-Inject-clause-free c = λ asks.
-    let stage = c.args.self.now in
-    c.make_room_to_inject.ensures.free
-    (subst (λ aim. AsksForNone aim stage) c.in-Inject.is
-    (free_aim c.args.act.now c.args.aim stage c.requires.aim asks))
+pub returns-in_default-clause-left : goal.returns-in_default-clause-left
+returns-in_default-clause-left c =
+    let stage = c.make_room_to_change.new.self in
+    on_ok c.make_room_to_change.result _ _
+    (λ has. change_leaves c.args.aim c.give_up.new.self stage
+    (is_changing c.args.aim c.in_default.not-Arrival c.in_default.not-Timer) c.give_up.ensures)
+    c.make_room_to_change.ensures.room

@@ -1,8 +1,10 @@
-use Rattle.std.proofs.Common.{subst}
+use Rattle.std.proofs.Common.{subst, sym}
 use Rattle.gptp_plan.specs.Allowed.{IsFitAct}
 use Rattle.gptp_world.specs.Aim.{IsAimOf}
+use Rattle.gptp_world.specs.Credit.{UsesForAim}
 use Rattle.gptp_world.specs.Performing.{HasRoomForAim}
 use Rattle.gptp_world.specs.Stage.{world_of}
+use Rattle.gptp_world.proofs.CreditLemmas.{change_uses, is_changing}
 use Rattle.gptp_world.proofs.PerformingLemmas.{aim_within, can_change, change_told, injection_told, is_change, same_room, same_stage, IsWithin}
 use Rattle.gptp_world.proofs.stage.Stage.perform.Goals as goal
 
@@ -37,6 +39,7 @@ returns-in-Inject g c =
       acted = injection_told g.F.Fate.answers act lane c.args.fate.now c.inject.new.fate stage c.inject.new.self
           (subst (IsAimOf act (world_of stage)) c.in-Inject.is c.requires.aim)
           (rw c.octets_of.ensures.is at c.inject.ensures.injected);
+      uses = subst (λ aim. UsesForAim aim stage c.inject.new.self.net) (sym c.in-Inject.is) tt;
     }
 
 pub returns-in_default : goal.returns-in_default
@@ -48,4 +51,14 @@ returns-in_default g c =
       stage = c.change.ensures.stage;
       acted = change_told g.F.Fate.answers c.args.act.now c.args.aim c.args.fate.now c.change.new.fate stage
           c.change.new.self is c.change.ensures.changed;
+      uses = change_uses c.args.aim stage c.change.new.self.net
+          (is_changing c.args.aim c.in_default.not-Arrival c.in_default.not-Timer);
     }
+
+pub returns-in-Arrival-clause-uses : goal.returns-in-Arrival-clause-uses
+returns-in-Arrival-clause-uses g c =
+    subst (λ aim. UsesForAim aim c.args.self.now c.arrive.new.self.net) (sym c.in-Arrival.is) c.arrive.ensures.uses
+
+pub returns-in-Timer-clause-uses : goal.returns-in-Timer-clause-uses
+returns-in-Timer-clause-uses g c =
+    subst (λ aim. UsesForAim aim c.args.self.now c.run_out.new.self.net) (sym c.in-Timer.is) c.run_out.ensures.uses

@@ -4,6 +4,8 @@ use Rattle.gptp_system.specs.Reach.{timer_reach}
 use Rattle.gptp_system.specs.Steps.{IsDue}
 use Rattle.gptp_acts.specs.declared.station.Station.{Station}
 use Rattle.gptp_world.specs.Stage.{world_of}
+use Rattle.gptp_world.specs.Room.{for_reach}
+use Rattle.gptp_world.proofs.CreditLemmas.{after_nothing}
 use Rattle.gptp_world.proofs.ExpiringLemmas.{expired, known_timer}
 use Rattle.gptp_acts.proofs.NextDueLemmas.{runs_out}
 use Rattle.gptp_world.proofs.StageLemmas.{room_kept}
@@ -47,3 +49,13 @@ pub returns-clause-expired : goal.returns-clause-expired
 returns-clause-expired g c =
     expired g.F.Fate.answers c.args.place c.args.timer c.args.fate.now c.give.new.fate c.args.self.now
     c.take_timer.new.self c.give.new.self c.requires.due c.take_timer.ensures.taken c.give.result c.give.ensures.called
+
+pub returns-clause-uses : goal.returns-clause-uses
+returns-clause-uses g c =
+    let due = c.requires.due in let s = due.station.system in
+    record {
+      station = due.station;
+      here = due.here;
+      uses = after_nothing (for_reach (timer_reach c.args.timer s) s) c.args.self.now.net c.take_timer.new.self
+          c.give.new.self.net c.take_timer.ensures.uses (c.give.ensures.within due.station due.here);
+    }

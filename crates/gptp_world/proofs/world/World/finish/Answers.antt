@@ -15,6 +15,7 @@ loop-due-init g c = record {
       c.args.self.now.scene c.args.observer.now
       (Appends (g.K.Sink.written c.args.sink.now) (g.K.Sink.written c.args.sink.now))
       (appends_none (g.K.Sink.written c.args.sink.now));
+  next = c.requires.next;
   first = c.requires.first;
   works = refl;
 }
@@ -46,6 +47,7 @@ loop-due-preserved g c =
           (λ t. Follows g.F.Fate.answers g.O.Observer.tells t c.loop-due.self.fate c.do_next.new.self.fate
           c.loop-due.self.scene c.do_next.new.self.scene c.loop-due.observer c.do_next.new.observer
           (Appends between new)) same one.followed);
+      next = c.upcoming-next.ensures;
       first = subst (λ t. NothingBefore t c.do_next.new.self.scene.net.pending) same one.first;
       works = one.works (λ no. absurd cc) ∙ so_far.works;
     }

@@ -2,7 +2,7 @@ use Rattle.std.specs.Prelude.{◌≡◌}
 use Rattle.std.specs.Io.KnownBytes.{Appends}
 use Rattle.gptp_acts.specs.Ahead.{due_by}
 use Rattle.gptp_acts.specs.Pending.{NothingBefore}
-use Rattle.gptp_world.specs.Following.{Follows}
+use Rattle.gptp_world.specs.Following.{Follows, IsUpcoming}
 use Rattle.gptp_world.proofs.world.World.finish.Given as goal
 
 -- it went on so far, nothing is pending before the time, and no write has failed
@@ -11,6 +11,7 @@ invariant-loop-due g l = record {
   followed : Follows g.F.Fate.answers g.O.Observer.tells l.time l.initial.self.fate l.self.fate l.initial.self.scene
       l.self.scene l.initial.observer l.observer
       (Appends (g.K.Sink.written l.initial.sink) (g.K.Sink.written l.sink));
+  next : IsUpcoming l.next l.self.scene.net.pending;
   first : NothingBefore l.time l.self.scene.net.pending;
   works : g.K.Sink.failures l.sink ≡ g.K.Sink.failures l.initial.sink;
 }

@@ -14,15 +14,16 @@ loop-from-preserved g c =
           c.loop-from.self.fate c.finish_next.new.self.fate c.args.self.now.scene c.loop-from.self.scene
           c.finish_next.new.self.scene c.args.observer.now c.loop-from.observer c.finish_next.new.observer
           (Appends old between) (Appends between new) (Appends old new) (appends_both old between new)
-          c.loop-from.invariant.followed c.in_ok-from.ensures.followed;
-      first = c.in_ok-from.ensures.done;
-      works = c.in_ok-from.ensures.works (λ no. absurd cc) ∙ c.loop-from.invariant.works;
+          c.loop-from.invariant.followed c.in_ok-later.ensures.followed;
+      next = c.in_ok-later.ensures.next;
+      first = c.in_ok-later.ensures.done;
+      works = c.in_ok-later.ensures.works (λ no. absurd cc) ∙ c.loop-from.invariant.works;
     }
 
-pub returns-in_err-from-clause-went : goal.returns-in_err-from-clause-went
-returns-in_err-from-clause-went g c =
+pub returns-in_err-later-clause-went : goal.returns-in_err-later-clause-went
+returns-in_err-later-clause-went g c =
     let old = g.K.Sink.written c.args.sink.now in let between = g.K.Sink.written c.loop-from.sink in
-    let new = g.K.Sink.written c.finish_next.new.sink in let went = c.in_err-from.ensures.went in (
+    let new = g.K.Sink.written c.finish_next.new.sink in let went = c.in_err-later.ensures.went in (
       went.0,
       follows_more g.F.Fate.answers g.O.Observer.tells c.args.until c.args.self.now.fate c.loop-from.self.fate
           c.finish_next.new.self.fate c.args.self.now.scene c.loop-from.self.scene c.finish_next.new.self.scene

@@ -6,8 +6,8 @@ use Rattle.gptp_world.proofs.FollowLemmas.{follows_later, follows_none}
 use Rattle.gptp_sink.proofs.SinkLemmas.{appends_none, none_of}
 use Rattle.gptp_world.proofs.world.World.finish_next.Goals as goal
 
-pub returns-in_err-finish-in-Some-clause-went : goal.returns-in_err-finish-in-Some-clause-went
-returns-in_err-finish-in-Some-clause-went g c =
+pub returns-in_err-further-in-Some-clause-went : goal.returns-in_err-further-in-Some-clause-went
+returns-in_err-further-in-Some-clause-went g c =
     let went = c.finish.ensures.went in (
       went.0,
       follows_later g.F.Fate.answers g.O.Observer.tells c.in-Some.time c.args.until c.args.self.now.fate
@@ -17,9 +17,9 @@ returns-in_err-finish-in-Some-clause-went g c =
           c.in-Some.ensures.early went.1,
     )
 
-pub returns-in_ok-finish-in-Some-clause-went : goal.returns-in_ok-finish-in-Some-clause-went
-returns-in_ok-finish-in-Some-clause-went g c =
-    let went = c.in_ok-finish-in-Some.ensures.went in (
+pub returns-in_ok-further-in-Some-clause-went : goal.returns-in_ok-further-in-Some-clause-went
+returns-in_ok-further-in-Some-clause-went g c =
+    let went = c.in_ok-further-in-Some.ensures.went in (
       went.0,
       follows_later g.F.Fate.answers g.O.Observer.tells c.in-Some.time c.args.until c.args.self.now.fate
           c.finish.new.self.fate c.args.self.now.scene c.finish.new.self.scene
@@ -28,16 +28,16 @@ returns-in_ok-finish-in-Some-clause-went g c =
           c.in-Some.ensures.early went.1,
     )
 
-pub returns-in_ok-finish-in-Some-clause-followed : goal.returns-in_ok-finish-in-Some-clause-followed
-returns-in_ok-finish-in-Some-clause-followed g c =
+pub returns-in_ok-further-in-Some-clause-followed : goal.returns-in_ok-further-in-Some-clause-followed
+returns-in_ok-further-in-Some-clause-followed g c =
     follows_later g.F.Fate.answers g.O.Observer.tells c.in-Some.time c.args.until c.args.self.now.fate
     c.finish.new.self.fate c.args.self.now.scene c.finish.new.self.scene c.args.observer.now
     c.finish.new.observer
     (Appends (g.K.Sink.written c.args.sink.now) (g.K.Sink.written c.finish.new.sink))
-    c.in-Some.ensures.early c.in_ok-finish-in-Some.ensures.followed
+    c.in-Some.ensures.early c.in_ok-further-in-Some.ensures.followed
 
-pub returns-in_ok-finish-in-Some-clause-later : goal.returns-in_ok-finish-in-Some-clause-later
-returns-in_ok-finish-in-Some-clause-later g c =
+pub returns-in_ok-further-in-Some-clause-later : goal.returns-in_ok-further-in-Some-clause-later
+returns-in_ok-further-in-Some-clause-later g c =
     let next = c.in-Some.ensures.next in
     let late = next_not_before c.args.from c.args.self.now.scene.net.pending c.in-Some.time c.in-Some.field-0-1 next
     c.requires.first in
