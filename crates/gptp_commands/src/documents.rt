@@ -32,11 +32,7 @@ pub fn refuse(alloc: Global, fault: DocumentFault) -> Result<Output, SimError>
 }
 
 /// Writes that line.
-fn write_refusal<K: Sink>(
-    alloc: Global,
-    fault: DocumentFault,
-    sink: &mut K,
-) -> Result<Status, Cut>
+fn write_refusal<K: Sink>(alloc: Global, fault: DocumentFault, sink: &mut K) -> Result<Status, Cut>
     ensures some { (lines : List (List ℕ)) × RefusesFault fault lines Status.Refused
         × AppendsSome (K.written sink.old) (K.written sink.new) (text_of lines) }
     ensures whole { IfOk result (λ status. (lines : List (List ℕ)) × RefusesFault fault lines status
@@ -64,12 +60,7 @@ pub(crate) trait DocumentCommand {
     ///
     /// Errors: [`Cut::Write`] exactly where a write failed, and [`Cut::Memory`]. Then a front of the text stands written, as
     /// far as that had got.
-    fn tell<K: Sink>(
-        &self,
-        alloc: Global,
-        document: &Document,
-        sink: &mut K,
-    ) -> Result<Status, Cut>
+    fn tell<K: Sink>(&self, alloc: Global, document: &Document, sink: &mut K) -> Result<Status, Cut>
         requires can { can_tell self.now }
         requires read { IsRead document.now }
         ensures some { OnErr result ((lines : List (List ℕ))
