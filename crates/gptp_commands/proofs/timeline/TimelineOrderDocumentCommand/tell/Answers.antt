@@ -1,7 +1,7 @@
 use Rattle.std.proofs.Common.{[], inl, inr, refl}
 use Rattle.std.proofs.lemmas.Result.{on_err_weaker}
 use Rattle.gptp_sink.proofs.SinkLemmas.{after_error, none_of}
-use Rattle.gptp_commands.proofs.timeline.play_document.Goals as goal
+use Rattle.gptp_commands.proofs.timeline.TimelineOrderDocumentCommand.tell.Goals as goal
 
 -- nothing was written
 pub returns-in_err-until-clause-some : goal.returns-in_err-until-clause-some

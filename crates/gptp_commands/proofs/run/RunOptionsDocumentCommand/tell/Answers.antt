@@ -2,7 +2,7 @@ use Rattle.gptp_sink.proofs.SinkLemmas.{after_error}
 use Rattle.gptp_reached.proofs.OctetLemmas.{documents_playable}
 use Rattle.gptp_reached.specs.PlayedLaws.{IsPlayable}
 use Rattle.gptp_commands.proofs.RunSoFarLemmas.{runs_all, runs_some}
-use Rattle.gptp_commands.proofs.run.RunOptions.tell.Goals as goal
+use Rattle.gptp_commands.proofs.run.RunOptionsDocumentCommand.tell.Goals as goal
 
 pub returns-in_err-play_document-clause-some : goal.returns-in_err-play_document-clause-some
 returns-in_err-play_document-clause-some g c =
