@@ -37,9 +37,9 @@ use Rattle.gptp_commands.proofs.VerdictLemmas.{AreSame, one_check, same_content}
 one_fault_place : (g : Snapshot) (c : CertificateContent) (xs ys : List (List ℕ)) → IsWellFormed g
     → IsRising (line_clocks c.lines) → LocatesFault g c xs → LocatesFault g c ys → xs ≡ ys
 one_fault_place g c xs ys wf rising (inl (_, e)) (inl (_, f)) = e ∙ sym f
-one_fault_place g c xs ys wf rising (inl (is, _)) (inr (fault, place, first, _)) =
+one_fault_place g c xs ys wf rising (inl (is, _)) (inr (fault, place, first, _, _)) =
     absurd (checker_laws.settled_has_none c.version g c.lines fault wf is first)
-one_fault_place g c xs ys wf rising (inr (fault, place, first, _)) (inl (is, _)) =
+one_fault_place g c xs ys wf rising (inr (fault, place, first, _, _)) (inl (is, _)) =
     absurd (checker_laws.settled_has_none c.version g c.lines fault wf is first)
 one_fault_place g c xs ys wf rising (inr (fault, place, first, at, e)) (inr (other, there, also, in_it, f)) =
     let faults : other ≡ fault = checker_laws.one_fault c.version g c.lines other fault also first in
@@ -77,7 +77,7 @@ at_content d until input c lines c-is c-read c-of (inl (e, e-is, e-read, e-of, x
     let same = same_content e c (certificate_laws.one_certificate e.version c.version e.lines c.lines e-of.is_version
     c-of.is_version e-read c-read (sym e-is ∙ c-is)) in
     subst (λ (k : CertificateContent). LocatesAt d until k lines) same x
-at_content d until input c lines c-is c-read c-of (inr (fault, part, n, fails, _)) =
+at_content d until input c lines c-is c-read c-of (inr (fault, part, n, fails, _, _)) =
     absurd (certificate_laws.no_certificate input fault c.version c.lines
     (certificate_laws.fails_somewhere input fault part fails) c-of c-read c-is)
 
