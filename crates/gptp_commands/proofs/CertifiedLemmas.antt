@@ -65,7 +65,7 @@ module _ (options : RunOptions) (input : List ℕ) (d : DocumentState) (g : Snap
 
   answer_accepted : (output : List (List ℕ)) (status : Status) → AnswersDocument options input output status
       → EndsAccepted at input output
-  answer_accepted output status (inl (e, means, plays, settles)) =
+  answer_accepted output status (inl (e, means, (plays, settles))) =
       let is : e ≡ d = one_meaning input e d means asks.means in
       settled_accepted output
       (subst (λ k. SettlesInTime k options output) is settles asks.rest)

@@ -483,12 +483,14 @@ asked_in_range words (Timeline order) asks =
     let limits = asks.1.2.limits in (
       asks.1.2.until.range,
       asks.1.2.seed.range,
-      limits.choice.range,
-      limits.holdover.range,
-      limits.error.range,
-      limits.without.range,
-      limits.roots.range,
-      limits.alone.range,
+      (
+        limits.choice.range,
+        limits.holdover.range,
+        limits.error.range,
+        limits.without.range,
+        limits.roots.range,
+        limits.alone.range,
+      ),
     )
 asked_in_range words (Check options) asks = asks.1.2.until.range
 asked_in_range words (Ask question) asks = question_in_range asks.1.0 question asks.1.2

@@ -7,9 +7,6 @@ use Rattle.gptp_commands.proofs.DocumentLemmas.{answers_some}
 use Rattle.gptp_commands.proofs.RunLemmas.{if_ok_more}
 use Rattle.gptp_commands.proofs.documents.tell_document.Goals as goal
 
-pub tell-in-Ok-requires-clause-read : goal.tell-in-Ok-requires-clause-read
-tell-in-Ok-requires-clause-read g c = (c.args.input.now, c.in-Ok.ensures.document)
-
 pub returns-in-Ok-clause-some : goal.returns-in-Ok-clause-some
 returns-in-Ok-clause-some g c = on_err_weaker c.tell.result
     (answers_some (g.C.DocumentCommand.tells c.args.command.now)

@@ -13,7 +13,7 @@ returns-in_err-exceeded-clause-some g c =
     let some = rw c.new-fate.ensures at c.in_err-exceeded.ensures.some in
     after_error c.from_residual-in_err-exceeded.result (
       some.0,
-      inr (record { until = c.in_ok-until.until; ends = c.in_ok-until.ensures.end; begins = some.1 }),
+      inr (inl (record { until = c.in_ok-until.until; ends = c.in_ok-until.ensures.end; begins = some.1 })),
       some.2,
     )
 
