@@ -16,7 +16,8 @@ use Rattle.gptp_commands.specs.declared.failure.Status.TheVariants.{Done}
 use Rattle.gptp_commands.specs.declared.run.RunOptions.{RunOptions}
 use Rattle.gptp_commands.specs.Certified.{AsksAtRest, AsksTheSame, EndsAccepted}
 use Rattle.gptp_commands.specs.CheckText.{certificate_limit, AnswersBoth, AnswersCertificate, CheckText, RefusesCertificate}
-use Rattle.gptp_commands.specs.RunText.{document_limit, until_of, AnswersDocument, CertifiesRight, IsSettledRun, RefusesFault, RunText, SettlesInTime}
+use Rattle.gptp_commands.specs.Documents.{document_limit, RefusesFault}
+use Rattle.gptp_commands.specs.RunText.{until_of, AnswersDocument, CertifiesRight, IsSettledRun, RunText, SettlesInTime}
 use Rattle.gptp_commands.proofs.LimitedLemmas.{in_size, of_size}
 
 module _ (options : RunOptions) (input : List ℕ) (d : DocumentState) (g : Snapshot) (at : Option ℕ)
@@ -64,7 +65,7 @@ module _ (options : RunOptions) (input : List ℕ) (d : DocumentState) (g : Snap
 
   answer_accepted : (output : List (List ℕ)) (status : Status) → AnswersDocument options input output status
       → EndsAccepted at input output
-  answer_accepted output status (inl (e, means, plays, settles)) =
+  answer_accepted output status (inl (e, means, (plays, settles))) =
       let is : e ≡ d = one_meaning input e d means asks.means in
       settled_accepted output
       (subst (λ k. SettlesInTime k options output) is settles asks.rest)

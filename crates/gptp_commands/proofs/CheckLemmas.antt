@@ -6,7 +6,7 @@ use Rattle.gptp_network.specs.declared.fault.DocumentFault.TheVariants.{TooMany}
 use Rattle.gptp_spelling.specs.Lines.{text_of}
 use Rattle.gptp_commands.specs.declared.failure.Status.{Status}
 use Rattle.gptp_commands.specs.CheckText.{certificate_limit, AnswersBoth, AnswersCertificate, CheckText, RefusesCertificate}
-use Rattle.gptp_commands.specs.RunText.{document_limit, RefusesFault}
+use Rattle.gptp_commands.specs.Documents.{document_limit, RefusesFault}
 use Rattle.gptp_commands.specs.Source.{ReadsWhole}
 use Rattle.gptp_commands.proofs.LimitedLemmas.{limited_weaker, same_text}
 

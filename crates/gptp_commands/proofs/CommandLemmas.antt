@@ -503,7 +503,19 @@ question_in_range rows (Lint strict) reads = tt
 pub asked_in_range : (words : List Text) (order : Order) → AsksFor words order → OrderIsInRange order
 asked_in_range words Compare asks = tt
 asked_in_range words (Run options) asks = (asks.1.2.until.range, asks.1.2.seed.range)
-asked_in_range words (Timeline order) asks = (asks.1.2.until.range, asks.1.2.seed.range)
+asked_in_range words (Timeline order) asks =
+    let limits = asks.1.2.limits in (
+      asks.1.2.until.range,
+      asks.1.2.seed.range,
+      (
+        limits.choice.range,
+        limits.holdover.range,
+        limits.error.range,
+        limits.without.range,
+        limits.roots.range,
+        limits.alone.range,
+      ),
+    )
 asked_in_range words (Faults options) asks =
     let reads = asks.1.2 in
     record {

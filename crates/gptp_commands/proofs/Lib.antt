@@ -17,5 +17,5 @@ pub mod OptionLemmas
 pub mod CheckLemmas
 pub mod RunLemmas
 pub mod RunSoFarLemmas
-pub mod TimelineLemmas
+pub mod DocumentLemmas
 pub mod WhereLemmas

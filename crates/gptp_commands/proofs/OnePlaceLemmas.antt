@@ -24,7 +24,7 @@ use Rattle.gptp_checker.proofs.LawLemmas as checker_laws
 use Rattle.gptp_checker.proofs.OneLocationLemmas.{one_location}
 use Rattle.gptp_commands.specs.declared.failure.Status.{Status}
 use Rattle.gptp_commands.specs.CheckText.{AnswersBoth, AnswersCertificate, JudgesAt, RefusesCertificate, certificate_limit, moment_of}
-use Rattle.gptp_commands.specs.RunText.{RefusesFault, document_limit}
+use Rattle.gptp_commands.specs.Documents.{document_limit, RefusesFault}
 use Rattle.gptp_commands.specs.WhereText.{LocatesAt, LocatesCertificate, LocatesDocument, LocatesEnd, LocatesFault, LocatesLimited, LocatesLine, WhereText, line_behind, place_text}
 use Rattle.gptp_commands.proofs.VerdictLemmas.{AreSame, one_check, same_content}
 

@@ -18,7 +18,8 @@ use Rattle.gptp_outcome.proofs.RunLemmas.{leads_once, played_named}
 use Rattle.gptp_outcome.proofs.SoFarLemmas.{leads_begin_so}
 use Rattle.gptp_commands.specs.declared.failure.Status.{Status}
 use Rattle.gptp_commands.specs.declared.run.RunOptions.{RunOptions}
-use Rattle.gptp_commands.specs.RunText.{document_limit, draws, generator, until_of, AnswersDocument, BeginsRun, CertifiesIf, PlaysDocument, RefusesFault, ReportsRun, RunsSoFar, RunText}
+use Rattle.gptp_commands.specs.Documents.{document_limit, AnswersSoFar, RefusesFault}
+use Rattle.gptp_commands.specs.RunText.{draws, generator, until_of, AnswersDocument, BeginsRun, CertifiesIf, LeadsDocument, PlaysDocument, ReportsRun, RunText}
 use Rattle.gptp_commands.proofs.VerdictLemmas.{same_refusal, AreSame}
 
 -- a generator gives one number
@@ -62,13 +63,13 @@ plays_document_once d options a b s t is k l =
 -- an input is one document, or fails one test
 answers_once : (options : RunOptions) (input : List ℕ) (a b : List (List ℕ)) (s t : Status)
     → AnswersDocument options input a s → AnswersDocument options input b t → AreSame a s b t
-answers_once options input a b s t (inl (d, d-means, k, _)) (inl (e, e-means, l, _)) =
+answers_once options input a b s t (inl (d, d-means, (k, _))) (inl (e, e-means, (l, _))) =
     let same = network_laws.one_meaning input e d e-means d-means in
     plays_document_once d options a b s t (meant_named input d d-means) k
     (subst (λ (x : DocumentState). PlaysDocument x options b t) same l)
-answers_once options input a b s t (inl (d, means, _, _)) (inr (fault, fails, _)) =
+answers_once options input a b s t (inl (d, means, _)) (inr (fault, fails, _)) =
     absurd (network_laws.never_both input d fault means fails)
-answers_once options input a b s t (inr (fault, fails, _)) (inl (d, means, _, _)) =
+answers_once options input a b s t (inr (fault, fails, _)) (inl (d, means, _)) =
     absurd (network_laws.never_both input d fault means fails)
 answers_once options input a b s t (inr (f, f-fails, k)) (inr (g, g-fails, l)) =
     same_refusal f g a b s t (network_laws.one_fault input f g f-fails g-fails) k l
@@ -102,9 +103,9 @@ document_begins_so d options begun output status is so k =
     )
 
 answer_begins_so : (options : RunOptions) (input : List ℕ) (begun output : List (List ℕ)) (status : Status)
-    → RunsSoFar options input begun → AnswersDocument options input output status
+    → AnswersSoFar (LeadsDocument options) input begun → AnswersDocument options input output status
     → (rest : List (List ℕ)) × (output ≡ begun ++ rest)
-answer_begins_so options input begun output status (d, d-means, so) (inl (e, e-means, k, _)) =
+answer_begins_so options input begun output status (d, d-means, so) (inl (e, e-means, (k, _))) =
     let same = network_laws.one_meaning input e d e-means d-means in
     document_begins_so d options begun output status (meant_named input d d-means) so
     (subst (λ (x : DocumentState). PlaysDocument x options output status) same k)

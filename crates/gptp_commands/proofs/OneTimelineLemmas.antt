@@ -39,8 +39,9 @@ use Rattle.gptp_timeline.specs.declared.timeline.TimelineOptions.{TimelineOption
 use Rattle.gptp_commands.specs.declared.failure.Status.{Status}
 use Rattle.gptp_commands.specs.declared.timeline.TimelineOrder.{TimelineOrder}
 use Rattle.gptp_commands.specs.Failure.{status_by}
-use Rattle.gptp_commands.specs.RunText.{RefusesFault, document_limit, draws, generator}
-use Rattle.gptp_commands.specs.TimelineText.{AnswersTimeline, EndsAt, PlaysTimeline, TimelineText}
+use Rattle.gptp_commands.specs.Documents.{Answers, document_limit, RefusesFault}
+use Rattle.gptp_commands.specs.RunText.{draws, generator}
+use Rattle.gptp_commands.specs.TimelineText.{EndsAt, PlaysTimeline, TellsTimeline, TimelineText}
 use Rattle.gptp_commands.proofs.OneRunLemmas.{draws_once}
 use Rattle.gptp_commands.proofs.SameActLemmas.{same_acts, same_errors_from, same_measures, same_waits}
 use Rattle.gptp_commands.proofs.VerdictLemmas.{AreSame, same_refusal}
@@ -275,7 +276,7 @@ plays_timeline_once d order a b s t names is k l =
     (texts, k.status_is ∙ ap status_by exceeded ∙ sym l.status_is)
 
 answers_once : (order : TimelineOrder) (input : List ℕ) (a b : List (List ℕ)) (s t : Status)
-    → AnswersTimeline order input a s → AnswersTimeline order input b t → AreSame a s b t
+    → Answers (TellsTimeline order) input a s → Answers (TellsTimeline order) input b t → AreSame a s b t
 answers_once order input a b s t (inl (d, d-means, k)) (inl (e, e-means, l)) =
     let same = network_laws.one_meaning input e d e-means d-means in
     plays_timeline_once d order a b s t (each_named d (meant_names input d d-means)) (meant_named input d d-means) k
@@ -288,8 +289,8 @@ answers_once order input a b s t (inr (f, f-fails, k)) (inr (g, g-fails, l)) =
     same_refusal f g a b s t (network_laws.one_fault input f g f-fails g-fails) k l
 
 by_size : (order : TimelineOrder) (input : List ℕ) (a b : List (List ℕ)) (s t : Status) (fits : Bool)
-    → MatchBool fits (AnswersTimeline order input a s) (RefusesFault TooMany a s)
-    → MatchBool fits (AnswersTimeline order input b t) (RefusesFault TooMany b t) → AreSame a s b t
+    → MatchBool fits (Answers (TellsTimeline order) input a s) (RefusesFault TooMany a s)
+    → MatchBool fits (Answers (TellsTimeline order) input b t) (RefusesFault TooMany b t) → AreSame a s b t
 by_size order input a b s t true k l = answers_once order input a b s t k l
 by_size order input a b s t false k l = same_refusal TooMany TooMany a b s t refl k l
 

@@ -1,18 +1,15 @@
 -- The run of a document that is at rest at its end shows a settled world, and certifies it.
-use Rattle.std.proofs.Common.{ℕ, Bool, true, false, List, Result, Ok, Err, inl}
+use Rattle.std.proofs.Common.{ℕ, Bool, true, false, List, Result, Ok, Err}
 use Rattle.std.specs.Prelude.{IfOk}
 use Rattle.gptp_graph.specs.Snapshot.{Snapshot}
-use Rattle.gptp_plan.specs.Network.{IsNetwork}
-use Rattle.gptp_network.specs.Document.{DocumentState, Means}
-use Rattle.gptp_network.specs.Events.{AreEvents}
+use Rattle.gptp_network.specs.Document.{DocumentState}
 use Rattle.gptp_network.specs.Snapshot.{IsSnapshot}
 use Rattle.gptp_certificate.proofs.SettledLemmas.{states_certificate}
 use Rattle.gptp_commands.specs.declared.failure.Status.{Status}
 use Rattle.gptp_commands.specs.declared.run.RunOptions.{RunOptions}
-use Rattle.gptp_commands.specs.RunText.{AnswersDocument, CertifiesIf, CertifiesRight, PlaysDocument, SettlesInTime, draws, generator, until_of}
+use Rattle.gptp_commands.specs.RunText.{CertifiesIf, CertifiesRight, PlaysDocument, SettlesInTime, draws, generator, until_of}
 use Rattle.gptp_reached.specs.PlayedLaws.{IsPlayable}
 use Rattle.gptp_reached.proofs.HeadlineLemmas.{documents_lead}
-use Rattle.gptp_reached.proofs.OctetLemmas.{documents_playable}
 use Rattle.gptp_reached.proofs.SettleLemmas.{played_settle}
 
 pub runs_settle : (d : DocumentState) (options : RunOptions) (output : List (List ℕ)) (status : Status)
@@ -43,19 +40,6 @@ runs_settle d options output status is k rest =
       lines,
     )
     right g stands false none = none
-
--- the run of a document answers the text that means it
-pub run_answers : (octets : List ℕ) (d : DocumentState) (options : RunOptions) → Means octets d
-    → IsNetwork d.network → AreEvents d.network d.events
-    → (output : List (List ℕ)) (status : Status) → PlaysDocument d options output status
-    → AnswersDocument options octets output status
-run_answers octets d options means network events output status plays =
-    inl (
-      d,
-      means,
-      plays,
-      runs_settle d options output status (documents_playable octets d means network events) plays,
-    )
 
 -- what is so of a result, if there is one, may mean more
 pub if_ok_more : {X E : Type 0} (P Q : X → Type 0) → ((x : X) → P x → Q x) → (result : Result X E) → IfOk result P

@@ -1,14 +1,12 @@
 -- The text of `run`, part after part.
-use Rattle.std.proofs.Common.{◌≡◌, ◌⊎◌, ◌≤◌, ℕ, nat_le, true, false, List, [], ◌++◌, length, Option, inl, inr, refl, sym, ap, subst, ◌∙◌, append_assoc, append-nil}
+use Rattle.std.proofs.Common.{◌≡◌, ◌⊎◌, ℕ, true, false, List, [], ◌++◌, Option, inl, inr, refl, sym, ap, subst, ◌∙◌, append_assoc, append-nil}
 use Rattle.std.specs.Io.KnownBytes.{Appends}
-use Rattle.std.proofs.lemmas.Bool.{le-leb}
 use Rattle.gptp_acts.specs.World.{WorldState}
 use Rattle.gptp_certificate.specs.Stated.{States}
 use Rattle.gptp_certificate_text.specs.CertificateText.{certificate_lines}
 use Rattle.gptp_graph.specs.Labelling.{SystemLine}
-use Rattle.gptp_network.specs.Document.{DocumentState, Means}
-use Rattle.gptp_network.specs.Events.{AreEvents}
-use Rattle.gptp_plan.specs.Network.{IsNetwork}
+use Rattle.gptp_network.specs.Document.{DocumentState}
+use Rattle.gptp_reached.specs.PlayedLaws.{IsPlayable}
 use Rattle.gptp_report.specs.Report.{Reports}
 use Rattle.gptp_report.specs.Run.{LeadsSoFar, LeadsTo}
 use Rattle.gptp_sink.specs.Sink.{AppendsSome}
@@ -18,9 +16,10 @@ use Rattle.gptp_sink.proofs.SinkLemmas.{appends_both, some_before, some_behind}
 use Rattle.gptp_spelling.specs.Lines.{text_of}
 use Rattle.gptp_commands.specs.declared.failure.Status.TheVariants.{Done}
 use Rattle.gptp_commands.specs.declared.run.RunOptions.{RunOptions}
-use Rattle.gptp_commands.specs.RunText.{BeginsRun, PlaysDocument, RunText, document_limit, draws, generator, until_of}
-use Rattle.gptp_commands.specs.RunSoFar.{AnswersSome, PlaysSome, Tells}
-use Rattle.gptp_commands.proofs.RunLemmas.{run_answers}
+use Rattle.gptp_commands.specs.Documents.{SomeOf}
+use Rattle.gptp_commands.specs.RunText.{LeadsDocument, PlaysDocument, RunsDocument, draws, generator, until_of}
+use Rattle.gptp_commands.specs.RunSoFar.{PlaysSome, Tells}
+use Rattle.gptp_commands.proofs.RunLemmas.{runs_settle}
 
 -- ---- the report and the certificate
 
@@ -144,25 +143,21 @@ pub plays_front : (d : DocumentState) (options : RunOptions) (old new : Option (
 plays_front d options old new (lines, inl none, some) = (lines, inl none, some)
 plays_front d options old new (lines, inr leads, some) = (lines, inr (inl leads), some)
 
--- ---- a document within its size, and one past it
+-- ---- a document, which settles in time
 
-pub answers_some : (octets : List ℕ) (d : DocumentState) (options : RunOptions) → Means octets d
-    → IsNetwork d.network → AreEvents d.network d.events → (old new : Option (List ℕ))
-    → (lines : List (List ℕ)) × PlaysSome d options lines × AppendsSome old new (text_of lines)
-    → (lines : List (List ℕ)) × AnswersSome options octets lines × AppendsSome old new (text_of lines)
-answers_some octets d options means network events old new (lines, inl none, some) = (lines, inl none, some)
-answers_some octets d options means network events old new (lines, inr (inl leads), some) =
-    (lines, inr (inl (d, means, leads)), some)
-answers_some octets d options means network events old new (lines, inr (inr all), some) =
-    (lines, inr (inr (Done, run_answers octets d options means network events lines Done all)), some)
+module _ (d : DocumentState) (options : RunOptions) (playable : IsPlayable d) where
+  runs : (lines : List (List ℕ)) → PlaysDocument d options lines Done → RunsDocument options d lines Done
+  runs lines plays = (plays, runs_settle d options lines Done playable plays)
 
-pub begins_within : (options : RunOptions) (octets : List ℕ) → length octets ≤ document_limit
-    → (old new : Option (List ℕ))
-    → (lines : List (List ℕ)) × AnswersSome options octets lines × AppendsSome old new (text_of lines)
-    → (lines : List (List ℕ)) × BeginsRun options octets lines × AppendsSome old new (text_of lines)
-begins_within options octets within old new (lines, inl none, some) = (lines, inl none, some)
-begins_within options octets within old new (lines, inr (inl so_far), some) =
-    (lines, inr (inl (within, so_far)), some)
-begins_within options octets within old new (lines, inr (inr (status, answers)), some) =
-    let fits : nat_le (length octets) document_limit ≡ true = le-leb (length octets) document_limit within in
-    let text : RunText options octets lines status = rw fits answers in (lines, inr (inr (status, text)), some)
+  pub runs_all : (old new : Option (List ℕ))
+      → (lines : List (List ℕ)) × PlaysDocument d options lines Done × Appends old new (text_of lines)
+      → (lines : List (List ℕ)) × RunsDocument options d lines Done × Appends old new (text_of lines)
+  runs_all old new (lines, plays, written) = (lines, runs lines plays, written)
+
+  pub runs_some : (old new : Option (List ℕ))
+      → (lines : List (List ℕ)) × PlaysSome d options lines × AppendsSome old new (text_of lines)
+      → (lines : List (List ℕ)) × SomeOf (LeadsDocument options d) (RunsDocument options d) lines
+      × AppendsSome old new (text_of lines)
+  runs_some old new (lines, inl none, some) = (lines, inl none, some)
+  runs_some old new (lines, inr (inl leads), some) = (lines, inr (inl leads), some)
+  runs_some old new (lines, inr (inr all), some) = (lines, inr (inr (Done, runs lines all)), some)

@@ -17,7 +17,7 @@ use Rattle.gptp_checker.proofs.LawLemmas as checker_laws
 use Rattle.gptp_commands.specs.declared.failure.Status.{Status}
 use Rattle.gptp_commands.specs.CheckText.{certificate_limit, moment_of, AnswersBoth, AnswersCertificate, CheckText, Judges, JudgesAt, RefusesCertificate, Says}
 use Rattle.gptp_commands.specs.Limited.{Limited}
-use Rattle.gptp_commands.specs.RunText.{document_limit, RefusesFault}
+use Rattle.gptp_commands.specs.Documents.{document_limit, RefusesFault}
 
 -- one text and one status
 abbrev pub AreSame : List (List ℕ) → Status → List (List ℕ) → Status → Type 0

@@ -9,7 +9,7 @@ use Rattle.gptp_world.proofs.FollowLemmas.{text_append}
 use Rattle.gptp_spelling.specs.Lines.{text_of}
 use Rattle.gptp_commands.specs.declared.failure.Status.{Status}
 use Rattle.gptp_commands.specs.CheckText.{CheckText, certificate_limit}
-use Rattle.gptp_commands.specs.RunText.{document_limit}
+use Rattle.gptp_commands.specs.Documents.{document_limit}
 use Rattle.gptp_commands.specs.Source.{ReadsWhole}
 use Rattle.gptp_commands.specs.WhereText.{IsAtLine, LocatesBoth, LocatesCertificate, LocatesDocument, LocatesEnd, LocatesLimited, WhereText, line_behind}
 use Rattle.gptp_commands.proofs.CheckLemmas.{same_check}

@@ -9,7 +9,8 @@ use Rattle.gptp_spelling.specs.Lines.{text_of}
 use Rattle.gptp_commands.specs.declared.failure.Status.TheVariants.{Done}
 use Rattle.gptp_commands.specs.declared.run.RunOptions.{RunOptions}
 use Rattle.gptp_commands.specs.CheckText.{CheckText, moment_of}
-use Rattle.gptp_commands.specs.RunText.{document_limit, until_of}
+use Rattle.gptp_commands.specs.Documents.{document_limit}
+use Rattle.gptp_commands.specs.RunText.{until_of}
 
 -- A run is asked for the certificate of a document that is at rest at its end, with this snapshot.
 pub record AsksAtRest (options : RunOptions) (input : List ℕ) (d : DocumentState) (g : Snapshot) : Type 0 where

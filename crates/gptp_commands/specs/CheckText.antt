@@ -18,7 +18,7 @@ use Rattle.gptp_checker.specs.Faults.{IsAccepted, IsFirstFault, fault_text}
 use Rattle.gptp_commands.specs.declared.failure.Status.{Status}
 use Rattle.gptp_commands.specs.declared.failure.Status.TheVariants.{Done, Refused}
 use Rattle.gptp_commands.specs.Limited.{Limited}
-use Rattle.gptp_commands.specs.RunText.{document_limit, RefusesFault}
+use Rattle.gptp_commands.specs.Documents.{document_limit, RefusesFault}
 
 -- how many octets a certificate may have
 abbrev pub certificate_limit : ℕ

@@ -264,11 +264,11 @@ abbrev pub WritesNumber : List ℕ → ℕ → Type 0
 WritesNumber text number =
     IsNumeral 10 (without_leading_plus text) × (digits_value 10 (without_leading_plus text) ≡ number)
 
--- the time of `--until`, or the error of `--max-error`, is in its range
+-- a number that an option gives is in its range: a time, an error, or how many systems
 abbrev pub IsEndInRange : Option ℕ → Type 0
 IsEndInRange until = IfSome until (λ until. until ≤ 1000000000000000)
 
--- the time of `--until`, or the error of `--max-error`, by its text
+-- the number that an option gives, by its text
 pub record IsUntil (found : Option (List ℕ)) (until : Option ℕ) : Type 0 where
   pub range : IsEndInRange until
   pub none : found ≡ None → until ≡ None
@@ -441,6 +441,12 @@ AsksFor words (Ask question) =
 abbrev pub AreInRange : RunOptions → Type 0
 AreInRange options = IsEndInRange options.until × (options.seed < 2 ^ 32)
 
+-- the limits of `timeline` are in their range
+abbrev pub LimitsAreInRange : Limits → Type 0
+LimitsAreInRange limits =
+    IsEndInRange limits.choice × IsEndInRange limits.holdover × IsEndInRange limits.error
+    × IsEndInRange limits.without × IsEndInRange limits.roots × IsEndInRange limits.alone
+
 -- the numbers of a question are in their ranges
 abbrev pub QuestionIsInRange : Question → Type 0
 QuestionIsInRange (Choice until) = IsEndInRange until
@@ -452,7 +458,8 @@ QuestionIsInRange (Lint strict) = ⊤
 abbrev pub OrderIsInRange : Order → Type 0
 OrderIsInRange Compare = ⊤
 OrderIsInRange (Run options) = AreInRange options
-OrderIsInRange (Timeline order) = IsEndInRange order.until × (order.seed < 2 ^ 32)
+OrderIsInRange (Timeline order) =
+    IsEndInRange order.until × (order.seed < 2 ^ 32) × LimitsAreInRange order.options.limits
 OrderIsInRange (Faults options) = AreOptions options
 OrderIsInRange (Check options) = IsEndInRange options.until
 OrderIsInRange (Ask question) = QuestionIsInRange question

@@ -8,7 +8,7 @@ use Rattle.gptp_commands.specs.declared.failure.Status.{Status}
 use Rattle.gptp_commands.specs.declared.failure.Status.TheVariants.{Done}
 use Rattle.gptp_commands.specs.CheckText.{moment_of}
 use Rattle.gptp_commands.specs.ChoiceText.{ShowsFault}
-use Rattle.gptp_commands.specs.RunText.{RefusesFault}
+use Rattle.gptp_commands.specs.Documents.{RefusesFault}
 
 -- what is told of the live system with the clock, as the network stands at the time
 abbrev pub ShowsSystem : DocumentState → ℕ → ℕ → List (List ℕ) → Status → Type 0

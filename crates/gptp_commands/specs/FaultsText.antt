@@ -9,7 +9,7 @@ use Rattle.gptp_faults.specs.declared.options.FaultsOptions.{FaultsOptions}
 use Rattle.gptp_commands.specs.declared.failure.Status.{Status}
 use Rattle.gptp_commands.specs.Failure.{status_by}
 use Rattle.gptp_commands.specs.Limited.{Limited}
-use Rattle.gptp_commands.specs.RunText.{document_limit, RefusesFault}
+use Rattle.gptp_commands.specs.Documents.{document_limit, RefusesFault}
 
 -- the table of its cases; it is refused where a limit is exceeded, and where it would be with the two events of some
 -- run

@@ -11,7 +11,7 @@ use Rattle.gptp_commands.specs.ChoiceText.{ChoosesAt}
 use Rattle.gptp_commands.specs.ExplainText.{ExplainsAt}
 use Rattle.gptp_commands.specs.Limited.{Limited}
 use Rattle.gptp_commands.specs.LintText.{RefusesAtPlace, TellsFindings}
-use Rattle.gptp_commands.specs.RunText.{document_limit, RefusesFault}
+use Rattle.gptp_commands.specs.Documents.{document_limit, RefusesFault}
 
 -- the answer for a document, by what is asked
 abbrev pub Answers : Question → DocumentState → List (List ℕ) → Status → Type 0

@@ -4,10 +4,9 @@ use Rattle.gptp_acts.specs.World.{WorldState}
 use Rattle.gptp_network.specs.Document.{DocumentState}
 use Rattle.gptp_report.specs.Report.{Reports}
 use Rattle.gptp_report.specs.Run.{LeadsSoFar}
-use Rattle.gptp_commands.specs.declared.failure.Status.{Status}
 use Rattle.gptp_commands.specs.declared.failure.Status.TheVariants.{Done}
 use Rattle.gptp_commands.specs.declared.run.RunOptions.{RunOptions}
-use Rattle.gptp_commands.specs.RunText.{AnswersDocument, CertifiesIf, PlaysDocument, RunsSoFar, draws, generator, until_of}
+use Rattle.gptp_commands.specs.RunText.{CertifiesIf, PlaysDocument, draws, generator, until_of}
 
 -- the report of a world, and behind it its certificate, where it is asked for
 pub record Tells (d : DocumentState) (until : ℕ) (asked : Bool) (w : WorldState) (lines : List (List ℕ)) : Type
@@ -24,8 +23,3 @@ PlaysSome d options lines =
     (lines ≡ [])
     ⊎ (LeadsSoFar draws d (until_of options d) options.frames (generator options.seed) lines
     ⊎ PlaysDocument d options lines Done)
-
--- the text for a document within its size, as far as it has got
-abbrev pub AnswersSome : RunOptions → List ℕ → List (List ℕ) → Type 0
-AnswersSome options input lines =
-    (lines ≡ []) ⊎ (RunsSoFar options input lines ⊎ ((status : Status) × AnswersDocument options input lines status))

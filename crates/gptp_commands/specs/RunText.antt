@@ -1,14 +1,11 @@
 -- What `run` writes for a document, and its status (profile).
-use Rattle.std.specs.Prelude.{◌≡◌, ◌⊎◌, ℕ, Bool, true, false, List, [], ◌∷◌, ◌++◌, Option, codes, unwrap_or}
+use Rattle.std.specs.Prelude.{◌≡◌, ℕ, Bool, true, false, List, [], ◌++◌, Option, unwrap_or}
 use Rattle.rand_core.specs.Pcg32Seed.{pcg32_seed}
 use Rattle.rand_pcg.specs.Lcg.{Lcg}
 use Rattle.rand_pcg.specs.Pcg.{pcg64_of_seed}
 use Rattle.gptp_links.specs.declared.bounds.Bounds.{Bounds}
 use Rattle.gptp_links.specs.Draws.{drawn}
-use Rattle.gptp_network.specs.declared.fault.DocumentFault.{DocumentFault}
-use Rattle.gptp_network.specs.declared.fault.DocumentFault.TheVariants.{TooMany}
-use Rattle.gptp_network.specs.Document.{DocumentState, Fails, Means}
-use Rattle.gptp_network.specs.Faults.{fault_text}
+use Rattle.gptp_network.specs.Document.{DocumentState}
 use Rattle.gptp_network.specs.Snapshot.{IsSnapshot}
 use Rattle.gptp_plan.specs.SettlingTime.{settles}
 use Rattle.gptp_acts.specs.World.{WorldState}
@@ -24,13 +21,9 @@ use Rattle.gptp_reached.specs.Headline.{IsSettled}
 use Rattle.gptp_reached.specs.HeadlineLaws.{HasSnapshotOf}
 use Rattle.gptp_reached.specs.PlayedLaws.{IsAtRest}
 use Rattle.gptp_commands.specs.declared.failure.Status.{Status}
-use Rattle.gptp_commands.specs.declared.failure.Status.TheVariants.{Done, Refused}
+use Rattle.gptp_commands.specs.declared.failure.Status.TheVariants.{Done}
 use Rattle.gptp_commands.specs.declared.run.RunOptions.{RunOptions}
-use Rattle.gptp_commands.specs.Limited.{Begins, Limited}
-
--- how many octets a document may have
-abbrev pub document_limit : ℕ
-document_limit = 33554432
+use Rattle.gptp_commands.specs.Documents.{Answers, AnswersInput, BeginsInput}
 
 -- the end of the run, where none is asked for: when the network has settled, or would have if it were calm
 abbrev pub until_of : RunOptions → DocumentState → ℕ
@@ -91,25 +84,21 @@ pub record IsSettledRun (d : DocumentState) (options : RunOptions) (output : Lis
 abbrev pub SettlesInTime : DocumentState → RunOptions → List (List ℕ) → Type 0
 SettlesInTime d options output = IsAtRest d (until_of options d) → IsSettledRun d options output
 
--- a document that is refused
-pub record RefusesFault (fault : DocumentFault) (output : List (List ℕ)) (status : Status) : Type 0 where
-  pub shown : output ≡ (codes "refused " ++ fault_text fault) ∷ []
-  pub status_is : status ≡ Refused
+-- a document is run, and settles in time
+abbrev pub RunsDocument : RunOptions → DocumentState → List (List ℕ) → Status → Type 0
+RunsDocument options d output status = PlaysDocument d options output status × SettlesInTime d options output
 
--- an input is a document, which is run and settles in time, or fails a test
+-- an input is a document, which is run so, or fails a test
 abbrev pub AnswersDocument : RunOptions → List ℕ → List (List ℕ) → Status → Type 0
-AnswersDocument options input output status =
-    ((d : DocumentState) × Means input d × PlaysDocument d options output status × SettlesInTime d options output)
-    ⊎ ((fault : DocumentFault) × Fails input fault × RefusesFault fault output status)
+AnswersDocument options = Answers (RunsDocument options)
 
 abbrev pub RunText : RunOptions → List ℕ → List (List ℕ) → Status → Type 0
-RunText options = Limited document_limit (AnswersDocument options) (RefusesFault TooMany)
+RunText options = AnswersInput (RunsDocument options)
 
 -- the lines of the frames, as far as a document has been run
-abbrev pub RunsSoFar : RunOptions → List ℕ → List (List ℕ) → Type 0
-RunsSoFar options input lines = (d : DocumentState) × Means input d
-    × LeadsSoFar draws d (until_of options d) options.frames (generator options.seed) lines
+abbrev pub LeadsDocument : RunOptions → DocumentState → List (List ℕ) → Type 0
+LeadsDocument options d lines = LeadsSoFar draws d (until_of options d) options.frames (generator options.seed) lines
 
 -- the text as far as it has got; from the report on all of it is known
 abbrev pub BeginsRun : RunOptions → List ℕ → List (List ℕ) → Type 0
-BeginsRun options = Begins document_limit (RunsSoFar options) (RunText options)
+BeginsRun options = BeginsInput (RunsDocument options) (LeadsDocument options)

@@ -1,15 +1,13 @@
 -- What `timeline` writes for a document, and its status (profile).
-use Rattle.std.specs.Prelude.{◌≡◌, ◌⊎◌, ℕ, Bool, List, [], Option, Some, None}
-use Rattle.gptp_network.specs.declared.fault.DocumentFault.{DocumentFault}
-use Rattle.gptp_network.specs.declared.fault.DocumentFault.TheVariants.{TooMany}
-use Rattle.gptp_network.specs.Document.{DocumentState, Fails, Means}
+use Rattle.std.specs.Prelude.{◌≡◌, ℕ, Bool, List, Option, Some, None}
+use Rattle.gptp_network.specs.Document.{DocumentState}
 use Rattle.gptp_timeline.specs.End.{IsDefaultEnd}
 use Rattle.gptp_timeline.specs.Timeline.{BeginsTimeline, TimelineOf}
 use Rattle.gptp_commands.specs.declared.failure.Status.{Status}
 use Rattle.gptp_commands.specs.declared.timeline.TimelineOrder.{TimelineOrder}
 use Rattle.gptp_commands.specs.Failure.{status_by}
-use Rattle.gptp_commands.specs.Limited.{Begins, Limited}
-use Rattle.gptp_commands.specs.RunText.{document_limit, draws, generator, RefusesFault}
+use Rattle.gptp_commands.specs.Documents.{AnswersInput, BeginsInput}
+use Rattle.gptp_commands.specs.RunText.{draws, generator}
 
 -- the end of the run: that which is asked for, or by default some Syncs behind the time from which on it is exact
 abbrev pub EndsAt : Option ℕ → DocumentState → ℕ → Type 0
@@ -26,14 +24,11 @@ pub record PlaysTimeline (d : DocumentState) (order : TimelineOrder) (output : L
   pub timeline : TimelineOf draws d until order.options (generator order.seed) output exceeded
   pub status_is : status ≡ status_by exceeded
 
--- an input is a document, whose timeline is told, or fails a test
-abbrev pub AnswersTimeline : TimelineOrder → List ℕ → List (List ℕ) → Status → Type 0
-AnswersTimeline order input output status =
-    ((d : DocumentState) × Means input d × PlaysTimeline d order output status)
-    ⊎ ((fault : DocumentFault) × Fails input fault × RefusesFault fault output status)
+abbrev pub TellsTimeline : TimelineOrder → DocumentState → List (List ℕ) → Status → Type 0
+TellsTimeline order d = PlaysTimeline d order
 
 abbrev pub TimelineText : TimelineOrder → List ℕ → List (List ℕ) → Status → Type 0
-TimelineText order = Limited document_limit (AnswersTimeline order) (RefusesFault TooMany)
+TimelineText order = AnswersInput (TellsTimeline order)
 
 -- ---- as far as it gets
 
@@ -42,14 +37,8 @@ pub record PlaysSome (d : DocumentState) (order : TimelineOrder) (lines : List (
   pub ends : EndsAt order.until d until
   pub begins : BeginsTimeline draws d until order.options (generator order.seed) lines
 
--- the lines until then, as far as a document has been run
-abbrev pub TellsSoFar : TimelineOrder → List ℕ → List (List ℕ) → Type 0
-TellsSoFar order input lines = (d : DocumentState) × Means input d × PlaysSome d order lines
+abbrev pub TellsSoFar : TimelineOrder → DocumentState → List (List ℕ) → Type 0
+TellsSoFar order d = PlaysSome d order
 
 abbrev pub BeginsText : TimelineOrder → List ℕ → List (List ℕ) → Type 0
-BeginsText order = Begins document_limit (TellsSoFar order) (TimelineText order)
-
--- the text for a document within its size, as far as it has got
-abbrev pub AnswersSome : TimelineOrder → List ℕ → List (List ℕ) → Type 0
-AnswersSome order input lines =
-    (lines ≡ []) ⊎ (TellsSoFar order input lines ⊎ ((status : Status) × AnswersTimeline order input lines status))
+BeginsText order = BeginsInput (TellsTimeline order) (TellsSoFar order)

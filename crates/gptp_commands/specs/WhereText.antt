@@ -21,7 +21,7 @@ use Rattle.gptp_checker.specs.Faults.{IsAccepted, IsFirstFault}
 use Rattle.gptp_checker.specs.Located.{IsLocation}
 use Rattle.gptp_commands.specs.declared.failure.Status.{Status}
 use Rattle.gptp_commands.specs.CheckText.{certificate_limit, moment_of, CheckText}
-use Rattle.gptp_commands.specs.RunText.{document_limit}
+use Rattle.gptp_commands.specs.Documents.{document_limit}
 
 -- ---- the place of a fault
 

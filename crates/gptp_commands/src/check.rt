@@ -9,7 +9,7 @@ ghost use Rattle.gptp_commands.specs.CheckText.{certificate_limit, moment_of, An
 ghost use Rattle.gptp_certificate_text.specs.declared.fault.CertificateFault.TheVariants.{Line};
 ghost use Rattle.gptp_commands.specs.declared.failure.Status.TheVariants.{Done, Refused};
 ghost use Rattle.gptp_commands.specs.Limited.{Limited};
-ghost use Rattle.gptp_commands.specs.RunText.{document_limit};
+ghost use Rattle.gptp_commands.specs.Documents.{document_limit};
 ghost use Rattle.gptp_commands.specs.Source.{ReadsWhole, TakesAtMost};
 ghost use Rattle.gptp_commands.specs.WhereText.{WhereText};
 ghost use Rattle.gptp_commands.specs.Written.{Writes, WritesFront};

@@ -4,7 +4,7 @@ ghost use Rattle.std.specs.Prelude.{◌≡◌, IfErr, IfNone, IfOk, IfSome, stri
 ghost use Rattle.gptp_network.specs.declared.fault.DocumentFault.TheVariants.{NoSuchPort};
 ghost use Rattle.gptp_commands.specs.ExplainText.{ExplainsAt};
 ghost use Rattle.gptp_commands.specs.Output.{IsOutput};
-ghost use Rattle.gptp_commands.specs.RunText.{RefusesFault};
+ghost use Rattle.gptp_commands.specs.Documents.{RefusesFault};
 
 use crate::check::moment_of;
 use crate::choice::refuse_choice;

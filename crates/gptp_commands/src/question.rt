@@ -4,7 +4,7 @@ ghost use Rattle.std.specs.Prelude.{◌≡◌, ◌≢◌, ◌+◌, List, ℕ, If
 ghost use Rattle.std.specs.Io.KnownBytes.{Keeps};
 ghost use Rattle.gptp_commands.specs.Output.{IsOutput};
 ghost use Rattle.gptp_commands.specs.QuestionText.{Answers, AnswersInput, QuestionText, RefusesInput};
-ghost use Rattle.gptp_commands.specs.RunText.{document_limit};
+ghost use Rattle.gptp_commands.specs.Documents.{document_limit};
 ghost use Rattle.gptp_commands.specs.Source.{ReadsWhole, TakesAtMost};
 ghost use Rattle.gptp_commands.specs.Written.{Writes, WritesFront};
 

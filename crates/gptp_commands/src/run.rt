@@ -2,25 +2,23 @@
 
 ghost use Rattle.std.specs.Prelude.{◌≡◌, ◌≢◌, ◌⊎◌, ◌≤◌, ◌+◌, [], true, List, ℕ, IfOk, OnErr, OnOk, IfErr, IfSome, unwrap_or};
 ghost use Rattle.std.specs.Io.KnownBytes.{Appends, Keeps};
-ghost use Rattle.gptp_network.specs.Document.{Means};
-ghost use Rattle.gptp_network.specs.Faults.{fault_text};
 ghost use Rattle.gptp_certificate_text.specs.CertificateText.{certificate_lines};
 ghost use Rattle.gptp_report.specs.Report.{Reports};
 ghost use Rattle.gptp_sink.specs.Sink.{AppendsSome};
 ghost use Rattle.gptp_plan.specs.SettlingTime.{settles};
 ghost use Rattle.gptp_spelling.specs.Lines.{text_of};
 ghost use Rattle.gptp_commands.specs.Source.{ReadsWhole, TakesAtMost};
-ghost use Rattle.gptp_commands.specs.RunText.{document_limit, until_of, AnswersDocument, BeginsRun, PlaysDocument, RefusesFault, RunText};
-ghost use Rattle.gptp_commands.specs.RunSoFar.{AnswersSome, PlaysSome, Tells};
+ghost use Rattle.gptp_commands.specs.Documents.{document_limit};
+ghost use Rattle.gptp_commands.specs.RunText.{until_of, BeginsRun, PlaysDocument, RunText};
+ghost use Rattle.gptp_commands.specs.RunSoFar.{PlaysSome, Tells};
 ghost use Rattle.gptp_commands.specs.Written.{Writes, WritesSome};
 
-use crate::documents::DOCUMENT_LIMIT;
+use crate::documents::{DocumentCommand, tell_of_document};
 use crate::failure::{SimError, Status};
-use crate::reading::read_whole;
 use crate::source::Source;
 use gptp_certificate::{Certificate, print_line, write_certificate};
 use gptp_links::{Fate, PcgFate};
-use gptp_network::{Document, DocumentFault};
+use gptp_network::Document;
 use gptp_report::sink::Sink;
 use gptp_report::{Cut, run_document, write_report, write_whole};
 use gptp_world::World;
@@ -160,71 +158,27 @@ fn play_document<K: Sink>(
     tell(alloc, document, until, options.certificate, &world, sink)
 }
 
-/// Writes the line of a document that is refused.
-pub(crate) fn write_refusal<K: Sink>(
-    alloc: Global,
-    fault: DocumentFault,
-    sink: &mut K,
-) -> Result<Status, Cut>
-    ensures some { (lines : List (List ℕ)) × RefusesFault fault lines Status.Refused
-        × AppendsSome (K.written sink.old) (K.written sink.new) (text_of lines) }
-    ensures whole { IfOk result (λ status. (lines : List (List ℕ)) × RefusesFault fault lines status
-        × Appends (K.written sink.old) (K.written sink.new) (text_of lines)) }
-    ensures works { result ≢ Err Cut.Write → K.failures sink.new ≡ K.failures sink.old }
-    ensures fails { result ≡ Err Cut.Write → K.failures sink.new ≢ K.failures sink.old }
-{
-    let mut line = String::new(alloc);
-    writeln!(line, "refused {fault}")?;
-    write_whole(sink, line.as_bytes())?;
-    Ok(Status::Refused)
-}
+impl DocumentCommand for RunOptions {
+    ghost use Rattle.std.specs.Prelude.{◌≤◌, IfSome};
+    ghost use Rattle.gptp_commands.specs.RunText.{LeadsDocument, RunsDocument};
 
-/// Writes the text for a document within its size.
-fn answer_document<K: Sink>(
-    alloc: Global,
-    input: &[u8],
-    options: &RunOptions,
-    sink: &mut K,
-) -> Result<Status, Cut>
-    requires { IfSome options.now.until (λ until. until ≤ 1000000000000000) }
-    ensures some { OnErr result ((lines : List (List ℕ)) × AnswersSome options.now input.now lines
-        × AppendsSome (K.written sink.old) (K.written sink.new) (text_of lines)) }
-    ensures whole { IfOk result (λ status. (lines : List (List ℕ)) × AnswersDocument options.now input.now lines status
-        × Appends (K.written sink.old) (K.written sink.new) (text_of lines)) }
-    ensures works { result ≢ Err Cut.Write → K.failures sink.new ≡ K.failures sink.old }
-    ensures fails { result ≡ Err Cut.Write → K.failures sink.new ≢ K.failures sink.old }
-{
-    match Document::read(alloc, input) {
-        Ok(document) => {
-            document.well_formed();
-            document.network().well_formed();
-            play_document(alloc, &document, options, sink)?;
-            Ok(Status::Done)
-        }
-        Err(DocumentFault::OutOfMemory) => Err(Cut::Memory),
-        Err(fault) => write_refusal(alloc, fault, sink),
-    }
-}
+    ghost can_tell = { λ options. IfSome options.until (λ until. until ≤ 1000000000000000) };
 
-/// Writes the text for an input.
-fn answer_input<K: Sink>(
-    alloc: Global,
-    input: &[u8],
-    options: &RunOptions,
-    sink: &mut K,
-) -> Result<Status, Cut>
-    requires { IfSome options.now.until (λ until. until ≤ 1000000000000000) }
-    ensures some { OnErr result ((lines : List (List ℕ)) × BeginsRun options.now input.now lines
-        × AppendsSome (K.written sink.old) (K.written sink.new) (text_of lines)) }
-    ensures whole { IfOk result (λ status. (lines : List (List ℕ)) × RunText options.now input.now lines status
-        × Appends (K.written sink.old) (K.written sink.new) (text_of lines)) }
-    ensures works { result ≢ Err Cut.Write → K.failures sink.new ≡ K.failures sink.old }
-    ensures fails { result ≡ Err Cut.Write → K.failures sink.new ≢ K.failures sink.old }
-{
-    if input.len() <= DOCUMENT_LIMIT {
-        return answer_document(alloc, input, options, sink);
+    ghost tells = { RunsDocument };
+
+    ghost tells_so_far = { LeadsDocument };
+
+    fn tell<K: Sink>(
+        &self,
+        alloc: Global,
+        document: &Document,
+        sink: &mut K,
+    ) -> Result<Status, Cut> {
+        document.well_formed();
+        document.network().well_formed();
+        play_document(alloc, document, self, sink)?;
+        Ok(Status::Done)
     }
-    write_refusal(alloc, DocumentFault::TooMany, sink)
 }
 
 /// Reads a document, a network and its events as TOML, lets them run up to a time, and writes what became of them: with
@@ -264,10 +218,5 @@ pub fn run<S: Source, K: Sink>(
     ensures front { IfErr result (λ e. e ≢ SimError.Read
         → WritesSome (BeginsRun options.now) (S.left source.old) (K.written sink.old) (K.written sink.new)) }
 {
-    let input = read_whole(alloc, source, DOCUMENT_LIMIT)?;
-    match answer_input(alloc, &input, options, sink) {
-        Ok(status) => Ok(status),
-        Err(Cut::Memory) => Err(SimError::Memory),
-        Err(Cut::Write) => Err(SimError::Write),
-    }
+    tell_of_document(alloc, source, sink, options)
 }

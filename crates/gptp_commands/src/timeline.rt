@@ -1,21 +1,17 @@
 //! The command `timeline`: what changes at which system when, while the network of a document runs.
 
-ghost use Rattle.std.specs.Prelude.{◌≡◌, ◌≢◌, ◌⊎◌, ◌≤◌, ◌+◌, [], List, ℕ, IfOk, OnErr, OnOk, IfErr, IfSome};
-ghost use Rattle.std.specs.Io.KnownBytes.{Appends, Keeps};
-ghost use Rattle.gptp_sink.specs.Sink.{AppendsSome};
-ghost use Rattle.gptp_spelling.specs.Lines.{text_of};
+ghost use Rattle.std.specs.Prelude.{◌≡◌, ◌≢◌, ◌≤◌, ◌+◌, List, ℕ, IfOk, OnOk, IfErr, IfSome};
+ghost use Rattle.std.specs.Io.KnownBytes.{Keeps};
+ghost use Rattle.gptp_commands.specs.Documents.{document_limit};
 ghost use Rattle.gptp_commands.specs.Source.{ReadsWhole, TakesAtMost};
-ghost use Rattle.gptp_commands.specs.RunText.{document_limit};
-ghost use Rattle.gptp_commands.specs.TimelineText.{AnswersSome, AnswersTimeline, BeginsText, EndsAt, PlaysSome, PlaysTimeline, TimelineText};
+ghost use Rattle.gptp_commands.specs.TimelineText.{BeginsText, EndsAt, TimelineText};
 ghost use Rattle.gptp_commands.specs.Written.{Writes, WritesSome};
 
-use crate::documents::DOCUMENT_LIMIT;
+use crate::documents::{DocumentCommand, tell_of_document};
 use crate::failure::{SimError, Status};
-use crate::reading::read_whole;
-use crate::run::write_refusal;
 use crate::source::Source;
 use gptp_links::PcgFate;
-use gptp_network::{Document, DocumentFault};
+use gptp_network::Document;
 use gptp_report::Cut;
 use gptp_report::sink::Sink;
 use gptp_timeline::{TimelineOptions, end_by_default, write_timeline};
@@ -45,68 +41,27 @@ fn until_of(alloc: Global, document: &Document, order: &TimelineOrder) -> Result
     }
 }
 
-/// Writes the timeline of a document.
-fn play_document<K: Sink>(
-    alloc: Global,
-    document: &Document,
-    order: &TimelineOrder,
-    sink: &mut K,
-) -> Result<Status, Cut>
-    requires { IfSome order.now.until (λ until. until ≤ 1000000000000000) }
-    ensures some { OnErr result ((lines : List (List ℕ)) × ((lines ≡ []) ⊎ PlaysSome document.now order.now lines)
-        × AppendsSome (K.written sink.old) (K.written sink.new) (text_of lines)) }
-    ensures whole { IfOk result (λ status. (lines : List (List ℕ)) × PlaysTimeline document.now order.now lines status
-        × Appends (K.written sink.old) (K.written sink.new) (text_of lines)) }
-    ensures works { result ≢ Err Cut.Write → K.failures sink.new ≡ K.failures sink.old }
-    ensures fails { result ≡ Err Cut.Write → K.failures sink.new ≢ K.failures sink.old }
-{
-    let until = until_of(alloc, document, order)?;
-    let fate = PcgFate::new(order.seed);
-    let exceeded = write_timeline(alloc, document, fate, until, &order.options, sink)?;
-    Ok(Status::of_refusal(exceeded))
-}
+impl DocumentCommand for TimelineOrder {
+    ghost use Rattle.std.specs.Prelude.{◌≤◌, IfSome};
+    ghost use Rattle.gptp_commands.specs.TimelineText.{TellsSoFar, TellsTimeline};
 
-/// Writes the text for a document within its size.
-fn answer_document<K: Sink>(
-    alloc: Global,
-    input: &[u8],
-    order: &TimelineOrder,
-    sink: &mut K,
-) -> Result<Status, Cut>
-    requires { IfSome order.now.until (λ until. until ≤ 1000000000000000) }
-    ensures some { OnErr result ((lines : List (List ℕ)) × AnswersSome order.now input.now lines
-        × AppendsSome (K.written sink.old) (K.written sink.new) (text_of lines)) }
-    ensures whole { IfOk result (λ status. (lines : List (List ℕ)) × AnswersTimeline order.now input.now lines status
-        × Appends (K.written sink.old) (K.written sink.new) (text_of lines)) }
-    ensures works { result ≢ Err Cut.Write → K.failures sink.new ≡ K.failures sink.old }
-    ensures fails { result ≡ Err Cut.Write → K.failures sink.new ≢ K.failures sink.old }
-{
-    match Document::read(alloc, input) {
-        Ok(document) => play_document(alloc, &document, order, sink),
-        Err(DocumentFault::OutOfMemory) => Err(Cut::Memory),
-        Err(fault) => write_refusal(alloc, fault, sink),
-    }
-}
+    ghost can_tell = { λ order. IfSome order.until (λ until. until ≤ 1000000000000000) };
 
-/// Writes the text for an input.
-fn answer_input<K: Sink>(
-    alloc: Global,
-    input: &[u8],
-    order: &TimelineOrder,
-    sink: &mut K,
-) -> Result<Status, Cut>
-    requires { IfSome order.now.until (λ until. until ≤ 1000000000000000) }
-    ensures some { OnErr result ((lines : List (List ℕ)) × BeginsText order.now input.now lines
-        × AppendsSome (K.written sink.old) (K.written sink.new) (text_of lines)) }
-    ensures whole { IfOk result (λ status. (lines : List (List ℕ)) × TimelineText order.now input.now lines status
-        × Appends (K.written sink.old) (K.written sink.new) (text_of lines)) }
-    ensures works { result ≢ Err Cut.Write → K.failures sink.new ≡ K.failures sink.old }
-    ensures fails { result ≡ Err Cut.Write → K.failures sink.new ≢ K.failures sink.old }
-{
-    if input.len() <= DOCUMENT_LIMIT {
-        return answer_document(alloc, input, order, sink);
+    ghost tells = { TellsTimeline };
+
+    ghost tells_so_far = { TellsSoFar };
+
+    fn tell<K: Sink>(
+        &self,
+        alloc: Global,
+        document: &Document,
+        sink: &mut K,
+    ) -> Result<Status, Cut> {
+        let until = until_of(alloc, document, self)?;
+        let fate = PcgFate::new(self.seed);
+        let exceeded = write_timeline(alloc, document, fate, until, &self.options, sink)?;
+        Ok(Status::of_refusal(exceeded))
     }
-    write_refusal(alloc, DocumentFault::TooMany, sink)
 }
 
 /// Reads a document, a network and its events as TOML, lets them run up to a time, and writes act by act which event is made
@@ -142,10 +97,5 @@ pub fn timeline<S: Source, K: Sink>(
     ensures front { IfErr result (λ e. e ≢ SimError.Read
         → WritesSome (BeginsText order.now) (S.left source.old) (K.written sink.old) (K.written sink.new)) }
 {
-    let input = read_whole(alloc, source, DOCUMENT_LIMIT)?;
-    match answer_input(alloc, &input, order, sink) {
-        Ok(status) => Ok(status),
-        Err(Cut::Memory) => Err(SimError::Memory),
-        Err(Cut::Write) => Err(SimError::Write),
-    }
+    tell_of_document(alloc, source, sink, order)
 }

@@ -10,7 +10,7 @@ use Rattle.gptp_commands.specs.declared.output.Output.{Output}
 use Rattle.gptp_commands.specs.CheckText.{moment_of}
 use Rattle.gptp_commands.specs.ExplainText.{ExplainsAt}
 use Rattle.gptp_commands.specs.Output.{IsOutput}
-use Rattle.gptp_commands.specs.RunText.{RefusesFault}
+use Rattle.gptp_commands.specs.Documents.{RefusesFault}
 use Rattle.gptp_commands.proofs.explain.explain_at.Goals as goal
 
 -- what is told of the system, or that it doesn't live

@@ -2,7 +2,7 @@ use Rattle.std.proofs.Common.{inr}
 use Rattle.std.specs.Io.KnownBytes.{Appends}
 use Rattle.gptp_network.specs.declared.fault.DocumentFault.TheVariants.{TooMany}
 use Rattle.gptp_commands.specs.FaultsText.{AnswersFaults}
-use Rattle.gptp_commands.specs.RunText.{document_limit, RefusesFault}
+use Rattle.gptp_commands.specs.Documents.{document_limit, RefusesFault}
 use Rattle.gptp_sink.specs.Sink.{AppendsFront}
 use Rattle.gptp_commands.proofs.LimitedLemmas.{text_holds}
 use Rattle.gptp_commands.proofs.faults.faults.Goals as goal

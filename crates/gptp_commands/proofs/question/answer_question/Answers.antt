@@ -1,6 +1,6 @@
 use Rattle.std.specs.Io.KnownBytes.{Appends}
 use Rattle.gptp_network.specs.declared.fault.DocumentFault.TheVariants.{TooMany}
-use Rattle.gptp_commands.specs.RunText.{document_limit, RefusesFault}
+use Rattle.gptp_commands.specs.Documents.{document_limit, RefusesFault}
 use Rattle.gptp_commands.specs.QuestionText.{AnswersInput}
 use Rattle.gptp_sink.specs.Sink.{AppendsFront}
 use Rattle.gptp_commands.proofs.LimitedLemmas.{text_holds}

@@ -1,7 +1,7 @@
 use Rattle.std.proofs.Common.{[], inl, inr, refl}
 use Rattle.std.proofs.lemmas.Result.{on_err_weaker}
 use Rattle.gptp_sink.proofs.SinkLemmas.{after_error, none_of}
-use Rattle.gptp_commands.proofs.timeline.play_document.Goals as goal
+use Rattle.gptp_commands.proofs.timeline.TimelineOrderDocumentCommand.tell.Goals as goal
 
 -- nothing was written
 pub returns-in_err-until-clause-some : goal.returns-in_err-until-clause-some
@@ -13,7 +13,7 @@ returns-in_err-exceeded-clause-some g c =
     let some = rw c.new-fate.ensures at c.in_err-exceeded.ensures.some in
     after_error c.from_residual-in_err-exceeded.result (
       some.0,
-      inr (record { until = c.in_ok-until.until; ends = c.in_ok-until.ensures.end; begins = some.1 }),
+      inr (inl (record { until = c.in_ok-until.until; ends = c.in_ok-until.ensures.end; begins = some.1 })),
       some.2,
     )
 
