@@ -75,7 +75,8 @@ in_queues s chains place within = let same = length-map chains (numbers_in s) in
 pub chain_lent : (chains : List Chain) (place : ℕ) (lent : Chain) → place < length chains
     → lent ≡ slice_index_or chains place lent → chain_at place chains ≡ lent
 chain_lent chains place lent within value =
-    read chains place (slice_index_or chains place lent) no_chain (slice_get-get_or chains place lent within) ∙ sym value
+    read chains place (slice_index_or chains place lent) no_chain (slice_get-get_or chains place lent within)
+    ∙ sym value
 
 -- nothing is filed at the beginning
 pub none_filed : (s : ℕ → Option Node) (count place : ℕ)
