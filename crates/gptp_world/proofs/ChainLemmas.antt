@@ -1,16 +1,15 @@
 -- Numbers that a slab holds, each leading to the one that was put next.
-use Rattle.std.proofs.Common.{◌≡◌, ◌≢◌, ◌⊎◌, ℕ, zero, suc, ◌+◌, ◌-◌, ◌<◌, ◌≤◌, ◌==◌, false, List, [], ◌∷◌, ◌++◌, map, length, replicate, count_by, is_some, Option, Some, None, IsSome, if◌then◌else◌, slice_get, slice_set, slice_index_or, refl, sym, ap, ap₂, ◌∙◌, subst, inl, inr, arith}
+use Rattle.std.proofs.Common.{◌≡◌, ◌≢◌, ◌⊎◌, ℕ, zero, suc, ◌+◌, ◌-◌, ◌<◌, ◌≤◌, ◌==◌, false, List, [], ◌∷◌, ◌++◌, map, length, Option, Some, None, IsSome, if◌then◌else◌, slice_get, slice_set, slice_index_or, refl, sym, ap, ap₂, ◌∙◌, subst, inl, inr, arith}
 use Rattle.std.proofs.lemmas.Bool.{cases_eq}
 use Rattle.std.proofs.lemmas.Bool.Decides.{nat_tests}
 use Rattle.std.proofs.lemmas.List.{get_or-set_same, get_or-set_other}
 use Rattle.std.proofs.lemmas.List.Sums.{sum_by-set, get_or-le-sum_by}
-use Rattle.std.proofs.lemmas.List.Folds.{sum_by-replicate}
-use Rattle.std.specs.List.{AllByRecursion, sum_by}
+use Rattle.std.specs.List.{AllByRecursion}
 use Rattle.std.specs.Option.{option_map}
-use Rattle.slab.specs.Slab.{Slab, get, slab_len, Updates}
+use Rattle.slab.specs.Slab.{Slab, get, slab_len}
 use Rattle.gptp_links.specs.Flights.{Differ, EndsWith}
 use Rattle.gptp_lists.proofs.PlaceLemmas.{read}
-use Rattle.gptp_world.specs.Chain.{with_next, with_last, without_first, no_chain, head_of, rest_of, number_at, next_at, places, places_of, numbers_at, numbers_in, chain_at, IsChained, AreApart, Joins, Stays, ChangesOne, AreChained}
+use Rattle.gptp_world.specs.Chain.{with_next, with_last, without_first, no_chain, number_at, next_at, places, places_of, numbers_at, numbers_in, chain_at, IsChained, AreApart, Joins, Stays, ChangesOne, AreChained}
 use Rattle.gptp_world.specs.declared.chain.Chain.{Chain}
 use Rattle.gptp_world.specs.declared.chain.Node.{Node}
 
@@ -325,17 +324,6 @@ module _ (s t : ℕ → Option Node) (chain : Chain) (n : Node) (found : s chain
   pub changes-taken : ChangesOne s t chain shorter
   changes-taken = record { chained = chained-taken; stays = stays-taken }
 
--- ---- there is none to take
-
-pub changes-none : (s : ℕ → Option Node) (chain : Chain) → IsChained s chain → ChangesOne s s chain chain
-changes-none s chain chained = record {
-  chained = chained;
-  stays = λ other is beside. record { chained = is; places = refl; numbers = refl; apart = beside };
-}
-
-pub numbers-none : (s : ℕ → Option Node) (chain : Chain) → chain.count ≡ 0 → numbers_in s chain ≡ []
-numbers-none s chain none = rw none refl
-
 -- ---- all chains
 
 map-kept : {X Y : Type 0} (f g : X → Y) (xs : List X)
@@ -435,27 +423,7 @@ few_there s chains place are within =
     let alone = are.alone in let least = get_or-le-sum_by (λ (c : Chain). c.count) chains place no_chain within in
     omega (arith, alone, least)
 
--- ---- no number, and more room
-
-none_there : (count place : ℕ) → chain_at place (replicate count no_chain) ≡ no_chain
-none_there zero place = refl
-none_there (suc count) zero = refl
-none_there (suc count) (suc place) = none_there count place
-
-chained-none : (s : ℕ → Option Node) → IsChained s no_chain
-chained-none s = record { there = tt; differ = tt; tail = tt }
-
-pub chained-new : (s : Slab Node) (count : ℕ) → s.slots ≡ [] → AreChained s (replicate count no_chain)
-chained-new s count empty =
-    let total = sum_by-replicate (λ (c : Chain). c.count) count no_chain in
-    let none : slab_len s ≡ 0 = ap (λ slots. count_by is_some slots) empty in
-    record {
-      each = λ i. subst (IsChained (get s)) (sym (none_there count i)) (chained-none (get s));
-      apart = λ i j differ. subst (AreApart (get s) (chain_at i (replicate count no_chain)))
-          (sym (none_there count j)) tt;
-      alone = omega (arith, total, none);
-      fits = omega (arith, none);
-    }
+-- ---- more room
 
 pub chained-roomy : (s t : Slab Node) (chains : List Chain) → AreChained s chains
     → t ≡ record s { capacity = t.capacity } → s.capacity ≤ t.capacity → AreChained t chains

@@ -215,18 +215,6 @@ module _ (systems links : ℕ) (filed : FiledState) (es : List (Numbered Item))
         → AreFiled systems links (record filed { timers = without_timer }) (without_number r.number es)
     filed-stopped next rises = rw (removed-timer next rises) filed-cut_timer
 
-  -- there is other room
-  pub filed-roomy : (room : ℕ) → AreFiled systems links (record filed { room = room }) es
-  filed-roomy room = record {
-    few_systems = are.few_systems;
-    few_links = are.few_links;
-    timers_len = are.timers_len;
-    queues_len = are.queues_len;
-    known = are.known;
-    timers = are.timers;
-    queues = are.queues;
-  }
-
   -- an arrival is put
   module _ (link : ℕ) (direction : Direction) (time number room : ℕ) (known : link < links) where
     abbrev put_arrival : Numbered Item
