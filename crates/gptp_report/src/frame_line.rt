@@ -112,6 +112,9 @@ impl fmt::Display for AnswerWord {
     }
 }
 
+/// How many octets the words of a line have at most, beside those of its frame.
+const WORDS: usize = 96;
+
 /// Appends the line of a frame of this type.
 fn append_frame_line(
     text: &mut String,
@@ -125,6 +128,7 @@ fn append_frame_line(
     ensures { OnOk result (string_bytes text.new
         ≡ string_bytes text.old ++ (frame_line at clock port kind answer frame.now ++ 10 ∷ [])) }
 {
+    text.reserve(frame.len().saturating_mul(2).saturating_add(WORDS))?;
     writeln!(
         text,
         "frame {at} {} {port} {kind} {} {}",
