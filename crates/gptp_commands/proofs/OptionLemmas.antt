@@ -4,7 +4,7 @@ use Rattle.std.specs.Str.Parse.{ParsesUnsigned}
 use Rattle.clap.specs.Words.{ReadsOne, one_of, one_text, rows_of}
 use Rattle.clap.specs.declared.parser.matches.Found.{Found}
 use Rattle.clap.proofs.WalkLemmas.{one_text-rows}
-use Rattle.gptp_commands.specs.Command.{IsFlag, IsSeed, IsUntil, WritesNumber}
+use Rattle.gptp_commands.specs.Command.{IsCount, IsFlag, IsSeed, IsUntil, WritesNumber}
 
 -- of a number's text that number, where its type holds it
 pub number_read : {E : Type 0} (reads : List ℕ → Result ℕ E → Type 0) (bits : ℕ) (text : List ℕ) (number : ℕ)
@@ -25,6 +25,10 @@ until_of_rows found id until = subst (λ text. IsUntil text until) (one_text-row
 pub seed_of_rows : (found : Found) (id : List ℕ) (seed : ℕ) → IsSeed (one_text found id) seed
     → IsSeed (one_of id (rows_of found)) seed
 seed_of_rows found id seed = subst (λ text. IsSeed text seed) (one_text-rows found id)
+
+pub count_of_rows : (found : Found) (id : List ℕ) (most number : ℕ) → IsCount (one_text found id) most number
+    → IsCount (one_of id (rows_of found)) most number
+count_of_rows found id most number = subst (λ text. IsCount text most number) (one_text-rows found id)
 
 pub flag_of_rows : (found : Found) (id : List ℕ) (flag : Bool) → (one_text found id ≡ Some (codes "true") → flag ≡ true)
     → (one_text found id ≡ Some (codes "false") → flag ≡ false) → IsFlag (one_of id (rows_of found)) flag
