@@ -260,56 +260,56 @@ begins name word words other same =
     inr (name, other, (words, ap (λ first. first ∷ words) (sym ((bytes_eq-Decides name word).0 same))))
 
 -- by what the first word is
-first_word : (is_compare is_run is_check is_choice is_accuracy is_explain is_lint is_timeline is_faults is_help is_mark
+first_word : (is_compare is_run is_check is_choice is_exact is_why is_lint is_timeline is_faults is_help is_mark
     : Bool) (word : Text) (words : List Text)
     → bytes_eq (codes "compare") word ≡ is_compare → bytes_eq (codes "run") word ≡ is_run
     → bytes_eq (codes "check") word ≡ is_check → bytes_eq (codes "choice") word ≡ is_choice
-    → bytes_eq (codes "accuracy") word ≡ is_accuracy → bytes_eq (codes "explain") word ≡ is_explain
+    → bytes_eq (codes "accuracy") word ≡ is_exact → bytes_eq (codes "explain") word ≡ is_why
     → bytes_eq (codes "lint") word ≡ is_lint → bytes_eq (codes "timeline") word ≡ is_timeline
     → bytes_eq (codes "faults") word ≡ is_faults
     → bytes_eq (codes "help") word ≡ is_help → bytes_eq word (codes "--") ≡ is_mark
     → fault (word ∷ words) ≡ [] → NamesOne (word ∷ words)
 unfolding walk_fault
-first_word true is_run is_check is_choice is_accuracy is_explain is_lint is_timeline is_faults is_help is_mark word words
-    compare run check choice accuracy explain lint timeline faults help mark none =
+first_word true is_run is_check is_choice is_exact is_why is_lint is_timeline is_faults is_help is_mark word words
+    compare run check choice exact why lint timeline faults help mark none =
     let word_is : codes "compare" ≡ word = (bytes_eq-Decides (codes "compare") word).0 compare in
     inl (rw (← word_is) (named words (words_behind words (rw (← word_is) at none))))
-first_word false true is_check is_choice is_accuracy is_explain is_lint is_timeline is_faults is_help is_mark word words
-    compare run check choice accuracy explain lint timeline faults help mark none =
+first_word false true is_check is_choice is_exact is_why is_lint is_timeline is_faults is_help is_mark word words
+    compare run check choice exact why lint timeline faults help mark none =
     begins (codes "run") word words (inl refl) run
-first_word false false true is_choice is_accuracy is_explain is_lint is_timeline is_faults is_help is_mark word words
-    compare run check choice accuracy explain lint timeline faults help mark none =
+first_word false false true is_choice is_exact is_why is_lint is_timeline is_faults is_help is_mark word words
+    compare run check choice exact why lint timeline faults help mark none =
     begins (codes "check") word words (inr (inl refl)) check
-first_word false false false true is_accuracy is_explain is_lint is_timeline is_faults is_help is_mark word words compare
-    run check choice accuracy explain lint timeline faults help mark none =
+first_word false false false true is_exact is_why is_lint is_timeline is_faults is_help is_mark word words compare
+    run check choice exact why lint timeline faults help mark none =
     begins (codes "choice") word words (inr (inr (inl refl))) choice
-first_word false false false false true is_explain is_lint is_timeline is_faults is_help is_mark word words compare run
-    check choice accuracy explain lint timeline faults help mark none =
-    begins (codes "accuracy") word words (inr (inr (inr (inl refl)))) accuracy
+first_word false false false false true is_why is_lint is_timeline is_faults is_help is_mark word words compare run
+    check choice exact why lint timeline faults help mark none =
+    begins (codes "accuracy") word words (inr (inr (inr (inl refl)))) exact
 first_word false false false false false true is_lint is_timeline is_faults is_help is_mark word words compare run check
-    choice accuracy explain lint timeline faults help mark none =
-    begins (codes "explain") word words (inr (inr (inr (inr (inl refl))))) explain
+    choice exact why lint timeline faults help mark none =
+    begins (codes "explain") word words (inr (inr (inr (inr (inl refl))))) why
 first_word false false false false false false true is_timeline is_faults is_help is_mark word words compare run check
-    choice accuracy explain lint timeline faults help mark none =
+    choice exact why lint timeline faults help mark none =
     begins (codes "lint") word words (inr (inr (inr (inr (inr (inl refl)))))) lint
 first_word false false false false false false false true is_faults is_help is_mark word words compare run check choice
-    accuracy explain lint timeline faults help mark none =
+    exact why lint timeline faults help mark none =
     begins (codes "timeline") word words (inr (inr (inr (inr (inr (inr (inl refl))))))) timeline
 first_word false false false false false false false false true is_help is_mark word words compare run check choice
-    accuracy explain lint timeline faults help mark none =
+    exact why lint timeline faults help mark none =
     begins (codes "faults") word words (inr (inr (inr (inr (inr (inr (inr refl))))))) faults
-first_word false false false false false false false false false true is_mark word words compare run check choice accuracy
-    explain lint timeline faults help mark none =
+first_word false false false false false false false false false true is_mark word words compare run check choice exact
+    why lint timeline faults help mark none =
     let word_is : codes "help" ≡ word = (bytes_eq-Decides (codes "help") word).0 help in
     absurd (help_asked words (rw (← word_is) at none))
-first_word false false false false false false false false false false true word words compare run check choice accuracy
-    explain lint timeline faults help mark none =
+first_word false false false false false false false false false false true word words compare run check choice exact
+    why lint timeline faults help mark none =
     let word_is : word ≡ codes "--" = (bytes_eq-Decides word (codes "--")).0 mark in
     absurd (mark_alone words (rw word_is at none))
-first_word false false false false false false false false false false false word words compare run check choice accuracy
-    explain lint timeline faults help mark none =
+first_word false false false false false false false false false false false word words compare run check choice exact
+    why lint timeline faults help mark none =
     let no_name : subcommand_met names idle word ≡ None =
-    rw (compare, run, timeline, check, choice, accuracy, explain, lint, faults, help) refl in
+    rw (compare, run, timeline, check, choice, exact, why, lint, faults, help) refl in
     absurd (strange top names word no_name mark (first_none _ _ (walk_finds_none (word ∷ words) none)))
 
 -- no word at all

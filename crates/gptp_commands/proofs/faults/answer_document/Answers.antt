@@ -9,5 +9,6 @@ returns-in-Ok-Refused-clause-tells g c =
     let d = c.args.document.now in let options = c.args.options.now in
     let refuses : RefusesFaults d options c.in-Ok-Refused.fault =
     subst (Answers d options) c.in-Ok-Refused.field-0-is c.in-Ok-Refused.ensures.answer in
-    IfOk-weaker c.refuse.result _ _ (λ o refused. (refused.0, inr (c.in-Ok-Refused.fault, refuses, refused.1), refused.2))
+    IfOk-weaker c.refuse.result _ _
+    (λ o refused. (refused.0, inr (c.in-Ok-Refused.fault, refuses, refused.1), refused.2))
     c.refuse.ensures.refuses
