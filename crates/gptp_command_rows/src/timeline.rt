@@ -59,14 +59,24 @@ fn changes_are_told(
     rt: &impl Abort,
     alloc: Global,
     events: &str,
-    order: &TimelineOrder,
+    until: u64,
+    offsets: bool,
     start: &str,
     others: &str,
 ) -> Result<(), Fail>
-    requires { IfSome order.now.until (λ until. until ≤ 1000000000000000) }
+    requires { until ≤ 1000000000000000 }
 {
+    let order = TimelineOrder {
+        until: Some(until),
+        seed: 1,
+        options: TimelineOptions {
+            summary: false,
+            offsets,
+            limits: NO_LIMITS,
+        },
+    };
     let document = format!(in alloc; "{TWO}{events}")?;
-    let (text, status) = told(alloc, document.as_bytes(), order)?;
+    let (text, status) = told(alloc, document.as_bytes(), &order)?;
     let want = format!(in alloc; "{start}{others}")?;
     same_at(rt, &events, text.as_slice(), want.as_bytes());
     same_at(rt, &events, status, Status::Done);
@@ -94,15 +104,7 @@ after 0 to 1300000000 choice 1000002500 roles 1000002500 offsets 1125000500 hold
 
 #[test]
 fn two_systems_settle_and_receive_time(rt: HostRuntime) -> Result<(), Fail> {
-    let order = TimelineOrder {
-        options: TimelineOptions {
-            summary: false,
-            offsets: true,
-            limits: NO_LIMITS,
-        },
-        ..up_to(1_300_000_000)
-    };
-    changes_are_told(&rt, rt.alloc(), "", &order, SETTLED, RECEIVING)
+    changes_are_told(&rt, rt.alloc(), "", 1_300_000_000, true, SETTLED, RECEIVING)
 }
 
 /// The second is the better from the start on.
@@ -134,7 +136,8 @@ fn an_event_at_0_belongs_to_the_first_stretch(rt: HostRuntime) -> Result<(), Fai
         &rt,
         rt.alloc(),
         PRIORITY,
-        &up_to(1_125_000_500),
+        1_125_000_500,
+        false,
         "",
         SECOND_LEADS,
     )
@@ -169,7 +172,8 @@ fn events_at_the_end_begin_a_stretch_of_no_length(rt: HostRuntime) -> Result<(),
         &rt,
         rt.alloc(),
         AT_THE_END,
-        &up_to(3_000_000_000),
+        3_000_000_000,
+        false,
         SETTLED,
         NO_LENGTH,
     )
@@ -207,7 +211,8 @@ fn a_wait_that_an_event_ends_counts_where_it_is_looked_at(rt: HostRuntime) -> Re
         &rt,
         rt.alloc(),
         FAILS,
-        &up_to(4_200_000_000),
+        4_200_000_000,
+        false,
         SETTLED,
         FAILED,
     )
