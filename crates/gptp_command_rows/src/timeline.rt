@@ -25,15 +25,17 @@ const NO_LIMITS: Limits = Limits {
     alone: None,
 };
 
-/// All lines but those of receipts, up to a time.
-const fn up_to(until: u64) -> TimelineOrder {
+/// What is asked of a timeline up to a time in ns, some seconds at most.
+fn up_to(until: u32, summary: bool, offsets: bool, limits: Limits) -> TimelineOrder
+    ensures { IfSome result.until (λ until. until ≤ 1000000000000000) }
+{
     TimelineOrder {
-        until: Some(until),
+        until: Some(u64::from(until)),
         seed: 1,
         options: TimelineOptions {
-            summary: false,
-            offsets: false,
-            limits: NO_LIMITS,
+            summary,
+            offsets,
+            limits,
         },
     }
 }
@@ -59,22 +61,12 @@ fn changes_are_told(
     rt: &impl Abort,
     alloc: Global,
     events: &str,
-    until: u64,
+    until: u32,
     offsets: bool,
     start: &str,
     others: &str,
-) -> Result<(), Fail>
-    requires { until ≤ 1000000000000000 }
-{
-    let order = TimelineOrder {
-        until: Some(until),
-        seed: 1,
-        options: TimelineOptions {
-            summary: false,
-            offsets,
-            limits: NO_LIMITS,
-        },
-    };
+) -> Result<(), Fail> {
+    let order = up_to(until, false, offsets, NO_LIMITS);
     let document = format!(in alloc; "{TWO}{events}")?;
     let (text, status) = told(alloc, document.as_bytes(), &order)?;
     let want = format!(in alloc; "{start}{others}")?;
@@ -273,7 +265,7 @@ max = 500
 /// The second fails before it ever received time; at the time at which it receives it; the first fails while its Sync
 /// is in flight; the second's priority1 is another, which changes nobody's choice, at the time of a receipt, where the
 /// run ends. Nobody can be grandmaster. Two waits end in one ns. The Slave port is another from one ns to the next.
-const STRETCHES: [(&str, &str, u64, &str); 7] = [
+const STRETCHES: [(&str, &str, u32, &str); 7] = [
     (
         TWO,
         "[[event]]
@@ -367,14 +359,7 @@ fn stretches_end_so(rt: HostRuntime) -> Result<(), Fail> {
     let alloc = rt.alloc();
     for (network, events, until, want) in STRETCHES {
         let document = format!(in alloc; "{network}{events}")?;
-        let order = TimelineOrder {
-            options: TimelineOptions {
-                summary: true,
-                offsets: false,
-                limits: NO_LIMITS,
-            },
-            ..up_to(until)
-        };
+        let order = up_to(until, true, false, NO_LIMITS);
         let (text, status) = told(alloc, document.as_bytes(), &order)?;
         same_at(&rt, &want, text.as_slice(), want.as_bytes());
         same_at(&rt, &want, status, Status::Done);
@@ -446,14 +431,7 @@ fn limits_are_asked_of_a_stretch(rt: HostRuntime) -> Result<(), Fail> {
             Status::Refused,
         ),
     ] {
-        let order = TimelineOrder {
-            options: TimelineOptions {
-                summary: true,
-                offsets: false,
-                limits,
-            },
-            ..up_to(1_200_000_000)
-        };
+        let order = up_to(1_200_000_000, true, false, limits);
         let (text, ends) = told(alloc, document.as_bytes(), &order)?;
         let want = format!(in alloc; "{STRETCH}{verdict}")?;
         same_at(&rt, &verdict, text.as_slice(), want.as_bytes());
@@ -463,7 +441,7 @@ fn limits_are_asked_of_a_stretch(rt: HostRuntime) -> Result<(), Fail> {
 }
 
 /// Before anybody has received time, and before anybody has heard of the other.
-const BEFORE: [(u64, &str, Limits, &str, Status); 4] = [
+const BEFORE: [(u32, &str, Limits, &str, Status); 4] = [
     (
         1_100_000_000,
         WITHOUT_TIME,
@@ -518,14 +496,7 @@ holdover 0 none error 0.000 none without 0 roots 0 alone 2 bound 26000000000
 fn limits_are_asked_of_systems_without_time(rt: HostRuntime) -> Result<(), Fail> {
     let alloc = rt.alloc();
     for (until, stretch, limits, verdict, status) in BEFORE {
-        let order = TimelineOrder {
-            options: TimelineOptions {
-                summary: true,
-                offsets: false,
-                limits,
-            },
-            ..up_to(until)
-        };
+        let order = up_to(until, true, false, limits);
         let (text, ends) = told(alloc, TWO.as_bytes(), &order)?;
         let want = format!(in alloc; "{stretch}{verdict}")?;
         same_at(&rt, &want, text.as_slice(), want.as_bytes());
