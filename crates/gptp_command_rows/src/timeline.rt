@@ -75,6 +75,27 @@ fn changes_are_told(
     Ok(())
 }
 
+/// The stretches of a network to which this happens, up to a time, with a verdict where limits are given.
+fn stretches_are_told(
+    rt: &impl Abort,
+    alloc: Global,
+    network: &str,
+    events: &str,
+    until: u32,
+    limits: Limits,
+    stretches: &str,
+    verdict: &str,
+    status: Status,
+) -> Result<(), Fail> {
+    let order = up_to(until, true, false, limits);
+    let document = format!(in alloc; "{network}{events}")?;
+    let (text, ends) = told(alloc, document.as_bytes(), &order)?;
+    let want = format!(in alloc; "{stretches}{verdict}")?;
+    same_at(rt, &want, text.as_slice(), want.as_bytes());
+    same_at(rt, &want, ends, status);
+    Ok(())
+}
+
 /// They start, measure their link, and the second follows the first and knows its time.
 const SETTLED: &str =
     "at 0 system 0000000000000001 root f6f8fe436af80000000000000001 steps 0 gm yes slave none offset none
@@ -356,13 +377,18 @@ after 1200000000 to 1300000000 choice 0 roles 0 offsets 50000500 holdover 125000
 
 #[test]
 fn stretches_end_so(rt: HostRuntime) -> Result<(), Fail> {
-    let alloc = rt.alloc();
     for (network, events, until, want) in STRETCHES {
-        let document = format!(in alloc; "{network}{events}")?;
-        let order = up_to(until, true, false, NO_LIMITS);
-        let (text, status) = told(alloc, document.as_bytes(), &order)?;
-        same_at(&rt, &want, text.as_slice(), want.as_bytes());
-        same_at(&rt, &want, status, Status::Done);
+        stretches_are_told(
+            &rt,
+            rt.alloc(),
+            network,
+            events,
+            until,
+            NO_LIMITS,
+            want,
+            "",
+            Status::Done,
+        )?;
     }
     Ok(())
 }
@@ -374,8 +400,6 @@ holdover 124998000 0000000000000001 error 0.000 0000000000000001 without 0 roots
 
 #[test]
 fn limits_are_asked_of_a_stretch(rt: HostRuntime) -> Result<(), Fail> {
-    let alloc = rt.alloc();
-    let document = format!(in alloc; "{TWO}{PRIORITY}")?;
     for (limits, verdict, status) in [
         (NO_LIMITS, "", Status::Done),
         (
@@ -431,11 +455,17 @@ fn limits_are_asked_of_a_stretch(rt: HostRuntime) -> Result<(), Fail> {
             Status::Refused,
         ),
     ] {
-        let order = up_to(1_200_000_000, true, false, limits);
-        let (text, ends) = told(alloc, document.as_bytes(), &order)?;
-        let want = format!(in alloc; "{STRETCH}{verdict}")?;
-        same_at(&rt, &verdict, text.as_slice(), want.as_bytes());
-        same_at(&rt, &verdict, ends, status);
+        stretches_are_told(
+            &rt,
+            rt.alloc(),
+            TWO,
+            PRIORITY,
+            1_200_000_000,
+            limits,
+            STRETCH,
+            verdict,
+            status,
+        )?;
     }
     Ok(())
 }
@@ -494,13 +524,18 @@ holdover 0 none error 0.000 none without 0 roots 0 alone 2 bound 26000000000
 
 #[test]
 fn limits_are_asked_of_systems_without_time(rt: HostRuntime) -> Result<(), Fail> {
-    let alloc = rt.alloc();
     for (until, stretch, limits, verdict, status) in BEFORE {
-        let order = up_to(until, true, false, limits);
-        let (text, ends) = told(alloc, TWO.as_bytes(), &order)?;
-        let want = format!(in alloc; "{stretch}{verdict}")?;
-        same_at(&rt, &want, text.as_slice(), want.as_bytes());
-        same_at(&rt, &want, ends, status);
+        stretches_are_told(
+            &rt,
+            rt.alloc(),
+            TWO,
+            "",
+            until,
+            limits,
+            stretch,
+            verdict,
+            status,
+        )?;
     }
     Ok(())
 }
