@@ -91,8 +91,8 @@ fn stretches_are_told(
     let document = format!(in alloc; "{network}{events}")?;
     let (text, ends) = told(alloc, document.as_bytes(), &order)?;
     let want = format!(in alloc; "{stretches}{verdict}")?;
-    same_at(rt, &want, text.as_slice(), want.as_bytes());
-    same_at(rt, &want, ends, status);
+    same_at(rt, &stretches, text.as_slice(), want.as_bytes());
+    same_at(rt, &stretches, ends, status);
     Ok(())
 }
 
