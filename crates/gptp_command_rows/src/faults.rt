@@ -180,65 +180,65 @@ fn a_part_has_each_other_case(rt: HostRuntime) -> Result<(), Fail> {
     Ok(())
 }
 
-/// What is asked, and the line of why it can't be, or all that is told.
-const LINES: [(FaultsOptions, &str); 6] = [
-    (
-        FaultsOptions {
-            at: Some(9_000_000_499),
-            ..ALL
-        },
-        "refused 10 EventOrder\n",
-    ),
-    (
-        FaultsOptions {
-            at: Some(800_000_000_000_001),
-            ..ALL
-        },
-        "refused 4 OutOfRange\n",
-    ),
-    (
-        FaultsOptions {
-            at: Some(800_000_000_000_000),
-            ..ALL
-        },
-        "refused 4 OutOfRange\n",
-    ),
-    (
-        FaultsOptions {
-            hold: Some(799_979_250_000_000),
-            ..ALL
-        },
-        "refused 4 OutOfRange\n",
-    ),
-    (
-        FaultsOptions {
-            moments: 1,
-            hold: Some(490_000_000_000_001),
-            at: Some(20_000_000_000_000),
-            ..ALL
-        },
-        "refused 4 OutOfRange\n",
-    ),
-    (
-        FaultsOptions {
-            only: Some(Only::Links),
-            parts: 3,
-            part: 3,
-            ..ALL
-        },
+/// What is asked of the pair is answered so.
+fn is_answered(
+    rt: &impl Abort,
+    alloc: Global,
+    options: &FaultsOptions,
+    want: &str,
+) -> Result<(), Fail>
+    requires { AreOptions options.now }
+{
+    let (text, _, _) = told(alloc, PAIR.as_bytes(), options)?;
+    same_at(rt, &want, text.as_slice(), want.as_bytes());
+    Ok(())
+}
+
+#[test]
+fn a_moment_before_an_event_or_too_late_is_refused(rt: HostRuntime) -> Result<(), Fail> {
+    let alloc = rt.alloc();
+    let before = FaultsOptions {
+        at: Some(9_000_000_499),
+        ..ALL
+    };
+    is_answered(&rt, alloc, &before, "refused 10 EventOrder\n")?;
+    let late = FaultsOptions {
+        at: Some(800_000_000_000_001),
+        ..ALL
+    };
+    is_answered(&rt, alloc, &late, "refused 4 OutOfRange\n")
+}
+
+#[test]
+fn a_run_that_ends_too_late_is_refused(rt: HostRuntime) -> Result<(), Fail> {
+    let alloc = rt.alloc();
+    let begun_late = FaultsOptions {
+        at: Some(800_000_000_000_000),
+        ..ALL
+    };
+    is_answered(&rt, alloc, &begun_late, "refused 4 OutOfRange\n")?;
+    let down_for_long = FaultsOptions {
+        hold: Some(799_979_250_000_000),
+        ..ALL
+    };
+    is_answered(&rt, alloc, &down_for_long, "refused 4 OutOfRange\n")
+}
+
+#[test]
+fn a_part_without_a_case_has_none(rt: HostRuntime) -> Result<(), Fail> {
+    let options = FaultsOptions {
+        only: Some(Only::Links),
+        parts: 3,
+        part: 3,
+        ..ALL
+    };
+    is_answered(
+        &rt,
+        rt.alloc(),
+        &options,
         "cases 0 moments 2 seeds 1 from 20000000500
 worst choice none holdover 0 error 0.000 without 0 roots 0 alone 0
 within
 ",
-    ),
-];
-
-#[test]
-fn what_cannot_be_tried_is_refused(rt: HostRuntime) -> Result<(), Fail> {
-    let alloc = rt.alloc();
-    for (options, want) in LINES {
-        let (text, _, _) = told(alloc, PAIR.as_bytes(), &options)?;
-        same_at(&rt, &want, text.as_slice(), want.as_bytes());
-    }
-    Ok(())
+    )
 }
