@@ -11,6 +11,7 @@ use gptp_commands::sink::CountedWriter;
 use gptp_faults::{FaultsOptions, Only};
 use gptp_timeline::Limits;
 use std::alloc::Global;
+use std::process::Abort;
 use std::test::Fail;
 
 /// Two bridges that two links join, of which the first comes up at 9 s.
