@@ -40,6 +40,7 @@ pub record AreParams (p : Params) : Type 0 where
   pub turnaround : p.turnaround ≤ 1000000000
   pub residence-least : 1 ≤ p.residence
   pub residence : p.residence ≤ 1000000000
+  pub sync-timeout : p.sync_timeout ≤ 10
 
 -- the times of a simulation, in ns
 abbrev pub IsMoment : ℕ → Type 0

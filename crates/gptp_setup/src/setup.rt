@@ -25,6 +25,9 @@ pub struct Params {
     pub turnaround: u64,
     /// How long a bridge takes to send time on, in ns, 1 to 10^9.
     pub residence: u64,
+    /// syncReceiptTimeout (IEEE 802.1AS-2020, 10.7.3.1): after how many sync intervals without time what the Slave port
+    /// holds ages, 0 to 10; 0: never.
+    pub sync_timeout: u8,
 }
 
 /// What one system is set up with.

@@ -15,4 +15,6 @@ pub enum Timer {
     Sync,
     /// The system sends on the time that it received (IEEE 802.1AS-2020, 11.2.15).
     Relay,
+    /// No time came over the Slave port for too long (syncReceiptTimeout; IEEE 802.1AS-2020, 10.7.3.1).
+    Lapse,
 }
