@@ -1,5 +1,6 @@
 -- What a bridge sends on, and what a slave reads.
-use Rattle.std.specs.Prelude.{ℤ, ◌+ℤ◌, ◌-ℤ◌}
+use Rattle.std.specs.Prelude.{ℤ, pos, negsuc, ◌+ℤ◌, ◌-ℤ◌}
+use Rattle.std.specs.Int.{int_max, int_min}
 use Rattle.gptp_scaled.specs.ScaledNs.{FitsScaled}
 use Rattle.gptp_scaled.specs.Interval.{FitsInterval}
 use Rattle.gptp_scaled.specs.Rate.{FitsRate, scaled_by, unscaled_by}
@@ -16,6 +17,15 @@ carried s = record { correction = s.correction; rate = s.rate }
 -- the hop of a bridge that sends on at `egress`
 abbrev pub bridge : SyncInfo → ℤ → ℤ → ℤ → Hop
 bridge s delay neighbour egress = record { delay = delay; neighbour = neighbour; ingress = s.ingress; egress = egress }
+
+-- the Integer32 that is nearest to a number
+abbrev pub nearest_rate : ℤ → ℤ
+nearest_rate z = int_max (negsuc 2147483647) (int_min z (pos 2147483647))
+
+-- The same with another rate: the one whose sum with the neighbour's rate is held at the limits of Integer32. Where the
+-- sum of the rate received is an Integer32 nothing changes (profile).
+abbrev pub held_sum : SyncInfo → ℤ → SyncInfo
+held_sum s neighbour = record s { rate = nearest_rate (s.rate +ℤ neighbour) -ℤ neighbour }
 
 -- how long a Sync was on the link, by the own clock: the mean link delay divided by the neighbour's rate
 abbrev pub link_time : ℤ → ℤ → ℤ

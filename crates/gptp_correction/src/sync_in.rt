@@ -1,6 +1,8 @@
 //! A Follow_Up and the Sync that it belongs to.
 
-ghost use Rattle.std.specs.Prelude.{◌≡◌, Some, None};
+ghost use Rattle.std.specs.Prelude.{◌≡◌, ◌+ℤ◌, Some, None};
+ghost use Rattle.gptp_scaled.specs.Rate.{FitsRate};
+ghost use Rattle.gptp_correction.specs.Correction.{held_sum};
 ghost use Rattle.gptp_correction.specs.SyncIn.{kept, information};
 
 use gptp_messages::FollowUp;
@@ -34,6 +36,24 @@ pub struct SyncInfo {
     pub rate: Rate,
     /// The syncEventIngressTimestamp: when the Sync came, by the own clock.
     pub ingress: ScaledNs,
+}
+
+impl SyncInfo {
+    /// The same with the rate nearest to the one received whose sum with the rate of the neighbour is an Integer32, from
+    /// -2^31 to 2^31 - 1, so that neither [`relay`](crate::relay) nor [`receipt_time`](crate::receipt_time) is refused
+    /// for that sum (profile). Where the sum is one already nothing changes.
+    pub fn held_sum(&self, neighbour: Rate) -> SyncInfo
+        ensures held { result ≡ held_sum self.now neighbour }
+        ensures fits { FitsRate (result.rate +ℤ neighbour) }
+    {
+        let sum = self.rate.q().saturating_add(neighbour.q());
+        SyncInfo {
+            origin: self.origin,
+            correction: self.correction,
+            rate: Rate::new(sum - neighbour.q()),
+            ingress: self.ingress,
+        }
+    }
 }
 
 impl Model for SyncIn {

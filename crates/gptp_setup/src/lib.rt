@@ -6,6 +6,6 @@ mod interval;
 mod setup;
 mod timer;
 
-pub use interval::interval_of;
+pub use interval::{interval_of, lapse_span};
 pub use setup::{Params, Setup};
 pub use timer::Timer;

@@ -112,7 +112,7 @@ LaterLaw = (s : SystemState) (now t : ℕ) → now ≤ t → IsInTime s now → 
 abbrev pub StartsInTimeLaw : Type 0
 StartsInTimeLaw = (setup : Setup) (now : ℕ) → IsInTime (started setup now) now
 
--- every step lets the two timers of the system run on or begin anew
+-- every step lets the timers of the system run on or begin anew
 abbrev pub RunsOnLaw : Type 0
 RunsOnLaw = (input : Input) (now : ℕ) (s s' : SystemState) (sends : List Sending) (answer : Answer)
     → Steps input now s s' sends answer

@@ -4,6 +4,7 @@ pub mod Selection
 pub mod Measuring
 pub mod Announcing
 pub mod Syncing
+pub mod Lapse
 pub mod Steps
 pub mod Ready
 pub mod Start

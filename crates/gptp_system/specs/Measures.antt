@@ -74,6 +74,7 @@ IsPartAfter s now (Expires (timers.Announce p)) n x x' = x' ≡ x
 IsPartAfter s now (Expires (timers.Age p)) n x x' = x' ≡ x
 IsPartAfter s now (Expires timers.Sync) n x x' = x' ≡ x
 IsPartAfter s now (Expires timers.Relay) n x x' = x' ≡ x
+IsPartAfter s now (Expires timers.Lapse) n x x' = x' ≡ x
 IsPartAfter s now (Priority value) n x x' = x' ≡ x
 
 -- so it is at every place, from the new state back to the old one

@@ -33,7 +33,7 @@ pub record AsksOnce (s : SystemState) (p : ℕ) (sends : List Sending) : Type 0 
   pub is : sends ≡ with_send (request_of p s) announces
 
 -- What an input sends. A port asks when its link comes up and when its timer expires, and answers when that timer
--- expires; the two timers of the system tell time; all else can only announce.
+-- expires; the Sync and the Relay timer tell time; all else can only announce.
 abbrev pub AreSent : SystemState → ℕ → Input → List Sending → Type 0
 AreSent s now (PortUp p) sends = AsksOnce s p sends
 AreSent s now (PortDown p) sends = AllAre Announcing sends
@@ -44,4 +44,5 @@ AreSent s now (Expires (timers.Pdelay p)) sends = AsksOnce s p sends
 AreSent s now (Expires (timers.Respond p)) sends = RespondsIf (owed_at s p) p now s sends
 AreSent s now (Expires timers.Sync) sends = AllAre Telling sends
 AreSent s now (Expires timers.Relay) sends = AllAre Telling sends
+AreSent s now (Expires timers.Lapse) sends = AllAre Announcing sends
 AreSent s now (Priority value) sends = AllAre Announcing sends

@@ -44,6 +44,7 @@ timer_reach (timers.Pdelay p) s = asking_reach (stops_at p s) p
 timer_reach (timers.Respond p) s = reaches.Port p
 timer_reach timers.Sync s = reaches.All
 timer_reach timers.Relay s = reaches.All
+timer_reach timers.Lapse s = reaches.All
 
 -- a port whose link comes up begins anew, and so stops being asCapable where it was
 abbrev pub reach : Input → SystemState → Reach
@@ -84,21 +85,27 @@ same_timer (timers.Pdelay p) (timers.Pdelay q) = p == q
 same_timer (timers.Respond p) (timers.Respond q) = p == q
 same_timer timers.Sync timers.Sync = true
 same_timer timers.Relay timers.Relay = true
+same_timer timers.Lapse timers.Lapse = true
 same_timer a b = false
 
--- selection can change the Announce and the Age timer of every port, and the Relay timer
+-- time that comes changes the Relay and the Lapse timer
+abbrev pub is_of_time : Timer → Bool
+is_of_time timers.Relay = true
+is_of_time timers.Lapse = true
+is_of_time timer = false
+
+-- selection can change the Announce and the Age timer of every port, and those two
 abbrev pub is_selected : Timer → Bool
 is_selected (timers.Announce p) = true
 is_selected (timers.Age p) = true
-is_selected timers.Relay = true
-is_selected timer = false
+is_selected timer = is_of_time timer
 
 -- A message heard at a port can change these: a Pdelay_Req (2) the Respond timer of the port, a Follow_Up (8) the Relay
--- timer, and one after which the system may select those that selection can change.
+-- and the Lapse timer, and one after which the system may select those that selection can change.
 abbrev pub is_touched_by : ℕ → ℕ → Timer → Bool
 is_touched_by kind p timer =
     if kind == 0x2 then same_timer (timers.Respond p) timer
-    else if kind == 0x8 then same_timer timers.Relay timer
+    else if kind == 0x8 then is_of_time timer
     else may_select kind && is_selected timer
 
 -- a port asks its neighbour
@@ -117,6 +124,7 @@ is_touched (Expires (timers.Pdelay p)) s timer = is_touched_asking (stops_at p s
 is_touched (Expires (timers.Respond p)) s timer = same_timer (timers.Respond p) timer
 is_touched (Expires timers.Sync) s timer = same_timer timers.Sync timer
 is_touched (Expires timers.Relay) s timer = same_timer timers.Relay timer
+is_touched (Expires timers.Lapse) s timer = is_selected timer
 is_touched (Priority value) s timer = is_selected timer
 
 -- all timers that aren't touched are due when they were

@@ -1,5 +1,5 @@
 -- What is true of the state of every system before each call, and at each place inside one.
-use Rattle.std.specs.Prelude.{◌≡◌, ◌≤◌, length}
+use Rattle.std.specs.Prelude.{◌≡◌, ◌≤◌, None, length}
 use Rattle.std.specs.List.{AllByRecursion}
 use Rattle.std.specs.Option.{ForSome}
 use Rattle.gptp_receipt.specs.declared.held.Held.{Held}
@@ -31,6 +31,7 @@ state_of s = record {
   offset = s.offset;
   sync = s.sync;
   relay = s.relay;
+  lapse = s.lapse;
 }
 
 -- what a port received came at a moment of the simulation
@@ -52,3 +53,4 @@ pub record IsReady (s : SystemState) : Type 0 where
   pub placed : ArePlaced 1 s.held
   pub recent : AllByRecursion IsRecent s.held
   pub ports : AllByRecursion IsPort s.ports
+  pub lapses : s.params.sync_timeout ≡ 0 → s.lapse ≡ None

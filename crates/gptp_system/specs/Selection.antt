@@ -7,7 +7,7 @@ use Rattle.gptp_roles.specs.Role.{each_port, held_after, is_fresh}
 use Rattle.gptp_system.specs.declared.port.Port.{Port}
 use Rattle.gptp_system.specs.declared.sending.Sending.{Sending}
 use Rattle.gptp_setup.specs.Intervals.{interval_of}
-use Rattle.gptp_system.specs.State.{SystemState, clock}
+use Rattle.gptp_system.specs.State.{SystemState, clock, lapse_of}
 use Rattle.gptp_system.specs.Sends.{announcement, next_sequence}
 
 -- a port that announces does so again one announce interval later
@@ -47,6 +47,10 @@ follows_on v s = v.root == s.root && same_port (slave_port v) s.slave
 abbrev pub kept_if : {X : Type 0} → Bool → Option X → Option X
 kept_if same known = if same then known else None
 
+-- the Lapse timer runs on in that case, and begins anew otherwise (10.3.12)
+abbrev pub lapse_after : Vector → ℕ → SystemState → Option ℕ
+lapse_after v now s = if follows_on v s then s.lapse else lapse_of s.params v.root (slave_port v) now
+
 -- The state after the vector was chosen: each port holds what its role asks for, fresh ports announce, and time that
 -- came over another way is forgotten.
 abbrev pub choosing : Vector → ℕ → SystemState → SystemState
@@ -60,6 +64,7 @@ choosing v now s = record s {
   known = kept_if (follows_on v s) s.known;
   offset = kept_if (follows_on v s) s.offset;
   relay = kept_if (follows_on v s) s.relay;
+  lapse = lapse_after v now s;
 }
 
 -- a system selects: by the vector that is chosen among what its ports hold

@@ -54,6 +54,7 @@ started setup now = record {
   offset = None;
   sync = now + interval_of setup.params.sync;
   relay = None;
+  lapse = None;
 }
 
 -- what a port that received is for the synchronization tree: the Slave, or silent

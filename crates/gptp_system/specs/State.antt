@@ -1,6 +1,6 @@
 -- The state of one system (IEEE 802.1AS-2020, 10.2.4 and 10.3.9: its per-instance and per-port variables).
-use Rattle.std.specs.Prelude.{ℕ, zero, suc, ◌+◌, ℤ, Bool, true, false, List, [], ◌∷◌, Option, Some, None}
-use Rattle.std.specs.Prelude.{slice_get}
+use Rattle.std.specs.Prelude.{ℕ, zero, suc, ◌+◌, ◌/◌, ◌^◌, ◌&&◌, nat_lt, ℤ, Bool, true, false, List, [], ◌∷◌, Option, Some}
+use Rattle.std.specs.Prelude.{None, if◌then◌else◌, slice_get}
 use Rattle.std.specs.Option.{option_map, option_map_or, option_and_then}
 use Rattle.gptp_vector.specs.declared.port.PortId.{PortId}
 use Rattle.gptp_receipt.specs.declared.held.Held.{Held}
@@ -17,7 +17,7 @@ use Rattle.gptp_system.specs.declared.port.Port.{Port}
 use Rattle.gptp_setup.specs.declared.setup.Params.{Params}
 use Rattle.gptp_setup.specs.declared.timer.Timer.{Timer}
 use Rattle.gptp_setup.specs.declared.timer.Timer.TheVariants as timers
-use Rattle.gptp_setup.specs.Pace.{span_by}
+use Rattle.gptp_setup.specs.Pace.{has_sync_timeout, lapse_span, span_by}
 
 -- What a system knows; `largest` is the largest announce interval of its network. The first port stands first in both
 -- lists, and has the number 1. Times of timers are in ns.
@@ -37,6 +37,7 @@ pub record SystemState : Type 0 where
   pub offset : Option ℤ
   pub sync : ℕ
   pub relay : Option ℕ
+  pub lapse : Option ℕ
 
 -- ---- places
 
@@ -115,6 +116,18 @@ due (timers.Pdelay p) s = option_and_then (λ (q : Port). q.pdelay) (number s.po
 due (timers.Respond p) s = option_and_then (λ (q : Port). q.respond) (number s.ports p)
 due timers.Sync s = Some s.sync
 due timers.Relay s = s.relay
+due timers.Lapse s = s.lapse
+
+-- a system of this identity may be grandmaster: its priority1 is below 255 (10.3.2)
+abbrev pub can_lead : ℕ → Bool
+can_lead identity = nat_lt (identity / 2 ^ 104) 255
+
+-- When the Lapse timer runs out that is started now: it runs where the network has a syncReceiptTimeout, there is a
+-- Slave port, and the root can send time (gmPresent).
+abbrev pub lapse_of : Params → ℕ → Option ℕ → ℕ → Option ℕ
+lapse_of params root None now = None
+lapse_of params root (Some slave) now =
+    if has_sync_timeout params && can_lead root then Some (now + lapse_span params) else None
 
 -- ---- changes of one port
 

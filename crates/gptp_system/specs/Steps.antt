@@ -15,6 +15,7 @@ use Rattle.gptp_system.specs.Measuring.{PdelayExpires, RespondExpires, HearsRequ
 use Rattle.gptp_system.specs.Measuring.{HearsResponseFollowUp}
 use Rattle.gptp_system.specs.Announcing.{HearsOff, HearsUnqualified, HearsQualified, AgeExpires, AnnounceExpires}
 use Rattle.gptp_system.specs.Syncing.{SyncExpires, HearsSync, HearsFollowUp, RelayExpires}
+use Rattle.gptp_system.specs.Lapse.{LapseExpires}
 
 -- a port hears a message
 abbrev pub HearsMessage : ℕ → Message → ℕ → SystemState → SystemState → List Sending → Answer → Type 0
@@ -52,6 +53,7 @@ Expires (timers.Pdelay p) now s s' sends = PdelayExpires p now s s' sends
 Expires (timers.Respond p) now s s' sends = RespondExpires p now s s' sends
 Expires timers.Sync now s s' sends = SyncExpires now s s' sends
 Expires timers.Relay now s s' sends = RelayExpires now s s' sends
+Expires timers.Lapse now s s' sends = LapseExpires now s s' sends
 
 -- the number is that of a port
 pub record IsPortOf (s : SystemState) (p : ℕ) : Type 0 where
@@ -66,6 +68,7 @@ IsTimerOf s (timers.Pdelay p) = IsPortOf s p
 IsTimerOf s (timers.Respond p) = IsPortOf s p
 IsTimerOf s timers.Sync = ⊤
 IsTimerOf s timers.Relay = ⊤
+IsTimerOf s timers.Lapse = ⊤
 
 -- the link of a port is up: its Pdelay timer runs
 abbrev pub IsUp : SystemState → ℕ → Type 0

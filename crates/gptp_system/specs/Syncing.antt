@@ -1,7 +1,7 @@
 -- Time: what a Sync, a Follow_Up and the timers of both make of a system (IEEE 802.1AS-2020, 10.2.9, 11.2.14, 11.2.15).
-use Rattle.std.specs.Prelude.{◌≡◌, ◌⊎◌, ℕ, ◌+◌, ◌/◌, ◌^◌, ◌==◌, ◌&&◌, nat_lt, ℤ, pos, ◌-ℤ◌, Bool, true, false}
+use Rattle.std.specs.Prelude.{◌≡◌, ◌⊎◌, ℕ, ◌+◌, ◌==◌, ◌&&◌, ℤ, pos, ◌-ℤ◌, Bool, true, false}
 use Rattle.std.specs.Prelude.{if◌then◌else◌, List, [], ◌∷◌, Option, Some, None}
-use Rattle.std.specs.Option.{option_map_or}
+use Rattle.std.specs.Option.{option_map_or, unwrap_or}
 use Rattle.gptp_vector.specs.declared.port.PortId.{PortId}
 use Rattle.gptp_messages.specs.declared.head.Head.{Head}
 use Rattle.gptp_messages.specs.declared.follow_up.FollowUp.{FollowUp}
@@ -15,14 +15,17 @@ use Rattle.gptp_correction.specs.declared.correction.Hop.{Hop}
 use Rattle.gptp_correction.specs.declared.correction.Relayed.{Relayed}
 use Rattle.gptp_correction.specs.declared.sync_in.SyncInfo.{SyncInfo}
 use Rattle.gptp_correction.specs.SyncIn.{kept, information}
-use Rattle.gptp_correction.specs.Correction.{bridge, carried, carried_on, receipt, relayed, BridgeFits, SlaveFits}
+use Rattle.gptp_correction.specs.Correction.{bridge, carried, carried_on, held_sum, receipt, relayed, BridgeFits}
+use Rattle.gptp_correction.specs.Correction.{SlaveFits}
 use Rattle.gptp_system.specs.declared.answer.Answer.{Answer}
 use Rattle.gptp_system.specs.declared.answer.Answer.TheVariants as answers
 use Rattle.gptp_system.specs.declared.port.Port.{Port}
 use Rattle.gptp_system.specs.declared.sending.Sending.{Sending}
 use Rattle.gptp_system.specs.declared.sending.Body.TheVariants as bodies
 use Rattle.gptp_setup.specs.Intervals.{interval_of}
+use Rattle.gptp_setup.specs.Pace.{has_sync_timeout}
 use Rattle.gptp_system.specs.State.{SystemState, number, clock, local_time, held_at, is_capable_at, is_mine}
+use Rattle.gptp_system.specs.State.{can_lead, lapse_of}
 use Rattle.gptp_system.specs.Sends.{head_from, next_sequence}
 use Rattle.gptp_system.specs.Selection.{Becomes}
 
@@ -82,9 +85,9 @@ pub record IsOwnTime (time : ℤ) (told : Relayed) : Type 0 where
 
 -- ---- the Sync timer
 
--- the system is its own root, and may be grandmaster: its priority1 is below 255 (10.3.2)
+-- the system is its own root, and may be grandmaster
 abbrev pub leads : SystemState → Bool
-leads s = s.root == s.identity && nat_lt (s.identity / 2 ^ 104) 255
+leads s = s.root == s.identity && can_lead s.identity
 
 -- the timer runs on
 abbrev pub restarted : ℕ → SystemState → SystemState
@@ -201,10 +204,38 @@ pub record IsForgotten (info : SyncInfo) (delay rate : ℤ) (s s' : SystemState)
   pub becomes : Becomes (forgetting s) s' sends
   pub answer_is : answer ≡ answers.Ignored
 
+-- how far the own clock is ahead, where the numbers on the way fit
+abbrev pub IsOffset : SyncInfo → ℤ → ℤ → Option ℤ → Type 0
+IsOffset info delay rate offset =
+    (OffsetFits info delay rate × (offset ≡ Some (offset_of info delay rate)))
+    ⊎ ((OffsetFits info delay rate → ⊥) × (offset ≡ None))
+
+-- The time is known: a Relay timer that runs keeps its time, and sends this on then; the Lapse timer begins anew.
+abbrev pub refreshing : SyncInfo → Option ℤ → ℕ → SystemState → SystemState
+refreshing info offset now s = record s {
+  known = Some info;
+  offset = offset;
+  relay = Some (unwrap_or s.relay (now + s.params.residence));
+  lapse = lapse_of s.params s.root s.slave now;
+}
+
+-- where the network has a syncReceiptTimeout time is known in any case, by a sum of rates held at its limits (profile)
+pub record IsRefreshed (info : SyncInfo) (delay rate : ℤ) (now : ℕ) (s s' : SystemState) (sends : List Sending)
+    (answer : Answer) : Type 0 where
+  pub offset : Option ℤ
+  pub offset_is : IsOffset (held_sum info rate) delay rate offset
+  pub becomes : Becomes (refreshing info offset now s) s' sends
+  pub answer_is : answer ≡ answers.Used
+
+abbrev pub KnowsBy : Bool → SyncInfo → ℤ → ℤ → ℕ → SystemState → SystemState → List Sending → Answer → Type 0
+KnowsBy true info delay rate now s s' sends answer = IsRefreshed info delay rate now s s' sends answer
+KnowsBy false info delay rate now s s' sends answer =
+    IsKnown info delay rate now s s' sends answer ⊎ IsForgotten info delay rate s s' sends answer
+
 abbrev pub KnowsIf : Option SyncInfo → ℤ → ℤ → ℕ → SystemState → SystemState → List Sending → Answer → Type 0
 KnowsIf None delay rate now s s' sends answer = IsIgnored s s' sends answer
 KnowsIf (Some info) delay rate now s s' sends answer =
-    IsKnown info delay rate now s s' sends answer ⊎ IsForgotten info delay rate s s' sends answer
+    KnowsBy (has_sync_timeout s.params) info delay rate now s s' sends answer
 
 abbrev pub HearsFollowUpIf : Bool → ℕ → FollowUp → ℕ → SystemState → SystemState → List Sending → Answer → Type 0
 HearsFollowUpIf false p m now s s' sends answer = IsOff s s' sends answer
@@ -219,11 +250,16 @@ HearsFollowUp p m now s s' sends answer = HearsFollowUpIf (is_capable_at s p) p 
 abbrev pub stopped : SystemState → SystemState
 stopped s = record s { relay = None }
 
--- the hop of this bridge, by the delay and the rate of its Slave port as they are now
+-- the delay and the neighbour's rate of the Slave port as they are now
+abbrev pub slave_delay : SystemState → ℤ
+slave_delay s = option_map_or (delay_at s) s.slave (pos 0)
+
+abbrev pub slave_rate : SystemState → ℤ
+slave_rate s = option_map_or (rate_at s) s.slave (pos 0)
+
+-- the hop of this bridge, by these
 abbrev pub hop_of : SyncInfo → ℕ → SystemState → Hop
-hop_of info now s =
-    bridge info (option_map_or (delay_at s) s.slave (pos 0)) (option_map_or (rate_at s) s.slave (pos 0))
-    (local_time s now)
+hop_of info now s = bridge info (slave_delay s) (slave_rate s) (local_time s now)
 
 abbrev pub HopFits : SyncInfo → ℕ → SystemState → Type 0
 HopFits info now s = BridgeFits (hop_of info now s) (carried_on (carried info) (hop_of info now s))
@@ -239,9 +275,31 @@ pub record IsDropped (info : SyncInfo) (now : ℕ) (s s' : SystemState) (sends :
   pub unfit : HopFits info now s → ⊥
   pub becomes : Becomes (stopped s) s' sends
 
+-- what came, unchanged
+abbrev pub as_received : SyncInfo → Relayed
+as_received info = record { origin = info.origin; correction = info.correction; rate = info.rate }
+
+-- what is told by a sum of rates held at its limits: what came, where a number doesn't fit all the same (profile)
+abbrev pub IsTold : SyncInfo → ℕ → SystemState → Relayed → Type 0
+IsTold info now s told =
+    let held = held_sum info (slave_rate s) in
+    (HopFits held now s × (told ≡ relayed held (hop_of held now s)))
+    ⊎ ((HopFits held now s → ⊥) × (told ≡ as_received info))
+
+-- where the network has a syncReceiptTimeout time is sent on in any case
+pub record IsSentOn (info : SyncInfo) (now : ℕ) (s s' : SystemState) (sends : List Sending) : Type 0 where
+  pub told : Relayed
+  pub told_is : IsTold info now s told
+  pub state : s' ≡ telling (stopped s)
+  pub sends_are : sends ≡ told_by told s
+
+abbrev pub RelaysBy : Bool → SyncInfo → ℕ → SystemState → SystemState → List Sending → Type 0
+RelaysBy true info now s s' sends = IsSentOn info now s s' sends
+RelaysBy false info now s s' sends = IsRelayed info now s s' sends ⊎ IsDropped info now s s' sends
+
 abbrev pub RelaysIf : Option SyncInfo → ℕ → SystemState → SystemState → List Sending → Type 0
 RelaysIf None now s s' sends = Becomes (stopped s) s' sends
-RelaysIf (Some info) now s s' sends = IsRelayed info now s s' sends ⊎ IsDropped info now s s' sends
+RelaysIf (Some info) now s s' sends = RelaysBy (has_sync_timeout s.params) info now s s' sends
 
 abbrev pub RelayExpires : ℕ → SystemState → SystemState → List Sending → Type 0
 RelayExpires now s s' sends = RelaysIf s.known now s s' sends

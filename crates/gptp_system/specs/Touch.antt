@@ -1,15 +1,16 @@
 -- What an input does to what a port holds, before the system selects (IEEE 802.1AS-2020, 10.3.10 to 10.3.13).
-use Rattle.std.specs.Prelude.{◌≡◌, ◌≢◌, ◌⊎◌, ℕ, true, false, List}
+use Rattle.std.specs.Prelude.{◌≡◌, ◌≢◌, ◌⊎◌, ℕ, true, false, List, Some, None}
 use Rattle.gptp_messages.specs.declared.announce.AnnounceView.{AnnounceView}
 use Rattle.gptp_messages.specs.declared.message.Message.TheVariants as messages
 use Rattle.gptp_messages.specs.Grammar.{Reads}
 use Rattle.gptp_vector.specs.declared.port.PortId.{PortId}
 use Rattle.gptp_receipt.specs.declared.held.Held.{Held}
 use Rattle.gptp_receipt.specs.declared.held.Held.TheVariants as helds
-use Rattle.gptp_receipt.specs.Held.{comparison, held_after, reception}
+use Rattle.gptp_receipt.specs.declared.held.Reception.{Reception}
+use Rattle.gptp_receipt.specs.Held.{comparison, held_after, received, reception}
 use Rattle.gptp_receipt.specs.Qualification.{Qualified}
 use Rattle.gptp_setup.specs.declared.timer.Timer.TheVariants as timers
-use Rattle.gptp_system.specs.State.{SystemState, is_capable_at}
+use Rattle.gptp_system.specs.State.{SystemState, held_at, is_capable_at}
 use Rattle.gptp_system.specs.Input.{Input, PortUp, PortDown, Frame, Expires, Priority}
 
 -- An input as far as Announces are concerned: one is heard, the Announce timer of a port expires, what a port holds
@@ -46,6 +47,12 @@ IsFrameSeenAs s p octets touch =
     ((a : AnnounceView) × Reads octets (messages.Announce a) × (is_capable_at s p ≡ true) × (touch ≡ Hear p a))
     ⊎ (((a : AnnounceView) → Reads octets (messages.Announce a) → is_capable_at s p ≡ false) × IsTurn p touch)
 
+-- no time came for too long: what the Slave port received grows too old, and where it received nothing, nothing happens
+abbrev pub IsLapseSeenAs : SystemState → Touch → Type 0
+IsLapseSeenAs s touch =
+    ((p : ℕ) × (r : Reception) × (s.slave ≡ Some p) × (received (held_at s p) ≡ Some r) × (touch ≡ Grow p))
+    ⊎ (((p : ℕ) → s.slave ≡ Some p → received (held_at s p) ≡ None) × (touch ≡ Other))
+
 -- what an input is, so far
 abbrev pub IsSeenAs : SystemState → Input → Touch → Type 0
 IsSeenAs s (PortUp p) touch = IsTurn p touch
@@ -57,4 +64,5 @@ IsSeenAs s (Expires (timers.Pdelay p)) touch = IsTurn p touch
 IsSeenAs s (Expires (timers.Respond p)) touch = touch ≡ Other
 IsSeenAs s (Expires timers.Sync) touch = touch ≡ Other
 IsSeenAs s (Expires timers.Relay) touch = touch ≡ Other
+IsSeenAs s (Expires timers.Lapse) touch = IsLapseSeenAs s touch
 IsSeenAs s (Priority value) touch = touch ≡ Other

@@ -11,7 +11,7 @@ use Rattle.gptp_system.specs.declared.touched.Touched.{Touched}
 use Rattle.gptp_system.specs.declared.touched.Touched.TheVariants as touches
 use Rattle.gptp_system.specs.Input.{Input, Frame, Expires}
 use Rattle.gptp_system.specs.Measuring.{is_turned}
-use Rattle.gptp_system.specs.Reach.{is_selected, same_timer, stops_at, Leaves}
+use Rattle.gptp_system.specs.Reach.{is_of_time, is_selected, same_timer, stops_at, Leaves}
 use Rattle.gptp_system.specs.State.{SystemState, number}
 use Rattle.gptp_system.specs.Steps.{IsTimerOf}
 
@@ -19,6 +19,7 @@ use Rattle.gptp_system.specs.Steps.{IsTimerOf}
 abbrev pub holds : Touched → Timer → Bool
 holds touches.Nothing timer = false
 holds (touches.One one) timer = same_timer one timer
+holds touches.Time timer = is_of_time timer
 holds touches.Selected timer = is_selected timer
 holds touches.All timer = true
 
@@ -51,12 +52,12 @@ takes_place answers.Superior = true
 takes_place answers.Repeated = true
 takes_place answer = false
 
--- A Pdelay_Req that is heard touches the Respond timer of the port, and a Follow_Up the Relay timer. An Announce that
--- takes the place of what was held touches those that selection can change, and so does a Pdelay_Resp_Follow_Up by
--- which the port becomes asCapable or stops being so.
+-- A Pdelay_Req that is heard touches the Respond timer of the port, and a Follow_Up the Relay and the Lapse timer. An
+-- Announce that takes the place of what was held touches those that selection can change, and so does a
+-- Pdelay_Resp_Follow_Up by which the port becomes asCapable or stops being so.
 abbrev pub message_touches : SystemState → ℕ → Message → Answer → Touched
 message_touches s p (messages.PdelayReq head) answer = touches.One (timers.Respond p)
-message_touches s p (messages.FollowUp m) answer = touches.One timers.Relay
+message_touches s p (messages.FollowUp m) answer = touches.Time
 message_touches s p (messages.PdelayRespFollowUp m) answer =
     selected_if (is_turned (after_follow_up m) (number s.ports p))
 message_touches s p (messages.Announce a) answer = selected_if (takes_place answer)
@@ -66,8 +67,9 @@ message_touches s p message answer = touches.Nothing
 abbrev pub asking_touches : Bool → ℕ → Touched
 asking_touches stops p = if stops then touches.All else touches.One (timers.Pdelay p)
 
--- A timer that expires touches itself, and an Age timer those that selection can change.
+-- A timer that expires touches itself, and an Age or Lapse timer those that selection can change.
 abbrev pub timer_touches : Timer → SystemState → Touched
 timer_touches (timers.Age p) s = touches.Selected
+timer_touches timers.Lapse s = touches.Selected
 timer_touches (timers.Pdelay p) s = asking_touches (stops_at p s) p
 timer_touches timer s = touches.One timer

@@ -88,7 +88,7 @@ impl State {
             },
             Message::FollowUp(follow_up) => Stepped {
                 answer: self.hear_follow_up(port, follow_up, now),
-                touched: Touched::One(Timer::Relay),
+                touched: Touched::Time,
             },
             Message::PdelayRespFollowUp(follow_up) => {
                 let (turned, answer) = self.hear_response_follow_up(port, follow_up, now, outbox);
@@ -148,6 +148,10 @@ impl State {
             Timer::Respond(port) => self.on_respond_timer(port, now, outbox),
             Timer::Sync => self.on_sync_timer(now, outbox),
             Timer::Relay => self.on_relay_timer(now, outbox),
+            Timer::Lapse => {
+                self.on_lapse_timer(now, outbox);
+                return Touched::Selected;
+            }
         }
         Touched::One(timer)
     }

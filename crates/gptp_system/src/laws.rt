@@ -55,14 +55,14 @@ pub fn measures_port_by_port()
 {}
 
 /// A port sends one request when its link comes up and when its request timer expires, and its two answers when that
-/// timer expires. The timers of the system tell time. Everything else can only announce.
+/// timer expires. The Sync and the Relay timer tell time. Everything else can only announce.
 pub fn sends_what_its_input_asks()
     ensures { SendsLaw }
 {}
 
 /// After every step each timer is due within its own span from now: Announce within an announce interval, Pdelay, Sync,
-/// Respond and Relay within theirs; and what is held was received no later than now. So it is with a new system, and
-/// each timer that runs is due at most 160 s from now.
+/// Respond, Relay and Lapse within theirs; and what is held was received no later than now. So it is with a new system,
+/// and each timer that runs is due at most 160 s from now.
 pub fn stays_in_time()
     ensures start { StartsInTimeLaw }
     ensures steps { InTimeLaw }

@@ -11,6 +11,7 @@ mod announcing;
 mod answer;
 mod clock;
 mod input;
+mod lapse;
 pub mod laws;
 mod measuring;
 mod port;

@@ -82,7 +82,7 @@ impl State {
         match timer {
             Timer::Announce(port) | Timer::Respond(port) => Reach::Port(port),
             Timer::Pdelay(port) => asking_reach(stops_at(self.ports.as_slice(), port), port),
-            Timer::Age(_) | Timer::Sync | Timer::Relay => Reach::All,
+            Timer::Age(_) | Timer::Sync | Timer::Relay | Timer::Lapse => Reach::All,
         }
     }
 }

@@ -8,6 +8,7 @@ ghost use Rattle.gptp_system.specs.Ready.{IsPort};
 ghost use Rattle.gptp_system.specs.Selection.{all_announced, announced, announcements, kept_if, same_port};
 ghost use Rattle.gptp_system.specs.Sends.{announcement};
 
+use crate::lapse::lapse_after;
 use crate::port::Port;
 use crate::sending::{Body, Outbox, Sending, push};
 use crate::state::State;
@@ -186,5 +187,6 @@ impl State {
         self.known = kept_if(same, self.known);
         self.offset = kept_if(same, self.offset);
         self.relay = kept_if(same, self.relay);
+        self.lapse = lapse_after(same, self.lapse, &self.params, self.root, self.slave, now);
     }
 }

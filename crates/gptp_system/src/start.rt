@@ -90,6 +90,7 @@ impl State {
             offset: None,
             sync: now + interval_of(setup.params.sync),
             relay: None,
+            lapse: None,
             ports,
             held,
         }

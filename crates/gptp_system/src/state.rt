@@ -26,6 +26,7 @@ pub struct State {
     pub(crate) offset: Option<ScaledNs>,
     pub(crate) sync: u64,
     pub(crate) relay: Option<u64>,
+    pub(crate) lapse: Option<u64>,
     pub(crate) ports: ArrayVec<Port, 16>,
     pub(crate) held: ArrayVec<Held, 16>,
 }
@@ -75,6 +76,7 @@ impl State {
             offset: self.offset,
             sync: self.sync,
             relay: self.relay,
+            lapse: self.lapse,
             ports: copy_ports(self.ports.as_slice()),
             held: copy_held(self.held.as_slice()),
         }

@@ -3,14 +3,16 @@
 ghost use Rattle.std.specs.Prelude.{◌≡◌, ◌==◌, ◌&&◌, ◌/◌, ◌^◌, ◌<◌, ◌≤◌, ◌++◌, ◌∷◌, [], None, nat_lt, length, pos, if◌then◌else◌, OkIff};
 ghost use Rattle.std.specs.Option.{option_copied, option_map_or};
 ghost use Rattle.arrayvec.specs.ArrayVec.{array_vec_len};
+ghost use Rattle.gptp_correction.specs.Correction.{held_sum};
 ghost use Rattle.gptp_correction.specs.SyncIn.{information};
 ghost use Rattle.gptp_pdelay.specs.Clock.{IsTime};
 ghost use Rattle.gptp_pdelay.specs.Peer.{delay_of, rate_of_peer};
 ghost use Rattle.gptp_system.specs.declared.port.Port.{Port};
-ghost use Rattle.gptp_system.specs.State.{is_mine, number};
-ghost use Rattle.gptp_system.specs.Syncing.{came_from, counted, counting, follow_up_of, offset_of, sync_of, syncs, IsOwnTime, OffsetFits};
+ghost use Rattle.gptp_system.specs.State.{can_lead, is_mine, number};
+ghost use Rattle.gptp_system.specs.Syncing.{as_received, came_from, counted, counting, follow_up_of, offset_of, sync_of, syncs, IsOffset, IsOwnTime, OffsetFits};
 
 use crate::answer::Answer;
+use crate::lapse::lapse_of;
 use crate::port::Port;
 use crate::sending::{Body, Outbox, Sending, push};
 use crate::state::State;
@@ -162,7 +164,7 @@ fn own_time(time: ScaledNs) -> Relayed
 
 /// Whether a system of this identity is its own root, and may be grandmaster (IEEE 802.1AS-2020, 10.3.2).
 fn leads(identity: Identity, root: Identity) -> bool
-    ensures { result ≡ (root == identity && nat_lt (identity / 2 ^ 104) 255) }
+    ensures { result ≡ (root == identity && can_lead identity) }
 {
     root == identity && identity.capable()
 }
@@ -225,12 +227,31 @@ fn offset_of(info: &SyncInfo, delay: ScaledNs, rate: Rate) -> Result<ScaledNs, O
     info.ingress.checked_sub(receipt_time(info, delay, rate)?)
 }
 
+/// The same by a sum of rates held at its limits, where a number on the way fits.
+fn held_offset(info: &SyncInfo, delay: ScaledNs, rate: Rate) -> Option<ScaledNs>
+    ensures { IsOffset (held_sum info.now rate) delay rate result }
+{
+    offset_of(&info.held_sum(rate), delay, rate).ok()
+}
+
+/// What is told as it came.
+fn as_received(info: &SyncInfo) -> Relayed
+    ensures { result ≡ as_received info.now }
+{
+    Relayed {
+        origin: info.origin,
+        correction: info.correction,
+        rate: info.rate,
+    }
+}
+
 impl State {
-    ghost use Rattle.std.specs.Prelude.{◌≡◌, ◌⊎◌, ◌≤◌, [], length, pos};
-    ghost use Rattle.std.specs.Option.{option_map_or};
+    ghost use Rattle.std.specs.Prelude.{◌≡◌, ◌⊎◌, ◌≤◌, [], length};
     ghost use Rattle.gptp_setup.specs.Intervals.{IsMoment};
+    ghost use Rattle.gptp_setup.specs.Pace.{has_sync_timeout};
     ghost use Rattle.gptp_system.specs.Ready.{IsReady, state_of};
-    ghost use Rattle.gptp_system.specs.Syncing.{delay_at, is_followed, is_slave_at, leads, rate_at, telling, told_by, HearsFollowUp, HearsSync, IsForgotten, IsKnown, RelayExpires, SyncExpires};
+    ghost use Rattle.gptp_system.specs.Syncing.{is_followed, is_slave_at, leads, slave_delay, slave_rate, telling, told_by, HearsFollowUp, HearsSync, IsDropped, IsForgotten};
+    ghost use Rattle.gptp_system.specs.Syncing.{IsKnown, IsRefreshed, IsRelayed, IsSentOn, IsTold, KnowsBy, RelayExpires, SyncExpires};
 
     /// All Master ports tell a time.
     fn tell(&mut self, told: &Relayed, outbox: &mut Outbox)
@@ -330,8 +351,39 @@ impl State {
         }
     }
 
+    /// The time is known in any case in a network that has a syncReceiptTimeout: the sum of rates is held at its limits.
+    /// A Relay timer that runs keeps its time and sends this on then, and the Lapse timer begins anew.
+    fn refresh(&mut self, info: SyncInfo, delay: ScaledNs, rate: Rate, now: u64) -> Answer
+        requires ready { IsReady (state_of self.old) }
+        requires moment { IsMoment now }
+        ensures step { IsRefreshed info delay rate now (state_of self.old) (state_of self.new) [] result }
+        ensures ready { IsReady (state_of self.new) }
+    {
+        self.known = Some(info);
+        self.offset = held_offset(&info, delay, rate);
+        self.relay = Some(self.relay.unwrap_or(now + self.params.residence));
+        self.lapse = lapse_of(&self.params, self.root, self.slave, now);
+        Answer::Used
+    }
+
+    /// What a Sync and its Follow_Up say is taken, as the network has a syncReceiptTimeout or not.
+    fn take(&mut self, info: SyncInfo, delay: ScaledNs, rate: Rate, now: u64) -> Answer
+        requires ready { IsReady (state_of self.old) }
+        requires moment { IsMoment now }
+        ensures step { KnowsBy (has_sync_timeout (state_of self.old).params) info delay rate now
+            (state_of self.old) (state_of self.new) [] result }
+        ensures ready { IsReady (state_of self.new) }
+    {
+        if self.params.sync_timeout > 0 {
+            self.refresh(info, delay, rate, now)
+        } else {
+            self.know(info, delay, rate, now)
+        }
+    }
+
     /// A port hears a Follow_Up: with its Sync it says how far the own clock is ahead, and is sent on one residence
-    /// later. Where a number on the way doesn't fit, what was known is forgotten (IEEE 802.1AS-2020, 11.2.14).
+    /// later. Where a number on the way doesn't fit, what was known is forgotten; a network that has a
+    /// syncReceiptTimeout goes on without the offset then (IEEE 802.1AS-2020, 11.2.14).
     pub(crate) fn hear_follow_up(&mut self, port: u8, follow_up: &FollowUp, now: u64) -> Answer
         requires ready { IsReady (state_of self.old) }
         requires moment { IsMoment now }
@@ -349,12 +401,12 @@ impl State {
         };
         let delay = delay_at(self.ports.as_slice(), port);
         let rate = rate_at(self.ports.as_slice(), port);
-        self.know(info, delay, rate, now)
+        self.take(info, delay, rate, now)
     }
 
     /// The meanLinkDelay of the Slave port; 0 where there is none.
     fn slave_delay(&self) -> ScaledNs
-        ensures { result ≡ option_map_or (delay_at (state_of self.now)) (state_of self.now).slave (pos 0) }
+        ensures { result ≡ slave_delay (state_of self.now) }
     {
         match self.slave {
             Some(port) => delay_at(self.ports.as_slice(), port),
@@ -364,7 +416,7 @@ impl State {
 
     /// The neighbour's rate at the Slave port; that of the own clock where there is none.
     fn slave_rate(&self) -> Rate
-        ensures { result ≡ option_map_or (rate_at (state_of self.now)) (state_of self.now).slave (pos 0) }
+        ensures { result ≡ slave_rate (state_of self.now) }
     {
         match self.slave {
             Some(port) => rate_at(self.ports.as_slice(), port),
@@ -372,8 +424,52 @@ impl State {
         }
     }
 
+    /// The time that came is sent on where the numbers on the way fit.
+    fn relay_if_fits(&mut self, info: &SyncInfo, now: u64, outbox: &mut Outbox)
+        requires ready { IsReady (state_of self.old) }
+        requires moment { IsMoment now }
+        requires empty { outbox.old.items ≡ [] }
+        ensures step { IsRelayed info.now now (state_of self.old) (state_of self.new) outbox.new.items
+            ⊎ IsDropped info.now now (state_of self.old) (state_of self.new) outbox.new.items }
+        ensures ready { IsReady (state_of self.new) }
+    {
+        self.relay = None;
+        let egress = self.local_time(now);
+        if let Ok(told) = relay(info, self.slave_delay(), self.slave_rate(), egress) {
+            self.tell(&told, outbox);
+        }
+    }
+
+    /// What is told of the time that came by a sum of rates held at its limits: what came, where a number doesn't fit all
+    /// the same.
+    fn told_of(&self, info: &SyncInfo, now: u64) -> Relayed
+        requires ready { IsReady (state_of self.now) }
+        requires moment { IsMoment now }
+        ensures { IsTold info.now now (state_of self.now) result }
+    {
+        let rate = self.slave_rate();
+        let egress = self.local_time(now);
+        match relay(&info.held_sum(rate), self.slave_delay(), rate, egress) {
+            Ok(told) => told,
+            Err(_) => as_received(info),
+        }
+    }
+
+    /// The time that came is sent on in any case.
+    fn relay_always(&mut self, info: &SyncInfo, now: u64, outbox: &mut Outbox)
+        requires ready { IsReady (state_of self.old) }
+        requires moment { IsMoment now }
+        requires empty { outbox.old.items ≡ [] }
+        ensures step { IsSentOn info.now now (state_of self.old) (state_of self.new) outbox.new.items }
+        ensures ready { IsReady (state_of self.new) }
+    {
+        let told = self.told_of(info, now);
+        self.relay = None;
+        self.tell(&told, outbox);
+    }
+
     /// The Relay timer runs out: the time that came is sent on, but where a number on the way doesn't fit (IEEE
-    /// 802.1AS-2020, 11.2.15).
+    /// 802.1AS-2020, 11.2.15). A network that has a syncReceiptTimeout sends it on in any case.
     pub(crate) fn on_relay_timer(&mut self, now: u64, outbox: &mut Outbox)
         requires ready { IsReady (state_of self.old) }
         requires moment { IsMoment now }
@@ -381,13 +477,14 @@ impl State {
         ensures step { RelayExpires now (state_of self.old) (state_of self.new) outbox.new.items }
         ensures ready { IsReady (state_of self.new) }
     {
-        self.relay = None;
         let Some(info) = self.known else {
+            self.relay = None;
             return;
         };
-        let egress = self.local_time(now);
-        if let Ok(told) = relay(&info, self.slave_delay(), self.slave_rate(), egress) {
-            self.tell(&told, outbox);
+        if self.params.sync_timeout > 0 {
+            self.relay_always(&info, now, outbox);
+        } else {
+            self.relay_if_fits(&info, now, outbox);
         }
     }
 }

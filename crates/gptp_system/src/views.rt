@@ -174,6 +174,7 @@ impl State {
             Timer::Respond(port) => self.ports[usize::from(port) - 1].respond,
             Timer::Sync => Some(self.sync),
             Timer::Relay => self.relay,
+            Timer::Lapse => self.lapse,
         }
     }
 }
