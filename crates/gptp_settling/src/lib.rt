@@ -19,6 +19,7 @@
 #![tactic(auto)]
 
 mod coding;
+mod flow;
 mod held;
 mod link;
 mod network;
@@ -26,6 +27,7 @@ mod runs;
 mod traces;
 
 pub use coding::Coding;
+pub use flow::syncs_come_in_time;
 pub use held::{no_loop_is_taken, ports_stay_selected};
 pub use link::{link_becomes_settled, link_stays_at_a_stage};
 pub use network::{
