@@ -273,14 +273,14 @@ module _ (says : Says) (k : Wiring) (touch : Touch) (w w' : State) (call : Calls
   -- so does an answer to anything but an Announce over this link
   pub called : LinkSettles says k w
       → ((a : Announce) → k.hearer_place ≡ call.place → touch ≡ Hear (suc k.hearer_port) a → ⊥)
-      → ((i : ℕ) (q : Port) (r : Reception) → touch ≡ Grow (suc i) → slice_get call.s.ports i ≡ Some q
-      → q.held ≡ Received r → r.at + r.span ≤ w.time)
+      → ((q : Port) (r : Reception) → k.hearer_place ≡ call.place → touch ≡ Grow (suc k.hearer_port)
+      → slice_get call.s.ports k.hearer_port ≡ Some q → q.held ≡ Received r → r.at + r.span ≤ w.time)
       → LinkSettles says k w'
   called link deaf ages = answered (λ pv pu pu' l stood settles' hearing. elim hearing [
     | inl (other, same) ↦ subst (λ h. Stage says k pv.announce h l.frames) (sym same) (link since pv pu l stood)
     | inr (here, is, answer) ↦ keeps says k pv.announce pu.held pu'.held l.frames
         (held_on pv pu pu' l stood settles' answer (λ a. deaf a here)
-        (λ r grown. ages k.hearer_port pu r grown
+        (λ r grown. ages pu r here grown
         (subst (λ (s : Station). slice_get s.ports k.hearer_port ≡ Some pu) is stood.hearer_port)))
         (link since pv pu l stood)
   ])

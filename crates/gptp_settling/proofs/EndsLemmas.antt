@@ -1,5 +1,5 @@
 -- The links of a calm network: what is known of their ends, once the system that tells has settled.
-use Rattle.std.proofs.Common.{◌≡◌, ◌≢◌, ◌⊎◌, ◌≤◌, ◌<◌, ℕ, suc, true, List, [], ◌∷◌, Some, length, slice_get, sym, ap, subst, ◌∙◌, inl, inr, arith}
+use Rattle.std.proofs.Common.{◌≡◌, ◌≢◌, ◌⊎◌, ◌≤◌, ◌<◌, ◌+◌, ℕ, suc, true, List, [], ◌∷◌, Some, length, slice_get, sym, ap, subst, ◌∙◌, inl, inr, arith}
 use Rattle.std.proofs.lemmas.List.{length-append}
 use Rattle.gptp_lists.proofs.MemberLemmas.{In-parts}
 use native.Mathlib.Decide.{dec_le}
@@ -11,6 +11,7 @@ use Rattle.gptp_graph.specs.Distance.{IsDistance}
 use Rattle.gptp_graph.proofs.LinkLemmas.{Joins-sym, Joins-clock}
 use Rattle.gptp_graph.proofs.SystemLemmas as systems
 use Rattle.gptp_graph.proofs.BestLemmas.{IsBest-neighbour}
+use Rattle.gptp_graph.proofs.DistanceLemmas.{IsDistance-neighbour}
 use Rattle.gptp_settling.specs.Frame.{Frame, Lane}
 use Rattle.gptp_settling.specs.Station.{Reception, Disabled, Mine, Received, Port, Station, State}
 use Rattle.gptp_settling.specs.Vectors.{master}
@@ -20,11 +21,16 @@ use Rattle.gptp_settling.specs.CleanLaws.{HeldIsWhole}
 use Rattle.gptp_settling.specs.Stage.{Wiring}
 use Rattle.gptp_settling.specs.Link.{final_vector, StandsAt, TellsSettled, HearsSettled, IsLaneOf, IsOnTime, Ends}
 use Rattle.gptp_settling.specs.Network.{Network, IsNetwork, setting, clean_from, since, wiring}
-use Rattle.gptp_settling.specs.Calm.{IsCalmPort, HasLane, Calm}
+use Rattle.gptp_settling.specs.Calm.{IsCalmPort, FollowsNearer, HasLane, Calm}
 use Rattle.gptp_settling.specs.Levels.{LeadsFarther}
 use Rattle.gptp_settling.proofs.PlaceLemmas.{same_there}
 use Rattle.gptp_settling.proofs.NearestLemmas.{steps_not_fewer, on_way, path_length}
-use Rattle.gptp_settling.proofs.RestLemmas.{Chooses, IsClear, best_there, root_above, steps_above, is_master}
+use Rattle.gptp_settling.proofs.RestLemmas.{Chooses, IsClear, best_there, root_above, steps_above, slave_nearer, is_master}
+
+-- the systems at distance d have settled
+abbrev pub AllChoose : Network → State → ℕ → Type 0
+AllChoose n w d = (v : ℕ) (best : System) (s : Station) → slice_get w.stations (n.place v) ≡ Some s
+    → IsBest n.graph v best → IsDistance n.graph v d → Chooses s best d
 
 -- a settled system's trace has no system that is as far or farther, and is of the length of its distance and one
 module _ (n : Network) (net : IsNetwork n) (s : Station) (clear : IsClear n.graph s) (best : System)
@@ -101,8 +107,7 @@ module _ (n : Network) (net : IsNetwork n) (w : State) (calm : Calm n w)
   )
 
   module _ (d : ℕ) (best : System) (v p u q : ℕ) (near : d < 255) (leads : LeadsFarther n.graph d best v p u q)
-      (settled : since n d ≤ w.time → (s : Station) → slice_get w.stations (n.place v) ≡ Some s
-      → Chooses s best d) where
+      (settled : since n d ≤ w.time → AllChoose n w d) where
     k : Wiring
     k = wiring n d best v p u q
 
@@ -168,7 +173,7 @@ module _ (n : Network) (net : IsNetwork n) (w : State) (calm : Calm n w)
               is_best = subst (λ c. IsBest n.graph c best) (sym clock) leads.is_best
 
               chooses : Chooses s best d
-              chooses = settled late s at
+              chooses = settled late v best s at leads.is_best leads.here
 
               follows : FollowsItself s ⊎ FollowsPort s
               follows = (calm.facts.stations (n.place v) s at live).follows
@@ -247,6 +252,50 @@ module _ (n : Network) (net : IsNetwork n) (w : State) (calm : Calm n w)
                   (Joins-sym n.graph came.from (port_of u (suc q))
                   (subst (λ c. Joins n.graph came.from (port_of c (suc q))) clock came.joins)) back
 
+    -- claims of the link are made once the system that tells has settled
+    settled_by : since n d + n.feed ≤ w.time → since n d ≤ w.time
+    settled_by late = omega arith
+
+    -- what the system that hears received over the link doesn't lapse
+    not_lapsed : (s : Station) (due : ℕ) → slice_get w.stations (n.place u) ≡ Some s → since n d + n.feed ≤ w.time
+        → s.slave ≡ Some (suc q) → s.lapse ≡ Some due → w.time < due
+    not_lapsed s due at late slave lapse = go (is_station u s to_known at)
+      where
+        go : (s.live ≡ true) × (s.clock ≡ u) → w.time < due
+        go (live, clock) = (calm.stations (n.place u) s at live).fed d due near follows late lapse
+          where
+            over : Joins n.graph (port_of v (suc p)) (port_of s.clock (suc q))
+            over = subst (λ c. Joins n.graph (port_of v (suc p)) (port_of c (suc q))) (sym clock) leads.joins
+
+            -- it is a step farther: its slave port wouldn't lead to a system that is as far
+            farther : leads.far ≡ suc d
+            farther = elim leads.farther [
+              | inl less ↦
+                  let most : leads.far ≤ suc d =
+                  IsDistance-neighbour n.graph v u d leads.far net.graph (suc p, suc q, leads.joins) leads.here
+                  leads.there in
+                  omega arith
+              | inr (same, lower) ↦
+                  let less : d < d =
+                  slave_nearer n.graph net.graph s (clear_at (n.place u) s at live (omega arith)) best
+                  (subst (λ c. IsBest n.graph c best) (sym clock) best_to) d d q (port_of v (suc p))
+                  (settled (settled_by late) u best s at best_to
+                  (subst (IsDistance n.graph u) (sym same) leads.there))
+                  (Joins-sym n.graph (port_of v (suc p)) (port_of s.clock (suc q)) over) leads.here slave in
+                  absurd (omega arith)
+            ]
+
+            follows : FollowsNearer n.graph s d
+            follows = record {
+              here = subst (IsDistance n.graph s.clock) farther
+                  (subst (λ c. IsDistance n.graph c leads.far) (sym clock) leads.there);
+              port = suc q;
+              slave = slave;
+              from = port_of v (suc p);
+              joins = over;
+              there = leads.here;
+            }
+
     -- what the machine keeps of a link holds of it
     pub ends : Ends (wiring n d best v p u q) w
     ends = record {
@@ -267,7 +316,8 @@ module _ (n : Network) (net : IsNetwork n) (w : State) (calm : Calm n w)
             log = is_port.log;
             interval = is_port.interval;
             timer = is_port.timer;
-            settled = λ late. tells_settled late s pv at port;
+            settled = λ late. tells_settled (settled_by late) s pv at port;
           };
-      hearer = λ s pu at port late. hears_settled late s pu at port;
+      hearer = λ s pu at port late. hears_settled (settled_by late) s pu at port;
+      fed = not_lapsed;
     }

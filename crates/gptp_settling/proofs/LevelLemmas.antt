@@ -24,7 +24,7 @@ use Rattle.gptp_settling.proofs.PlaceLemmas.{there_within}
 use Rattle.gptp_settling.proofs.LinkLemmas.{link_kept, link_settled}
 use Rattle.gptp_settling.proofs.CleanLemmas.{clean_kept, clean_begins, held_whole}
 use Rattle.gptp_settling.proofs.RestLemmas.{Chooses, zero_settles, suc_settles}
-use Rattle.gptp_settling.proofs.EndsLemmas.{clear_at, station_of, is_station, ends}
+use Rattle.gptp_settling.proofs.EndsLemmas.{AllChoose, clear_at, station_of, is_station, ends}
 
 -- a port's number is one more than its place
 pub place_of : (m : ℕ) → 1 ≤ m → (p : ℕ) × (m ≡ suc p)
@@ -60,9 +60,9 @@ module _ (says : Says) (n : Network) (net : IsNetwork n) (w : State) (calm : Cal
           (is_port.clock ∙ sym clock) in
           subst (λ (y : System). suc p ≤ y.ports) same is_port.last
 
-  -- two intervals after a system has settled those that its links lead to hold what it tells
+  -- a step's time after a system has settled those that its links lead to hold what it tells
   pub told : (d : ℕ) (best : System) (v p u q : ℕ) → d < 255 → LeadsFarther n.graph d best v p u q
-      → (since n d ≤ w.time → (s : Station) → slice_get w.stations (n.place v) ≡ Some s → Chooses s best d)
+      → (since n d ≤ w.time → AllChoose n w d)
       → LinkSettles says (wiring n d best v p u q) w → since n (suc d) ≤ w.time
       → (s : Station) → slice_get w.stations (n.place u) ≡ Some s
       → (r : Reception) × HoldsAt s q r × IsFinal (wiring n d best v p u q) r.said
@@ -72,9 +72,9 @@ module _ (says : Says) (n : Network) (net : IsNetwork n) (w : State) (calm : Cal
       from_known : In v (clocks n.graph)
       from_known = Joins-clock n.graph (port_of v (suc p)) (port_of u (suc q)) net.graph leads.joins
 
-      in_time : since n d + n.interval_of (port_of v (suc p)) + n.most ≤ w.time
+      in_time : since n d + n.feed + n.interval_of (port_of v (suc p)) + n.most ≤ w.time
       in_time =
-          let round : n.interval_of (port_of v (suc p)) + n.most ≤ n.interval + n.interval =
+          let round : n.feed + n.interval_of (port_of v (suc p)) + n.most ≤ n.step =
           net.round (port_of v (suc p)) (port_of u (suc q), leads.joins) in
           omega arith
 
@@ -101,8 +101,7 @@ module _ (says : Says) (n : Network) (net : IsNetwork n) (w : State) (calm : Cal
 
   -- a system chooses the best by its distance, where the links from all nearer systems are at their stages
   pub chooses : (d : ℕ) → ((e : ℕ) → e < d → LevelSettles says n e w) → d < 255 → since n d ≤ w.time
-      → (v : ℕ) (best : System) (s : Station) → slice_get w.stations (n.place v) ≡ Some s → IsBest n.graph v best
-      → IsDistance n.graph v d → Chooses s best d
+      → AllChoose n w d
   chooses zero levels near late v best s at is_best here =
       go (is_station n net w calm whole v s (IsDistance-clock n.graph v 0 net.graph here) at)
     where
@@ -113,12 +112,9 @@ module _ (says : Says) (n : Network) (net : IsNetwork n) (w : State) (calm : Cal
           (subst (λ c. IsDistance n.graph c 0) (sym clock) here)
   chooses (suc e) levels near late v best s at is_best here =
       by_neighbour (nearer_neighbour n.graph v e net.graph here)
-      (λ x there best_x s' at'. chooses e (λ f below. levels f (omega arith)) (omega arith) (omega arith) x best s' at'
-      best_x there)
+      (chooses e (λ f below. levels f (omega arith)) (omega arith) (omega arith))
     where
-      by_neighbour : ((x : ℕ) × Adjacent n.graph v x × IsDistance n.graph x e)
-          → ((x : ℕ) → IsDistance n.graph x e → IsBest n.graph x best → (s' : Station)
-          → slice_get w.stations (n.place x) ≡ Some s' → Chooses s' best e)
+      by_neighbour : ((x : ℕ) × Adjacent n.graph v x × IsDistance n.graph x e) → AllChoose n w e
           → Chooses s best (suc e)
       by_neighbour (x, (m, k, joins), there) ih = go (places_of n.graph v m x k net.graph joins)
           (is_station n net w calm whole v s (IsDistance-clock n.graph v (suc e) net.graph here) at)
@@ -142,7 +138,7 @@ module _ (says : Says) (n : Network) (net : IsNetwork n) (w : State) (calm : Cal
                 farther = inl (omega arith);
               } in
               let (r, holds, final) =
-              told e best x q v p (omega arith) leads (λ before s' at'. ih x there best_x s' at')
+              told e best x q v p (omega arith) leads (λ before. ih)
               (levels e (omega arith) best x q v p (omega arith) leads) late s at in
               suc_settles n.graph net.graph s (clear_at n net w calm whole (n.place v) s at live (omega arith)) best
               (subst (λ c. IsBest n.graph c best) (sym clock) is_best) e p r
@@ -163,10 +159,9 @@ module _ (says : Says) (n : Network) (net : IsNetwork n) where
     level_kept d below best v p u q near leads =
         link_kept says (wiring n d best v p u q) w w'
         (ends n net w calm (whole_from w calm invariant) d best v p u q near leads
-        (λ late s at. chooses says n net w calm (whole_from w calm invariant) d (λ e less. invariant.levels e) near late
-        v best s at leads.is_best leads.here))
+        (λ late. chooses says n net w calm (whole_from w calm invariant) d (λ e less. invariant.levels e) near late))
         (ends n net w' calm' whole' d best v p u q near leads
-        (λ late s at. chooses says n net w' calm' whole' d below near late v best s at leads.is_best leads.here))
+        (λ late. chooses says n net w' calm' whole' d below near late))
         step (invariant.levels d best v p u q near leads)
 
     -- so all are

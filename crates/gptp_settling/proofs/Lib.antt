@@ -16,5 +16,6 @@ pub mod EndsLemmas
 pub mod LevelLemmas
 pub mod SettledLemmas
 pub mod RunLemmas
+pub mod FlowLemmas
 mod ExampleLemmas
 mod ExampleRun

@@ -1,5 +1,5 @@
 -- One link: every step keeps it at one of its stages, and in time it is settled.
-use Rattle.std.proofs.Common.{◌≡◌, ◌≢◌, ◌⊎◌, ◌≤◌, ◌+◌, ℕ, suc, ◌∷◌, Some, slice_get, refl, sym, ap, subst, ◌∙◌, inl, inr, arith}
+use Rattle.std.proofs.Common.{◌≡◌, ◌≢◌, ◌⊎◌, ◌<◌, ◌≤◌, ◌+◌, ℕ, suc, ◌∷◌, Some, slice_get, refl, sym, ap, subst, ◌∙◌, inl, inr, arith}
 use native.Mathlib.Decide.{ℕ_discrete, dec_le}
 use Rattle.gptp_graph.specs.Snapshot.{PortIdentity, port_of}
 use Rattle.gptp_settling.specs.Frame.{Announce, Says, Lane}
@@ -28,7 +28,19 @@ module _ (says : Says) (k : Wiring) where
   runs : (w w' : State) → Ends k w → Ends k w' → Runs says w w' → LinkSettles says k w → LinkSettles says k w'
   runs w w' ends ends' act link late =
       called says k act.touch w w' act.call ends ends' (subst (λ t. k.since ≤ t) act.call.time late) link
-      (λ a here touched. act.deaf (suc k.hearer_port) a touched) act.ages late
+      (λ a here touched. act.deaf (suc k.hearer_port) a touched) ages late
+    where
+      -- what the hearer holds doesn't lapse
+      ages : (q : Port) (r : Reception) → k.hearer_place ≡ act.call.place → act.touch ≡ Grow (suc k.hearer_port)
+          → slice_get act.call.s.ports k.hearer_port ≡ Some q → q.held ≡ Received r → r.at + r.span ≤ w.time
+      ages q r here grown at holds = elim (act.ages k.hearer_port q r grown at holds) [
+        | inl old ↦ old
+        | inr lapses ↦
+            let fresh : w.time < w.time =
+            ends.fed act.call.s w.time (subst (λ n. slice_get w.stations n ≡ Some act.call.s) (sym here) act.call.here)
+            (subst (λ t. k.since ≤ t) act.call.time late) lapses.slave lapses.due in
+            absurd (omega arith)
+      ]
 
   -- a frame that does nothing
   drops : (w w' : State) → Ends k w → Drops says w w' → LinkSettles says k w → LinkSettles says k w'
@@ -57,7 +69,7 @@ module _ (says : Says) (k : Wiring) where
     arrives_apart other late =
         called says k act.touch act.mid w' act.call ends_mid ends' (since_mid late)
         (other_lane says k act.j act.l act.f act.fs w act.mid act.pops other link) deaf
-        (λ i q r grown. absurd (act.young (suc i) grown)) late
+        (λ q r here grown. absurd (act.young (suc k.hearer_port) grown)) late
       where
         deaf : (a : Announce) → k.hearer_place ≡ act.call.place → act.touch ≡ Hear (suc k.hearer_port) a → ⊥
         deaf a here touched = other (sym (ends.only_lane act.j act.l act.pops.here (λ i. port_of (clock i) (port i))))
@@ -75,7 +87,7 @@ module _ (says : Says) (k : Wiring) where
       | inr deaf ↦ (λ late. called says k act.touch act.mid w' act.call ends_mid ends' (since_mid late)
           (silent_frame says k act.j act.l act.f act.fs w act.mid act.pops same (silent deaf) link)
           (λ a here touched. deaf (suc k.hearer_port) a touched)
-          (λ i q r grown. absurd (act.young (suc i) grown)) late)
+          (λ q r here grown. absurd (act.young (suc k.hearer_port) grown)) late)
     ]
       where
         lane_at : slice_get w.lanes k.lane ≡ Some act.l

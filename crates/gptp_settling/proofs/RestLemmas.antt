@@ -17,7 +17,7 @@ use Rattle.gptp_settling.specs.Vectors.{message, path_vector, master, system_vec
 use Rattle.gptp_settling.specs.Clean.{CameWhole}
 use Rattle.gptp_settling.specs.Facts.{system_of}
 use Rattle.gptp_settling.specs.AtRest.{ChoosesItself, ChoosesPort, IsAtRest}
-use Rattle.gptp_settling.proofs.PlaceLemmas.{same_place, same_holds}
+use Rattle.gptp_settling.proofs.PlaceLemmas.{same_place}
 use Rattle.gptp_settling.proofs.NearestLemmas.{root_not_better, steps_not_fewer}
 
 -- a system that has the best's identity as its root, and so many steps
@@ -195,6 +195,27 @@ module _ (g : Snapshot) (wf : IsWellFormed g) (s : Station) (clear : IsClear g s
       (r.said.source.clock ∷ r.said.source.port ∷ suc i ∷ []) clear.rest.source (sym path ∙ clear.rest.is) in
       (root ∙ chooses.root, let more : s.steps ≡ suc d = chooses.steps in omega arith)
 
+  -- its slave port leads to a system that is nearer
+  pub slave_nearer : (d far i : ℕ) (u : PortIdentity) → Chooses s best d → Joins g (port_of s.clock (suc i)) u
+      → IsDistance g u.clock far → s.slave ≡ Some (suc i) → far < d
+  slave_nearer zero far i u chosen joins there slave =
+      let none : s.slave ≡ None = (chosen_itself chosen).1 in
+      absurd (let x : Some (suc i) ≡ None = sym slave ∙ none in cc)
+  slave_nearer (suc e) far i u chosen joins there slave = by_port (chosen_port e chosen)
+    where
+      by_port : ChoosesPort s clear.rest.vector → far < suc e
+      by_port (j, x, holds, path, slave_x) =
+          let (root, steps) = chosen_said e j x chosen path in
+          let same : suc j ≡ suc i = ap suc (same_place j i (sym slave_x ∙ slave)) in
+          let came = clear.held j x holds in
+          let other : came.from ≡ u =
+          wf.one_link (port_of s.clock (suc i)) came.from u
+          (subst (λ n. Joins g (port_of s.clock n) came.from) same
+          (Joins-sym g came.from (port_of s.clock (suc j)) came.joins)) joins in
+          let more : far ≤ x.said.steps =
+          held_steps j x holds far (subst (λ (p : PortIdentity). IsDistance g p.clock far) (sym other) there) root in
+          omega arith
+
   -- whatever it has chosen, its root is no better than the best, and for the best its steps are no fewer than its
   -- distance
   pub root_above : best.identity ≤ s.root
@@ -255,7 +276,7 @@ module _ (g : Snapshot) (wf : IsWellFormed g) (s : Station) (clear : IsClear g s
 
       none_received : (r : Reception) → q.held ≡ Received r → ⊥
       none_received r e = elim (clear.rest.passive i r holds) [
-        | inl slave ↦ not_slave d chooses farther slave
+        | inl slave ↦ not_slave (slave_nearer d far i u chooses joins there slave) farther
         | inr not_lower ↦ not_lower lower
       ]
         where
@@ -300,22 +321,9 @@ module _ (g : Snapshot) (wf : IsWellFormed g) (s : Station) (clear : IsClear g s
                     | no above ↦ inl (omega arith)
                   ]
 
-          not_slave : (d : ℕ) → Chooses s best d → (d < far) ⊎ ((d ≡ far) × (s.clock < u.clock))
-              → s.slave ≡ Some (suc i) → ⊥
-          not_slave zero chosen farther slave =
-              let none : s.slave ≡ None = (chosen_itself chosen).1 in
-              absurd (let x : Some (suc i) ≡ None = sym slave ∙ none in cc)
-          not_slave (suc e) chosen farther slave = by_port (chosen_port e chosen)
-            where
-              by_port : ChoosesPort s clear.rest.vector → ⊥
-              by_port (j, x, holds_x, path, slave_x) =
-                  let (root, said) = chosen_said e j x chosen path in
-                  let port : j ≡ i = same_place j i (sym slave_x ∙ slave) in
-                  let same : x ≡ r = same_holds s i x r (subst (λ n. HoldsAt s n x) port holds_x) holds in
-                  let few : r.said.steps ≡ e = subst (λ (y : Reception). y.said.steps ≡ e) same said in
-                  let more : far ≤ r.said.steps =
-                  steps (subst (λ (y : Reception). y.said.root ≡ best.identity) same root) in
-                  elim farther [ inl less ↦ absurd (omega arith) | inr (same, clock) ↦ absurd (omega arith) ]
+          not_slave : far < d → (d < far) ⊎ ((d ≡ far) × (s.clock < u.clock)) → ⊥
+          not_slave nearer (inl less) = absurd (omega arith)
+          not_slave nearer (inr (same, clock)) = absurd (omega arith)
 
       by_held : (held : Held) → q.held ≡ held → q.held ≡ Mine best.identity d
       by_held Disabled e = absurd (on e)

@@ -33,7 +33,7 @@ use Rattle.gptp_settling.proofs.LevelLemmas.{places_of, told, chooses, whole_fro
 
 -- a greater distance is settled later
 since_grows : (n : Network) (d e : ℕ) → d ≤ e → since n d ≤ since n e
-since_grows n d e h = let more : d * n.interval ≤ e * n.interval = mul-le-mul_right n.interval h in omega arith
+since_grows n d e h = let more : d * n.step ≤ e * n.step = mul-le-mul_right n.step h in omega arith
 
 module _ (says : Says) (n : Network) (net : IsNetwork n) (w : State) (calm : Calm n w) (invariant : Invariant says n w)
     (i : ℕ) (s : Station) (at : slice_get w.stations i ≡ Some s) (live : s.live ≡ true) (d : ℕ)
@@ -61,8 +61,7 @@ module _ (says : Says) (n : Network) (net : IsNetwork n) (w : State) (calm : Cal
     holds_final e p q u near_u leads by =
         let (r, holds, final) =
         told says n net w calm whole e here.best u q s.clock p near_u leads
-        (λ before s' at'. chooses says n net w calm whole e (λ f less. invariant.levels f) near_u before u here.best
-        s' at' leads.is_best leads.here)
+        (chooses says n net w calm whole e (λ f less. invariant.levels f) near_u)
         (invariant.levels e here.best u q s.clock p near_u leads) by s stands in
         (r, holds, final.root, final.steps, final.source)
 

@@ -74,14 +74,20 @@ pub record Drops (says : Says) (w w' : State) : Type 0 where
   pub unheard : ((a : Announce) → says f.octets a → ⊥)
       ⊎ ((i : ℕ) (m : Station) → slice_get w.stations i ≡ Some m → m.clock ≡ l.to.clock → m.live ≡ true → ⊥)
 
+-- what the port at place i holds lapses now: it is the slave port, and the system's timer is due
+-- (syncReceiptTimeout, IEEE 802.1AS-2020, 10.3.12)
+pub record Lapses (s : Station) (i now : ℕ) : Type 0 where
+  pub slave : s.slave ≡ Some (suc i)
+  pub due : s.lapse ≡ Some now
+
 -- Something that is no delivery happens at a live system: a timer expires, or anything else. What a port received
--- grows too old only once its span has passed (IEEE 802.1AS-2020, 10.3.12).
+-- is dropped only once its span has passed (IEEE 802.1AS-2020, 10.3.12), or where it lapses.
 pub record Runs (says : Says) (w w' : State) : Type 0 where
   pub touch : Touch
   pub call : Calls says touch w w'
   pub deaf : (n : ℕ) (a : Announce) → touch ≡ Hear n a → ⊥
   pub ages : (i : ℕ) (q : Port) (r : Reception) → touch ≡ Grow (suc i) → slice_get call.s.ports i ≡ Some q
-      → q.held ≡ Received r → r.at + r.span ≤ w.time
+      → q.held ≡ Received r → (r.at + r.span ≤ w.time) ⊎ Lapses call.s i w.time
 
 -- something happens now
 abbrev pub Acts : Says → State → State → Type 0

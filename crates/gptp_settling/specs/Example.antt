@@ -13,7 +13,7 @@ abbrev pub second_identity : ℕ
 second_identity = 0xf6f8fe436af80000000000000002
 
 -- The link joins port 1 of each. The announce interval is 4 everywhere, and its logarithm 2; the receipt timeout is two
--- intervals, and the link's delay 1; claims are made from time 1 on.
+-- intervals, and the link's delay 1; claims are made from time 1 on, and nothing lapses.
 abbrev pub network : Network
 network = record {
   graph = record {
@@ -32,6 +32,8 @@ network = record {
   most = 1;
   timeout = 2;
   start = 1;
+  feed = 0;
+  step = 8;
 }
 
 -- what the first system announces, and the octets that say so; no others say anything
@@ -55,6 +57,7 @@ lone clock identity timer = record {
   steps = 0;
   slave = None;
   trace = clock ∷ [];
+  lapse = None;
 }
 
 -- the first system is such a one always, and the second while it has heard nothing
@@ -78,6 +81,7 @@ following at = record {
   steps = 1;
   slave = Some 1;
   trace = 1 ∷ 2 ∷ [];
+  lapse = None;
 }
 
 -- the frame that is due at this time

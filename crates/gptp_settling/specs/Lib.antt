@@ -21,3 +21,5 @@ pub mod Run
 pub mod Example
 pub mod ExampleLaws
 pub mod HeldLaws
+pub mod Flow
+pub mod FlowLaws

@@ -7,8 +7,10 @@ use Rattle.gptp_settling.specs.Stage.{Wiring}
 
 -- The live systems and their links; how many systems a path of them has at most; at which place a system stands, by its
 -- clock, and a lane, by the port that it leads from; the announce interval of each port, first its logarithm, and the
--- largest of them; the largest delay of a link; the announce receipt timeout, in intervals; and when every port on a
--- link is capable and all others are disabled.
+-- largest of them; the largest delay of a link; the announce receipt timeout, in intervals; when every port on a link
+-- is capable and all others are disabled; for how long at most a settled system waits for the next Sync of the best;
+-- and what each step of distance takes. Where nothing lapses for want of Sync the wait is none and a step takes two
+-- intervals.
 pub record Network : Type 0 where
   pub graph : Snapshot
   pub reach : ℕ
@@ -20,13 +22,15 @@ pub record Network : Type 0 where
   pub most : ℕ
   pub timeout : ℕ
   pub start : ℕ
+  pub feed : ℕ
+  pub step : ℕ
 
--- The snapshot is a network's, no path of it has more systems than is said, and from an Announce to the arrival of the
--- next over a link it takes no longer than two of the largest intervals.
+-- The snapshot is a network's, no path of it has more systems than is said, and a step of distance takes at least the
+-- wait for a Sync and, from an Announce to the arrival of the next over a link, an announce interval and the delay.
 pub record IsNetwork (n : Network) : Type 0 where
   pub graph : IsWellFormed n.graph
   pub paths : BoundsPaths n.graph n.reach
-  pub round : (p : PortIdentity) → IsLinked n.graph p → n.interval_of p + n.most ≤ n.interval + n.interval
+  pub round : (p : PortIdentity) → IsLinked n.graph p → n.feed + n.interval_of p + n.most ≤ n.step
 
 -- what is received stays for the receipt timeout at most
 abbrev pub setting : Network → Setting
@@ -36,18 +40,19 @@ setting n = record { graph = n.graph; start = n.start; interval = n.interval; sp
 abbrev pub clean_from : Network → ℕ
 clean_from n = n.start + n.reach * turn (setting n)
 
--- when the systems at distance d have settled: two intervals for each step
+-- when the systems at distance d have settled
 abbrev pub since : Network → ℕ → ℕ
-since n d = clean_from n + 2 * d * n.interval
+since n d = clean_from n + d * n.step
 
--- When all near systems and their ports have settled. Of the last intervals two are for each step, of which a distance
--- has fewer than a path may have systems, and two for the ports that end as passive.
+-- When all near systems and their ports have settled. Of the last part all but one are for the steps, of which a
+-- distance has fewer than a path may have systems, and one for the ports that end as passive.
 abbrev pub settled_from : Network → ℕ
 settled_from n = n.start
     + n.reach * ((n.timeout + 1) * n.interval)
-    + 2 * n.reach * n.interval
+    + n.reach * n.step
 
--- the link from port p + 1 of system v, at distance d from its best, to port q + 1 of system u
+-- The link from port p + 1 of system v, at distance d from its best, to port q + 1 of system u. Claims of it are made
+-- from when u, if it follows v by then, has heard a Sync from it.
 abbrev pub wiring : Network → ℕ → System → ℕ → ℕ → ℕ → ℕ → Wiring
 wiring n d best v p u q = record {
   teller = v;
@@ -62,5 +67,5 @@ wiring n d best v p u q = record {
   most = n.most;
   root = best.identity;
   steps = d;
-  since = since n d;
+  since = since n d + n.feed;
 }

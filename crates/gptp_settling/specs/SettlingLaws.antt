@@ -23,8 +23,8 @@ InvariantIsKept says = (n : Network) (w w' : State)
     → IsNetwork n → Calm n w → Calm n w' → Steps says w w' → Invariant says n w
     → Invariant says n w'
 
--- a near system at distance d follows its component's best over its parent, two intervals for each step after all that
--- is held is wholly clean
+-- a near system at distance d follows its component's best over its parent, once all that is held is wholly clean and
+-- the time of each step has passed
 abbrev pub SystemSettles : Says → Type 0
 SystemSettles says = (n : Network) (w : State) (i : ℕ) (s : Station) (d : ℕ)
     → IsNetwork n → Calm n w → Invariant says n w
@@ -32,7 +32,7 @@ SystemSettles says = (n : Network) (w : State) (i : ℕ) (s : Station) (d : ℕ)
     → since n d ≤ w.time
     → FollowsBest n.graph s
 
--- two intervals later all its ports have their settled roles
+-- a step's time later all its ports have their settled roles
 abbrev pub PortsSettle : Says → Type 0
 PortsSettle says = (n : Network) (w : State) (i : ℕ) (s : Station) (d : ℕ)
     → IsNetwork n → Calm n w → Invariant says n w

@@ -23,8 +23,9 @@ pub record Port : Type 0 where
   pub interval : ℕ
   pub announce : ℕ
 
--- A system, live or failed, by its clock and identity: its ports, of which number n stands at place n - 1, and what
--- it follows, which is the root, the steps to it, the slave port and the path trace that it announces.
+-- A system, live or failed, by its clock and identity: its ports, of which number n stands at place n - 1; what it
+-- follows, which is the root, the steps to it, the slave port and the path trace that it announces; and when what its
+-- slave port holds lapses for want of Sync, while a timer for that runs.
 pub record Station : Type 0 where
   pub live : Bool
   pub clock : ℕ
@@ -34,6 +35,7 @@ pub record Station : Type 0 where
   pub steps : ℕ
   pub slave : Option ℕ
   pub trace : List ℕ
+  pub lapse : Option ℕ
 
 -- the time, the systems, and one lane for each direction of each link
 pub record State : Type 0 where

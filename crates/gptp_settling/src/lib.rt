@@ -11,14 +11,15 @@
 //! system goes on what it received a turn ago at most, and adds one member that is right, so that after as many turns
 //! as a path of the snapshot may have systems no other member is left. Then the choice settles, system by system in
 //! order of distance: two announce intervals after one has settled, those that its links lead to hold what it
-//! announces, and it is repeated before it ages. In the words of `gptp_graph` each near system then follows the best of
-//! its component over its parent, and each of its ports has its settled role. An example run shows that the laws are of
-//! something.
+//! announces, and it is repeated before it ages. Where what is received also lapses for want of Sync, they first wait
+//! for a Sync of the best. In the words of `gptp_graph` each near system then follows the best of its component over
+//! its parent, and each of its ports has its settled role. An example run shows that the laws are of something.
 //!
 //! Lemmas for the crates above, over any relation of octets and Announces, are in the public modules of `proofs/`.
 #![tactic(auto)]
 
 mod coding;
+mod flow;
 mod held;
 mod link;
 mod network;
@@ -26,6 +27,7 @@ mod runs;
 mod traces;
 
 pub use coding::Coding;
+pub use flow::syncs_come_in_time;
 pub use held::{no_loop_is_taken, ports_stay_selected};
 pub use link::{link_becomes_settled, link_stays_at_a_stage};
 pub use network::{
