@@ -1,5 +1,5 @@
 -- What a delivery and an expiry leave of the network that a world has.
-use Rattle.std.proofs.Common.{◌≡◌, ◌≢◌, ℕ, zero, suc, pos, true, List, [], ◌∷◌, map, Option, Some, None, slice_get, slice_set, refl, sym, ap, subst, ◌∙◌}
+use Rattle.std.proofs.Common.{◌≡◌, ◌≢◌, ◌*◌, ℕ, zero, suc, pos, true, List, [], ◌∷◌, map, Option, Some, None, slice_get, slice_set, refl, sym, ap, subst, ◌∙◌}
 use Rattle.std.specs.Prelude.{if◌then◌else◌, ◌==◌, max}
 use Rattle.std.specs.Option.{option_map_or}
 use Rattle.std.proofs.lemmas.Option.{same_Some}
@@ -30,7 +30,7 @@ use Rattle.gptp_lists.proofs.PlaceLemmas.{map-set_same}
 use Rattle.gptp_acts.proofs.SteadyLemmas.{same_clock, same_ports}
 use Rattle.gptp_kept.specs.SeenLaws.{IsNoChange}
 use Rattle.gptp_kept.specs.View.{lane_place}
-use Rattle.gptp_kept.specs.Calm.{IsQuietWorld, greatest_delay, is_port, lane_of, log_at, log_of, network_of, place_of, setups_of}
+use Rattle.gptp_kept.specs.Calm.{IsQuietLink, IsQuietWorld, greatest_delay, is_port, lane_of, log_at, log_of, network_of, place_of, setups_of}
 use Rattle.gptp_kept.specs.Standing.{is_used, joined, live_systems, snapshot_of, standing, used_links}
 
 -- ---- systems
@@ -159,17 +159,32 @@ module _ (w w' : WorldState) (k : KeepsNetwork w w') where
     most = delay_kept i;
     timeout = p.params.timeout;
     start = start;
+    feed = 0;
+    step = 2 * largest_interval p;
   }
 
   -- links that are quiet stay so
-  pub stays_quiet : (p : Params) → IsQuietWorld p w → IsQuietWorld p w'
-  stays_quiet p quiet link channel here used =
+  links_quiet : (p : Params) → IsQuietWorld p w → (link : ℕ) (channel : Channel)
+      → slice_get w'.net.channels link ≡ Some channel → is_used (live_systems w'.stations) channel ≡ true
+      → IsQuietLink p channel
+  links_quiet p quiet link channel here used =
       let (old, stands, same) = alike bare bare w.net.channels w'.net.channels (sym k.links) link channel here in
       let uses : is_used (live_systems w.stations) old ≡ true =
       ap (is_used (live_systems w.stations)) same ∙ ap (λ s. is_used s channel) (sym k.systems) ∙ used in
-      let is = quiet link old stands uses in
+      let is = quiet.links link old stands uses in
       let bounds = ap (λ (c : Channel). c.bounds) same in
       record { lossless = rw⁻¹ bounds is.lossless; good = rw⁻¹ bounds is.good }
+
+  pub stays_quiet : (p : Params) → IsQuietWorld p w → IsQuietWorld p w'
+  stays_quiet p quiet = record { links = links_quiet p quiet; lapses = quiet.lapses }
+
+-- time that passes leaves a quiet world quiet
+pub later_quiet : (p : Params) (w : WorldState) (time : ℕ) → IsQuietWorld p w → IsQuietWorld p (at time w)
+later_quiet p w time quiet = record { links = quiet.links; lapses = quiet.lapses }
+
+-- and it was quiet before
+pub earlier_quiet : (p : Params) (w : WorldState) (time : ℕ) → IsQuietWorld p (at time w) → IsQuietWorld p w
+earlier_quiet p w time quiet = record { links = quiet.links; lapses = quiet.lapses }
 
 -- ---- acts
 

@@ -1,5 +1,6 @@
 -- A calm world is seen as a calm state of the machine.
 use Rattle.std.proofs.Common.{◌≡◌, ◌≤◌, ◌<◌, ◌+◌, ℕ, suc, ℤ, true, Some, slice_get, refl, sym, ap, subst, ◌∙◌, arith}
+use Rattle.std.proofs.lemmas.Option.{none-some}
 use Rattle.gptp_lists.specs.Members.{In}
 use Rattle.gptp_graph.specs.Snapshot.{Joins, PortIdentity, System, port_of}
 use Rattle.gptp_graph.specs.PathBound.{BoundsPaths}
@@ -135,6 +136,8 @@ module _ (p : Pace) (m start : ℕ) (w : WorldState) (sound : IsSound w) (legibl
       let steady = (sound.on_time.stations place station here).steady in
       record {
         at_rest = rest_seen station.live s steady.shown steady.held steady.rest;
+        fed = λ d due near follows since lapses.
+            absurd (none-some due (sym ((known.set place station here).lapses quiet.lapses) ∙ lapses));
         ports = λ i seen there.
             let at = port_from (span_at s) s.held s.ports i seen there in
             subst (IsCalmPort n w.time (port_of (clock s) (suc i))) (sym at.is)
@@ -170,7 +173,7 @@ module _ (p : Pace) (m start : ℕ) (w : WorldState) (sound : IsSound w) (legibl
             (lane_there w.net.channels way.link way.direction way.channel way.here);
         from = way.from;
         to = way.to;
-        loss = (quiet way.link way.channel way.here way.used).lossless;
+        loss = (quiet.links way.link way.channel way.here way.used).lossless;
         is_up = used_up (live_systems w.stations) way.channel way.used;
       }
 

@@ -69,7 +69,7 @@ module _ (p : Pace) (w : WorldState) (pace : KeepPace p) (is : IsWorld p w) (qui
   way_stands : (n : ℕ) (to : PortIdentity) → Joins (snapshot_of w) (identity_of (own station.system n)) to
       → (way : IsWay w (identity_of (own station.system n)) to) → StandsAt (place_of_way n to way) w
   way_stands n to joins way =
-      let links = quiet way.link way.channel way.here way.used in
+      let links = quiet.links way.link way.channel way.here way.used in
       let other = receiver_lives w way.direction way.channel way.used in
       let asking = (is.known.set place station here).starts.params in
       let answering = (is.known.set other.place other.at.station other.at.here).starts.params in

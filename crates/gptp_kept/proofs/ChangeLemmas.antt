@@ -124,6 +124,7 @@ started_set p setup now live params largest intervals = record {
   logs = λ i q there.
       let (log, here, is) = new_port_at (clock_of setup.identity) setup.params setup.intervals.items i q there in
       here ∙ ap (λ (x : Port). Some x.log_interval) (sym is);
+  lapses = λ none. refl;
 }
 
 starts_kept : (p : Pace) (So : ℤ → Type 0) (place : ℕ) (w : WorldState) (draws : List Draw) (w' : WorldState)

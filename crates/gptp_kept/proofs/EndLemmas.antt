@@ -199,6 +199,7 @@ part_measures s now (Expires (timers.Announce p)) n port x x' given k is = subst
 part_measures s now (Expires (timers.Age p)) n port x x' given k is = subst (IsMeasuring s.params port) (sym k) is
 part_measures s now (Expires timers.Sync) n port x x' given k is = subst (IsMeasuring s.params port) (sym k) is
 part_measures s now (Expires timers.Relay) n port x x' given k is = subst (IsMeasuring s.params port) (sym k) is
+part_measures s now (Expires timers.Lapse) n port x x' given k is = subst (IsMeasuring s.params port) (sym k) is
 part_measures s now (Priority value) n port x x' given k is = subst (IsMeasuring s.params port) (sym k) is
 
 -- ---- ports

@@ -33,7 +33,7 @@ use Rattle.gptp_kept.specs.View.{says, view}
 use Rattle.gptp_kept.proofs.SeenActLemmas.{acts_seen}
 use Rattle.gptp_kept.specs.Calm.{IsQuietWorld, network_of}
 use Rattle.gptp_kept.proofs.CalmLemmas.{calm, network}
-use Rattle.gptp_kept.proofs.CalmKeptLemmas.{KeepsNetwork, acts_keep, same_network, stays_quiet}
+use Rattle.gptp_kept.proofs.CalmKeptLemmas.{KeepsNetwork, acts_keep, earlier_quiet, same_network, stays_quiet}
 use Rattle.gptp_kept.specs.Standing.{snapshot_of}
 use Rattle.gptp_kept.proofs.StandsLemmas.{stands_well}
 use Rattle.gptp_kept.specs.Holds.{BecomeCapable, Holds, IsWorld, settling_network, start_of}
@@ -126,7 +126,7 @@ acts_hold p act w draws done w' none k is capable capable' =
 pub later_holds : (p : Pace) (w : WorldState) (time : ℕ) → w.time ≤ time → IsWorld p w → IsWorld p (at time w)
     → BecomeCapable p w → BecomeCapable p (at time w) → Holds p w → Holds p (at time w)
 later_holds p w time later is is' capable capable' =
-    step_keeps p w (at time w) is is' capable capable' (λ m. refl) (λ quiet. quiet)
+    step_keeps p w (at time w) is is' capable capable' (λ m. refl) (earlier_quiet p.params w time)
     (inl (record { time = time; later = later; is = refl }))
 
 -- so the claim is kept from act to act

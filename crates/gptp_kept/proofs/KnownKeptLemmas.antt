@@ -1,19 +1,24 @@
 -- What is known of a world, with what every act asks of its systems: item by item, and kept by every call.
-use Rattle.std.proofs.Common.{◌≡◌, ◌⊎◌, ℕ, ◌+◌, ◌≤◌, max, ℤ, true, List, Some, slice_get, slice_set, refl, sym, ap, subst, ◌∙◌, inl, inr, arith}
+use Rattle.std.proofs.Common.{◌≡◌, ◌⊎◌, ℕ, ◌+◌, ◌≤◌, max, ℤ, true, List, Option, Some, None, slice_get, slice_set, refl, sym, ap, subst, ◌∙◌, inl, inr, arith}
+use Rattle.std.proofs.lemmas.Option.{none-some}
 use Rattle.gptp_lists.specs.Members.{In}
 use Rattle.gptp_links.specs.declared.bounds.Bounds.{Bounds}
 use Rattle.gptp_links.specs.declared.link.Direction.TheVariants.{FromA, FromB}
 use Rattle.gptp_links.specs.Fate.{Draw}
 use Rattle.gptp_system.specs.declared.answer.Answer.{Answer}
 use Rattle.gptp_system.specs.declared.port.Port.{Port}
+use Rattle.gptp_system.specs.declared.sending.Sending.{Sending}
+use Rattle.gptp_setup.specs.declared.setup.Params.{Params}
 use Rattle.gptp_system.specs.Facts.{Keeps}
-use Rattle.gptp_system.specs.Input.{Input, IsTimely}
+use Rattle.gptp_system.specs.Input.{Input, IsTimely, Steps}
 use Rattle.gptp_setup.specs.Intervals.{AreParams, interval_of}
 use Rattle.gptp_setup.specs.Pace.{Pace, largest_interval}
 use Rattle.gptp_system.specs.State.{SystemState}
-use Rattle.gptp_system.specs.Times.{IsInTime}
+use Rattle.gptp_system.specs.Times.{IsInTime, RunsOn, Waits, WaitsAnew}
 use Rattle.gptp_system.proofs.InTimeLemmas.{stays_in_time}
 use Rattle.gptp_system.proofs.StepLemmas.{steps_sound}
+use Rattle.gptp_system.proofs.TimeLemmas.{steps_run_on}
+use Rattle.gptp_plan.specs.Calm.{NothingLapses}
 use Rattle.gptp_acts.specs.declared.station.Station.{Station}
 use Rattle.gptp_acts.specs.Act.{Calls, all_timers, in_state}
 use Rattle.gptp_acts.specs.Ahead.{IsSteady, IsWorldOnTime}
@@ -165,6 +170,22 @@ logs_kept station s' kept logs i q' there =
     let old = alike log log station.system.ports s'.ports (sym kept.logs) i q' there in
     logs i old.0 old.1 ∙ ap Some old.2
 
+-- no step starts the Lapse timer where nothing can lapse
+stays_off : (input : Input) (now : ℕ) (s s' : SystemState) (sends : List Sending) (answer : Answer)
+    → Steps input now s s' sends answer → NothingLapses s.params → s.lapse ≡ None → s'.lapse ≡ None
+stays_off input now s s' sends answer steps nothing off = by s'.lapse refl
+  where
+    runs : RunsOn s now s'
+    runs = steps_run_on input now s s' sends answer steps
+
+    ran : (t : ℕ) → Waits s s' t ⊎ WaitsAnew s now t → ⊥
+    ran t (inl waits) = none-some t (sym off ∙ waits.before)
+    ran t (inr anew) = let on = anew.on in omega (arith, nothing)
+
+    by : (o : Option ℕ) → s'.lapse ≡ o → s'.lapse ≡ None
+    by None is = is
+    by (Some t) is = absurd (ran t (runs.lapse t is))
+
 module _ (p : Pace) (So : ℤ → Type 0) (place : ℕ) (input : Input) (w : WorldState) (draws : List Draw) (answer : Answer)
     (w' : WorldState) (calls : Calls place input w draws answer w') where
   -- the system as the call leaves it
@@ -182,6 +203,9 @@ module _ (p : Pace) (So : ℤ → Type 0) (place : ℕ) (input : Input) (w : Wor
           largest = sound.kept.largest ∙ is.set.largest;
           intervals = is.set.intervals;
           logs = logs_kept calls.station calls.after sound.kept is.set.logs;
+          lapses = λ none.
+              stays_off input w.time calls.station.system calls.after calls.sends answer calls.steps
+              (ap (λ (x : Params). x.sync_timeout) is.set.params ∙ none) (is.set.lapses none);
         };
         logs = is.logs;
         in_time = λ live.

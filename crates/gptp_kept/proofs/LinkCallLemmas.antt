@@ -63,6 +63,7 @@ asker_timer s now period (timers.Announce p) n x x' k = inr (λ e. absurd cc, ap
 asker_timer s now period (timers.Age p) n x x' k = inr (λ e. absurd cc, ap (asker_view period) k)
 asker_timer s now period timers.Sync n x x' k = inr (λ e. absurd cc, ap (asker_view period) k)
 asker_timer s now period timers.Relay n x x' k = inr (λ e. absurd cc, ap (asker_view period) k)
+asker_timer s now period timers.Lapse n x x' k = inr (λ e. absurd cc, ap (asker_view period) k)
 
 -- and of one that answers: its own Respond timer answers, and any other leaves what waits
 pub answerer_timer : (s : SystemState) (now : ℕ) (timer : Timer) (n : ℕ) (x x' : Part)
@@ -81,6 +82,7 @@ answerer_timer s now (timers.Announce p) n x x' k = inr (λ e. absurd cc, ap wai
 answerer_timer s now (timers.Age p) n x x' k = inr (λ e. absurd cc, ap waits_view k)
 answerer_timer s now timers.Sync n x x' k = inr (λ e. absurd cc, ap waits_view k)
 answerer_timer s now timers.Relay n x x' k = inr (λ e. absurd cc, ap waits_view k)
+answerer_timer s now timers.Lapse n x x' k = inr (λ e. absurd cc, ap waits_view k)
 
 -- ---- lanes
 

@@ -183,6 +183,7 @@ module _ (p : Params) (itself : PortId) where
   part_measures s now (Expires (timers.Age n)) k x x' runs before is = same x x' before is
   part_measures s now (Expires timers.Sync) k x x' runs before is = same x x' before is
   part_measures s now (Expires timers.Relay) k x x' runs before is = same x x' before is
+  part_measures s now (Expires timers.Lapse) k x x' runs before is = same x x' before is
   part_measures s now (Priority value) k x x' runs before is = same x x' before is
 
 -- a port whose link is up has a Pdelay timer that runs

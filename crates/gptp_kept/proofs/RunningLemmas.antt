@@ -79,6 +79,7 @@ module _ (s : SystemState) (now : ℕ) where
   part_runs (Expires (timers.Age n)) k x x' out is runs = inr (subst Runs is runs)
   part_runs (Expires timers.Sync) k x x' out is runs = inr (subst Runs is runs)
   part_runs (Expires timers.Relay) k x x' out is runs = inr (subst Runs is runs)
+  part_runs (Expires timers.Lapse) k x x' out is runs = inr (subst Runs is runs)
   part_runs (Priority value) k x x' out is runs = inr (subst Runs is runs)
 
 -- the timer of the port at a place

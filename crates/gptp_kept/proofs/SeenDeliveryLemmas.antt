@@ -33,7 +33,7 @@ use Rattle.gptp_kept.proofs.SeenCallLemmas.{IsCallSeen, calls_seen}
 use Rattle.gptp_kept.proofs.SeenLaneLemmas.{IsSetAt, StandsNow, lane_there, refilled, requeued_lanes}
 use Rattle.gptp_kept.proofs.PlaceLemmas.{IsPortAt, IsStationAt, port_from, station_from}
 use Rattle.gptp_kept.proofs.TakeUpLemmas.{BeginApart, begin_apart}
-use Rattle.gptp_kept.proofs.TouchLemmas.{capable_hears, grow_back, grown_by, hear_back, heard_in}
+use Rattle.gptp_kept.proofs.TouchLemmas.{capable_hears, frame_young, grow_back, hear_back, heard_in}
 use Rattle.gptp_kept.proofs.SendLemmas.{world_apart}
 
 -- a port that isn't Disabled is capable
@@ -156,8 +156,7 @@ module _ (link : ℕ) (direction : Direction) (octets : List ℕ) (w : WorldStat
         )
 
     never_grows : (n : ℕ) → receiver_call.touch ≡ Grow n → ⊥
-    never_grows n grown =
-        let is = grown_by c.station.system (FrameHeard port octets) receiver_call.touch receiver_call.seen n grown in cc
+    never_grows = frame_young c.station.system port octets receiver_call.touch receiver_call.seen
 
     port_hears : (i : ℕ) (q : SeenPort) (a : Announce) → port ≡ suc i
         → slice_get (station_view c.station).ports i ≡ Some q → q.held ≢ Disabled → says octets a

@@ -1,5 +1,5 @@
 -- A timer that runs out is something that happens at a live system of the machine.
-use Rattle.std.proofs.Common.{◌≡◌, ◌≤◌, ◌+◌, ℕ, suc, List, Some, slice_get, sym, ap, subst, ◌∙◌, arith}
+use Rattle.std.proofs.Common.{◌≡◌, ◌⊎◌, ◌≤◌, ◌+◌, ℕ, suc, List, Some, slice_get, sym, ap, subst, ◌∙◌, inl, inr, arith}
 use Rattle.std.specs.Option.{option_and_then, option_map, option_map_or}
 use Rattle.std.proofs.lemmas.Option.{same_Some}
 use Rattle.gptp_links.specs.Fate.{Draw}
@@ -22,7 +22,7 @@ use Rattle.gptp_acts.specs.Sound.{IsSound}
 use Rattle.gptp_acts.specs.World.{WorldState, station_due}
 use Rattle.gptp_acts.proofs.AheadLemmas.{live_due}
 use Rattle.gptp_lists.proofs.MappedLemmas.{same_there}
-use Rattle.gptp_settling.specs.Acts.{Runs}
+use Rattle.gptp_settling.specs.Acts.{Lapses, Runs}
 use Rattle.gptp_settling.specs.Frame.{Announce}
 use Rattle.gptp_settling.specs.Station.{Received, Reception as SeenReception, Port as SeenPort, Station as SeenStation}
 use Rattle.gptp_kept.specs.Legible.{IsLegible}
@@ -30,7 +30,7 @@ use Rattle.gptp_kept.specs.View.{held_view, reception_view, said, says, span_at,
 use Rattle.gptp_kept.proofs.SeenCallLemmas.{IsCallSeen, calls_seen}
 use Rattle.gptp_kept.proofs.PlaceLemmas.{IsPortAt, port_from}
 use Rattle.gptp_kept.proofs.ReactLemmas.{received_back}
-use Rattle.gptp_kept.proofs.TouchLemmas.{grow_back, grown_by, hear_back, heard_in}
+use Rattle.gptp_kept.proofs.TouchLemmas.{Ages, grow_back, grown_by, hear_back, heard_in}
 use Rattle.gptp_kept.proofs.SendLemmas.{world_apart}
 
 -- what is seen as received at a port is too old where its Age timer is due
@@ -81,8 +81,9 @@ module _ (place : ℕ) (timer : Timer) (w : WorldState) (draws : List Draw) (w' 
         call = c.call;
         deaf = λ n a heard. deaf c n a (hear_back c.touch n a heard);
         ages = λ i q x grown there holds.
-            ages c i q x (grow_back c.touch (suc i) grown)
-            (subst (λ (m : SeenStation). slice_get m.ports i ≡ Some q) c.station_is there) holds;
+            subst (λ (m : SeenStation). (x.at + x.span ≤ w.time) ⊎ Lapses m i w.time) (sym c.station_is)
+            (ages c i q x (grow_back c.touch (suc i) grown)
+            (subst (λ (m : SeenStation). slice_get m.ports i ≡ Some q) c.station_is there) holds);
       }
     where
       deaf : (c : IsCallSeen (TimerExpires timer) station w w') (n : ℕ) (a : Announce)
@@ -93,16 +94,21 @@ module _ (place : ℕ) (timer : Timer) (w : WorldState) (draws : List Draw) (w' 
       same_timer : (one other : Timer) → TimerExpires one ≡ TimerExpires other → one ≡ other
       same_timer one other e = cc
 
+      -- a port whose Age timer expires received what its span has passed of, and the Lapse timer is the system's
       ages : (c : IsCallSeen (TimerExpires timer) station w w') (i : ℕ) (q : SeenPort) (x : SeenReception)
           → c.touch ≡ Grow (suc i) → slice_get (station_view station).ports i ≡ Some q → q.held ≡ Received x
-          → x.at + x.span ≤ w.time
+          → (x.at + x.span ≤ w.time) ⊎ Lapses (station_view station) i w.time
       ages c i q x grown there holds =
           go (port_from (span_at station.system) station.system.held station.system.ports i q there)
+          (grown_by station.system (TimerExpires timer) c.touch c.seen (suc i) grown)
         where
-          go : IsPortAt (span_at station.system) station.system.held station.system.ports i q → x.at + x.span ≤ w.time
-          go p =
-              let is = same_timer timer (timers.Age (suc i))
-              (grown_by station.system (TimerExpires timer) c.touch c.seen (suc i) grown) in
-              age_passed station.system i p.held p.port w.time x p.held_there p.port_there
-              (ap (λ t. due t station.system) (sym is) ∙ timer_due)
-              (ap (λ (y : SeenPort). y.held) (sym p.is) ∙ holds)
+          out : (one : Timer) → TimerExpires timer ≡ TimerExpires one → due one station.system ≡ Some w.time
+          out one is = ap (λ t. due t station.system) (sym (same_timer timer one is)) ∙ timer_due
+
+          go : IsPortAt (span_at station.system) station.system.held station.system.ports i q
+              → Ages station.system (TimerExpires timer) (suc i)
+              → (x.at + x.span ≤ w.time) ⊎ Lapses (station_view station) i w.time
+          go p (inl is) =
+              inl (age_passed station.system i p.held p.port w.time x p.held_there p.port_there
+              (out (timers.Age (suc i)) is) (ap (λ (y : SeenPort). y.held) (sym p.is) ∙ holds))
+          go p (inr (is, slave)) = inr (record { slave = slave; due = out timers.Lapse is })

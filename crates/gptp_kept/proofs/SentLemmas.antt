@@ -124,6 +124,7 @@ asking_input s now (Expires (timers.Respond p)) sends sent x member kind =
     let e = responds_answer (owed_at s p) p now s sends sent x member in absurd cc
 asking_input s now (Expires timers.Sync) sends sent x member kind = let e = sent x member in absurd cc
 asking_input s now (Expires timers.Relay) sends sent x member kind = let e = sent x member in absurd cc
+asking_input s now (Expires timers.Lapse) sends sent x member kind = let e = sent x member in absurd cc
 asking_input s now (Priority value) sends sent x member kind = let e = sent x member in absurd cc
 
 responds_port : (owed : Option Owed) (p now : ℕ) (s : SystemState) (sends : List Sending)
@@ -160,6 +161,7 @@ answering_input s now (Expires (timers.Respond p)) sends sent x member kind =
     ap (λ n. Expires (timers.Respond n)) (responds_port (owed_at s p) p now s sends sent x member)
 answering_input s now (Expires timers.Sync) sends sent x member kind = let e = sent x member in absurd cc
 answering_input s now (Expires timers.Relay) sends sent x member kind = let e = sent x member in absurd cc
+answering_input s now (Expires timers.Lapse) sends sent x member kind = let e = sent x member in absurd cc
 answering_input s now (Priority value) sends sent x member kind = let e = sent x member in absurd cc
 
 -- ---- what is sent says

@@ -1,5 +1,5 @@
 -- What touches come of which inputs.
-use Rattle.std.proofs.Common.{◌≡◌, ◌≢◌, ◌<◌, ◌+◌, ◌*◌, ◌^◌, ◌%◌, ℕ, true, List, sym, ap, subst, ◌∙◌, inl, inr, arith}
+use Rattle.std.proofs.Common.{◌≡◌, ◌≢◌, ◌⊎◌, ◌<◌, ◌+◌, ◌*◌, ◌^◌, ◌%◌, ℕ, true, List, Some, refl, sym, ap, subst, ◌∙◌, inl, inr, arith}
 use Rattle.std.specs.Prelude.{⊤}
 use Rattle.gptp_messages.specs.declared.announce.AnnounceView.{AnnounceView}
 use Rattle.gptp_messages.specs.declared.message.Message.TheVariants as messages
@@ -60,22 +60,37 @@ heard_in s (Expires (timers.Pdelay p)) touch seen n a heard = absurd (turn_deaf 
 heard_in s (Expires (timers.Respond p)) touch seen n a heard = absurd (let both = sym seen ∙ heard in cc)
 heard_in s (Expires timers.Sync) touch seen n a heard = absurd (let both = sym seen ∙ heard in cc)
 heard_in s (Expires timers.Relay) touch seen n a heard = absurd (let both = sym seen ∙ heard in cc)
+heard_in s (Expires timers.Lapse) touch (inl (p, r, slave, got, is)) n a heard =
+    absurd (let both = sym is ∙ heard in cc)
+heard_in s (Expires timers.Lapse) touch (inr (none, is)) n a heard = absurd (let both = sym is ∙ heard in cc)
 heard_in s (Priority value) touch seen n a heard = absurd (let both = sym seen ∙ heard in cc)
 
--- what is held grows too old by its timer alone
+-- no frame makes what is held too old
+pub frame_young : (s : SystemState) (p : ℕ) (octets : List ℕ) (touch : Touch) → IsFrameSeenAs s p octets touch
+    → (n : ℕ) → touch ≡ Grow n → ⊥
+frame_young s p octets touch (inl (a, reads, on, is)) n grown = let both = sym is ∙ grown in cc
+frame_young s p octets touch (inr (off, turn)) n grown = turn_young p touch turn n grown
+
+-- what is held ages by its own timer, or at the Slave port by the Lapse timer
+abbrev pub Ages : SystemState → Input → ℕ → Type 0
+Ages s input n =
+    (input ≡ Expires (timers.Age n)) ⊎ ((input ≡ Expires timers.Lapse) × (s.slave ≡ Some n))
+
 pub grown_by : (s : SystemState) (input : Input) (touch : Touch) → IsSeenAs s input touch → (n : ℕ)
-    → touch ≡ Grow n → input ≡ Expires (timers.Age n)
+    → touch ≡ Grow n → Ages s input n
 grown_by s (PortUp p) touch seen n grown = absurd (turn_young p touch seen n grown)
 grown_by s (PortDown p) touch seen n grown = absurd (let both = sym seen ∙ grown in cc)
-grown_by s (Frame p octets) touch (inl (a, reads, on, is)) n grown = absurd (let both = sym is ∙ grown in cc)
-grown_by s (Frame p octets) touch (inr (off, turn)) n grown = absurd (turn_young p touch turn n grown)
+grown_by s (Frame p octets) touch seen n grown = absurd (frame_young s p octets touch seen n grown)
 grown_by s (Expires (timers.Announce p)) touch seen n grown = absurd (let both = sym seen ∙ grown in cc)
 grown_by s (Expires (timers.Age p)) touch seen n grown =
-    ap (λ k. Expires (timers.Age k)) (same_grow p n (sym seen ∙ grown))
+    inl (ap (λ k. Expires (timers.Age k)) (same_grow p n (sym seen ∙ grown)))
 grown_by s (Expires (timers.Pdelay p)) touch seen n grown = absurd (turn_young p touch seen n grown)
 grown_by s (Expires (timers.Respond p)) touch seen n grown = absurd (let both = sym seen ∙ grown in cc)
 grown_by s (Expires timers.Sync) touch seen n grown = absurd (let both = sym seen ∙ grown in cc)
 grown_by s (Expires timers.Relay) touch seen n grown = absurd (let both = sym seen ∙ grown in cc)
+grown_by s (Expires timers.Lapse) touch (inl (p, r, slave, got, is)) n grown =
+    inr (refl, slave ∙ ap Some (same_grow p n (sym is ∙ grown)))
+grown_by s (Expires timers.Lapse) touch (inr (none, is)) n grown = absurd (let both = sym is ∙ grown in cc)
 grown_by s (Priority value) touch seen n grown = absurd (let both = sym seen ∙ grown in cc)
 
 -- a capable port hears what reads as an Announce

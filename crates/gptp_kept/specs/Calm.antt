@@ -1,5 +1,5 @@
 -- A calm world, and the network of the machine of gptp_settling that it then has.
-use Rattle.std.specs.Prelude.{◌≡◌, ◌≢◌, ◌≤◌, ◌==◌, ◌&&◌, ℕ, suc, ℤ, pos, max, Bool, true, if◌then◌else◌, List, [], ◌∷◌, map, Some, slice_get}
+use Rattle.std.specs.Prelude.{◌≡◌, ◌≢◌, ◌≤◌, ◌*◌, ◌==◌, ◌&&◌, ℕ, suc, ℤ, pos, max, Bool, true, if◌then◌else◌, List, [], ◌∷◌, map, Some, slice_get}
 use Rattle.std.specs.Option.{option_map_or}
 use Rattle.gptp_graph.specs.Snapshot.{IsLinked, PortIdentity, Snapshot, System}
 use Rattle.gptp_vector.specs.declared.port.PortId.{PortId}
@@ -12,6 +12,7 @@ use Rattle.gptp_setup.specs.declared.setup.Setup.{Setup}
 use Rattle.gptp_setup.specs.Intervals.{interval_of}
 use Rattle.gptp_setup.specs.Pace.{Pace, largest_interval}
 use Rattle.gptp_system.specs.State.{clock, number}
+use Rattle.gptp_plan.specs.Calm.{NothingLapses}
 use Rattle.gptp_acts.specs.declared.station.Station.{Station}
 use Rattle.gptp_acts.specs.World.{Channel, WorldState}
 use Rattle.gptp_settling.specs.Network.{Network}
@@ -26,10 +27,11 @@ pub record IsQuietLink (p : Params) (channel : Channel) : Type 0 where
   pub lossless : channel.bounds.loss ≡ 0
   pub good : IsGoodLink channel.bounds.max p.turnaround p.threshold
 
--- so is each link that is up between two live systems
-abbrev pub IsQuietWorld : Params → WorldState → Type 0
-IsQuietWorld p w = (link : ℕ) (channel : Channel) → slice_get w.net.channels link ≡ Some channel
-    → is_used (live_systems w.stations) channel ≡ true → IsQuietLink p channel
+-- so is each link that is up between two live systems, and nothing lapses for want of Sync
+pub record IsQuietWorld (p : Params) (w : WorldState) : Type 0 where
+  pub links : (link : ℕ) (channel : Channel) → slice_get w.net.channels link ≡ Some channel
+      → is_used (live_systems w.stations) channel ≡ true → IsQuietLink p channel
+  pub lapses : NothingLapses p
 
 -- the greatest delay of those links, or 0
 abbrev pub greatest_delay : List System → List Channel → ℕ
@@ -89,7 +91,8 @@ AreCapableFrom start w = start ≤ w.time → OfEachPort (λ itself h q. IsCapab
 -- ---- the network
 
 -- The network that a world has, no path of which has more than m systems, and of which claims are made from this time
--- on. Each port has its own announce interval.
+-- on. Each port has its own announce interval. Nothing lapses where it is quiet: no Sync is waited for, and a step of
+-- distance takes two of the largest intervals.
 abbrev pub network_of : Pace → ℕ → ℕ → WorldState → Network
 network_of p m start w = record {
   graph = snapshot_of w;
@@ -102,4 +105,6 @@ network_of p m start w = record {
   most = greatest_delay (live_systems w.stations) w.net.channels;
   timeout = p.params.timeout;
   start = start;
+  feed = 0;
+  step = 2 * largest_interval p;
 }

@@ -16,8 +16,8 @@ use Rattle.gptp_kept.specs.Calm.{IsQuietWorld}
 use Rattle.gptp_kept.specs.Standing.{snapshot_of}
 
 -- All systems start with the same parameters and largest announce interval; each link that is up between two live
--- systems loses nothing and is short enough for the threshold; and since the last change a span has passed that may
--- depend on how many systems live.
+-- systems loses nothing and is short enough for the threshold; nothing lapses for want of Sync; and since the last
+-- change a span has passed that may depend on how many systems live.
 pub record IsCalmFor (span : Pace → ℕ → ℕ) (w : WorldState) : Type 0 where
   pub pace : Pace
   pub set : HavePace pace w

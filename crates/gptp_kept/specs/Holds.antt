@@ -24,7 +24,7 @@ pub record IsWorld (p : Pace) (w : WorldState) : Type 0 where
 abbrev pub start_of : Pace → WorldState → ℕ
 start_of p w = w.last_change + capability_span p
 
--- it is so of the ports of live systems, where the links are quiet
+-- it is so of the ports of live systems, where the world is quiet
 abbrev pub BecomeCapable : Pace → WorldState → Type 0
 BecomeCapable p w = IsQuietWorld p.params w → AreCapableFrom (start_of p w) w
 
@@ -32,8 +32,8 @@ BecomeCapable p w = IsQuietWorld p.params w → AreCapableFrom (start_of p w) w
 abbrev pub settling_network : Pace → ℕ → WorldState → Network
 settling_network p m w = network_of p m (start_of p w) w
 
--- where the links are quiet, the invariant of that machine holds of what it sees of the world, for each number that
--- bounds how many systems a path has
+-- where the world is quiet, the invariant of that machine holds of what it sees of it, for each number that bounds how
+-- many systems a path has
 abbrev pub Holds : Pace → WorldState → Type 0
 Holds p w = (m : ℕ) → BoundsPaths (snapshot_of w) m → IsQuietWorld p.params w
     → Invariant says (settling_network p m w) (view w)

@@ -1,5 +1,5 @@
 -- What is known of every item of a world, at every time.
-use Rattle.std.specs.Prelude.{◌≡◌, ◌≤◌, ◌+◌, ℕ, ℤ, max, true, List, Some, slice_get}
+use Rattle.std.specs.Prelude.{◌≡◌, ◌≤◌, ◌+◌, ℕ, ℤ, max, true, List, Some, None, slice_get}
 use Rattle.gptp_lists.specs.Members.{In}
 use Rattle.gptp_links.specs.declared.link.Direction.{Direction}
 use Rattle.gptp_links.specs.Queue.{Frame}
@@ -7,6 +7,7 @@ use Rattle.gptp_system.specs.declared.port.Port.{Port}
 use Rattle.gptp_setup.specs.Intervals.{AreIntervals, interval_of}
 use Rattle.gptp_setup.specs.Pace.{Pace, largest_interval}
 use Rattle.gptp_system.specs.Times.{IsInTime}
+use Rattle.gptp_plan.specs.Calm.{NothingLapses}
 use Rattle.gptp_acts.specs.declared.station.Station.{Station}
 use Rattle.gptp_acts.specs.Prompt.{HasPace}
 use Rattle.gptp_acts.specs.World.{Channel, WorldState, queue}
@@ -15,7 +16,8 @@ use Rattle.gptp_kept.specs.Measuring.{AreMeasuring}
 use Rattle.gptp_kept.specs.Short.{IsShort}
 
 -- A station starts with these parameters and this largest interval, and its system has them. It starts with an interval
--- for each port, none of which is above the largest, and its ports announce at these.
+-- for each port, none of which is above the largest, and its ports announce at these. Its Lapse timer runs only where
+-- something can lapse in the network.
 pub record IsSetTo (p : Pace) (station : Station) : Type 0 where
   pub starts : HasPace p station
   pub params : station.system.params ≡ p.params
@@ -23,6 +25,7 @@ pub record IsSetTo (p : Pace) (station : Station) : Type 0 where
   pub intervals : AreIntervals station.setup
   pub logs : (i : ℕ) (q : Port) → slice_get station.system.ports i ≡ Some q
       → slice_get station.setup.intervals.items i ≡ Some q.log_interval
+  pub lapses : NothingLapses p.params → station.system.lapse ≡ None
 
 -- all stations of a world have the parameters of its network, and its largest interval
 abbrev pub AreSet : Pace → WorldState → Type 0

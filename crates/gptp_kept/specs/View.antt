@@ -99,6 +99,7 @@ system_view live s = record {
   steps = s.steps;
   slave = s.slave;
   trace = trace s;
+  lapse = s.lapse;
 }
 
 abbrev pub station_view : Station → SeenStation

@@ -1,5 +1,5 @@
 use Rattle.std.proofs.Common.{refl}
-use Rattle.gptp_kept.proofs.CalmKeptLemmas.{acts_keep, same_network, stays_quiet}
+use Rattle.gptp_kept.proofs.CalmKeptLemmas.{acts_keep, later_quiet, same_network, stays_quiet}
 use Rattle.gptp_kept.proofs.calm.network_is_kept.Goals as goal
 
 pub returns-clause-acts : goal.returns-clause-acts
@@ -14,4 +14,4 @@ returns-clause-quiet c =
     λ p act w draws done w' none k quiet. stays_quiet w w' (acts_keep act w draws done w' none k) p quiet
 
 pub returns-clause-quiet_later : goal.returns-clause-quiet_later
-returns-clause-quiet_later c = λ p w time quiet. quiet
+returns-clause-quiet_later c = later_quiet
