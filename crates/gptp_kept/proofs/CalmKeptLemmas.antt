@@ -21,7 +21,7 @@ use Rattle.gptp_plan.specs.declared.change.Act.TheVariants.{Deliver, Expire, Cha
 use Rattle.gptp_acts.specs.declared.done.Done.{Done}
 use Rattle.gptp_acts.specs.declared.station.Station.{Station}
 use Rattle.gptp_acts.specs.Act.{Calls, Delivers, Expires, Hears, in_state}
-use Rattle.gptp_acts.specs.Acts.{Acts}
+use Rattle.gptp_acts.specs.Acts.{Acts, at}
 use Rattle.gptp_acts.specs.Agrees.{stopped}
 use Rattle.gptp_acts.specs.World.{Channel, Net, WorldState, receiver}
 use Rattle.gptp_acts.proofs.BareLemmas.{DifferInFlight, bare, calls_bare, takes_bare}
