@@ -43,6 +43,13 @@ Rests p systems events w =
 abbrev pub AllRest : Params → List Member → List Wire → List Timed → Type 0
 AllRest p systems links events = All (Rests p systems events) links
 
--- A network is calm after these events where each link that then is up between two live systems is quiet.
-abbrev pub IsCalm : NetworkState → List Timed → Type 0
-IsCalm n events = AllRest n.params n.systems n.links events
+-- No Slave port ages what it holds for want of Sync: syncReceiptTimeout (IEEE 802.1AS-2020, 10.7.3.1) is 0, which is
+-- off (profile).
+abbrev pub NothingLapses : Params → Type 0
+NothingLapses p = p.sync_timeout ≡ 0
+
+-- A network is calm after these events where each link that then is up between two live systems is quiet, and nothing
+-- lapses for want of Sync.
+pub record IsCalm (n : NetworkState) (events : List Timed) : Type 0 where
+  pub links : AllRest n.params n.systems n.links events
+  pub lapses : NothingLapses n.params

@@ -20,7 +20,7 @@ abbrev pub are_intervals_in_range : Params → Bool
 are_intervals_in_range p = is_log p.announce && is_log p.sync && is_log p.pdelay
 
 abbrev pub are_counts_in_range : Params → Bool
-are_counts_in_range p = is_between 3 10 p.timeout && is_between 1 255 p.lost
+are_counts_in_range p = is_between 3 10 p.timeout && is_between 1 255 p.lost && nat_le p.sync_timeout 10
 
 abbrev pub are_times_in_range : Params → Bool
 are_times_in_range p =

@@ -1,7 +1,7 @@
 //! Whether a network is calm after changes, and by when it has settled.
 
 ghost use Rattle.std.specs.Prelude.{◌≡◌, ◌↔◌, ◌≤◌, ◌+◌, ◌*◌, ℕ, IsTrue, true, length};
-ghost use Rattle.gptp_plan.specs.Calm.{IsLive, IsUsed, IsQuiet, Rests, AllRest};
+ghost use Rattle.gptp_plan.specs.Calm.{IsLive, IsUsed, IsQuiet, Rests, AllRest, NothingLapses, IsCalm};
 ghost use Rattle.gptp_plan.specs.Change.{standing, is_at, system_changed, link_changed, system_acted, link_acted, system_after, link_after, live_after, joined_after};
 ghost use Rattle.gptp_plan.specs.Params.{KeepParams};
 ghost use Rattle.gptp_plan.specs.SettlingTime.{live_systems, settling_span};
@@ -217,13 +217,29 @@ fn rests(params: &Params, systems: &[Member], events: &[Timed], wire: &Wire) -> 
 }
 
 /// Whether each link rests after these events.
-pub(crate) fn is_calm(params: &Params, systems: &[Member], links: &[Wire], events: &[Timed]) -> bool
+fn all_rest(params: &Params, systems: &[Member], links: &[Wire], events: &[Timed]) -> bool
     requires { KeepParams params.now }
     ensures { IsTrue result ↔ AllRest params.now systems.now links.now events.now }
 {
     links
         .iter()
         .all(|wire| rests(params, systems, events, wire))
+}
+
+/// Whether nothing lapses for want of Sync.
+fn nothing_lapses(params: &Params) -> bool
+    ensures { IsTrue result ↔ NothingLapses params.now }
+{
+    params.sync_timeout == 0
+}
+
+/// Whether a network of these is calm after these events.
+pub(crate) fn is_calm(params: &Params, systems: &[Member], links: &[Wire], events: &[Timed]) -> bool
+    requires { KeepParams params.now }
+    ensures { IsTrue result
+        ↔ IsCalm (record { params = params.now; systems = systems.now; links = links.now }) events.now }
+{
+    nothing_lapses(params) && all_rest(params, systems, links, events)
 }
 
 /// How many systems live after these events.

@@ -32,7 +32,9 @@ fn are_intervals_in_range(params: &Params) -> bool
 fn are_counts_in_range(params: &Params) -> bool
     ensures { result ≡ are_counts_in_range params.now }
 {
-    is_between(3, 10, u64::from(params.timeout)) && is_between(1, 255, u64::from(params.lost))
+    is_between(3, 10, u64::from(params.timeout))
+        && is_between(1, 255, u64::from(params.lost))
+        && params.sync_timeout <= 10
 }
 
 /// Whether each time lies in its range.
