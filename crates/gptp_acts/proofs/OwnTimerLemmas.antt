@@ -73,10 +73,21 @@ port_has ps (suc i) least most =
     let found = member_there ps i (omega arith) in let same : 1 + i ≡ suc i = omega arith in
     subst (λ m. HasTimers m (timers_from 1 ps)) same (port_timers 1 i ps found.0 found.1)
 
-own_timers : (n : ℕ) (ps : List Port) → In timers.Sync (timers_from n ps) × In timers.Relay (timers_from n ps)
-own_timers n [] = (inl refl, inr (inl refl))
+-- the timers of the system itself are in a list
+record HasOwn (ts : List Timer) : Type 0 where
+  sync : In timers.Sync ts
+  relay : In timers.Relay ts
+  lapse : In timers.Lapse ts
+
+own_timers : (n : ℕ) (ps : List Port) → HasOwn (timers_from n ps)
+own_timers n [] = record { sync = inl refl; relay = inr (inl refl); lapse = inr (inr (inl refl)) }
 own_timers n (p ∷ ps) =
-    let rest = own_timers (n + 1) ps in (inr (inr (inr (inr rest.0))), inr (inr (inr (inr rest.1))))
+    let rest = own_timers (n + 1) ps in
+    record {
+      sync = inr (inr (inr (inr rest.sync)));
+      relay = inr (inr (inr (inr rest.relay)));
+      lapse = inr (inr (inr (inr rest.lapse)));
+    }
 
 -- a timer that names a port of the system is one of them, and so are those that name none
 pub own_timer : (timer : Timer) (s : SystemState) → IsTimerOf s timer → In timer (timers_from 1 s.ports)
@@ -84,8 +95,9 @@ own_timer (timers.Announce p) s is = (port_has s.ports p is.least is.most).annou
 own_timer (timers.Age p) s is = (port_has s.ports p is.least is.most).age
 own_timer (timers.Pdelay p) s is = (port_has s.ports p is.least is.most).pdelay
 own_timer (timers.Respond p) s is = (port_has s.ports p is.least is.most).respond
-own_timer timers.Sync s is = (own_timers 1 s.ports).0
-own_timer timers.Relay s is = (own_timers 1 s.ports).1
+own_timer timers.Sync s is = (own_timers 1 s.ports).sync
+own_timer timers.Relay s is = (own_timers 1 s.ports).relay
+own_timer timers.Lapse s is = (own_timers 1 s.ports).lapse
 
 -- a timer of a port is one of the system's, or there is no such port
 port_timer : (timer : Timer) (runs : Port → Option ℕ) (s : SystemState) (p : ℕ)
@@ -104,8 +116,9 @@ has_timer (timers.Announce p) s =
     port_timer (timers.Announce p) (λ q. announce_due q (held_at s p)) s p (λ has. has.announce)
 has_timer (timers.Age p) s =
     port_timer (timers.Age p) (λ (q : Port). age_due s.params s.largest (held_at s p)) s p (λ has. has.age)
-has_timer timers.Sync s = inl (own_timers 1 s.ports).0
-has_timer timers.Relay s = inl (own_timers 1 s.ports).1
+has_timer timers.Sync s = inl (own_timers 1 s.ports).sync
+has_timer timers.Relay s = inl (own_timers 1 s.ports).relay
+has_timer timers.Lapse s = inl (own_timers 1 s.ports).lapse
 
 -- as many ports have the same timers
 same_timers : (n : ℕ) (ps qs : List Port) → length qs ≡ length ps → timers_from n qs ≡ timers_from n ps

@@ -14,13 +14,14 @@ use Rattle.gptp_acts.specs.Item.{timer_kind, timer_port, same_item}
 use Rattle.gptp_acts.specs.Pending.{Entry, times, listed, set_due}
 use Rattle.gptp_acts.proofs.PendingLemmas.{set_due-kept, times-set_due_same, times-set_due_other}
 
-pub kind_below : (timer : Timer) → timer_kind timer < 6
+pub kind_below : (timer : Timer) → timer_kind timer < 7
 kind_below (timers.Pdelay p) = omega arith
 kind_below (timers.Respond p) = omega arith
 kind_below (timers.Announce p) = omega arith
 kind_below (timers.Age p) = omega arith
 kind_below timers.Sync = omega arith
 kind_below timers.Relay = omega arith
+kind_below timers.Lapse = omega arith
 
 -- ---- the same items
 
@@ -31,7 +32,8 @@ timer_of (suc zero) p = timers.Respond p
 timer_of (suc (suc zero)) p = timers.Announce p
 timer_of (suc (suc (suc zero))) p = timers.Age p
 timer_of (suc (suc (suc (suc zero)))) p = timers.Sync
-timer_of (suc (suc (suc (suc (suc k))))) p = timers.Relay
+timer_of (suc (suc (suc (suc (suc zero))))) p = timers.Relay
+timer_of (suc (suc (suc (suc (suc (suc k)))))) p = timers.Lapse
 
 timer_back : (t : Timer) → timer_of (timer_kind t) (timer_port t) ≡ t
 timer_back (timers.Pdelay p) = refl
@@ -40,6 +42,7 @@ timer_back (timers.Announce p) = refl
 timer_back (timers.Age p) = refl
 timer_back timers.Sync = refl
 timer_back timers.Relay = refl
+timer_back timers.Lapse = refl
 
 pub same_timer : (p q : ℕ) (t u : Timer) → same_item (Expiry p t) (Expiry q u) ≡ true → (p ≡ q) × (t ≡ u)
 same_timer p q t u same =
@@ -54,13 +57,13 @@ pub item_is : (a b : Item) → same_item a b ≡ true → a ≡ b
 item_is (Expiry p t) (Expiry q u) same =
     let both = same_timer p q t u same in ap (λ x. Expiry x t) both.0 ∙ ap (Expiry q) both.1
 item_is (Expiry p t) (Arrival l FromA) same =
-    let kind : timer_kind t ≡ 6 = grind (arith, nat_tests) in let below = kind_below t in absurd (omega arith)
-item_is (Expiry p t) (Arrival l FromB) same =
     let kind : timer_kind t ≡ 7 = grind (arith, nat_tests) in let below = kind_below t in absurd (omega arith)
+item_is (Expiry p t) (Arrival l FromB) same =
+    let kind : timer_kind t ≡ 8 = grind (arith, nat_tests) in let below = kind_below t in absurd (omega arith)
 item_is (Arrival l FromA) (Expiry q u) same =
-    let kind : 6 ≡ timer_kind u = grind (arith, nat_tests) in let below = kind_below u in absurd (omega arith)
-item_is (Arrival l FromB) (Expiry q u) same =
     let kind : 7 ≡ timer_kind u = grind (arith, nat_tests) in let below = kind_below u in absurd (omega arith)
+item_is (Arrival l FromB) (Expiry q u) same =
+    let kind : 8 ≡ timer_kind u = grind (arith, nat_tests) in let below = kind_below u in absurd (omega arith)
 item_is (Arrival l FromA) (Arrival m FromA) same =
     let link : l ≡ m = grind (arith, nat_tests) in ap (λ x. Arrival x FromA) link
 item_is (Arrival l FromB) (Arrival m FromB) same =

@@ -83,6 +83,7 @@ part_kept s now (Expires (timers.Announce p)) n x x' not_down is runs = subst Ru
 part_kept s now (Expires (timers.Age p)) n x x' not_down is runs = subst Runs (sym is) runs
 part_kept s now (Expires timers.Sync) n x x' not_down is runs = subst Runs (sym is) runs
 part_kept s now (Expires timers.Relay) n x x' not_down is runs = subst Runs (sym is) runs
+part_kept s now (Expires timers.Lapse) n x x' not_down is runs = subst Runs (sym is) runs
 part_kept s now (Priority value) n x x' not_down is runs = subst Runs (sym is) runs
 
 -- ---- a step

@@ -14,6 +14,7 @@ timer_kind (timers.Announce p) = 2
 timer_kind (timers.Age p) = 3
 timer_kind timers.Sync = 4
 timer_kind timers.Relay = 5
+timer_kind timers.Lapse = 6
 
 abbrev pub timer_port : Timer → ℕ
 timer_port (timers.Pdelay p) = p
@@ -22,6 +23,7 @@ timer_port (timers.Announce p) = p
 timer_port (timers.Age p) = p
 timer_port timers.Sync = 0
 timer_port timers.Relay = 0
+timer_port timers.Lapse = 0
 
 -- what tells an item from all others: the place of its system or link, its kind and its port
 abbrev pub place_of : Item → ℕ
@@ -30,8 +32,8 @@ place_of (Arrival link direction) = link
 
 abbrev pub kind_of : Item → ℕ
 kind_of (Expiry place timer) = timer_kind timer
-kind_of (Arrival link FromA) = 6
-kind_of (Arrival link FromB) = 7
+kind_of (Arrival link FromA) = 7
+kind_of (Arrival link FromB) = 8
 
 abbrev pub port_of : Item → ℕ
 port_of (Expiry place timer) = timer_port timer

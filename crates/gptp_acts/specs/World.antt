@@ -59,7 +59,7 @@ with_queue FromB frames channel = record channel { from_b = frames }
 
 -- the timers of ports, the first of which has this number, and those of the system: in the order in which they are put
 abbrev pub timers_from : ℕ → List Port → List Timer
-timers_from p [] = timers.Sync ∷ timers.Relay ∷ []
+timers_from p [] = timers.Sync ∷ timers.Relay ∷ timers.Lapse ∷ []
 timers_from p (q ∷ qs) =
     timers.Pdelay p ∷ timers.Respond p ∷ timers.Announce p ∷ timers.Age p ∷ timers_from (p + 1) qs
 

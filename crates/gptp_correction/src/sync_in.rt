@@ -39,9 +39,9 @@ pub struct SyncInfo {
 }
 
 impl SyncInfo {
-    /// The same with the rate nearest to the one received whose sum with the rate of the neighbour is an Integer32, from
-    /// -2^31 to 2^31 - 1, so that neither [`relay`](crate::relay) nor [`receipt_time`](crate::receipt_time) is refused
-    /// for that sum (profile). Where the sum is one already nothing changes.
+    /// The same with the rate nearest to the one received whose sum with the rate of the neighbour has 32 bits, so that
+    /// neither [`relay`](crate::relay) nor [`receipt_time`](crate::receipt_time) is refused for that sum (profile).
+    /// Where the sum has 32 bits already nothing changes.
     pub fn held_sum(&self, neighbour: Rate) -> SyncInfo
         ensures held { result ≡ held_sum self.now neighbour }
         ensures fits { FitsRate (result.rate +ℤ neighbour) }

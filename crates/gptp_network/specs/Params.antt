@@ -19,6 +19,7 @@ params_of t = do
   threshold ← natural (codes "threshold") 1 1000000000 (Some 800) t
   turnaround ← natural (codes "turnaround") 1 1000000000 (Some 1000) t
   residence ← natural (codes "residence") 1 1000000000 (Some 1000) t
+  sync_timeout ← natural (codes "sync_timeout") 0 10 (Some 0) t
   Ok (record {
     announce = announce;
     sync = sync;
@@ -28,6 +29,7 @@ params_of t = do
     threshold = threshold;
     turnaround = turnaround;
     residence = residence;
+    sync_timeout = sync_timeout;
   })
 
 -- the network that it describes, with no member yet

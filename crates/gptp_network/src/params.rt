@@ -35,6 +35,7 @@ fn params_of(section: &Table) -> Result<Params, DocumentFault>
     let threshold = natural(section, "threshold", 1, 1_000_000_000, Some(800))?;
     let turnaround = natural(section, "turnaround", 1, 1_000_000_000, Some(1000))?;
     let residence = natural(section, "residence", 1, 1_000_000_000, Some(1000))?;
+    let sync_timeout = natural(section, "sync_timeout", 0, 10, Some(0))? as u8;
     Ok(Params {
         announce,
         sync,
@@ -44,6 +45,7 @@ fn params_of(section: &Table) -> Result<Params, DocumentFault>
         threshold,
         turnaround,
         residence,
+        sync_timeout,
     })
 }
 

@@ -269,7 +269,7 @@ impl Network {
     }
 
     /// Whether the network is calm after these events: each link that then is up between two live systems loses
-    /// nothing, and its greatest delay is short enough for the threshold; and nothing ages for want of Sync, since
+    /// nothing, and its greatest delay is short enough for the threshold; and nothing lapses for want of Sync, since
     /// syncReceiptTimeout is off.
     pub fn is_calm(&self, events: &[Timed]) -> bool
         ensures { IsTrue result ↔ IsCalm self.now events.now }

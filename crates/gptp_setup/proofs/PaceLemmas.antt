@@ -1,10 +1,11 @@
--- How long what a port received stays there: within which limits, and how long where the interval is one of the
--- network.
-use Rattle.std.proofs.Common.{◌≡◌, ◌≤◌, ◌*◌, ℕ, ℤ, ap, arith}
+-- How long what a port received stays there, and how long the Slave port waits for time: within which limits, and how
+-- long where the interval is one of the network.
+use Rattle.std.proofs.Common.{◌≡◌, ◌<◌, ◌≤◌, ◌*◌, ℕ, ℤ, ap, arith}
 use Rattle.std.proofs.lemmas.Int.{ints, clamps}
-use Rattle.std.proofs.Math.Nat.{mul-le-mul_left}
-use Rattle.gptp_setup.specs.Intervals.{interval_of, IsLog, IsLogUpTo}
-use Rattle.gptp_setup.specs.Pace.{kept_log, longest_span, span_by, Pace}
+use Rattle.std.proofs.Math.Nat.{mul-le-mul, mul-le-mul_left}
+use Rattle.gptp_setup.specs.declared.setup.Params.{Params}
+use Rattle.gptp_setup.specs.Intervals.{interval_of, AreParams, IsLog, IsLogUpTo}
+use Rattle.gptp_setup.specs.Pace.{kept_log, lapse_span, longest_span, span_by, Pace}
 use Rattle.gptp_setup.proofs.IntervalLemmas.{interval_most, interval_positive, interval_rises}
 
 -- what counts of an interval is within the limits, and not above the largest
@@ -41,3 +42,15 @@ pub span_longest : (p : Pace) (log : ℤ) → IsLog p.largest → span_by p.para
 span_longest p log k =
     mul-le-mul_left p.params.timeout
     (interval_rises (kept_log p.largest log) p.largest (kept_is_log p.largest log k).most)
+
+-- the Slave port waits for time where there is a syncReceiptTimeout, and at most 160 seconds
+pub lapse_positive : (p : Params) → AreParams p → 0 < p.sync_timeout → 1 ≤ lapse_span p
+lapse_positive p k on =
+    let least : 1 ≤ p.sync_timeout = omega arith in
+    let product : 1 * 1 ≤ lapse_span p = mul-le-mul least (interval_positive p.sync k.sync) in
+    omega arith
+
+pub lapse_most : (p : Params) → AreParams p → lapse_span p ≤ 160000000000
+lapse_most p k =
+    let product : lapse_span p ≤ 10 * 16000000000 = mul-le-mul k.sync-timeout (interval_most p.sync k.sync) in
+    omega arith

@@ -24,12 +24,15 @@ use Rattle.gptp_system.specs.State.{SystemState, clock, due, held_at, is_capable
 use Rattle.gptp_system.specs.Selection.{SelectsIf}
 use Rattle.gptp_system.specs.Measuring.{answering_done, down, owed_at, owes, owing, responded}
 use Rattle.gptp_system.specs.Announcing.{HearsQualified, aged_at, compared, is_taken, with_priority}
-use Rattle.gptp_system.specs.Syncing.{HearsFollowUpIf, HearsSyncIf, KeepsIf, KnowsIf, RelaysIf, SyncsIf, delay_at, is_followed, leads, own_time, rate_at, restarted, said_on, stopped, telling, told_by}
+use Rattle.gptp_system.specs.Lapse.{lapsed}
+use Rattle.gptp_system.specs.Syncing.{HearsFollowUpIf, HearsSyncIf, KeepsIf, KnowsBy, KnowsIf, RelaysBy, RelaysIf, SyncsIf, delay_at, is_followed, leads, own_time, rate_at, restarted, said_on, stopped, telling, told_by}
 use Rattle.gptp_system.specs.Steps.{Expires as TimerExpires, HearsFrame, HearsMessage}
 use Rattle.gptp_system.specs.Input.{Input, IsTimely, Steps, PortUp, PortDown, Frame, Expires, Priority}
 use Rattle.gptp_system.specs.Facts.{AreShown, IsAtRest}
 use Rattle.gptp_system.specs.Touch.{Touch, Hear, Tick, Grow, Disable, Other, IsFrameSeenAs, IsSeenAs, IsTurn}
 use Rattle.gptp_system.specs.Reacts.{Reacts}
+use Rattle.gptp_setup.specs.Pace.{has_sync_timeout}
+use Rattle.gptp_system.proofs.LapseLemmas.{lapsed_mids}
 use Rattle.gptp_system.proofs.TouchedLemmas.{compared_same}
 use Rattle.gptp_system.specs.Messages.{Announcing, Answering, Telling}
 use Rattle.gptp_system.proofs.SendLemmas.{responds_answer, syncs_tell}
@@ -53,10 +56,10 @@ later_on s t u a b = record {
 }
 
 later_restarted : (now : ℕ) (s : SystemState) → Later s (restarted now s)
-later_restarted now s = later_apart s s.sync_in s.known s.offset _ s.relay
+later_restarted now s = later_apart s s.sync_in s.known s.offset _ s.relay s.lapse
 
 later_stopped : (s : SystemState) → Later s (stopped s)
-later_stopped s = later_apart s s.sync_in s.known s.offset s.sync None
+later_stopped s = later_apart s s.sync_in s.known s.offset s.sync None s.lapse
 
 telling_other : (told : Relayed) (s : SystemState) (sends : List Sending) → sends ≡ told_by told s → AreOther sends
 telling_other told s sends is =
@@ -69,7 +72,7 @@ telling_other told s sends is =
 keeps_if : (b : Bool) (head : Head) (now : ℕ) (s s' : SystemState) (sends : List Sending) (answer : Answer) → IsAtRest s
     → KeepsIf b head now s s' sends answer → Concludes s now s' sends
 keeps_if true head now s s' sends answer r k =
-    becomes now s _ s' sends r (later_apart s _ s.known s.offset s.sync s.relay) k.becomes
+    becomes now s _ s' sends r (later_apart s _ s.known s.offset s.sync s.relay s.lapse) k.becomes
 keeps_if false head now s s' sends answer r k = becomes now s s s' sends r (later_itself s) k.becomes
 
 hears_sync : (b : Bool) (p : ℕ) (head : Head) (now : ℕ) (s s' : SystemState) (sends : List Sending) (answer : Answer)
@@ -78,14 +81,22 @@ hears_sync : (b : Bool) (p : ℕ) (head : Head) (now : ℕ) (s s' : SystemState)
 hears_sync false p head now s s' sends answer r k = becomes now s s s' sends r (later_itself s) k.becomes
 hears_sync true p head now s s' sends answer r k = keeps_if (is_followed p head s) head now s s' sends answer r k
 
+knows_by : (b : Bool) (info : SyncInfo) (delay rate : ℤ) (now : ℕ) (s s' : SystemState) (sends : List Sending)
+    (answer : Answer) → IsAtRest s
+    → KnowsBy b info delay rate now s s' sends answer → Concludes s now s' sends
+knows_by true info delay rate now s s' sends answer r k =
+    becomes now s _ s' sends r (later_apart s s.sync_in _ _ s.sync _ _) k.becomes
+knows_by false info delay rate now s s' sends answer r (inl k) =
+    becomes now s _ s' sends r (later_apart s s.sync_in _ _ s.sync _ s.lapse) k.becomes
+knows_by false info delay rate now s s' sends answer r (inr k) =
+    becomes now s _ s' sends r (later_apart s _ _ _ s.sync s.relay s.lapse) k.becomes
+
 knows_if : (said : Option SyncInfo) (delay rate : ℤ) (now : ℕ) (s s' : SystemState) (sends : List Sending)
     (answer : Answer) → IsAtRest s
     → KnowsIf said delay rate now s s' sends answer → Concludes s now s' sends
 knows_if None delay rate now s s' sends answer r k = becomes now s s s' sends r (later_itself s) k.becomes
-knows_if (Some info) delay rate now s s' sends answer r (inl k) =
-    becomes now s _ s' sends r (later_apart s s.sync_in _ _ s.sync _) k.becomes
-knows_if (Some info) delay rate now s s' sends answer r (inr k) =
-    becomes now s _ s' sends r (later_apart s _ _ _ s.sync s.relay) k.becomes
+knows_if (Some info) delay rate now s s' sends answer r k =
+    knows_by (has_sync_timeout s.params) info delay rate now s s' sends answer r k
 
 hears_follow_up : (b : Bool) (p : ℕ) (m : FollowUp) (now : ℕ) (s s' : SystemState) (sends : List Sending)
     (answer : Answer) → IsAtRest s
@@ -104,16 +115,27 @@ syncs_if true now s s' sends r k =
     (telling_other (own_time k.stamp k.rest) s sends k.sends_are))
 syncs_if false now s s' sends r k = becomes now s (restarted now s) s' sends r (later_restarted now s) k
 
+-- all Master ports tell time at the Relay timer
+relayed_on : (told : Relayed) (now : ℕ) (s s' : SystemState) (sends : List Sending) → IsAtRest s
+    → s' ≡ telling (stopped s) → sends ≡ told_by told s → Concludes s now s' sends
+relayed_on told now s s' sends r is sent =
+    subst (λ x. Concludes s now x sends) (sym is)
+    (rests now s (telling (stopped s)) sends r
+    (later_on s (stopped s) (telling (stopped s)) (later_stopped s) (later_telling (stopped s)))
+    (telling_other told s sends sent))
+
+relays_by : (b : Bool) (info : SyncInfo) (now : ℕ) (s s' : SystemState) (sends : List Sending) → IsAtRest s
+    → RelaysBy b info now s s' sends
+    → Concludes s now s' sends
+relays_by true info now s s' sends r k = relayed_on k.told now s s' sends r k.state k.sends_are
+relays_by false info now s s' sends r (inl k) = relayed_on _ now s s' sends r k.state k.sends_are
+relays_by false info now s s' sends r (inr k) = becomes now s (stopped s) s' sends r (later_stopped s) k.becomes
+
 relays_if : (known : Option SyncInfo) (now : ℕ) (s s' : SystemState) (sends : List Sending) → IsAtRest s
     → RelaysIf known now s s' sends
     → Concludes s now s' sends
 relays_if None now s s' sends r k = becomes now s (stopped s) s' sends r (later_stopped s) k
-relays_if (Some info) now s s' sends r (inl k) =
-    subst (λ x. Concludes s now x sends) (sym k.state)
-    (rests now s (telling (stopped s)) sends r
-    (later_on s (stopped s) (telling (stopped s)) (later_stopped s) (later_telling (stopped s)))
-    (telling_other _ s sends k.sends_are))
-relays_if (Some info) now s s' sends r (inr k) = becomes now s (stopped s) s' sends r (later_stopped s) k.becomes
+relays_if (Some info) now s s' sends r k = relays_by (has_sync_timeout s.params) info now s s' sends r k
 
 -- ---- Announces
 
@@ -250,6 +272,13 @@ expires timers.Sync now t s s' sends shown r is past k =
     by_other (λ touch. touch ≡ Other) s now s' sends refl (syncs_if (leads s) now s s' sends r k)
 expires timers.Relay now t s s' sends shown r is past k =
     by_other (λ touch. touch ≡ Other) s now s' sends refl (relays_if s.known now s s' sends r k)
+expires timers.Lapse now t s s' sends shown r is past k =
+    let (touch, seen, mids) = lapsed_mids s now in
+    record {
+      touch = touch;
+      seen = seen;
+      reacts = joined s touch now (lapsed s) s' sends mids (selects_concludes now (lapsed s) s' sends k);
+    }
 
 -- every step answers a touch
 pub steps_react : (input : Input) (now : ℕ) (s s' : SystemState) (sends : List Sending) (answer : Answer)

@@ -5,6 +5,7 @@ use Rattle.gptp_system.specs.declared.port.Port.{Port}
 use Rattle.gptp_setup.specs.declared.timer.Timer.{Timer}
 use Rattle.gptp_setup.specs.declared.timer.Timer.TheVariants as timers
 use Rattle.gptp_system.specs.State.{SystemState, on_port, with_peer}
+use Rattle.gptp_system.specs.Lapse.{lapsed}
 use Rattle.gptp_system.specs.Measuring.{turned}
 use Rattle.gptp_system.specs.Reach.{Leaves}
 use Rattle.gptp_system.proofs.DueLemmas.{CoversSelection, Spares, apart_leaves, held_leaves, leaves_on, on_port_leaves}
@@ -27,9 +28,12 @@ calm_on touched s t u a b = record {
 pub calm_apart : (touched : Timer → Bool) (s t : SystemState) → t.ports ≡ s.ports → t.held ≡ s.held
     → t.params ≡ s.params → t.largest ≡ s.largest → (touched timers.Sync ≡ false → t.sync ≡ s.sync)
     → (touched timers.Relay ≡ false → t.relay ≡ s.relay)
+    → (touched timers.Lapse ≡ false → t.lapse ≡ s.lapse)
     → Calm touched s t
-calm_apart touched s t ports held params largest sync relay =
-    record { leaves = apart_leaves touched s t ports held params largest sync relay; counts = counted_same s t ports }
+calm_apart touched s t ports held params largest sync relay lapse = record {
+  leaves = apart_leaves touched s t ports held params largest sync relay lapse;
+  counts = counted_same s t ports;
+}
 
 pub calm_port : (touched : Timer → Bool) (p : ℕ) (f : Port → Port) (s : SystemState) → Spares touched p f
     → ((q : Port) → (f q).announces ≡ q.announces) → ((q : Port) → (f q).syncs ≡ q.syncs)
@@ -63,3 +67,10 @@ pub turned_calm : (touched : Timer → Bool) → CoversSelection touched → (p 
 turned_calm touched covers p step s =
     calm_on touched s (with_peer p step s) (turned p step s) (calm_peer touched p step s)
     (calm_held touched covers (with_peer p step s) (turned p step s).held)
+
+pub lapsed_calm : (touched : Timer → Bool) → CoversSelection touched → (s : SystemState) → Calm touched s (lapsed s)
+lapsed_calm touched covers s =
+    let t : SystemState = record s { held = (lapsed s).held } in
+    calm_on touched s t (lapsed s) (calm_held touched covers s (lapsed s).held)
+    (calm_apart touched t (lapsed s) refl refl refl refl (λ off. refl) (λ off. refl)
+    (λ off. absurd (let on = covers timers.Lapse off in cc)))

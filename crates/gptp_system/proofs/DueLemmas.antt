@@ -75,22 +75,25 @@ on_port_leaves touched p f k s (timers.Respond n) off =
     (λ q here. k.respond (subst (λ m. touched (timers.Respond m) ≡ false) here off) q)
 on_port_leaves touched p f k s timers.Sync off = refl
 on_port_leaves touched p f k s timers.Relay off = refl
+on_port_leaves touched p f k s timers.Lapse off = refl
 
 -- ---- all ports
 
--- two timers of the system may differ
+-- the timers of the system may differ
 pub apart_leaves : (touched : Timer → Bool) (s s' : SystemState) → s'.ports ≡ s.ports → s'.held ≡ s.held
     → s'.params ≡ s.params → s'.largest ≡ s.largest
     → (touched timers.Sync ≡ false → s'.sync ≡ s.sync)
     → (touched timers.Relay ≡ false → s'.relay ≡ s.relay)
+    → (touched timers.Lapse ≡ false → s'.lapse ≡ s.lapse)
     → Leaves touched s s'
-apart_leaves touched s s' ports held params largest sync relay (timers.Announce n) off = rw (ports, held) refl
-apart_leaves touched s s' ports held params largest sync relay (timers.Age n) off =
+apart_leaves touched s s' ports held params largest sync relay lapse (timers.Announce n) off = rw (ports, held) refl
+apart_leaves touched s s' ports held params largest sync relay lapse (timers.Age n) off =
     rw (ports, held, params, largest) refl
-apart_leaves touched s s' ports held params largest sync relay (timers.Pdelay n) off = rw ports refl
-apart_leaves touched s s' ports held params largest sync relay (timers.Respond n) off = rw ports refl
-apart_leaves touched s s' ports held params largest sync relay timers.Sync off = rw (sync off) refl
-apart_leaves touched s s' ports held params largest sync relay timers.Relay off = relay off
+apart_leaves touched s s' ports held params largest sync relay lapse (timers.Pdelay n) off = rw ports refl
+apart_leaves touched s s' ports held params largest sync relay lapse (timers.Respond n) off = rw ports refl
+apart_leaves touched s s' ports held params largest sync relay lapse timers.Sync off = rw (sync off) refl
+apart_leaves touched s s' ports held params largest sync relay lapse timers.Relay off = relay off
+apart_leaves touched s s' ports held params largest sync relay lapse timers.Lapse off = lapse off
 
 pub leaves_on : (touched : Timer → Bool) (s t u : SystemState) → Leaves touched s t → Leaves touched t u
     → Leaves touched s u
@@ -110,6 +113,7 @@ held_leaves touched covers s hs (timers.Pdelay n) off = refl
 held_leaves touched covers s hs (timers.Respond n) off = refl
 held_leaves touched covers s hs timers.Sync off = refl
 held_leaves touched covers s hs timers.Relay off = refl
+held_leaves touched covers s hs timers.Lapse off = refl
 
 pub selects_leaves : (touched : Timer → Bool) → CoversSelection touched → (now : ℕ) (t u : SystemState)
     (sends : List Sending) → Selects now t u sends → Leaves touched t u
@@ -126,6 +130,7 @@ selects_leaves touched covers now t u sends k = subst (Leaves touched t) (sym k.
         (all_announced-map (λ (q : Port). q.respond) now (λ q. refl) (fresh_ports k.vector t) t.ports) n
     go timers.Sync off = refl
     go timers.Relay off = absurd (let on = covers timers.Relay off in cc)
+    go timers.Lapse off = absurd (let on = covers timers.Lapse off in cc)
 
 pub telling_leaves : (touched : Timer → Bool) (s : SystemState) → Leaves touched s (telling s)
 telling_leaves touched s (timers.Announce n) off =
@@ -143,3 +148,4 @@ telling_leaves touched s (timers.Respond n) off =
     (counted-map (λ (q : Port). q.respond) (λ q. refl) s.held s.ports) n
 telling_leaves touched s timers.Sync off = refl
 telling_leaves touched s timers.Relay off = refl
+telling_leaves touched s timers.Lapse off = refl

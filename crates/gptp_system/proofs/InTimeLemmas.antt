@@ -17,13 +17,14 @@ use Rattle.gptp_system.specs.declared.port.Port.{Port}
 use Rattle.gptp_system.specs.declared.sending.Sending.{Sending}
 use Rattle.gptp_setup.specs.declared.timer.Timer.TheVariants as timers
 use Rattle.gptp_setup.specs.Intervals.{interval_of}
+use Rattle.gptp_setup.specs.Pace.{lapse_span}
 use Rattle.gptp_system.specs.State.{SystemState, clock, is_mine}
 use Rattle.gptp_system.specs.Input.{Input, IsTimely, Steps, PortUp, PortDown, Frame, Expires, Priority}
 use Rattle.gptp_system.specs.Facts.{AreShown, IsAtRest, Keeps}
 use Rattle.gptp_system.specs.Touch.{Touch, Hear, Tick, Grow, Enable, Disable, Other, IsSeenAs, Mid}
 use Rattle.gptp_system.specs.Reacts.{IsKept, PlaceReacts, PortEnds, Tells}
 use Rattle.gptp_system.specs.Measures.{IsPartAfter, Part, only_at, part_answered, part_asked, part_down, part_heard, part_of}
-use Rattle.gptp_system.specs.Times.{IsInTime, IsPortInTime, RunsOn}
+use Rattle.gptp_system.specs.Times.{IsInTime, IsPortInTime, RunsOn, Waits, WaitsAnew}
 use Rattle.gptp_system.proofs.AnswerLemmas.{steps_react}
 use Rattle.gptp_system.proofs.ReactLemmas.{Answers}
 use Rattle.gptp_system.proofs.MeasureLemmas.{steps_measure}
@@ -145,6 +146,7 @@ part_in_time s now (Expires (timers.Announce p)) n x x' k is = same_in_time s no
 part_in_time s now (Expires (timers.Age p)) n x x' k is = same_in_time s now x x' k is
 part_in_time s now (Expires timers.Sync) n x x' k is = same_in_time s now x x' k is
 part_in_time s now (Expires timers.Relay) n x x' k is = same_in_time s now x x' k is
+part_in_time s now (Expires timers.Lapse) n x x' k is = same_in_time s now x x' k is
 part_in_time s now (Priority value) n x x' k is = same_in_time s now x x' k is
 
 -- ---- all steps
@@ -158,6 +160,7 @@ stays_in_time input now s s' sends answer calm shown rest k step = record {
       (steps_measure input now s s' sends answer step i q' there);
   sync = go runs.sync;
   relay = λ t is. relay t (runs.relay t is);
+  lapse = λ t is. lapse t (runs.lapse t is);
 }
   where
     reacts : Answers (IsSeenAs s input) s now s' sends
@@ -177,6 +180,11 @@ stays_in_time input now s s' sends answer calm shown rest k step = record {
     relay : (t : ℕ) → (s.relay ≡ Some t) ⊎ (t ≡ now + s.params.residence) → t ≤ now + s'.params.residence
     relay t (inl before) = rw kept.params (k.relay t before)
     relay t (inr new) = rw (kept.params, new) (exactly (now + s.params.residence) (now + s.params.residence) refl)
+
+    lapse : (t : ℕ) → Waits s s' t ⊎ WaitsAnew s now t → t ≤ now + lapse_span s'.params
+    lapse t (inl on) = rw kept.params (k.lapse t on.before)
+    lapse t (inr anew) =
+        rw (kept.params, anew.moment) (exactly (now + lapse_span s.params) (now + lapse_span s.params) refl)
 
     place : (i : ℕ) (h' : Held) (q' : Port) → PlaceReacts s reacts.touch now s' sends i h' q'
         → ((q : Port) × (slice_get s.ports i ≡ Some q) × IsPartAfter s now input (suc i) (part_of q) (part_of q'))
@@ -245,4 +253,5 @@ later_in_time s now t later k = record {
       };
   sync = let a = k.sync in omega arith;
   relay = λ u is. let a = k.relay u is in omega arith;
+  lapse = λ u is. let a = k.lapse u is in omega arith;
 }

@@ -118,6 +118,7 @@ timer_own (timers.Pdelay p) s of = by (stops_at p s)
 timer_own (timers.Respond p) s of = of
 timer_own timers.Sync s of = tt
 timer_own timers.Relay s of = tt
+timer_own timers.Lapse s of = tt
 
 -- what selection can't change is no Age timer
 not_age : (p : ℕ) (timer : Timer) → is_selected timer ≡ false → same_timer (timers.Age p) timer ≡ false
@@ -127,6 +128,17 @@ not_age p (timers.Pdelay q) off = refl
 not_age p (timers.Respond q) off = refl
 not_age p timers.Sync off = refl
 not_age p timers.Relay off = absurd cc
+not_age p timers.Lapse off = absurd cc
+
+-- nor is it the Lapse timer
+not_lapse : (timer : Timer) → is_selected timer ≡ false → same_timer timers.Lapse timer ≡ false
+not_lapse (timers.Announce q) off = refl
+not_lapse (timers.Age q) off = refl
+not_lapse (timers.Pdelay q) off = refl
+not_lapse (timers.Respond q) off = refl
+not_lapse timers.Sync off = refl
+not_lapse timers.Relay off = refl
+not_lapse timers.Lapse off = absurd cc
 
 -- what is touched is all that can change, and the timer itself
 timer_covers : (timer : Timer) (s : SystemState) (other : Timer) → holds (timer_touches timer s) other ≡ false
@@ -143,6 +155,7 @@ timer_covers (timers.Pdelay p) s other off = by (stops_at p s) refl off
 timer_covers (timers.Respond p) s other off = (off, off)
 timer_covers timers.Sync s other off = (off, off)
 timer_covers timers.Relay s other off = (off, off)
+timer_covers timers.Lapse s other off = (off, not_lapse other off)
 
 pub timer_touches_these : (timer : Timer) (now : ℕ) (s s' : SystemState) (sends : List Sending) (touched : Touched)
     → IsTimerOf s timer → TimerExpires timer now s s' sends → touched ≡ timer_touches timer s

@@ -9,6 +9,7 @@ pub mod MeasuringLemmas
 pub mod PortLemmas
 pub mod FactLemmas
 pub mod TouchedLemmas
+pub mod LapseLemmas
 pub mod StepLemmas
 pub mod RestLemmas
 pub mod AgainLemmas

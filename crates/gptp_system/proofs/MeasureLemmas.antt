@@ -21,7 +21,9 @@ use Rattle.gptp_system.specs.State.{SystemState, held_at, is_capable_at, local_t
 use Rattle.gptp_system.specs.Selection.{Becomes, Selects, SelectsIf, announced, choosing, fresh_ports}
 use Rattle.gptp_system.specs.Measuring.{Turns, TurnsAndAsks, TurnsIf, answering_done, asking, down, is_turned, owes, owing, silenced, turned}
 use Rattle.gptp_system.specs.Announcing.{aged_at, announced_at, compared, is_taken, with_priority}
-use Rattle.gptp_system.specs.Syncing.{HearsFollowUpIf, HearsSyncIf, KeepsIf, KnowsIf, RelaysIf, SyncsIf, delay_at, forgetting, is_followed, keeping, knowing, leads, offset_of, rate_at, restarted, said_on, stopped, telling}
+use Rattle.gptp_setup.specs.Pace.{has_sync_timeout}
+use Rattle.gptp_system.specs.Lapse.{lapsed}
+use Rattle.gptp_system.specs.Syncing.{HearsFollowUpIf, HearsSyncIf, KeepsIf, KnowsBy, KnowsIf, RelaysBy, RelaysIf, SyncsIf, delay_at, forgetting, is_followed, keeping, knowing, leads, offset_of, rate_at, refreshing, restarted, said_on, stopped, telling}
 use Rattle.gptp_system.specs.Steps.{Expires as TimerExpires, HearsFrame, HearsMessage}
 use Rattle.gptp_system.specs.Input.{Input, Steps, PortUp, PortDown, Frame, Expires, Priority}
 use Rattle.gptp_system.specs.Facts.{Keeps}
@@ -164,15 +166,24 @@ hears_sync true p head now s s' sends answer h = go (is_followed p head s) h
     go true k = becomes (λ n x. x) s (keeping head now s) s' sends (still_ports s (keeping head now s) refl) k.becomes
     go false k = becomes (λ n x. x) s s s' sends (still_ports s s refl) k.becomes
 
+knows_by : (b : Bool) (info : SyncInfo) (delay rate : ℤ) (now : ℕ) (s s' : SystemState) (sends : List Sending)
+    (answer : Answer)
+    → KnowsBy b info delay rate now s s' sends answer → Still s s'
+knows_by true info delay rate now s s' sends answer k =
+    let t = refreshing info k.offset now s in
+    becomes (λ n x. x) s t s' sends (still_ports s t refl) k.becomes
+knows_by false info delay rate now s s' sends answer (inl k) =
+    let t = knowing info (offset_of info delay rate) now s in
+    becomes (λ n x. x) s t s' sends (still_ports s t refl) k.becomes
+knows_by false info delay rate now s s' sends answer (inr k) =
+    becomes (λ n x. x) s (forgetting s) s' sends (still_ports s (forgetting s) refl) k.becomes
+
 knows_if : (said : Option SyncInfo) (delay rate : ℤ) (now : ℕ) (s s' : SystemState) (sends : List Sending)
     (answer : Answer)
     → KnowsIf said delay rate now s s' sends answer → Still s s'
 knows_if None delay rate now s s' sends answer k = becomes (λ n x. x) s s s' sends (still_ports s s refl) k.becomes
-knows_if (Some info) delay rate now s s' sends answer (inl k) =
-    let t = knowing info (offset_of info delay rate) now s in
-    becomes (λ n x. x) s t s' sends (still_ports s t refl) k.becomes
-knows_if (Some info) delay rate now s s' sends answer (inr k) =
-    becomes (λ n x. x) s (forgetting s) s' sends (still_ports s (forgetting s) refl) k.becomes
+knows_if (Some info) delay rate now s s' sends answer k =
+    knows_by (has_sync_timeout s.params) info delay rate now s s' sends answer k
 
 hears_follow_up : (b : Bool) (p : ℕ) (m : FollowUp) (now : ℕ) (s s' : SystemState) (sends : List Sending)
     (answer : Answer)
@@ -190,12 +201,17 @@ syncs_if true now s s' sends k = tells_on s (restarted now s) s' (still_ports s 
 syncs_if false now s s' sends k =
     becomes (λ n x. x) s (restarted now s) s' sends (still_ports s (restarted now s) refl) k
 
+relays_by : (b : Bool) (info : SyncInfo) (now : ℕ) (s s' : SystemState) (sends : List Sending)
+    → RelaysBy b info now s s' sends → Still s s'
+relays_by true info now s s' sends k = tells_on s (stopped s) s' (still_ports s (stopped s) refl) k.state
+relays_by false info now s s' sends (inl k) = tells_on s (stopped s) s' (still_ports s (stopped s) refl) k.state
+relays_by false info now s s' sends (inr k) =
+    becomes (λ n x. x) s (stopped s) s' sends (still_ports s (stopped s) refl) k.becomes
+
 relays_if : (known : Option SyncInfo) (now : ℕ) (s s' : SystemState) (sends : List Sending)
     → RelaysIf known now s s' sends → Still s s'
 relays_if None now s s' sends k = becomes (λ n x. x) s (stopped s) s' sends (still_ports s (stopped s) refl) k
-relays_if (Some info) now s s' sends (inl k) = tells_on s (stopped s) s' (still_ports s (stopped s) refl) k.state
-relays_if (Some info) now s s' sends (inr k) =
-    becomes (λ n x. x) s (stopped s) s' sends (still_ports s (stopped s) refl) k.becomes
+relays_if (Some info) now s s' sends k = relays_by (has_sync_timeout s.params) info now s s' sends k
 
 -- ---- all steps
 
@@ -264,6 +280,7 @@ expires (timers.Respond p) now s s' sends k =
     subst (Parts (only_at p part_answered) s) (sym k.state) (on_port_parts p answering_done part_answered s (λ q. refl))
 expires timers.Sync now s s' sends k = syncs_if (leads s) now s s' sends k
 expires timers.Relay now s s' sends k = relays_if s.known now s s' sends k
+expires timers.Lapse now s s' sends k = selects_parts now (lapsed s) s' sends k
 
 pub steps_measure : (input : Input) (now : ℕ) (s s' : SystemState) (sends : List Sending) (answer : Answer)
     → Steps input now s s' sends answer → Measures s now input s'

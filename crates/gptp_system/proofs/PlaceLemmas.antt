@@ -1,5 +1,5 @@
 -- What stands at a port's number, and lists with that changed.
-use Rattle.std.proofs.Common.{◌≡◌, ℕ, zero, suc, ◌-◌, ◌<◌, ◌≤◌, List, [], ◌∷◌, length, Some, refl, ap, arith}
+use Rattle.std.proofs.Common.{◌≡◌, ◌⊎◌, inl, inr, ℕ, zero, suc, ◌-◌, ◌<◌, ◌≤◌, List, [], ◌∷◌, length, Some, refl, ap, arith}
 use Rattle.std.specs.Prelude.{slice_get, slice_set, slice_index_or}
 use Rattle.std.specs.List.{AllByRecursion}
 use Rattle.gptp_system.specs.State.{number, change, change_at}
@@ -26,6 +26,19 @@ pub change_is : {X : Type 0} (f : X → X) (xs : List X) (p : ℕ) (d : X) → 1
 change_is f xs zero d least most = absurd (omega arith)
 change_is f xs (suc i) d least most = let place : suc i - 1 ≡ i = omega arith in
     rw place (set_at f xs i d (omega arith))
+
+-- where no port has the number nothing changes
+change_at_past : {X : Type 0} (f : X → X) (xs : List X) (i : ℕ) → length xs ≤ i → xs ≡ change_at f i xs
+change_at_past f [] i past = refl
+change_at_past f (x ∷ xs) zero past = absurd (omega arith)
+change_at_past {X} f (x ∷ xs) (suc i) past = ap (λ (rest : List X). x ∷ rest) (change_at_past f xs i (omega arith))
+
+pub change_past : {X : Type 0} (f : X → X) (xs : List X) (p n : ℕ) → n ≡ p
+    → ((1 ≤ n) × (length xs < n)) ⊎ (n < 1)
+    → xs ≡ change f p xs
+change_past f xs zero n is off = refl
+change_past f xs (suc i) n is (inl (least, past)) = change_at_past f xs i (omega (arith, is))
+change_past f xs (suc i) n is (inr few) = absurd (omega (arith, is))
 
 -- what holds of all members and of what one of them becomes holds of all again
 pub all_change_at : {X : Type 0} (P : X → Type 0) (f : X → X) (i : ℕ) (xs : List X) → ((x : X) → P x → P (f x))

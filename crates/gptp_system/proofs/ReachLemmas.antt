@@ -21,15 +21,17 @@ use Rattle.gptp_system.specs.declared.sending.Sending.{Sending}
 use Rattle.gptp_setup.specs.declared.timer.Timer.{Timer}
 use Rattle.gptp_setup.specs.declared.timer.Timer.TheVariants as timers
 use Rattle.gptp_setup.specs.Intervals.{interval_of}
+use Rattle.gptp_setup.specs.Pace.{has_sync_timeout}
 use Rattle.gptp_system.specs.State.{SystemState, held_at, is_capable_at, local_time, number, on_port, own, with_peer}
 use Rattle.gptp_system.specs.Sends.{with_send}
 use Rattle.gptp_system.specs.Selection.{Becomes, Selects, SelectsIf, announced}
 use Rattle.gptp_system.specs.Measuring.{responded, Turns, TurnsAndAsks, TurnsIf, answering_done, asking, down, is_turned, owed_at, owes, owing, request_of, silenced, turned}
 use Rattle.gptp_system.specs.Announcing.{aged_at, announced_at, compared, is_taken, with_priority}
-use Rattle.gptp_system.specs.Syncing.{HearsFollowUpIf, HearsSyncIf, KeepsIf, KnowsIf, RelaysIf, SyncsIf, delay_at, is_followed, leads, own_time, rate_at, restarted, said_on, stopped, telling, told_by}
+use Rattle.gptp_system.specs.Lapse.{lapsed}
+use Rattle.gptp_system.specs.Syncing.{HearsFollowUpIf, HearsSyncIf, KeepsIf, KnowsBy, KnowsIf, RelaysBy, RelaysIf, SyncsIf, delay_at, is_followed, leads, own_time, rate_at, restarted, said_on, stopped, telling, told_by}
 use Rattle.gptp_system.specs.Steps.{Expires as TimerExpires, HearsFrame, HearsMessage}
 use Rattle.gptp_system.specs.Input.{Input, Steps, PortUp, PortDown, Frame, Expires, Priority}
-use Rattle.gptp_system.specs.Reach.{AreAt, AreAtPorts, IsWithin, Leaves, asking_reach, is_selected, is_touched, is_touched_asking, is_touched_by, reach, same_timer, stops_at, timer_reach, type_reach}
+use Rattle.gptp_system.specs.Reach.{AreAt, AreAtPorts, IsWithin, Leaves, asking_reach, is_of_time, is_selected, is_touched, is_touched_asking, is_touched_by, reach, same_timer, stops_at, timer_reach, type_reach}
 use Rattle.gptp_system.proofs.ChangedLemmas.{change-length}
 use Rattle.gptp_system.proofs.DueLemmas.{CoversSelection, Spares, leaves_on, on_port_leaves, selects_leaves, telling_leaves}
 use Rattle.gptp_system.specs.Counters.{AreCounted}
@@ -38,7 +40,7 @@ use Rattle.gptp_system.proofs.CounterLemmas.{announced_counted, counted_more, co
 use Rattle.gptp_system.proofs.SendLemmas.{responds_answer}
 use Rattle.gptp_system.proofs.TypeLemmas.{type_is, type_number}
 use Rattle.gptp_system.proofs.WithinLemmas.{AreFew, announcement_few, at_ports, one_more, responds_few, selects_few, silent, tells_few}
-use Rattle.gptp_system.proofs.CalmLemmas.{Calm, calm_apart, calm_held, calm_on, calm_peer, calm_port, turned_calm}
+use Rattle.gptp_system.proofs.CalmLemmas.{Calm, calm_apart, calm_held, calm_on, calm_peer, calm_port, lapsed_calm, turned_calm}
 
 -- ---- a step
 
@@ -59,7 +61,8 @@ becomes r touched s t s' sends calm b = record {
 rests : (r : Reach) (touched : Timer → Bool) (s s' : SystemState) (sends : List Sending) → Becomes s s' sends
     → Goes r touched s s' sends
 rests r touched s s' sends b =
-    becomes r touched s s s' sends (calm_apart touched s s refl refl refl refl (λ off. refl) (λ off. refl)) b
+    becomes r touched s s s' sends
+    (calm_apart touched s s refl refl refl refl (λ off. refl) (λ off. refl) (λ off. refl)) b
 
 -- what is changed before it is selected keeps all ports and spares the other timers
 selects : (touched : Timer → Bool) → CoversSelection touched → (now : ℕ) (s t u : SystemState) (sends : List Sending)
@@ -230,7 +233,8 @@ keeps_if : (b : Bool) (r : Reach) (touched : Timer → Bool) (head : Head) (now 
     (sends : List Sending) (answer : Answer)
     → KeepsIf b head now s s' sends answer → Goes r touched s s' sends
 keeps_if true r touched head now s s' sends answer k =
-    becomes r touched s _ s' sends (calm_apart touched s _ refl refl refl refl (λ off. refl) (λ off. refl)) k.becomes
+    becomes r touched s _ s' sends
+    (calm_apart touched s _ refl refl refl refl (λ off. refl) (λ off. refl) (λ off. refl)) k.becomes
 keeps_if false r touched head now s s' sends answer k = rests r touched s s' sends k.becomes
 
 hears_sync : (b : Bool) (r : Reach) (touched : Timer → Bool) (p : ℕ) (head : Head) (now : ℕ) (s s' : SystemState)
@@ -240,31 +244,43 @@ hears_sync false r touched p head now s s' sends answer k = rests r touched s s'
 hears_sync true r touched p head now s s' sends answer k =
     keeps_if (is_followed p head s) r touched head now s s' sends answer k
 
+knows_by : (b : Bool) (info : SyncInfo) (delay rate : ℤ) (now : ℕ) (s s' : SystemState) (sends : List Sending)
+    (answer : Answer)
+    → KnowsBy b info delay rate now s s' sends answer
+    → Goes reaches.Nothing is_of_time s s' sends
+knows_by true info delay rate now s s' sends answer k =
+    becomes reaches.Nothing is_of_time s _ s' sends
+    (calm_apart is_of_time s _ refl refl refl refl (λ off. refl) (λ off. absurd cc) (λ off. absurd cc)) k.becomes
+knows_by false info delay rate now s s' sends answer (inl k) =
+    becomes reaches.Nothing is_of_time s _ s' sends
+    (calm_apart is_of_time s _ refl refl refl refl (λ off. refl) (λ off. absurd cc) (λ off. refl)) k.becomes
+knows_by false info delay rate now s s' sends answer (inr k) =
+    becomes reaches.Nothing is_of_time s _ s' sends
+    (calm_apart is_of_time s _ refl refl refl refl (λ off. refl) (λ off. refl) (λ off. refl)) k.becomes
+
 knows_if : (said : Option SyncInfo) (delay rate : ℤ) (now : ℕ) (s s' : SystemState) (sends : List Sending)
     (answer : Answer)
     → KnowsIf said delay rate now s s' sends answer
-    → Goes reaches.Nothing (same_timer timers.Relay) s s' sends
-knows_if None delay rate now s s' sends answer k = rests reaches.Nothing (same_timer timers.Relay) s s' sends k.becomes
-knows_if (Some info) delay rate now s s' sends answer (inl k) =
-    becomes reaches.Nothing (same_timer timers.Relay) s _ s' sends
-    (calm_apart (same_timer timers.Relay) s _ refl refl refl refl (λ off. refl) (λ off. absurd cc)) k.becomes
-knows_if (Some info) delay rate now s s' sends answer (inr k) =
-    becomes reaches.Nothing (same_timer timers.Relay) s _ s' sends
-    (calm_apart (same_timer timers.Relay) s _ refl refl refl refl (λ off. refl) (λ off. refl)) k.becomes
+    → Goes reaches.Nothing is_of_time s s' sends
+knows_if None delay rate now s s' sends answer k = rests reaches.Nothing is_of_time s s' sends k.becomes
+knows_if (Some info) delay rate now s s' sends answer k =
+    knows_by (has_sync_timeout s.params) info delay rate now s s' sends answer k
 
 hears_follow_up : (b : Bool) (p : ℕ) (m : FollowUp) (now : ℕ) (s s' : SystemState) (sends : List Sending)
     (answer : Answer)
-    → HearsFollowUpIf b p m now s s' sends answer → Goes reaches.Nothing (same_timer timers.Relay) s s' sends
+    → HearsFollowUpIf b p m now s s' sends answer → Goes reaches.Nothing is_of_time s s' sends
 hears_follow_up false p m now s s' sends answer k =
-    rests reaches.Nothing (same_timer timers.Relay) s s' sends k.becomes
+    rests reaches.Nothing is_of_time s s' sends k.becomes
 hears_follow_up true p m now s s' sends answer k =
     knows_if (said_on p m s) (delay_at s p) (rate_at s p) now s s' sends answer k
 
 restarted_calm : (now : ℕ) (s : SystemState) → Calm (same_timer timers.Sync) s (restarted now s)
-restarted_calm now s = calm_apart (same_timer timers.Sync) s _ refl refl refl refl (λ off. absurd cc) (λ off. refl)
+restarted_calm now s =
+    calm_apart (same_timer timers.Sync) s _ refl refl refl refl (λ off. absurd cc) (λ off. refl) (λ off. refl)
 
 stopped_calm : (s : SystemState) → Calm (same_timer timers.Relay) s (stopped s)
-stopped_calm s = calm_apart (same_timer timers.Relay) s _ refl refl refl refl (λ off. refl) (λ off. absurd cc)
+stopped_calm s =
+    calm_apart (same_timer timers.Relay) s _ refl refl refl refl (λ off. refl) (λ off. absurd cc) (λ off. refl)
 
 -- all Master ports tell time
 tells : (touched : Timer → Bool) (told : Relayed) (s t s' : SystemState) (sends : List Sending) → Calm touched s t
@@ -285,14 +301,20 @@ syncs_if true now s s' sends k =
 syncs_if false now s s' sends k =
     becomes reaches.All (same_timer timers.Sync) s (restarted now s) s' sends (restarted_calm now s) k
 
+relays_by : (b : Bool) (info : SyncInfo) (now : ℕ) (s s' : SystemState) (sends : List Sending)
+    → RelaysBy b info now s s' sends → Goes reaches.All (same_timer timers.Relay) s s' sends
+relays_by true info now s s' sends k =
+    tells (same_timer timers.Relay) k.told s (stopped s) s' sends (stopped_calm s) refl k.state k.sends_are
+relays_by false info now s s' sends (inl k) =
+    tells (same_timer timers.Relay) _ s (stopped s) s' sends (stopped_calm s) refl k.state k.sends_are
+relays_by false info now s s' sends (inr k) =
+    becomes reaches.All (same_timer timers.Relay) s (stopped s) s' sends (stopped_calm s) k.becomes
+
 relays_if : (known : Option SyncInfo) (now : ℕ) (s s' : SystemState) (sends : List Sending)
     → RelaysIf known now s s' sends → Goes reaches.All (same_timer timers.Relay) s s' sends
 relays_if None now s s' sends k =
     becomes reaches.All (same_timer timers.Relay) s (stopped s) s' sends (stopped_calm s) k
-relays_if (Some info) now s s' sends (inl k) =
-    tells (same_timer timers.Relay) _ s (stopped s) s' sends (stopped_calm s) refl k.state k.sends_are
-relays_if (Some info) now s s' sends (inr k) =
-    becomes reaches.All (same_timer timers.Relay) s (stopped s) s' sends (stopped_calm s) k.becomes
+relays_if (Some info) now s s' sends k = relays_by (has_sync_timeout s.params) info now s s' sends k
 
 -- ---- frames
 
@@ -374,6 +396,8 @@ expires (timers.Respond p) now s s' sends k = record {
 }
 expires timers.Sync now s s' sends k = syncs_if (leads s) now s s' sends k
 expires timers.Relay now s s' sends k = relays_if s.known now s s' sends k
+expires timers.Lapse now s s' sends k =
+    selects is_selected no_cover now s (lapsed s) s' sends (lapsed_calm is_selected no_cover s) refl k
 
 pub steps_reach : (input : Input) (now : ℕ) (s s' : SystemState) (sends : List Sending) (answer : Answer)
     → Steps input now s s' sends answer → Goes (reach input s) (is_touched input s) s s' sends
@@ -384,4 +408,5 @@ steps_reach (Frame p octets) now s s' sends answer k = hears_frame p octets now 
 steps_reach (Expires timer) now s s' sends answer k = expires timer now s s' sends k
 steps_reach (Priority value) now s s' sends answer k =
     selects is_selected no_cover now s (with_priority value s) s' sends
-    (calm_apart is_selected s (with_priority value s) refl refl refl refl (λ off. refl) (λ off. refl)) refl k
+    (calm_apart is_selected s (with_priority value s) refl refl refl refl (λ off. refl) (λ off. refl) (λ off. refl))
+    refl k

@@ -46,13 +46,20 @@ from_none sends other =
     record { among = λ x member. absurd member; from = λ x member announce. absurd (other x member announce) }
 
 pub later_apart : (s : SystemState) (sync_in : Option KeptSync) (known : Option SyncInfo) (offset : Option ℤ) (sync : ℕ)
-    (relay : Option ℕ)
-    → Later s (record s { sync_in = sync_in; known = known; offset = offset; sync = sync; relay = relay })
-later_apart s sync_in known offset sync relay =
+    (relay lapse : Option ℕ)
+    → Later s (record s {
+      sync_in = sync_in;
+      known = known;
+      offset = offset;
+      sync = sync;
+      relay = relay;
+      lapse = lapse;
+    })
+later_apart s sync_in known offset sync relay lapse =
     record { same_clock = refl; held = refl; root = refl; steps = refl; ports = λ i q there. (q, there, refl, refl) }
 
 pub later_itself : (s : SystemState) → Later s s
-later_itself s = later_apart s s.sync_in s.known s.offset s.sync s.relay
+later_itself s = later_apart s s.sync_in s.known s.offset s.sync s.relay s.lapse
 
 pub later_port : (p : ℕ) (f : Port → Port) (s : SystemState) → ((q : Port) → (f q).log_interval ≡ q.log_interval)
     → ((q : Port) → (f q).announce ≡ q.announce) → Later s (on_port p f s)

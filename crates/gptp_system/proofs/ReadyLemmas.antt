@@ -28,10 +28,12 @@ use Rattle.gptp_system.specs.declared.sending.Sending.{Sending}
 use Rattle.gptp_setup.specs.Intervals.{AreIntervals, AreParams, IsLogUpTo, IsMoment}
 use Rattle.gptp_receipt.specs.Span.{span_of}
 use Rattle.gptp_system.specs.Announcing.{aged_by}
+use Rattle.gptp_system.specs.Lapse.{dropped, lapsed}
 use Rattle.gptp_system.specs.State.{SystemState, clock, change, change_at}
 use Rattle.gptp_system.specs.Selection.{announced, all_announced, fresh_ports, choosing, Selects}
 use Rattle.gptp_system.specs.Ready.{IsReady, IsRecent, IsPort}
 use Rattle.gptp_system.proofs.ChangedLemmas.{change-length}
+use Rattle.gptp_system.proofs.LapseLemmas.{lapse_stays_off}
 use Rattle.gptp_system.proofs.PlaceLemmas.{all_change}
 use Rattle.gptp_system.proofs.AnnouncementLemmas.{length-all_announced}
 use Rattle.gptp_system.proofs.StartLemmas.{length-all_disabled, length-new_ports}
@@ -79,6 +81,7 @@ selects_ready now s s' sends ready placed selects =
       placed = placed-again;
       recent = all_recent_after v (clock s) 1 s.held ready.recent;
       ports = all_ports_announced now (fresh_ports v s) s.ports ready.ports;
+      lapses = λ off. lapse_stays_off v now s off (ready.lapses off);
     })
 
 -- ---- what one port holds changes
@@ -119,6 +122,7 @@ held_ready s p f held ready keeps is =
       placed = placed_change f p s.held keeps.placed ready.placed;
       recent = all_change IsRecent f p s.held keeps.recent ready.recent;
       ports = ready.ports;
+      lapses = ready.lapses;
     })
 
 -- hearing a qualified Announce is such a change
@@ -170,6 +174,46 @@ ageing_keeps p params largest now = record {
     by_placed h None placed = placed
     by_placed h (Some span) placed = aged_placed p h (is_due h span now) placed
 
+-- and so is dropping what was received
+dropping_keeps : (p : ℕ) → KeepsHeld p dropped
+dropping_keeps p = record { recent = recent; placed = placed }
+  where
+    recent : (h : Held) → IsRecent h → IsRecent (dropped h)
+    recent helds.Disabled is = is
+    recent helds.Aged is = is
+    recent (helds.Mine root steps) is = is
+    recent (helds.Received r) is = λ x none. absurd cc
+
+    placed : (h : Held) → ForSome (received h) (IsPlaced p) → ForSome (received (dropped h)) (IsPlaced p)
+    placed helds.Disabled is = is
+    placed helds.Aged is = is
+    placed (helds.Mine root steps) is = is
+    placed (helds.Received r) is = λ x none. absurd cc
+
+pub lapsed_ready : (s : SystemState) → IsReady s → IsReady (lapsed s)
+lapsed_ready s ready = go s.slave
+  where
+    stops : (t : SystemState) → IsReady t → IsReady (record t { lapse = None })
+    stops t k = record {
+      params = k.params;
+      largest = k.largest;
+      phase = k.phase;
+      drift = k.drift;
+      places = k.places;
+      few = k.few;
+      placed = k.placed;
+      recent = k.recent;
+      ports = k.ports;
+      lapses = λ off. refl;
+    }
+
+    go : (o : Option ℕ)
+        → IsReady (record s { held = option_map_or (λ p. change dropped p s.held) o s.held; lapse = None })
+    go None = stops s ready
+    go (Some p) =
+        let t : SystemState = record s { held = change dropped p s.held } in
+        stops t (held_ready s p dropped (change dropped p s.held) ready (dropping_keeps p) refl)
+
 -- ---- one port changes beside what it holds
 
 pub ports_ready : (s : SystemState) (p : ℕ) (f : Port → Port) (ports : List Port) → IsReady s
@@ -187,6 +231,7 @@ ports_ready s p f ports ready keeps is =
       placed = ready.placed;
       recent = ready.recent;
       ports = all_change IsPort f p s.ports keeps ready.ports;
+      lapses = ready.lapses;
     })
 
 -- ---- a new system
@@ -225,4 +270,5 @@ started_ready setup now few params intervals phase drift =
       placed = disabled_placed 1 1 (length logs);
       recent = disabled_recent 1 (length logs);
       ports = new_ports_are (clock_of setup.identity) setup.params setup.largest 1 logs intervals.each;
+      lapses = λ off. refl;
     }

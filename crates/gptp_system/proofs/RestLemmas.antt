@@ -1,6 +1,6 @@
 -- A system at rest selects nothing new, and a new system is at rest.
 use Rattle.std.proofs.Common.{◌≡◌, ℕ, suc, ◌+◌, Bool, true, false, List, [], ◌∷◌, Option, Some, None, slice_get, refl, sym, ap, subst, ◌∙◌, eq-eqb}
-use Rattle.std.specs.Prelude.{◌==◌}
+use Rattle.std.specs.Prelude.{◌==◌, if◌then◌else◌}
 use Rattle.std.specs.List.{AllByRecursion}
 use Rattle.std.proofs.lemmas.Option.{none-some}
 use Rattle.gptp_vector.specs.declared.vector.Vector.{Vector}
@@ -15,8 +15,8 @@ use Rattle.gptp_roles.proofs.RestLemmas.{at_rest}
 use Rattle.gptp_pdelay.specs.Peer.{is_capable}
 use Rattle.gptp_system.specs.declared.port.Port.{Port}
 use Rattle.gptp_system.specs.declared.sending.Sending.{Sending}
-use Rattle.gptp_system.specs.State.{SystemState, clock, own}
-use Rattle.gptp_system.specs.Selection.{Selects, all_announced, announcements, choosing, follows_on, fresh_ports, kept_if, same_port}
+use Rattle.gptp_system.specs.State.{SystemState, clock, lapse_of, own}
+use Rattle.gptp_system.specs.Selection.{Selects, all_announced, announcements, choosing, follows_on, fresh_ports, kept_if, lapse_after, same_port}
 use Rattle.gptp_system.specs.Facts.{AreHeld, AreShown, IsAtRest, IsNew}
 use Rattle.gptp_system.proofs.FactLemmas.{are_placed}
 
@@ -55,6 +55,10 @@ kept : {X : Type 0} (s : SystemState) (r : IsAtRest s) (known : Option X)
     → kept_if (follows_on r.vector s) known ≡ known
 kept s r known = ap (λ b. kept_if b known) (follows_itself s r)
 
+kept_lapse : (now : ℕ) (s : SystemState) (r : IsAtRest s) → lapse_after r.vector now s ≡ s.lapse
+kept_lapse now s r =
+    ap (λ b. if b then s.lapse else lapse_of s.params r.vector.root (slave_port r.vector) now) (follows_itself s r)
+
 choosing_same : (now : ℕ) (s : SystemState) → AreHeld s → (r : IsAtRest s) → choosing r.vector now s ≡ s
 choosing_same now s a r =
     let held = sym r.stays in
@@ -66,6 +70,7 @@ choosing_same now s a r =
     let known = kept s r s.known in
     let offset = kept s r s.offset in
     let relay = kept s r s.relay in
+    let lapse = kept_lapse now s r in
     λ i. record s {
       held = held i;
       ports = ports i;
@@ -76,6 +81,7 @@ choosing_same now s a r =
       known = known i;
       offset = offset i;
       relay = relay i;
+      lapse = lapse i;
     }
 
 -- selecting again changes nothing

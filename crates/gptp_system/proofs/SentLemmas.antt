@@ -24,7 +24,8 @@ use Rattle.gptp_system.specs.Sends.{announcement, with_send}
 use Rattle.gptp_system.specs.Selection.{Selects, SelectsIf, announcements, fresh_ports}
 use Rattle.gptp_system.specs.Measuring.{Turns, TurnsAndAsks, TurnsIf, is_turned, request_of}
 use Rattle.gptp_system.specs.Announcing.{announcement_at, compared, is_taken}
-use Rattle.gptp_system.specs.Syncing.{HearsFollowUpIf, HearsSyncIf, KeepsIf, KnowsIf, RelaysIf, SyncsIf, delay_at, is_followed, leads, own_time, rate_at, said_on, told_by}
+use Rattle.gptp_setup.specs.Pace.{has_sync_timeout}
+use Rattle.gptp_system.specs.Syncing.{HearsFollowUpIf, HearsSyncIf, KeepsIf, KnowsBy, KnowsIf, RelaysBy, RelaysIf, SyncsIf, delay_at, is_followed, leads, own_time, rate_at, said_on, told_by}
 use Rattle.gptp_system.specs.Steps.{Expires as TimerExpires, HearsFrame, HearsMessage}
 use Rattle.gptp_system.specs.Input.{Input, IsTimely, Steps, PortUp, PortDown, Frame, Expires, Priority}
 use Rattle.gptp_system.specs.Facts.{Keeps}
@@ -148,11 +149,16 @@ syncs_if : (b : Bool) (now : ℕ) (s s' : SystemState) (sends : List Sending) �
 syncs_if true now s s' sends k = tells (own_time k.stamp k.rest) s sends k.sends_are
 syncs_if false now s s' sends k = silent_all Telling sends k.silent
 
+relays_by : (b : Bool) (info : SyncInfo) (now : ℕ) (s s' : SystemState) (sends : List Sending)
+    → RelaysBy b info now s s' sends → AllAre Telling sends
+relays_by true info now s s' sends k = tells k.told s sends k.sends_are
+relays_by false info now s s' sends (inl k) = tells _ s sends k.sends_are
+relays_by false info now s s' sends (inr k) = silent_all Telling sends k.becomes.silent
+
 relays_if : (known : Option SyncInfo) (now : ℕ) (s s' : SystemState) (sends : List Sending)
     → RelaysIf known now s s' sends → AllAre Telling sends
 relays_if None now s s' sends k = silent_all Telling sends k.silent
-relays_if (Some info) now s s' sends (inl k) = tells _ s sends k.sends_are
-relays_if (Some info) now s s' sends (inr k) = silent_all Telling sends k.becomes.silent
+relays_if (Some info) now s s' sends k = relays_by (has_sync_timeout s.params) info now s s' sends k
 
 hears_sync : (b : Bool) (p : ℕ) (head : Head) (now : ℕ) (s s' : SystemState) (sends : List Sending) (answer : Answer)
     → HearsSyncIf b p head now s s' sends answer → AllAre Announcing sends
@@ -163,12 +169,19 @@ hears_sync true p head now s s' sends answer h = go (is_followed p head s) h
     go true k = silent_all Announcing sends k.becomes.silent
     go false k = silent_all Announcing sends k.becomes.silent
 
+knows_by : (b : Bool) (info : SyncInfo) (delay rate : ℤ) (now : ℕ) (s s' : SystemState) (sends : List Sending)
+    (answer : Answer)
+    → KnowsBy b info delay rate now s s' sends answer → AllAre Announcing sends
+knows_by true info delay rate now s s' sends answer k = silent_all Announcing sends k.becomes.silent
+knows_by false info delay rate now s s' sends answer (inl k) = silent_all Announcing sends k.becomes.silent
+knows_by false info delay rate now s s' sends answer (inr k) = silent_all Announcing sends k.becomes.silent
+
 knows_if : (said : Option SyncInfo) (delay rate : ℤ) (now : ℕ) (s s' : SystemState) (sends : List Sending)
     (answer : Answer)
     → KnowsIf said delay rate now s s' sends answer → AllAre Announcing sends
 knows_if None delay rate now s s' sends answer k = silent_all Announcing sends k.becomes.silent
-knows_if (Some info) delay rate now s s' sends answer (inl k) = silent_all Announcing sends k.becomes.silent
-knows_if (Some info) delay rate now s s' sends answer (inr k) = silent_all Announcing sends k.becomes.silent
+knows_if (Some info) delay rate now s s' sends answer k =
+    knows_by (has_sync_timeout s.params) info delay rate now s s' sends answer k
 
 hears_follow_up : (b : Bool) (p : ℕ) (m : FollowUp) (now : ℕ) (s s' : SystemState) (sends : List Sending)
     (answer : Answer)
@@ -234,6 +247,7 @@ expires (timers.Pdelay p) now t s s' sends is k =
 expires (timers.Respond p) now t s s' sends is k = k.responds
 expires timers.Sync now t s s' sends is k = syncs_if (leads s) now s s' sends k
 expires timers.Relay now t s s' sends is k = relays_if s.known now s s' sends k
+expires timers.Lapse now t s s' sends is k = selects now _ s' sends k
 
 pub steps_send : (input : Input) (now : ℕ) (s s' : SystemState) (sends : List Sending) (answer : Answer)
     → IsTimely s now input

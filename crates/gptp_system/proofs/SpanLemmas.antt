@@ -19,7 +19,7 @@ use Rattle.gptp_system.specs.Ready.{IsPort, IsReady}
 use Rattle.gptp_system.specs.Start.{all_disabled, new_port, started}
 use Rattle.gptp_system.specs.Times.{IsInTime, IsPortInTime}
 use Rattle.gptp_setup.proofs.IntervalLemmas.{interval_most}
-use Rattle.gptp_setup.proofs.PaceLemmas.{span_within}
+use Rattle.gptp_setup.proofs.PaceLemmas.{lapse_most, span_within}
 use Rattle.gptp_system.proofs.StartLemmas.{disabled_at, new_port_at}
 use Rattle.gptp_system.proofs.StartedLemmas.{at_number, mine_due}
 
@@ -68,6 +68,10 @@ module _ (s : SystemState) (now : ℕ) (ready : IsReady s) (k : IsInTime s now) 
       let same = same_Some s.sync t is in
       omega arith
   due_within timers.Relay t is = let relay = k.relay t is in let few = ready.params.residence in omega arith
+  due_within timers.Lapse t is =
+      let lapse = k.lapse t is in
+      let few = lapse_most s.params ready.params in
+      omega arith
   due_within (timers.Announce p) t is =
       let (i, q, number_is, there, e) = at_number (λ q. announce_due q (held_at s p)) s.ports p t is in
       let here = (mine_due q (held_at s p) t e).0 in
@@ -101,7 +105,12 @@ port_is : (setup : Setup) (now i : ℕ) (q : Port) → slice_get (started setup 
 port_is setup now i q there = new_port_at (clock_of setup.identity) setup.params setup.intervals.items i q there
 
 pub starts_in_time : (setup : Setup) (now : ℕ) → IsInTime (started setup now) now
-starts_in_time setup now = record { each = each; sync = omega arith; relay = λ t is. absurd (none-some t is) }
+starts_in_time setup now = record {
+  each = each;
+  sync = omega arith;
+  relay = λ t is. absurd (none-some t is);
+  lapse = λ t is. absurd (none-some t is);
+}
   where
     quiet : (p : ℕ) (log : ℤ) → IsPortInTime setup.params now helds.Disabled (new_of setup p log)
     quiet p log = record {
@@ -159,3 +168,4 @@ starts_ahead setup now (timers.Respond p) t is =
 starts_ahead setup now timers.Sync t is =
     let same = same_Some (now + interval_of setup.params.sync) t is in omega arith
 starts_ahead setup now timers.Relay t is = absurd (none-some t is)
+starts_ahead setup now timers.Lapse t is = absurd (none-some t is)

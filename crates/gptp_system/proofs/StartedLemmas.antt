@@ -17,28 +17,37 @@ use Rattle.gptp_system.specs.declared.sending.Sending.{Sending}
 use Rattle.gptp_setup.specs.declared.timer.Timer.{Timer}
 use Rattle.gptp_setup.specs.declared.timer.Timer.TheVariants as timers
 use Rattle.gptp_setup.specs.Intervals.{AreParams, IsLog, interval_of}
-use Rattle.gptp_setup.specs.Pace.{span_by}
+use Rattle.gptp_setup.specs.Pace.{has_sync_timeout, span_by}
 use Rattle.gptp_setup.proofs.IntervalLemmas.{interval_positive}
-use Rattle.gptp_setup.proofs.PaceLemmas.{span_within}
+use Rattle.gptp_setup.proofs.PaceLemmas.{lapse_positive, span_within}
 use Rattle.gptp_system.specs.State.{SystemState, age_due, announce_due, clock, due, held_at, is_mine, number}
 use Rattle.gptp_system.specs.Input.{Input, IsTimely, Steps, PortUp, PortDown, Frame, Expires, Priority}
 use Rattle.gptp_system.specs.Facts.{AreShown, IsAtRest, Keeps}
-use Rattle.gptp_system.specs.Selection.{announced}
+use Rattle.gptp_system.specs.Selection.{announced, follows_on}
 use Rattle.gptp_system.specs.Announcing.{announced_at}
-use Rattle.gptp_system.specs.Syncing.{RelaysIf, SyncsIf, leads}
+use Rattle.gptp_system.specs.Lapse.{lapsed}
+use Rattle.gptp_system.specs.Syncing.{RelaysBy, RelaysIf, SyncsIf, leads}
 use Rattle.gptp_system.specs.Touch.{IsSeenAs, Mid, Touch, Grow}
 use Rattle.gptp_system.specs.Reacts.{PlaceReacts, PortEnds, Tells}
 use Rattle.gptp_system.specs.Measures.{IsPartAfter, Part, only_at, part_answered, part_asked, part_down, part_heard, part_of, Measures}
-use Rattle.gptp_system.specs.Times.{RunsOn}
+use Rattle.gptp_system.specs.Times.{RunsOn, Waits, WaitsAnew}
 use Rattle.gptp_setup.specs.declared.setup.Params.{Params}
 use Rattle.gptp_correction.specs.declared.sync_in.SyncInfo.{SyncInfo}
 use Rattle.gptp_system.proofs.ChangedLemmas.{Changed, change-get}
+use Rattle.gptp_system.proofs.LapseLemmas.{lapse_chosen}
 use Rattle.gptp_system.proofs.AnswerLemmas.{steps_react}
 use Rattle.gptp_system.proofs.ReactLemmas.{Answers}
 use Rattle.gptp_system.proofs.StepLemmas.{steps_sound}
 use Rattle.gptp_system.proofs.InTimeLemmas.{IsMid, kept_other, mid_is, mid_mine, mid_received}
 use Rattle.gptp_system.proofs.MeasureLemmas.{steps_measure}
 use Rattle.gptp_system.proofs.TimeLemmas.{steps_run_on}
+
+-- a Lapse timer that begins anew is due after now
+anew_later : (s : SystemState) (now t : ℕ) → AreParams s.params → WaitsAnew s now t → now < t
+anew_later s now t params anew =
+    let positive = lapse_positive s.params params anew.on in
+    let moment = anew.moment in
+    omega arith
 
 -- a timer runs as it did, or is due after now
 abbrev Runs : ℕ → Option ℕ → Option ℕ → Type 0
@@ -104,6 +113,7 @@ module _ (s : SystemState) (params : AreParams s.params) (now : ℕ) where
   part_runs (Expires (timers.Age p)) n x x' is = still_runs x x' is
   part_runs (Expires timers.Sync) n x x' is = still_runs x x' is
   part_runs (Expires timers.Relay) n x x' is = still_runs x x' is
+  part_runs (Expires timers.Lapse) n x x' is = still_runs x x' is
   part_runs (Priority value) n x x' is = still_runs x x' is
 
 held_stands : (hs : List Held) (i : ℕ) (h : Held) → option_map_or (λ x. x) (slice_get hs i) helds.Disabled ≡ h
@@ -269,9 +279,14 @@ started_later input now s s' sends answer params largest logs calm shown rest st
     relay t (inl before) = inl before
     relay t (inr new) = let positive = params.residence-least in inr (omega arith)
 
+    lapse : (t : ℕ) → Waits s s' t ⊎ WaitsAnew s now t → (due timers.Lapse s ≡ Some t) ⊎ (now < t)
+    lapse t (inl on) = inl on.before
+    lapse t (inr anew) = inr (anew_later s now t params anew)
+
     go : (timer : Timer) (t : ℕ) → due timer s' ≡ Some t → (due timer s ≡ Some t) ⊎ (now < t)
     go timers.Sync t is = sync t is runs.sync
     go timers.Relay t is = relay t (runs.relay t is)
+    go timers.Lapse t is = lapse t (runs.lapse t is)
     go (timers.Announce p) t is =
         let (i, q', number_is, there, e) = at_number (λ q. announce_due q (held_at s' p)) s'.ports p t is in
         let stands =
@@ -332,17 +347,22 @@ aged_off s s' touch p now sends i h' q' grows here r = ends r.reacts.after
 only_here : (p n : ℕ) (f : Part → Part) (x x' : Part) → p ≡ n → x' ≡ only_at p f n x → x' ≡ f x
 only_here p n f x x' here is = let same : (n == p) ≡ true = grind (arith, nat_tests) in is ∙ rw same refl
 
--- the two timers of the system
+-- the timers of the system
 sync_restarts : (b : Bool) (now : ℕ) (s s' : SystemState) (sends : List Sending) → SyncsIf b now s s' sends
     → s'.sync ≡ now + interval_of s.params.sync
 sync_restarts true now s s' sends k = ap (λ (x : SystemState). x.sync) k.state
 sync_restarts false now s s' sends k = ap (λ (x : SystemState). x.sync) k.state
 
+relay_stops_by : (b : Bool) (info : SyncInfo) (now : ℕ) (s s' : SystemState) (sends : List Sending)
+    → RelaysBy b info now s s' sends → s'.relay ≡ None
+relay_stops_by true info now s s' sends k = ap (λ (x : SystemState). x.relay) k.state
+relay_stops_by false info now s s' sends (inl k) = ap (λ (x : SystemState). x.relay) k.state
+relay_stops_by false info now s s' sends (inr k) = ap (λ (x : SystemState). x.relay) k.becomes.state
+
 relay_stops : (known : Option SyncInfo) (now : ℕ) (s s' : SystemState) (sends : List Sending)
     → RelaysIf known now s s' sends → s'.relay ≡ None
 relay_stops None now s s' sends k = ap (λ (x : SystemState). x.relay) k.state
-relay_stops (Some info) now s s' sends (inl k) = ap (λ (x : SystemState). x.relay) k.state
-relay_stops (Some info) now s s' sends (inr k) = ap (λ (x : SystemState). x.relay) k.becomes.state
+relay_stops (Some info) now s s' sends k = relay_stops_by (has_sync_timeout s.params) info now s s' sends k
 
 pub ran_out_later : (timer : Timer) (now : ℕ) (s s' : SystemState) (sends : List Sending) (answer : Answer)
     → AreParams s.params
@@ -388,3 +408,9 @@ ran_out_later timers.Sync now s s' sends answer params logs timely shown rest k 
     omega arith
 ran_out_later timers.Relay now s s' sends answer params logs timely shown rest k t is =
     absurd (none-some t (sym (relay_stops s.known now s s' sends k) ∙ is))
+ran_out_later timers.Lapse now s s' sends answer params logs timely shown rest k t is =
+    by (lapse_chosen k.vector now (lapsed s) t (sym (ap (λ (x : SystemState). x.lapse) k.state) ∙ is))
+  where
+    by : ((follows_on k.vector (lapsed s) ≡ true) × (None ≡ Some t)) ⊎ WaitsAnew (lapsed s) now t → now < t
+    by (inl (same, before)) = absurd (none-some t before)
+    by (inr anew) = anew_later (lapsed s) now t params anew

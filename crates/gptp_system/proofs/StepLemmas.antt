@@ -18,14 +18,17 @@ use Rattle.gptp_system.specs.declared.sending.Sending.{Sending}
 use Rattle.gptp_setup.specs.declared.timer.Timer.{Timer}
 use Rattle.gptp_setup.specs.declared.timer.Timer.TheVariants as timers
 use Rattle.gptp_setup.specs.Intervals.{interval_of}
+use Rattle.gptp_setup.specs.Pace.{has_sync_timeout}
 use Rattle.gptp_system.specs.State.{SystemState, held_at, is_capable_at, local_time, number, on_port, own, with_peer}
 use Rattle.gptp_system.specs.Selection.{Becomes, SelectsIf, announced}
 use Rattle.gptp_system.specs.Measuring.{GoesDown, Turns, TurnsAndAsks, TurnsIf, answering_done, asking, down, is_turned, owes, owing, turned}
 use Rattle.gptp_system.specs.Announcing.{HearsQualified, aged_at, compared, is_taken, with_priority}
-use Rattle.gptp_system.specs.Syncing.{HearsFollowUpIf, HearsSyncIf, KeepsIf, KnowsIf, RelaysIf, SyncsIf, counted, delay_at, is_followed, leads, rate_at, restarted, said_on, stopped, telling}
+use Rattle.gptp_system.specs.Syncing.{HearsFollowUpIf, HearsSyncIf, KeepsIf, KnowsBy, KnowsIf, RelaysBy, RelaysIf, SyncsIf, counted, delay_at, is_followed, leads, rate_at, restarted, said_on, stopped, telling}
+use Rattle.gptp_system.specs.Lapse.{lapsed}
 use Rattle.gptp_system.specs.Steps.{Expires as TimerExpires, HearsFrame, HearsMessage}
 use Rattle.gptp_system.specs.Input.{Input, Steps, PortUp, PortDown, Frame, Expires, Priority}
 use Rattle.gptp_system.proofs.PortLemmas.{Marked, counted-get, counted-map, with_sync}
+use Rattle.gptp_system.proofs.LapseLemmas.{lapsed_touches}
 use Rattle.gptp_system.proofs.FactLemmas.{Quiet, Sound, Steady, on_port_quiet, ports_quiet, quiet_steady, selects_sound, selects_steady, steady_on}
 use Rattle.gptp_system.proofs.TouchedLemmas.{aged_touches, compared_same, compared_touches, down_touches, not_turned, priority_touches, turned_touches}
 
@@ -33,9 +36,16 @@ use Rattle.gptp_system.proofs.TouchedLemmas.{aged_touches, compared_same, compar
 
 -- only what is known of time changes
 apart : (s : SystemState) (sync_in : Option KeptSync) (known : Option SyncInfo) (offset : Option ℤ) (sync : ℕ)
-    (relay : Option ℕ)
-    → Quiet s (record s { sync_in = sync_in; known = known; offset = offset; sync = sync; relay = relay })
-apart s sync_in known offset sync relay = record {
+    (relay lapse : Option ℕ)
+    → Quiet s (record s {
+      sync_in = sync_in;
+      known = known;
+      offset = offset;
+      sync = sync;
+      relay = relay;
+      lapse = lapse;
+    })
+apart s sync_in known offset sync relay lapse = record {
   params = refl;
   largest = refl;
   phase = refl;
@@ -50,12 +60,20 @@ apart s sync_in known offset sync relay = record {
 }
 
 pub apart_steady : (s : SystemState) (sync_in : Option KeptSync) (known : Option SyncInfo) (offset : Option ℤ)
-    (sync : ℕ) (relay : Option ℕ)
-    → Steady s (record s { sync_in = sync_in; known = known; offset = offset; sync = sync; relay = relay })
-apart_steady s sync_in known offset sync relay = quiet_steady s _ (apart s sync_in known offset sync relay)
+    (sync : ℕ) (relay lapse : Option ℕ)
+    → Steady s (record s {
+      sync_in = sync_in;
+      known = known;
+      offset = offset;
+      sync = sync;
+      relay = relay;
+      lapse = lapse;
+    })
+apart_steady s sync_in known offset sync relay lapse =
+    quiet_steady s _ (apart s sync_in known offset sync relay lapse)
 
 pub itself : (s : SystemState) → Steady s s
-itself s = apart_steady s s.sync_in s.known s.offset s.sync s.relay
+itself s = apart_steady s s.sync_in s.known s.offset s.sync s.relay s.lapse
 
 telling_quiet : (s : SystemState) → Quiet s (telling s)
 telling_quiet s =
@@ -139,7 +157,7 @@ hears_announce p a now s s' sends answer (inr (inr qualified)) = hears_qualified
 keeps_if : (b : Bool) (head : Head) (now : ℕ) (s s' : SystemState) (sends : List Sending) (answer : Answer)
     → KeepsIf b head now s s' sends answer → Steady s s'
 keeps_if true head now s s' sends answer k =
-    becomes s _ s' sends (apart_steady s _ s.known s.offset s.sync s.relay) k.becomes
+    becomes s _ s' sends (apart_steady s _ s.known s.offset s.sync s.relay s.lapse) k.becomes
 keeps_if false head now s s' sends answer k = becomes s s s' sends (itself s) k.becomes
 
 hears_sync : (b : Bool) (p : ℕ) (head : Head) (now : ℕ) (s s' : SystemState) (sends : List Sending) (answer : Answer)
@@ -147,14 +165,22 @@ hears_sync : (b : Bool) (p : ℕ) (head : Head) (now : ℕ) (s s' : SystemState)
 hears_sync false p head now s s' sends answer k = becomes s s s' sends (itself s) k.becomes
 hears_sync true p head now s s' sends answer k = keeps_if (is_followed p head s) head now s s' sends answer k
 
+knows_by : (b : Bool) (info : SyncInfo) (delay rate : ℤ) (now : ℕ) (s s' : SystemState) (sends : List Sending)
+    (answer : Answer)
+    → KnowsBy b info delay rate now s s' sends answer → Steady s s'
+knows_by true info delay rate now s s' sends answer k =
+    becomes s _ s' sends (apart_steady s s.sync_in _ _ s.sync _ _) k.becomes
+knows_by false info delay rate now s s' sends answer (inl k) =
+    becomes s _ s' sends (apart_steady s s.sync_in _ _ s.sync _ s.lapse) k.becomes
+knows_by false info delay rate now s s' sends answer (inr k) =
+    becomes s _ s' sends (apart_steady s _ _ _ s.sync s.relay s.lapse) k.becomes
+
 knows_if : (said : Option SyncInfo) (delay rate : ℤ) (now : ℕ) (s s' : SystemState) (sends : List Sending)
     (answer : Answer)
     → KnowsIf said delay rate now s s' sends answer → Steady s s'
 knows_if None delay rate now s s' sends answer k = becomes s s s' sends (itself s) k.becomes
-knows_if (Some info) delay rate now s s' sends answer (inl k) =
-    becomes s _ s' sends (apart_steady s s.sync_in _ _ s.sync _) k.becomes
-knows_if (Some info) delay rate now s s' sends answer (inr k) =
-    becomes s _ s' sends (apart_steady s _ _ _ s.sync s.relay) k.becomes
+knows_if (Some info) delay rate now s s' sends answer k =
+    knows_by (has_sync_timeout s.params) info delay rate now s s' sends answer k
 
 hears_follow_up : (b : Bool) (p : ℕ) (m : FollowUp) (now : ℕ) (s s' : SystemState) (sends : List Sending)
     (answer : Answer)
@@ -164,7 +190,7 @@ hears_follow_up true p m now s s' sends answer k =
     knows_if (said_on p m s) (delay_at s p) (rate_at s p) now s s' sends answer k
 
 restarted_steady : (now : ℕ) (s : SystemState) → Steady s (restarted now s)
-restarted_steady now s = apart_steady s s.sync_in s.known s.offset _ s.relay
+restarted_steady now s = apart_steady s s.sync_in s.known s.offset _ s.relay s.lapse
 
 syncs_if : (b : Bool) (now : ℕ) (s s' : SystemState) (sends : List Sending) → SyncsIf b now s s' sends → Steady s s'
 syncs_if true now s s' sends k =
@@ -174,15 +200,24 @@ syncs_if true now s s' sends k =
 syncs_if false now s s' sends k = becomes s (restarted now s) s' sends (restarted_steady now s) k
 
 stopped_steady : (s : SystemState) → Steady s (stopped s)
-stopped_steady s = apart_steady s s.sync_in s.known s.offset s.sync None
+stopped_steady s = apart_steady s s.sync_in s.known s.offset s.sync None s.lapse
+
+-- all Master ports tell time at the Relay timer
+relayed_steady : (s s' : SystemState) → s' ≡ telling (stopped s) → Steady s s'
+relayed_steady s s' is =
+    subst (Steady s) (sym is)
+    (steady_on s (stopped s) (telling (stopped s)) (stopped_steady s) (telling_steady (stopped s)))
+
+relays_by : (b : Bool) (info : SyncInfo) (now : ℕ) (s s' : SystemState) (sends : List Sending)
+    → RelaysBy b info now s s' sends → Steady s s'
+relays_by true info now s s' sends k = relayed_steady s s' k.state
+relays_by false info now s s' sends (inl k) = relayed_steady s s' k.state
+relays_by false info now s s' sends (inr k) = becomes s (stopped s) s' sends (stopped_steady s) k.becomes
 
 relays_if : (known : Option SyncInfo) (now : ℕ) (s s' : SystemState) (sends : List Sending)
     → RelaysIf known now s s' sends → Steady s s'
 relays_if None now s s' sends k = becomes s (stopped s) s' sends (stopped_steady s) k
-relays_if (Some info) now s s' sends (inl k) =
-    subst (Steady s) (sym k.state)
-    (steady_on s (stopped s) (telling (stopped s)) (stopped_steady s) (telling_steady (stopped s)))
-relays_if (Some info) now s s' sends (inr k) = becomes s (stopped s) s' sends (stopped_steady s) k.becomes
+relays_if (Some info) now s s' sends k = relays_by (has_sync_timeout s.params) info now s s' sends k
 
 -- ---- all steps
 
@@ -218,6 +253,7 @@ expires (timers.Respond p) now s s' sends k =
     subst (Steady s) (sym k.state) (port_steady p answering_done s (λ q. refl) (λ q there. refl))
 expires timers.Sync now s s' sends k = syncs_if (leads s) now s s' sends k
 expires timers.Relay now s s' sends k = relays_if s.known now s s' sends k
+expires timers.Lapse now s s' sends k = selects_steady now s (lapsed s) s' sends (lapsed_touches s) refl k
 
 -- every step but a change of priority1 keeps the identity
 pub steps_steady : (input : Input) (now : ℕ) (s s' : SystemState) (sends : List Sending) (answer : Answer)

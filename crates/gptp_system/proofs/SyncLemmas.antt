@@ -1,5 +1,6 @@
 -- Syncs and Follow_Ups of Master ports, one port after the other.
-use Rattle.std.proofs.Common.{◌≡◌, ◌⊎◌, ℕ, zero, suc, ◌+◌, ◌*◌, ◌<◌, ◌≤◌, ℤ, Bool, true, false, if◌then◌else◌, List, [], ◌∷◌, ◌++◌, length, take, Option, Some, refl, sym, ap, ◌∙◌, inr, arith}
+use Rattle.std.proofs.Common.{◌≡◌, ℕ, zero, suc, ◌+◌, ◌*◌, ◌<◌, ◌≤◌, ℤ, Bool, true, false, if◌then◌else◌, List, [], ◌∷◌, ◌++◌, length, take, Some, Result, Ok, Err, OkIff, refl, sym, ap, ◌∙◌, inl, inr, arith}
+use Rattle.std.specs.Result.{result_ok}
 use Rattle.std.specs.Prelude.{slice_set, slice_index_or}
 use Rattle.std.specs.List.{AllByRecursion}
 use Rattle.gptp_receipt.specs.declared.held.Held.{Held}
@@ -9,9 +10,10 @@ use Rattle.gptp_correction.specs.declared.sync_in.SyncInfo.{SyncInfo}
 use Rattle.gptp_system.specs.declared.answer.Answer.{Answer}
 use Rattle.gptp_system.specs.declared.port.Port.{Port}
 use Rattle.gptp_system.specs.declared.sending.Sending.{Sending}
+use Rattle.gptp_setup.specs.Pace.{has_sync_timeout}
 use Rattle.gptp_system.specs.Ready.{IsPort, IsReady}
 use Rattle.gptp_system.specs.State.{SystemState, is_capable_at, is_mine}
-use Rattle.gptp_system.specs.Syncing.{counting, counted, sync_of, follow_up_of, syncs, telling, delay_at, rate_at, said_on, stopped, HopFits, HearsFollowUp, IsKnown, IsForgotten, IsDropped, RelaysIf, RelayExpires}
+use Rattle.gptp_system.specs.Syncing.{counting, counted, sync_of, follow_up_of, syncs, telling, delay_at, rate_at, said_on, offset_of, HearsFollowUp, IsOffset, KnowsBy, OffsetFits}
 
 -- ports keep their places
 pub length-counted : (hs : List Held) (qs : List Port) → length hs ≤ length qs → length (counted hs qs) ≡ length qs
@@ -110,6 +112,7 @@ telling_ready s ready =
       placed = ready.placed;
       recent = ready.recent;
       ports = all_ports_counted s.held s.ports ready.ports;
+      lapses = ready.lapses;
     }
 
 -- ---- what a Follow_Up says
@@ -117,23 +120,12 @@ telling_ready s ready =
 pub follows : (p : ℕ) (m : FollowUp) (now : ℕ) (s s' : SystemState) (answer : Answer) (info : SyncInfo)
     → is_capable_at s p ≡ true
     → said_on p m s ≡ Some info
-    → IsKnown info (delay_at s p) (rate_at s p) now s s' [] answer
-    ⊎ IsForgotten info (delay_at s p) (rate_at s p) s s' [] answer
+    → KnowsBy (has_sync_timeout s.params) info (delay_at s p) (rate_at s p) now s s' [] answer
     → HearsFollowUp p m now s s' [] answer
 follows p m now s s' answer info capable said becomes = rw (capable, said) becomes
 
--- ---- what isn't sent on
-
-dropped : (now : ℕ) (s s' : SystemState) (sends : List Sending) (info : SyncInfo) (known : Option SyncInfo)
-    → known ≡ Some info → IsDropped info now s s' sends → RelaysIf known now s s' sends
-dropped now s s' sends info known is drops = rw is (inr drops)
-
-pub becomes_dropped : (now : ℕ) (s s' : SystemState) (sends : List Sending) (info : SyncInfo)
-    → s.known ≡ Some info
-    → (HopFits info now s → ⊥)
-    → s' ≡ stopped s
-    → sends ≡ []
-    → RelayExpires now s s' sends
-becomes_dropped now s s' sends info known unfit state silent =
-    dropped now s s' sends info s.known known
-    (record { unfit = unfit; becomes = record { state = state; silent = silent } })
+-- how far the own clock is ahead, where that fits
+pub offset_ok : {E : Type 0} (r : Result ℤ E) (info : SyncInfo) (delay rate : ℤ)
+    → OkIff r (OffsetFits info delay rate) (offset_of info delay rate) → IsOffset info delay rate (result_ok r)
+offset_ok (Ok x) info delay rate k = inl (k.0, ap (λ v. Some v) k.1)
+offset_ok (Err e) info delay rate k = inr (k, refl)

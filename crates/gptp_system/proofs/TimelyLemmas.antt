@@ -45,6 +45,7 @@ due_timer (timers.Pdelay p) s time is = port_due (λ (q : Port). q.pdelay) s p t
 due_timer (timers.Respond p) s time is = port_due (λ (q : Port). q.respond) s p time is
 due_timer timers.Sync s time is = tt
 due_timer timers.Relay s time is = tt
+due_timer timers.Lapse s time is = tt
 
 pub timely_timer : (timer : Timer) (s : SystemState) (now : ℕ) → IsDue s timer now → IsTimerOf s timer
 timely_timer timer s now is = let at = moment_of (due timer s) now is in due_timer timer s at.0 at.1

@@ -83,6 +83,7 @@ port_ready p f s keeps ready =
       placed = ready.placed;
       recent = ready.recent;
       ports = all_change IsPort f p s.ports keeps ready.ports;
+      lapses = ready.lapses;
     }
 
 placed-change_at : (f : Held → Held) → ((h : Held) → received (f h) ≡ None) → (i n : ℕ) (hs : List Held)
@@ -111,4 +112,5 @@ held_ready p f s empty ready =
       placed = placed-change f empty p s.held ready.placed;
       recent = all_change IsRecent f p s.held (λ h recent r is. absurd (let none = empty h in cc)) ready.recent;
       ports = ready.ports;
+      lapses = ready.lapses;
     }

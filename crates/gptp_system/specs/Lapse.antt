@@ -20,7 +20,7 @@ lapsed s = record s {
   lapse = None;
 }
 
--- The Lapse timer runs out: no time came for syncReceiptTimeout sync intervals. What the Slave port received is too old,
--- and selection follows.
+-- The Lapse timer runs out: no time came for syncReceiptTimeout sync intervals. What the Slave port received is too
+-- old, and selection follows.
 abbrev pub LapseExpires : ℕ → SystemState → SystemState → List Sending → Type 0
 LapseExpires now s s' sends = Selects now (lapsed s) s' sends

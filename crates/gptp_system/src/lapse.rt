@@ -81,8 +81,8 @@ impl State {
     ghost use Rattle.gptp_system.specs.Lapse.{LapseExpires};
     ghost use Rattle.gptp_system.specs.Ready.{IsReady, state_of};
 
-    /// The Lapse timer runs out: what the Slave port received is dropped, and selection follows (syncReceiptTimeout; IEEE
-    /// 802.1AS-2020, 10.7.3.1).
+    /// The Lapse timer runs out: what the Slave port received is dropped, and selection follows (syncReceiptTimeout;
+    /// IEEE 802.1AS-2020, 10.7.3.1).
     pub(crate) fn on_lapse_timer(&mut self, now: u64, outbox: &mut Outbox)
         requires ready { IsReady (state_of self.old) }
         requires moment { IsMoment now }

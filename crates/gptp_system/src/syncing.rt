@@ -351,8 +351,8 @@ impl State {
         }
     }
 
-    /// The time is known in any case in a network that has a syncReceiptTimeout: the sum of rates is held at its limits.
-    /// A Relay timer that runs keeps its time and sends this on then, and the Lapse timer begins anew.
+    /// In a network that has a syncReceiptTimeout the time is known in any case, by a sum of rates held at its limits. A
+    /// Relay timer that runs keeps its time and sends this on then, and the Lapse timer begins anew.
     fn refresh(&mut self, info: SyncInfo, delay: ScaledNs, rate: Rate, now: u64) -> Answer
         requires ready { IsReady (state_of self.old) }
         requires moment { IsMoment now }
@@ -440,8 +440,8 @@ impl State {
         }
     }
 
-    /// What is told of the time that came by a sum of rates held at its limits: what came, where a number doesn't fit all
-    /// the same.
+    /// What is told of the time that came, by a sum of rates held at its limits: what came as it is, where a number
+    /// doesn't fit all the same.
     fn told_of(&self, info: &SyncInfo, now: u64) -> Relayed
         requires ready { IsReady (state_of self.now) }
         requires moment { IsMoment now }

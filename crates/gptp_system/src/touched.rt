@@ -13,9 +13,9 @@ pub enum Touched {
     Nothing,
     /// This one alone.
     One(Timer),
-    /// Those that time changes which comes over the Slave port: the Relay and the Lapse timer.
+    /// Those that time which comes over the Slave port changes: the Relay and the Lapse timer.
     Time,
-    /// Those that selection can change: the Announce and the Age timer of every port, and the Relay and the Lapse timer.
+    /// Those that selection can change: the Announce and the Age timer of every port, and the Relay and Lapse timers.
     Selected,
     /// Any.
     All,

@@ -185,7 +185,7 @@ range-more a (suc n) =
 
 abbrev call_of : ℕ → ℕ → Need
 call_of ports number = record {
-  entries = 6 * ports + 2;
+  entries = 6 * ports + 3;
   buffers = 2 * ports;
   frames = λ port. if port.clock == number then 2 else 0;
 }

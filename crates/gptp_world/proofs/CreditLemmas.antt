@@ -256,7 +256,7 @@ ahead place ports credit net net' directory its has only made number port lane k
 
 pub room_beyond : (stage : Stage) (r : Reach) (place : ℕ) (station : Station) (credit : List ℕ) → IsStage stage
     → slice_get stage.stations.items place ≡ Some station
-    → 6 * length station.system.ports + 2 ≤ stage.net.pending.room
+    → 6 * length station.system.ports + 3 ≤ stage.net.pending.room
     → 2 * length station.system.ports ≤ stage.net.buffers.ready
     → HasReachBeyond r place credit stage.net → HasRoomBeyond r place credit stage
 room_beyond stage r place station credit is here entries buffers has =

@@ -28,6 +28,7 @@ timer_few s (timers.Pdelay p) few of = let most = of.most in omega (arith, few, 
 timer_few s (timers.Respond p) few of = let most = of.most in omega (arith, few, most)
 timer_few s timers.Sync few of = omega arith
 timer_few s timers.Relay few of = omega arith
+timer_few s timers.Lapse few of = omega arith
 
 -- a timer that is due is one that can be pending
 pub known_timer : (stage : Stage) (place : ℕ) (timer : Timer) → IsStage stage

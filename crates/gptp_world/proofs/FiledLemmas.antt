@@ -22,7 +22,7 @@ use Rattle.gptp_world.specs.Filed.{FiledState, queue_at, with_queue, slot_of, ti
 -- ---- places
 
 pub timer_within : (systems links place : ℕ) (timer : Timer) → IsKnown systems links (Expiry place timer)
-    → timer_place place timer < systems * 102
+    → timer_place place timer < systems * 119
 timer_within systems links place timer known =
     let kind = kind_below timer in let here = known.0 in let port = known.1 in omega arith
 

@@ -207,7 +207,7 @@ times calls number port = by (port.clock == number) refl
 -- calls of a system need no more than this
 abbrev for_calls : ℕ → Station → Need
 for_calls calls station = record {
-  entries = calls * (6 * length station.system.ports + 2);
+  entries = calls * (6 * length station.system.ports + 3);
   buffers = calls * (2 * length station.system.ports);
   frames = most_from (2 * calls) (clock station.system);
 }
@@ -230,7 +230,7 @@ with_timers timers large small covers = record {
 -- there is room for a call of a system where each of its ports has it
 pub room_to_call : (stage : Stage) (place : ℕ) (station : Station) → IsStage stage
     → slice_get stage.stations.items place ≡ Some station
-    → 6 * length station.system.ports + 2 ≤ stage.net.pending.room
+    → 6 * length station.system.ports + 3 ≤ stage.net.pending.room
     → 2 * length station.system.ports ≤ stage.net.buffers.ready
     → HasRoomAtPorts 2 place (length station.system.ports) stage.net → HasRoomToCall place stage
 room_to_call stage place station is here entries buffers has = record {
@@ -246,13 +246,13 @@ room_to_call stage place station is here entries buffers has = record {
 -- and for a start
 pub room_to_start : (stage : Stage) (place : ℕ) (station : Station) → IsStage stage
     → slice_get stage.stations.items place ≡ Some station
-    → 4 * length station.system.ports + 2 + length station.system.ports * (6 * length station.system.ports + 2)
+    → 4 * length station.system.ports + 3 + length station.system.ports * (6 * length station.system.ports + 3)
     ≤ stage.net.pending.room
     → length station.system.ports * (2 * length station.system.ports) ≤ stage.net.buffers.ready
     → HasRoomAtPorts (2 * length station.system.ports) place (length station.system.ports) stage.net
     → HasRoomToStart place stage
 room_to_start stage place station is here entries buffers has =
-    let count = length station.system.ports in let timers = 4 * count + 2 in let calls = for_calls count station in
+    let count = length station.system.ports in let timers = 4 * count + 3 in let calls = for_calls count station in
     record {
       station = station;
       here = here;
@@ -290,7 +290,7 @@ not_same m n apart = by (eqb_tells m n)
 pub room_to_call_both : (stage : Stage) (first second : ℕ) (near far : Station) → IsStage stage
     → slice_get stage.stations.items first ≡ Some near → slice_get stage.stations.items second ≡ Some far
     → clock near.system ≢ clock far.system
-    → 6 * (length near.system.ports + length far.system.ports) + 4 ≤ stage.net.pending.room
+    → 6 * (length near.system.ports + length far.system.ports) + 6 ≤ stage.net.pending.room
     → 2 * (length near.system.ports + length far.system.ports) ≤ stage.net.buffers.ready
     → HasRoomAtPorts 2 first (length near.system.ports) stage.net
     → HasRoomAtPorts 2 second (length far.system.ports) stage.net

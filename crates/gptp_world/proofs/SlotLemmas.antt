@@ -20,34 +20,34 @@ both_tests false true f g = g refl
 both_tests false false f g = refl
 
 -- a number tells its parts
-parts : (p k q p' k' q' : ℕ) → k < 6 → k' < 6 → q ≤ 16 → q' ≤ 16
-    → 2 * ((p * 6 + k) * 17 + q) ≡ 2 * ((p' * 6 + k') * 17 + q')
+parts : (p k q p' k' q' : ℕ) → k < 7 → k' < 7 → q ≤ 16 → q' ≤ 16
+    → 2 * ((p * 7 + k) * 17 + q) ≡ 2 * ((p' * 7 + k') * 17 + q')
     → (p ≡ p') × ((k ≡ k') × (q ≡ q'))
 parts p k q p' k' q' h h' i i' e = (omega arith, (omega arith, omega arith))
 
-same_number : (p k q p' k' q' : ℕ) → k < 6 → k' < 6 → q ≤ 16 → q' ≤ 16
-    → (2 * ((p * 6 + k) * 17 + q) == 2 * ((p' * 6 + k') * 17 + q')) ≡ (p == p' && (k == k' && q == q'))
+same_number : (p k q p' k' q' : ℕ) → k < 7 → k' < 7 → q ≤ 16 → q' ≤ 16
+    → (2 * ((p * 7 + k) * 17 + q) == 2 * ((p' * 7 + k') * 17 + q')) ≡ (p == p' && (k == k' && q == q'))
 same_number p k q p' k' q' h h' i i' =
     both_tests _ _
-    (λ t. let e : 2 * ((p * 6 + k) * 17 + q) ≡ 2 * ((p' * 6 + k') * 17 + q') = grind (arith, nat_tests) in
+    (λ t. let e : 2 * ((p * 7 + k) * 17 + q) ≡ 2 * ((p' * 7 + k') * 17 + q') = grind (arith, nat_tests) in
     let s = parts p k q p' k' q' h h' i i' e in
     let a : p ≡ p' = s.0 in let b : k ≡ k' = s.1.0 in let d : q ≡ q' = s.1.1 in grind (arith, nat_tests))
     (λ t. let a : p ≡ p' = grind (arith, nat_tests) in let b : k ≡ k' = grind (arith, nat_tests) in
     let d : q ≡ q' = grind (arith, nat_tests) in
-    let e : 2 * ((p * 6 + k) * 17 + q) ≡ 2 * ((p' * 6 + k') * 17 + q') = omega arith in grind (arith, nat_tests))
+    let e : 2 * ((p * 7 + k) * 17 + q) ≡ 2 * ((p' * 7 + k') * 17 + q') = omega arith in grind (arith, nat_tests))
 
 -- a timer is no arrival
-apart : (p k q l m r : ℕ) → k < 6 → 6 ≤ r → (2 * ((p * 6 + k) * 17 + q) == 2 * m + 1) ≡ (p == l && (k == r && q == 0))
+apart : (p k q l m r : ℕ) → k < 7 → 7 ≤ r → (2 * ((p * 7 + k) * 17 + q) == 2 * m + 1) ≡ (p == l && (k == r && q == 0))
 apart p k q l m r h i =
     both_tests _ _
-    (λ t. let e : 2 * ((p * 6 + k) * 17 + q) ≡ 2 * m + 1 = grind (arith, nat_tests) in absurd (omega arith))
+    (λ t. let e : 2 * ((p * 7 + k) * 17 + q) ≡ 2 * m + 1 = grind (arith, nat_tests) in absurd (omega arith))
     (λ t. let e : k ≡ r = grind (arith, nat_tests) in absurd (omega arith))
 
-apart_too : (p k q l m r : ℕ) → k < 6 → 6 ≤ r → (2 * m + 1 == 2 * ((p * 6 + k) * 17 + q)) ≡ (l == p &&
+apart_too : (p k q l m r : ℕ) → k < 7 → 7 ≤ r → (2 * m + 1 == 2 * ((p * 7 + k) * 17 + q)) ≡ (l == p &&
     (r == k && 0 == q))
 apart_too p k q l m r h i =
     both_tests _ _
-    (λ t. let e : 2 * m + 1 ≡ 2 * ((p * 6 + k) * 17 + q) = grind (arith, nat_tests) in absurd (omega arith))
+    (λ t. let e : 2 * m + 1 ≡ 2 * ((p * 7 + k) * 17 + q) = grind (arith, nat_tests) in absurd (omega arith))
     (λ t. let e : r ≡ k = grind (arith, nat_tests) in absurd (omega arith))
 
 -- items of a world have the same slot exactly where they are the same
@@ -58,13 +58,13 @@ same_slot systems links (Expiry p t) (Expiry p' t') known also =
     (kind_below t') known.1
     also.1
 same_slot systems links (Expiry p t) (Arrival l FromA) known also =
-    apart p (timer_kind t) (timer_port t) l (l * 2) 6 (kind_below t) (omega arith)
+    apart p (timer_kind t) (timer_port t) l (l * 2) 7 (kind_below t) (omega arith)
 same_slot systems links (Expiry p t) (Arrival l FromB) known also =
-    apart p (timer_kind t) (timer_port t) l (l * 2 + 1) 7 (kind_below t) (omega arith)
+    apart p (timer_kind t) (timer_port t) l (l * 2 + 1) 8 (kind_below t) (omega arith)
 same_slot systems links (Arrival l FromA) (Expiry p t) known also =
-    apart_too p (timer_kind t) (timer_port t) l (l * 2) 6 (kind_below t) (omega arith)
+    apart_too p (timer_kind t) (timer_port t) l (l * 2) 7 (kind_below t) (omega arith)
 same_slot systems links (Arrival l FromB) (Expiry p t) known also =
-    apart_too p (timer_kind t) (timer_port t) l (l * 2 + 1) 7 (kind_below t) (omega arith)
+    apart_too p (timer_kind t) (timer_port t) l (l * 2 + 1) 8 (kind_below t) (omega arith)
 same_slot systems links (Arrival l FromA) (Arrival l' FromA) known also = both_tests _ _
     (λ t. let e : l ≡ l' = grind (arith, nat_tests) in grind (arith, nat_tests))
     (λ t. let e : l ≡ l' = grind (arith, nat_tests) in grind (arith, nat_tests))

@@ -146,6 +146,7 @@ timer_has_port (timers.Pdelay q) s is p at = let least = is.least in let most = 
 timer_has_port (timers.Respond q) s is p at = let least = is.least in let most = is.most in omega arith
 timer_has_port timers.Sync s is p at = absurd cc
 timer_has_port timers.Relay s is p at = absurd cc
+timer_has_port timers.Lapse s is p at = absurd cc
 
 -- no frame reaches one port alone
 frame_reaches : (selects : Bool) (p : ℕ) → (if selects then reaches.All else reaches.Nothing) ≡ reaches.Port p → ⊥

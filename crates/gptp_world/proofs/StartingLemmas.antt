@@ -66,7 +66,7 @@ timers_stage stage stage' place is set =
     let now = set.now in
     let outbox = set.outbox in
     record {
-      net = net_kept (4 * length set.station.system.ports + 2) stage.net stage'.net set.only is.net;
+      net = net_kept (4 * length set.station.system.ports + 3) stage.net stage'.net set.only is.net;
       clocks = rw (stations, directory) is.clocks;
       systems = rw (stations, systems) is.systems;
       few = rw stations is.few;
@@ -102,7 +102,7 @@ pub fresh_need : (station : Station) (now : ℕ) → IsItsSetup station
 fresh_need station now is =
     let ports = fresh_ports station now is in let named = is.named in
     let call = same_call station.system (fresh now station).system ports named in
-    ap (λ n. both (for_timers (4 * n + 2)) (repeated n (for_call (fresh now station).system))) ports
+    ap (λ n. both (for_timers (4 * n + 3)) (repeated n (for_call (fresh now station).system))) ports
     ∙ ap (λ (need : Need). both (for_all_timers station.system) (repeated (length station.system.ports) need)) call
 
 -- the stage with the new system
@@ -139,14 +139,14 @@ pub ports_room : (place : ℕ) (stage stage' : Stage) (new : Station) → slice_
     → HasRoom (for_start new.system) stage.net → HasSetTimers place stage stage' → HasRoomForPorts place stage'
 ports_room place stage stage' new here has set =
     let one : set.station ≡ new = same_Some set.station new (sym set.here ∙ here) in let stations = set.stations in
-    let only : OnlyEntries (4 * length new.system.ports + 2) stage.net stage'.net =
-    subst (λ (s : Station). OnlyEntries (4 * length s.system.ports + 2) stage.net stage'.net) one set.only in
+    let only : OnlyEntries (4 * length new.system.ports + 3) stage.net stage'.net =
+    subst (λ (s : Station). OnlyEntries (4 * length s.system.ports + 3) stage.net stage'.net) one set.only in
     record {
       station = new;
       here = rw stations here;
       room = left_of (for_all_timers new.system) (repeated (length new.system.ports) (for_call new.system)) stage.net
           stage'.net
-          (uses_timers (4 * length new.system.ports + 2) stage.net stage'.net only) has;
+          (uses_timers (4 * length new.system.ports + 3) stage.net stage'.net only) has;
     }
 
 -- a start is a new system, and then its ports come up

@@ -9,7 +9,7 @@ use Rattle.gptp_system.specs.declared.port.Port.{Port}
 use Rattle.gptp_setup.specs.declared.timer.Timer.{Timer}
 use Rattle.gptp_setup.specs.declared.timer.Timer.TheVariants as timers
 use Rattle.gptp_system.specs.Input.{Input}
-use Rattle.gptp_system.specs.Reach.{is_selected, same_timer}
+use Rattle.gptp_system.specs.Reach.{is_of_time, is_selected, same_timer}
 use Rattle.gptp_system.specs.State.{SystemState, due}
 use Rattle.gptp_system.specs.Steps.{IsTimerOf}
 use Rattle.gptp_system.specs.Touched.{IsTouchedOf, Touches}
@@ -80,6 +80,7 @@ timer_is (timers.Pdelay p) (timers.Pdelay q) same = let e : p ≡ q = grind (ari
 timer_is (timers.Respond p) (timers.Respond q) same = let e : p ≡ q = grind (arith, nat_tests) in ap timers.Respond e
 timer_is timers.Sync timers.Sync same = refl
 timer_is timers.Relay timers.Relay same = refl
+timer_is timers.Lapse timers.Lapse same = refl
 timer_is _ _ same = absurd cc
 
 -- and a timer is the same as itself
@@ -90,13 +91,19 @@ timer_itself (timers.Pdelay p) = grind (arith, nat_tests)
 timer_itself (timers.Respond p) = grind (arith, nat_tests)
 timer_itself timers.Sync = refl
 timer_itself timers.Relay = refl
+timer_itself timers.Lapse = refl
 
 -- ---- few timers are set
 
 abbrev none : Timer → Bool
 none timer = false
 
--- those that selection can change, of all timers of a system
+-- those that time changes which comes, of all timers of a system
+of_time_are : (p : ℕ) (ports : List Port) → filter is_of_time (timers_from p ports) ≡ timers.Relay ∷ timers.Lapse ∷ []
+of_time_are p [] = refl
+of_time_are p (q ∷ qs) = of_time_are (p + 1) qs
+
+-- and those that selection can change
 selected_are : (p : ℕ) (ports : List Port) → filter is_selected (timers_from p ports) ≡ selected_from p ports
 selected_are p [] = refl
 selected_are p (q ∷ qs) = ap (λ ts. timers.Announce p ∷ timers.Age p ∷ ts) (selected_are (p + 1) qs)
@@ -175,15 +182,26 @@ module _ (place : ℕ) (station : Station) (ts : List Timer) (es : List Entry) w
   one_touched timer among set =
       sym (set_timers_is place station ts es ∙ one_set (λ t. station_due t station) place timer ts es among set)
 
-pub selection_touched : (place : ℕ) (station : Station) (ports : List Port) (es : List Entry)
-    → AreSetBut is_selected place station es
-    → set_timers place station (selected_from 1 ports) es ≡ set_timers place station (timers_from 1 ports) es
-selection_touched place station ports es set =
-    let runs = λ (t : Timer). station_due t station in
-    set_timers_is place station (selected_from 1 ports) es
-    ∙ ap (λ ts. set_all runs place ts es) (sym (selected_are 1 ports))
-    ∙ sym (passed_over runs place is_selected (timers_from 1 ports) es set)
-    ∙ sym (set_timers_is place station (timers_from 1 ports) es)
+module _ (place : ℕ) (station : Station) (ports : List Port) (es : List Entry) where
+  -- those of which this is true
+  some_touched : (kept : Timer → Bool) (ts : List Timer) → filter kept (timers_from 1 ports) ≡ ts
+      → AreSetBut kept place station es
+      → set_timers place station ts es ≡ set_timers place station (timers_from 1 ports) es
+  some_touched kept ts are set =
+      let runs = λ (t : Timer). station_due t station in
+      set_timers_is place station ts es
+      ∙ ap (λ us. set_all runs place us es) (sym are)
+      ∙ sym (passed_over runs place kept (timers_from 1 ports) es set)
+      ∙ sym (set_timers_is place station (timers_from 1 ports) es)
+
+  pub time_touched : AreSetBut is_of_time place station es
+      → set_timers place station (timers.Relay ∷ timers.Lapse ∷ []) es
+      ≡ set_timers place station (timers_from 1 ports) es
+  time_touched = some_touched is_of_time (timers.Relay ∷ timers.Lapse ∷ []) (of_time_are 1 ports)
+
+  pub selection_touched : AreSetBut is_selected place station es
+      → set_timers place station (selected_from 1 ports) es ≡ set_timers place station (timers_from 1 ports) es
+  selection_touched = some_touched is_selected (selected_from 1 ports) (selected_are 1 ports)
 
 -- a timer that is touched alone is one of the system before and after
 same_timers_of : (s s' : SystemState) (timer : Timer) → length s'.ports ≡ length s.ports → IsTimerOf s timer
@@ -194,11 +212,13 @@ same_timers_of s s' (timers.Pdelay p) ports is = record { least = is.least; most
 same_timers_of s s' (timers.Respond p) ports is = record { least = is.least; most = rw ports is.most }
 same_timers_of s s' timers.Sync ports is = tt
 same_timers_of s s' timers.Relay ports is = tt
+same_timers_of s s' timers.Lapse ports is = tt
 
 same_touched_of : (s s' : SystemState) (touched : Touched) → length s'.ports ≡ length s.ports → IsTouchedOf s touched
     → IsTouchedOf s' touched
 same_touched_of s s' touches.Nothing ports is = tt
 same_touched_of s s' (touches.One timer) ports is = same_timers_of s s' timer ports is
+same_touched_of s s' touches.Time ports is = tt
 same_touched_of s s' touches.Selected ports is = tt
 same_touched_of s s' touches.All ports is = tt
 

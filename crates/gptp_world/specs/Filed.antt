@@ -28,7 +28,7 @@ with_queue place queue room filed = record filed { queues = slice_set filed.queu
 
 -- where a timer is filed; each kind of a system has a place for itself and for each of sixteen ports
 abbrev pub timer_place : ℕ → Timer → ℕ
-timer_place place timer = (place * 6 + timer_kind timer) * 17 + timer_port timer
+timer_place place timer = (place * 7 + timer_kind timer) * 17 + timer_port timer
 
 -- one number for each item: even for timers, odd for arrivals
 abbrev pub slot_of : Item → ℕ
@@ -54,7 +54,7 @@ one_or_none (Some timer) = timer ∷ []
 pub record AreFiled (systems links : ℕ) (filed : FiledState) (es : List (Numbered Item)) : Type 0 where
   pub few_systems : systems ≤ 512
   pub few_links : links ≤ 2048
-  pub timers_len : length filed.timers ≡ systems * 102
+  pub timers_len : length filed.timers ≡ systems * 119
   pub queues_len : length filed.queues ≡ links * 2
   pub known : AllByRecursion (λ (e : Numbered Item). IsKnown systems links e.item) es
   pub timers : (place : ℕ) → map running (in_slot (2 * place) es) ≡ one_or_none (slice_index_or filed.timers place None)

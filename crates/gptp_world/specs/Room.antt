@@ -70,7 +70,7 @@ is_reached reaches.All p = true
 -- A call of a system that reaches so far: each of its timers, and two sends at each port that it reaches.
 abbrev pub for_reach : Reach → SystemState → Need
 for_reach r s = record {
-  entries = 6 * length s.ports + 2;
+  entries = 6 * length s.ports + 3;
   buffers = 2 * length s.ports;
   frames = λ port. if is_reached r port.port && (port.clock == clock s) then 2 else 0;
 }

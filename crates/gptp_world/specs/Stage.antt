@@ -116,7 +116,7 @@ pub record HasStepped (place : ℕ) (input : Input) (answer : Answer) (stage sta
 
 -- what a call left: each timer of the system, and what stands in the outbox
 abbrev pub for_left : SystemState → List Sending → Need
-for_left s sends = both (for_timers (4 * length s.ports + 2)) (for_sends (clock s) sends)
+for_left s sends = both (for_timers (4 * length s.ports + 3)) (for_sends (clock s) sends)
 
 -- it can be carried out
 pub record CarriesOut (place : ℕ) (stage : Stage) : Type 0 where

@@ -29,7 +29,7 @@ pub record Replaces (place : ℕ) (new : Station) (stage stage_after : Stage) : 
 
 -- each timer of a system is set
 abbrev pub for_all_timers : SystemState → Need
-for_all_timers s = for_timers (4 * length s.ports + 2)
+for_all_timers s = for_timers (4 * length s.ports + 3)
 
 -- those of the system at a place can be set; where it has failed that takes no room
 pub record CanSetTimers (place : ℕ) (stage : Stage) : Type 0 where
@@ -37,13 +37,13 @@ pub record CanSetTimers (place : ℕ) (stage : Stage) : Type 0 where
   pub here : slice_get stage.stations.items place ≡ Some station
   pub known : place < stage.net.pending.systems
   pub few : length station.system.ports ≤ 16
-  pub room : station.live ≡ true → 4 * length station.system.ports + 2 ≤ stage.net.pending.room
+  pub room : station.live ≡ true → 4 * length station.system.ports + 3 ≤ stage.net.pending.room
 
 -- they were set, and nothing else has changed
 pub record HasSetTimers (place : ℕ) (stage stage_after : Stage) : Type 0 where
   pub station : Station
   pub here : slice_get stage.stations.items place ≡ Some station
-  pub only : OnlyEntries (4 * length station.system.ports + 2) stage.net stage_after.net
+  pub only : OnlyEntries (4 * length station.system.ports + 3) stage.net stage_after.net
   pub timers : between stage_after.net ≡ all_timers place station (between stage.net)
   pub stations : stage_after.stations ≡ stage.stations
   pub now : stage_after.now ≡ stage.now

@@ -14,7 +14,7 @@ use Rattle.gptp_acts.specs.World.{station_due}
 
 -- those that selection can change, of ports the first of which has this number: in the order in which they are put
 abbrev pub selected_from : ℕ → List Port → List Timer
-selected_from p [] = timers.Relay ∷ []
+selected_from p [] = timers.Relay ∷ timers.Lapse ∷ []
 selected_from p (q ∷ qs) = timers.Announce p ∷ timers.Age p ∷ selected_from (p + 1) qs
 
 -- ---- what is pending of the others

@@ -164,6 +164,7 @@ impl Stage {
             Timer::Age(port) => is_port(port, ports),
             Timer::Sync => true,
             Timer::Relay => true,
+            Timer::Lapse => true,
         }
     }
 

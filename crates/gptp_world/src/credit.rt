@@ -169,7 +169,7 @@ impl Stage {
     {
         let ports = self.stations[place].system.ports();
         let count = usize::from(ports);
-        self.net.reserve(6 * count + 2, 2 * count)?;
+        self.net.reserve(6 * count + 3, 2 * count)?;
         self.net.draw_within(credit, place, ports, reach)
     }
 }

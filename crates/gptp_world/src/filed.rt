@@ -117,13 +117,13 @@ pub(crate) fn timer_place(place: usize, timer: Timer) -> usize
     requires port { timer_port timer ≤ 16 }
     ensures { result ≡ timer_place place timer }
 {
-    (place * 6 + timer_kind(timer)) * 17 + timer_port(timer)
+    (place * 7 + timer_kind(timer)) * 17 + timer_port(timer)
 }
 
 /// The kind of a timer.
 fn timer_kind(timer: Timer) -> usize
     ensures kind { result ≡ timer_kind timer }
-    ensures few { result < 6 }
+    ensures few { result < 7 }
 {
     match timer {
         Timer::Pdelay(_) => 0,
@@ -132,6 +132,7 @@ fn timer_kind(timer: Timer) -> usize
         Timer::Age(_) => 3,
         Timer::Sync => 4,
         Timer::Relay => 5,
+        Timer::Lapse => 6,
     }
 }
 
@@ -142,7 +143,7 @@ fn timer_port(timer: Timer) -> usize
     match timer {
         Timer::Pdelay(port) | Timer::Respond(port) | Timer::Announce(port) | Timer::Age(port) =>
             usize::from(port),
-        Timer::Sync | Timer::Relay => 0,
+        Timer::Sync | Timer::Relay | Timer::Lapse => 0,
     }
 }
 

@@ -74,7 +74,7 @@ impl Pending {
         ensures links { IfOk result (λ pending. pending.links ≡ links) }
         ensures entries { IfOk result (λ pending. pending.entries ≡ []) }
     {
-        let filed = Filed::new(alloc, systems * 102, links * 2)?;
+        let filed = Filed::new(alloc, systems * 119, links * 2)?;
         Ok(Pending {
             systems,
             links,

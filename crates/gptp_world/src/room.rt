@@ -107,7 +107,7 @@ impl Stage {
     {
         let ports = self.stations[place].system.ports();
         let count = usize::from(ports);
-        self.net.reserve(6 * count + 2, 2 * count)?;
+        self.net.reserve(6 * count + 3, 2 * count)?;
         self.net.make_room_at_ports(place, ports, 2)
     }
 
@@ -122,7 +122,7 @@ impl Stage {
     {
         let ports = self.stations[place].system.ports();
         let count = usize::from(ports);
-        self.net.reserve(4 * count + 2 + count * (6 * count + 2), count * (2 * count))?;
+        self.net.reserve(4 * count + 3 + count * (6 * count + 3), count * (2 * count))?;
         self.net.make_room_at_ports(place, ports, 2 * count)
     }
 
@@ -161,7 +161,7 @@ impl Stage {
         let near = self.stations[first].system.ports();
         let far = self.stations[second].system.ports();
         let count = usize::from(near) + usize::from(far);
-        self.net.reserve(6 * count + 4, 2 * count)?;
+        self.net.reserve(6 * count + 6, 2 * count)?;
         self.net.make_room_at_ports(first, near, 2)?;
         self.net.make_room_at_ports(second, far, 2)
     }

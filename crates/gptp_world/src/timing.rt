@@ -58,13 +58,24 @@ impl Net {
         self.set_timer(place, station, Timer::Age(port));
     }
 
+    /// So are those that time changes which comes over the Slave port.
+    fn set_of_time(&mut self, place: usize, station: &Station)
+        requires place { place < self.old.pending.systems }
+        requires room { station.now.live ≡ true → 2 ≤ self.old.pending.room }
+        ensures entries { self.new.pending.entries ≡ set_timers place station.now (timers.Relay ∷ timers.Lapse ∷ []) self.old.pending.entries }
+        ensures only { OnlyEntries 2 self.old self.new }
+    {
+        self.set_timer(place, station, Timer::Relay);
+        self.set_timer(place, station, Timer::Lapse);
+    }
+
     /// So are all timers of the system: of each port, by rising port, and then those of the system.
     pub(crate) fn set_timers(&mut self, place: usize, station: &Station)
         requires place { place < self.old.pending.systems }
         requires few { length station.now.system.ports ≤ 16 }
-        requires room { station.now.live ≡ true → 4 * length station.now.system.ports + 2 ≤ self.old.pending.room }
+        requires room { station.now.live ≡ true → 4 * length station.now.system.ports + 3 ≤ self.old.pending.room }
         ensures entries { self.new.pending.entries ≡ set_timers place station.now (timers_from 1 station.now.system.ports) self.old.pending.entries }
-        ensures only { OnlyEntries (4 * length station.now.system.ports + 2) self.old self.new }
+        ensures only { OnlyEntries (4 * length station.now.system.ports + 3) self.old self.new }
     {
         let mut port = 0;
         while port < station.system.ports() {
@@ -72,7 +83,7 @@ impl Net {
             self.set_port_timers(place, station, port);
         }
         self.set_timer(place, station, Timer::Sync);
-        self.set_timer(place, station, Timer::Relay);
+        self.set_of_time(place, station);
     }
 
     /// So are the timers of a port that selection can change.
@@ -92,31 +103,32 @@ impl Net {
     fn set_selected(&mut self, place: usize, station: &Station)
         requires place { place < self.old.pending.systems }
         requires few { length station.now.system.ports ≤ 16 }
-        requires room { 2 * length station.now.system.ports + 1 ≤ self.old.pending.room }
+        requires room { 2 * length station.now.system.ports + 2 ≤ self.old.pending.room }
         ensures entries { self.new.pending.entries ≡ set_timers place station.now (selected_from 1 station.now.system.ports) self.old.pending.entries }
-        ensures only { OnlyEntries (2 * length station.now.system.ports + 1) self.old self.new }
+        ensures only { OnlyEntries (2 * length station.now.system.ports + 2) self.old self.new }
     {
         let mut port = 0;
         while port < station.system.ports() {
             port += 1;
             self.set_selected_at(place, station, port);
         }
-        self.set_timer(place, station, Timer::Relay);
+        self.set_of_time(place, station);
     }
 
     /// So are all timers of the system, of which all but these are pending when they are due already.
     pub(crate) fn set_touched(&mut self, place: usize, station: &Station, touched: Touched)
         requires place { place < self.old.pending.systems }
         requires few { length station.now.system.ports ≤ 16 }
-        requires room { 4 * length station.now.system.ports + 2 ≤ self.old.pending.room }
+        requires room { 4 * length station.now.system.ports + 3 ≤ self.old.pending.room }
         requires own { IsTouchedOf station.now.system touched }
         requires set { AreSetBut (holds touched) place station.now self.old.pending.entries }
         ensures entries { self.new.pending.entries ≡ set_timers place station.now (timers_from 1 station.now.system.ports) self.old.pending.entries }
-        ensures only { OnlyEntries (4 * length station.now.system.ports + 2) self.old self.new }
+        ensures only { OnlyEntries (4 * length station.now.system.ports + 3) self.old self.new }
     {
         match touched {
             Touched::Nothing => {}
             Touched::One(timer) => self.set_timer(place, station, timer),
+            Touched::Time => self.set_of_time(place, station),
             Touched::Selected => self.set_selected(place, station),
             Touched::All => self.set_timers(place, station),
         }

@@ -15,4 +15,4 @@ returns-clause-step c =
     let delay : c.delay_at-delay.result ≡ delay_at s p = rw c.as_slice.ensures.value at c.delay_at-delay.ensures in
     let rate : c.rate_at-rate.result ≡ rate_at s p = rw c.as_slice-2.ensures.value at c.rate_at-rate.ensures in
     follows p m c.args.now s _ _ c.in-Some.info capable told
-    (rw (c.said_on.ensures.unchanged, delay, rate) at c.know.ensures.step)
+    (rw (c.said_on.ensures.unchanged, delay, rate) at c.take.ensures.step)

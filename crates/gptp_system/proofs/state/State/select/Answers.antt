@@ -51,7 +51,7 @@ returns-clause-selects c =
     rw (← c.as_slice.ensures.value, ← c.as_mut_slice-2.ensures.value, ← c.clock-clock.ensures)
     c.announce_fresh.ensures.sends in
     rw (held-is, ports-is)
-    (took_over c.args.now (state_of s) t c.select-selected.new.held c.announce_fresh.new.ports _ _ _ _ _
+    (took_over c.args.now (state_of s) t c.select-selected.new.held c.announce_fresh.new.ports _ _ _ _ _ _
     c.follows_on-same.result selection ports-are
     sends-are
     c.follows_on-same.ensures
@@ -60,6 +60,7 @@ returns-clause-selects c =
       known_is = c.kept_if-self.ensures;
       offset_is = c.kept_if-self-2.ensures;
       relay_is = c.kept_if-self-3.ensures;
+      lapse_is = c.lapse_after-self.ensures;
     }))
 
 pub returns-clause-ready : goal.returns-clause-ready

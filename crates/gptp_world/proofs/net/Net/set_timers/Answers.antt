@@ -35,7 +35,7 @@ set_timer-requires-clause-room c = λ live.
     let all = c.requires.room live in let so_far = c.loop-port.invariant.only.room in
     let within = c.loop-port.invariant.within in omega arith
 
-pub set_timer-requires-2-clause-room : goal.set_timer-requires-2-clause-room
-set_timer-requires-2-clause-room c = λ live.
+pub set_of_time-requires-clause-room : goal.set_of_time-requires-clause-room
+set_of_time-requires-clause-room c = λ live.
     let all = c.requires.room live in let so_far = c.loop-port.invariant.only.room in
     let within = c.loop-port.invariant.within in let first = c.set_timer.ensures.only.room in omega arith

@@ -3,7 +3,7 @@ use Rattle.gptp_system.specs.Touched.{holds, IsTouchedOf}
 use Rattle.gptp_world.specs.Timing.{AreSetBut}
 use Rattle.gptp_acts.specs.World.{timers_from}
 use Rattle.gptp_acts.proofs.OwnTimerLemmas.{own_timer}
-use Rattle.gptp_world.proofs.TimingLemmas.{nothing_touched, one_touched, selection_touched}
+use Rattle.gptp_world.proofs.TimingLemmas.{nothing_touched, one_touched, selection_touched, time_touched}
 use Rattle.gptp_world.proofs.net.Net.set_touched.Goals as goal
 
 pub returns-in-Nothing-clause-entries : goal.returns-in-Nothing-clause-entries
@@ -20,6 +20,13 @@ returns-in-One-clause-entries c =
     ∙ one_touched c.args.place station (timers_from 1 station.system.ports) es c.in-One.timer
     (own_timer c.in-One.timer station.system own)
     (subst (λ t. AreSetBut (holds t) c.args.place station es) c.in-One.is c.requires.set)
+
+pub returns-in-Time-clause-entries : goal.returns-in-Time-clause-entries
+returns-in-Time-clause-entries c =
+    let station = c.args.station.now in let es = c.args.self.now.pending.entries in
+    c.set_of_time.ensures.entries
+    ∙ time_touched c.args.place station station.system.ports es
+    (subst (λ t. AreSetBut (holds t) c.args.place station es) c.in-Time.is c.requires.set)
 
 pub returns-in-Selected-clause-entries : goal.returns-in-Selected-clause-entries
 returns-in-Selected-clause-entries c =

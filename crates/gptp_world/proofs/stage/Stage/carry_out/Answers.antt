@@ -17,7 +17,7 @@ send_all-requires-clause-room g c =
     let is : one ≡ c.requires.carries.station =
     c.index-station.ensures
     ∙ read c.args.self.now.stations.items c.args.place c.requires.carries.station one c.requires.carries.here in
-    let used = 4 * length one.system.ports + 2 in
+    let used = 4 * length one.system.ports + 3 in
     let room : HasRoom (for_left one.system c.args.self.now.outbox.items) net = rw is c.requires.carries.room in
     rw c.as_slice.ensures.value
     (left_of (for_timers used) (for_sends (clock one.system) c.args.self.now.outbox.items) net
@@ -26,7 +26,7 @@ send_all-requires-clause-room g c =
 pub returns-clause-within : goal.returns-clause-within
 returns-clause-within g c = λ before input answer step given.
     let one = c.index-station.result.now in let net = c.args.self.now.net in
-    let used = 4 * length one.system.ports + 2 in let sends = c.args.self.now.outbox.items in
+    let used = 4 * length one.system.ports + 3 in let sends = c.args.self.now.outbox.items in
     let sent : Uses (for_sends (clock one.system) sends) c.set_touched.new.self c.send_all.new.self =
     rw (← c.as_slice.ensures.value) c.send_all.ensures.uses in
     let all : Uses (for_left one.system sends) net c.send_all.new.self =
@@ -53,7 +53,7 @@ returns-clause-called g c = λ before input answer step.
     ∙ get-set_same before.stations.items c.args.place step.station new step.here in
     let is : one ≡ new = c.index-station.ensures ∙ read c.args.self.now.stations.items c.args.place new one here in
     let t = c.set_touched.ensures in
-    let net = timers_set (4 * length one.system.ports + 2) c.args.place one c.args.self.now.net c.set_touched.new.self
+    let net = timers_set (4 * length one.system.ports + 3) c.args.place one c.args.self.now.net c.set_touched.new.self
     t.only t.entries in
     let sent : (station : Station) → one ≡ station
     → SentAll g.F.Fate.answers c.args.self.now.now station.system c.args.self.now.outbox.items c.args.fate.now

@@ -28,7 +28,7 @@ returns-clause-room c =
     let count = c.ports-ports.ensures in
     let more = c.make_room_at_ports.ensures.only in let entries = more.entries in let buffers = more.buffers in
     let ports = c.from-count.ensures in let made = c.in_ok-reserve.ensures in let n = c.ports-ports.result in
-    let made_entries : 4 * n + 2 + n * (6 * n + 2) ≤ c.reserve.new.self.pending.room = rw (← ports) made.entries in
+    let made_entries : 4 * n + 3 + n * (6 * n + 3) ≤ c.reserve.new.self.pending.room = rw (← ports) made.entries in
     let made_buffers : n * (2 * n) ≤ c.reserve.new.self.buffers.ready = rw (← ports) made.buffers in
     on_ok c.make_room_at_ports.result (HasRoomAtPorts (2 * c.from-count.result) c.args.place n
     c.make_room_at_ports.new.self)

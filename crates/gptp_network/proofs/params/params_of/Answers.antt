@@ -1,0 +1,19 @@
+-- The values of `[network]` are read key by key, in the order of the keys.
+use Rattle.std.proofs.Common.{rules}
+use Rattle.gptp_network.specs.Params.{params_of}
+use Rattle.gptp_network.proofs.params.params_of.Goals as goal
+
+pub returns : goal.returns
+unfolding params_of
+returns c =
+    rw (
+      ← c.in_ok-announce.ensures,
+      ← c.in_ok-sync.ensures,
+      ← c.in_ok-pdelay.ensures,
+      ← c.in_ok-timeout.ensures.is,
+      ← c.in_ok-lost.ensures.is,
+      ← c.in_ok-threshold.ensures.is,
+      ← c.in_ok-turnaround.ensures.is,
+      ← c.in_ok-residence.ensures.is,
+      ← c.in_ok-sync_timeout.ensures.is,
+    ) (search rules)
