@@ -124,7 +124,7 @@ started_set p setup now live params largest intervals = record {
   logs = λ i q there.
       let (log, here, is) = new_port_at (clock_of setup.identity) setup.params setup.intervals.items i q there in
       here ∙ ap (λ (x : Port). Some x.log_interval) (sym is);
-  lapses = λ none. refl;
+  lapses = λ nothing. refl;
 }
 
 starts_kept : (p : Pace) (So : ℤ → Type 0) (place : ℕ) (w : WorldState) (draws : List Draw) (w' : WorldState)
@@ -181,6 +181,7 @@ same_system p So now old new is system starts intervals same live = record {
     largest = rw system is.set.largest;
     intervals = intervals;
     logs = rw (system, same) is.set.logs;
+    lapses = λ nothing. rw system (is.set.lapses nothing);
   };
   logs = rw same is.logs;
   in_time = λ now_live. rw system (is.in_time (live now_live));

@@ -203,9 +203,9 @@ module _ (p : Pace) (So : ℤ → Type 0) (place : ℕ) (input : Input) (w : Wor
           largest = sound.kept.largest ∙ is.set.largest;
           intervals = is.set.intervals;
           logs = logs_kept calls.station calls.after sound.kept is.set.logs;
-          lapses = λ none.
+          lapses = λ nothing.
               stays_off input w.time calls.station.system calls.after calls.sends answer calls.steps
-              (ap (λ (x : Params). x.sync_timeout) is.set.params ∙ none) (is.set.lapses none);
+              (ap (λ (x : Params). x.sync_timeout) is.set.params ∙ nothing) (is.set.lapses nothing);
         };
         logs = is.logs;
         in_time = λ live.
