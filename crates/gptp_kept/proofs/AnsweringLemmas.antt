@@ -3,7 +3,6 @@ use Rattle.std.proofs.Common.{◌≡◌, ◌≤◌, ◌<◌, ◌^◌, ℕ, Bool,
 use Rattle.std.proofs.lemmas.Option.{none-some, same_Some}
 use Rattle.gptp_lists.specs.Members.{In}
 use Rattle.gptp_links.specs.Fate.{Draw}
-use Rattle.gptp_receipt.specs.declared.held.Held.TheVariants as helds
 use Rattle.gptp_receipt.specs.Held.{received}
 use Rattle.gptp_system.specs.declared.answer.Answer.{Answer}
 use Rattle.gptp_setup.specs.declared.setup.Setup.{Setup}

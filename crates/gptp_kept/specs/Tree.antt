@@ -2,7 +2,7 @@
 use Rattle.std.specs.Prelude.{◌≡◌, ◌≢◌, ◌≤◌, ◌/◌, ◌^◌, ℕ, suc, true, None, Some, slice_get}
 use Rattle.gptp_graph.specs.Best.{IsBest}
 use Rattle.gptp_graph.specs.Distance.{IsNear}
-use Rattle.gptp_graph.specs.Snapshot.{Joins, Snapshot, System, port_of}
+use Rattle.gptp_graph.specs.Snapshot.{Joins, System, port_of}
 use Rattle.gptp_roles.specs.declared.role.Role.TheVariants.{Master, Slave}
 use Rattle.gptp_system.specs.Start.{role_at}
 use Rattle.gptp_system.specs.State.{SystemState, clock}
