@@ -1,6 +1,6 @@
 -- Two lists, member by member.
 use Rattle.std.proofs.Common.{List, [], ◌∷◌, ◌++◌}
-use Rattle.gptp_faults.specs.Each.{Each}
+use Rattle.gptp_timeline.specs.Each.{Each}
 
 -- with one more at the end of both
 pub each_more : {X Y : Type 0} (P : X → Y → Type 0) (xs : List X) (ys : List Y) (x : X) (y : Y) → Each P xs ys → P x y

@@ -6,3 +6,6 @@ pub mod OutcomeLemmas
 pub mod RefusalLemmas
 pub mod TextLemmas
 pub mod AnswerLemmas
+mod DownLemmas
+mod PlayableLemmas
+mod FollowLemmas

@@ -6,7 +6,7 @@ use Rattle.std.proofs.lemmas.List.Elements.{filter-append}
 use Rattle.gptp_network.specs.Document.{DocumentState}
 use Rattle.gptp_timeline.specs.Ends.{EndState}
 use Rattle.gptp_timeline.specs.declared.stretch.Stretch.{Stretch}
-use Rattle.gptp_faults.specs.Each.{Each}
+use Rattle.gptp_timeline.specs.Each.{Each}
 use Rattle.gptp_faults.specs.Extremes.{greatest_behind, joined, of_one}
 use Rattle.gptp_faults.specs.Follows.{follows}
 use Rattle.gptp_faults.specs.Outcomes.{backs, belongs, downs, IsOutcome, IsOutcomeAt, numbers_of, OutcomeState}

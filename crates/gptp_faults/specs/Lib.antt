@@ -1,4 +1,3 @@
-pub mod Each
 pub mod Cases
 pub mod Times
 pub mod Runs
@@ -9,3 +8,4 @@ pub mod Ranking
 pub mod Refusals
 pub mod FaultsText
 pub mod Faults
+pub mod Laws

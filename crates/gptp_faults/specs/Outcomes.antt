@@ -6,7 +6,7 @@ use Rattle.gptp_timeline.specs.Ends.{EndState}
 use Rattle.gptp_timeline.specs.declared.stretch.Stretch.{Stretch}
 use Rattle.gptp_faults.specs.Extremes.{greatest_behind, of_one}
 use Rattle.gptp_faults.specs.Follows.{follows}
-use Rattle.gptp_faults.specs.Each.{Each}
+use Rattle.gptp_timeline.specs.Each.{Each}
 use Rattle.gptp_faults.specs.Runs.{IsRun, runs_of}
 use Rattle.gptp_faults.specs.declared.cases.Case.{Case}
 use Rattle.gptp_faults.specs.declared.extremes.Extremes.{Extremes}

@@ -7,7 +7,7 @@ use Rattle.gptp_plan.specs.Calm.{last_change}
 use Rattle.gptp_plan.specs.Network.{largest_of}
 use Rattle.gptp_setup.specs.Intervals.{interval_of}
 use Rattle.gptp_faults.specs.Cases.{fault_of}
-use Rattle.gptp_faults.specs.Each.{Each}
+use Rattle.gptp_timeline.specs.Each.{Each}
 use Rattle.gptp_faults.specs.declared.cases.Case.{Case}
 use Rattle.gptp_faults.specs.declared.options.FaultsOptions.{FaultsOptions}
 use Rattle.gptp_faults.specs.declared.cases.Planned.{Planned}

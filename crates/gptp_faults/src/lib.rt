@@ -9,6 +9,7 @@ mod cases;
 mod extremes;
 mod faults;
 mod follows;
+mod laws;
 mod options;
 mod outcome;
 mod ranking;
@@ -18,4 +19,5 @@ mod text;
 mod times;
 
 pub use faults::{Answer, fail_each};
+pub use laws::follow_lines_settle;
 pub use options::{FaultsOptions, Only};

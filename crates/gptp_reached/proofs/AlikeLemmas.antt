@@ -23,7 +23,7 @@ turned g h a = record { systems = IsPermutation-sym g.systems h.systems a.system
 among : (g h : Snapshot) → AreAlike g h → (s : System) → In s g.systems → In s h.systems
 among g h a s member = In-permutation s g.systems h.systems a.systems member
 
-clock_among : (g h : Snapshot) → AreAlike g h → (v : ℕ) → In v (clocks g) → In v (clocks h)
+pub clock_among : (g h : Snapshot) → AreAlike g h → (v : ℕ) → In v (clocks g) → In v (clocks h)
 clock_among g h a v member =
     let (s, one, same) = from_map clock_in v g.systems member in
     subst (λ u. In u (clocks h)) same (In-map clock_in s h.systems (among g h a s one))
@@ -42,7 +42,7 @@ route g h a v w [] there = there
 route g h a v w (u ∷ us) ((m, n, one), rest) =
     ((m, n, joins g h a (port_of v m) (port_of u n) one), route g h a u w us rest)
 
-path : (g h : Snapshot) → AreAlike g h → (v w : ℕ) (us : List ℕ) → IsPath g v w us → IsPath h v w us
+pub path : (g h : Snapshot) → AreAlike g h → (v w : ℕ) (us : List ℕ) → IsPath g v w us → IsPath h v w us
 path g h a v w us is = record {
   begins = clock_among g h a v is.begins;
   route = route g h a v w us is.route;
@@ -54,7 +54,7 @@ reaches g h a v w (us, is) = (us, path g h a v w us is)
 
 -- ---- distances
 
-best : (g h : Snapshot) → AreAlike g h → (v : ℕ) (s : System) → IsBest g v s → IsBest h v s
+pub best : (g h : Snapshot) → AreAlike g h → (v : ℕ) (s : System) → IsBest g v s → IsBest h v s
 best g h a v s is =
     let back = turned g h a in record {
       live = among g h a s is.live;
@@ -68,7 +68,7 @@ distance_from g h a b v d is = record {
   least = λ us way. is.least us (path h g (turned g h a) b v us way);
 }
 
-distance : (g h : Snapshot) → AreAlike g h → (v d : ℕ) → IsDistance g v d → IsDistance h v d
+pub distance : (g h : Snapshot) → AreAlike g h → (v d : ℕ) → IsDistance g v d → IsDistance h v d
 distance g h a v d is = record {
   best = is.best;
   is_best = best g h a v is.best is.is_best;

@@ -31,5 +31,8 @@ pub mod EndLemmas
 pub mod BeginLemmas
 pub mod ExactLemmas
 pub mod RestLemmas
+pub mod BehindLemmas
+pub mod PastLemmas
 pub mod SettlingLemmas
+pub mod FollowedLemmas
 pub mod DifferenceLemmas

@@ -151,15 +151,15 @@ module _ (g : Snapshot) (well : IsWellFormed g) (s s' : SystemState) (named : cl
 
 -- ---- live systems by their clocks
 
-record IsLiveAs (name : ℕ) (stations : List Station) (s : SystemState) : Type 0 where
-  place : ℕ
-  station : Station
-  here : slice_get stations place ≡ Some station
-  live : station.live ≡ true
-  state : station.system ≡ s
-  is_named : clock station.system ≡ name
+pub record IsLiveAs (name : ℕ) (stations : List Station) (s : SystemState) : Type 0 where
+  pub place : ℕ
+  pub station : Station
+  pub here : slice_get stations place ≡ Some station
+  pub live : station.live ≡ true
+  pub state : station.system ≡ s
+  pub is_named : clock station.system ≡ name
 
-found_live : (name : ℕ) (stations : List Station) (s : SystemState) → live_among name stations ≡ Some s
+pub found_live : (name : ℕ) (stations : List Station) (s : SystemState) → live_among name stations ≡ Some s
     → IsLiveAs name stations s
 found_live name [] s is = absurd cc
 found_live name (x ∷ xs) s is = by (clock x.system == name) refl x.live refl (found_live name xs s)

@@ -8,7 +8,13 @@ use Rattle.gptp_acts.specs.Advancing.{Happens}
 use Rattle.gptp_acts.specs.Course.{Begun, WasDone}
 use Rattle.gptp_acts.specs.Prompt.{NoneFaster}
 use Rattle.gptp_acts.specs.Sound.{IsSound}
-use Rattle.gptp_acts.specs.Views.{IsActOf}
+use Rattle.gptp_acts.specs.Views.{IsActOf, rising_clocks}
+use Rattle.gptp_graph.specs.Distance.{IsNear}
+use Rattle.gptp_reached.proofs.AlikeLemmas.{path, turned}
+use Rattle.gptp_system.specs.State.{SystemState}
+use Rattle.gptp_timeline.proofs.BehindLemmas.{last_choice, last_roles, ShowsTheSame, still_both, StillBehind}
+use Rattle.gptp_timeline.proofs.NameLemmas.{acts_named, AreNamed, first_names, same_named}
+use Rattle.gptp_timeline.proofs.PastLemmas.{by_past, by_sooner, last_past, past_both, past_later, PastBy}
 use Rattle.gptp_acts.specs.World.{WorldState}
 use Rattle.gptp_acts.specs.declared.item.Item.{Item}
 use Rattle.gptp_acts.specs.declared.item.Item.TheVariants.{Arrival, Expiry}
@@ -52,7 +58,6 @@ use Rattle.gptp_plan.proofs.LogLemmas.{smallest_log}
 use Rattle.gptp_reached.specs.AlikeLaws.{AreAlike}
 use Rattle.gptp_reached.specs.PlayedLaws.{IsPlayable}
 use Rattle.gptp_reached.specs.Reached.{StandsAs}
-use Rattle.gptp_reached.proofs.AlikeLemmas.{turned}
 use Rattle.gptp_reached.proofs.BeginLemmas.{begun_stands}
 use Rattle.gptp_reached.proofs.CalmLemmas.{quiet_stands}
 use Rattle.gptp_reached.proofs.ChangeLemmas.{changes_stand}
@@ -79,134 +84,6 @@ use Rattle.gptp_timeline.proofs.MeasuredLemmas.{any_none}
 use Rattle.gptp_timeline.proofs.UnfoldLemmas.{now_and_later}
 use Rattle.gptp_timeline.proofs.RestLemmas.{IsAtRest, shown_same, stands_there, world_rests}
 
--- ---- acts behind a time
-
--- nothing that is shown is another behind an act
-pub record ShowsTheSame (t : Transition) : Type 0 where
-  pub choice : (name : ℕ) → same_choice (shown name t.before) (shown name t.after) ≡ true
-  pub roles : (name : ℕ) → same_roles (shown name t.before) (shown name t.after) ≡ true
-
--- so it is with all acts behind a time
-abbrev pub StillBehind : ℕ → List Transition → Type 0
-StillBehind time = AllByRecursion (λ t. (at_of t ≤ time) ⊎ ShowsTheSame t)
-
-still_both : (time : ℕ) (ts us : List Transition) → StillBehind time ts → StillBehind time us
-    → StillBehind time (ts ++ us)
-still_both time [] us first second = second
-still_both time (t ∷ ts) us first second = (first.0, still_both time ts us first.1 second)
-
--- the last act that leaves some system another isn't behind it
-last_within : (test : Transition → Bool) (time : ℕ) (ts : List Transition)
-    → AllByRecursion (λ t. (at_of t ≤ time) ⊎ (test t ≡ false)) ts → IfSome (last_at test ts) (λ last. last ≤ time)
-last_within test time [] all = tt
-last_within test time (t ∷ ts) all = by (last_at test ts) (last_within test time ts all.1) (test t) refl all.0
-  where
-    by : (later : Option ℕ) → IfSome later (λ last. last ≤ time) → (passes : Bool) → test t ≡ passes
-        → (at_of t ≤ time) ⊎ (test t ≡ false)
-        → IfSome (option_or later (if passes then Some (at_of t) else None)) (λ last. last ≤ time)
-    by (Some last) within passes is one = within
-    by None within true is (inl early) = early
-    by None within true is (inr none) = absurd (let both : true ≡ false = sym is ∙ none in cc)
-    by None within false is one = tt
-
-still_tests : (same : Option Shown → Option Shown → Bool) (names : List ℕ) (time : ℕ) (ts : List Transition)
-    → ((t : Transition) → ShowsTheSame t → (name : ℕ) → same (shown name t.before) (shown name t.after) ≡ true)
-    → StillBehind time ts → AllByRecursion (λ t. (at_of t ≤ time) ⊎ (leaves_another same names t ≡ false)) ts
-still_tests same names time [] follows still = tt
-still_tests same names time (t ∷ ts) follows still =
-    (by still.0, still_tests same names time ts follows still.1)
-  where
-    by : (at_of t ≤ time) ⊎ ShowsTheSame t → (at_of t ≤ time) ⊎ (leaves_another same names t ≡ false)
-    by (inl early) = inl early
-    by (inr shows) =
-        inr (any_none (λ name. not (same (shown name t.before) (shown name t.after))) names
-        (λ i name there. ap not (follows t shows name)))
-
-pub last_choice : (names : List ℕ) (time : ℕ) (ts : List Transition) → StillBehind time ts
-    → IfSome (last_at (leaves_another same_choice names) ts) (λ last. last ≤ time)
-last_choice names time ts still =
-    last_within (leaves_another same_choice names) time ts
-    (still_tests same_choice names time ts (λ t shows. shows.choice) still)
-
-pub last_roles : (names : List ℕ) (time : ℕ) (ts : List Transition) → StillBehind time ts
-    → IfSome (last_at (leaves_another same_roles names) ts) (λ last. last ≤ time)
-last_roles names time ts still =
-    last_within (leaves_another same_roles names) time ts
-    (still_tests same_roles names time ts (λ t shows. shows.roles) still)
-
--- ---- events by a time
-
-abbrev PastBy : ℕ → List Timed → Type 0
-PastBy time = AllByRecursion (λ (e : Timed). e.at ≤ time)
-
-past_later : (time later : ℕ) (es : List Timed) → time ≤ later → PastBy time es → PastBy later es
-past_later time later [] le past = tt
-past_later time later (e ∷ es) le past = let first = past.0 in (omega arith, past_later time later es le past.1)
-
-now_past : (time : ℕ) (es : List Timed) → PastBy time (now_of time es)
-now_past time [] = tt
-now_past time (e ∷ es) = by (nat_le e.at time) refl (now_past time es)
-  where
-    by : (early : Bool) → nat_le e.at time ≡ early → PastBy time (now_of time es) → PastBy time (now_of time (e ∷ es))
-    by true test rest = let first : e.at ≤ time = grind (arith, nat_tests) in rw test (first, rest)
-    by false test rest = rw test rest
-
-past_both : (time : ℕ) (before left : List Timed) → PastBy time before → PastBy time (before ++ now_of time left)
-past_both time [] left past = now_past time left
-past_both time (e ∷ es) left past = (past.0, past_both time es left past.1)
-
--- the last of them is
-last_past : (time : ℕ) (es : List Timed) → PastBy time es → last_change es ≤ time
-last_past time [] past = omega arith
-last_past time (e ∷ []) past = past.0
-last_past time (e ∷ (f ∷ es)) past = last_past time (f ∷ es) past.1
-
-by_past : (time : ℕ) (before left : List Timed) → PastBy time before
-    → events_by time (before ++ left) ≡ before ++ now_of time left
-by_past time [] left past = refl
-by_past time (e ∷ es) left past =
-    let first = past.0 in
-    let early : nat_le e.at time ≡ true = grind (arith, nat_tests) in
-    rw early (ap (λ fs. e ∷ fs) (by_past time es left past.1))
-
-by_sooner : (time until : ℕ) (es : List Timed) → time ≤ until → events_by time (events_by until es) ≡ events_by time es
-by_sooner time until [] le = refl
-by_sooner time until (e ∷ es) le = by (nat_le e.at until) refl (by_sooner time until es le)
-  where
-    by : (due : Bool) → nat_le e.at until ≡ due → events_by time (events_by until es) ≡ events_by time es
-        → events_by time (events_by until (e ∷ es)) ≡ events_by time (e ∷ es)
-    by true test rest = rw test (ap (λ fs. if nat_le e.at time then e ∷ fs else fs) rest)
-    by false test rest =
-        let late : nat_le e.at time ≡ false = grind (arith, nat_tests) in rw (test, late) rest
-
--- ---- paths of snapshots that differ in the order of their systems
-
-route_alike : (g h : Snapshot) → AreAlike g h → (v w : ℕ) (us : List ℕ) → Route g v w us → Route h v w us
-route_alike g h alike v w [] there = there
-route_alike g h alike v w (u ∷ us) ((m, n, joins), rest) = (
-  (
-    m,
-    n,
-    subst (λ (links : List Link). In (record { a = record { clock = v; port = m }; b = record { clock = u; port = n } })
-        links ⊎ In (record { a = record { clock = u; port = n }; b = record { clock = v; port = m } }) links)
-        alike.links joins,
-  ),
-  route_alike g h alike u w us rest,
-)
-
-path_alike : (g h : Snapshot) → AreAlike g h → (v w : ℕ) (us : List ℕ) → IsPath g v w us → IsPath h v w us
-path_alike g h alike v w us path = record {
-  begins = clock_alike v path.begins;
-  route = route_alike g h alike v w us path.route;
-  different = path.different;
-}
-  where
-    clock_alike : (c : ℕ) → In c (clocks g) → In c (clocks h)
-    clock_alike c member =
-        let (s, one, same) = from_map (λ (x : System). x.clock) c g.systems member in
-        subst (λ u. In u (clocks h)) same
-        (In-map (λ (x : System). x.clock) s h.systems (In-permutation s g.systems h.systems alike.systems one))
-
 -- ---- worlds of a document
 
 -- what is pending is no change
@@ -214,26 +91,38 @@ no_change : (item : Item) (act : Act) (w : WorldState) → IsActOf item w act �
 no_change (Arrival link direction) act w is = subst IsNoChange (sym is) tt
 no_change (Expiry place timer) act w (station, here, is) = subst IsNoChange (sym is) tt
 
+-- a live system of a world is one of its snapshot
+pub is_there : (w : WorldState) (name : ℕ) (s : SystemState) → live_system name w ≡ Some s
+    → In name (clocks (snapshot_of w))
+is_there w name s is =
+    let (x, member, clock_is, ports, named) = stands_there w name s is in
+    subst (λ v. In v (clocks (snapshot_of w))) (clock_is ∙ named)
+    (In-map (λ (y : System). y.clock) x (snapshot_of w).systems member)
+
 module _ {F : Type 0} (answers : Bounds → ℕ → F → Option ℕ → F → Type 0) (d : DocumentState)
-    (playable : IsPlayable d) where
+    (playable : IsPlayable d) (names : List ℕ) where
   abbrev pace : Pace
   pace = pace_of d.network
 
   abbrev least : ℕ
   least = interval_of (smallest_of d.network)
 
-  -- A world keeps what all do, and stands as the network does after these events.
+  -- A world keeps what all do, stands as the network does after these events, and has systems of these names.
   pub record Keeps (events : List Timed) (w : WorldState) : Type 0 where
     pub claimed : IsClaimed pace w
     pub stands : StandsAs d.network events w
     pub slow : NoneFaster least w
+    pub named : AreNamed names w
 
-  pub keeps_first : (fate fate_after : F) (w : WorldState) → Begun answers d.network fate fate_after w → Keeps [] w
-  keeps_first fate fate_after w begun =
-      let sound = initial_sound d.network playable.network in record {
-        claimed = claim_begins answers d.network fate fate_after w playable.network sound begun;
+  pub keeps_first : (fate fate_after : F) (w : WorldState) → names ≡ rising_clocks w
+      → Begun answers d.network fate fate_after w → Keeps [] w
+  keeps_first fate fate_after w are begun =
+      let sound = initial_sound d.network playable.network in
+      let claimed = claim_begins answers d.network fate fate_after w playable.network sound begun in record {
+        claimed = claimed;
         stands = begun_stands answers d.network fate fate_after w begun;
         slow = begun_none_faster answers d.network fate fate_after w sound.wired.setups begun;
+        named = subst (λ ns. AreNamed ns w) (sym are) (first_names w claimed.world.sound.wired);
       }
 
   -- an event of the document
@@ -265,6 +154,7 @@ module _ {F : Type 0} (answers : Bounds → ℕ → F → Option ℕ → F → T
     claimed = claim_later pace w time later first keeps.claimed;
     stands = time_stands d.network events w time keeps.stands;
     slow = keeps.slow;
+    named = same_named names w (at time w) refl keeps.named;
   }
 
   keeps_act : (events : List Timed) (until : ℕ) (t : Transition) (fate drawn : F) (w : WorldState)
@@ -279,6 +169,8 @@ module _ {F : Type 0} (answers : Bounds → ℕ → F → Option ℕ → F → T
         slow = stays_none_faster least w t.after
             (done_stays answers timed fate drawn w t.after t.told.done keeps.claimed.world.sound.wired.setups was)
             keeps.slow;
+        named = acts_named names timed.act (at timed.at w) was.draws t.told.done t.after was.acts
+            (same_named names w (at timed.at w) refl keeps.named);
       }
 
   keeps_passes : (events : List Timed) (until : ℕ) (ts : List Transition) (fate fate_after : F) (w w' : WorldState)
@@ -327,6 +219,8 @@ module _ {F : Type 0} (answers : Bounds → ℕ → F → Option ℕ → F → T
         slow = stays_none_faster least k.between w'
             (done_stays answers event k.drawn fate_after k.between w' k.done on.claimed.world.sound.wired.setups k.made)
             on.slow;
+        named = acts_named names event.act (at event.at k.between) k.made.draws k.done w' k.made.acts
+            (same_named names k.between (at event.at k.between) refl on.named);
       }
 
   pub keeps_courses : (before events : List Timed) (until : ℕ) (ts : List Transition) (fate fate_after : F)
@@ -341,6 +235,13 @@ module _ {F : Type 0} (answers : Bounds → ℕ → F → Option ℕ → F → T
       (λ place. fit (suc place)) k
       (keeps_made before event first fate drawn w between (fit 0 event refl) makes keeps))
 
+  -- its snapshot is that of the network, but for the order of the systems
+  pub alike_after : (events : List Timed) (g : Snapshot) (w : WorldState) → StandsAfter d.network events g
+      → Keeps events w → AreAlike (snapshot_of w) g
+  alike_after events g w stands keeps =
+      let is = snapshots_stand d.network events w g keeps.stands keeps.claimed.world.sound stands in
+      record { systems = is.0; links = is.1 }
+
   -- ---- calm networks
 
   module _ (events : List Timed) (from span : ℕ) (g : Snapshot) (calm : IsCalm d.network events)
@@ -351,15 +252,13 @@ module _ {F : Type 0} (answers : Bounds → ℕ → F → Option ℕ → F → T
 
     bounded : (w : WorldState) → Keeps events w → BoundsPaths (snapshot_of w) m
     bounded w keeps =
-        let is = keeps.claimed.world in
-        let alike_is = snapshots_stand d.network events w g keeps.stands is.sound stands in
-        let alike : AreAlike (snapshot_of w) g = record { systems = alike_is.0; links = alike_is.1 } in
+        let is = keeps.claimed.world in let alike = alike_after events g w stands keeps in
         let own = stands_well w is.sound is.between is.legible in
         let well : IsWellFormed g =
         snapshots.stands_well d.network playable.network events g stands (λ s member.
         (own.identified s (In-permutation s g.systems (snapshot_of w).systems
         (turned (snapshot_of w) g alike).systems member)).octets) in
-        λ v u us path. paths_within g well v u us (path_alike (snapshot_of w) g alike v u us path)
+        λ v u us way. paths_within g well v u us (path (snapshot_of w) g alike v u us way)
 
     calm_for : (w : WorldState) → Keeps events w → from + span ≤ w.time → IsCalmFor (span_over m) w
     calm_for w keeps late =
@@ -371,15 +270,16 @@ module _ {F : Type 0} (answers : Bounds → ℕ → F → Option ℕ → F → T
           late = omega (arith, change, is, last, late);
         }
 
-    rests : (w : WorldState) → Keeps events w → from + span ≤ w.time → AllNear (snapshot_of w) → (name : ℕ)
-        → (s : _) → live_system name w ≡ Some s → IsAtRest (snapshot_of w) s
-    rests w keeps late near name s is =
-        let (x, member, clock_is, ports, named) = stands_there w name s is in
-        let there : In name (clocks (snapshot_of w)) =
-        subst (λ v. In v (clocks (snapshot_of w))) (clock_is ∙ named)
-        (In-map (λ (y : System). y.clock) x (snapshot_of w).systems member) in
+    pub rests : (w : WorldState) → Keeps events w → from + span ≤ w.time → (name : ℕ) → IsNear (snapshot_of w) name
+        → (s : SystemState) → live_system name w ≡ Some s → IsAtRest (snapshot_of w) s
+    rests w keeps late name near s is =
         world_rests m w (record { pace = pace; is = keeps.claimed }) (bounded w keeps) (calm_for w keeps late) name s is
-        (near name there)
+        near
+
+    -- where all systems are near
+    all_rest : (w : WorldState) → Keeps events w → from + span ≤ w.time → AllNear (snapshot_of w) → (name : ℕ)
+        → (s : SystemState) → live_system name w ≡ Some s → IsAtRest (snapshot_of w) s
+    all_rest w keeps late near name s is = rests w keeps late name (near name (is_there w name s is)) s is
 
     -- an act behind the span
     still_act : (until : ℕ) (t : Transition) (fate drawn : F) (w : WorldState) → t.before ≡ w
@@ -399,9 +299,9 @@ module _ {F : Type 0} (answers : Bounds → ℕ → F → Option ℕ → F → T
         shown_same (snapshot_of moved) (stands_well moved world.sound world.between world.legible) moved t.after refl
         same
         world.sound.wired.clocks keeps_after.claimed.world.sound.wired.clocks name
-        (rests moved keeps_then late near name)
+        (all_rest moved keeps_then late near name)
         (λ s is. subst (λ (h : Snapshot). IsAtRest h s) same
-        (rests t.after keeps_after (omega (arith, moment, late))
+        (all_rest t.after keeps_after (omega (arith, moment, late))
         (subst AllNear (sym same) near) name s is)) in
         record {
           choice = λ name. ap (λ v. same_choice (shown name v) (shown name t.after)) before ∙ (shows name).0;
@@ -481,15 +381,15 @@ module _ {F : Type 0} (answers : Bounds → ℕ → F → Option ℕ → F → T
   -- ---- the events of a document, stretch by stretch
 
   -- those that were made before a stretch, and those that are left
-  record IsLeft (until from : ℕ) (before left : List Timed) : Type 0 where
-    are : before ++ left ≡ events_by until d.events
-    past : PastBy from before
-    order : AreInOrder left
-    due : Each (λ (e : Timed). nat_le e.at until ≡ true) left
-    fits : Each IsFitEvent left
-    within : from ≤ until
+  pub record IsLeft (until from : ℕ) (before left : List Timed) : Type 0 where
+    pub are : before ++ left ≡ events_by until d.events
+    pub past : PastBy from before
+    pub order : AreInOrder left
+    pub due : Each (λ (e : Timed). nat_le e.at until ≡ true) left
+    pub fits : Each IsFitEvent left
+    pub within : from ≤ until
 
-  left_first : (until : ℕ) → IsLeft until 0 [] (events_by until d.events)
+  pub left_first : (until : ℕ) → IsLeft until 0 [] (events_by until d.events)
   left_first until =
       let test : Timed → Bool = λ (e : Timed). nat_le e.at until in record {
         are = refl;
@@ -500,7 +400,7 @@ module _ {F : Type 0} (answers : Bounds → ℕ → F → Option ℕ → F → T
         within = omega arith;
       }
 
-  left_next : (until from to : ℕ) (before left : List Timed) → IsLeft until from before left → later_than from left ≢ []
+  pub left_next : (until from to : ℕ) (before left : List Timed) → IsLeft until from before left → later_than from left ≢ []
       → to ≡ end_before until (later_than from left)
       → IsLeft until to (before ++ now_of from left) (later_than from left)
   left_next until from to before left is some ends =
@@ -519,7 +419,7 @@ module _ {F : Type 0} (answers : Bounds → ℕ → F → Option ℕ → F → T
       }
 
   -- the events up to a stretch are those that were made before it and in it
-  events_then : (until from : ℕ) (before left : List Timed) → IsLeft until from before left
+  pub events_then : (until from : ℕ) (before left : List Timed) → IsLeft until from before left
       → events_by from d.events ≡ before ++ now_of from left
   events_then until from before left is =
       sym (by_sooner from until d.events is.within) ∙ ap (events_by from) (sym is.are) ∙ by_past from before left
@@ -548,7 +448,7 @@ module _ {F : Type 0} (answers : Bounds → ℕ → F → Option ℕ → F → T
         keeps
         near)
 
-    keeps_one : (from : ℕ) (before left : List Timed) (fate fate_after : F) (w : WorldState) (p : Passage)
+    pub keeps_one : (from : ℕ) (before left : List Timed) (fate fate_after : F) (w : WorldState) (p : Passage)
         → IsLeft until from before left → Keeps before w
         → IsPassage answers d until from left fate fate_after w p
         → Keeps (before ++ now_of from left) p.after
@@ -558,27 +458,51 @@ module _ {F : Type 0} (answers : Bounds → ℕ → F → Option ℕ → F → T
         (subst (λ es. Courses answers p.to es p.acts fate fate_after w p.after) passage.events_are passage.courses)
         keeps
 
-    settles_all : (passages : List Passage) (from : ℕ) (before left : List Timed) (fate fate_after : F)
-        (w w' : WorldState) (p : Passage) (bound : ℕ) → IsLeft until from before left → Keeps before w
-        → AllPass answers d until from left fate fate_after w w' passages → In p passages → p.bound ≡ Some bound
-        → AllNear (snapshot_of p.after) → StillBehind (p.from + bound) p.acts
-    settles_all [] from before left fate fate_after w w' p bound is keeps pass member bounded_by near = absurd pass
-    settles_all (q ∷ []) from before left fate fate_after w w' p bound is keeps (passage, none, ends) (inl same)
-        bounded_by near =
-        settles_one from before left fate fate_after w p bound is keeps
-        (subst (IsPassage answers d until from left fate fate_after w) (sym same) passage) bounded_by near
-    settles_all (q ∷ []) from before left fate fate_after w w' p bound is keeps pass (inr member) bounded_by near =
-        absurd member
-    settles_all (q ∷ (r ∷ rs)) from before left fate fate_after w w' p bound is keeps (drawn, passage, some, rest)
-        (inl same) bounded_by near =
-        settles_one from before left fate drawn w p bound is keeps
-        (subst (IsPassage answers d until from left fate drawn w) (sym same) passage) bounded_by near
-    settles_all (q ∷ (r ∷ rs)) from before left fate fate_after w w' p bound is keeps (drawn, passage, some, rest)
-        (inr member) bounded_by near =
-        settles_all (r ∷ rs) q.to (before ++ now_of from left) (later_than from left) drawn fate_after q.after w' p
-        bound
+    -- How a stretch that passes begins: behind events that were made, in a world that keeps to them.
+    pub record Begins (p : Passage) : Type 0 where
+      pub from : ℕ
+      pub before : List Timed
+      pub left : List Timed
+      pub fate : F
+      pub fate_after : F
+      pub w : WorldState
+      pub is_left : IsLeft until from before left
+      pub keeps : Keeps before w
+      pub passage : IsPassage answers d until from left fate fate_after w p
+
+    pub begins : (passages : List Passage) (from : ℕ) (before left : List Timed) (fate fate_after : F)
+        (w w' : WorldState) (p : Passage) → IsLeft until from before left → Keeps before w
+        → AllPass answers d until from left fate fate_after w w' passages → In p passages → Begins p
+    begins [] from before left fate fate_after w w' p is keeps pass member = absurd pass
+    begins (q ∷ []) from before left fate fate_after w w' p is keeps (passage, none, ends) (inl same) = record {
+      from = from;
+      before = before;
+      left = left;
+      fate = fate;
+      fate_after = fate_after;
+      w = w;
+      is_left = is;
+      keeps = keeps;
+      passage = subst (IsPassage answers d until from left fate fate_after w) (sym same) passage;
+    }
+    begins (q ∷ []) from before left fate fate_after w w' p is keeps pass (inr member) = absurd member
+    begins (q ∷ (r ∷ rs)) from before left fate fate_after w w' p is keeps (drawn, passage, some, rest) (inl same) =
+        record {
+          from = from;
+          before = before;
+          left = left;
+          fate = fate;
+          fate_after = drawn;
+          w = w;
+          is_left = is;
+          keeps = keeps;
+          passage = subst (IsPassage answers d until from left fate drawn w) (sym same) passage;
+        }
+    begins (q ∷ (r ∷ rs)) from before left fate fate_after w w' p is keeps (drawn, passage, some, rest)
+        (inr member) =
+        begins (r ∷ rs) q.to (before ++ now_of from left) (later_than from left) drawn fate_after q.after w' p
         (left_next until from q.to before left is some passage.to_is)
-        (keeps_one from before left fate drawn w q is keeps passage) rest member bounded_by near
+        (keeps_one from before left fate drawn w q is keeps passage) rest member
 
 -- ---- the law
 
@@ -594,9 +518,12 @@ pub stretches_settle : {F : Type 0} (answers : Bounds → ℕ → F → Option �
     → IfSome (choice_after (stretch_of names since p)) (λ time. time ≤ bound)
     × IfSome (behind p.from (stretch_of names since p).measures.roles) (λ time. time ≤ bound)
 stretches_settle answers d until options fate lines exceeded t p bound names since playable member bounded_by near =
-    let still = settles_all answers d playable until t.passages 0 [] (events_by until d.events) t.started t.fate_after
-    t.start t.after p bound (left_first answers d playable until)
-    (keeps_first answers d playable fate t.started t.start t.begun) t.pass member bounded_by near in (
+    let clocks = rising_clocks t.start in
+    let b = begins answers d playable clocks until t.passages 0 [] (events_by until d.events) t.started t.fate_after
+    t.start t.after p (left_first answers d playable clocks until)
+    (keeps_first answers d playable clocks fate t.started t.start refl t.begun) t.pass member in
+    let still = settles_one answers d playable clocks until b.from b.before b.left b.fate b.fate_after b.w p bound
+    b.is_left b.keeps b.passage bounded_by near in (
       within_bound p.from bound _ (last_choice names (p.from + bound) p.acts still),
       within_bound p.from bound _ (last_roles names (p.from + bound) p.acts still),
     )

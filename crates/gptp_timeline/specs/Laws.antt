@@ -1,21 +1,26 @@
 -- Laws of timelines.
-use Rattle.std.specs.Prelude.{◌≡◌, ◌≤◌, ℕ, Bool, List, map, Option, Some, IfSome}
+use Rattle.std.specs.Prelude.{◌≡◌, ◌≤◌, ◌+◌, ℕ, Bool, List, map, Option, Some, IfSome}
 use Rattle.std.specs.List.{flat_map}
 use Rattle.gptp_acts.specs.Advancing.{Told}
+use Rattle.gptp_acts.specs.Views.{rising_clocks}
 use Rattle.gptp_graph.specs.Distance.{IsNear}
+use Rattle.gptp_graph.specs.SettledChoice.{IsBestIdentity}
 use Rattle.gptp_graph.specs.Snapshot.{Snapshot, clocks}
 use Rattle.gptp_kept.specs.Standing.{snapshot_of}
 use Rattle.gptp_links.specs.declared.bounds.Bounds.{Bounds}
 use Rattle.gptp_lists.specs.Members.{In}
 use Rattle.gptp_network.specs.Document.{DocumentState}
 use Rattle.gptp_network.specs.Events.{AreEvents}
+use Rattle.gptp_network.specs.Snapshot.{IsSnapshot}
 use Rattle.gptp_reached.specs.PlayedLaws.{IsPlayable}
 use Rattle.gptp_report.specs.Run.{Plays}
 use Rattle.gptp_world.specs.Transitions.{Transition}
 use Rattle.gptp_report.specs.Transitions.{Unfolds}
 use Rattle.gptp_timeline.specs.Changes.{change_lines}
+use Rattle.gptp_timeline.specs.Each.{Each}
 use Rattle.gptp_timeline.specs.Limits.{choice_after}
 use Rattle.gptp_timeline.specs.Shown.{shown}
+use Rattle.gptp_timeline.specs.Stretch.{roots_of}
 use Rattle.gptp_timeline.specs.StretchText.{behind}
 use Rattle.gptp_timeline.specs.Tellings.{all_tellings, telling_line, tellings, TellLast}
 use Rattle.gptp_timeline.specs.Timeline.{Passage, TimelineOf, stretch_of}
@@ -63,3 +68,20 @@ StretchesSettle {F} answers = (d : DocumentState) (until : ℕ) (options : Timel
     → IsPlayable d → In p t.passages → p.bound ≡ Some bound → AllNear (snapshot_of p.after)
     → IfSome (choice_after (stretch_of names since p)) (λ time. time ≤ bound)
     × IfSome (behind p.from (stretch_of names since p).measures.roles) (λ time. time ≤ bound)
+
+-- the root that a system follows: where it is near, the identity of the best of its component
+abbrev pub IsRootOf : Snapshot → ℕ → ℕ → Type 0
+IsRootOf g name root = IsNear g name → IsBestIdentity g name root
+
+-- the roots that all systems of the snapshot follow, by rising clock
+abbrev pub AreRoots : Snapshot → List ℕ → Type 0
+AreRoots g roots = Each (IsRootOf g) (clocks g) roots
+
+-- Where a stretch has a bound and lasts as long, the roots that live systems follow where it ends are those of the
+-- settled choice of the network as it stands then: of each near system the best of its component.
+abbrev pub StretchesFollow : {F : Type 0} → (Bounds → ℕ → F → Option ℕ → F → Type 0) → Type 0
+StretchesFollow {F} answers = (d : DocumentState) (until : ℕ) (options : TimelineOptions) (fate : F)
+    (lines : List (List ℕ)) (exceeded : Bool) (t : TimelineOf answers d until options fate lines exceeded)
+    (p : Passage) (bound : ℕ) (g : Snapshot)
+    → IsPlayable d → In p t.passages → p.bound ≡ Some bound → p.from + bound ≤ p.to → IsSnapshot d p.from g
+    → AreRoots g (roots_of (map (λ name. shown name p.after) (rising_clocks t.start)))

@@ -1,3 +1,4 @@
+pub mod Each
 pub mod Ports
 pub mod Shown
 pub mod Changes

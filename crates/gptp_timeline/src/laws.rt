@@ -1,6 +1,6 @@
 //! Laws of timelines.
 
-ghost use Rattle.gptp_timeline.specs.Laws.{ChangesAreTold, LastLinesTell, StretchesSettle, TimelineEndsAsRun, TimelineUnfolds};
+ghost use Rattle.gptp_timeline.specs.Laws.{ChangesAreTold, LastLinesTell, StretchesFollow, StretchesSettle, TimelineEndsAsRun, TimelineUnfolds};
 
 use gptp_links::Fate;
 
@@ -23,4 +23,10 @@ pub fn last_lines_tell<F: Fate>()
 /// and its roles stand within the bound: no later act leaves any system another, nor any of its ports.
 pub fn stretches_settle<F: Fate>()
     ensures { StretchesSettle F.answers }
+{}
+
+/// Where a stretch of the timeline of a document has a bound and lasts as long, each near system follows the best of its
+/// component where it ends, and no other root: so the counts of roots there are those of the settled choice.
+pub fn stretches_follow<F: Fate>()
+    ensures { StretchesFollow F.answers }
 {}

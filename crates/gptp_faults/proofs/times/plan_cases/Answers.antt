@@ -1,7 +1,7 @@
 use Rattle.std.proofs.Common.{◌≡◌, ◌+◌, ◌++◌, ◌∷◌, [], List, take, ap, subst, sym, ◌∙◌}
 use Rattle.std.proofs.lemmas.List.{take_more}
 use Rattle.gptp_network.specs.Document.{DocumentState}
-use Rattle.gptp_faults.specs.Each.{Each}
+use Rattle.gptp_timeline.specs.Each.{Each}
 use Rattle.gptp_faults.specs.Times.{IsPlanned}
 use Rattle.gptp_faults.specs.declared.cases.Case.{Case}
 use Rattle.gptp_faults.specs.declared.cases.Planned.{Planned}

@@ -1,0 +1,255 @@
+-- The roots that are followed while a case is down are those of the settled choice.
+use Rattle.std.proofs.Common.{◌≡◌, ◌≢◌, ◌≤◌, ◌<◌, ◌+◌, ◌*◌, ◌/◌, ◌%◌, ℕ, zero, suc, Bool, true, false, nat_le, nat_lt, List, [], ◌∷◌, ◌++◌, Option, Some, None, length, slice_get, refl, sym, ap, subst, ◌∙◌, inl, inr, append-nil, arith}
+use Rattle.std.specs.List.{AllByRecursion, range_with_len}
+use Rattle.std.proofs.lemmas.Bool.Decides.{nat_tests}
+use Rattle.gptp_acts.specs.Views.{rising_clocks}
+use Rattle.gptp_graph.specs.PathBound.{path_bound}
+use Rattle.gptp_graph.specs.Snapshot.{Snapshot}
+use Rattle.gptp_lists.specs.Members.{In}
+use Rattle.gptp_network.specs.Adding.{with_event}
+use Rattle.gptp_network.specs.Document.{DocumentState}
+use Rattle.gptp_network.specs.Events.{AreInOrder}
+use Rattle.gptp_network.specs.Snapshot.{events_by, IsSnapshot, StandsAfter}
+use Rattle.gptp_network.specs.Span.{IsBound, IsSpan}
+use Rattle.gptp_network.proofs.LawLemmas.{one_snapshot}
+use Rattle.gptp_plan.specs.Calm.{last_change}
+use Rattle.gptp_plan.specs.Network.{pace_of}
+use Rattle.gptp_plan.specs.SettlingTime.{settling_span}
+use Rattle.gptp_plan.specs.declared.change.Act.TheVariants as acts
+use Rattle.gptp_plan.specs.declared.change.Timed.{Timed}
+use Rattle.gptp_reached.specs.PlayedLaws.{IsPlayable}
+use Rattle.gptp_timeline.specs.Each.{Each}
+use Rattle.gptp_timeline.specs.Ends.{EndState}
+use Rattle.gptp_timeline.specs.LastTwo.{EndsOf}
+use Rattle.gptp_timeline.specs.Laws.{AreRoots}
+use Rattle.gptp_timeline.specs.Timeline.{none_waits, now_of}
+use Rattle.gptp_timeline.specs.declared.stretch.Stretch.{Stretch}
+use Rattle.gptp_timeline.proofs.FollowedLemmas.{follow_there}
+use Rattle.gptp_setup.specs.Intervals.{interval_of, IsLog}
+use Rattle.gptp_setup.specs.Pace.{Pace}
+use Rattle.gptp_setup.proofs.IntervalLemmas.{interval_positive}
+use Rattle.gptp_plan.proofs.LogLemmas.{largest_log}
+use Rattle.std.proofs.lemmas.Nat.{mul-le}
+use Rattle.gptp_timeline.proofs.PastLemmas.{by_past, past_later, PastBy}
+use Rattle.gptp_timeline.proofs.SettlingLemmas.{keeps_first}
+use Rattle.gptp_faults.specs.Cases.{fault_of, return_of}
+use Rattle.gptp_faults.specs.Extremes.{greatest_behind, joined, of_one}
+use Rattle.gptp_faults.specs.Faults.{FaultsOf}
+use Rattle.gptp_faults.specs.Laws.{StandsWithout, TellsSettled}
+use Rattle.gptp_faults.specs.Outcomes.{AreOutcomes, downs, IsOutcome, IsOutcomeAt, OutcomeState}
+use Rattle.gptp_faults.specs.Refusals.{fault_before, first_fault, latest_event}
+use Rattle.gptp_faults.specs.Runs.{draws, generator, IsRun, moment_of, runs_of, seed_of, with_case}
+use Rattle.gptp_faults.specs.Times.{ArePlanned, IsHold, IsInTime, IsPlanned, last_moment, moment}
+use Rattle.gptp_faults.specs.declared.cases.Case.{Case}
+use Rattle.gptp_faults.specs.declared.cases.Planned.{Planned}
+use Rattle.gptp_faults.specs.declared.extremes.Extremes.{Extremes}
+use Rattle.gptp_faults.specs.declared.options.FaultsOptions.{FaultsOptions}
+use Rattle.gptp_faults.specs.declared.times.Times.{Times}
+use Rattle.gptp_faults.proofs.DownLemmas.{AreLast, last_but_one}
+use Rattle.gptp_faults.proofs.PlayableLemmas.{case_playable}
+use Rattle.gptp_faults.proofs.RefusalLemmas.{each_early}
+
+-- ---- two lists, member by member
+
+-- each of the one is there for one of the other
+each_for : {X Y : Type 0} (P : X → Y → Type 0) (xs : List X) (ys : List Y) (y : Y) → Each P xs ys → In y ys
+    → (x : X) × In x xs × P x y
+each_for P [] [] y each member = absurd member
+each_for P [] (z ∷ zs) y each member = absurd each
+each_for P (x ∷ xs) [] y each member = absurd each
+each_for P (x ∷ xs) (z ∷ zs) y each (inl same) = (x, inl refl, subst (P x) (sym same) each.0)
+each_for P (x ∷ xs) (z ∷ zs) y each (inr later) =
+    let (w, member, is) = each_for P xs zs y each.1 later in (w, inr member, is)
+
+-- and at each place of the other
+each_at : {X Y : Type 0} (P : X → Y → Type 0) (xs : List X) (ys : List Y) (place : ℕ) (y : Y) → Each P xs ys
+    → slice_get ys place ≡ Some y → (x : X) × In x xs × P x y
+each_at P [] [] place y each there = absurd cc
+each_at P [] (z ∷ zs) place y each there = absurd each
+each_at P (x ∷ xs) [] place y each there = absurd cc
+each_at P (x ∷ xs) (z ∷ zs) zero y each there = let same : z ≡ y = cc in (x, inl refl, subst (P x) same each.0)
+each_at P (x ∷ xs) (z ∷ zs) (suc place) y each there =
+    let (w, member, is) = each_at P xs zs place y each.1 there in (w, inr member, is)
+
+-- ---- events in order
+
+all_past : (time : ℕ) (es : List Timed) → AreInOrder es → last_change es ≤ time → PastBy time es
+all_past time [] order last = tt
+all_past time (e ∷ []) order last = (last, tt)
+all_past time (e ∷ (f ∷ es)) order last =
+    let rest = all_past time (f ∷ es) order.1 last in
+    let first = rest.0 in let step = order.0 in (omega (arith, first, step), rest)
+
+past_with : (time : ℕ) (es : List Timed) (e : Timed) → PastBy time es → e.at ≤ time → PastBy time (es ++ e ∷ [])
+past_with time [] e past early = (early, tt)
+past_with time (x ∷ xs) e past early = (past.0, past_with time xs e past.1 early)
+
+append_two : (es : List Timed) (a b : Timed) → (es ++ a ∷ []) ++ b ∷ [] ≡ es ++ a ∷ b ∷ []
+append_two [] a b = refl
+append_two (e ∷ es) a b = ap (λ rest. e ∷ rest) (append_two es a b)
+
+-- all that are past are there
+all_by : (time : ℕ) (es : List Timed) → PastBy time es → events_by time es ≡ es
+all_by time es past =
+    ap (events_by time) (sym (append-nil es)) ∙ by_past time es [] past ∙ append-nil es
+
+-- and one that isn't is not
+all_but_last : (time : ℕ) (es : List Timed) (e : Timed) → PastBy time es → time < e.at
+    → events_by time (es ++ e ∷ []) ≡ es
+all_but_last time es e past late =
+    let later : nat_le e.at time ≡ false = grind (arith, nat_tests) in
+    by_past time es (e ∷ []) past ∙ ap (λ fs. es ++ fs) (rw later refl) ∙ append-nil es
+
+-- ---- numbers of runs
+
+-- the first run is at the first moment
+zero_over : (n : ℕ) → 0 / n ≡ 0
+zero_over n = omega arith
+
+first_moment : (t : Times) → moment_of t 0 ≡ t.from
+first_moment t =
+    ap (moment t) (zero_over t.seeds) ∙ ap (λ n. t.from + n) (zero_over t.moments) ∙ omega arith
+
+first_run : {Y : Type 0} (P : ℕ → Y → Type 0) (count : ℕ) (y : Y) (ys : List Y)
+    → Each P (range_with_len 0 count) (y ∷ ys) → P 0 y
+first_run P zero y ys each = absurd each
+first_run P (suc count) y ys each = each.0
+
+-- the bound is that of the first
+bound_kept : (e : Extremes) (ss : List Stretch) → (greatest_behind e ss).bound ≡ e.bound
+bound_kept e [] = refl
+bound_kept e (s ∷ ss) = bound_kept (joined e (of_one s)) ss
+
+-- ---- a run of a case
+
+-- a network takes some time to settle
+span_some : (p : Pace) (n : ℕ) → IsLog p.largest → 0 < settling_span p n
+span_some p n log =
+    let interval = interval_positive p.largest log in
+    let some : 1 * 1 ≤ settling_span p n =
+    mul-le 1 1 ((p.params.timeout + 3) * n + p.params.lost + 5) (interval_of p.largest) (omega arith) interval in
+    omega (arith, some)
+
+module _ (d : DocumentState) (t : Times) (p : Planned) (playable : IsPlayable d)
+    (last : last_change d.events ≤ t.from) (hold : IsHold d t p.failing None p.hold) where
+  abbrev failed : DocumentState
+  failed = with_event t.from (fault_of p.failing) d
+
+  abbrev whole : DocumentState
+  whole = with_case t.from p d
+
+  abbrev fails : Timed
+  fails = record { at = t.from; act = acts.Change (fault_of p.failing) }
+
+  abbrev returns : Timed
+  returns = record { at = t.from + p.hold; act = acts.Change (return_of p.failing) }
+
+  holds : 0 < p.hold
+  holds =
+      let some = span_some (pace_of d.network) (path_bound hold.snapshot) (largest_log d.network playable.network) in
+      let is = hold.is in omega (arith, some, is)
+
+  past : PastBy t.from d.events
+  past = all_past t.from d.events playable.events.in_order last
+
+  past_failed : PastBy t.from (d.events ++ fails ∷ [])
+  past_failed = past_with t.from d.events fails past (omega arith)
+
+  -- the events up to the fault are those without the return
+  by_fault : events_by t.from whole.events ≡ events_by t.from failed.events
+  by_fault =
+      let some = holds in
+      all_but_last t.from (d.events ++ fails ∷ []) returns past_failed (omega (arith, some))
+      ∙ sym (all_by t.from (d.events ++ fails ∷ []) past_failed)
+
+  both_last : (until : ℕ) → t.from + p.hold ≤ until
+      → AreLast t.from (t.from + p.hold) 0 (events_by until whole.events)
+  both_last until within =
+      let some = holds in record {
+        others = d.events;
+        first = fails;
+        second = returns;
+        are = all_by until whole.events
+            (past_with until (d.events ++ fails ∷ []) returns
+            (past_later t.from until (d.events ++ fails ∷ []) (omega (arith, within)) past_failed) within)
+            ∙ append_two d.events fails returns;
+        past = past;
+        first_at = refl;
+        second_at = refl;
+        order = omega (arith, some);
+        early = omega arith;
+      }
+
+  -- so long as the stretch in which it is down has a bound, it lasts as long
+  lasts : (at bound : ℕ) → at ≡ t.from → IsSpan whole at bound → at + bound ≤ t.from + p.hold
+  lasts at bound is span =
+      let stands : IsSnapshot failed t.from span.snapshot =
+      subst (λ es. StandsAfter d.network es span.snapshot) (ap (λ time. events_by time whole.events) is ∙ by_fault)
+      span.stands in
+      let same = one_snapshot failed t.from span.snapshot hold.snapshot stands hold.stands in
+      let equal : bound ≡ p.hold =
+      span.is ∙ ap (λ g. settling_span (pace_of d.network) (path_bound g)) same ∙ sym hold.is in
+      omega (arith, is, equal)
+
+  -- the roots where its first run ends to be down are those of the settled choice
+  roots_settle : (a b : EndState) (bound : ℕ) (g : Snapshot) → IsPlayable whole → IsRun d t p 0 (a, b)
+      → a.stretch.bound ≡ Some bound → IsSnapshot failed t.from g → AreRoots g a.roots
+  roots_settle a b bound g can run bounded stands =
+      let until = t.from + p.hold + t.behind in
+      let e : EndsOf draws whole until (generator (seed_of t 0)) (Some (a, b)) =
+      subst (λ at. EndsOf draws (with_case at p d) (at + p.hold + t.behind) (generator (seed_of t 0)) (Some (a, b)))
+      (first_moment t) run in
+      let names = rising_clocks e.start in
+      let k = last_but_one draws whole until names e.passages t.from (t.from + p.hold) 0 (events_by until whole.events)
+      none_waits e.started e.fate_after e.start e.after a b (both_last until (omega arith)) e.pass (sym e.are) in
+      let begins : k.passage.bound ≡ Some bound = ap (λ (x : EndState). x.stretch.bound) (sym k.ended) ∙ bounded in
+      let to = k.to_is in
+      let there : IsSnapshot whole k.passage.from g =
+      subst (λ es. StandsAfter d.network es g)
+      (sym (ap (λ time. events_by time whole.events) k.from_is ∙ by_fault)) stands in
+      subst (AreRoots g) (ap (λ (x : EndState). x.roots) (sym k.ended))
+      (follow_there draws whole can names until e.passages e.started e.fate_after e.start e.after k.passage bound g
+      (keeps_first draws whole can names (generator (seed_of t 0)) e.started e.start refl e.begun) e.pass k.member
+      begins (λ span. let late = lasts k.passage.from bound k.from_is span in omega (arith, late, to)) there)
+
+-- ---- the law
+
+-- the first moment isn't refused
+not_refused : (d : DocumentState) (t : Times) (all : List Case) (c : Case) → In c all → fault_before d t all ≡ None
+    → last_change d.events ≤ t.from
+not_refused d t [] c member none = absurd member
+not_refused d t (x ∷ xs) c member none =
+    by (nat_lt 4094 (length d.events)) refl (nat_lt latest_event t.from) refl (nat_lt t.from (last_change d.events)) refl
+  where
+    by : (many : Bool) → nat_lt 4094 (length d.events) ≡ many → (late : Bool) → nat_lt latest_event t.from ≡ late
+        → (early : Bool) → nat_lt t.from (last_change d.events) ≡ early → last_change d.events ≤ t.from
+    by true a late b early k = absurd (let no = rw a at none in cc)
+    by false a true b early k = absurd (let no = rw (a, b) at none in cc)
+    by false a false b true k = absurd (let no = rw (a, b, k) at none in cc)
+    by false a false b false k = grind (arith, nat_tests)
+
+pub follow_settles : (d : DocumentState) (options : FaultsOptions) (lines : List (List ℕ)) (exceeded : Bool)
+    (f : FaultsOf d options lines exceeded) (o : OutcomeState) (bound : ℕ) (g : Snapshot) → IsPlayable d
+    → options.hold ≡ None → In o f.outcomes → o.down.bound ≡ Some bound → StandsWithout d f.times.from o g
+    → TellsSettled g o
+follow_settles d options lines exceeded f o bound g playable default member bounded stands =
+    let t = f.times in
+    let (number, of_part, p, there, outcome) = each_for (IsOutcomeAt d t f.planned) _ f.outcomes o f.are_outcomes member in
+    let (c, a_case, is_case, hold_is) = each_at (IsPlanned d options t) f.cases f.planned number p f.are_planned there in
+    let failing : o.failing ≡ p.failing = ap (λ (x : OutcomeState). x.failing) outcome.is in
+    let hold : IsHold d t p.failing None p.hold =
+    subst (λ x. IsHold d t x None p.hold) (sym is_case) (subst (λ asked. IsHold d t c asked p.hold) default hold_is) in
+    let last = not_refused d t f.cases c a_case f.before in
+    let early = each_early t f.planned f.in_time number p there in
+    let playable_whole = case_playable d options.only f.cases p.failing t.from (t.from + p.hold) playable f.are_cases
+    (subst (λ x. In x f.cases) (sym is_case) a_case) last (omega arith) early in
+    let first = outcome.first in
+    let run = first_run (IsRun d t p) (runs_of t) first outcome.others outcome.runs in
+    let kept : first.0.stretch.bound ≡ Some bound =
+    sym (bound_kept (of_one first.0.stretch) (downs outcome.others))
+    ∙ ap (λ (x : OutcomeState). x.down.bound) (sym outcome.is) ∙ bounded in
+    let g_stands = subst (λ x. IsSnapshot (with_event t.from (fault_of x) d) t.from g) failing stands in (
+      first.0.roots,
+      roots_settle d t p playable last hold first.0 first.1 bound g playable_whole run kept g_stands,
+      ap (λ (x : OutcomeState). x.follow) outcome.is,
+    )
