@@ -25,7 +25,7 @@ use Rattle.gptp_graph.proofs.RoleLemmas.{RoleBy-unique}
 use Rattle.gptp_graph.proofs.SoundLemmas.{sound}
 use Rattle.gptp_graph.proofs.SureTests.{sure_well_formed, sure_passes}
 use Rattle.gptp_links.specs.declared.bounds.Bounds.{Bounds}
-use Rattle.gptp_plan.specs.Calm.{IsCalm}
+use Rattle.gptp_plan.specs.Calm.{AllRest, IsCalm}
 use Rattle.gptp_plan.specs.Network.{largest_of, pace_of}
 use Rattle.gptp_plan.specs.SettlingTime.{settling_span}
 use Rattle.gptp_acts.specs.Acts.{AtSystem}
@@ -68,9 +68,12 @@ pace_is : pace_of pair_network ≡ pair_pace
 unfolding largest_of
 pace_is = refl
 
+links_rest : AllRest pair_network.params pair_network.systems pair_network.links []
+links_rest zero x early = λ used. record { lossless = refl; good = omega arith }
+links_rest (suc i) x early = absurd (omega (arith, early))
+
 calm : IsCalm pair_network []
-calm zero x early = λ used. record { lossless = refl; good = omega arith }
-calm (suc i) x early = absurd (omega (arith, early))
+calm = record { links = links_rest; lapses = refl }
 
 stands_after : StandsAfter pair_network [] pair_snapshot
 stands_after = record {

@@ -27,6 +27,7 @@ params = record {
   threshold = 800;
   turnaround = 1000;
   residence = 1000;
+  sync_timeout = 0;
 }
 
 -- priority1 246, clockClass 248, clockAccuracy 254, offsetScaledLogVariance 436a, priority2 248, and clock 1

@@ -88,7 +88,7 @@ fn expiries(world: &mut World<PcgFate>, at: u64) -> Result<bool, Refused>
                 }
             }
         }
-        for timer in [Timer::Relay, Timer::Sync] {
+        for timer in [Timer::Lapse, Timer::Relay, Timer::Sync] {
             if expire(world, at, number, timer)? {
                 any = true;
             }

@@ -355,6 +355,7 @@ fn keys_have_defaults(rt: HostRuntime) -> Result<(), Fail> {
         threshold: 800,
         turnaround: 1000,
         residence: 1000,
+        sync_timeout: 0,
     };
     same(&rt, network.params(), params);
     same(&rt, network.systems(), 2);

@@ -25,6 +25,7 @@ const PARAMS: Params = Params {
     threshold: 800,
     turnaround: 1_000,
     residence: 1_000,
+    sync_timeout: 0,
 };
 
 /// When their ports are capable: after L + 5 announce intervals, L being 9.

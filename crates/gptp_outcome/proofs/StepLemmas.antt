@@ -32,7 +32,11 @@ use Rattle.gptp_system.specs.Selection.{announcements, choosing, fresh_ports, Be
 use Rattle.gptp_system.specs.Sends.{with_send}
 use Rattle.gptp_system.specs.State.{SystemState, clock, held_at, is_capable_at, local_time, number, own}
 use Rattle.gptp_system.specs.Steps.{Expires, HearsFrame, HearsMessage}
-use Rattle.gptp_system.specs.Syncing.{delay_at, is_followed, leads, rate_at, said_on, HearsFollowUpIf, HearsSyncIf, KeepsIf, KnowsIf, LeadsTime, RelaysIf, SyncsIf}
+use Rattle.gptp_correction.specs.declared.correction.Relayed.{Relayed}
+use Rattle.gptp_correction.specs.Correction.{held_sum}
+use Rattle.gptp_setup.specs.Pace.{has_sync_timeout}
+use Rattle.gptp_system.specs.Lapse.{lapsed}
+use Rattle.gptp_system.specs.Syncing.{delay_at, is_followed, leads, rate_at, refreshing, said_on, told_by, HearsFollowUpIf, HearsSyncIf, IsOffset, IsTold, KeepsIf, KnowsBy, KnowsIf, LeadsTime, RelaysBy, RelaysIf, SyncsIf}
 use Rattle.gptp_outcome.specs.StepLaws.{IsSameStep, SameAnswer}
 
 -- the same state, and the same sends
@@ -110,13 +114,30 @@ module _ (t u : SystemState) (xs ys : List Sending) where
   syncs_once true now s k l = leads_once now s k l
   syncs_once false now s k l = becomes_once t u xs ys _ k l
 
+  -- what is told by a sum of rates held at its limits
+  told_once : (info : SyncInfo) (now : ℕ) (s : SystemState) (a b : Relayed) → IsTold info now s a → IsTold info now s b
+      → a ≡ b
+  told_once info now s a b (inl k) (inl l) = k.1 ∙ sym l.1
+  told_once info now s a b (inl k) (inr l) = absurd (l.0 k.0)
+  told_once info now s a b (inr k) (inl l) = absurd (k.0 l.0)
+  told_once info now s a b (inr k) (inr l) = k.1 ∙ sym l.1
+
+  relays_by : (on : Bool) (info : SyncInfo) (now : ℕ) (s : SystemState) → RelaysBy on info now s t xs
+      → RelaysBy on info now s u ys → Same t u xs ys
+  relays_by true info now s k l = (
+    k.state ∙ sym l.state,
+    k.sends_are ∙ ap (λ told. told_by told s) (told_once info now s k.told l.told k.told_is l.told_is)
+        ∙ sym l.sends_are,
+  )
+  relays_by false info now s (inl k) (inl l) = (k.state ∙ sym l.state, k.sends_are ∙ sym l.sends_are)
+  relays_by false info now s (inl k) (inr l) = absurd (l.unfit k.fits)
+  relays_by false info now s (inr k) (inl l) = absurd (k.unfit l.fits)
+  relays_by false info now s (inr k) (inr l) = becomes_once t u xs ys _ k.becomes l.becomes
+
   relays_once : (known : Option SyncInfo) (now : ℕ) (s : SystemState) → RelaysIf known now s t xs
       → RelaysIf known now s u ys → Same t u xs ys
   relays_once None now s k l = becomes_once t u xs ys _ k l
-  relays_once (Some info) now s (inl k) (inl l) = (k.state ∙ sym l.state, k.sends_are ∙ sym l.sends_are)
-  relays_once (Some info) now s (inl k) (inr l) = absurd (l.unfit k.fits)
-  relays_once (Some info) now s (inr k) (inl l) = absurd (k.unfit l.fits)
-  relays_once (Some info) now s (inr k) (inr l) = becomes_once t u xs ys _ k.becomes l.becomes
+  relays_once (Some info) now s k l = relays_by (has_sync_timeout s.params) info now s k l
 
   expires_once : (timer : Timer) (now : ℕ) (s : SystemState) → Expires timer now s t xs → Expires timer now s u ys
       → Same t u xs ys
@@ -127,6 +148,7 @@ module _ (t u : SystemState) (xs ys : List Sending) where
       (k.state ∙ sym l.state, responds_once (owed_at s p) p now s k.responds l.responds)
   expires_once timers.Sync now s k l = syncs_once (leads s) now s k l
   expires_once timers.Relay now s k l = relays_once s.known now s k l
+  expires_once timers.Lapse now s k l = selects_once t u xs ys now (lapsed s) k l
 
 -- ---- why an Announce isn't qualified
 
@@ -180,15 +202,29 @@ module _ (t u : SystemState) (xs ys : List Sending) (a b : Answer) where
   hears_sync_once true p head now s k l = keeps_once (is_followed p head s) head now s k l
   hears_sync_once false p head now s k l = heard_so _ _ k.becomes l.becomes k.answer_is l.answer_is
 
+  offset_once : (info : SyncInfo) (delay rate : ℤ) (x y : Option ℤ) → IsOffset info delay rate x
+      → IsOffset info delay rate y → x ≡ y
+  offset_once info delay rate x y (inl k) (inl l) = k.1 ∙ sym l.1
+  offset_once info delay rate x y (inl k) (inr l) = absurd (l.0 k.0)
+  offset_once info delay rate x y (inr k) (inl l) = absurd (k.0 l.0)
+  offset_once info delay rate x y (inr k) (inr l) = k.1 ∙ sym l.1
+
+  knows_by : (on : Bool) (info : SyncInfo) (delay rate : ℤ) (now : ℕ) (s : SystemState)
+      → KnowsBy on info delay rate now s t xs a → KnowsBy on info delay rate now s u ys b → SameHeard t u xs ys a b
+  knows_by true info delay rate now s k l =
+      let same = offset_once (held_sum info rate) delay rate k.offset l.offset k.offset_is l.offset_is in
+      heard_so _ _ k.becomes
+      (subst (λ offset. Becomes (refreshing info offset now s) u ys) (sym same) l.becomes)
+      k.answer_is l.answer_is
+  knows_by false info delay rate now s (inl k) (inl l) = heard_so _ _ k.becomes l.becomes k.answer_is l.answer_is
+  knows_by false info delay rate now s (inl k) (inr l) = absurd (l.unfit k.fits)
+  knows_by false info delay rate now s (inr k) (inl l) = absurd (k.unfit l.fits)
+  knows_by false info delay rate now s (inr k) (inr l) = heard_so _ _ k.becomes l.becomes k.answer_is l.answer_is
+
   knows_once : (said : Option SyncInfo) (delay rate : ℤ) (now : ℕ) (s : SystemState)
       → KnowsIf said delay rate now s t xs a → KnowsIf said delay rate now s u ys b → SameHeard t u xs ys a b
   knows_once None delay rate now s k l = heard_so _ _ k.becomes l.becomes k.answer_is l.answer_is
-  knows_once (Some info) delay rate now s (inl k) (inl l) =
-      heard_so _ _ k.becomes l.becomes k.answer_is l.answer_is
-  knows_once (Some info) delay rate now s (inl k) (inr l) = absurd (l.unfit k.fits)
-  knows_once (Some info) delay rate now s (inr k) (inl l) = absurd (k.unfit l.fits)
-  knows_once (Some info) delay rate now s (inr k) (inr l) =
-      heard_so _ _ k.becomes l.becomes k.answer_is l.answer_is
+  knows_once (Some info) delay rate now s k l = knows_by (has_sync_timeout s.params) info delay rate now s k l
 
   hears_follow_up_once : (on : Bool) (p : ℕ) (m : FollowUp) (now : ℕ) (s : SystemState)
       → HearsFollowUpIf on p m now s t xs a → HearsFollowUpIf on p m now s u ys b → SameHeard t u xs ys a b

@@ -16,17 +16,17 @@ use Rattle.gptp_plan.specs.SettlingTime as acts
 use Rattle.gptp_plan.specs.SettlingTime.{settling_span}
 use Rattle.gptp_acts.specs.Prompt.{HavePace}
 use Rattle.gptp_acts.specs.Sound.{IsSound}
-use Rattle.gptp_acts.specs.World.{WorldState}
+use Rattle.gptp_acts.specs.World.{Channel, WorldState}
 use Rattle.gptp_lists.proofs.MappedLemmas.{alike}
 use Rattle.gptp_network.specs.Document.{DocumentState}
 use Rattle.gptp_network.specs.Snapshot as network
 use Rattle.gptp_network.specs.Snapshot.{events_by}
 use Rattle.gptp_network.proofs.SnapshotLemmas.{clock_after}
-use Rattle.gptp_kept.specs.Calm.{IsQuietWorld}
+use Rattle.gptp_kept.specs.Calm.{IsQuietLink, IsQuietWorld}
 use Rattle.gptp_kept.specs.CalmFor.{IsCalmFor}
 use Rattle.gptp_kept.specs.Claimed.{Claimed}
 use Rattle.gptp_kept.specs.Known.{AreSet, IsSetTo}
-use Rattle.gptp_kept.specs.Standing.{has_clock, live_systems, snapshot_of}
+use Rattle.gptp_kept.specs.Standing.{is_used, has_clock, live_systems, snapshot_of}
 use Rattle.gptp_kept.proofs.StandsLemmas.{sender_lives, used_up}
 use Rattle.gptp_kept.proofs.SystemLemmas.{clock_in, clock_lives, live_from}
 use Rattle.gptp_links.specs.declared.link.Direction.TheVariants.{FromA, FromB}
@@ -98,12 +98,13 @@ pub each_at : {X : Type 0} (P : X → Type 0) (xs : List X) → All P xs → (pl
 each_at P xs each place x there =
     subst P (get_or_from_slice_get xs place x x there) (each place x (slice_get_within xs place x there))
 
-pub quiet_stands : (n : NetworkState) (events : List Timed) (w : WorldState) → StandsAs n events w → IsCalm n events
-    → IsQuietWorld n.params w
-quiet_stands n events w so calm link channel here used =
+quiet_link : (n : NetworkState) (events : List Timed) (w : WorldState) → StandsAs n events w → IsCalm n events
+    → (link : ℕ) (channel : Channel) → slice_get w.net.channels link ≡ Some channel
+    → is_used (live_systems w.stations) channel ≡ true → IsQuietLink n.params channel
+quiet_link n events w so calm link channel here used =
     let systems = live_systems w.stations in
     let (v, there, is) = alike (link_after events) wire_of n.links w.net.channels (sym so.links) link channel here in
-    let rests = each_at (Rests n.params n.systems events) n.links calm link v there in
+    let rests = each_at (Rests n.params n.systems events) n.links calm.links link v there in
     let a = lives_so n events w so channel.a.clock (sender_lives systems FromA channel used) in
     let b = lives_so n events w so channel.b.clock (sender_lives systems FromB channel used) in
     let quiet = rests (record {
@@ -113,6 +114,10 @@ quiet_stands n events w so calm link channel here used =
     }) in
     let same = subst (IsQuiet n.params.turnaround n.params.threshold) is quiet in
     record { lossless = same.lossless; good = same.good }
+
+pub quiet_stands : (n : NetworkState) (events : List Timed) (w : WorldState) → StandsAs n events w → IsCalm n events
+    → IsQuietWorld n.params w
+quiet_stands n events w so calm = record { links = quiet_link n events w so calm; lapses = calm.lapses }
 
 -- ---- parameters
 

@@ -44,9 +44,12 @@ calm_for : (p : Pace) (m : ℕ) (w : WorldState) → IsCalm p w → HasPassed p 
 calm_for p m w calm passed = record {
   pace = p;
   set = calm.of;
-  quiet = λ link channel here used.
-      let (lossless, good) = calm.links channel (In-slice_get channel w.net.channels link here) used in
-      record { lossless = lossless; good = good };
+  quiet = record {
+    links = λ link channel here used.
+        (let (lossless, good) = calm.links channel (In-slice_get channel w.net.channels link here) used in
+        record { lossless = lossless; good = good });
+    lapses = calm.lapses;
+  };
   late = passed;
 }
 

@@ -13,6 +13,7 @@ use Rattle.gptp_graph.specs.PathBound.{BoundsPaths, path_bound}
 use Rattle.gptp_graph.specs.SettledChoice.{IsSettledChoice}
 use Rattle.gptp_pdelay.specs.GoodLink.{ceil_div}
 use Rattle.gptp_setup.specs.Pace.{Pace, largest_interval}
+use Rattle.gptp_plan.specs.Calm.{NothingLapses}
 use Rattle.gptp_acts.specs.Prompt.{HavePace}
 use Rattle.gptp_acts.specs.World.{Channel, WorldState}
 use Rattle.gptp_kept.specs.Standing.{is_used, live_systems, snapshot_of}
@@ -23,12 +24,14 @@ use Rattle.gptp_certificate.specs.Stated.{States}
 
 -- Each link of the snapshot loses nothing and is good: its largest delay leaves room below the threshold of
 -- neighborPropDelay for the drift of two clocks (law of good links). All systems start with the parameters of one
--- network and with the largest announce interval of any of its ports, as those of every world do.
+-- network and with the largest announce interval of any of its ports, as those of every world do. Nothing that a Slave
+-- port holds lapses for want of Sync.
 pub record IsCalm (p : Pace) (w : WorldState) : Type 0 where
   pub of : HavePace p w
   pub links : (link : Channel) → In link w.net.channels → is_used (live_systems w.stations) link ≡ true
       → (link.bounds.loss ≡ 0)
       × (link.bounds.max + ceil_div link.bounds.max 1000 + ceil_div p.params.turnaround 2000 + 2 ≤ p.params.threshold)
+  pub lapses : NothingLapses p.params
 
 -- ((k + 3)m + L + 5) intervals have passed since the last change: k is the announce receipt timeout, L how many peer
 -- delay requests in a row may be lost, and the interval the largest announce interval of any port

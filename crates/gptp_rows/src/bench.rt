@@ -24,6 +24,7 @@ pub const DEFAULTS: Params = Params {
     threshold: 800,
     turnaround: 1_000,
     residence: 1_000,
+    sync_timeout: 0,
 };
 
 /// The last moment of a simulation.
@@ -114,7 +115,7 @@ fn has_timer(system: &System, timer: Timer) -> bool
         Timer::Announce(port) | Timer::Age(port) | Timer::Pdelay(port) | Timer::Respond(port) => {
             has_port(system, port)
         }
-        Timer::Sync | Timer::Relay => true,
+        Timer::Sync | Timer::Relay | Timer::Lapse => true,
     }
 }
 

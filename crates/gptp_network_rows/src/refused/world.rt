@@ -24,6 +24,7 @@ const PARAMS: Params = Params {
     threshold: 800,
     turnaround: 1_000,
     residence: 1_000,
+    sync_timeout: 0,
 };
 
 /// When the second system follows the first.
