@@ -24,6 +24,8 @@ mod faults;
 #[cfg(test)]
 mod inject;
 #[cfg(test)]
+mod lapse;
+#[cfg(test)]
 mod limits;
 #[cfg(test)]
 mod lint;

@@ -16,7 +16,7 @@ use std::process::Abort;
 use std::test::Fail;
 
 /// Nothing is asked of a stretch.
-const NO_LIMITS: Limits = Limits {
+pub const NO_LIMITS: Limits = Limits {
     choice: None,
     holdover: None,
     error: None,
@@ -26,7 +26,7 @@ const NO_LIMITS: Limits = Limits {
 };
 
 /// What is asked of a timeline up to a time in ns, some seconds at most.
-fn up_to(until: u32, summary: bool, offsets: bool, limits: Limits) -> TimelineOrder
+pub fn up_to(until: u32, summary: bool, offsets: bool, limits: Limits) -> TimelineOrder
     ensures { IfSome result.until (λ until. until ≤ 1000000000000000) }
 {
     TimelineOrder {
@@ -41,7 +41,7 @@ fn up_to(until: u32, summary: bool, offsets: bool, limits: Limits) -> TimelineOr
 }
 
 /// What is written for a document, and the status. No read of memory fails.
-fn told(
+pub fn told(
     alloc: Global,
     document: &[u8],
     order: &TimelineOrder,
@@ -97,7 +97,7 @@ fn stretches_are_told(
 }
 
 /// They start, measure their link, and the second follows the first and knows its time.
-const SETTLED: &str =
+pub const SETTLED: &str =
     "at 0 system 0000000000000001 root f6f8fe436af80000000000000001 steps 0 gm yes slave none offset none
 at 0 port 0000000000000001 1 disabled capable no
 at 0 system 0000000000000002 root f6f8fe436af80000000000000002 steps 0 gm yes slave none offset none
