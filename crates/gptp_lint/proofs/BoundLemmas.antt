@@ -1,7 +1,6 @@
 -- The bound that the tables of a network give after events is that of its snapshot.
-use Rattle.std.proofs.Common.{◌≡◌, ◌≢◌, ◌+◌, ◌⊎◌, ℕ, Bool, true, false, ◌==◌, ◌&&◌, ◌||◌, not, min, cond, List, [], ◌∷◌, ◌++◌, filter, length, map, Option, Some, None, slice_get, refl, sym, ap, ap₂, subst, ◌∙◌, inl, inr, arith}
+use Rattle.std.proofs.Common.{◌≡◌, ◌≢◌, ◌+◌, ◌⊎◌, ℕ, Bool, true, false, ◌==◌, ◌&&◌, ◌||◌, not, min, cond, List, [], ◌∷◌, length, map, Option, Some, None, slice_get, refl, sym, ap, ap₂, subst, ◌∙◌, inl, inr, arith}
 use Rattle.std.specs.List.{cons_option, count_by, filter_map, list_any}
-use Rattle.std.specs.List.Sorted.{IsPermutation}
 use Rattle.std.proofs.lemmas.Bool.{and_from, and_parts, eq-eqb, eqb-true, eqb-false, false_from_ne_true, ne_eqb, not-false, not-true, not_from_false, or_from, or_parts}
 use Rattle.std.proofs.lemmas.List.{length-map}
 use Rattle.std.proofs.lemmas.List.Sorted.{IsPermutation-map, IsPermutation-sym, length_permutation, sum_by-IsPermutation}
@@ -13,9 +12,8 @@ use Rattle.gptp_graph.specs.PathBound as paths
 use Rattle.gptp_graph.specs.Snapshot.{Adjacent, Link, Snapshot, System, clocks, port_of}
 use Rattle.gptp_graph.proofs.PathBoundLemmas.{adjacent_joined, two_from}
 use Rattle.gptp_roles.specs.Selection.{clock_of}
-use Rattle.gptp_setup.specs.declared.setup.Params.{Params}
 use Rattle.gptp_vector.specs.declared.port.PortId.{PortId}
-use Rattle.gptp_plan.specs.Calm.{IsCalm, IsLive, IsUsed, Rests}
+use Rattle.gptp_plan.specs.Calm.{AllRest, IsCalm, IsLive, IsUsed, Rests}
 use Rattle.gptp_plan.specs.Change.{joined_after, link_after, live_after, system_after}
 use Rattle.gptp_plan.specs.Network.{IsNetwork, NetworkState, pace_of}
 use Rattle.gptp_plan.specs.SettlingTime.{settling_span}
@@ -29,10 +27,8 @@ use Rattle.gptp_network.specs.Span.{IsBound}
 use Rattle.gptp_network.proofs.ExistenceLemmas.{snapshot_exists}
 use Rattle.gptp_network.proofs.SnapshotLemmas.{In-permutation, clock_after, from_filter, from_filter_map, with_clock}
 use Rattle.gptp_lint.specs.Course.{cable_of, first, is_used}
-use Rattle.gptp_lint.specs.Tables.{NodeState, bound_of, cables_of, clocks_of, elsewhere, first_used, is_marked, leads_elsewhere, leads_to_two, led, lives_between, mark_of, neighbours_of, path_bound, seen, used_at}
+use Rattle.gptp_lint.specs.Tables.{NodeState, bound_of, cables_of, clocks_of, elsewhere, first_used, is_marked, leads_elsewhere, leads_to_two, led, lives_between, mark_of, may_lapse, neighbours_of, path_bound, seen, used_at}
 use Rattle.gptp_lint.specs.Trouble.{is_long, loss_in_use}
-use Rattle.gptp_lint.specs.declared.course.Cable.{Cable}
-use Rattle.gptp_lint.specs.declared.course.Standing.{Standing}
 use Rattle.gptp_lint.specs.declared.nodes.Neighbour.{Neighbour}
 use Rattle.gptp_lint.specs.declared.nodes.Node.{Node}
 use Rattle.gptp_lint.specs.declared.tables.Mark.{Mark}
@@ -446,8 +442,11 @@ module _ (n : NetworkState) (network : IsNetwork n) (events : List Timed) (t : T
       or_from (is_long n.params s) (not (loss_in_use s == 0)) long
       (ap not (eq-eqb (loss_in_use s) 0 lossless))
 
-  calm_from : list_any (λ (m : Mark). m.troubled) t.marks.items ≡ false → IsCalm n events
-  calm_from none = in_all (Rests n.params n.systems events) n.links (λ w member.
+  abbrev is_troubled : Bool
+  is_troubled = list_any (λ (m : Mark). m.troubled) t.marks.items
+
+  all_rest : is_troubled ≡ false → AllRest n.params n.systems n.links events
+  all_rest none = in_all (Rests n.params n.systems events) n.links (λ w member.
       let one = subst (In (mark_of n.params (after events (first w)))) (sym marks_are)
       (In-map (λ (w : Wire). mark_of n.params (after events (first w))) w n.links member) in
       mark_rests w member (false_from_ne_true (mark_of n.params (after events (first w))).troubled (λ is.
@@ -455,25 +454,41 @@ module _ (n : NetworkState) (network : IsNetwork n) (events : List Timed) (t : T
       passes_at (λ (m : Mark). m.troubled) t.marks.items (mark_of n.params (after events (first w))) one is in
       let no : true ≡ false = sym some ∙ none in cc)))
 
-  calm_to : IsCalm n events → list_any (λ (m : Mark). m.troubled) t.marks.items ≡ false
-  calm_to calm = false_from_ne_true (list_any (λ (m : Mark). m.troubled) t.marks.items) (λ some.
+  none_troubled : AllRest n.params n.systems n.links events → is_troubled ≡ false
+  none_troubled rest = false_from_ne_true is_troubled (λ some.
       let (m, member, is) = passes (λ (m : Mark). m.troubled) t.marks.items some in
       let (w, among, same) = from_map (λ (w : Wire). mark_of n.params (after events (first w))) m n.links
       (subst (In m) marks_are member) in
-      let none = rests_mark w among (all_in (Rests n.params n.systems events) w n.links calm among) in
+      let none = rests_mark w among (all_in (Rests n.params n.systems events) w n.links rest among) in
       let no : true ≡ false = sym is ∙ ap (λ (m : Mark). m.troubled) (sym same) ∙ none in cc)
+
+  -- at the links, and for want of Sync
+  calm_from : (may_lapse n.params || is_troubled) ≡ false → IsCalm n events
+  calm_from none =
+      let (never, untroubled) = or_parts (may_lapse n.params) is_troubled none in
+      record {
+        links = all_rest untroubled;
+        lapses = eqb-true n.params.sync_timeout 0 (not-false (n.params.sync_timeout == 0) never);
+      }
+
+  calm_to : IsCalm n events → (may_lapse n.params || is_troubled) ≡ false
+  calm_to calm =
+      or_from (may_lapse n.params) is_troubled (ap not (eq-eqb n.params.sync_timeout 0 calm.lapses))
+      (none_troubled calm.links)
 
 -- ---- the bound
 
 pub bound_is : (d : DocumentState) (at : ℕ) → IsNetwork d.network → (done : List Timed) (t : Tables)
     → Stand d.network done t → events_by at d.events ≡ done
     → IsBound d at (bound_of d.network t.marks.items t.nodes.items)
-bound_is d at network done t stand now = by (list_any (λ (m : Mark). m.troubled) t.marks.items) refl
+bound_is d at network done t stand now =
+    by (may_lapse d.network.params || list_any (λ (m : Mark). m.troubled) t.marks.items) refl
   where
     so : Stand d.network (events_by at d.events) t
     so = subst (λ events. Stand d.network events t) (sym now) stand
 
-    by : (test : Bool) → list_any (λ (m : Mark). m.troubled) t.marks.items ≡ test
+    by : (test : Bool)
+        → (may_lapse d.network.params || list_any (λ (m : Mark). m.troubled) t.marks.items) ≡ test
         → IsBound d at
         (cond test None (Some (settling_span (pace_of d.network) (path_bound t.marks.items t.nodes.items))))
     by true is = λ calm.

@@ -1,5 +1,5 @@
 -- What is found at the links, one after another, is what is defined of all.
-use Rattle.std.proofs.Common.{◌≡◌, ◌≢◌, ◌+◌, ◌<◌, ℕ, Bool, List, [], ◌∷◌, ◌++◌, Option, Some, None, append_assoc, drop, length, map, take, slice_get, get_or, refl, sym, ap, subst, ◌∙◌, arith}
+use Rattle.std.proofs.Common.{◌≡◌, ◌+◌, ◌<◌, ℕ, Bool, List, [], ◌∷◌, ◌++◌, Option, Some, None, append_assoc, drop, length, map, slice_get, refl, sym, ap, ◌∙◌}
 use Rattle.std.specs.List.{flat_map}
 use Rattle.std.specs.Option.{option_map}
 use Rattle.std.proofs.lemmas.List.{append-nil}
@@ -96,7 +96,7 @@ found d f cables network events are long lossy calm =
       lossy = lossies;
       calm = calm;
       quiet = (
-        λ none. law.0 (sym longs ∙ none.0, sym lossies ∙ none.1),
-        λ always. let none = law.1 always in (longs ∙ none.0, lossies ∙ none.1),
+        λ none. law.0 (sym longs ∙ none.0, sym lossies ∙ none.1, none.2),
+        λ always. let none = law.1 always in (longs ∙ none.0, lossies ∙ none.1, none.2),
       );
     }

@@ -1,5 +1,5 @@
--- No link is told of exactly where each time is calm.
-use Rattle.std.proofs.Common.{◌≡◌, ◌↔◌, ◌≤◌, ◌<◌, ℕ, Bool, true, false, ◌&&◌, nat_lt, cond, List, [], ◌∷◌, Option, Some, None, slice_get, get_or, length, map, refl, sym, ap, subst, ◌∙◌, arith}
+-- No link is told of, and nothing lapses, exactly where each time is calm.
+use Rattle.std.proofs.Common.{◌≡◌, ◌↔◌, ◌≤◌, ℕ, Bool, true, false, ◌==◌, ◌&&◌, nat_lt, cond, List, [], ◌∷◌, Option, Some, None, get_or, refl, sym, ap, subst, ◌∙◌, inl, arith}
 use Rattle.std.specs.List.{All}
 use Rattle.std.specs.Option.{option_to_list}
 use Rattle.std.proofs.lemmas.Bool.Decides.{nat_tests}
@@ -8,23 +8,22 @@ use Rattle.gptp_lists.specs.Members.{In}
 use Rattle.gptp_lists.proofs.MemberLemmas.{In-map, In-slice_get, from_map, slice_get-In}
 use Rattle.gptp_vector.specs.declared.port.PortId.{PortId}
 use Rattle.gptp_setup.specs.declared.setup.Params.{Params}
-use Rattle.gptp_plan.specs.Calm.{IsLive, IsQuiet, IsUsed, Rests}
+use Rattle.gptp_plan.specs.Calm.{AllRest, IsLive, IsUsed, NothingLapses, Rests}
 use Rattle.gptp_plan.specs.Change.{link_after}
 use Rattle.gptp_plan.specs.Network.{IsNetwork, IsPort}
 use Rattle.gptp_plan.specs.declared.change.Timed.{Timed}
 use Rattle.gptp_plan.specs.declared.network.Member.{Member}
 use Rattle.gptp_plan.specs.declared.network.Wire.{Wire}
 use Rattle.gptp_network.specs.Document.{DocumentState}
-use Rattle.gptp_network.specs.Events.{AreEvents, AreInOrder}
+use Rattle.gptp_network.specs.Events.{AreInOrder}
 use Rattle.gptp_network.specs.Snapshot.{events_by}
-use Rattle.gptp_network.specs.Span.{IsCalmAt}
-use Rattle.gptp_lint.specs.Course.{cable_of, course_of, first, is_used}
+use Rattle.gptp_lint.specs.Course.{course_of, first, is_used}
 use Rattle.gptp_lint.specs.Findings.{IsAlwaysCalm}
-use Rattle.gptp_lint.specs.Times.{times_of}
-use Rattle.gptp_lint.specs.Trouble.{is_long, long_of, longs_of, loss_in_use, lossies_of, needed, stretches}
+use Rattle.gptp_lint.specs.Times.{times_from, times_of}
+use Rattle.gptp_lint.specs.Trouble.{is_long, longs_of, loss_in_use, lossies_of, needed}
 use Rattle.gptp_lint.specs.declared.course.Standing.{Standing}
 use Rattle.gptp_lint.proofs.CourseLemmas.{a_after, after, b_after, cable_after, course_is, same_a, same_b, stood}
-use Rattle.gptp_lint.proofs.LivesLemmas.{live_from, live_to, lives_after}
+use Rattle.gptp_lint.proofs.LivesLemmas.{live_from, live_to}
 use Rattle.gptp_lint.proofs.TroubleLemmas.{no_long, no_lossy, none_at_all, none_of, not_long, not_lossy}
 
 -- ---- what holds of all members holds of each
@@ -115,6 +114,15 @@ rests_to p members events w a b rests =
 
 -- ---- all links at all times
 
+-- a time is among its own and those of the events behind it
+first_time : (at : ℕ) (events : List Timed) → In at (times_from at events)
+first_time at [] = inl refl
+first_time at (t ∷ ts) = by (t.at == at) (first_time at ts)
+  where
+    by : (test : Bool) → In at (times_from at ts) → In at (cond test (times_from at ts) (at ∷ times_from t.at ts))
+    by true later = later
+    by false later = inl refl
+
 none_told : {X : Type 0} (o : Option X) → option_to_list o ≡ [] → o ≡ None
 none_told None none = refl
 none_told (Some x) none = absurd cc
@@ -123,14 +131,19 @@ module _ (d : DocumentState) (network : IsNetwork d.network) (order : AreInOrder
   abbrev params : Params
   params = d.network.params
 
-  calm_where_quiet : longs_of d d.network.links ≡ [] → lossies_of d d.network.links ≡ [] → IsAlwaysCalm d
-  calm_where_quiet long lossy = λ at time. in_all _ d.network.links (λ w member.
+  all_rest_where_quiet : longs_of d d.network.links ≡ [] → lossies_of d d.network.links ≡ [] → (at : ℕ)
+      → In at (times_of d.events) → AllRest params d.network.systems d.network.links (events_by at d.events)
+  all_rest_where_quiet long lossy at time = in_all _ d.network.links (λ w member.
       let f = stood d.events (first w) in
       let there : In (f at) (course_of d.events w) =
       subst (In (f at)) (sym (course_is d.events w order)) (In-map f at (times_of d.events) time) in
       rests_from params d.network.systems (events_by at d.events) w
       (not_long params (course_of d.events w) (none_told _ (none_of _ d.network.links long w member)) (f at) there)
       (not_lossy w.bounds.link (course_of d.events w) (none_of _ d.network.links lossy w member) (f at) there))
+
+  -- that nothing lapses is so at any time, and there is one
+  never_lapses_where_calm : IsAlwaysCalm d → NothingLapses params
+  never_lapses_where_calm calm = (calm 0 (first_time 0 d.events)).lapses
 
   -- how a link of the network stands at a time that is calm
   stands_quiet : IsAlwaysCalm d → (w : Wire) → In w d.network.links → (s : Standing) → In s (course_of d.events w)
@@ -142,7 +155,7 @@ module _ (d : DocumentState) (network : IsNetwork d.network) (order : AreInOrder
       let wire = network.links place w there in
       subst (λ r. (is_long params r ≡ false) × (loss_in_use r ≡ 0)) is
       (rests_to params d.network.systems (events_by at d.events) w wire.a wire.b
-      (all_in (Rests params d.network.systems (events_by at d.events)) w d.network.links (calm at time) member))
+      (all_in (Rests params d.network.systems (events_by at d.events)) w d.network.links (calm at time).links member))
 
   no_long_where_calm : IsAlwaysCalm d → longs_of d d.network.links ≡ []
   no_long_where_calm calm = none_at_all _ d.network.links (λ w member.
@@ -152,8 +165,9 @@ module _ (d : DocumentState) (network : IsNetwork d.network) (order : AreInOrder
   no_lossy_where_calm calm = none_at_all _ d.network.links (λ w member.
       no_lossy w.bounds.link 0 (course_of d.events w) (λ s stands. (stands_quiet calm w member s stands).1))
 
-  pub quiet : ((longs_of d d.network.links ≡ []) × (lossies_of d d.network.links ≡ [])) ↔ IsAlwaysCalm d
+  pub quiet :
+      ((longs_of d d.network.links ≡ []) × (lossies_of d d.network.links ≡ []) × NothingLapses params) ↔ IsAlwaysCalm d
   quiet = (
-    λ none. calm_where_quiet none.0 none.1,
-    λ calm. (no_long_where_calm calm, no_lossy_where_calm calm),
+    λ none at time. record { links = all_rest_where_quiet none.0 none.1 at time; lapses = none.2 },
+    λ calm. (no_long_where_calm calm, no_lossy_where_calm calm, never_lapses_where_calm calm),
   )

@@ -7,7 +7,6 @@ use Rattle.gptp_plan.specs.Network.{NetworkState, pace_of}
 use Rattle.gptp_plan.specs.SettlingTime.{settling_span}
 use Rattle.gptp_plan.specs.declared.change.Act.{Act}
 use Rattle.gptp_plan.specs.declared.network.Member.{Member}
-use Rattle.gptp_plan.specs.declared.network.Wire.{Wire}
 use Rattle.gptp_lint.specs.Course.{acted, cable_of, first, is_used, lives_acted, named}
 use Rattle.gptp_lint.specs.Trouble.{is_long, loss_in_use}
 use Rattle.gptp_lint.specs.declared.course.Cable.{Cable}
@@ -101,10 +100,14 @@ lives_between marks o = o.lives && leads_to_two marks o.neighbours.items
 abbrev pub path_bound : List Mark → List Node → ℕ
 path_bound marks os = min (count_by (lives_between marks) os + 2) (count_by (λ (o : Node). o.lives) os)
 
--- the span, where no link in use is too long or loses frames
+-- something may lapse for want of Sync
+abbrev pub may_lapse : Params → Bool
+may_lapse p = not (p.sync_timeout == 0)
+
+-- the span, where nothing may lapse and no link in use is too long or loses frames
 abbrev pub bound_of : NetworkState → List Mark → List Node → Option ℕ
 bound_of n marks os =
-    if list_any (λ (m : Mark). m.troubled) marks then None
+    if may_lapse n.params || list_any (λ (m : Mark). m.troubled) marks then None
     else Some (settling_span (pace_of n) (path_bound marks os))
 
 -- what is told of a time where the next is another

@@ -67,6 +67,7 @@ fn params_of(table: &Table) -> Result<Params, Why> {
     let threshold = natural_or(table, "threshold", 1, 1_000_000_000, 800)?;
     let turnaround = natural_or(table, "turnaround", 1, 1_000_000_000, 1000)?;
     let residence = natural_or(table, "residence", 1, 1_000_000_000, 1000)?;
+    let sync_timeout = count(table, "sync_timeout", 0, 10, 0)?;
     Ok(Params {
         announce,
         sync,
@@ -76,6 +77,7 @@ fn params_of(table: &Table) -> Result<Params, Why> {
         threshold,
         turnaround,
         residence,
+        sync_timeout,
     })
 }
 

@@ -150,8 +150,8 @@ fn push_troubles(
 }
 
 /// What a planner may have overlooked in a document: its links in use that are too long or lose frames, systems that no
-/// link names, components, and each time with its bound. There is no such link exactly where each time is calm. Refused
-/// for want of memory alone.
+/// link names, components, and each time with its bound. There is no such link, and nothing lapses for want of Sync,
+/// exactly where each time is calm. Refused for want of memory alone.
 pub fn find(alloc: Global, document: &Document) -> Result<Findings, AllocError>
     ensures { IfOk result (AreFound document.now) }
 {

@@ -7,7 +7,7 @@ use toml::{Table, Value};
 const TOP: [&str; 5] = ["version", "network", "system", "link", "event"];
 
 /// Those of `[network]`.
-const NETWORK: [&str; 8] = [
+const NETWORK: [&str; 9] = [
     "announce",
     "sync",
     "pdelay",
@@ -16,6 +16,7 @@ const NETWORK: [&str; 8] = [
     "threshold",
     "turnaround",
     "residence",
+    "sync_timeout",
 ];
 
 /// Those of a system.

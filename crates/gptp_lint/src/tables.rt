@@ -4,7 +4,7 @@ ghost use Rattle.std.specs.Prelude.{◌≡◌, ◌≤◌, ◌+◌, map, length, 
 ghost use Rattle.std.specs.List.{count_by, list_any};
 ghost use Rattle.gptp_plan.specs.Network.{NetworkState};
 ghost use Rattle.gptp_lint.specs.Course.{first, wire_of};
-ghost use Rattle.gptp_lint.specs.Tables.{Acted, AreFirst, AreMarked, acted_along, acted_at, bound_of, cables_of, first_used, leads_elsewhere, leads_to_two, lives_between, mark_of, path_bound, used_at};
+ghost use Rattle.gptp_lint.specs.Tables.{Acted, AreFirst, AreMarked, acted_along, acted_at, bound_of, cables_of, first_used, leads_elsewhere, leads_to_two, lives_between, mark_of, may_lapse, path_bound, used_at};
 
 use crate::course::{Cable, Standing, act, first, is_used, named};
 use crate::nodes::{Neighbour, Node, act_on_nodes, live_nodes, neighbours_at, nodes_of};
@@ -136,6 +136,13 @@ fn is_troubled(marks: &[Mark]) -> bool
     marks.iter().any(|mark| mark.troubled)
 }
 
+/// Whether something may lapse for want of Sync.
+fn may_lapse(params: &Params) -> bool
+    ensures { result ≡ may_lapse params.now }
+{
+    params.sync_timeout != 0
+}
+
 /// Does to the link at a place what an act does.
 fn act_at(
     params: &Params,
@@ -210,12 +217,13 @@ impl Tables {
         act_on_nodes(self.nodes.as_mut_slice(), done);
     }
 
-    /// How long the network takes at most to settle, in ns, where no link in use is too long or loses frames.
+    /// How long the network takes at most to settle, in ns, where nothing may lapse for want of Sync and no link in use is
+    /// too long or loses frames.
     pub(crate) fn bound(&self, network: &Network) -> Option<u64>
         requires { length self.now.nodes.items ≤ 512 }
         ensures { result ≡ bound_of network.now self.now.marks.items self.now.nodes.items }
     {
-        if is_troubled(&self.marks) {
+        if may_lapse(&network.params()) || is_troubled(&self.marks) {
             None
         } else {
             Some(network.settling_span_over(path_bound(&self.marks, &self.nodes)))
