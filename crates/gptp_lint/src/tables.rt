@@ -217,8 +217,8 @@ impl Tables {
         act_on_nodes(self.nodes.as_mut_slice(), done);
     }
 
-    /// How long the network takes at most to settle, in ns, where nothing may lapse for want of Sync and no link in use is
-    /// too long or loses frames.
+    /// How long the network takes at most to settle, in ns, where nothing may lapse for want of Sync and no link in use
+    /// is too long or loses frames.
     pub(crate) fn bound(&self, network: &Network) -> Option<u64>
         requires { length self.now.nodes.items ≤ 512 }
         ensures { result ≡ bound_of network.now self.now.marks.items self.now.nodes.items }

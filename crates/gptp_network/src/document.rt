@@ -89,8 +89,9 @@ impl Document {
         last_change(&self.events)
     }
 
-    /// Whether the network is calm after all events: each link that then is up between two live systems loses nothing, and
-    /// its greatest delay is short enough for the threshold; and nothing lapses for want of Sync, since `sync_timeout` is 0.
+    /// Whether the network is calm after all events: each link that then is up between two live systems loses nothing,
+    /// and its greatest delay is short enough for the threshold; and nothing lapses for want of Sync, since
+    /// `sync_timeout` is 0.
     pub fn calm(&self) -> bool
         ensures { IsTrue result ↔ IsCalm self.now.network self.now.events }
     {

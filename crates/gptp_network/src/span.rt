@@ -8,9 +8,9 @@ impl Document {
     ghost use Rattle.std.specs.Prelude.{◌≡◌, ◌↔◌, ◌≤◌, ℕ, IfOk, IsTrue, Option};
     ghost use Rattle.gptp_network.specs.Span.{IsBound, IsCalmAt, IsSpan};
 
-    /// Whether the network is calm after the events up to a time, in ns: each link that then is up between two live systems
-    /// loses nothing, and its greatest delay is short enough for the threshold; and nothing lapses for want of Sync, since
-    /// `sync_timeout` is 0.
+    /// Whether the network is calm after the events up to a time, in ns: each link that then is up between two live
+    /// systems loses nothing, and its greatest delay is short enough for the threshold; and nothing lapses for want of
+    /// Sync, since `sync_timeout` is 0.
     pub fn calm_at(&self, at: u64) -> bool
         ensures { IsTrue result ↔ IsCalmAt self.now at }
     {
