@@ -51,16 +51,16 @@ some_left time (x ∷ xs) e late none = by (nat_lt time x.at) refl (some_left ti
 -- ---- what is left before the two events
 
 -- where others come first that are past, and the two events
-record AreLast (down up : ℕ) (from : ℕ) (left : List Timed) : Type 0 where
-  others : List Timed
-  first : Timed
-  second : Timed
-  are : left ≡ others ++ first ∷ second ∷ []
-  past : PastBy down others
-  first_at : first.at ≡ down
-  second_at : second.at ≡ up
-  order : down < up
-  early : from ≤ down
+pub record AreLast (down up : ℕ) (from : ℕ) (left : List Timed) : Type 0 where
+  pub others : List Timed
+  pub first : Timed
+  pub second : Timed
+  pub are : left ≡ others ++ first ∷ second ∷ []
+  pub past : PastBy down others
+  pub first_at : first.at ≡ down
+  pub second_at : second.at ≡ up
+  pub order : down < up
+  pub early : from ≤ down
 
 -- before the first of them both are left
 still_last : (down up from until : ℕ) (left : List Timed) (k : AreLast down up from left) → from < down
@@ -133,6 +133,13 @@ module _ {F : Type 0} (answers : Bounds → ℕ → F → Option ℕ → F → T
     pub since : ℕ → Option ℕ
     pub ended : e ≡ end_in names since passage
 
+  -- it is so of these
+  abbrev FindsIt : List Passage → Type 0
+  FindsIt passages = (down up from : ℕ) (left : List Timed) (since : ℕ → Option ℕ) (fate fate_after : F)
+      (w w' : WorldState) (a b : EndState) → AreLast down up from left
+      → AllPass answers d until from left fate fate_after w w' passages
+      → last_two (ends_in names since passages) ≡ Some (a, b) → IsBetween down up passages a
+
   pub last_but_one : (passages : List Passage) (down up from : ℕ) (left : List Timed) (since : ℕ → Option ℕ)
       (fate fate_after : F) (w w' : WorldState) (a b : EndState) → AreLast down up from left
       → AllPass answers d until from left fate fate_after w w' passages
@@ -170,13 +177,7 @@ module _ {F : Type 0} (answers : Bounds → ℕ → F → Option ℕ → F → T
       (drawn, passage, some, (drawn_next, passage_q, more, rest)) two =
       by (nat_lt from down) refl (last_but_one (q ∷ (r ∷ rs)))
     where
-      abbrev Others : Type 0
-      Others = (down up from : ℕ) (left : List Timed) (since : ℕ → Option ℕ) (fate fate_after : F) (w w' : WorldState)
-          (a b : EndState) → AreLast down up from left
-          → AllPass answers d until from left fate fate_after w w' (q ∷ (r ∷ rs))
-          → last_two (ends_in names since (q ∷ (r ∷ rs))) ≡ Some (a, b) → IsBetween down up (q ∷ (r ∷ rs)) a
-
-      by : (t : Bool) → nat_lt from down ≡ t → Others → IsBetween down up (p ∷ (q ∷ (r ∷ rs))) a
+      by : (t : Bool) → nat_lt from down ≡ t → FindsIt (q ∷ (r ∷ rs)) → IsBetween down up (p ∷ (q ∷ (r ∷ rs))) a
       by true is others =
           let before : from < down = grind (arith, nat_tests) in
           let next = subst (λ t. AreLast down up t (later_than from left)) (sym passage.to_is)

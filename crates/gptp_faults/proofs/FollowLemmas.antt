@@ -108,7 +108,10 @@ zero_over n = omega arith
 
 first_moment : (t : Times) → moment_of t 0 ≡ t.from
 first_moment t =
-    ap (moment t) (zero_over t.seeds) ∙ ap (λ n. t.from + n) (zero_over t.moments) ∙ omega arith
+    let none : 0 * t.spread ≡ 0 = omega arith in
+    let first : t.from + 0 ≡ t.from = omega arith in
+    ap (moment t) (zero_over t.seeds) ∙ ap (λ n. t.from + n / t.moments) none
+    ∙ ap (λ n. t.from + n) (zero_over t.moments) ∙ first
 
 first_run : {Y : Type 0} (P : ℕ → Y → Type 0) (count : ℕ) (y : Y) (ys : List Y)
     → Each P (range_with_len 0 count) (y ∷ ys) → P 0 y
@@ -234,8 +237,8 @@ pub follow_settles : (d : DocumentState) (options : FaultsOptions) (lines : List
     → TellsSettled g o
 follow_settles d options lines exceeded f o bound g playable default member bounded stands =
     let t = f.times in
-    let (number, of_part, p, there, outcome) = each_for (IsOutcomeAt d t f.planned) _ f.outcomes o f.are_outcomes member in
-    let (c, a_case, is_case, hold_is) = each_at (IsPlanned d options t) f.cases f.planned number p f.are_planned there in
+    let (number, of_part, (p, there, outcome)) = each_for (IsOutcomeAt d t f.planned) _ f.outcomes o f.are_outcomes member in
+    let (c, a_case, (is_case, hold_is)) = each_at (IsPlanned d options t) f.cases f.planned number p f.are_planned there in
     let failing : o.failing ≡ p.failing = ap (λ (x : OutcomeState). x.failing) outcome.is in
     let hold : IsHold d t p.failing None p.hold =
     subst (λ x. IsHold d t x None p.hold) (sym is_case) (subst (λ asked. IsHold d t c asked p.hold) default hold_is) in

@@ -64,9 +64,6 @@ module _ (d : DocumentState) (kind : Option Only) (all : List Case) (are : AreCa
   abbrev g : Snapshot
   g = are.snapshot
 
-  abbrev events : List Timed
-  events = _
-
   of_link : In c (map link_case g.links) → CanFail d c
   of_link member =
       let (l, given, is) = from_map link_case c g.links member in

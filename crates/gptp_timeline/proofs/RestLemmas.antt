@@ -198,7 +198,7 @@ stands_there w name s is =
     )
 
 -- and each of the snapshot is a live system
-lives_there : (w : WorldState) (name : ℕ) (x : System) → HaveOwnClocks w → In x (snapshot_of w).systems
+pub lives_there : (w : WorldState) (name : ℕ) (x : System) → HaveOwnClocks w → In x (snapshot_of w).systems
     → x.clock ≡ name → (s : SystemState) × (live_system name w ≡ Some s)
 lives_there w name x own member named =
     let live = live_from w.stations x member in

@@ -2,4 +2,4 @@ use Rattle.gptp_faults.proofs.FollowLemmas.{follow_settles}
 use Rattle.gptp_faults.proofs.laws.follow_lines_settle.Goals as goal
 
 pub returns : goal.returns
-returns g c = follow_settles
+returns c = follow_settles
