@@ -52,6 +52,9 @@ pub mod HoldsLemmas
 pub mod ParentLemmas
 pub mod SettledLemmas
 pub mod LinkOctetLemmas
+pub mod SyncOctetLemmas
+pub mod SyncSaidLemmas
+pub mod KnowsTimeLemmas
 pub mod LinkLaneLemmas
 pub mod SentLemmas
 pub mod PartLemmas

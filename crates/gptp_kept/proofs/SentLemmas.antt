@@ -29,7 +29,8 @@ use Rattle.gptp_acts.specs.Sends.{written}
 use Rattle.gptp_measuring.specs.Lanes.{Frame as SeenFrame, AreMute, FirstIs}
 use Rattle.gptp_measuring.specs.Messages.{Request, Reply, Response, FollowUp}
 use Rattle.gptp_kept.specs.LinkView.{RequestFits, SaysWhatFits, asks, frame_view, identity_of, replies, request_from}
-use Rattle.gptp_kept.proofs.LinkLaneLemmas.{said_at, said_here, sends_at, true_same}
+use Rattle.gptp_kept.specs.Said.{said_at, sends_at}
+use Rattle.gptp_kept.proofs.LinkLaneLemmas.{said_here, true_same}
 use Rattle.gptp_kept.proofs.LinkOctetLemmas.{asks_not, follow_up_said, no_request_read, one_request, replies_not, request_back, response_said}
 
 -- ---- frames by their octets

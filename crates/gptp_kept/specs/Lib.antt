@@ -17,6 +17,9 @@ pub mod Settled
 pub mod SettledLaws
 pub mod LinkView
 pub mod LinkActs
+pub mod Said
+pub mod SyncView
+pub mod SyncLaws
 pub mod Measured
 pub mod Short
 pub mod Watched

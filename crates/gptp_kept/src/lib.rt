@@ -33,5 +33,6 @@ pub mod link_worlds;
 pub mod seen;
 pub mod settled;
 pub mod silence;
+pub mod syncs;
 pub mod unanswered_acts;
 pub mod unanswered_worlds;

@@ -1,0 +1,50 @@
+-- Laws on what systems tell of time.
+use Rattle.std.specs.Prelude.{◌≡◌, ◌⊎◌, ◌<◌, ℕ, suc, true, List, Some, slice_get}
+use Rattle.gptp_messages.specs.Frame.{PortFits}
+use Rattle.gptp_receipt.specs.declared.held.Held.TheVariants.{Mine}
+use Rattle.gptp_setup.specs.declared.setup.Setup.{Setup}
+use Rattle.gptp_setup.specs.declared.timer.Timer.TheVariants as timers
+use Rattle.gptp_system.specs.declared.answer.Answer.{Answer}
+use Rattle.gptp_system.specs.declared.port.Port.{Port}
+use Rattle.gptp_system.specs.declared.sending.Sending.{Sending}
+use Rattle.gptp_system.specs.Input.{Input, IsTimely, Steps, Expires}
+use Rattle.gptp_system.specs.Start.{started}
+use Rattle.gptp_system.specs.State.{SystemState, own}
+use Rattle.gptp_system.specs.Syncing.{leads}
+use Rattle.gptp_kept.specs.Said.{said_at}
+use Rattle.gptp_kept.specs.SyncView.{ArePaired, AreTimeless, KnowsTime}
+use Rattle.gptp_kept.specs.View.{identity_of}
+
+-- at each port a step sends a Sync and its Follow_Up, or nothing of time
+abbrev pub TellsInPairs : Type 0
+TellsInPairs = (input : Input) (now : ℕ) (s s' : SystemState) (sends : List Sending) (answer : Answer) (n : ℕ)
+    → IsTimely s now input → KnowsTime s → PortFits (own s n) → Steps input now s s' sends answer
+    → ArePaired (identity_of (own s n)) (said_at s' (own s n) sends) ⊎ AreTimeless (said_at s' (own s n) sends)
+
+-- every Master port of a system sends both
+abbrev pub TellsTime : SystemState → SystemState → List Sending → Type 0
+TellsTime s s' sends = (i : ℕ) (q : Port) (root steps : ℕ) → slice_get s.held i ≡ Some (Mine root steps)
+    → slice_get s.ports i ≡ Some q → PortFits (own s (suc i))
+    → ArePaired (identity_of (own s (suc i))) (said_at s' (own s (suc i)) sends)
+
+-- so it is where the Sync timer of a root expires that may be grandmaster
+abbrev pub LeadersTell : Type 0
+LeadersTell = (now : ℕ) (s s' : SystemState) (sends : List Sending) (answer : Answer)
+    → leads s ≡ true → Steps (Expires timers.Sync) now s s' sends answer
+    → TellsTime s s' sends
+
+-- and where the Relay timer expires in a network in which something can lapse
+abbrev pub RelaysTell : Type 0
+RelaysTell = (now : ℕ) (s s' : SystemState) (sends : List Sending) (answer : Answer)
+    → 0 < s.params.sync_timeout → IsTimely s now (Expires timers.Relay) → KnowsTime s
+    → Steps (Expires timers.Relay) now s s' sends answer
+    → TellsTime s s' sends
+
+-- a system that starts knows no time, and every step keeps what is said of the time that it knows
+abbrev pub KnowsAtStart : Type 0
+KnowsAtStart = (setup : Setup) (now : ℕ) → KnowsTime (started setup now)
+
+abbrev pub KnowsOn : Type 0
+KnowsOn = (input : Input) (now : ℕ) (s s' : SystemState) (sends : List Sending) (answer : Answer)
+    → Steps input now s s' sends answer → KnowsTime s
+    → KnowsTime s'

@@ -1,0 +1,19 @@
+//! Laws on the Syncs and Follow_Ups that systems send.
+
+ghost use Rattle.gptp_kept.specs.SyncLaws.{KnowsAtStart, KnowsOn, LeadersTell, RelaysTell, TellsInPairs};
+
+/// What a step sends at one port tells no time, or is a Sync and, directly behind it, the Follow_Up of the same
+/// sequenceId. Each Master port sends both where the Sync timer of a root expires that may be grandmaster; and where the
+/// Relay timer expires, in a network that has a syncReceiptTimeout.
+pub fn time_is_told_in_pairs()
+    ensures pairs { TellsInPairs }
+    ensures leaders { LeadersTell }
+    ensures relays { RelaysTell }
+{}
+
+/// The time that a system knows has a timestamp, and in a network that has a syncReceiptTimeout it knows one while its
+/// Relay timer runs: from its start on, by every step.
+pub fn known_time_is_kept()
+    ensures start { KnowsAtStart }
+    ensures steps { KnowsOn }
+{}
