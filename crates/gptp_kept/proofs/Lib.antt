@@ -54,7 +54,9 @@ pub mod SettledLemmas
 pub mod LinkOctetLemmas
 pub mod SyncOctetLemmas
 pub mod SyncSaidLemmas
-pub mod KnowsTimeLemmas
+pub mod TimeStepLemmas
+pub mod SyncHeardLemmas
+pub mod SyncFlightLemmas
 pub mod LinkLaneLemmas
 pub mod SentLemmas
 pub mod PartLemmas

@@ -19,6 +19,7 @@ pub mod LinkView
 pub mod LinkActs
 pub mod Said
 pub mod SyncView
+pub mod SyncFlight
 pub mod SyncLaws
 pub mod Measured
 pub mod Short

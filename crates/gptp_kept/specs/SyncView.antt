@@ -1,5 +1,6 @@
 -- What octets tell of time: a Sync, and the Follow_Up that completes it (IEEE 802.1AS-2020, 11.4.3 and 11.4.4).
-use Rattle.std.specs.Prelude.{◌≡◌, ◌<◌, ℕ, true, List, [], ◌∷◌, Some, IsSome}
+use Rattle.std.specs.Prelude.{◌≡◌, ◌<◌, ◌+◌, ℕ, true, List, [], ◌∷◌, Option, Some, IsSome}
+use Rattle.std.specs.Option.{option_map, unwrap_or}
 use Rattle.gptp_lists.specs.Members.{In}
 use Rattle.gptp_graph.specs.Snapshot.{PortIdentity}
 use Rattle.gptp_messages.specs.declared.follow_up.FollowUp.{FollowUp}
@@ -7,7 +8,10 @@ use Rattle.gptp_messages.specs.declared.head.Head.{Head}
 use Rattle.gptp_messages.specs.declared.message.Message.TheVariants as messages
 use Rattle.gptp_messages.specs.Grammar.{Reads}
 use Rattle.gptp_correction.specs.declared.sync_in.SyncInfo.{SyncInfo}
-use Rattle.gptp_system.specs.State.{SystemState}
+use Rattle.gptp_correction.specs.SyncIn.{KeptSync}
+use Rattle.gptp_receipt.specs.declared.held.Reception.{Reception}
+use Rattle.gptp_receipt.specs.Held.{received}
+use Rattle.gptp_system.specs.State.{SystemState, held_at, is_capable_at, lapse_of}
 use Rattle.gptp_kept.specs.View.{identity_of}
 
 -- a Sync, by the port that sent it and its sequenceId
@@ -44,6 +48,24 @@ pub record ArePaired (source : PortIdentity) (all : List (List ℕ)) : Type 0 wh
   pub are : all ≡ sync ∷ follow_up ∷ []
   pub first : syncs sync (record { source = source; sequence = sequence })
   pub second : follows_up follow_up (record { source = source; sequence = sequence })
+
+-- the Sync that a system keeps, and of which it awaits the Follow_Up
+abbrev pub kept_view : SystemState → Option SyncId
+kept_view s =
+    option_map (λ (k : KeptSync). record { source = identity_of k.source; sequence = k.sequence }) s.sync_in
+
+-- a system takes its time at this port, which is capable, from that one
+pub record TakesTime (s : SystemState) (p : ℕ) (source : PortIdentity) : Type 0 where
+  pub capable : is_capable_at s p ≡ true
+  pub slave : s.slave ≡ Some p
+  pub reception : Reception
+  pub holds : received (held_at s p) ≡ Some reception
+  pub came : identity_of reception.vector.source ≡ source
+
+-- a system heard its time now: it will send that on, and its Lapse timer begins anew
+pub record IsHeard (now : ℕ) (s s' : SystemState) : Type 0 where
+  pub relay : s'.relay ≡ Some (unwrap_or s.relay (now + s.params.residence))
+  pub lapse : s'.lapse ≡ lapse_of s.params s.root s.slave now
 
 -- The time that a system knows has a timestamp. Where something can lapse it knows a time while its Relay timer runs.
 pub record KnowsTime (s : SystemState) : Type 0 where

@@ -1,6 +1,8 @@
-//! Laws on the Syncs and Follow_Ups that systems send.
+//! Laws on the Syncs and Follow_Ups that systems send and hear, and on those in flight.
 
+ghost use Rattle.gptp_kept.specs.SyncLaws.{FollowUpsAreUsed, KeptSyncsStay, SyncsAreKept};
 ghost use Rattle.gptp_kept.specs.SyncLaws.{KnowsAtStart, KnowsOn, LeadersTell, RelaysTell, TellsInPairs};
+ghost use Rattle.gptp_kept.specs.SyncLaws.{MatchesCome, MatchesStay, PairsMatch};
 
 /// What a step sends at one port tells no time, or is a Sync and, directly behind it, the Follow_Up of the same
 /// sequenceId. Each Master port sends both where the Sync timer of a root expires that may be grandmaster; and where the
@@ -16,4 +18,21 @@ pub fn time_is_told_in_pairs()
 pub fn known_time_is_kept()
     ensures start { KnowsAtStart }
     ensures steps { KnowsOn }
+{}
+
+/// A Sync from the port that a system follows is kept, and its Follow_Up used, where the port is capable and the network
+/// has a syncReceiptTimeout: the Relay timer runs then, and the Lapse timer begins anew. A Sync that is kept stays so
+/// while the same root is followed by the same port, until the next one comes from there.
+pub fn syncs_are_heard()
+    ensures kept { SyncsAreKept }
+    ensures used { FollowUpsAreUsed }
+    ensures stay { KeptSyncsStay }
+{}
+
+/// A Follow_Up that enters a lane directly behind its Sync will match there: whatever enters behind it and whatever
+/// arrives before it, until it arrives itself and completes the Sync that is kept.
+pub fn follow_ups_will_match()
+    ensures enter { PairsMatch }
+    ensures stay { MatchesStay }
+    ensures come { MatchesCome }
 {}
