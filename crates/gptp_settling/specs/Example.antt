@@ -32,6 +32,7 @@ network = record {
   most = 1;
   timeout = 2;
   start = 1;
+  syncs = record { interval = 1; residence = 0; span = 3 };
   feed = 0;
   step = 8;
 }
@@ -57,6 +58,8 @@ lone clock identity timer = record {
   steps = 0;
   slave = None;
   trace = clock ∷ [];
+  sync = 0;
+  relay = None;
   lapse = None;
 }
 
@@ -81,6 +84,8 @@ following at = record {
   steps = 1;
   slave = Some 1;
   trace = 1 ∷ 2 ∷ [];
+  sync = 0;
+  relay = None;
   lapse = None;
 }
 

@@ -14,12 +14,12 @@ pub mod LinkLaws
 pub mod AtRest
 pub mod Network
 pub mod Calm
+pub mod Syncs
 pub mod Levels
 pub mod Settled
 pub mod SettlingLaws
 pub mod Run
+pub mod SyncLaws
 pub mod Example
 pub mod ExampleLaws
 pub mod HeldLaws
-pub mod Flow
-pub mod FlowLaws

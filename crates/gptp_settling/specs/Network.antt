@@ -5,12 +5,18 @@ use Rattle.gptp_graph.specs.PathBound.{BoundsPaths}
 use Rattle.gptp_settling.specs.Facts.{Setting, turn}
 use Rattle.gptp_settling.specs.Stage.{Wiring}
 
+-- the sync interval, how long after a Follow_Up a system relays it, and how long after one its lapse timer is due
+pub record SyncTiming : Type 0 where
+  pub interval : ℕ
+  pub residence : ℕ
+  pub span : ℕ
+
 -- The live systems and their links; how many systems a path of them has at most; at which place a system stands, by its
 -- clock, and a lane, by the port that it leads from; the announce interval of each port, first its logarithm, and the
 -- largest of them; the largest delay of a link; the announce receipt timeout, in intervals; when every port on a link
--- is capable and all others are disabled; for how long at most a settled system waits for the next Sync of the best;
--- and what each step of distance takes. Where nothing lapses for want of Sync the wait is none and a step takes two
--- intervals.
+-- is capable and all others are disabled; the times of Syncs; for how long at most a settled system waits for the next
+-- Sync of the best; and what each step of distance takes. Where nothing lapses for want of Sync the wait is none and a
+-- step takes two intervals.
 pub record Network : Type 0 where
   pub graph : Snapshot
   pub reach : ℕ
@@ -22,6 +28,7 @@ pub record Network : Type 0 where
   pub most : ℕ
   pub timeout : ℕ
   pub start : ℕ
+  pub syncs : SyncTiming
   pub feed : ℕ
   pub step : ℕ
 

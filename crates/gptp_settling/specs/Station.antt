@@ -24,8 +24,8 @@ pub record Port : Type 0 where
   pub announce : ℕ
 
 -- A system, live or failed, by its clock and identity: its ports, of which number n stands at place n - 1; what it
--- follows, which is the root, the steps to it, the slave port and the path trace that it announces; and when what its
--- slave port holds lapses for want of Sync, while a timer for that runs.
+-- follows, which is the root, the steps to it, the slave port and the path trace that it announces; and when its Sync
+-- timer is due, while they run its Relay timer, and the one by which what its slave port holds lapses for want of Sync.
 pub record Station : Type 0 where
   pub live : Bool
   pub clock : ℕ
@@ -35,6 +35,8 @@ pub record Station : Type 0 where
   pub steps : ℕ
   pub slave : Option ℕ
   pub trace : List ℕ
+  pub sync : ℕ
+  pub relay : Option ℕ
   pub lapse : Option ℕ
 
 -- the time, the systems, and one lane for each direction of each link

@@ -19,19 +19,19 @@
 #![tactic(auto)]
 
 mod coding;
-mod flow;
 mod held;
 mod link;
 mod network;
 mod runs;
+mod syncs;
 mod traces;
 
-pub use coding::Coding;
-pub use flow::syncs_come_in_time;
+pub use coding::{Coding, Matching};
 pub use held::{no_loop_is_taken, ports_stay_selected};
 pub use link::{link_becomes_settled, link_stays_at_a_stage};
 pub use network::{
     invariant_is_kept, network_settles, ports_settle, system_settles, systems_are_bounded,
 };
 pub use runs::{example_run, run_settles};
+pub use syncs::{sync_run_settles, syncs_are_expected, syncs_come_in_time};
 pub use traces::{clean_is_by_last_members, traces_become_clean, traces_stay_clean};
