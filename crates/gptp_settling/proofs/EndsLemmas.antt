@@ -22,7 +22,7 @@ use Rattle.gptp_settling.specs.Stage.{Wiring}
 use Rattle.gptp_settling.specs.Link.{final_vector, StandsAt, TellsSettled, HearsSettled, IsLaneOf, IsOnTime, Ends, LapsesLater}
 use Rattle.gptp_settling.specs.Network.{Network, IsNetwork, setting, clean_from, since, wiring}
 use Rattle.gptp_settling.specs.Calm.{IsCalmPort, HasLane, Calm}
-use Rattle.gptp_settling.specs.Syncs.{FollowsNearer, NothingLapses}
+use Rattle.gptp_settling.specs.Lapsing.{FollowsNearer, NothingLapses}
 use Rattle.gptp_settling.specs.Levels.{LeadsFarther}
 use Rattle.gptp_settling.proofs.PlaceLemmas.{same_there}
 use Rattle.gptp_settling.proofs.NearestLemmas.{steps_not_fewer, on_way, path_length}
@@ -254,7 +254,7 @@ module _ (n : Network) (net : IsNetwork n) (w : State) (calm : Calm n w)
                   (subst (λ c. Joins n.graph came.from (port_of c (suc q))) clock came.joins)) back
 
     -- claims of the link are made once the system that tells has settled
-    settled_by : since n d + n.feed ≤ w.time → since n d ≤ w.time
+    settled_by : since n d + n.sync_wait ≤ w.time → since n d ≤ w.time
     settled_by late = omega arith
 
     -- what the machine keeps of a link holds of it

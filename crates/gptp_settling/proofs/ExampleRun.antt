@@ -1,5 +1,5 @@
 -- The steps of the example run.
-use Rattle.std.proofs.Common.{◌≡◌, ◌≢◌, ◌⊎◌, ◌≤◌, ◌+◌, ℕ, zero, suc, pos, true, List, [], ◌∷◌, Some, None, slice_get, append-nil, refl, sym, ap, subst, ◌∙◌, inl, inr, arith}
+use Rattle.std.proofs.Common.{◌≡◌, ◌≢◌, ◌⊎◌, ◌≤◌, ◌+◌, ℕ, zero, suc, pos, true, List, [], ◌∷◌, Some, None, slice_get, append-nil, refl, sym, ap, subst, inl, inr, arith}
 use Rattle.gptp_lists.specs.Members.{In}
 use Rattle.gptp_graph.specs.Snapshot.{PortIdentity, port_of, IsLinked}
 use Rattle.gptp_settling.specs.Frame.{Announce, Frame, Lane, Send}
@@ -8,11 +8,12 @@ use Rattle.gptp_settling.specs.Touch.{Hear, Tick, Qualified, Replaces}
 use Rattle.gptp_settling.specs.Reacts.{IsOwn, IsMasterAt, PortStep, Reacts}
 use Rattle.gptp_settling.specs.Acts.{LaneStep, Steps}
 use Rattle.gptp_settling.specs.Calm.{Calm}
-use Rattle.gptp_settling.specs.Syncs.{NothingLapses}
+use Rattle.gptp_settling.specs.Lapsing.{NothingLapses}
 use Rattle.gptp_settling.specs.Run.{IsRun}
 use Rattle.gptp_settling.specs.Example.{lane_out, lane_back, heard, first_identity, second_identity, network, announce, octets, says, first, alone, following, frame, state, turns, begin, run}
 use Rattle.gptp_settling.specs.ExampleLaws.{ExampleSettles}
 use Rattle.gptp_settling.proofs.RunLemmas.{run_settles}
+use Rattle.gptp_settling.proofs.SyncLemmas.{none_lapses}
 use Rattle.gptp_settling.proofs.ExampleLemmas.{each_of_one, each_of_two, mine_received, mine_disabled, lone_station, lone_calm, following_station, following_calm, calm, is_network}
 
 -- a moment comes
@@ -243,9 +244,9 @@ following_is_calm now at timer frames came stays early soon flight =
 -- nothing lapses in it: no lapse timer runs
 nothing_lapses : (now timer : ℕ) (second : Station) (frames : List Frame) → second.lapse ≡ None
     → NothingLapses network (state now timer second frames)
-nothing_lapses now timer second frames none i s d due at live near follows late lapse =
-    absurd (each_of_two (λ i (s : Station). s.lapse ≡ Some due → ⊥) (first timer) second (λ e. absurd cc)
-    (λ e. absurd (let runs : None ≡ Some due = sym none ∙ e in cc)) i s at lapse)
+nothing_lapses now timer second frames none =
+    none_lapses network (state now timer second frames) (λ i s at live.
+    each_of_two (λ i (s : Station). s.lapse ≡ None) (first timer) second refl none i s at)
 
 -- nothing is in flight, or one frame
 none_in_flight : (now : ℕ) (f : Frame) → In f [] → (now ≤ f.due) × (f.due ≤ now + 1)

@@ -19,7 +19,7 @@ use Rattle.gptp_settling.specs.Stage.{IsFinal}
 use Rattle.gptp_settling.specs.Link.{Stand, LinkSettles}
 use Rattle.gptp_settling.specs.Network.{Network, IsNetwork, setting, clean_from, since, wiring}
 use Rattle.gptp_settling.specs.Calm.{Calm}
-use Rattle.gptp_settling.specs.Syncs.{NothingLapses}
+use Rattle.gptp_settling.specs.Lapsing.{NothingLapses}
 use Rattle.gptp_settling.specs.Levels.{LeadsFarther, LevelSettles, Invariant}
 use Rattle.gptp_settling.proofs.PlaceLemmas.{there_within}
 use Rattle.gptp_settling.proofs.LinkLemmas.{link_kept, link_settled}
@@ -73,9 +73,9 @@ module _ (says : Says) (n : Network) (net : IsNetwork n) (w : State) (calm : Cal
       from_known : In v (clocks n.graph)
       from_known = Joins-clock n.graph (port_of v (suc p)) (port_of u (suc q)) net.graph leads.joins
 
-      in_time : since n d + n.feed + n.interval_of (port_of v (suc p)) + n.most ≤ w.time
+      in_time : since n d + n.sync_wait + n.interval_of (port_of v (suc p)) + n.most ≤ w.time
       in_time =
-          let round : n.feed + n.interval_of (port_of v (suc p)) + n.most ≤ n.step =
+          let round : n.sync_wait + n.interval_of (port_of v (suc p)) + n.most ≤ n.step =
           net.round (port_of v (suc p)) (port_of u (suc q), leads.joins) in
           omega arith
 

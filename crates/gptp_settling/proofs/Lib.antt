@@ -16,6 +16,8 @@ pub mod EndsLemmas
 pub mod LevelLemmas
 pub mod SettledLemmas
 pub mod RunLemmas
+pub mod MatchingLemmas
+pub mod SyncStepLemmas
 pub mod SyncLemmas
 pub mod SyncActLemmas
 pub mod SyncRunLemmas

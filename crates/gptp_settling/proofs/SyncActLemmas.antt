@@ -10,7 +10,7 @@ use Rattle.gptp_graph.proofs.LinkLemmas.{Joins-sym}
 use Rattle.gptp_graph.proofs.BestLemmas.{IsBest-unique, IsBest-neighbour}
 use Rattle.gptp_graph.proofs.DistanceLemmas.{IsDistance-clock}
 use Rattle.gptp_graph.proofs.ParentLemmas.{IsParent-unique, no_parent_at_zero}
-use Rattle.gptp_settling.specs.Frame.{Says}
+use Rattle.gptp_settling.specs.Frame.{Says, SaysSync}
 use Rattle.gptp_settling.specs.Station.{Reception, Mine, Station, State, HoldsAt}
 use Rattle.gptp_settling.specs.Acts.{Acts, Steps}
 use Rattle.gptp_settling.specs.CleanLaws.{HeldIsWhole}
@@ -18,10 +18,14 @@ use Rattle.gptp_settling.specs.Network.{Network, IsNetwork, setting, clean_from,
 use Rattle.gptp_settling.specs.Calm.{Calm}
 use Rattle.gptp_settling.specs.Levels.{LeadsFarther, Invariant}
 use Rattle.gptp_settling.specs.Settled.{IsSlaveOf}
-use Rattle.gptp_settling.specs.Syncs.{Matches, FollowsNearer, MayLead, SyncFacts, FollowsOn, TellsTime, IsHeard, SyncSteps, wait, TellsBy, HearsBy, IsExpected, SyncsAreExpected}
+use Rattle.gptp_settling.specs.Lapsing.{FollowsNearer}
+use Rattle.gptp_settling.specs.Matching.{Matches}
+use Rattle.gptp_settling.specs.SyncActs.{FollowsOn, IsHeard, SyncActs, SyncSteps}
+use Rattle.gptp_settling.specs.Syncs.{MayLead, HaveSyncTimers, TellsBy, HearsBy, IsExpected, SyncsAreExpected}
 use Rattle.gptp_settling.proofs.EndsLemmas.{station_of, is_station, tells_settled}
 use Rattle.gptp_settling.proofs.LevelLemmas.{places_of, port_there, chooses, whole_from}
 use Rattle.gptp_settling.proofs.SettledLemmas.{follows_best, systems_bounded}
+use Rattle.gptp_settling.proofs.SyncStepLemmas.{TellsTime, StationsStep, acts_steps}
 use Rattle.gptp_settling.proofs.SyncLemmas.{parent_there, known_station, flight_left, flight_soon, expected_now, expected_later}
 
 -- below is below
@@ -57,9 +61,9 @@ same_root : (g : Snapshot) (v a b : ℕ) → IsWellFormed g → IsBestIdentity g
 same_root g v a b wf (best, is_best, root) (other, is_other, other_root) =
     root ∙ ap (λ (x : System). x.identity) (IsBest-unique g v best other wf is_best is_other) ∙ sym other_root
 
-module _ (says : Says) (matches : Matches) (n : Network) (net : IsNetwork n) (w w' : State) (calm : Calm n w)
-    (calm' : Calm n w') (facts : SyncFacts matches n w) (facts' : SyncFacts matches n w') (time : w'.time ≡ w.time)
-    (steps : SyncSteps matches n w w') (invariant : Invariant says n w) (invariant' : Invariant says n w') where
+module _ (says : Says) (says_sync : SaysSync) (n : Network) (net : IsNetwork n) (w w' : State) (calm : Calm n w)
+    (calm' : Calm n w') (facts : HaveSyncTimers n w) (facts' : HaveSyncTimers n w') (time : w'.time ≡ w.time)
+    (steps : StationsStep says_sync n w w') (invariant : Invariant says n w) (invariant' : Invariant says n w') where
   whole : clean_from n ≤ w.time → HeldIsWhole (setting n) w
   whole = whole_from says n net w calm invariant
 
@@ -80,14 +84,14 @@ module _ (says : Says) (matches : Matches) (n : Network) (net : IsNetwork n) (w 
   -- a settled system that tells time sends on each link to one a step farther
   on_lane : (d v : ℕ) (out to : ℕ) (s' : Station) → d < 255 → since n d ≤ w'.time → IsDistance n.graph v d
       → (u : ℕ) → Joins n.graph (port_of v out) (port_of u to) → IsDistance n.graph u (suc d)
-      → slice_get w'.stations (n.place v) ≡ Some s' → TellsTime matches w' s'
-      → (due : ℕ) × matches w'.stations w'.lanes (n.lane (port_of v out)) due × (due ≤ w.time + n.most)
+      → slice_get w'.stations (n.place v) ≡ Some s' → TellsTime says_sync n.graph w' s'
+      → (due : ℕ) × Matches says_sync w'.stations w'.lanes (n.lane (port_of v out)) due × (due ≤ w.time + n.most)
   on_lane d v out to s' near late here u joins there at tells =
       by_places (places_of n.graph v out u to net.graph joins)
       (is_station n net w' calm' whole' v s' (IsDistance-clock n.graph v d net.graph here) at)
     where
       by_places : ((p : ℕ) × (q : ℕ) × (out ≡ suc p) × (to ≡ suc q)) → (s'.live ≡ true) × (s'.clock ≡ v)
-          → (due : ℕ) × matches w'.stations w'.lanes (n.lane (port_of v out)) due × (due ≤ w.time + n.most)
+          → (due : ℕ) × Matches says_sync w'.stations w'.lanes (n.lane (port_of v out)) due × (due ≤ w.time + n.most)
       by_places (p, q, is_p, is_q) (live, clock) =
           let over : Joins n.graph (port_of v (suc p)) (port_of u (suc q)) =
           subst (λ m. Joins n.graph (port_of v (suc p)) (port_of u m)) is_q
@@ -108,12 +112,14 @@ module _ (says : Says) (matches : Matches) (n : Network) (net : IsNetwork n) (w 
           pv_at).mine in
           let has = calm'.lanes (port_of v (suc p)) (port_of u (suc q)) over in
           let (due, on) = tells p (n.lane (port_of v (suc p))) pv has.lane here.best.identity d pv_at mine has.there
-          (has.from ∙ (λ i. port_of (sym clock i) (suc p))) has.loss has.is_up in
+          (has.from ∙ (λ i. port_of (sym clock i) (suc p)))
+          (subst (λ x. Joins n.graph x has.lane.to) (sym has.from)
+          (subst (Joins n.graph (port_of v (suc p))) (sym has.to) over)) has.loss has.is_up in
           let soon : due ≤ w'.time + n.most =
-          flight_soon matches n net w' calm' whole' facts' (port_of v (suc p)) (port_of u (suc q)) due over
+          flight_soon says_sync n net w' calm' whole' facts' (port_of v (suc p)) (port_of u (suc q)) due over
           (omega arith) on in (
             due,
-            subst (λ m. matches w'.stations w'.lanes (n.lane (port_of v m)) due) (sym is_p) on,
+            subst (λ m. Matches says_sync w'.stations w'.lanes (n.lane (port_of v m)) due) (sym is_p) on,
             subst (λ t. due ≤ t + n.most) time soon,
           )
 
@@ -161,35 +167,36 @@ module _ (says : Says) (matches : Matches) (n : Network) (net : IsNetwork n) (w 
   heard_on : (v : ℕ) (s s' : Station) (from : PortIdentity) (port due : ℕ) → In v (clocks n.graph)
       → clean_from n ≤ w.time → slice_get w.stations (n.place v) ≡ Some s
       → slice_get w'.stations (n.place v) ≡ Some s' → Joins n.graph from (port_of v port) → s.slave ≡ Some port
-      → FollowsOn s s' → matches w.stations w.lanes (n.lane from) due
-      → matches w'.stations w'.lanes (n.lane from) due ⊎ IsHeard n w.time s'
+      → FollowsOn s s' → Matches says_sync w.stations w.lanes (n.lane from) due
+      → Matches says_sync w'.stations w'.lanes (n.lane from) due ⊎ IsHeard n w.time s'
   heard_on v s s' from port due known late at at' joins slave on flies =
       by_places (places_of n.graph from.clock from.port v port net.graph joins)
       (is_station n net w calm whole v s known at)
     where
       by_places : ((p : ℕ) × (q : ℕ) × (from.port ≡ suc p) × (port ≡ suc q)) → (s.live ≡ true) × (s.clock ≡ v)
-          → matches w'.stations w'.lanes (n.lane from) due ⊎ IsHeard n w.time s'
+          → Matches says_sync w'.stations w'.lanes (n.lane from) due ⊎ IsHeard n w.time s'
       by_places (p, q, is_p, is_q) (live, clock) =
           let has = calm.lanes from (port_of v port) joins in
           let to : has.lane.to ≡ port_of s.clock (suc q) = has.to ∙ (λ i. port_of (sym clock i) (is_q i)) in
           let over : Joins n.graph from (port_of s.clock (suc q)) =
           subst (λ (x : PortIdentity). Joins n.graph from x) (λ i. port_of (sym clock i) (is_q i)) joins in
           (steps (n.place v) s s' at at' live).flight q (n.lane from) due has.lane has.there to
+          (subst (λ x. Joins n.graph x has.lane.to) (sym has.from) (subst (Joins n.graph from) (sym has.to) joins))
           (λ r holds. held_source (n.place v) s q from r at live late over holds ∙ sym has.from)
           (slave ∙ (λ i. Some (is_q i))) on flies
 
   -- by when a settled system tells time stays, or it has told it: to one a step farther it is on its way
   tells_on : (d v by out u to : ℕ) (best : System) → d < 255 → since n d ≤ w.time → IsDistance n.graph v d
       → Joins n.graph (port_of v out) (port_of u to) → IsDistance n.graph u (suc d) → IsBest n.graph v best
-      → MayLead best.identity → TellsBy matches n w.stations w.lanes d v by
-      → TellsBy matches n w'.stations w'.lanes d v by
-      ⊎ ((due : ℕ) × matches w'.stations w'.lanes (n.lane (port_of v out)) due × (due ≤ by + n.most))
+      → MayLead best.identity → TellsBy says_sync n w.stations w.lanes d v by
+      → TellsBy says_sync n w'.stations w'.lanes d v by
+      ⊎ ((due : ℕ) × Matches says_sync w'.stations w'.lanes (n.lane (port_of v out)) due × (due ≤ by + n.most))
   tells_on zero v by out u to best near late here joins there is_best leads (s, at, h) =
       by_station (station_of n net w' calm' whole' v (IsDistance-clock n.graph v 0 net.graph here))
     where
       by_station : ((s' : Station) × (slice_get w'.stations (n.place v) ≡ Some s') × (s'.live ≡ true) × (s'.clock ≡ v))
-          → TellsBy matches n w'.stations w'.lanes 0 v by
-          ⊎ ((due : ℕ) × matches w'.stations w'.lanes (n.lane (port_of v out)) due × (due ≤ by + n.most))
+          → TellsBy says_sync n w'.stations w'.lanes 0 v by
+          ⊎ ((due : ℕ) × Matches says_sync w'.stations w'.lanes (n.lane (port_of v out)) due × (due ≤ by + n.most))
       by_station (s', at', live', clock') =
           let on = follows_on 0 v near late here s s' at at' in
           let none : s.slave ≡ None =
@@ -200,15 +207,15 @@ module _ (says : Says) (matches : Matches) (n : Network) (net : IsNetwork n) (w 
             | inr told ↦
                 let (due, flies, soon) =
                 on_lane 0 v out to s' near (subst (λ t. since n 0 ≤ t) (sym time) late) here u joins there at' told in
-                let left : w.time ≤ s.sync = (known_station matches n net w calm whole facts v s 0 here at).sync.0 in
+                let left : w.time ≤ s.sync = (known_station says_sync n net w calm whole facts v s 0 here at).sync.0 in
                 inr (due, flies, omega arith)
           ]
   tells_on (suc d) v by out u to best near late here joins there is_best leads (inl (s, at, (due, runs, h))) =
       by_station (station_of n net w' calm' whole' v (IsDistance-clock n.graph v (suc d) net.graph here))
     where
       by_station : ((s' : Station) × (slice_get w'.stations (n.place v) ≡ Some s') × (s'.live ≡ true) × (s'.clock ≡ v))
-          → TellsBy matches n w'.stations w'.lanes (suc d) v by
-          ⊎ ((next : ℕ) × matches w'.stations w'.lanes (n.lane (port_of v out)) next × (next ≤ by + n.most))
+          → TellsBy says_sync n w'.stations w'.lanes (suc d) v by
+          ⊎ ((next : ℕ) × Matches says_sync w'.stations w'.lanes (n.lane (port_of v out)) next × (next ≤ by + n.most))
       by_station (s', at', live', clock') =
           let on = follows_on (suc d) v near late here s s' at at' in
           elim ((steps (n.place v) s s' at at' (lives (suc d) v near late here s s' at at')).relay due runs on) [
@@ -218,7 +225,7 @@ module _ (says : Says) (matches : Matches) (n : Network) (net : IsNetwork n) (w 
                 on_lane (suc d) v out to s' near (subst (λ t. since n (suc d) ≤ t) (sym time) late) here u joins there
                 at' told in
                 let left : w.time ≤ due =
-                ((known_station matches n net w calm whole facts v s (suc d) here at).relay due runs).0 in
+                ((known_station says_sync n net w calm whole facts v s (suc d) here at).relay due runs).0 in
                 inr (next, flies, omega arith)
           ]
   tells_on (suc d) v by out u to best near late here joins there is_best leads
@@ -230,8 +237,8 @@ module _ (says : Says) (matches : Matches) (n : Network) (net : IsNetwork n) (w 
 
       by_station : ((s : Station) × (slice_get w.stations (n.place v) ≡ Some s) × (s.live ≡ true) × (s.clock ≡ v))
           → ((s' : Station) × (slice_get w'.stations (n.place v) ≡ Some s') × (s'.live ≡ true) × (s'.clock ≡ v))
-          → TellsBy matches n w'.stations w'.lanes (suc d) v by
-          ⊎ ((next : ℕ) × matches w'.stations w'.lanes (n.lane (port_of v out)) next × (next ≤ by + n.most))
+          → TellsBy says_sync n w'.stations w'.lanes (suc d) v by
+          ⊎ ((next : ℕ) × Matches says_sync w'.stations w'.lanes (n.lane (port_of v out)) next × (next ≤ by + n.most))
       by_station (s, at, live, clock) (s', at', live', clock') =
           let on = follows_on (suc d) v near late here s s' at at' in
           let slave : s.slave ≡ Some l.own_port =
@@ -243,9 +250,9 @@ module _ (says : Says) (matches : Matches) (n : Network) (net : IsNetwork n) (w 
             | inr heard ↦
                 let (next, runs) = heard.relay in
                 let soon : next ≤ w'.time + n.syncs.residence =
-                ((known_station matches n net w' calm' whole' facts' v s' (suc d) here at').relay next runs).1 in
+                ((known_station says_sync n net w' calm' whole' facts' v s' (suc d) here at').relay next runs).1 in
                 let left : w.time ≤ due =
-                flight_left matches n net w calm whole facts (n.lane (port_of l.clock l.port)) due flies in
+                flight_left says_sync n net w calm whole facts (n.lane (port_of l.clock l.port)) due flies in
                 inl (inl (s', at', (next, runs, omega arith)))
           ]
   tells_on (suc d) v by out u to best near late here joins there is_best leads
@@ -261,7 +268,7 @@ module _ (says : Says) (matches : Matches) (n : Network) (net : IsNetwork n) (w 
       ]
 
   -- an act keeps by when the next Follow_Up is expected
-  pub expected_on : SyncsAreExpected matches n w → SyncsAreExpected matches n w'
+  pub expected_on : SyncsAreExpected says_sync n w → SyncsAreExpected says_sync n w'
   expected_on expected i s' d due at' live' near follows late lapse =
       by_station (station_of n net w calm whole s'.clock known_u)
     where
@@ -272,13 +279,13 @@ module _ (says : Says) (matches : Matches) (n : Network) (net : IsNetwork n) (w 
       place_is = calm'.placed i s' at'
 
       -- its lapse timer has started again
-      fresh : due ≡ w.time + n.syncs.span → IsExpected matches n w'.stations w'.lanes d follows.from due
+      fresh : due ≡ w.time + n.syncs.span → IsExpected says_sync n w'.stations w'.lanes d follows.from due
       fresh is =
-          expected_now matches n net w' calm' whole' facts' d due follows.from follows.there (omega arith)
+          expected_now says_sync n net w' calm' whole' facts' d due follows.from follows.there (omega arith)
 
       by_station : ((s : Station) × (slice_get w.stations (n.place s'.clock) ≡ Some s) × (s.live ≡ true)
           × (s.clock ≡ s'.clock))
-          → IsExpected matches n w'.stations w'.lanes d follows.from due
+          → IsExpected says_sync n w'.stations w'.lanes d follows.from due
       by_station (s, at, live, clock) =
           elim ((steps (n.place s'.clock) s s' at stands live).lapse due lapse) [
             | inl (was, on) ↦ stays was on
@@ -288,7 +295,7 @@ module _ (says : Says) (matches : Matches) (n : Network) (net : IsNetwork n) (w 
           stands : slice_get w'.stations (n.place s'.clock) ≡ Some s'
           stands = subst (λ j. slice_get w'.stations j ≡ Some s') place_is at'
 
-          stays : s.lapse ≡ Some due → FollowsOn s s' → IsExpected matches n w'.stations w'.lanes d follows.from due
+          stays : s.lapse ≡ Some due → FollowsOn s s' → IsExpected says_sync n w'.stations w'.lanes d follows.from due
           stays was on = go old.hears
             where
               slave : s.slave ≡ Some follows.port
@@ -307,13 +314,13 @@ module _ (says : Says) (matches : Matches) (n : Network) (net : IsNetwork n) (w 
               late_before : since n d ≤ w.time
               late_before = subst (λ t. since n d ≤ t) time late
 
-              old : IsExpected matches n w.stations w.lanes d follows.from due
+              old : IsExpected says_sync n w.stations w.lanes d follows.from due
               old = expected (n.place s'.clock) s d due at live near before late_before was
 
               -- where it follows what may be grandmaster, its best may be
               leads : MayLead follows.there.best.identity
               leads =
-                  let may : MayLead s'.root = (facts'.stations i s' at' live').lapse due lapse in
+                  let may : MayLead s'.root = (facts' i s' at' live').lapse due lapse in
                   let back = Joins-sym n.graph follows.from (port_of s'.clock follows.port) follows.joins in
                   let best_here =
                   IsBest-neighbour n.graph follows.from.clock s'.clock follows.there.best net.graph
@@ -323,8 +330,8 @@ module _ (says : Says) (matches : Matches) (n : Network) (net : IsNetwork n) (w 
                   (omega arith)).0 in
                   le_lt least may
 
-              go : HearsBy matches n w.stations w.lanes d follows.from old.by
-                  → IsExpected matches n w'.stations w'.lanes d follows.from due
+              go : HearsBy says_sync n w.stations w.lanes d follows.from old.by
+                  → IsExpected says_sync n w'.stations w'.lanes d follows.from due
               go (inl (x, flies, h)) =
                   elim (heard_on s'.clock s s' follows.from follows.port x known_u (omega arith) at stands follows.joins
                   slave on flies) [
@@ -349,14 +356,27 @@ module _ (says : Says) where
   act_time w w' (inr (inl act)) = act.pops.time
   act_time w w' (inr (inr act)) = act.call.time
 
-module _ (says : Says) (matches : Matches) (n : Network) (net : IsNetwork n) where
-  -- so does every step
-  pub expected_kept : (w w' : State) → Calm n w → Calm n w' → SyncFacts matches n w → SyncFacts matches n w'
-      → Steps says w w' → (Acts says w w' → SyncSteps matches n w w') → Invariant says n w → Invariant says n w'
-      → SyncsAreExpected matches n w → SyncsAreExpected matches n w'
-  expected_kept w w' calm calm' facts facts' (inl wait) steps invariant invariant' expected =
-      subst (SyncsAreExpected matches n) (sym wait.is)
-      (expected_later matches n net w calm (whole_from says n net w calm invariant) facts wait.time expected)
-  expected_kept w w' calm calm' facts facts' (inr act) steps invariant invariant' expected =
-      expected_on says matches n net w w' calm calm' facts facts' (act_time says w w' act) (steps act) invariant
-      invariant' expected
+  module _ (says_sync : SaysSync) (n : Network) where
+    -- an act of which it is known what it does to Syncs is one
+    act_of : (w w' : State) → SyncActs says says_sync n w w' → Acts says w w'
+    act_of w w' (inl (act, facts)) = inl act
+    act_of w w' (inr (inl (act, facts))) = inr (inl act)
+    act_of w w' (inr (inr (act, facts))) = inr (inr act)
+
+    -- so is a step
+    pub step_of : (w w' : State) → SyncSteps says says_sync n w w' → Steps says w w'
+    step_of w w' (inl wait) = inl wait
+    step_of w w' (inr act) = inr (act_of w w' act)
+
+    module _ (net : IsNetwork n) where
+      -- every step keeps by when the next Follow_Up is expected
+      pub expected_kept : (w w' : State) → Calm n w → Calm n w' → HaveSyncTimers n w → HaveSyncTimers n w'
+          → SyncSteps says says_sync n w w' → Invariant says n w → Invariant says n w'
+          → SyncsAreExpected says_sync n w → SyncsAreExpected says_sync n w'
+      expected_kept w w' calm calm' facts facts' (inl wait) invariant invariant' expected =
+          subst (SyncsAreExpected says_sync n) (sym wait.is)
+          (expected_later says_sync n net w calm (whole_from says n net w calm invariant) facts wait.time expected)
+      expected_kept w w' calm calm' facts facts' (inr act) invariant invariant' expected =
+          expected_on says says_sync n net w w' calm calm' facts facts' (act_time w w' (act_of w w' act))
+          (acts_steps says says_sync n net w w' calm calm' (whole_from says n net w' calm' invariant') act) invariant
+          invariant' expected

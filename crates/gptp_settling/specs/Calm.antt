@@ -1,5 +1,5 @@
 -- What is known of each state of a network whose last change is past, of one item each. This is what a world has to
--- show of itself; the laws of settling have no other premise.
+-- show of itself; besides, the laws of settling have one premise, that nothing lapses (`Lapsing`).
 use Rattle.std.specs.Prelude.{◌≡◌, ◌≢◌, ◌<◌, ◌≤◌, ◌+◌, ℕ, suc, true, Some, slice_get}
 use Rattle.gptp_lists.specs.Members.{In}
 use Rattle.gptp_graph.specs.Snapshot.{System, PortIdentity, port_of, Joins, IsLinked}

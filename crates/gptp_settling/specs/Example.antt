@@ -33,7 +33,7 @@ network = record {
   timeout = 2;
   start = 1;
   syncs = record { interval = 1; residence = 0; span = 3 };
-  feed = 0;
+  sync_wait = 0;
   step = 8;
 }
 
@@ -58,6 +58,7 @@ lone clock identity timer = record {
   steps = 0;
   slave = None;
   trace = clock ∷ [];
+  kept = None;
   sync = 0;
   relay = None;
   lapse = None;
@@ -84,6 +85,7 @@ following at = record {
   steps = 1;
   slave = Some 1;
   trace = 1 ∷ 2 ∷ [];
+  kept = None;
   sync = 0;
   relay = None;
   lapse = None;

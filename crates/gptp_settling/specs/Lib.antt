@@ -14,7 +14,10 @@ pub mod LinkLaws
 pub mod AtRest
 pub mod Network
 pub mod Calm
+pub mod Lapsing
+pub mod Matching
 pub mod Syncs
+pub mod SyncActs
 pub mod Levels
 pub mod Settled
 pub mod SettlingLaws

@@ -29,7 +29,7 @@ pub record Network : Type 0 where
   pub timeout : ℕ
   pub start : ℕ
   pub syncs : SyncTiming
-  pub feed : ℕ
+  pub sync_wait : ℕ
   pub step : ℕ
 
 -- The snapshot is a network's, no path of it has more systems than is said, and a step of distance takes at least the
@@ -37,7 +37,7 @@ pub record Network : Type 0 where
 pub record IsNetwork (n : Network) : Type 0 where
   pub graph : IsWellFormed n.graph
   pub paths : BoundsPaths n.graph n.reach
-  pub round : (p : PortIdentity) → IsLinked n.graph p → n.feed + n.interval_of p + n.most ≤ n.step
+  pub round : (p : PortIdentity) → IsLinked n.graph p → n.sync_wait + n.interval_of p + n.most ≤ n.step
 
 -- what is received stays for the receipt timeout at most
 abbrev pub setting : Network → Setting
@@ -59,7 +59,7 @@ settled_from n = n.start
     + n.reach * n.step
 
 -- The link from port p + 1 of system v, at distance d from its best, to port q + 1 of system u. Claims of it are made
--- from when u, if it follows v by then, has heard a Sync from it.
+-- from when the wait for a Sync from v is over.
 abbrev pub wiring : Network → ℕ → System → ℕ → ℕ → ℕ → ℕ → Wiring
 wiring n d best v p u q = record {
   teller = v;
@@ -74,5 +74,5 @@ wiring n d best v p u q = record {
   most = n.most;
   root = best.identity;
   steps = d;
-  since = since n d + n.feed;
+  since = since n d + n.sync_wait;
 }

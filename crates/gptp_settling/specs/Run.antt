@@ -6,7 +6,7 @@ use Rattle.gptp_settling.specs.Station.{Station, State}
 use Rattle.gptp_settling.specs.Acts.{Steps}
 use Rattle.gptp_settling.specs.Network.{Network, IsNetwork, settled_from}
 use Rattle.gptp_settling.specs.Calm.{Calm}
-use Rattle.gptp_settling.specs.Syncs.{NothingLapses}
+use Rattle.gptp_settling.specs.Lapsing.{NothingLapses}
 use Rattle.gptp_settling.specs.Settled.{FollowsBest, HasSettledRoles}
 
 -- each state follows from the one before it by a step, in none of them something lapses, and all are calm

@@ -8,7 +8,7 @@ use Rattle.gptp_settling.specs.Station.{Station, State}
 use Rattle.gptp_settling.specs.Acts.{Steps}
 use Rattle.gptp_settling.specs.Network.{Network, IsNetwork, clean_from, since, settled_from}
 use Rattle.gptp_settling.specs.Calm.{Calm}
-use Rattle.gptp_settling.specs.Syncs.{NothingLapses}
+use Rattle.gptp_settling.specs.Lapsing.{NothingLapses}
 use Rattle.gptp_settling.specs.Levels.{Invariant}
 use Rattle.gptp_settling.specs.Settled.{FollowsBest, HasSettledRoles}
 

@@ -26,7 +26,7 @@ mod runs;
 mod syncs;
 mod traces;
 
-pub use coding::{Coding, Matching};
+pub use coding::Coding;
 pub use held::{no_loop_is_taken, ports_stay_selected};
 pub use link::{link_becomes_settled, link_stays_at_a_stage};
 pub use network::{
