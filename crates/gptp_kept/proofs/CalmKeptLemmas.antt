@@ -9,7 +9,7 @@ use Rattle.gptp_links.specs.declared.link.Direction.TheVariants.{FromA, FromB}
 use Rattle.gptp_links.specs.Fate.{Draw}
 use Rattle.gptp_system.specs.declared.answer.Answer.{Answer}
 use Rattle.gptp_setup.specs.declared.setup.Params.{Params}
-use Rattle.gptp_setup.specs.Pace.{Pace, largest_interval}
+use Rattle.gptp_setup.specs.Pace.{Pace, lapse_span, largest_interval}
 use Rattle.gptp_setup.specs.declared.setup.Setup.{Setup}
 use Rattle.gptp_setup.specs.declared.timer.Timer.{Timer}
 use Rattle.gptp_setup.specs.Intervals.{interval_of}
@@ -159,7 +159,12 @@ module _ (w w' : WorldState) (k : KeepsNetwork w w') where
     most = delay_kept i;
     timeout = p.params.timeout;
     start = start;
-    feed = 0;
+    syncs = record {
+      interval = interval_of p.params.sync;
+      residence = p.params.residence;
+      span = lapse_span p.params;
+    };
+    sync_wait = 0;
     step = 2 * largest_interval p;
   }
 

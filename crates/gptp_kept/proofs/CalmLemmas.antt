@@ -1,6 +1,5 @@
 -- A calm world is seen as a calm state of the machine.
 use Rattle.std.proofs.Common.{◌≡◌, ◌≤◌, ◌<◌, ◌+◌, ℕ, suc, ℤ, true, Some, slice_get, refl, sym, ap, subst, ◌∙◌, arith}
-use Rattle.std.proofs.lemmas.Option.{none-some}
 use Rattle.gptp_lists.specs.Members.{In}
 use Rattle.gptp_graph.specs.Snapshot.{Joins, PortIdentity, System, port_of}
 use Rattle.gptp_graph.specs.PathBound.{BoundsPaths}
@@ -16,8 +15,10 @@ use Rattle.gptp_acts.specs.Sound.{IsSound}
 use Rattle.gptp_acts.specs.World.{Channel, WorldState, receiver, sender}
 use Rattle.gptp_settling.specs.Calm.{Calm, HasLane, HasStation, IsCalmPort, IsCalmStation}
 use Rattle.gptp_settling.specs.Frame.{Frame as SeenFrame, Lane}
+use Rattle.gptp_settling.specs.Lapsing.{NothingLapses}
 use Rattle.gptp_settling.specs.Network.{IsNetwork, Network}
 use Rattle.gptp_settling.specs.Station.{Reception as SeenReception, Received, Station as SeenStation}
+use Rattle.gptp_settling.proofs.SyncLemmas.{none_lapses}
 use Rattle.gptp_kept.specs.Known.{IsKnown, IsSetTo}
 use Rattle.gptp_kept.proofs.DueLemmas.{frames_fresh, frames_not_late, ports_known}
 use Rattle.gptp_kept.specs.Legible.{IsLegible}
@@ -136,8 +137,6 @@ module _ (p : Pace) (m start : ℕ) (w : WorldState) (sound : IsSound w) (legibl
       let steady = (sound.on_time.stations place station here).steady in
       record {
         at_rest = rest_seen station.live s steady.shown steady.held steady.rest;
-        fed = λ d due near follows since lapses.
-            absurd (none-some due (sym ((known.set place station here).lapses quiet.lapses) ∙ lapses));
         ports = λ i seen there.
             let at = port_from (span_at s) s.held s.ports i seen there in
             subst (IsCalmPort n w.time (port_of (clock s) (suc i))) (sym at.is)
@@ -235,3 +234,11 @@ module _ (p : Pace) (m start : ℕ) (w : WorldState) (sound : IsSound w) (legibl
     left = not_late;
     due = due_soon;
   }
+
+-- no Lapse timer runs in a quiet world
+pub nothing_lapses : (p : Pace) (n : Network) (w : WorldState) → IsKnown p w → IsQuietWorld p.params w
+    → NothingLapses n (view w)
+nothing_lapses p n w known quiet =
+    none_lapses n (view w) (λ i seen there live.
+    let at = station_from w.stations i seen there in
+    ap (λ (x : SeenStation). x.lapse) at.is ∙ (known.set i at.station at.here).lapses quiet.lapses)

@@ -56,7 +56,6 @@ pub mod SyncOctetLemmas
 pub mod SyncSaidLemmas
 pub mod TimeStepLemmas
 pub mod SyncHeardLemmas
-pub mod SyncFlightLemmas
 pub mod LinkLaneLemmas
 pub mod SentLemmas
 pub mod PartLemmas

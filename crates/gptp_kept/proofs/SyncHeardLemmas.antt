@@ -23,9 +23,9 @@ use Rattle.gptp_system.specs.Selection.{kept_if}
 use Rattle.gptp_system.specs.State.{SystemState, held_at, is_capable_at}
 use Rattle.gptp_system.specs.Steps.{HearsFrame, HearsMessage}
 use Rattle.gptp_system.specs.Syncing.{HearsFollowUpIf, HearsSyncIf, KeepsIf, KnowsBy, KnowsIf, came_from, delay_at, is_followed, is_port, is_slave_at, rate_at, said_on}
-use Rattle.gptp_kept.specs.SyncFlight.{sync_from}
-use Rattle.gptp_kept.specs.SyncView.{IsHeard, SyncId, TakesTime, follows_up, kept_view, named_by, syncs}
-use Rattle.gptp_kept.specs.View.{identity_of}
+use Rattle.gptp_settling.specs.Frame.{FollowUp, Sync, SyncId}
+use Rattle.gptp_kept.specs.SyncView.{IsHeard, TakesTime}
+use Rattle.gptp_kept.specs.View.{identity_of, kept_view, says_sync, sync_id}
 use Rattle.gptp_kept.proofs.SendLemmas.{same_identity}
 use Rattle.gptp_kept.proofs.TimeStepLemmas.{KeepsSync, TimeStep, time_steps}
 
@@ -102,7 +102,7 @@ module _ (s : SystemState) (p : ℕ) (source : PortIdentity) (takes : TakesTime 
 -- ---- a Sync
 
 pub syncs_are_kept : (p : ℕ) (octets : List ℕ) (now : ℕ) (s s' : SystemState) (sends : List Sending) (answer : Answer)
-    (id : SyncId) → Steps (FrameHeard p octets) now s s' sends answer → TakesTime s p id.source → syncs octets id
+    (id : SyncId) → Steps (FrameHeard p octets) now s s' sends answer → TakesTime s p id.source → says_sync octets (Sync id)
     → kept_view s' ≡ Some id
 syncs_are_kept p octets now s s' sends answer id k takes (head, reads, two_step, is) =
     capable (is_capable_at s p) takes.capable (heard_as p octets (messages.Sync head) now s s' sends answer reads k)
@@ -121,7 +121,7 @@ syncs_are_kept p octets now s s' sends answer id k takes (head, reads, two_step,
 
 pub follow_ups_are_used : (p : ℕ) (octets : List ℕ) (now : ℕ) (s s' : SystemState) (sends : List Sending)
     (answer : Answer) (id : SyncId) → Steps (FrameHeard p octets) now s s' sends answer → 0 < s.params.sync_timeout
-    → TakesTime s p id.source → kept_view s ≡ Some id → follows_up octets id → IsHeard now s s'
+    → TakesTime s p id.source → kept_view s ≡ Some id → says_sync octets (FollowUp id) → IsHeard now s s'
 follow_ups_are_used p octets now s s' sends answer id k on takes keeps (m, reads, is) =
     capable (is_capable_at s p) takes.capable
     (heard_as p octets (messages.FollowUp m) now s s' sends answer reads k)
@@ -132,7 +132,7 @@ follow_ups_are_used p octets now s s' sends answer id k on takes keeps (m, reads
     -- it belongs to the Sync that is kept
     belonging : (k : KeptSync) → Some (id_of k) ≡ Some id → belongs m k ≡ true
     belonging k names =
-        let same : named_by m.head ≡ id_of k = sym is ∙ sym (same_Some (id_of k) id names) in
+        let same : sync_id m.head ≡ id_of k = sym is ∙ sym (same_Some (id_of k) id names) in
         let port : m.head.source ≡ k.source =
         same_identity m.head.source k.source (ap (λ (x : SyncId). x.source) same) in
         let sequence : m.head.sequence ≡ k.sequence = ap (λ (x : SyncId). x.sequence) same in
@@ -169,7 +169,7 @@ pub kept_syncs_stay : (input : Input) (now : ℕ) (s s' : SystemState) (sends : 
     (id : SyncId) → Steps input now s s' sends answer → 0 < s.params.sync_timeout → TakesTime s p id.source
     → kept_view s ≡ Some id → s'.root ≡ s.root → s'.slave ≡ s.slave
     → (kept_view s' ≡ Some id)
-    ⊎ ((octets : List ℕ) × (n : ℕ) × (input ≡ FrameHeard p octets) × syncs octets (sync_from id.source n))
+    ⊎ ((octets : List ℕ) × (n : ℕ) × (input ≡ FrameHeard p octets) × says_sync octets (Sync (record { source = id.source; sequence = n })))
 kept_syncs_stay input now s s' sends answer p id k on takes keeps root slave =
     by (time_steps input now s s' sends answer k)
   where
@@ -180,7 +180,7 @@ kept_syncs_stay input now s s' sends answer p id k on takes keeps root slave =
     stays same = ap (option_map id_of) same ∙ keeps
 
     comes : KeepsSync input s s'
-        → (octets : List ℕ) × (n : ℕ) × (input ≡ FrameHeard p octets) × syncs octets (sync_from id.source n)
+        → (octets : List ℕ) × (n : ℕ) × (input ≡ FrameHeard p octets) × says_sync octets (Sync (record { source = id.source; sequence = n }))
     comes c =
         let (port, two_step, from) = followed_here s p id.source takes c.port c.head c.followed in (
           c.octets,
@@ -191,7 +191,7 @@ kept_syncs_stay input now s s' sends answer p id k on takes keeps root slave =
 
     by : TimeStep input s s'
         → (kept_view s' ≡ Some id)
-        ⊎ ((octets : List ℕ) × (n : ℕ) × (input ≡ FrameHeard p octets) × syncs octets (sync_from id.source n))
+        ⊎ ((octets : List ℕ) × (n : ℕ) × (input ≡ FrameHeard p octets) × says_sync octets (Sync (record { source = id.source; sequence = n })))
     by (inl still) =
         let same = still.still root slave in
         inl (stays (still.sync_in ∙ ap (λ b. kept_if b s.sync_in) same))

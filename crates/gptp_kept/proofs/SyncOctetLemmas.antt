@@ -4,7 +4,7 @@ use Rattle.std.proofs.Common.{◌≡◌, ◌≢◌, ◌≤◌, ◌<◌, ℕ, ℤ
 use Rattle.std.specs.Int.{w32, cast_signed}
 use Rattle.std.proofs.lemmas.List.{append-nil}
 use Rattle.std.proofs.lemmas.Option.{same_Some}
-use Rattle.gptp_messages.specs.declared.follow_up.FollowUp.{FollowUp}
+use Rattle.gptp_messages.specs.declared.follow_up.FollowUp.{FollowUp as FollowUpFields}
 use Rattle.gptp_messages.specs.declared.head.Head.{Head}
 use Rattle.gptp_messages.specs.declared.message.Message.{Message}
 use Rattle.gptp_messages.specs.declared.message.Message.TheVariants as messages
@@ -22,8 +22,9 @@ use Rattle.gptp_system.specs.declared.sending.Body.TheVariants as bodies
 use Rattle.gptp_system.specs.Messages.{Telling, kind_of}
 use Rattle.gptp_system.proofs.TypeLemmas.{type_is, type_number}
 use Rattle.gptp_acts.specs.Sends.{message_of}
-use Rattle.gptp_kept.specs.SyncView.{IsTimeless, follows_up, syncs}
-use Rattle.gptp_kept.specs.View.{identity_of}
+use Rattle.gptp_settling.specs.Frame.{FollowUp, Sync}
+use Rattle.gptp_kept.specs.SyncView.{IsTimeless}
+use Rattle.gptp_kept.specs.View.{identity_of, says_sync}
 use Rattle.gptp_kept.proofs.LinkOctetLemmas.{same_type}
 
 -- ---- headers
@@ -119,8 +120,8 @@ module _ (head : Head) where
 
     -- a Sync that is written reads as one of the same source
     pub sync_said : head.two_step ≡ true
-        → syncs (Written (messages.Sync head))
-        (record { source = identity_of head.source; sequence = (head_of sync).sequence })
+        → says_sync (Written (messages.Sync head))
+        (Sync (record { source = identity_of head.source; sequence = (head_of sync).sequence }))
     sync_said flag =
         let source : head.source ≡ (head_of sync).source =
         ap (λ (h : Head). h.source) plain_sync_head ∙ syncs_alike.source in
@@ -134,12 +135,12 @@ module _ (head : Head) where
 
 -- ---- a Follow_Up
 
-module _ (m : FollowUp) where
+module _ (m : FollowUpFields) where
   abbrev follow_up : List ℕ
   follow_up = Written (messages.FollowUp m) ++ []
 
   -- the same with nothing but the source, the flag and the nanoseconds
-  abbrev plain_message : FollowUp
+  abbrev plain_message : FollowUpFields
   plain_message = record {
     head = plain m.head;
     origin = record { seconds = 0; nanos = m.origin.nanos };
@@ -205,15 +206,15 @@ module _ (m : FollowUp) where
 
     plain_head_read : plain m.head ≡ head_of plain_follow_up
     plain_head_read =
-        ap (λ (x : FollowUp). x.head) (one plain_message _
+        ap (λ (x : FollowUpFields). x.head) (one plain_message _
         (subst (λ kind. messages.FollowUp plain_message ≡ message_at kind plain_follow_up plain_reads.path
         plain_reads.rate) (sym (same_Some _ plain_reads.kind follow_up_kind)) plain_reads.is))
       where
-        one : (a b : FollowUp) → messages.FollowUp a ≡ messages.FollowUp b → a ≡ b
+        one : (a b : FollowUpFields) → messages.FollowUp a ≡ messages.FollowUp b → a ≡ b
         one a b e = cc
 
     -- what is read of the octets as they are written
-    abbrev seen : FollowUp
+    abbrev seen : FollowUpFields
     seen = record { head = head_of follow_up; origin = stamp_of follow_up; rate = rate_read }
 
     follow_up_reads : Reads follow_up (messages.FollowUp seen)
@@ -228,8 +229,8 @@ module _ (m : FollowUp) where
     -- A Follow_Up that is written reads as one of the same source, and of the number of each Sync that is written with
     -- the same sequenceId.
     pub follow_up_said : (head : Head) → head.sequence ≡ m.head.sequence
-        → follows_up (Written (messages.FollowUp m))
-        (record { source = identity_of m.head.source; sequence = (head_of (sync head)).sequence })
+        → says_sync (Written (messages.FollowUp m))
+        (FollowUp (record { source = identity_of m.head.source; sequence = (head_of (sync head)).sequence }))
     follow_up_said head same =
         let source : m.head.source ≡ (head_of follow_up).source =
         ap (λ (h : Head). h.source) plain_head_read ∙ follow_ups_alike.source in
@@ -241,21 +242,20 @@ module _ (m : FollowUp) where
 
 -- ---- other messages
 
+-- the number of their types is that of a body that tells time
+types : (path : List ℕ) (head : Head) (b : Body) → kind_of b ≢ Telling
+    → (type_number (message_of path head b) ≢ 0x0) × (type_number (message_of path head b) ≢ 0x8)
+types path head (bodies.Announce body) other = (λ e. omega arith, λ e. omega arith)
+types path head bodies.Sync other = absurd (other refl)
+types path head (bodies.FollowUp origin rate) other = absurd (other refl)
+types path head bodies.PdelayReq other = (λ e. omega arith, λ e. omega arith)
+types path head (bodies.PdelayResp stamp requester) other = (λ e. omega arith, λ e. omega arith)
+types path head (bodies.PdelayRespFollowUp stamp requester) other = (λ e. omega arith, λ e. omega arith)
+
 -- what doesn't tell time reads as no Sync and as no Follow_Up
 pub timeless : (path : List ℕ) (head : Head) (body : Body) → kind_of body ≢ Telling
     → IsTimeless (Written (message_of path head body))
-timeless path head body other = record {
-  no_sync = λ id (h, reads, flag, is).
-      (types body other).0 (sym (same_type (message_of path head body) (messages.Sync h) reads));
-  no_follow_up = λ id (m, reads, is).
-      (types body other).1 (sym (same_type (message_of path head body) (messages.FollowUp m) reads));
-}
-  where
-    types : (b : Body) → kind_of b ≢ Telling
-        → (type_number (message_of path head b) ≢ 0x0) × (type_number (message_of path head b) ≢ 0x8)
-    types (bodies.Announce body) other = (λ e. omega arith, λ e. omega arith)
-    types bodies.Sync other = absurd (other refl)
-    types (bodies.FollowUp origin rate) other = absurd (other refl)
-    types bodies.PdelayReq other = (λ e. omega arith, λ e. omega arith)
-    types (bodies.PdelayResp stamp requester) other = (λ e. omega arith, λ e. omega arith)
-    types (bodies.PdelayRespFollowUp stamp requester) other = (λ e. omega arith, λ e. omega arith)
+timeless path head body other (Sync id) (h, reads, flag, is) =
+    (types path head body other).0 (sym (same_type (message_of path head body) (messages.Sync h) reads))
+timeless path head body other (FollowUp id) (m, reads, is) =
+    (types path head body other).1 (sym (same_type (message_of path head body) (messages.FollowUp m) reads))

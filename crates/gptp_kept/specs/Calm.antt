@@ -10,7 +10,7 @@ use Rattle.gptp_receipt.specs.declared.held.Held.TheVariants.{Disabled}
 use Rattle.gptp_setup.specs.declared.setup.Params.{Params}
 use Rattle.gptp_setup.specs.declared.setup.Setup.{Setup}
 use Rattle.gptp_setup.specs.Intervals.{interval_of}
-use Rattle.gptp_setup.specs.Pace.{Pace, largest_interval}
+use Rattle.gptp_setup.specs.Pace.{Pace, lapse_span, largest_interval}
 use Rattle.gptp_system.specs.State.{clock, number}
 use Rattle.gptp_plan.specs.Calm.{NothingLapses}
 use Rattle.gptp_acts.specs.declared.station.Station.{Station}
@@ -105,6 +105,11 @@ network_of p m start w = record {
   most = greatest_delay (live_systems w.stations) w.net.channels;
   timeout = p.params.timeout;
   start = start;
-  feed = 0;
+  syncs = record {
+    interval = interval_of p.params.sync;
+    residence = p.params.residence;
+    span = lapse_span p.params;
+  };
+  sync_wait = 0;
   step = 2 * largest_interval p;
 }

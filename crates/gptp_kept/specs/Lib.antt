@@ -19,7 +19,6 @@ pub mod LinkView
 pub mod LinkActs
 pub mod Said
 pub mod SyncView
-pub mod SyncFlight
 pub mod SyncLaws
 pub mod Measured
 pub mod Short

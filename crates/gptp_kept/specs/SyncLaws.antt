@@ -1,7 +1,7 @@
 -- Laws on what systems tell of time.
 use Rattle.std.specs.Prelude.{◌≡◌, ◌⊎◌, ◌<◌, ℕ, suc, true, List, ◌∷◌, ◌++◌, map, Option, Some, slice_get}
 use Rattle.gptp_graph.specs.Snapshot.{PortIdentity}
-use Rattle.gptp_settling.specs.Frame.{Frame}
+use Rattle.gptp_settling.specs.Frame.{FollowUp, Sync, SyncId}
 use Rattle.gptp_messages.specs.Frame.{PortFits}
 use Rattle.gptp_receipt.specs.declared.held.Held.TheVariants.{Mine}
 use Rattle.gptp_setup.specs.declared.setup.Setup.{Setup}
@@ -14,9 +14,8 @@ use Rattle.gptp_system.specs.Start.{started}
 use Rattle.gptp_system.specs.State.{SystemState, own}
 use Rattle.gptp_system.specs.Syncing.{leads}
 use Rattle.gptp_kept.specs.Said.{said_at}
-use Rattle.gptp_kept.specs.SyncFlight.{Completes, KeepsBy, KeepsOn, WillMatch, sync_from}
-use Rattle.gptp_kept.specs.SyncView.{ArePaired, AreTimeless, IsHeard, KnowsTime, SyncId, TakesTime, follows_up, kept_view, syncs}
-use Rattle.gptp_kept.specs.View.{identity_of}
+use Rattle.gptp_kept.specs.SyncView.{ArePaired, AreTimeless, IsHeard, KnowsTime, TakesTime}
+use Rattle.gptp_kept.specs.View.{identity_of, kept_view, says_sync}
 
 -- at each port a step sends a Sync and its Follow_Up, or nothing of time
 abbrev pub TellsInPairs : Type 0
@@ -58,7 +57,7 @@ KnowsOn = (input : Input) (now : ℕ) (s s' : SystemState) (sends : List Sending
 abbrev pub SyncsAreKept : Type 0
 SyncsAreKept = (p : ℕ) (octets : List ℕ) (now : ℕ) (s s' : SystemState) (sends : List Sending) (answer : Answer)
     (id : SyncId)
-    → Steps (FrameHeard p octets) now s s' sends answer → TakesTime s p id.source → syncs octets id
+    → Steps (FrameHeard p octets) now s s' sends answer → TakesTime s p id.source → says_sync octets (Sync id)
     → kept_view s' ≡ Some id
 
 -- and its Follow_Up is used, in a network in which something can lapse
@@ -66,7 +65,7 @@ abbrev pub FollowUpsAreUsed : Type 0
 FollowUpsAreUsed = (p : ℕ) (octets : List ℕ) (now : ℕ) (s s' : SystemState) (sends : List Sending) (answer : Answer)
     (id : SyncId)
     → Steps (FrameHeard p octets) now s s' sends answer → 0 < s.params.sync_timeout → TakesTime s p id.source
-    → kept_view s ≡ Some id → follows_up octets id
+    → kept_view s ≡ Some id → says_sync octets (FollowUp id)
     → IsHeard now s s'
 
 -- A Sync that is kept stays so while the same root is followed by the same port, until the next one comes from there.
@@ -76,24 +75,4 @@ KeptSyncsStay = (input : Input) (now : ℕ) (s s' : SystemState) (sends : List S
     → Steps input now s s' sends answer → 0 < s.params.sync_timeout → TakesTime s p id.source → kept_view s ≡ Some id
     → s'.root ≡ s.root → s'.slave ≡ s.slave
     → (kept_view s' ≡ Some id)
-    ⊎ ((octets : List ℕ) × (n : ℕ) × (input ≡ FrameHeard p octets) × syncs octets (sync_from id.source n))
-
--- ---- what is in flight
-
--- of a Sync and its Follow_Up that enter a lane behind all others that Follow_Up will match
-abbrev pub PairsMatch : Type 0
-PairsMatch = (kept : Option SyncId) (source : PortIdentity) (fs news : List Frame)
-    → ArePaired source (map (λ (f : Frame). f.octets) news)
-    → (due : ℕ) × WillMatch kept source (fs ++ news) due
-
--- what will match goes on to do so, whatever enters the lane behind it
-abbrev pub MatchesStay : Type 0
-MatchesStay = (kept kept' : Option SyncId) (source : PortIdentity) (fs news : List Frame) (due : ℕ)
-    → KeepsOn source kept kept' → WillMatch kept source fs due
-    → WillMatch kept' source (fs ++ news) due
-
--- and whatever arrives before it; or it arrives itself, and completes the Sync that is kept
-abbrev pub MatchesCome : Type 0
-MatchesCome = (kept kept' : Option SyncId) (source : PortIdentity) (f : Frame) (fs : List Frame) (due : ℕ)
-    → KeepsBy source f kept kept' → WillMatch kept source (f ∷ fs) due
-    → WillMatch kept' source fs due ⊎ ((f.due ≡ due) × Completes kept source f)
+    ⊎ ((octets : List ℕ) × (n : ℕ) × (input ≡ FrameHeard p octets) × says_sync octets (Sync (record { source = id.source; sequence = n })))

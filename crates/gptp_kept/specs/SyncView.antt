@@ -3,7 +3,6 @@ use Rattle.std.specs.Prelude.{◌≡◌, ◌<◌, ◌+◌, ℕ, true, List, [], 
 use Rattle.std.specs.Option.{option_map, unwrap_or}
 use Rattle.gptp_lists.specs.Members.{In}
 use Rattle.gptp_graph.specs.Snapshot.{PortIdentity}
-use Rattle.gptp_messages.specs.declared.follow_up.FollowUp.{FollowUp}
 use Rattle.gptp_messages.specs.declared.head.Head.{Head}
 use Rattle.gptp_messages.specs.declared.message.Message.TheVariants as messages
 use Rattle.gptp_messages.specs.Grammar.{Reads}
@@ -12,29 +11,12 @@ use Rattle.gptp_correction.specs.SyncIn.{KeptSync}
 use Rattle.gptp_receipt.specs.declared.held.Reception.{Reception}
 use Rattle.gptp_receipt.specs.Held.{received}
 use Rattle.gptp_system.specs.State.{SystemState, held_at, is_capable_at, lapse_of}
-use Rattle.gptp_kept.specs.View.{identity_of}
-
--- a Sync, by the port that sent it and its sequenceId
-pub record SyncId : Type 0 where
-  pub source : PortIdentity
-  pub sequence : ℕ
-
--- the one that a header names
-abbrev pub named_by : Head → SyncId
-named_by head = record { source = identity_of head.source; sequence = head.sequence }
-
--- octets are a Sync exactly where they read as one of two steps
-abbrev pub syncs : List ℕ → SyncId → Type 0
-syncs octets id = (head : Head) × Reads octets (messages.Sync head) × (head.two_step ≡ true) × (id ≡ named_by head)
-
--- and complete it where they read as its Follow_Up
-abbrev pub follows_up : List ℕ → SyncId → Type 0
-follows_up octets id = (m : FollowUp) × Reads octets (messages.FollowUp m) × (id ≡ named_by m.head)
+use Rattle.gptp_settling.specs.Frame.{FollowUp, Sync, SyncMessage}
+use Rattle.gptp_kept.specs.View.{identity_of, says_sync}
 
 -- octets tell no time
-pub record IsTimeless (octets : List ℕ) : Type 0 where
-  pub no_sync : (id : SyncId) → syncs octets id → ⊥
-  pub no_follow_up : (id : SyncId) → follows_up octets id → ⊥
+abbrev pub IsTimeless : List ℕ → Type 0
+IsTimeless octets = (x : SyncMessage) → says_sync octets x → ⊥
 
 -- so do all of these
 abbrev pub AreTimeless : List (List ℕ) → Type 0
@@ -46,13 +28,8 @@ pub record ArePaired (source : PortIdentity) (all : List (List ℕ)) : Type 0 wh
   pub sync : List ℕ
   pub follow_up : List ℕ
   pub are : all ≡ sync ∷ follow_up ∷ []
-  pub first : syncs sync (record { source = source; sequence = sequence })
-  pub second : follows_up follow_up (record { source = source; sequence = sequence })
-
--- the Sync that a system keeps, and of which it awaits the Follow_Up
-abbrev pub kept_view : SystemState → Option SyncId
-kept_view s =
-    option_map (λ (k : KeptSync). record { source = identity_of k.source; sequence = k.sequence }) s.sync_in
+  pub first : says_sync sync (Sync (record { source = source; sequence = sequence }))
+  pub second : says_sync follow_up (FollowUp (record { source = source; sequence = sequence }))
 
 -- a system takes its time at this port, which is capable, from that one
 pub record TakesTime (s : SystemState) (p : ℕ) (source : PortIdentity) : Type 0 where

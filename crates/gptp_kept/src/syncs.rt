@@ -1,8 +1,7 @@
-//! Laws on the Syncs and Follow_Ups that systems send and hear, and on those in flight.
+//! Laws on the Syncs and Follow_Ups that systems send and hear.
 
 ghost use Rattle.gptp_kept.specs.SyncLaws.{FollowUpsAreUsed, KeptSyncsStay, SyncsAreKept};
 ghost use Rattle.gptp_kept.specs.SyncLaws.{KnowsAtStart, KnowsOn, LeadersTell, RelaysTell, TellsInPairs};
-ghost use Rattle.gptp_kept.specs.SyncLaws.{MatchesCome, MatchesStay, PairsMatch};
 
 /// What a step sends at one port tells no time, or is a Sync and, directly behind it, the Follow_Up of the same
 /// sequenceId. Each Master port sends both where the Sync timer of a root expires that may be grandmaster; and where the
@@ -27,12 +26,4 @@ pub fn syncs_are_heard()
     ensures kept { SyncsAreKept }
     ensures used { FollowUpsAreUsed }
     ensures stay { KeptSyncsStay }
-{}
-
-/// A Follow_Up that enters a lane directly behind its Sync will match there: whatever enters behind it and whatever
-/// arrives before it, until it arrives itself and completes the Sync that is kept.
-pub fn follow_ups_will_match()
-    ensures enter { PairsMatch }
-    ensures stay { MatchesStay }
-    ensures come { MatchesCome }
 {}
