@@ -56,6 +56,8 @@ pub mod SyncOctetLemmas
 pub mod SyncSaidLemmas
 pub mod TimeStepLemmas
 pub mod SyncHeardLemmas
+pub mod SyncLaneLemmas
+pub mod SyncCallLemmas
 pub mod LinkLaneLemmas
 pub mod SentLemmas
 pub mod PartLemmas

@@ -136,7 +136,7 @@ module _ (link : ℕ) (direction : Direction) (octets : List ℕ) (w : WorldStat
     receiver_shown : AreShown c.station.system
     receiver_shown = (sound.on_time.stations k.place c.station c.here).steady.shown
 
-    receiver_call : IsCallSeen (FrameHeard port octets) c.station emptied w'
+    receiver_call : IsCallSeen (FrameHeard port octets) c.station c.after emptied w'
     receiver_call =
         calls_seen k.place (FrameHeard port octets) emptied draws one w' c
         (sound.on_time.stations k.place c.station c.here).steady (sound.wired.setups k.place c.station c.here)

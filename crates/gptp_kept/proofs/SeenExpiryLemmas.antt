@@ -65,13 +65,13 @@ module _ (place : ℕ) (timer : Timer) (w : WorldState) (draws : List Draw) (w' 
   pub expiry_timely : IsDue station.system timer w.time
   expiry_timely = let least : w.time ≤ w.time = omega arith in rw timer_due least
 
-  expiry_call : IsCallSeen (TimerExpires timer) station w w'
+  expiry_call : IsCallSeen (TimerExpires timer) station k.calls.after w w'
   expiry_call =
       let steady = (sound.on_time.stations place station k.calls.here).steady in
       let its = sound.wired.setups place station k.calls.here in
       let c = calls_seen place (TimerExpires timer) (stopped place timer w) draws k.answer w' k.calls steady its
       expiry_timely (legible.stations place station k.calls.here).system tt (world_apart w sound legible) in
-      record { touch = c.touch; seen = c.seen; call = c.call; station_is = c.station_is }
+      record { touch = c.touch; seen = c.seen; call = c.call; station_is = c.station_is; after_is = c.after_is }
 
   pub expires_seen : Runs says (view w) (view w')
   expires_seen =
@@ -86,7 +86,7 @@ module _ (place : ℕ) (timer : Timer) (w : WorldState) (draws : List Draw) (w' 
             (subst (λ (m : SeenStation). slice_get m.ports i ≡ Some q) c.station_is there) holds);
       }
     where
-      deaf : (c : IsCallSeen (TimerExpires timer) station w w') (n : ℕ) (a : Announce)
+      deaf : (c : IsCallSeen (TimerExpires timer) station k.calls.after w w') (n : ℕ) (a : Announce)
           → (b : AnnounceView) × (c.touch ≡ Hear n b) × (a ≡ said b) → ⊥
       deaf c n a (b, heard, same) =
           let (octets, is, reads) = heard_in station.system (TimerExpires timer) c.touch c.seen n b heard in cc
@@ -95,7 +95,7 @@ module _ (place : ℕ) (timer : Timer) (w : WorldState) (draws : List Draw) (w' 
       same_timer one other e = cc
 
       -- a port whose Age timer expires received what its span has passed of, and the Lapse timer is the system's
-      ages : (c : IsCallSeen (TimerExpires timer) station w w') (i : ℕ) (q : SeenPort) (x : SeenReception)
+      ages : (c : IsCallSeen (TimerExpires timer) station k.calls.after w w') (i : ℕ) (q : SeenPort) (x : SeenReception)
           → c.touch ≡ Grow (suc i) → slice_get (station_view station).ports i ≡ Some q → q.held ≡ Received x
           → (x.at + x.span ≤ w.time) ⊎ Lapses (station_view station) i w.time
       ages c i q x grown there holds =

@@ -1,5 +1,6 @@
 -- What a step makes of the time that a system knows, case by case.
-use Rattle.std.proofs.Common.{◌≡◌, ◌⊎◌, ◌<◌, ℕ, ℤ, Bool, true, false, List, Option, Some, None, refl, sym, ap, subst, ◌∙◌, inl, inr, arith}
+use Rattle.std.proofs.Common.{◌≡◌, ◌⊎◌, ◌<◌, ◌+◌, ℕ, ℤ, Bool, true, false, List, Option, Some, None, refl, sym, ap, subst, ◌∙◌, inl, inr, arith}
+use Rattle.std.specs.Option.{unwrap_or}
 use Rattle.std.proofs.lemmas.Bool.Decides.{nat_tests}
 use Rattle.std.proofs.lemmas.Bool.{eq-eqb}
 use Rattle.std.specs.Prelude.{◌==◌, IsSome, if◌then◌else◌}
@@ -58,21 +59,24 @@ pub record KeepsSync (input : Input) (s s' : SystemState) : Type 0 where
   pub known : s'.known ≡ s.known
   pub relay : s'.relay ≡ s.relay
 
--- a Follow_Up is heard: what is known has a timestamp, and the Sync stays where something can lapse
+-- A Follow_Up is heard: what is known has a timestamp. Where something can lapse the Sync stays, and so does a Relay
+-- timer that runs.
 pub record Learns (s s' : SystemState) : Type 0 where
   pub params : s'.params ≡ s.params
   pub sync_in : has_sync_timeout s.params ≡ true → s'.sync_in ≡ s.sync_in
+  pub relay : (due : ℕ) → has_sync_timeout s.params ≡ true → s.relay ≡ Some due → s'.relay ≡ Some due
   pub knows : KnowsTime s'
 
 -- the Relay timer has expired
-pub record Stops (s s' : SystemState) : Type 0 where
+pub record Stops (input : Input) (s s' : SystemState) : Type 0 where
+  pub expired : input ≡ Expires timers.Relay
   pub params : s'.params ≡ s.params
   pub sync_in : s'.sync_in ≡ s.sync_in
   pub known : s'.known ≡ s.known
   pub relay : s'.relay ≡ None
 
 abbrev pub TimeStep : Input → SystemState → SystemState → Type 0
-TimeStep input s s' = StaysKnown s s' ⊎ (KeepsSync input s s' ⊎ (Learns s s' ⊎ Stops s s'))
+TimeStep input s s' = StaysKnown s s' ⊎ (KeepsSync input s s' ⊎ (Learns s s' ⊎ Stops input s s'))
 
 -- ---- steps that don't tell time
 
@@ -211,9 +215,11 @@ now_known s' info known small = record {
 
 -- what it makes of the state, to this one but for what was known
 learns : (s t s' : SystemState) → s' ≡ t → t.params ≡ s.params
-    → (has_sync_timeout s.params ≡ true → t.sync_in ≡ s.sync_in) → KnowsTime t → Learns s s'
-learns s t s' is params sync_in knows =
-    subst (Learns s) (sym is) (record { params = params; sync_in = sync_in; knows = knows })
+    → (has_sync_timeout s.params ≡ true → t.sync_in ≡ s.sync_in)
+    → ((due : ℕ) → has_sync_timeout s.params ≡ true → s.relay ≡ Some due → t.relay ≡ Some due) → KnowsTime t
+    → Learns s s'
+learns s t s' is params sync_in relay knows =
+    subst (Learns s) (sym is) (record { params = params; sync_in = sync_in; relay = relay; knows = knows })
 
 -- nothing is known, where nothing can lapse
 none_known : (t : SystemState) → has_sync_timeout t.params ≡ false → t.known ≡ None → KnowsTime t
@@ -222,18 +228,22 @@ none_known t off none = record {
   relays = λ due above is. absurd (grind (arith, nat_tests));
 }
 
+never : {b : Bool} → b ≡ true → b ≡ false → ⊥
+never on off = let both = sym on ∙ off in cc
+
 knows_by : (b : Bool) (info : SyncInfo) (delay rate : ℤ) (now : ℕ) (s s' : SystemState) (sends : List Sending)
     (answer : Answer) → has_sync_timeout s.params ≡ b → info.origin.nanos < 1000000000
     → KnowsBy b info delay rate now s s' sends answer → Learns s s'
 knows_by true info delay rate now s s' sends answer has small k =
     learns s (refreshing info k.offset now s) s' k.becomes.state refl (λ on. refl)
+    (λ due on runs. ap (λ (o : Option ℕ). Some (unwrap_or o (now + s.params.residence))) runs)
     (now_known (refreshing info k.offset now s) info refl small)
 knows_by false info delay rate now s s' sends answer has small (inl k) =
     let offset = offset_of info delay rate in
-    learns s (knowing info offset now s) s' k.becomes.state refl (λ on. refl)
+    learns s (knowing info offset now s) s' k.becomes.state refl (λ on. refl) (λ due on. absurd (never on has))
     (now_known (knowing info offset now s) info refl small)
 knows_by false info delay rate now s s' sends answer has small (inr k) =
-    learns s (forgetting s) s' k.becomes.state refl (λ on. absurd (let both = sym on ∙ has in cc))
+    learns s (forgetting s) s' k.becomes.state refl (λ on. absurd (never on has)) (λ due on. absurd (never on has))
     (none_known (forgetting s) has refl)
 
 knows_if : (said : Option SyncInfo) (delay rate : ℤ) (now : ℕ) (s s' : SystemState) (sends : List Sending)
@@ -254,18 +264,19 @@ hears_follow_up true p m now s s' sends answer small k =
 -- ---- the Relay timer
 
 stops : (s t s' : SystemState) → s' ≡ t → t.params ≡ s.params → t.sync_in ≡ s.sync_in → t.known ≡ s.known
-    → t.relay ≡ None → Stops s s'
+    → t.relay ≡ None → Stops (Expires timers.Relay) s s'
 stops s t s' is params sync_in known relay =
-    subst (Stops s) (sym is) (record { params = params; sync_in = sync_in; known = known; relay = relay })
+    subst (Stops (Expires timers.Relay) s) (sym is)
+    (record { expired = refl; params = params; sync_in = sync_in; known = known; relay = relay })
 
 relays_by : (b : Bool) (info : SyncInfo) (now : ℕ) (s s' : SystemState) (sends : List Sending)
-    → RelaysBy b info now s s' sends → Stops s s'
+    → RelaysBy b info now s s' sends → Stops (Expires timers.Relay) s s'
 relays_by true info now s s' sends k = stops s (telling (stopped s)) s' k.state refl refl refl refl
 relays_by false info now s s' sends (inl k) = stops s (telling (stopped s)) s' k.state refl refl refl refl
 relays_by false info now s s' sends (inr k) = stops s (stopped s) s' k.becomes.state refl refl refl refl
 
 relays_if : (known : Option SyncInfo) (now : ℕ) (s s' : SystemState) (sends : List Sending)
-    → RelaysIf known now s s' sends → Stops s s'
+    → RelaysIf known now s s' sends → Stops (Expires timers.Relay) s s'
 relays_if None now s s' sends k = stops s (stopped s) s' k.state refl refl refl refl
 relays_if (Some info) now s s' sends k = relays_by (has_sync_timeout s.params) info now s s' sends k
 
@@ -312,7 +323,7 @@ hears_frame p octets now s s' sends answer (inl k) =
 hears_frame p octets now s s' sends answer (inr k) = inl (rests s s' sends k.becomes)
 
 expires : (timer : Timer) (now : ℕ) (s s' : SystemState) (sends : List Sending) → TimerExpires timer now s s' sends
-    → StaysKnown s s' ⊎ Stops s s'
+    → StaysKnown s s' ⊎ Stops (Expires timer) s s'
 expires (timers.Announce p) now s s' sends k =
     inl (subst (StaysKnown s) (sym k.state) (still s _ refl refl refl refl))
 expires (timers.Age p) now s s' sends k =
