@@ -52,12 +52,13 @@ pub mod HoldsLemmas
 pub mod ParentLemmas
 pub mod SettledLemmas
 pub mod LinkOctetLemmas
+pub mod TimeStepLemmas
 pub mod SyncOctetLemmas
 pub mod SyncSaidLemmas
-pub mod TimeStepLemmas
 pub mod SyncHeardLemmas
 pub mod SyncLaneLemmas
 pub mod SyncCallLemmas
+pub mod SyncActLemmas
 pub mod LinkLaneLemmas
 pub mod SentLemmas
 pub mod PartLemmas

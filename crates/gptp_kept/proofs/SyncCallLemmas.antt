@@ -1,10 +1,10 @@
 -- What a call does to Syncs, as the machine sees it, where something can lapse.
-use Rattle.std.proofs.Common.{◌≡◌, ◌≢◌, ◌⊎◌, ◌<◌, ◌≤◌, ◌+◌, ◌/◌, ◌^◌, ℕ, zero, suc, true, false, List, length, Option, Some, None, slice_get, refl, sym, ap, subst, ◌∙◌, inl, inr, arith}
+use Rattle.std.proofs.Common.{◌≡◌, ◌⊎◌, ◌<◌, ◌+◌, ◌/◌, ◌^◌, ℕ, suc, true, false, List, length, Option, Some, None, slice_get, refl, sym, ap, subst, ◌∙◌, inl, inr, arith}
 use Rattle.std.proofs.lemmas.Bool.Decides.{nat_tests}
 use Rattle.std.proofs.lemmas.Bool.{eq-eqb}
 use Rattle.std.proofs.lemmas.Option.{none-some, same_Some, slice_get_within}
 use Rattle.std.specs.Prelude.{◌==◌, ◌&&◌, ◌*◌, Bool, if◌then◌else◌}
-use Rattle.std.specs.Option.{option_map_or}
+use Rattle.std.specs.Option.{option_map, option_map_or}
 use Rattle.gptp_graph.specs.Snapshot.{PortIdentity}
 use Rattle.gptp_links.specs.Fate.{Draw}
 use Rattle.gptp_lists.proofs.PlaceLemmas.{member_there}
@@ -25,7 +25,7 @@ use Rattle.gptp_system.specs.Follows.{FollowsItself, FollowsPort}
 use Rattle.gptp_system.specs.Input.{Input, IsTimely, Steps, PortUp, PortDown, Frame as FrameHeard, Expires, Priority}
 use Rattle.gptp_system.specs.Reach.{is_touched, may_select, stops_at}
 use Rattle.gptp_system.specs.Selection.{kept_if}
-use Rattle.gptp_system.specs.State.{SystemState, can_lead, clock, is_capable_at}
+use Rattle.gptp_system.specs.State.{SystemState, can_lead, is_capable_at}
 use Rattle.gptp_system.specs.Syncing.{RelaysBy, RelaysIf, SyncsIf, leads}
 use Rattle.gptp_system.specs.Times.{Waits, WaitsAnew}
 use Rattle.gptp_system.proofs.FollowLemmas.{follows}
@@ -36,19 +36,21 @@ use Rattle.gptp_acts.specs.Act.{Calls, all_timers, in_state}
 use Rattle.gptp_acts.specs.Ahead.{IsSteady}
 use Rattle.gptp_acts.specs.Sound.{IsItsSetup}
 use Rattle.gptp_acts.specs.World.{WorldState}
-use Rattle.gptp_acts.proofs.SteadyLemmas.{same_clock, same_ports, steps_steady}
+use Rattle.gptp_acts.proofs.SteadyLemmas.{same_clock}
 use Rattle.gptp_settling.specs.Frame.{SyncId}
 use Rattle.gptp_settling.specs.Network.{Network}
+use Rattle.gptp_settling.specs.Station.{Reception as SeenReception}
 use Rattle.gptp_settling.specs.SyncActs.{FollowsOn, IsFollowed, SendsPairs, TimerStep}
 use Rattle.gptp_settling.specs.Syncs.{MayLead}
 use Rattle.gptp_kept.specs.SyncLaws.{TellsTime}
 use Rattle.gptp_kept.specs.SyncView.{KnowsTime, TakesTime}
-use Rattle.gptp_kept.specs.View.{identity_of, lanes_view, reception_view, says_sync, span_at, station_view, system_view, view}
-use Rattle.gptp_kept.proofs.PortLemmas.{holds_there}
+use Rattle.gptp_kept.specs.View.{identity_of, kept_view, lanes_view, reception_view, says_sync, span_at, station_view, system_view, view}
+use Rattle.gptp_kept.proofs.PortLemmas.{held_from, holds_there}
+use Rattle.gptp_kept.proofs.SyncHeardLemmas.{id_of}
 use Rattle.gptp_kept.proofs.SyncLaneLemmas.{pairs_enter}
 use Rattle.gptp_kept.proofs.SyncSaidLemmas.{leaders_tell, relays_tell}
 use Rattle.gptp_kept.proofs.TakeUpLemmas.{BeginApart}
-use Rattle.gptp_kept.proofs.TimeStepLemmas.{TimeStep, time_steps}
+use Rattle.gptp_kept.proofs.TimeStepLemmas.{KeepsSync, TimeStep, can_lapse, time_steps}
 
 -- ---- timers
 
@@ -135,31 +137,42 @@ capable_where s shown i h r stands holds =
     by q there false is =
         absurd (none-some r (sym (ap received ((shown.each i h q stands there).off is)) ∙ holds))
 
--- one with a Slave port takes its time there, from where its Announce came
-slave_takes : (s : SystemState) → IsSteady s → (i : ℕ) → s.slave ≡ Some (suc i)
-    → (source : PortIdentity) × TakesTime s (suc i) source
-    × ((id : SyncId) → IsFollowed (system_view true s) i id → id.source ≡ source)
+-- One with a Slave port takes its time there, from where its Announce came; so the Syncs that are followed are those
+-- from there.
+pub record TakesSyncs (s : SystemState) (i : ℕ) : Type 0 where
+  pub source : PortIdentity
+  pub takes : TakesTime s (suc i) source
+  pub from : (live : Bool) (id : SyncId) → IsFollowed (system_view live s) i id → id.source ≡ source
+  pub followed : (live : Bool) (id : SyncId) → id.source ≡ source → IsFollowed (system_view live s) i id
+
+pub slave_takes : (s : SystemState) → IsSteady s → (i : ℕ) → s.slave ≡ Some (suc i) → TakesSyncs s i
 slave_takes s steady i slave = by (follows s steady.held steady.rest)
   where
-    by : FollowsItself s ⊎ FollowsPort s
-        → (source : PortIdentity) × TakesTime s (suc i) source
-        × ((id : SyncId) → IsFollowed (system_view true s) i id → id.source ≡ source)
+    by : FollowsItself s ⊎ FollowsPort s → TakesSyncs s i
     by (inl k) = absurd (none-some (suc i) (sym k.slave ∙ slave))
     by (inr k) =
         let same : suc k.place ≡ suc i = same_Some (suc k.place) (suc i) (sym k.slave ∙ slave) in
         let place : k.place ≡ i = omega arith in
         let stands : slice_get s.held i ≡ Some k.held = ap (slice_get s.held) (sym place) ∙ k.there in
-        let seen = holds_there true s steady.shown i k.held k.reception stands k.holds in (
-          identity_of k.reception.vector.source,
-          record {
+        record {
+          source = identity_of k.reception.vector.source;
+          takes = record {
             capable = capable_where s steady.shown i k.held k.reception stands k.holds;
             slave = slave;
             reception = k.reception;
             holds = ap (λ o. received (option_map_or (λ h. h) o helds.Disabled)) stands ∙ k.holds;
             came = refl;
-          },
-          λ id followed. sym (followed (reception_view (span_at s) k.reception) seen),
-        )
+          };
+          from = λ live id followed.
+              sym (followed (reception_view (span_at s) k.reception)
+              (holds_there live s steady.shown i k.held k.reception stands k.holds));
+          followed = λ live id is r holds.
+              let at = held_from live s i r holds in
+              let held = same_Some k.held at.held (sym stands ∙ at.stands) in
+              let reception = same_Some k.reception at.reception (sym k.holds ∙ ap received held ∙ at.got) in
+              ap (λ (x : SeenReception). x.said.source) at.is
+              ∙ ap (λ (x : Reception). identity_of x.vector.source) (sym reception) ∙ sym is;
+        }
 
 -- ---- a call
 
@@ -199,14 +212,14 @@ module _ (place : ℕ) (input : Input) (w : WorldState) (draws : List Draw) (ans
 
   pub timers_step : TimerStep says_sync n (view w) (view w') (station_view k.station) (station_view called)
   timers_step = record {
-    sync = λ none may follows. by_sync (leads_itself s steady none may)
+    sync = λ none may still. by_sync (leads_itself s steady none may)
         (sync_stays input w.time s k.after k.sends answer k.steps);
-    relay = λ due runs follows. by_relay due runs follows (time_steps input w.time s k.after k.sends answer k.steps);
+    relay = λ due runs still. by_relay due runs still (time_steps input w.time s k.after k.sends answer k.steps);
     lapse = λ due runs. by_lapse due ((steps_run_on input w.time s k.after k.sends answer k.steps).lapse due runs);
   }
     where
       has : has_sync_timeout s.params ≡ true
-      has = grind (arith, nat_tests)
+      has = can_lapse s.params on
 
       by_sync : leads s ≡ true → (k.after.sync ≡ s.sync) ⊎ (input ≡ Expires timers.Sync)
           → (k.after.sync ≡ s.sync) ⊎ SendsPairs says_sync (view w) (view w') (station_view called)
@@ -216,14 +229,33 @@ module _ (place : ℕ) (input : Input) (w : WorldState) (draws : List Draw) (ans
       by_relay : (due : ℕ) → s.relay ≡ Some due → FollowsOn (station_view k.station) (station_view called)
           → TimeStep input s k.after
           → (k.after.relay ≡ Some due) ⊎ SendsPairs says_sync (view w) (view w') (station_view called)
-      by_relay due runs follows (inl stays) =
-          inl (stays.relay ∙ ap (λ b. kept_if b s.relay) (stays.still follows.root follows.slave) ∙ runs)
-      by_relay due runs follows (inr (inl kept)) = inl (kept.relay ∙ runs)
-      by_relay due runs follows (inr (inr (inl learned))) = inl (learned.relay due has runs)
-      by_relay due runs follows (inr (inr (inr stopped))) = inr (relays_pairs stopped.expired)
+      by_relay due runs still (inl stays) =
+          inl (stays.relay ∙ ap (λ b. kept_if b s.relay) (stays.still still.root still.slave) ∙ runs)
+      by_relay due runs still (inr (inl kept)) = inl (kept.relay ∙ runs)
+      by_relay due runs still (inr (inr (inl learned))) = inl (learned.relay due has runs)
+      by_relay due runs still (inr (inr (inr stopped))) = inr (relays_pairs stopped.expired)
 
       by_lapse : (due : ℕ) → Waits s k.after due ⊎ WaitsAnew s w.time due
           → ((s.lapse ≡ Some due) × FollowsOn (station_view k.station) (station_view called))
           ⊎ (due ≡ w.time + n.syncs.span)
       by_lapse due (inl waits) = inl (waits.before, record { root = waits.root; slave = waits.slave })
       by_lapse due (inr anew) = inr (anew.moment ∙ ap (λ t. w.time + t) (sym span))
+
+  -- ---- what is kept
+
+  abbrev FollowsStill : Type 0
+  FollowsStill = FollowsOn (station_view k.station) (station_view called)
+
+  -- what is kept stays while the system follows on, unless a Sync is kept
+  pub kept_stays : FollowsStill → (KeepsSync input s k.after → ⊥) → kept_view k.after ≡ kept_view s
+  kept_stays still none =
+      ap (option_map id_of) (by (time_steps input w.time s k.after k.sends answer k.steps))
+    where
+      has : has_sync_timeout s.params ≡ true
+      has = can_lapse s.params on
+
+      by : TimeStep input s k.after → k.after.sync_in ≡ s.sync_in
+      by (inl stays) = stays.sync_in ∙ ap (λ b. kept_if b s.sync_in) (stays.still still.root still.slave)
+      by (inr (inl kept)) = absurd (none kept)
+      by (inr (inr (inl learned))) = learned.sync_in has
+      by (inr (inr (inr stopped))) = stopped.sync_in

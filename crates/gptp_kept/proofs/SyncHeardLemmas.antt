@@ -27,10 +27,10 @@ use Rattle.gptp_settling.specs.Frame.{FollowUp, Sync, SyncId}
 use Rattle.gptp_kept.specs.SyncView.{IsHeard, TakesTime}
 use Rattle.gptp_kept.specs.View.{identity_of, kept_view, says_sync, sync_id}
 use Rattle.gptp_kept.proofs.SendLemmas.{same_identity}
-use Rattle.gptp_kept.proofs.TimeStepLemmas.{KeepsSync, TimeStep, time_steps}
+use Rattle.gptp_kept.proofs.TimeStepLemmas.{KeepsSync, TimeStep, can_lapse, time_steps}
 
 -- the Sync that is kept, as it is seen
-abbrev id_of : KeptSync → SyncId
+abbrev pub id_of : KeptSync → SyncId
 id_of k = record { source = identity_of k.source; sequence = k.sequence }
 
 -- ---- ports
@@ -71,7 +71,7 @@ module _ (s : SystemState) (p : ℕ) (source : PortIdentity) (takes : TakesTime 
       rw (two_step, at_slave, holds) same
 
   -- and nothing else is: what is followed comes to that port from there
-  followed_here : (q : ℕ) (head : Head) → is_followed q head s ≡ true
+  pub followed_here : (q : ℕ) (head : Head) → is_followed q head s ≡ true
       → (q ≡ p) × (head.two_step ≡ true) × (identity_of head.source ≡ source)
   followed_here q head is =
       let parts = both head.two_step (is_slave_at s q && came_from head.source (held_at s q)) is in
@@ -120,14 +120,14 @@ syncs_are_kept p octets now s s' sends answer id k takes (head, reads, two_step,
 -- ---- a Follow_Up
 
 pub follow_ups_are_used : (p : ℕ) (octets : List ℕ) (now : ℕ) (s s' : SystemState) (sends : List Sending)
-    (answer : Answer) (id : SyncId) → Steps (FrameHeard p octets) now s s' sends answer → 0 < s.params.sync_timeout
-    → TakesTime s p id.source → kept_view s ≡ Some id → says_sync octets (FollowUp id) → IsHeard now s s'
-follow_ups_are_used p octets now s s' sends answer id k on takes keeps (m, reads, is) =
+    (answer : Answer) (source : PortIdentity) (id : SyncId) → Steps (FrameHeard p octets) now s s' sends answer
+    → 0 < s.params.sync_timeout → TakesTime s p source → kept_view s ≡ Some id → says_sync octets (FollowUp id) → IsHeard now s s'
+follow_ups_are_used p octets now s s' sends answer source id k on takes keeps (m, reads, is) =
     capable (is_capable_at s p) takes.capable
     (heard_as p octets (messages.FollowUp m) now s s' sends answer reads k)
   where
     has : has_sync_timeout s.params ≡ true
-    has = grind (arith, nat_tests)
+    has = can_lapse s.params on
 
     -- it belongs to the Sync that is kept
     belonging : (k : KeptSync) → Some (id_of k) ≡ Some id → belongs m k ≡ true
@@ -144,7 +144,7 @@ follow_ups_are_used p octets now s s' sends answer id k on takes keeps (m, reads
         → (info : SyncInfo) × (said_on p m s ≡ Some info)
     said_by None same names = absurd (none-some id names)
     said_by (Some k) same names =
-        let slave = at_slave s p id.source takes in
+        let slave = at_slave s p source takes in
         let belongs_to = belonging k names in
         (together m k, rw (slave, same, belongs_to) refl)
 
@@ -174,7 +174,7 @@ kept_syncs_stay input now s s' sends answer p id k on takes keeps root slave =
     by (time_steps input now s s' sends answer k)
   where
     has : has_sync_timeout s.params ≡ true
-    has = grind (arith, nat_tests)
+    has = can_lapse s.params on
 
     stays : s'.sync_in ≡ s.sync_in → kept_view s' ≡ Some id
     stays same = ap (option_map id_of) same ∙ keeps

@@ -1,10 +1,9 @@
 -- The Sync and the Follow_Up that a port sends enter its lane as a pair.
-use Rattle.std.proofs.Common.{◌≡◌, ◌≢◌, ◌<◌, ◌≤◌, ◌+◌, ◌*◌, ◌^◌, ℕ, suc, Bool, true, List, [], ◌∷◌, ◌++◌, map, length, Some, slice_get, refl, sym, ap, subst, ◌∙◌, inl, inr, arith}
+use Rattle.std.proofs.Common.{◌≡◌, ◌≤◌, ◌^◌, ℕ, suc, Bool, true, List, [], ◌∷◌, ◌++◌, map, length, Some, slice_get, refl, sym, ap, subst, ◌∙◌, inl, arith}
 use Rattle.std.proofs.lemmas.List.{map-append}
 use Rattle.std.proofs.lemmas.Nat.{mod_below}
 use Rattle.std.proofs.lemmas.Option.{slice_get_within}
 use Rattle.gptp_graph.specs.Snapshot.{PortIdentity, port_of}
-use Rattle.gptp_vector.specs.declared.port.PortId.{PortId}
 use Rattle.gptp_lists.proofs.MappedLemmas.{same_there}
 use Rattle.gptp_lists.proofs.PlaceLemmas.{member_there}
 use Rattle.gptp_links.specs.declared.link.Direction.{Direction}
@@ -12,11 +11,8 @@ use Rattle.gptp_links.specs.declared.link.Direction.TheVariants.{FromA, FromB}
 use Rattle.gptp_links.specs.Fate.{Draw}
 use Rattle.gptp_links.specs.Queue.{Frame}
 use Rattle.gptp_messages.specs.Frame.{PortFits}
-use Rattle.gptp_system.specs.declared.port.Port.{Port}
 use Rattle.gptp_system.specs.declared.sending.Sending.{Sending}
 use Rattle.gptp_system.specs.State.{SystemState, clock, own}
-use Rattle.gptp_acts.specs.declared.station.Station.{Station}
-use Rattle.gptp_acts.specs.Act.{in_state}
 use Rattle.gptp_acts.specs.Sends.{SendsAll}
 use Rattle.gptp_acts.specs.World.{Channel, Net, queue, sender}
 use Rattle.gptp_settling.specs.Frame.{FollowUp, Frame as SeenFrame, Lane, Sync, SyncId}
@@ -26,7 +22,7 @@ use Rattle.gptp_kept.specs.Said.{said_at}
 use Rattle.gptp_kept.specs.SyncLaws.{TellsTime}
 use Rattle.gptp_kept.specs.SyncView.{ArePaired}
 use Rattle.gptp_kept.specs.View.{frame_view, identity_of, lane_place, lane_view, lanes_view, says_sync, span_at, system_view}
-use Rattle.gptp_kept.proofs.LinkLaneLemmas.{GrowsIn, IsAlone, sends_grow}
+use Rattle.gptp_kept.proofs.LinkLaneLemmas.{IsAlone, sends_grow}
 use Rattle.gptp_kept.proofs.PlaceLemmas.{port_from}
 use Rattle.gptp_kept.proofs.PortLemmas.{mine_back}
 use Rattle.gptp_kept.proofs.SeenLaneLemmas.{IsLaneAt, lane_from, lane_there}

@@ -1,6 +1,5 @@
 -- What a system sends at one port tells no time, or is a Sync and its Follow_Up.
 use Rattle.std.proofs.Common.{◌≡◌, ◌≢◌, ◌⊎◌, ◌<◌, ◌≤◌, ◌+◌, ℕ, zero, suc, ℤ, Bool, true, false, List, [], ◌∷◌, ◌++◌, Option, Some, None, slice_get, refl, sym, ap, subst, ◌∙◌, inl, inr, arith}
-use Rattle.std.proofs.lemmas.Bool.Decides.{nat_tests}
 use Rattle.std.specs.Prelude.{if◌then◌else◌, IsSome}
 use Rattle.std.specs.Option.{IsSomeAnd}
 use Rattle.gptp_lists.specs.Members.{In}
@@ -36,6 +35,7 @@ use Rattle.gptp_kept.specs.SyncView.{ArePaired, AreTimeless, IsTimeless, KnowsTi
 use Rattle.gptp_kept.specs.View.{identity_of}
 use Rattle.gptp_kept.proofs.LinkLaneLemmas.{said_elsewhere, said_here}
 use Rattle.gptp_kept.proofs.SentLemmas.{said_from}
+use Rattle.gptp_kept.proofs.TimeStepLemmas.{can_lapse}
 use Rattle.gptp_kept.proofs.SyncOctetLemmas.{follow_up_said, sync_said, timeless}
 
 -- ---- each port tells
@@ -325,7 +325,7 @@ relays_tell now s s' sends answer on timely knows k =
     tells_by s s' sends (same_clock (Expires timers.Relay) now s s' sends answer k) (by s.relay refl timely)
   where
     has : has_sync_timeout s.params ≡ true
-    has = grind (arith, nat_tests)
+    has = can_lapse s.params on
 
     told : (known : Option SyncInfo) → s.known ≡ known → IsSome known → RelaysIf known now s s' sends
         → IsToldBy s sends

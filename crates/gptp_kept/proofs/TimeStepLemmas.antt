@@ -36,6 +36,10 @@ use Rattle.gptp_system.specs.Syncing.{HearsFollowUpIf, HearsSyncIf, KeepsIf, Kno
 use Rattle.gptp_system.proofs.TypeLemmas.{type_is}
 use Rattle.gptp_kept.specs.SyncView.{KnowsTime}
 
+-- something can lapse
+pub can_lapse : (p : Params) → 0 < p.sync_timeout → has_sync_timeout p ≡ true
+can_lapse p above = grind (arith, nat_tests)
+
 -- ---- what a step makes of it
 
 -- What came over the Slave port stays, or all is dropped; it stays while the same root is followed by the same port.

@@ -1,5 +1,5 @@
 -- Laws on what systems tell of time.
-use Rattle.std.specs.Prelude.{◌≡◌, ◌⊎◌, ◌<◌, ℕ, suc, true, List, ◌∷◌, ◌++◌, map, Option, Some, slice_get}
+use Rattle.std.specs.Prelude.{◌≡◌, ◌⊎◌, ◌<◌, ℕ, suc, true, List, Some, slice_get}
 use Rattle.gptp_graph.specs.Snapshot.{PortIdentity}
 use Rattle.gptp_settling.specs.Frame.{FollowUp, Sync, SyncId}
 use Rattle.gptp_messages.specs.Frame.{PortFits}
@@ -13,9 +13,21 @@ use Rattle.gptp_system.specs.Input.{Input, IsTimely, Steps, Frame as FrameHeard,
 use Rattle.gptp_system.specs.Start.{started}
 use Rattle.gptp_system.specs.State.{SystemState, own}
 use Rattle.gptp_system.specs.Syncing.{leads}
+use Rattle.gptp_settling.specs.SyncActs.{SyncActs}
+use Rattle.gptp_links.specs.Fate.{Draw}
+use Rattle.gptp_setup.specs.Pace.{Pace}
+use Rattle.gptp_plan.specs.declared.change.Act.{Act}
+use Rattle.gptp_acts.specs.declared.done.Done.{Done}
+use Rattle.gptp_acts.specs.Acts.{Acts}
+use Rattle.gptp_acts.specs.Sound.{IsSound}
+use Rattle.gptp_acts.specs.World.{WorldState}
+use Rattle.gptp_kept.specs.Calm.{network_of}
+use Rattle.gptp_kept.specs.Known.{AreSet}
+use Rattle.gptp_kept.specs.Legible.{IsLegible}
 use Rattle.gptp_kept.specs.Said.{said_at}
-use Rattle.gptp_kept.specs.SyncView.{ArePaired, AreTimeless, IsHeard, KnowsTime, TakesTime}
-use Rattle.gptp_kept.specs.View.{identity_of, kept_view, says_sync}
+use Rattle.gptp_kept.specs.SeenLaws.{IsNoChange}
+use Rattle.gptp_kept.specs.SyncView.{ArePaired, AreTimeless, IsHeard, KnowTime, KnowsTime, TakesTime}
+use Rattle.gptp_kept.specs.View.{identity_of, kept_view, says, says_sync, view}
 
 -- at each port a step sends a Sync and its Follow_Up, or nothing of time
 abbrev pub TellsInPairs : Type 0
@@ -60,11 +72,11 @@ SyncsAreKept = (p : ℕ) (octets : List ℕ) (now : ℕ) (s s' : SystemState) (s
     → Steps (FrameHeard p octets) now s s' sends answer → TakesTime s p id.source → says_sync octets (Sync id)
     → kept_view s' ≡ Some id
 
--- and its Follow_Up is used, in a network in which something can lapse
+-- and the Follow_Up of one that is kept is used at the port that is followed, in a network in which something can lapse
 abbrev pub FollowUpsAreUsed : Type 0
 FollowUpsAreUsed = (p : ℕ) (octets : List ℕ) (now : ℕ) (s s' : SystemState) (sends : List Sending) (answer : Answer)
-    (id : SyncId)
-    → Steps (FrameHeard p octets) now s s' sends answer → 0 < s.params.sync_timeout → TakesTime s p id.source
+    (source : PortIdentity) (id : SyncId)
+    → Steps (FrameHeard p octets) now s s' sends answer → 0 < s.params.sync_timeout → TakesTime s p source
     → kept_view s ≡ Some id → says_sync octets (FollowUp id)
     → IsHeard now s s'
 
@@ -76,3 +88,14 @@ KeptSyncsStay = (input : Input) (now : ℕ) (s s' : SystemState) (sends : List S
     → s'.root ≡ s.root → s'.slave ≡ s.slave
     → (kept_view s' ≡ Some id)
     ⊎ ((octets : List ℕ) × (n : ℕ) × (input ≡ FrameHeard p octets) × says_sync octets (Sync (record { source = id.source; sequence = n })))
+
+-- ---- every act
+
+-- Every act that changes nothing of the network is a step of the machine by which Syncs are told and heard, where
+-- something can lapse in the network.
+abbrev pub ActsTellSyncs : Type 0
+ActsTellSyncs = (p : Pace) (m start : ℕ) (act : Act) (w : WorldState) (draws : List Draw) (done : Done)
+    (w' : WorldState)
+    → IsNoChange act → IsSound w → IsLegible w → AreSet p w → KnowTime w → 0 < p.params.sync_timeout
+    → Acts act w draws done w'
+    → SyncActs says says_sync (network_of p m start w) (view w) (view w')

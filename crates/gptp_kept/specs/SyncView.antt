@@ -1,16 +1,14 @@
 -- What octets tell of time: a Sync, and the Follow_Up that completes it (IEEE 802.1AS-2020, 11.4.3 and 11.4.4).
-use Rattle.std.specs.Prelude.{◌≡◌, ◌<◌, ◌+◌, ℕ, true, List, [], ◌∷◌, Option, Some, IsSome}
-use Rattle.std.specs.Option.{option_map, unwrap_or}
+use Rattle.std.specs.Prelude.{◌≡◌, ◌<◌, ◌+◌, ℕ, true, List, [], ◌∷◌, Some, IsSome, slice_get}
+use Rattle.std.specs.Option.{unwrap_or}
 use Rattle.gptp_lists.specs.Members.{In}
 use Rattle.gptp_graph.specs.Snapshot.{PortIdentity}
-use Rattle.gptp_messages.specs.declared.head.Head.{Head}
-use Rattle.gptp_messages.specs.declared.message.Message.TheVariants as messages
-use Rattle.gptp_messages.specs.Grammar.{Reads}
 use Rattle.gptp_correction.specs.declared.sync_in.SyncInfo.{SyncInfo}
-use Rattle.gptp_correction.specs.SyncIn.{KeptSync}
 use Rattle.gptp_receipt.specs.declared.held.Reception.{Reception}
 use Rattle.gptp_receipt.specs.Held.{received}
 use Rattle.gptp_system.specs.State.{SystemState, held_at, is_capable_at, lapse_of}
+use Rattle.gptp_acts.specs.declared.station.Station.{Station}
+use Rattle.gptp_acts.specs.World.{WorldState}
 use Rattle.gptp_settling.specs.Frame.{FollowUp, Sync, SyncMessage}
 use Rattle.gptp_kept.specs.View.{identity_of, says_sync}
 
@@ -48,3 +46,8 @@ pub record IsHeard (now : ℕ) (s s' : SystemState) : Type 0 where
 pub record KnowsTime (s : SystemState) : Type 0 where
   pub stamped : (info : SyncInfo) → s.known ≡ Some info → info.origin.nanos < 1000000000
   pub relays : (due : ℕ) → 0 < s.params.sync_timeout → s.relay ≡ Some due → IsSome s.known
+
+-- so it is with each live system
+abbrev pub KnowTime : WorldState → Type 0
+KnowTime w = (place : ℕ) (station : Station) → slice_get w.stations place ≡ Some station → station.live ≡ true
+    → KnowsTime station.system

@@ -1,6 +1,6 @@
 //! Laws on the Syncs and Follow_Ups that systems send and hear.
 
-ghost use Rattle.gptp_kept.specs.SyncLaws.{FollowUpsAreUsed, KeptSyncsStay, SyncsAreKept};
+ghost use Rattle.gptp_kept.specs.SyncLaws.{ActsTellSyncs, FollowUpsAreUsed, KeptSyncsStay, SyncsAreKept};
 ghost use Rattle.gptp_kept.specs.SyncLaws.{KnowsAtStart, KnowsOn, LeadersTell, RelaysTell, TellsInPairs};
 
 /// What a step sends at one port tells no time, or is a Sync and, directly behind it, the Follow_Up of the same
@@ -26,4 +26,10 @@ pub fn syncs_are_heard()
     ensures kept { SyncsAreKept }
     ensures used { FollowUpsAreUsed }
     ensures stay { KeptSyncsStay }
+{}
+
+/// So every act of a world that changes nothing of the network is a step of the machine of `gptp_settling` by which
+/// Syncs are told and heard, in a network that has a syncReceiptTimeout.
+pub fn acts_tell_syncs()
+    ensures { ActsTellSyncs }
 {}
