@@ -20,6 +20,7 @@ use Rattle.gptp_correction.specs.declared.sync_in.SyncInfo.{SyncInfo}
 use Rattle.gptp_correction.specs.SyncIn.{KeptSync, belongs, information, together}
 use Rattle.gptp_pdelay.specs.Peer.{PeerState, after_follow_up, after_interval, reset_peer}
 use Rattle.gptp_setup.specs.declared.setup.Params.{Params}
+use Rattle.gptp_setup.specs.declared.setup.Setup.{Setup}
 use Rattle.gptp_setup.specs.declared.timer.Timer.{Timer}
 use Rattle.gptp_setup.specs.declared.timer.Timer.TheVariants as timers
 use Rattle.gptp_setup.specs.Pace.{has_sync_timeout}
@@ -30,6 +31,7 @@ use Rattle.gptp_system.specs.Input.{Input, Steps, PortUp, PortDown, Frame, Expir
 use Rattle.gptp_system.specs.Lapse.{lapsed}
 use Rattle.gptp_system.specs.Measuring.{Turns, TurnsAndAsks, TurnsIf, down, is_turned, turned}
 use Rattle.gptp_system.specs.Selection.{Becomes, Selects, SelectsIf, follows_on, kept_if, same_port}
+use Rattle.gptp_system.specs.Start.{started}
 use Rattle.gptp_system.specs.State.{SystemState, held_at, is_capable_at, number, own, with_peer}
 use Rattle.gptp_system.specs.Steps.{Expires as TimerExpires, HearsFrame, HearsMessage}
 use Rattle.gptp_system.specs.Syncing.{HearsFollowUpIf, HearsSyncIf, KeepsIf, KnowsBy, KnowsIf, RelaysBy, RelaysIf, SyncsIf, delay_at, forgetting, is_followed, is_slave_at, knowing, leads, offset_of, rate_at, refreshing, restarted, said_on, stopped, telling}
@@ -354,6 +356,13 @@ time_steps (Priority value) now s s' sends answer k =
     inl (selects s now (with_priority value s) s' sends refl refl refl refl refl refl k)
 
 -- ---- what is known stays in order
+
+-- a system that starts knows no time
+pub knows_at_start : (setup : Setup) (now : ℕ) → KnowsTime (started setup now)
+knows_at_start setup now = record {
+  stamped = λ info is. absurd (none-some info is);
+  relays = λ due above is. absurd (none-some due is);
+}
 
 stays : (s s' : SystemState) → StaysKnown s s' → KnowsTime s → KnowsTime s'
 stays s s' k knows = by k.same k.known k.relay
