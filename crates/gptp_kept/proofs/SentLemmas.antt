@@ -48,7 +48,7 @@ mute_news says (one ∷ news) mute f (inl here) =
 mute_news says (one ∷ news) mute f (inr later) =
     mute_news says news (λ octets member. mute octets (inr member)) f later
 
-same_first : (a b : List ℕ) (xs ys : List (List ℕ)) → a ∷ xs ≡ b ∷ ys → (a ≡ b) × (xs ≡ ys)
+pub same_first : {X : Type 0} (a b : X) (xs ys : List X) → a ∷ xs ≡ b ∷ ys → (a ≡ b) × (xs ≡ ys)
 same_first a b xs ys e = (cc, cc)
 
 -- where octets that say this stand behind mute ones, their frame is the first that isn't mute

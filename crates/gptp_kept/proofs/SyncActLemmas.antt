@@ -1,13 +1,16 @@
 -- Every act that changes nothing of the network is a step of the machine by which Syncs are told and heard.
-use Rattle.std.proofs.Common.{◌≡◌, ◌≢◌, ◌⊎◌, ◌<◌, ◌+◌, ℕ, suc, List, Option, Some, None, slice_get, refl, sym, ap, subst, ◌∙◌, inl, inr}
+use Rattle.std.proofs.Common.{◌≡◌, ◌≢◌, ◌⊎◌, ◌<◌, ◌≤◌, ◌+◌, ◌/◌, ◌^◌, ℕ, suc, true, List, Option, Some, None, slice_get, refl, sym, ap, subst, ◌∙◌, inl, inr, arith}
+use Rattle.std.proofs.lemmas.Bool.Decides.{nat_tests}
 use Rattle.gptp_links.specs.declared.link.Direction.{Direction}
 use Rattle.gptp_links.specs.Fate.{Draw}
 use Rattle.gptp_setup.specs.Pace.{Pace, lapse_span}
 use Rattle.gptp_setup.specs.declared.setup.Params.{Params}
+use Rattle.gptp_setup.specs.Intervals.{interval_of}
 use Rattle.gptp_setup.specs.declared.timer.Timer.{Timer}
+use Rattle.gptp_setup.specs.declared.timer.Timer.TheVariants as timers
 use Rattle.gptp_system.specs.declared.answer.Answer.{Answer}
 use Rattle.gptp_system.specs.Input.{Frame as FrameHeard, Expires as TimerExpires}
-use Rattle.gptp_system.specs.State.{SystemState}
+use Rattle.gptp_system.specs.State.{SystemState, can_lead}
 use Rattle.gptp_system.proofs.LapseLemmas.{lapse_begins}
 use Rattle.gptp_acts.specs.declared.station.Station.{Station}
 use Rattle.gptp_acts.specs.Act.{Calls, Delivers, Expires, Hears, in_state}
@@ -27,11 +30,13 @@ use Rattle.gptp_settling.specs.Network.{Network}
 use Rattle.gptp_settling.specs.Station.{State, Station as SeenStation}
 use Rattle.gptp_settling.specs.SyncActs.{FollowsOn, HearsSync, IsFollowed, SyncActs, SyncArrives, SyncDrops, SyncRuns, TimerStep}
 use Rattle.gptp_kept.specs.Calm.{network_of}
-use Rattle.gptp_kept.specs.Known.{AreSet}
+use Rattle.gptp_kept.specs.Known.{AreSet, IsKnown}
 use Rattle.gptp_kept.specs.Legible.{IsLegible}
 use Rattle.gptp_kept.specs.SeenLaws.{IsNoChange}
 use Rattle.gptp_kept.specs.SyncView.{KnowTime, TakesTime}
 use Rattle.gptp_kept.specs.View.{kept_view, says, says_sync, station_view, sync_id, view}
+use Rattle.gptp_settling.specs.Syncs.{HasSyncTimers, HaveSyncTimers, MayLead}
+use Rattle.gptp_kept.proofs.PlaceLemmas.{station_from}
 use Rattle.gptp_kept.proofs.SeenDeliveryLemmas.{IsArrivalAt, emptied_apart, failed_drops, receiver_arrives, receiver_up}
 use Rattle.gptp_kept.proofs.SeenExpiryLemmas.{expires_at, expiry_timely}
 use Rattle.gptp_kept.proofs.SendLemmas.{world_apart}
@@ -218,3 +223,32 @@ module _ (p : Pace) (m start : ℕ) (w : WorldState) (sound : IsSound w) (legibl
   acts_tell (Expire number timer) draws done w' none (told, k) =
       inr (inr (expiries_tell k.place timer draws w' k.so))
   acts_tell (Changing change) draws done w' none k = absurd none
+
+-- ---- each state
+
+-- a system whose priority1 is below 255 may lead
+may_lead : (identity : ℕ) → can_lead identity ≡ true → MayLead identity
+may_lead identity can =
+    let low : identity / 2 ^ 104 < 255 = grind (arith, nat_tests) in omega arith
+
+pub timers_seen : (p : Pace) (m start : ℕ) (w : WorldState) → IsSound w → IsKnown p w
+    → HaveSyncTimers (network_of p m start w) (view w)
+timers_seen p m start w sound known i seen there live =
+    let at = station_from w.stations i seen there in
+    let lives = ap (λ (x : SeenStation). x.live) (sym at.is) ∙ live in
+    let s = at.station.system in
+    let late = (sound.on_time.stations i at.station at.here).timers lives in
+    let soon = known.in_time i at.station at.here lives in
+    let params = (known.set i at.station at.here).params in
+    subst (HasSyncTimers (network_of p m start w) w.time) (sym at.is)
+    (record {
+      sync = (
+        late timers.Sync s.sync refl,
+        subst (λ (x : Params). s.sync ≤ w.time + interval_of x.sync) params soon.sync,
+      );
+      relay = λ due runs. (
+        late timers.Relay due runs,
+        subst (λ (x : Params). due ≤ w.time + x.residence) params (soon.relay due runs),
+      );
+      lapse = λ due runs. may_lead s.root ((known.time i at.station at.here lives).lapses due runs);
+    })

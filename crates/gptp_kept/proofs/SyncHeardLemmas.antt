@@ -1,5 +1,5 @@
--- What a system makes of Syncs and Follow_Ups from the port that it follows.
-use Rattle.std.proofs.Common.{◌≡◌, ◌⊎◌, ◌<◌, ℕ, Bool, true, false, List, Option, Some, None, refl, sym, ap, subst, ◌∙◌, inl, inr, arith}
+-- What a system makes of Syncs and Follow_Ups at the port that it follows.
+use Rattle.std.proofs.Common.{◌≡◌, ◌<◌, ℕ, Bool, true, false, List, Option, Some, None, refl, sym, ap, subst, ◌∙◌, inl, inr, arith}
 use Rattle.std.specs.Prelude.{◌==◌, ◌&&◌}
 use Rattle.std.specs.Option.{option_map, option_map_or}
 use Rattle.std.proofs.lemmas.Bool.Decides.{nat_tests}
@@ -18,8 +18,7 @@ use Rattle.gptp_correction.specs.SyncIn.{KeptSync, belongs, together}
 use Rattle.gptp_setup.specs.Pace.{has_sync_timeout}
 use Rattle.gptp_system.specs.declared.answer.Answer.{Answer}
 use Rattle.gptp_system.specs.declared.sending.Sending.{Sending}
-use Rattle.gptp_system.specs.Input.{Input, Steps, Frame as FrameHeard}
-use Rattle.gptp_system.specs.Selection.{kept_if}
+use Rattle.gptp_system.specs.Input.{Steps, Frame as FrameHeard}
 use Rattle.gptp_system.specs.State.{SystemState, held_at, is_capable_at}
 use Rattle.gptp_system.specs.Steps.{HearsFrame, HearsMessage}
 use Rattle.gptp_system.specs.Syncing.{HearsFollowUpIf, HearsSyncIf, KeepsIf, KnowsBy, KnowsIf, came_from, delay_at, is_followed, is_port, is_slave_at, rate_at, said_on}
@@ -27,7 +26,7 @@ use Rattle.gptp_settling.specs.Frame.{FollowUp, Sync, SyncId}
 use Rattle.gptp_kept.specs.SyncView.{IsHeard, TakesTime}
 use Rattle.gptp_kept.specs.View.{identity_of, kept_view, says_sync, sync_id}
 use Rattle.gptp_kept.proofs.SendLemmas.{same_identity}
-use Rattle.gptp_kept.proofs.TimeStepLemmas.{KeepsSync, TimeStep, can_lapse, time_steps}
+use Rattle.gptp_kept.proofs.TimeStepLemmas.{can_lapse}
 
 -- the Sync that is kept, as it is seen
 abbrev pub id_of : KeptSync → SyncId
@@ -162,39 +161,3 @@ follow_ups_are_used p octets now s s' sends answer source id k on takes keeps (m
         used (has_sync_timeout s.params) said.0 has
         (subst (λ o. KnowsIf o (delay_at s p) (rate_at s p) now s s' sends answer) said.1 h)
     capable false same h = absurd cc
-
--- ---- what is kept stays
-
-pub kept_syncs_stay : (input : Input) (now : ℕ) (s s' : SystemState) (sends : List Sending) (answer : Answer) (p : ℕ)
-    (id : SyncId) → Steps input now s s' sends answer → 0 < s.params.sync_timeout → TakesTime s p id.source
-    → kept_view s ≡ Some id → s'.root ≡ s.root → s'.slave ≡ s.slave
-    → (kept_view s' ≡ Some id)
-    ⊎ ((octets : List ℕ) × (n : ℕ) × (input ≡ FrameHeard p octets) × says_sync octets (Sync (record { source = id.source; sequence = n })))
-kept_syncs_stay input now s s' sends answer p id k on takes keeps root slave =
-    by (time_steps input now s s' sends answer k)
-  where
-    has : has_sync_timeout s.params ≡ true
-    has = can_lapse s.params on
-
-    stays : s'.sync_in ≡ s.sync_in → kept_view s' ≡ Some id
-    stays same = ap (option_map id_of) same ∙ keeps
-
-    comes : KeepsSync input s s'
-        → (octets : List ℕ) × (n : ℕ) × (input ≡ FrameHeard p octets) × says_sync octets (Sync (record { source = id.source; sequence = n }))
-    comes c =
-        let (port, two_step, from) = followed_here s p id.source takes c.port c.head c.followed in (
-          c.octets,
-          c.head.sequence,
-          c.heard ∙ ap (λ n. FrameHeard n c.octets) port,
-          (c.head, c.reads, two_step, λ i. record { source = sym from i; sequence = c.head.sequence }),
-        )
-
-    by : TimeStep input s s'
-        → (kept_view s' ≡ Some id)
-        ⊎ ((octets : List ℕ) × (n : ℕ) × (input ≡ FrameHeard p octets) × says_sync octets (Sync (record { source = id.source; sequence = n })))
-    by (inl still) =
-        let same = still.still root slave in
-        inl (stays (still.sync_in ∙ ap (λ b. kept_if b s.sync_in) same))
-    by (inr (inl c)) = inr (comes c)
-    by (inr (inr (inl learned))) = inl (stays (learned.sync_in has))
-    by (inr (inr (inr stopped))) = inl (stays stopped.sync_in)

@@ -27,13 +27,10 @@ use Rattle.gptp_kept.proofs.PlaceLemmas.{port_from}
 use Rattle.gptp_kept.proofs.PortLemmas.{mine_back}
 use Rattle.gptp_kept.proofs.SeenLaneLemmas.{IsLaneAt, lane_from, lane_there}
 use Rattle.gptp_kept.proofs.SendLemmas.{same_identity}
-use Rattle.gptp_kept.proofs.SentLemmas.{octets_of}
+use Rattle.gptp_kept.proofs.SentLemmas.{octets_of, same_first}
 use Rattle.gptp_kept.proofs.TakeUpLemmas.{BeginApart}
 
 -- ---- frames
-
-same_first : {X : Type 0} (a b : X) (xs ys : List X) → a ∷ xs ≡ b ∷ ys → (a ≡ b) × (xs ≡ ys)
-same_first a b xs ys e = (cc, cc)
 
 -- frames of which the octets are a pair are one
 pair_seen : (source : PortIdentity) (news : List Frame) → ArePaired source (octets_of news)

@@ -14,6 +14,7 @@ use Rattle.gptp_system.specs.Start.{started}
 use Rattle.gptp_system.specs.State.{SystemState, own}
 use Rattle.gptp_system.specs.Syncing.{leads}
 use Rattle.gptp_settling.specs.SyncActs.{SyncActs}
+use Rattle.gptp_settling.specs.Syncs.{HaveSyncTimers}
 use Rattle.gptp_links.specs.Fate.{Draw}
 use Rattle.gptp_setup.specs.Pace.{Pace}
 use Rattle.gptp_plan.specs.declared.change.Act.{Act}
@@ -22,11 +23,11 @@ use Rattle.gptp_acts.specs.Acts.{Acts}
 use Rattle.gptp_acts.specs.Sound.{IsSound}
 use Rattle.gptp_acts.specs.World.{WorldState}
 use Rattle.gptp_kept.specs.Calm.{network_of}
-use Rattle.gptp_kept.specs.Known.{AreSet}
+use Rattle.gptp_kept.specs.Known.{IsKnown}
 use Rattle.gptp_kept.specs.Legible.{IsLegible}
 use Rattle.gptp_kept.specs.Said.{said_at}
 use Rattle.gptp_kept.specs.SeenLaws.{IsNoChange}
-use Rattle.gptp_kept.specs.SyncView.{ArePaired, AreTimeless, IsHeard, KnowTime, KnowsTime, TakesTime}
+use Rattle.gptp_kept.specs.SyncView.{ArePaired, AreTimeless, IsHeard, KnowsTime, TakesTime}
 use Rattle.gptp_kept.specs.View.{identity_of, kept_view, says, says_sync, view}
 
 -- at each port a step sends a Sync and its Follow_Up, or nothing of time
@@ -80,15 +81,6 @@ FollowUpsAreUsed = (p : ℕ) (octets : List ℕ) (now : ℕ) (s s' : SystemState
     → kept_view s ≡ Some id → says_sync octets (FollowUp id)
     → IsHeard now s s'
 
--- A Sync that is kept stays so while the same root is followed by the same port, until the next one comes from there.
-abbrev pub KeptSyncsStay : Type 0
-KeptSyncsStay = (input : Input) (now : ℕ) (s s' : SystemState) (sends : List Sending) (answer : Answer) (p : ℕ)
-    (id : SyncId)
-    → Steps input now s s' sends answer → 0 < s.params.sync_timeout → TakesTime s p id.source → kept_view s ≡ Some id
-    → s'.root ≡ s.root → s'.slave ≡ s.slave
-    → (kept_view s' ≡ Some id)
-    ⊎ ((octets : List ℕ) × (n : ℕ) × (input ≡ FrameHeard p octets) × says_sync octets (Sync (record { source = id.source; sequence = n })))
-
 -- ---- every act
 
 -- Every act that changes nothing of the network is a step of the machine by which Syncs are told and heard, where
@@ -96,6 +88,12 @@ KeptSyncsStay = (input : Input) (now : ℕ) (s s' : SystemState) (sends : List S
 abbrev pub ActsTellSyncs : Type 0
 ActsTellSyncs = (p : Pace) (m start : ℕ) (act : Act) (w : WorldState) (draws : List Draw) (done : Done)
     (w' : WorldState)
-    → IsNoChange act → IsSound w → IsLegible w → AreSet p w → KnowTime w → 0 < p.params.sync_timeout
+    → IsNoChange act → IsSound w → IsLegible w → IsKnown p w → 0 < p.params.sync_timeout
     → Acts act w draws done w'
     → SyncActs says says_sync (network_of p m start w) (view w) (view w')
+
+-- the timers of time of a sound and known world are those of the machine
+abbrev pub TimersAreSeen : Type 0
+TimersAreSeen = (p : Pace) (m start : ℕ) (w : WorldState)
+    → IsSound w → IsKnown p w
+    → HaveSyncTimers (network_of p m start w) (view w)

@@ -6,7 +6,7 @@ use Rattle.gptp_graph.specs.Snapshot.{PortIdentity}
 use Rattle.gptp_correction.specs.declared.sync_in.SyncInfo.{SyncInfo}
 use Rattle.gptp_receipt.specs.declared.held.Reception.{Reception}
 use Rattle.gptp_receipt.specs.Held.{received}
-use Rattle.gptp_system.specs.State.{SystemState, held_at, is_capable_at, lapse_of}
+use Rattle.gptp_system.specs.State.{SystemState, can_lead, held_at, is_capable_at, lapse_of}
 use Rattle.gptp_acts.specs.declared.station.Station.{Station}
 use Rattle.gptp_acts.specs.World.{WorldState}
 use Rattle.gptp_settling.specs.Frame.{FollowUp, Sync, SyncMessage}
@@ -43,9 +43,11 @@ pub record IsHeard (now : ℕ) (s s' : SystemState) : Type 0 where
   pub lapse : s'.lapse ≡ lapse_of s.params s.root s.slave now
 
 -- The time that a system knows has a timestamp. Where something can lapse it knows a time while its Relay timer runs.
+-- Its Lapse timer runs only where its root may be grandmaster.
 pub record KnowsTime (s : SystemState) : Type 0 where
   pub stamped : (info : SyncInfo) → s.known ≡ Some info → info.origin.nanos < 1000000000
   pub relays : (due : ℕ) → 0 < s.params.sync_timeout → s.relay ≡ Some due → IsSome s.known
+  pub lapses : (due : ℕ) → s.lapse ≡ Some due → can_lead s.root ≡ true
 
 -- so it is with each live system
 abbrev pub KnowTime : WorldState → Type 0

@@ -1,4 +1,4 @@
-use Rattle.gptp_kept.proofs.SyncHeardLemmas.{follow_ups_are_used, kept_syncs_stay, syncs_are_kept}
+use Rattle.gptp_kept.proofs.SyncHeardLemmas.{follow_ups_are_used, syncs_are_kept}
 use Rattle.gptp_kept.proofs.syncs.syncs_are_heard.Goals as goal
 
 pub returns-clause-kept : goal.returns-clause-kept
@@ -6,6 +6,3 @@ returns-clause-kept c = syncs_are_kept
 
 pub returns-clause-used : goal.returns-clause-used
 returns-clause-used c = follow_ups_are_used
-
-pub returns-clause-stay : goal.returns-clause-stay
-returns-clause-stay c = kept_syncs_stay
