@@ -1,5 +1,5 @@
 -- The claim begins by itself, and is kept.
-use Rattle.std.proofs.Common.{◌≡◌, ◌<◌, ◌≤◌, ◌+◌, ℕ, List, Option, length, refl, sym, ap, subst, ◌∙◌, inl, inr, arith}
+use Rattle.std.proofs.Common.{◌≡◌, ◌<◌, ◌≤◌, ◌+◌, ◌*◌, ℕ, List, Option, length, refl, sym, ap, subst, ◌∙◌, inl, inr, arith}
 use Rattle.std.specs.List.{range_with_len}
 use Rattle.gptp_graph.specs.PathBound.{BoundsPaths}
 use Rattle.gptp_graph.proofs.PathLemmas.{path_bounded}
@@ -58,7 +58,7 @@ pub is_calm : (p : Pace) (m : ℕ) (w : WorldState) → IsWorld p w → IsQuietW
     → Calm (settling_network p m w) (view w)
 is_calm p m w is quiet capable =
     let passed : w.last_change + largest_interval p ≤ start_of p w = omega arith in
-    calm p m (start_of p w) w is.sound is.legible is.known quiet passed (capable quiet)
+    calm p m (start_of p w) 0 (2 * largest_interval p) w is.sound is.legible is.known quiet.links passed (capable quiet)
 
 -- before the start nothing is claimed
 pub begins : (p : Pace) (w : WorldState) → IsWorld p w → w.time < start_of p w → Holds p w
