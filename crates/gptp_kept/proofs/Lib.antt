@@ -59,6 +59,7 @@ pub mod SyncHeardLemmas
 pub mod SyncLaneLemmas
 pub mod SyncCallLemmas
 pub mod SyncActLemmas
+pub mod SyncHoldsLemmas
 pub mod LinkLaneLemmas
 pub mod SentLemmas
 pub mod PartLemmas

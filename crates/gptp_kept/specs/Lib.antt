@@ -13,13 +13,14 @@ pub mod StandingLaws
 pub mod Calm
 pub mod CalmLaws
 pub mod Holds
+pub mod SyncHolds
+pub mod SyncLaws
 pub mod Settled
 pub mod SettledLaws
 pub mod LinkView
 pub mod LinkActs
 pub mod Said
 pub mod SyncView
-pub mod SyncLaws
 pub mod Measured
 pub mod Short
 pub mod Watched

@@ -1,5 +1,5 @@
 -- Laws on what systems tell of time.
-use Rattle.std.specs.Prelude.{◌≡◌, ◌⊎◌, ◌<◌, ℕ, suc, true, List, Some, slice_get}
+use Rattle.std.specs.Prelude.{◌≡◌, ◌⊎◌, ◌<◌, ◌≤◌, ℕ, suc, true, List, Some, slice_get}
 use Rattle.gptp_graph.specs.Snapshot.{PortIdentity}
 use Rattle.gptp_settling.specs.Frame.{FollowUp, Sync, SyncId}
 use Rattle.gptp_messages.specs.Frame.{PortFits}
@@ -19,14 +19,15 @@ use Rattle.gptp_links.specs.Fate.{Draw}
 use Rattle.gptp_setup.specs.Pace.{Pace}
 use Rattle.gptp_plan.specs.declared.change.Act.{Act}
 use Rattle.gptp_acts.specs.declared.done.Done.{Done}
-use Rattle.gptp_acts.specs.Acts.{Acts}
+use Rattle.gptp_acts.specs.Acts.{Acts, at}
 use Rattle.gptp_acts.specs.Sound.{IsSound}
 use Rattle.gptp_acts.specs.World.{WorldState}
-use Rattle.gptp_kept.specs.Calm.{network_of}
+use Rattle.gptp_kept.specs.Calm.{network_with}
 use Rattle.gptp_kept.specs.Known.{IsKnown}
 use Rattle.gptp_kept.specs.Legible.{IsLegible}
 use Rattle.gptp_kept.specs.Said.{said_at}
 use Rattle.gptp_kept.specs.SeenLaws.{IsNoChange}
+use Rattle.gptp_kept.specs.SyncHolds.{HoldsTimed, IsCalmFrom, IsLongEnough}
 use Rattle.gptp_kept.specs.SyncView.{ArePaired, AreTimeless, IsHeard, KnowsTime, TakesTime}
 use Rattle.gptp_kept.specs.View.{identity_of, kept_view, says, says_sync, view}
 
@@ -86,14 +87,37 @@ FollowUpsAreUsed = (p : ℕ) (octets : List ℕ) (now : ℕ) (s s' : SystemState
 -- Every act that changes nothing of the network is a step of the machine by which Syncs are told and heard, where
 -- something can lapse in the network.
 abbrev pub ActsTellSyncs : Type 0
-ActsTellSyncs = (p : Pace) (m start : ℕ) (act : Act) (w : WorldState) (draws : List Draw) (done : Done)
+ActsTellSyncs = (p : Pace) (m start wait step : ℕ) (act : Act) (w : WorldState) (draws : List Draw) (done : Done)
     (w' : WorldState)
     → IsNoChange act → IsSound w → IsLegible w → IsKnown p w → 0 < p.params.sync_timeout
     → Acts act w draws done w'
-    → SyncActs says says_sync (network_of p m start w) (view w) (view w')
+    → SyncActs says says_sync (network_with p m start wait step w) (view w) (view w')
 
 -- the timers of time of a sound and known world are those of the machine
 abbrev pub TimersAreSeen : Type 0
-TimersAreSeen = (p : Pace) (m start : ℕ) (w : WorldState)
+TimersAreSeen = (p : Pace) (m start wait step : ℕ) (w : WorldState)
     → IsSound w → IsKnown p w
-    → HaveSyncTimers (network_of p m start w) (view w)
+    → HaveSyncTimers (network_with p m start wait step w) (view w)
+
+-- ---- the claim
+
+-- between two changes the claim begins by itself
+abbrev pub TimedBegins : Type 0
+TimedBegins = (p : Pace) (m start wait step : ℕ) (w : WorldState)
+    → IsCalmFrom p m start w → w.time < start
+    → HoldsTimed p m start wait step w
+
+-- every act that changes nothing of the network keeps it, where something can lapse and the waits are long enough
+abbrev pub ActsKeepTimed : Type 0
+ActsKeepTimed = (p : Pace) (m start wait step : ℕ) (act : Act) (w : WorldState) (draws : List Draw) (done : Done)
+    (w' : WorldState)
+    → IsNoChange act → 0 < p.params.sync_timeout → IsLongEnough p m wait step w
+    → IsCalmFrom p m start w → IsCalmFrom p m start w' → Acts act w draws done w' → HoldsTimed p m start wait step w
+    → HoldsTimed p m start wait step w'
+
+-- and so does time that passes
+abbrev pub TimeKeepsTimed : Type 0
+TimeKeepsTimed = (p : Pace) (m start wait step : ℕ) (w : WorldState) (time : ℕ)
+    → w.time ≤ time → IsLongEnough p m wait step w
+    → IsCalmFrom p m start w → IsCalmFrom p m start (at time w) → HoldsTimed p m start wait step w
+    → HoldsTimed p m start wait step (at time w)

@@ -1,6 +1,7 @@
 //! Laws on the Syncs and Follow_Ups that systems send and hear.
 
 ghost use Rattle.gptp_kept.specs.SyncLaws.{ActsTellSyncs, FollowUpsAreUsed, SyncsAreKept, TimersAreSeen};
+ghost use Rattle.gptp_kept.specs.SyncLaws.{ActsKeepTimed, TimeKeepsTimed, TimedBegins};
 ghost use Rattle.gptp_kept.specs.SyncLaws.{KnowsAtStart, KnowsOn, LeadersTell, RelaysTell, TellsInPairs};
 
 /// What a step sends at one port tells no time, or is a Sync and, directly behind it, the Follow_Up of the same
@@ -34,4 +35,14 @@ pub fn syncs_are_heard()
 pub fn acts_tell_syncs()
     ensures acts { ActsTellSyncs }
     ensures timers { TimersAreSeen }
+{}
+
+/// Between two changes of a network that has a syncReceiptTimeout the claim on its world begins before the start, and
+/// every act and time that passes keep it: the invariant of the machine, and that Syncs are expected in time. It takes
+/// quiet links, ports that are capable from the start on, a wait for Syncs that is long enough and below the timeout,
+/// and a step of distance in which both that and the Announces of one interval come.
+pub fn timed_claim_is_kept()
+    ensures begins { TimedBegins }
+    ensures acts { ActsKeepTimed }
+    ensures time { TimeKeepsTimed }
 {}
