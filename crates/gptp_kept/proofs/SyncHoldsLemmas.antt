@@ -1,7 +1,7 @@
 -- The claim on worlds in whose networks something can lapse begins by itself, and every act keeps it.
-use Rattle.std.proofs.Common.{◌≡◌, ◌<◌, ◌≤◌, ℕ, List, refl, sym, subst, inl, inr}
+use Rattle.std.proofs.Common.{◌≡◌, ◌<◌, ◌≤◌, ◌+◌, ◌*◌, ℕ, List, refl, sym, subst, inl, inr}
 use Rattle.gptp_links.specs.Fate.{Draw}
-use Rattle.gptp_setup.specs.Pace.{Pace}
+use Rattle.gptp_setup.specs.Pace.{Pace, largest_interval}
 use Rattle.gptp_plan.specs.declared.change.Act.{Act}
 use Rattle.gptp_acts.specs.declared.done.Done.{Done}
 use Rattle.gptp_acts.specs.Acts.{Acts, at}
@@ -19,11 +19,13 @@ use Rattle.gptp_settling.proofs.SyncLemmas.{expected_begins, nothing_lapses}
 use Rattle.gptp_settling.proofs.SyncRunLemmas.{prompt}
 use Rattle.gptp_kept.specs.Calm.{network_with}
 use Rattle.gptp_kept.specs.SeenLaws.{IsNoChange}
+use Rattle.gptp_kept.specs.Settled.{Settled}
 use Rattle.gptp_kept.specs.SyncHolds.{HoldsTimed, IsCalmFrom, IsLongEnough}
 use Rattle.gptp_kept.specs.View.{says, says_sync, view}
 use Rattle.gptp_kept.proofs.CalmKeptLemmas.{acts_keep, same_network_with}
 use Rattle.gptp_kept.proofs.CalmLemmas.{calm, network_so}
 use Rattle.gptp_kept.proofs.SeenActLemmas.{acts_seen}
+use Rattle.gptp_kept.proofs.SettledLemmas.{settles_so}
 use Rattle.gptp_kept.proofs.SyncActLemmas.{acts_tell, timers_seen}
 
 module _ (p : Pace) (m start wait step : ℕ) where
@@ -40,14 +42,23 @@ module _ (p : Pace) (m start wait step : ℕ) where
     expected = expected_begins says_sync (n w) (view w) early;
   }
 
+  network : (w : WorldState) → IsLongEnough p m wait step w → IsCalmFrom p m start w → IsNetwork (n w)
+  network w long is =
+      network_so p m start wait step w is.world.sound is.world.between is.world.legible is.world.known is.bounded
+      long.steps
+
+  pub timed_settles : (w : WorldState) → IsLongEnough p m wait step w → IsCalmFrom p m start w
+      → HoldsTimed p m start wait step w
+      → start + m * ((p.params.timeout + 1) * largest_interval p) + m * step ≤ w.time → Settled w
+  timed_settles w long is holds late =
+      settles_so p m start wait step w is.world (network w long is) (calm_state w is) holds.invariant late
+
   -- a step of the machine keeps it, where the network stays
   module _ (w w' : WorldState) (long : IsLongEnough p m wait step w) (is : IsCalmFrom p m start w)
       (is' : IsCalmFrom p m start w') (same : n w' ≡ n w) (seen : Steps says (view w) (view w'))
       (told : SyncSteps says says_sync (n w) (view w) (view w')) where
     net : IsNetwork (n w)
-    net =
-        network_so p m start wait step w is.world.sound is.world.between is.world.legible is.world.known is.bounded
-        long.steps
+    net = network w long is
 
     timely : IsPrompt (n w)
     timely = prompt (n w) long.waits long.short

@@ -13,9 +13,9 @@ pub mod StandingLaws
 pub mod Calm
 pub mod CalmLaws
 pub mod Holds
+pub mod Settled
 pub mod SyncHolds
 pub mod SyncLaws
-pub mod Settled
 pub mod SettledLaws
 pub mod LinkView
 pub mod LinkActs

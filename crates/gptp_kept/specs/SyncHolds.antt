@@ -5,7 +5,6 @@ use Rattle.gptp_setup.specs.Intervals.{interval_of}
 use Rattle.gptp_setup.specs.Pace.{Pace, lapse_span, largest_interval}
 use Rattle.gptp_acts.specs.World.{WorldState}
 use Rattle.gptp_settling.specs.Levels.{Invariant}
-use Rattle.gptp_settling.specs.Network.{Network}
 use Rattle.gptp_settling.specs.Syncs.{SyncsAreExpected}
 use Rattle.gptp_kept.specs.Calm.{AreCapableFrom, HaveQuietLinks, greatest_delay, network_with}
 use Rattle.gptp_kept.specs.Holds.{IsWorld}

@@ -1,7 +1,8 @@
-//! Laws on the Syncs and Follow_Ups that systems send and hear.
+//! Laws on the Syncs and Follow_Ups that systems send and hear, and on networks in which something can lapse for want of
+//! them.
 
 ghost use Rattle.gptp_kept.specs.SyncLaws.{ActsTellSyncs, FollowUpsAreUsed, SyncsAreKept, TimersAreSeen};
-ghost use Rattle.gptp_kept.specs.SyncLaws.{ActsKeepTimed, TimeKeepsTimed, TimedBegins};
+ghost use Rattle.gptp_kept.specs.SyncLaws.{ActsKeepTimed, TimeKeepsTimed, TimedBegins, TimedSettles};
 ghost use Rattle.gptp_kept.specs.SyncLaws.{KnowsAtStart, KnowsOn, LeadersTell, RelaysTell, TellsInPairs};
 
 /// What a step sends at one port tells no time, or is a Sync and, directly behind it, the Follow_Up of the same
@@ -45,4 +46,10 @@ pub fn timed_claim_is_kept()
     ensures begins { TimedBegins }
     ensures acts { ActsKeepTimed }
     ensures time { TimeKeepsTimed }
+{}
+
+/// With that claim a world settles: once `k + 1` of the largest announce intervals and a step of distance for each of m
+/// systems have passed since the start, where no path has more than m systems and k is the receipt timeout.
+pub fn timed_worlds_settle()
+    ensures { TimedSettles }
 {}
