@@ -9,7 +9,7 @@ use Rattle.gptp_links.specs.declared.link.Direction.TheVariants.{FromA, FromB}
 use Rattle.gptp_links.specs.Fate.{Draw}
 use Rattle.gptp_system.specs.declared.answer.Answer.{Answer}
 use Rattle.gptp_setup.specs.declared.setup.Params.{Params}
-use Rattle.gptp_setup.specs.Pace.{Pace, largest_interval}
+use Rattle.gptp_setup.specs.Pace.{Pace, lapse_span, largest_interval}
 use Rattle.gptp_setup.specs.declared.setup.Setup.{Setup}
 use Rattle.gptp_setup.specs.declared.timer.Timer.{Timer}
 use Rattle.gptp_setup.specs.Intervals.{interval_of}
@@ -30,7 +30,7 @@ use Rattle.gptp_lists.proofs.PlaceLemmas.{map-set_same}
 use Rattle.gptp_acts.proofs.SteadyLemmas.{same_clock, same_ports}
 use Rattle.gptp_kept.specs.SeenLaws.{IsNoChange}
 use Rattle.gptp_kept.specs.View.{lane_place}
-use Rattle.gptp_kept.specs.Calm.{IsQuietLink, IsQuietWorld, greatest_delay, is_port, lane_of, log_at, log_of, network_of, place_of, setups_of}
+use Rattle.gptp_kept.specs.Calm.{HaveQuietLinks, IsQuietWorld, greatest_delay, is_port, lane_of, log_at, log_of, network_of, network_with, place_of, setups_of}
 use Rattle.gptp_kept.specs.Standing.{is_used, joined, live_systems, snapshot_of, standing, used_links}
 
 -- ---- systems
@@ -147,8 +147,9 @@ module _ (w w' : WorldState) (k : KeepsNetwork w w') where
   pub same_snapshot : snapshot_of w' ≡ snapshot_of w
   same_snapshot = λ i. record { systems = k.systems i; links = links_kept i }
 
-  pub same_network : (p : Pace) (m start : ℕ) → network_of p m start w' ≡ network_of p m start w
-  same_network p m start = λ i. record {
+  pub same_network_with : (p : Pace) (m start wait step : ℕ)
+      → network_with p m start wait step w' ≡ network_with p m start wait step w
+  same_network_with p m start wait step = λ i. record {
     graph = same_snapshot i;
     reach = m;
     place = λ number. k.places number i;
@@ -159,24 +160,30 @@ module _ (w w' : WorldState) (k : KeepsNetwork w w') where
     most = delay_kept i;
     timeout = p.params.timeout;
     start = start;
-    feed = 0;
-    step = 2 * largest_interval p;
+    syncs = record {
+      interval = interval_of p.params.sync;
+      residence = p.params.residence;
+      span = lapse_span p.params;
+    };
+    sync_wait = wait;
+    step = step;
   }
 
+  pub same_network : (p : Pace) (m start : ℕ) → network_of p m start w' ≡ network_of p m start w
+  same_network p m start = same_network_with p m start 0 (2 * largest_interval p)
+
   -- links that are quiet stay so
-  links_quiet : (p : Params) → IsQuietWorld p w → (link : ℕ) (channel : Channel)
-      → slice_get w'.net.channels link ≡ Some channel → is_used (live_systems w'.stations) channel ≡ true
-      → IsQuietLink p channel
+  pub links_quiet : (p : Params) → HaveQuietLinks p w → HaveQuietLinks p w'
   links_quiet p quiet link channel here used =
       let (old, stands, same) = alike bare bare w.net.channels w'.net.channels (sym k.links) link channel here in
       let uses : is_used (live_systems w.stations) old ≡ true =
       ap (is_used (live_systems w.stations)) same ∙ ap (λ s. is_used s channel) (sym k.systems) ∙ used in
-      let is = quiet.links link old stands uses in
+      let is = quiet link old stands uses in
       let bounds = ap (λ (c : Channel). c.bounds) same in
       record { lossless = rw⁻¹ bounds is.lossless; good = rw⁻¹ bounds is.good }
 
   pub stays_quiet : (p : Params) → IsQuietWorld p w → IsQuietWorld p w'
-  stays_quiet p quiet = record { links = links_quiet p quiet; lapses = quiet.lapses }
+  stays_quiet p quiet = record { links = links_quiet p quiet.links; lapses = quiet.lapses }
 
 -- time that passes leaves a quiet world quiet
 pub later_quiet : (p : Params) (w : WorldState) (time : ℕ) → IsQuietWorld p w → IsQuietWorld p (at time w)

@@ -1,6 +1,5 @@
 -- A calm world is seen as a calm state of the machine.
-use Rattle.std.proofs.Common.{◌≡◌, ◌≤◌, ◌<◌, ◌+◌, ℕ, suc, ℤ, true, Some, slice_get, refl, sym, ap, subst, ◌∙◌, arith}
-use Rattle.std.proofs.lemmas.Option.{none-some}
+use Rattle.std.proofs.Common.{◌≡◌, ◌≤◌, ◌<◌, ◌+◌, ◌*◌, ℕ, suc, ℤ, true, Some, slice_get, refl, sym, ap, subst, ◌∙◌, arith}
 use Rattle.gptp_lists.specs.Members.{In}
 use Rattle.gptp_graph.specs.Snapshot.{Joins, PortIdentity, System, port_of}
 use Rattle.gptp_graph.specs.PathBound.{BoundsPaths}
@@ -16,8 +15,10 @@ use Rattle.gptp_acts.specs.Sound.{IsSound}
 use Rattle.gptp_acts.specs.World.{Channel, WorldState, receiver, sender}
 use Rattle.gptp_settling.specs.Calm.{Calm, HasLane, HasStation, IsCalmPort, IsCalmStation}
 use Rattle.gptp_settling.specs.Frame.{Frame as SeenFrame, Lane}
+use Rattle.gptp_settling.specs.Lapsing.{NothingLapses}
 use Rattle.gptp_settling.specs.Network.{IsNetwork, Network}
 use Rattle.gptp_settling.specs.Station.{Reception as SeenReception, Received, Station as SeenStation}
+use Rattle.gptp_settling.proofs.SyncLemmas.{none_lapses}
 use Rattle.gptp_kept.specs.Known.{IsKnown, IsSetTo}
 use Rattle.gptp_kept.proofs.DueLemmas.{frames_fresh, frames_not_late, ports_known}
 use Rattle.gptp_kept.specs.Legible.{IsLegible}
@@ -26,7 +27,7 @@ use Rattle.gptp_kept.proofs.SeenLaneLemmas.{lane_from, lane_there}
 use Rattle.gptp_kept.proofs.MidLemmas.{seen_on}
 use Rattle.gptp_kept.proofs.PlaceLemmas.{port_from, station_from, station_there}
 use Rattle.gptp_kept.proofs.ReactLemmas.{received_back}
-use Rattle.gptp_kept.specs.Calm.{AreCapableFrom, IsQuietWorld, lane_of, log_of, network_of, place_of}
+use Rattle.gptp_kept.specs.Calm.{AreCapableFrom, HaveQuietLinks, IsQuietWorld, greatest_delay, lane_of, log_of, network_of, network_with, place_of}
 use Rattle.gptp_kept.specs.Standing.{AreBetween, live_systems, snapshot_of}
 use Rattle.gptp_kept.proofs.CalmAtRestLemmas.{rest_seen}
 use Rattle.gptp_kept.proofs.DelayLemmas.{delay_of_used, delay_short, receipts_stay}
@@ -41,16 +42,24 @@ use Rattle.gptp_kept.proofs.WayLemmas.{IsWay, one_way, way_of}
 
 -- ---- the network
 
-pub network : (p : Pace) (m start : ℕ) (w : WorldState) → IsSound w → AreBetween w → IsLegible w → IsKnown p w
-    → BoundsPaths (snapshot_of w) m → IsNetwork (network_of p m start w)
-network p m start w sound between legible known bounded = record {
+-- a step of distance takes long enough for the wait for a Sync, the largest announce interval and the greatest delay
+pub network_so : (p : Pace) (m start wait step : ℕ) (w : WorldState) → IsSound w → AreBetween w → IsLegible w
+    → IsKnown p w → BoundsPaths (snapshot_of w) m
+    → wait + largest_interval p + greatest_delay (live_systems w.stations) w.net.channels ≤ step
+    → IsNetwork (network_with p m start wait step w)
+network_so p m start wait step w sound between legible known bounded long = record {
   graph = stands_well w sound between legible;
   paths = bounded;
   round = λ port linked.
-      let short = delay_short p w known in
       let log = log_shorter p w known.set (log_of w.stations port) (linked_log p w sound known.set port linked) in
       omega arith;
 }
+
+pub network : (p : Pace) (m start : ℕ) (w : WorldState) → IsSound w → AreBetween w → IsLegible w → IsKnown p w
+    → BoundsPaths (snapshot_of w) m → IsNetwork (network_of p m start w)
+network p m start w sound between legible known bounded =
+    let short = delay_short p w known in
+    network_so p m start 0 (2 * largest_interval p) w sound between legible known bounded (omega arith)
 
 -- ---- directions
 
@@ -72,11 +81,11 @@ same_direction FromB FromA same = sym same
 
 -- ---- the state
 
-module _ (p : Pace) (m start : ℕ) (w : WorldState) (sound : IsSound w) (legible : IsLegible w)
-    (known : IsKnown p w) (quiet : IsQuietWorld p.params w) (old : w.last_change + largest_interval p ≤ start)
+module _ (p : Pace) (m start wait step : ℕ) (w : WorldState) (sound : IsSound w) (legible : IsLegible w)
+    (known : IsKnown p w) (quiet : HaveQuietLinks p.params w) (old : w.last_change + largest_interval p ≤ start)
     (capable : AreCapableFrom start w) where
   abbrev n : Network
-  n = network_of p m start w
+  n = network_with p m start wait step w
 
   -- ---- systems
 
@@ -136,8 +145,6 @@ module _ (p : Pace) (m start : ℕ) (w : WorldState) (sound : IsSound w) (legibl
       let steady = (sound.on_time.stations place station here).steady in
       record {
         at_rest = rest_seen station.live s steady.shown steady.held steady.rest;
-        fed = λ d due near follows since lapses.
-            absurd (none-some due (sym ((known.set place station here).lapses quiet.lapses) ∙ lapses));
         ports = λ i seen there.
             let at = port_from (span_at s) s.held s.ports i seen there in
             subst (IsCalmPort n w.time (port_of (clock s) (suc i))) (sym at.is)
@@ -173,7 +180,7 @@ module _ (p : Pace) (m start : ℕ) (w : WorldState) (sound : IsSound w) (legibl
             (lane_there w.net.channels way.link way.direction way.channel way.here);
         from = way.from;
         to = way.to;
-        loss = (quiet.links way.link way.channel way.here way.used).lossless;
+        loss = (quiet way.link way.channel way.here way.used).lossless;
         is_up = used_up (live_systems w.stations) way.channel way.used;
       }
 
@@ -235,3 +242,11 @@ module _ (p : Pace) (m start : ℕ) (w : WorldState) (sound : IsSound w) (legibl
     left = not_late;
     due = due_soon;
   }
+
+-- no Lapse timer runs in a quiet world
+pub nothing_lapses : (p : Pace) (n : Network) (w : WorldState) → IsKnown p w → IsQuietWorld p.params w
+    → NothingLapses n (view w)
+nothing_lapses p n w known quiet =
+    none_lapses n (view w) (λ i seen there live.
+    let at = station_from w.stations i seen there in
+    ap (λ (x : SeenStation). x.lapse) at.is ∙ (known.set i at.station at.here).lapses quiet.lapses)

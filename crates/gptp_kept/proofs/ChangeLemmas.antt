@@ -37,6 +37,7 @@ use Rattle.gptp_acts.proofs.SteadyLemmas.{started_steady}
 use Rattle.gptp_acts.proofs.UpLemmas.{brought_ports}
 use Rattle.gptp_acts.specs.Prompt.{HasPace}
 use Rattle.gptp_kept.specs.Known.{IsSetTo}
+use Rattle.gptp_kept.proofs.TimeStepLemmas.{knows_at_start}
 use Rattle.gptp_kept.proofs.KnownKeptLemmas.{IsKept, IsKeptStation, calls_kept, fresh_limit, near_limit, net_kept, station_kept}
 use Rattle.gptp_kept.proofs.LimitLemmas.{IsLimited, keep_all, lost_keep, sends_one_keep, up_keep}
 use Rattle.gptp_kept.proofs.MeasuringLemmas.{started_measure}
@@ -151,6 +152,7 @@ starts_kept p So place w draws w' kept k =
               old.set.intervals;
           logs = old.logs;
           in_time = λ live. starts_in_time k.station.setup w.time;
+          time = λ live. knows_at_start k.station.setup w.time;
           measuring = λ live. started_measure p.params k.station.setup w.time old.set.starts.params;
         }) kept)
 
@@ -186,6 +188,7 @@ same_system p So now old new is system starts intervals same live = record {
   logs = rw same is.logs;
   in_time = λ now_live. rw system (is.in_time (live now_live));
   measuring = λ now_live. rw system (is.measuring (live now_live));
+  time = λ now_live. rw system (is.time (live now_live));
 }
 
 fails_kept : (p : Pace) (So : ℤ → Type 0) (live : Bool) (place : ℕ) (station : Station) (w : WorldState)

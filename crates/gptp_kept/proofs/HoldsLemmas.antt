@@ -1,5 +1,5 @@
 -- The claim begins by itself, and is kept.
-use Rattle.std.proofs.Common.{◌≡◌, ◌<◌, ◌≤◌, ◌+◌, ℕ, List, Option, length, refl, sym, ap, subst, ◌∙◌, inl, inr, arith}
+use Rattle.std.proofs.Common.{◌≡◌, ◌<◌, ◌≤◌, ◌+◌, ◌*◌, ℕ, List, Option, length, refl, sym, ap, subst, ◌∙◌, inl, inr, arith}
 use Rattle.std.specs.List.{range_with_len}
 use Rattle.gptp_graph.specs.PathBound.{BoundsPaths}
 use Rattle.gptp_graph.proofs.PathLemmas.{path_bounded}
@@ -32,7 +32,7 @@ use Rattle.gptp_kept.specs.SeenLaws.{IsNoChange}
 use Rattle.gptp_kept.specs.View.{says, view}
 use Rattle.gptp_kept.proofs.SeenActLemmas.{acts_seen}
 use Rattle.gptp_kept.specs.Calm.{IsQuietWorld, network_of}
-use Rattle.gptp_kept.proofs.CalmLemmas.{calm, network}
+use Rattle.gptp_kept.proofs.CalmLemmas.{calm, network, nothing_lapses}
 use Rattle.gptp_kept.proofs.CalmKeptLemmas.{KeepsNetwork, acts_keep, earlier_quiet, same_network, stays_quiet}
 use Rattle.gptp_kept.specs.Standing.{snapshot_of}
 use Rattle.gptp_kept.proofs.StandsLemmas.{stands_well}
@@ -58,7 +58,7 @@ pub is_calm : (p : Pace) (m : ℕ) (w : WorldState) → IsWorld p w → IsQuietW
     → Calm (settling_network p m w) (view w)
 is_calm p m w is quiet capable =
     let passed : w.last_change + largest_interval p ≤ start_of p w = omega arith in
-    calm p m (start_of p w) w is.sound is.legible is.known quiet passed (capable quiet)
+    calm p m (start_of p w) 0 (2 * largest_interval p) w is.sound is.legible is.known quiet.links passed (capable quiet)
 
 -- before the start nothing is claimed
 pub begins : (p : Pace) (w : WorldState) → IsWorld p w → w.time < start_of p w → Holds p w
@@ -94,7 +94,8 @@ step_keeps p w w' is is' capable capable' same back step holds m bounded quiet =
     let before = is_calm p m w is (back quiet) capable in
     let after = subst (λ n. Calm n (view w')) (same m) (is_calm p m w' is' quiet capable') in
     subst (λ n. Invariant says n (view w')) (sym (same m))
-    (invariant_kept says (settling_network p m w) (is_network p m w is bounds) (view w) (view w') before after step
+    (invariant_kept says (settling_network p m w) (is_network p m w is bounds) (view w) (view w') before after
+    (nothing_lapses p (settling_network p m w) w is.known (back quiet)) step
     (holds m bounds (back quiet)))
 
 -- what keeps a network is kept by the way back

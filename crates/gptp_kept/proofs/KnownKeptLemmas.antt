@@ -30,13 +30,16 @@ use Rattle.gptp_kept.specs.Known.{IsKnown, IsLogAmong, IsSetTo}
 use Rattle.gptp_kept.specs.Linked.{MeasureLinks}
 use Rattle.gptp_kept.specs.Measuring.{PortsMeasure}
 use Rattle.gptp_kept.specs.Short.{IsShort}
+use Rattle.gptp_kept.specs.SyncView.{KnowsTime}
 use Rattle.gptp_kept.proofs.LimitLemmas.{AreLimited, KeepLimits, in_queue, sends_keep}
 use Rattle.gptp_kept.proofs.MeasuringLemmas.{ports_measure}
+use Rattle.gptp_kept.proofs.TimeStepLemmas.{knows_on}
 
 -- ---- the items
 
 -- A station can start, for ports with such intervals alone, and its system is steady and has the network's parameters.
--- Where it is live its timers run out in time, and its ports measure by those parameters.
+-- Where it is live its timers run out in time, its ports measure by those parameters, and the time that it knows is in
+-- order.
 pub record IsKeptStation (p : Pace) (So : ℤ → Type 0) (now : ℕ) (station : Station) : Type 0 where
   pub setup : AreParams station.setup.params
   pub steady : IsSteady station.system
@@ -44,6 +47,7 @@ pub record IsKeptStation (p : Pace) (So : ℤ → Type 0) (now : ℕ) (station :
   pub logs : (log : ℤ) → In log station.setup.intervals.items → So log
   pub in_time : station.live ≡ true → IsInTime station.system now
   pub measuring : station.live ≡ true → PortsMeasure p.params station.system
+  pub time : station.live ≡ true → KnowsTime station.system
 
 abbrev pub AreKeptStations : Pace → (ℤ → Type 0) → ℕ → List Station → Type 0
 AreKeptStations p So now stations =
@@ -100,6 +104,7 @@ known_kept p w on known = record {
         logs = λ log among. inr (record { place = place; station = station; here = here; among = among });
         in_time = known.in_time place station here;
         measuring = known.measuring place station here;
+        time = known.time place station here;
       };
   largest = inl refl;
   near = near;
@@ -123,6 +128,7 @@ kept_known p So w kept links = record {
       near_short log w (kept.near log ((kept.stations at.place at.station at.here).logs log at.among));
   in_time = λ place station here. (kept.stations place station here).in_time;
   measuring = λ place station here. (kept.stations place station here).measuring;
+  time = λ place station here. (kept.stations place station here).time;
   links = links;
   near = near_short p.largest w (kept.near p.largest kept.largest);
   fresh = record {
@@ -214,6 +220,8 @@ module _ (p : Pace) (So : ℤ → Type 0) (place : ℕ) (input : Input) (w : Wor
         measuring = λ live.
             ports_measure p.params input w.time calls.station.system calls.after calls.sends answer timely calls.steps
             (is.measuring live);
+        time = λ live.
+            knows_on input w.time calls.station.system calls.after calls.sends answer calls.steps (is.time live);
       }
 
   pub calls_kept : IsTimely calls.station.system w.time input → IsKept p So w → IsKept p So w'

@@ -117,6 +117,7 @@ initial_station n is place m there =
       logs = λ log among. inr (logs log among);
       in_time = λ live. absurd cc;
       measuring = λ live. absurd cc;
+      time = λ live. absurd cc;
     }
 
 -- a link as the network has it: nothing is in flight

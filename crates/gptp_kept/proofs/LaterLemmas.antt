@@ -22,6 +22,7 @@ later_known p w t later known = record {
   in_time = λ place station here live.
       later_in_time station.system w.time t later (known.in_time place station here live);
   measuring = known.measuring;
+  time = known.time;
   links = known.links;
   near = later_short (largest_interval p) t w later known.near;
   fresh = later_fresh p w t later known.fresh;

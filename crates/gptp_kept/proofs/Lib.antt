@@ -52,6 +52,14 @@ pub mod HoldsLemmas
 pub mod ParentLemmas
 pub mod SettledLemmas
 pub mod LinkOctetLemmas
+pub mod TimeStepLemmas
+pub mod SyncOctetLemmas
+pub mod SyncSaidLemmas
+pub mod SyncHeardLemmas
+pub mod SyncLaneLemmas
+pub mod SyncCallLemmas
+pub mod SyncActLemmas
+pub mod SyncHoldsLemmas
 pub mod LinkLaneLemmas
 pub mod SentLemmas
 pub mod PartLemmas

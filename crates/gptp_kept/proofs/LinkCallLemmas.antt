@@ -23,7 +23,8 @@ use Rattle.gptp_measuring.specs.Facts.{IsSentInTime}
 use Rattle.gptp_measuring.specs.Lanes.{Frame as SeenFrame, AreMute}
 use Rattle.gptp_measuring.specs.Setting.{Setting}
 use Rattle.gptp_kept.specs.LinkView.{IsEndOf, IsLinkOf, LinkPlace, asker_view, asks, frame_view, lane_view, opposite, pair, replies, setting, waits_view}
-use Rattle.gptp_kept.proofs.LinkLaneLemmas.{IsDueSoon, said_at}
+use Rattle.gptp_kept.specs.Said.{said_at}
+use Rattle.gptp_kept.proofs.LinkLaneLemmas.{IsDueSoon}
 use Rattle.gptp_kept.proofs.LinkLemmas.{LinkStep, sender_opposite}
 use Rattle.gptp_kept.proofs.PartLemmas.{answered_asks, asked_waits}
 use Rattle.gptp_kept.proofs.SentLemmas.{asks_nothing, octets_of, replies_nothing}

@@ -35,7 +35,7 @@ use Rattle.gptp_measuring.specs.Messages.{Request, Response, FollowUp}
 use Rattle.gptp_kept.specs.LinkView.{IsEndOf, IsLinkOf, LinkPlace, RequestFits, asked_at, asker_view, asks, frame_view, identity_of, opposite, pair, progress_view, replies, request_from, setting, waits_by, waits_view}
 use Rattle.gptp_kept.specs.LinkActs.{IsOneAct, IsSeen}
 use Rattle.gptp_kept.proofs.LinkCallLemmas.{answerer_timer, asker_is, asker_timer, back_in_time, back_is, back_mute, back_stays, others_send as others_seen, out_in_time, out_is, out_mute, out_stays}
-use Rattle.gptp_kept.proofs.LinkLaneLemmas.{said_at}
+use Rattle.gptp_kept.specs.Said.{said_at}
 use Rattle.gptp_kept.proofs.LinkLemmas.{IsOrderly, LinkStep, end_fits, end_named, end_next, end_request, link_called, sender_opposite, sound_orderly}
 use Rattle.gptp_kept.proofs.PartLemmas.{asked_seen}
 use Rattle.gptp_kept.proofs.SentLemmas.{next_of, sends_answer, sends_request}

@@ -19,6 +19,7 @@ use Rattle.gptp_system.specs.declared.sending.Sending.{Sending}
 use Rattle.gptp_system.specs.State.{SystemState, own}
 use Rattle.gptp_acts.specs.Sends.{entered, written, SendsAll, SendsOne}
 use Rattle.gptp_acts.specs.World.{Channel, Net, queue, sender, with_queue}
+use Rattle.gptp_kept.specs.Said.{said_at, sends_at}
 use Rattle.gptp_lists.proofs.MappedLemmas.{same_there}
 use Rattle.gptp_lists.proofs.PlaceLemmas.{get-set_other, get-set_same, same_place}
 use Rattle.gptp_acts.proofs.StayLemmas.{begins_same, carry_join, sender_same, sends_one_carry}
@@ -44,22 +45,12 @@ same_false p q other = go (same_port p q) refl
     go true e = absurd (other (true_same p q e))
     go false e = e
 
--- the sends of one port, in their order
-abbrev pub sends_at : SystemState → PortId → List Sending → List Sending
-sends_at s port [] = []
-sends_at s port (x ∷ xs) =
-    if same_port (own s x.port) port then x ∷ sends_at s port xs else sends_at s port xs
-
--- and their octets
-abbrev pub said_at : SystemState → PortId → List Sending → List (List ℕ)
-said_at s port xs = map (written s) (sends_at s port xs)
-
 -- where a send is of the port it comes first, and otherwise it isn't there
 pub said_here : (s : SystemState) (port : PortId) (x : Sending) (xs : List Sending) → own s x.port ≡ port
     → said_at s port (x ∷ xs) ≡ written s x ∷ said_at s port xs
 said_here s port x xs is = rw (same_true (own s x.port) port is) refl
 
-said_elsewhere : (s : SystemState) (port : PortId) (x : Sending) (xs : List Sending) → own s x.port ≢ port
+pub said_elsewhere : (s : SystemState) (port : PortId) (x : Sending) (xs : List Sending) → own s x.port ≢ port
     → said_at s port (x ∷ xs) ≡ said_at s port xs
 said_elsewhere s port x xs other = rw (same_false (own s x.port) port other) refl
 

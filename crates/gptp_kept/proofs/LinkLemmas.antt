@@ -33,7 +33,8 @@ use Rattle.gptp_acts.proofs.SteadyLemmas.{same_clock}
 use Rattle.gptp_acts.proofs.StayLemmas.{JoinTheSame, begins_same, sender_same}
 use Rattle.gptp_kept.specs.LinkView.{IsEndOf, IsLinkOf, LinkPlace, RequestFits, SaysWhatFits, identity_of, opposite, setting}
 use Rattle.gptp_kept.proofs.EndLemmas.{EndStep, HearsWhatFits, PartStep, call_end, renamed}
-use Rattle.gptp_kept.proofs.LinkLaneLemmas.{Grows, GrowsIn, IsAlone, said_at, same_false, sends_grow}
+use Rattle.gptp_kept.specs.Said.{said_at}
+use Rattle.gptp_kept.proofs.LinkLaneLemmas.{Grows, GrowsIn, IsAlone, same_false, sends_grow}
 use Rattle.gptp_kept.proofs.SentLemmas.{next_of, octets_of, sent_fits}
 
 -- ---- what is used of a sound world

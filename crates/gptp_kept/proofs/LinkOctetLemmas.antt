@@ -30,7 +30,7 @@ written_type (messages.PdelayRespFollowUp m) = refl
 written_type (messages.Announce a) = refl
 
 -- so it is read as no message of another type
-same_type : (m n : Message) → Reads (Written m) n → type_number n ≡ type_number m
+pub same_type : (m n : Message) → Reads (Written m) n → type_number n ≡ type_number m
 same_type m n reads = sym (type_is (Written m) n reads) ∙ written_type m
 
 -- what doesn't ask reads as no Pdelay_Req

@@ -32,12 +32,13 @@ use Rattle.gptp_kept.proofs.TakeUpLemmas.{BeginApart, LanesStep}
 use Rattle.gptp_kept.proofs.TellLemmas.{are_own, are_read, sends_fit}
 use Rattle.gptp_kept.proofs.TouchLemmas.{InputFits, heard_fits, identity_fits}
 
--- what the machine sees of the call of the system at a place
-pub record IsCallSeen (input : Input) (station : Station) (w w' : WorldState) : Type 0 where
+-- what the machine sees of the call of the system at a place, which leaves it in this state
+pub record IsCallSeen (input : Input) (station : Station) (after : SystemState) (w w' : WorldState) : Type 0 where
   pub touch : Touch
   pub seen : IsSeenAs station.system input touch
   pub call : SeenCalls says (touch_view touch) (view w) (view w')
   pub station_is : call.s ≡ station_view station
+  pub after_is : call.s' ≡ station_view (in_state after station)
 
 module _ (place : ℕ) (input : Input) (w : WorldState) (draws : List Draw) (answer : Answer) (w' : WorldState)
     (k : Calls place input w draws answer w') (steady : IsSteady k.station.system) (its : IsItsSetup k.station)
@@ -116,9 +117,9 @@ module _ (place : ℕ) (input : Input) (w : WorldState) (draws : List Draw) (ans
         (same_clock input w.time s k.after k.sends answer k.steps)
         (sends_step w.time k.after k.sends draws (all_timers place called w.net) k.net apart k.sent)
 
-    pub calls_seen : IsCallSeen input k.station w w'
+    pub calls_seen : IsCallSeen input k.station k.after w w'
     calls_seen =
-        subst (IsCallSeen input k.station w) (sym k.is)
+        subst (IsCallSeen input k.station k.after w) (sym k.is)
         (record {
           touch = answers.touch;
           seen = answers.seen;
@@ -137,4 +138,5 @@ module _ (place : ℕ) (input : Input) (w : WorldState) (draws : List Draw) (ans
             lanes = lanes_step;
           };
           station_is = refl;
+          after_is = refl;
         })

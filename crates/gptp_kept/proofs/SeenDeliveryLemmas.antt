@@ -18,7 +18,7 @@ use Rattle.gptp_system.specs.State.{SystemState, clock, is_capable_at, number}
 use Rattle.gptp_system.specs.Steps.{IsUp}
 use Rattle.gptp_system.specs.Touch.{Hear, Grow}
 use Rattle.gptp_acts.specs.declared.station.Station.{Station}
-use Rattle.gptp_acts.specs.Act.{Calls, Delivers, HasFailed, Hears}
+use Rattle.gptp_acts.specs.Act.{Calls, Delivers, HasFailed, Hears, in_state}
 use Rattle.gptp_acts.specs.Sound.{IsSound}
 use Rattle.gptp_acts.specs.World.{Net, WorldState, receiver}
 use Rattle.gptp_lists.proofs.MappedLemmas.{same_there}
@@ -45,6 +45,22 @@ capable_on s i h q shown held there on =
     by : (b : Bool) → is_capable q.peer ≡ b → b ≡ true
     by true e = refl
     by false e = absurd (on (ap (held_view (span_at s)) ((shown.each i h q held there).off e)))
+
+-- a frame with these octets arrives at this port of this system, and leaves it in this state
+pub record IsArrivalAt (station : Station) (after : SystemState) (mid : WorldState) (port : ℕ) (octets : List ℕ)
+    (w w' : WorldState) : Type 0 where
+  pub act : Arrives says (view w) (view w')
+  pub mid_is : act.mid ≡ view mid
+  pub station_is : act.call.s ≡ station_view station
+  pub after_is : act.call.s' ≡ station_view (in_state after station)
+  pub port_is : act.l.to.port ≡ port
+  pub octets_is : act.f.octets ≡ octets
+
+-- a frame is delivered to a system that has failed
+pub record IsDropAt (w w' : WorldState) : Type 0 where
+  pub act : Drops says (view w) (view w')
+  pub failed : (i : ℕ) (m : SeenStation) → slice_get (view w).stations i ≡ Some m → m.clock ≡ act.l.to.clock
+      → m.live ≡ true → ⊥
 
 same_frame : (n p : ℕ) (x y : List ℕ) → FrameHeard n x ≡ FrameHeard p y → (n ≡ p) × (x ≡ y)
 same_frame n p x y e = (cc, cc)
@@ -80,7 +96,7 @@ module _ (link : ℕ) (direction : Direction) (octets : List ℕ) (w : WorldStat
     lanes = lane_set;
   }
 
-  emptied_apart : BeginApart (lanes_view k.net.channels)
+  pub emptied_apart : BeginApart (lanes_view k.net.channels)
   emptied_apart =
       begin_apart (lanes_view w.net.channels) (lanes_view k.net.channels) (λ j l' there. go j l' (lane_set j l' there))
       (world_apart w sound legible)
@@ -97,18 +113,21 @@ module _ (link : ℕ) (direction : Direction) (octets : List ℕ) (w : WorldStat
       go j l' (inr (elsewhere, stood)) = (l', stood, refl)
 
   -- the receiver has failed
-  failed_drops : HasFailed k.place emptied × (draws ≡ []) × (w' ≡ emptied) → Drops says (view w) (view w')
+  pub failed_drops : HasFailed k.place emptied × (draws ≡ []) × (w' ≡ emptied) → IsDropAt w w'
   failed_drops (failed, none, is) = record {
-    j = lane_place link direction;
-    l = lane;
-    f = frame_view (frame w.time octets);
-    fs = map frame_view k.takes.rest;
-    pops =
-        subst
-        (λ (v : WorldState). Pops (lane_place link direction) lane (frame_view (frame w.time octets))
-        (map frame_view k.takes.rest) (view w) (view v))
-        (sym is) lane_pops;
-    unheard = inr (λ i m there named live. none_live i m live named (station_from w.stations i m there));
+    act = record {
+      j = lane_place link direction;
+      l = lane;
+      f = frame_view (frame w.time octets);
+      fs = map frame_view k.takes.rest;
+      pops =
+          subst
+          (λ (v : WorldState). Pops (lane_place link direction) lane (frame_view (frame w.time octets))
+          (map frame_view k.takes.rest) (view w) (view v))
+          (sym is) lane_pops;
+      unheard = inr (λ i m there named live. none_live i m live named (station_from w.stations i m there));
+    };
+    failed = λ i m there named live. none_live i m live named (station_from w.stations i m there);
   }
     where
       none_live : (i : ℕ) (m : SeenStation) → m.live ≡ true → m.clock ≡ lane.to.clock
@@ -136,7 +155,7 @@ module _ (link : ℕ) (direction : Direction) (octets : List ℕ) (w : WorldStat
     receiver_shown : AreShown c.station.system
     receiver_shown = (sound.on_time.stations k.place c.station c.here).steady.shown
 
-    receiver_call : IsCallSeen (FrameHeard port octets) c.station emptied w'
+    receiver_call : IsCallSeen (FrameHeard port octets) c.station c.after emptied w'
     receiver_call =
         calls_seen k.place (FrameHeard port octets) emptied draws one w' c
         (sound.on_time.stations k.place c.station c.here).steady (sound.wired.setups k.place c.station c.here)
@@ -175,23 +194,30 @@ module _ (link : ℕ) (direction : Direction) (octets : List ℕ) (w : WorldStat
             (ap (is_capable_at c.station.system) number ∙ capable) m reads in
             (said b, ap touch_view heard)
 
-    receiver_arrives : Arrives says (view w) (view w')
+    pub receiver_arrives : IsArrivalAt c.station c.after emptied port octets w w'
     receiver_arrives = record {
-      j = lane_place link direction;
-      l = lane;
-      f = frame_view (frame w.time octets);
-      fs = map frame_view k.takes.rest;
-      mid = view emptied;
-      touch = touch_view receiver_call.touch;
-      pops = lane_pops;
-      call = receiver_call.call;
-      owner = ap (λ (m : SeenStation). m.clock) receiver_call.station_is
-          ∙ ap (λ (x : Station). clock x.system) (sym same_station) ∙ k.is_end;
-      heard = λ n a heard. heard_says n a (hear_back receiver_call.touch n a heard);
-      young = λ n grown. never_grows n (grow_back receiver_call.touch n grown);
-      hears = λ i q a number there on says_it.
-          port_hears i q a number
-          (subst (λ (m : SeenStation). slice_get m.ports i ≡ Some q) receiver_call.station_is there) on says_it;
+      act = record {
+        j = lane_place link direction;
+        l = lane;
+        f = frame_view (frame w.time octets);
+        fs = map frame_view k.takes.rest;
+        mid = view emptied;
+        touch = touch_view receiver_call.touch;
+        pops = lane_pops;
+        call = receiver_call.call;
+        owner = ap (λ (m : SeenStation). m.clock) receiver_call.station_is
+            ∙ ap (λ (x : Station). clock x.system) (sym same_station) ∙ k.is_end;
+        heard = λ n a heard. heard_says n a (hear_back receiver_call.touch n a heard);
+        young = λ n grown. never_grows n (grow_back receiver_call.touch n grown);
+        hears = λ i q a number there on says_it.
+            port_hears i q a number
+            (subst (λ (m : SeenStation). slice_get m.ports i ≡ Some q) receiver_call.station_is there) on says_it;
+      };
+      mid_is = refl;
+      station_is = receiver_call.station_is;
+      after_is = receiver_call.after_is;
+      port_is = refl;
+      octets_is = refl;
     }
 
   pub delivers_seen : Arrives says (view w) (view w') ⊎ Drops says (view w) (view w')
@@ -199,5 +225,5 @@ module _ (link : ℕ) (direction : Direction) (octets : List ℕ) (w : WorldStat
     where
       by : (o : Option Answer) → Hears k.place port octets emptied draws o w'
           → Arrives says (view w) (view w') ⊎ Drops says (view w) (view w')
-      by None hears = inr (failed_drops hears)
-      by (Some one) hears = inl (receiver_arrives one hears)
+      by None hears = inr (failed_drops hears).act
+      by (Some one) hears = inl (receiver_arrives one hears).act

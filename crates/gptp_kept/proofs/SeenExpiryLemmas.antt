@@ -16,7 +16,7 @@ use Rattle.gptp_system.specs.State.{SystemState, age_due, due, held_at}
 use Rattle.gptp_system.specs.Steps.{IsDue}
 use Rattle.gptp_system.specs.Touch.{Hear, Grow}
 use Rattle.gptp_acts.specs.declared.station.Station.{Station}
-use Rattle.gptp_acts.specs.Act.{Expires}
+use Rattle.gptp_acts.specs.Act.{Expires, in_state}
 use Rattle.gptp_acts.specs.Agrees.{stopped}
 use Rattle.gptp_acts.specs.Sound.{IsSound}
 use Rattle.gptp_acts.specs.World.{WorldState, station_due}
@@ -52,6 +52,12 @@ age_passed s i h q now x held there is holds = go (received_back (span_at s) h x
         (ap (λ o. option_map (λ (y : Reception). y.at + span_at s y.interval) o) (sym got) ∙ due_is) in
         subst (λ (y : SeenReception). y.at + y.span ≤ now) (sym same) (omega arith)
 
+-- something that is no delivery happens at this system, and leaves it in this state
+pub record IsRunAt (station : Station) (after : SystemState) (w w' : WorldState) : Type 0 where
+  pub act : Runs says (view w) (view w')
+  pub station_is : act.call.s ≡ station_view station
+  pub after_is : act.call.s' ≡ station_view (in_state after station)
+
 module _ (place : ℕ) (timer : Timer) (w : WorldState) (draws : List Draw) (w' : WorldState) (sound : IsSound w)
     (legible : IsLegible w) (k : Expires place timer w draws w') where
   abbrev station : Station
@@ -65,28 +71,33 @@ module _ (place : ℕ) (timer : Timer) (w : WorldState) (draws : List Draw) (w' 
   pub expiry_timely : IsDue station.system timer w.time
   expiry_timely = let least : w.time ≤ w.time = omega arith in rw timer_due least
 
-  expiry_call : IsCallSeen (TimerExpires timer) station w w'
+  expiry_call : IsCallSeen (TimerExpires timer) station k.calls.after w w'
   expiry_call =
       let steady = (sound.on_time.stations place station k.calls.here).steady in
       let its = sound.wired.setups place station k.calls.here in
       let c = calls_seen place (TimerExpires timer) (stopped place timer w) draws k.answer w' k.calls steady its
       expiry_timely (legible.stations place station k.calls.here).system tt (world_apart w sound legible) in
-      record { touch = c.touch; seen = c.seen; call = c.call; station_is = c.station_is }
+      record { touch = c.touch; seen = c.seen; call = c.call; station_is = c.station_is; after_is = c.after_is }
 
-  pub expires_seen : Runs says (view w) (view w')
-  expires_seen =
+  -- it is a step of the machine at that system
+  pub expires_at : IsRunAt station k.calls.after w w'
+  expires_at =
       let c = expiry_call in
       record {
-        touch = touch_view c.touch;
-        call = c.call;
-        deaf = λ n a heard. deaf c n a (hear_back c.touch n a heard);
-        ages = λ i q x grown there holds.
-            subst (λ (m : SeenStation). (x.at + x.span ≤ w.time) ⊎ Lapses m i w.time) (sym c.station_is)
-            (ages c i q x (grow_back c.touch (suc i) grown)
-            (subst (λ (m : SeenStation). slice_get m.ports i ≡ Some q) c.station_is there) holds);
+        act = record {
+          touch = touch_view c.touch;
+          call = c.call;
+          deaf = λ n a heard. deaf c n a (hear_back c.touch n a heard);
+          ages = λ i q x grown there holds.
+              subst (λ (m : SeenStation). (x.at + x.span ≤ w.time) ⊎ Lapses m i w.time) (sym c.station_is)
+              (ages c i q x (grow_back c.touch (suc i) grown)
+              (subst (λ (m : SeenStation). slice_get m.ports i ≡ Some q) c.station_is there) holds);
+        };
+        station_is = c.station_is;
+        after_is = c.after_is;
       }
     where
-      deaf : (c : IsCallSeen (TimerExpires timer) station w w') (n : ℕ) (a : Announce)
+      deaf : (c : IsCallSeen (TimerExpires timer) station k.calls.after w w') (n : ℕ) (a : Announce)
           → (b : AnnounceView) × (c.touch ≡ Hear n b) × (a ≡ said b) → ⊥
       deaf c n a (b, heard, same) =
           let (octets, is, reads) = heard_in station.system (TimerExpires timer) c.touch c.seen n b heard in cc
@@ -95,7 +106,7 @@ module _ (place : ℕ) (timer : Timer) (w : WorldState) (draws : List Draw) (w' 
       same_timer one other e = cc
 
       -- a port whose Age timer expires received what its span has passed of, and the Lapse timer is the system's
-      ages : (c : IsCallSeen (TimerExpires timer) station w w') (i : ℕ) (q : SeenPort) (x : SeenReception)
+      ages : (c : IsCallSeen (TimerExpires timer) station k.calls.after w w') (i : ℕ) (q : SeenPort) (x : SeenReception)
           → c.touch ≡ Grow (suc i) → slice_get (station_view station).ports i ≡ Some q → q.held ≡ Received x
           → (x.at + x.span ≤ w.time) ⊎ Lapses (station_view station) i w.time
       ages c i q x grown there holds =
@@ -112,3 +123,6 @@ module _ (place : ℕ) (timer : Timer) (w : WorldState) (draws : List Draw) (w' 
               inl (age_passed station.system i p.held p.port w.time x p.held_there p.port_there
               (out (timers.Age (suc i)) is) (ap (λ (y : SeenPort). y.held) (sym p.is) ∙ holds))
           go p (inr (is, slave)) = inr (record { slave = slave; due = out timers.Lapse is })
+
+  pub expires_seen : Runs says (view w) (view w')
+  expires_seen = expires_at.act

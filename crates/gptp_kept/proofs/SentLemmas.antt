@@ -29,7 +29,8 @@ use Rattle.gptp_acts.specs.Sends.{written}
 use Rattle.gptp_measuring.specs.Lanes.{Frame as SeenFrame, AreMute, FirstIs}
 use Rattle.gptp_measuring.specs.Messages.{Request, Reply, Response, FollowUp}
 use Rattle.gptp_kept.specs.LinkView.{RequestFits, SaysWhatFits, asks, frame_view, identity_of, replies, request_from}
-use Rattle.gptp_kept.proofs.LinkLaneLemmas.{said_at, said_here, sends_at, true_same}
+use Rattle.gptp_kept.specs.Said.{said_at, sends_at}
+use Rattle.gptp_kept.proofs.LinkLaneLemmas.{said_here, true_same}
 use Rattle.gptp_kept.proofs.LinkOctetLemmas.{asks_not, follow_up_said, no_request_read, one_request, replies_not, request_back, response_said}
 
 -- ---- frames by their octets
@@ -47,7 +48,7 @@ mute_news says (one ∷ news) mute f (inl here) =
 mute_news says (one ∷ news) mute f (inr later) =
     mute_news says news (λ octets member. mute octets (inr member)) f later
 
-same_first : (a b : List ℕ) (xs ys : List (List ℕ)) → a ∷ xs ≡ b ∷ ys → (a ≡ b) × (xs ≡ ys)
+pub same_first : {X : Type 0} (a b : X) (xs ys : List X) → a ∷ xs ≡ b ∷ ys → (a ≡ b) × (xs ≡ ys)
 same_first a b xs ys e = (cc, cc)
 
 -- where octets that say this stand behind mute ones, their frame is the first that isn't mute

@@ -1,10 +1,10 @@
 -- A world of which the claim has held for long enough has settled.
-use Rattle.std.proofs.Common.{◌≡◌, ◌≢◌, ◌≤◌, ◌<◌, ◌+◌, ℕ, zero, suc, Bool, true, false, Option, Some, None, length, slice_get, refl, ap, arith, ℤ}
+use Rattle.std.proofs.Common.{◌≡◌, ◌≢◌, ◌≤◌, ◌<◌, ◌+◌, ◌*◌, ℕ, zero, suc, Bool, true, false, Option, Some, None, length, slice_get, refl, ap, arith, ℤ}
 use Rattle.std.specs.Option.{option_map_or}
 use Rattle.std.specs.Prelude.{◌==◌}
 use Rattle.std.proofs.lemmas.Bool.{eq-eqb, eqb-true}
 use Rattle.std.proofs.lemmas.Option.{none-some, same_Some}
-use Rattle.gptp_setup.specs.Pace.{Pace}
+use Rattle.gptp_setup.specs.Pace.{Pace, largest_interval}
 use Rattle.gptp_graph.specs.Distance.{IsDistance}
 use Rattle.gptp_graph.specs.PathBound.{BoundsPaths}
 use Rattle.gptp_graph.specs.Snapshot.{Snapshot, port_of}
@@ -22,15 +22,16 @@ use Rattle.gptp_acts.specs.World.{WorldState}
 use Rattle.gptp_lists.proofs.PlaceLemmas.{member_there}
 use Rattle.gptp_settling.specs.Calm.{Calm}
 use Rattle.gptp_settling.specs.CleanLaws.{HeldIsWhole}
-use Rattle.gptp_settling.specs.Network.{Network, setting, settled_from, since}
+use Rattle.gptp_settling.specs.Levels.{Invariant}
+use Rattle.gptp_settling.specs.Network.{IsNetwork, Network, setting, settled_from, since}
 use Rattle.gptp_settling.specs.Settled.{FollowsBest, HasSettledRoles, Plays}
 use Rattle.gptp_settling.proofs.CleanLemmas.{held_whole}
 use Rattle.gptp_settling.proofs.SettledLemmas.{follows_best, network_settles, settled_roles}
 use Rattle.gptp_kept.specs.View.{held_view, port_view, says, span_at, station_view, view}
 use Rattle.gptp_kept.proofs.PlaceLemmas.{port_there, station_there}
-use Rattle.gptp_kept.specs.Calm.{IsQuietWorld}
+use Rattle.gptp_kept.specs.Calm.{IsQuietWorld, network_with}
 use Rattle.gptp_kept.specs.Standing.{snapshot_of}
-use Rattle.gptp_kept.specs.Holds.{BecomeCapable, Holds, IsWorld, settling_network}
+use Rattle.gptp_kept.specs.Holds.{BecomeCapable, Holds, IsWorld, settling_network, start_of}
 use Rattle.gptp_kept.specs.Settled.{Settled, role_of}
 use Rattle.gptp_kept.proofs.HoldsLemmas.{is_calm, is_network, systems_bound}
 use Rattle.gptp_kept.proofs.ParentLemmas.{parent_settled}
@@ -100,13 +101,12 @@ module _ (g : Snapshot) (station : Station) (shown : AreShown station.system)
 
 -- ---- the world
 
-module _ (p : Pace) (w : WorldState) (is : IsWorld p w) (quiet : IsQuietWorld p.params w) (capable : BecomeCapable p w)
-    (holds : Holds p w) (m : ℕ) (bounded : BoundsPaths (snapshot_of w) m) where
+-- for any wait for Syncs and time of a step
+module _ (p : Pace) (m start wait step : ℕ) (w : WorldState) (is : IsWorld p w)
+    (net : IsNetwork (network_with p m start wait step w)) (state : Calm (network_with p m start wait step w) (view w))
+    (invariant : Invariant says (network_with p m start wait step w) (view w)) where
   abbrev n : Network
-  n = settling_network p m w
-
-  state : Calm n (view w)
-  state = is_calm p m w is quiet capable
+  n = network_with p m start wait step w
 
   -- ---- one live system
 
@@ -121,47 +121,68 @@ module _ (p : Pace) (w : WorldState) (is : IsWorld p w) (quiet : IsQuietWorld p.
         roles_settled (snapshot_of w) station (is.sound.on_time.stations place station here).steady.shown
 
     module _ (d : ℕ) (distance : IsDistance (snapshot_of w) (clock station.system) d) (near : d < 255) where
-      -- two intervals for each step after all that is held is wholly clean
-      pub follows_by_distance : since n d ≤ w.time → FollowsBest (snapshot_of w) (station_view station)
-      follows_by_distance =
-          follows_best says n (is_network p m w is bounded) (view w) state (holds m bounded quiet) place
-          (station_view station) there live d distance near
+      -- it follows its best a step's time for each link after all that is held is wholly clean
+      follows_so : since n d ≤ w.time → FollowsBest (snapshot_of w) (station_view station)
+      follows_so =
+          follows_best says n net (view w) state invariant place (station_view station) there live d distance near
 
-      -- two intervals later its ports have settled
-      pub roles_by_distance : since n (suc d) ≤ w.time → (port : ℕ) → IsPortOf station.system port
+      -- a step's time later its ports have settled
+      roles_so : since n (suc d) ≤ w.time → (port : ℕ) → IsPortOf station.system port
           → IsSettledRole (snapshot_of w) (port_of (clock station.system) port) (role_of (role_at station.system port))
-      roles_by_distance late =
+      roles_so late =
           roles_are
-          (settled_roles says n (is_network p m w is bounded) (view w) state (holds m bounded quiet) place
-          (station_view station) there live d distance near late)
+          (settled_roles says n net (view w) state invariant place (station_view station) there live d distance near
+          late)
 
   -- ---- all of them
 
-  module _ (late : w.last_change + settling_span p m ≤ w.time) where
-    -- the machine has settled by then
-    settled_by : settled_from n ≤ w.time
-    settled_by = omega (arith, late)
-
-    -- and before that all that is held has come over the links of the snapshot
+  module _ (late : settled_from n ≤ w.time) where
+    -- before that all that is held has come over the links of the snapshot
     held_is_whole : HeldIsWhole (setting n) (view w)
     held_is_whole =
-        held_whole says (setting n) m (view w) bounded state.facts (holds m bounded quiet).traces (omega (arith, late))
+        held_whole says (setting n) m (view w) net.paths state.facts invariant.traces (omega (arith, late))
 
-    pub settles_by_paths : Settled w
-    settles_by_paths place station here live near =
+    pub settles_so : Settled w
+    settles_so place station here live near =
         let (follows, roles) = network_settles says n (view w) place (station_view station)
-        (is_network p m w is bounded) state (holds m bounded quiet) (there place station here live) live near settled_by
-        in
+        net state invariant (there place station here live) live near late in
         let rest = (state.stations place (station_view station) (there place station here live) live).at_rest in
         record {
           root = follows.root;
           steps = follows.steps;
           slave = follows.slave;
-          parent = parent_settled (snapshot_of w) station (is_network p m w is bounded).graph rest.vector rest.chosen
+          parent = parent_settled (snapshot_of w) station net.graph rest.vector rest.chosen
               (λ i r. held_is_whole place (station_view station) i r (there place station here live) live)
               follows.slave;
           roles = roles_are place station here live roles;
         }
+
+-- where nothing can lapse
+module _ (p : Pace) (w : WorldState) (is : IsWorld p w) (quiet : IsQuietWorld p.params w) (capable : BecomeCapable p w)
+    (holds : Holds p w) (m : ℕ) (bounded : BoundsPaths (snapshot_of w) m) where
+  abbrev seen : Network
+  seen = settling_network p m w
+
+  module _ (place : ℕ) (station : Station) (here : slice_get w.stations place ≡ Some station)
+      (live : station.live ≡ true) (d : ℕ) (distance : IsDistance (snapshot_of w) (clock station.system) d)
+      (near : d < 255) where
+    -- two intervals for each step after all that is held is wholly clean
+    pub follows_by_distance : since seen d ≤ w.time → FollowsBest (snapshot_of w) (station_view station)
+    follows_by_distance =
+        follows_so p m (start_of p w) 0 (2 * largest_interval p) w is (is_network p m w is bounded)
+        (is_calm p m w is quiet capable) (holds m bounded quiet) place station here live d distance near
+
+    -- two intervals later its ports have settled
+    pub roles_by_distance : since seen (suc d) ≤ w.time → (port : ℕ) → IsPortOf station.system port
+        → IsSettledRole (snapshot_of w) (port_of (clock station.system) port) (role_of (role_at station.system port))
+    roles_by_distance =
+        roles_so p m (start_of p w) 0 (2 * largest_interval p) w is (is_network p m w is bounded)
+        (is_calm p m w is quiet capable) (holds m bounded quiet) place station here live d distance near
+
+  pub settles_by_paths : w.last_change + settling_span p m ≤ w.time → Settled w
+  settles_by_paths late =
+      settles_so p m (start_of p w) 0 (2 * largest_interval p) w is (is_network p m w is bounded)
+      (is_calm p m w is quiet capable) (holds m bounded quiet) (omega (arith, late))
 
 -- so it settles by the number of live systems
 pub settles : (p : Pace) (w : WorldState) → IsWorld p w → IsQuietWorld p.params w → BecomeCapable p w → Holds p w

@@ -10,7 +10,7 @@ use Rattle.gptp_receipt.specs.declared.held.Held.TheVariants.{Disabled}
 use Rattle.gptp_setup.specs.declared.setup.Params.{Params}
 use Rattle.gptp_setup.specs.declared.setup.Setup.{Setup}
 use Rattle.gptp_setup.specs.Intervals.{interval_of}
-use Rattle.gptp_setup.specs.Pace.{Pace, largest_interval}
+use Rattle.gptp_setup.specs.Pace.{Pace, lapse_span, largest_interval}
 use Rattle.gptp_system.specs.State.{clock, number}
 use Rattle.gptp_plan.specs.Calm.{NothingLapses}
 use Rattle.gptp_acts.specs.declared.station.Station.{Station}
@@ -27,10 +27,14 @@ pub record IsQuietLink (p : Params) (channel : Channel) : Type 0 where
   pub lossless : channel.bounds.loss ≡ 0
   pub good : IsGoodLink channel.bounds.max p.turnaround p.threshold
 
--- so is each link that is up between two live systems, and nothing lapses for want of Sync
+-- so is each link that is up between two live systems
+abbrev pub HaveQuietLinks : Params → WorldState → Type 0
+HaveQuietLinks p w = (link : ℕ) (channel : Channel) → slice_get w.net.channels link ≡ Some channel
+    → is_used (live_systems w.stations) channel ≡ true → IsQuietLink p channel
+
+-- and nothing lapses for want of Sync
 pub record IsQuietWorld (p : Params) (w : WorldState) : Type 0 where
-  pub links : (link : ℕ) (channel : Channel) → slice_get w.net.channels link ≡ Some channel
-      → is_used (live_systems w.stations) channel ≡ true → IsQuietLink p channel
+  pub links : HaveQuietLinks p w
   pub lapses : NothingLapses p
 
 -- the greatest delay of those links, or 0
@@ -90,11 +94,11 @@ AreCapableFrom start w = start ≤ w.time → OfEachPort (λ itself h q. IsCapab
 
 -- ---- the network
 
--- The network that a world has, no path of which has more than m systems, and of which claims are made from this time
--- on. Each port has its own announce interval. Nothing lapses where it is quiet: no Sync is waited for, and a step of
--- distance takes two of the largest intervals.
-abbrev pub network_of : Pace → ℕ → ℕ → WorldState → Network
-network_of p m start w = record {
+-- The network that a world has, no path of which has more than m systems, of which claims are made from this time on,
+-- and in which a settled system waits so long for a Sync, and a step of distance takes so long. Each port has its own
+-- announce interval.
+abbrev pub network_with : Pace → ℕ → ℕ → ℕ → ℕ → WorldState → Network
+network_with p m start wait step w = record {
   graph = snapshot_of w;
   reach = m;
   place = place_of w.stations;
@@ -105,6 +109,15 @@ network_of p m start w = record {
   most = greatest_delay (live_systems w.stations) w.net.channels;
   timeout = p.params.timeout;
   start = start;
-  feed = 0;
-  step = 2 * largest_interval p;
+  syncs = record {
+    interval = interval_of p.params.sync;
+    residence = p.params.residence;
+    span = lapse_span p.params;
+  };
+  sync_wait = wait;
+  step = step;
 }
+
+-- Where it is quiet nothing lapses: no Sync is waited for, and a step of distance takes two of the largest intervals.
+abbrev pub network_of : Pace → ℕ → ℕ → WorldState → Network
+network_of p m start w = network_with p m start 0 (2 * largest_interval p) w

@@ -17,7 +17,7 @@ use Rattle.gptp_kept.specs.Legible.{IsLegible}
 use Rattle.gptp_kept.specs.SeenLaws.{IsNoChange}
 use Rattle.gptp_kept.specs.View.{view}
 use Rattle.gptp_kept.specs.Standing.{AreBetween, snapshot_of}
-use Rattle.gptp_kept.specs.Calm.{AreCapableFrom, IsQuietWorld, network_of}
+use Rattle.gptp_kept.specs.Calm.{AreCapableFrom, HaveQuietLinks, IsQuietWorld, network_of, network_with}
 
 -- ---- a calm state
 
@@ -33,13 +33,13 @@ HasNetwork = (p : Pace) (m start : ℕ) (w : WorldState)
     → IsSound w → AreBetween w → IsLegible w → IsKnown p w → BoundsPaths (snapshot_of w) m
     → IsNetwork (network_of p m start w)
 
--- Such a world is a calm state where it is quiet, the largest announce interval passes from the last change to the
+-- Such a world is a calm state where its links are quiet, the largest announce interval passes from the last change to the
 -- start, and from the start its ports are disabled exactly where no link of the snapshot is at them.
 abbrev pub IsCalmState : Type 0
-IsCalmState = (p : Pace) (m start : ℕ) (w : WorldState)
-    → IsSound w → IsLegible w → IsKnown p w → IsQuietWorld p.params w
+IsCalmState = (p : Pace) (m start wait step : ℕ) (w : WorldState)
+    → IsSound w → IsLegible w → IsKnown p w → HaveQuietLinks p.params w
     → w.last_change + largest_interval p ≤ start → AreCapableFrom start w
-    → Calm (network_of p m start w) (view w)
+    → Calm (network_with p m start wait step w) (view w)
 
 -- ---- it stays so
 

@@ -14,6 +14,7 @@ use Rattle.gptp_acts.specs.World.{Channel, WorldState, queue}
 use Rattle.gptp_kept.specs.Linked.{MeasureLinks}
 use Rattle.gptp_kept.specs.Measuring.{AreMeasuring}
 use Rattle.gptp_kept.specs.Short.{IsShort}
+use Rattle.gptp_kept.specs.SyncView.{KnowTime}
 
 -- A station starts with these parameters and this largest interval, and its system has them. It starts with an interval
 -- for each port, none of which is above the largest, and its ports announce at these. Its Lapse timer runs only where
@@ -69,6 +70,7 @@ pub record IsKnown (p : Pace) (w : WorldState) : Type 0 where
   pub prompt : ArePrompt w
   pub in_time : AreInTime w
   pub measuring : AreMeasuring p.params w
+  pub time : KnowTime w
   pub links : MeasureLinks w
   pub near : AreNear p w
   pub fresh : AreFresh p w

@@ -14,9 +14,13 @@ pub mod Calm
 pub mod CalmLaws
 pub mod Holds
 pub mod Settled
+pub mod SyncHolds
+pub mod SyncLaws
 pub mod SettledLaws
 pub mod LinkView
 pub mod LinkActs
+pub mod Said
+pub mod SyncView
 pub mod Measured
 pub mod Short
 pub mod Watched

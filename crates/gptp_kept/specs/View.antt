@@ -1,8 +1,11 @@
 -- A world as the machine of gptp_settling sees it.
-use Rattle.std.specs.Prelude.{◌≡◌, ℕ, ◌+◌, ◌*◌, ℤ, Bool, List, [], ◌∷◌, map}
+use Rattle.std.specs.Prelude.{◌≡◌, ℕ, ◌+◌, ◌*◌, ℤ, Bool, true, List, [], ◌∷◌, map, Option}
+use Rattle.std.specs.Option.{option_map}
 use Rattle.gptp_graph.specs.Snapshot.{PortIdentity, port_of}
 use Rattle.gptp_vector.specs.declared.port.PortId.{PortId}
 use Rattle.gptp_messages.specs.declared.announce.AnnounceView.{AnnounceView}
+use Rattle.gptp_messages.specs.declared.follow_up.FollowUp.{FollowUp as FollowUpView}
+use Rattle.gptp_messages.specs.declared.head.Head.{Head}
 use Rattle.gptp_messages.specs.declared.message.Message.TheVariants as messages
 use Rattle.gptp_messages.specs.Grammar.{Reads}
 use Rattle.gptp_links.specs.declared.link.Direction.{Direction}
@@ -11,6 +14,7 @@ use Rattle.gptp_links.specs.Queue.{Frame}
 use Rattle.gptp_receipt.specs.declared.held.Held.{Held}
 use Rattle.gptp_receipt.specs.declared.held.Held.TheVariants as helds
 use Rattle.gptp_receipt.specs.declared.held.Reception.{Reception}
+use Rattle.gptp_correction.specs.SyncIn.{KeptSync}
 use Rattle.gptp_system.specs.declared.port.Port.{Port}
 use Rattle.gptp_system.specs.declared.sending.Sending.{Sending}
 use Rattle.gptp_setup.specs.Intervals.{interval_of}
@@ -20,7 +24,7 @@ use Rattle.gptp_system.specs.Touch.{Touch, Hear, Tick, Grow, Enable, Disable, Ot
 use Rattle.gptp_acts.specs.declared.station.Station.{Station}
 use Rattle.gptp_acts.specs.Sends.{written}
 use Rattle.gptp_acts.specs.World.{Channel, WorldState, sender, receiver, queue}
-use Rattle.gptp_settling.specs.Frame.{Announce, Says, Frame as SeenFrame, Lane, Send}
+use Rattle.gptp_settling.specs.Frame.{Announce, Says, SyncId, Sync, FollowUp, SaysSync, Frame as SeenFrame, Lane, Send}
 use Rattle.gptp_settling.specs.Station.{Reception as SeenReception, Held as SeenHeld, Disabled, Aged, Mine, Received, Port as SeenPort, Station as SeenStation, State}
 use Rattle.gptp_settling.specs.Touch.{Touch as SeenTouch}
 use Rattle.gptp_settling.specs.Touch as touches
@@ -44,6 +48,16 @@ said a = record {
 -- octets say an Announce exactly where they read as one
 abbrev pub says : Says
 says octets a = (m : AnnounceView) × Reads octets (messages.Announce m) × (a ≡ said m)
+
+-- what the header of a Sync and of its Follow_Up have in common
+abbrev pub sync_id : Head → SyncId
+sync_id head = record { source = identity_of head.source; sequence = head.sequence }
+
+-- octets say a Sync exactly where they read as one of two steps, and a Follow_Up where they read as one
+abbrev pub says_sync : SaysSync
+says_sync octets (Sync id) =
+    (head : Head) × Reads octets (messages.Sync head) × (head.two_step ≡ true) × (id ≡ sync_id head)
+says_sync octets (FollowUp id) = (m : FollowUpView) × Reads octets (messages.FollowUp m) × (id ≡ sync_id m.head)
 
 -- ---- systems
 
@@ -88,6 +102,10 @@ ports_view keep [] qs = []
 ports_view keep (h ∷ hs) [] = []
 ports_view keep (h ∷ hs) (q ∷ qs) = port_view keep h q ∷ ports_view keep hs qs
 
+-- the Sync that a system keeps
+abbrev pub kept_view : SystemState → Option SyncId
+kept_view s = option_map (λ (k : KeptSync). record { source = identity_of k.source; sequence = k.sequence }) s.sync_in
+
 -- a system in this state
 abbrev pub system_view : Bool → SystemState → SeenStation
 system_view live s = record {
@@ -99,6 +117,9 @@ system_view live s = record {
   steps = s.steps;
   slave = s.slave;
   trace = trace s;
+  kept = kept_view s;
+  sync = s.sync;
+  relay = s.relay;
   lapse = s.lapse;
 }
 

@@ -13,7 +13,8 @@
 //! - [`capable`]: ports at links in use become capable;
 //! - [`claimed`]: all this as one claim that begins with the world of every network and is kept by every act, that worlds
 //!   settle, and what the calls of a world show then;
-//! - [`bounded`]: what the systems of a world state of themselves then, far ones too.
+//! - [`bounded`]: what the systems of a world state of themselves then, far ones too;
+//! - [`syncs`]: how systems tell time and hear it, as the machine of `gptp_settling` asks where something can lapse.
 //!
 //! Each port announces at an interval of its own. What is counted in announce intervals is counted in the largest of
 //! them in the network.
@@ -33,5 +34,6 @@ pub mod link_worlds;
 pub mod seen;
 pub mod settled;
 pub mod silence;
+pub mod syncs;
 pub mod unanswered_acts;
 pub mod unanswered_worlds;

@@ -19,9 +19,10 @@ use Rattle.gptp_settling.specs.Clean.{CameWhole}
 use Rattle.gptp_settling.specs.Facts.{FollowsItself, FollowsPort}
 use Rattle.gptp_settling.specs.CleanLaws.{HeldIsWhole}
 use Rattle.gptp_settling.specs.Stage.{Wiring}
-use Rattle.gptp_settling.specs.Link.{final_vector, StandsAt, TellsSettled, HearsSettled, IsLaneOf, IsOnTime, Ends}
+use Rattle.gptp_settling.specs.Link.{final_vector, StandsAt, TellsSettled, HearsSettled, IsLaneOf, IsOnTime, Ends, LapsesLater}
 use Rattle.gptp_settling.specs.Network.{Network, IsNetwork, setting, clean_from, since, wiring}
-use Rattle.gptp_settling.specs.Calm.{IsCalmPort, FollowsNearer, HasLane, Calm}
+use Rattle.gptp_settling.specs.Calm.{IsCalmPort, HasLane, Calm}
+use Rattle.gptp_settling.specs.Lapsing.{FollowsNearer, NothingLapses}
 use Rattle.gptp_settling.specs.Levels.{LeadsFarther}
 use Rattle.gptp_settling.proofs.PlaceLemmas.{same_there}
 use Rattle.gptp_settling.proofs.NearestLemmas.{steps_not_fewer, on_way, path_length}
@@ -150,7 +151,7 @@ module _ (n : Network) (net : IsNetwork n) (w : State) (calm : Calm n w)
       started = omega arith
 
       -- the system that tells has settled
-      tells_settled : (s : Station) (pv : Port) → slice_get w.stations (n.place v) ≡ Some s
+      pub tells_settled : (s : Station) (pv : Port) → slice_get w.stations (n.place v) ≡ Some s
           → slice_get s.ports p ≡ Some pv → TellsSettled (wiring n d best v p u q) s pv
       tells_settled s pv at port = go (is_station v s from_known at)
         where
@@ -253,16 +254,40 @@ module _ (n : Network) (net : IsNetwork n) (w : State) (calm : Calm n w)
                   (subst (λ c. Joins n.graph came.from (port_of c (suc q))) clock came.joins)) back
 
     -- claims of the link are made once the system that tells has settled
-    settled_by : since n d + n.feed ≤ w.time → since n d ≤ w.time
+    settled_by : since n d + n.sync_wait ≤ w.time → since n d ≤ w.time
     settled_by late = omega arith
 
-    -- what the system that hears received over the link doesn't lapse
-    not_lapsed : (s : Station) (due : ℕ) → slice_get w.stations (n.place u) ≡ Some s → since n d + n.feed ≤ w.time
-        → s.slave ≡ Some (suc q) → s.lapse ≡ Some due → w.time < due
-    not_lapsed s due at late slave lapse = go (is_station u s to_known at)
+    -- what the machine keeps of a link holds of it
+    pub ends : Ends (wiring n d best v p u q) w
+    ends = record {
+      apart = net.graph.apart (port_of v (suc p)) (port_of u (suc q)) leads.joins;
+      teller_stands = stands v from_known;
+      hearer_stands = stands u to_known;
+      hearer_lives = λ s at. (is_station u s to_known at).0;
+      lane = lane_is;
+      only_lane = λ j l at to. calm.apart j (n.lane (port_of v (suc p))) l has_lane.lane at has_lane.there
+          (to ∙ sym has_lane.to);
+      frames = on_time;
+      teller = λ s pv at port.
+          let (live, clock) = is_station v s from_known at in
+          let is_port : IsCalmPort n w.time (port_of v (suc p)) pv =
+          subst (λ c. IsCalmPort n w.time (port_of c (suc p)) pv) clock
+          ((calm.stations (n.place v) s at live).ports p pv port) in
+          record {
+            log = is_port.log;
+            interval = is_port.interval;
+            timer = is_port.timer;
+            settled = λ late. tells_settled (settled_by late) s pv at port;
+          };
+      hearer = λ s pu at port late. hears_settled (settled_by late) s pu at port;
+    }
+
+    -- what the system that hears received over the link doesn't lapse, where nothing does
+    pub lapses_later : NothingLapses n w → LapsesLater (wiring n d best v p u q) w
+    lapses_later nothing s due at late slave lapse = go (is_station u s to_known at)
       where
         go : (s.live ≡ true) × (s.clock ≡ u) → w.time < due
-        go (live, clock) = (calm.stations (n.place u) s at live).fed d due near follows late lapse
+        go (live, clock) = nothing (n.place u) s d due at live near follows late lapse
           where
             over : Joins n.graph (port_of v (suc p)) (port_of s.clock (suc q))
             over = subst (λ c. Joins n.graph (port_of v (suc p)) (port_of c (suc q))) (sym clock) leads.joins
@@ -295,29 +320,3 @@ module _ (n : Network) (net : IsNetwork n) (w : State) (calm : Calm n w)
               joins = over;
               there = leads.here;
             }
-
-    -- what the machine keeps of a link holds of it
-    pub ends : Ends (wiring n d best v p u q) w
-    ends = record {
-      apart = net.graph.apart (port_of v (suc p)) (port_of u (suc q)) leads.joins;
-      teller_stands = stands v from_known;
-      hearer_stands = stands u to_known;
-      hearer_lives = λ s at. (is_station u s to_known at).0;
-      lane = lane_is;
-      only_lane = λ j l at to. calm.apart j (n.lane (port_of v (suc p))) l has_lane.lane at has_lane.there
-          (to ∙ sym has_lane.to);
-      frames = on_time;
-      teller = λ s pv at port.
-          let (live, clock) = is_station v s from_known at in
-          let is_port : IsCalmPort n w.time (port_of v (suc p)) pv =
-          subst (λ c. IsCalmPort n w.time (port_of c (suc p)) pv) clock
-          ((calm.stations (n.place v) s at live).ports p pv port) in
-          record {
-            log = is_port.log;
-            interval = is_port.interval;
-            timer = is_port.timer;
-            settled = λ late. tells_settled (settled_by late) s pv at port;
-          };
-      hearer = λ s pu at port late. hears_settled (settled_by late) s pu at port;
-      fed = not_lapsed;
-    }

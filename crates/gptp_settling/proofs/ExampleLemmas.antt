@@ -1,5 +1,5 @@
 -- The example run is one: each of its states is calm, and each follows by a step.
-use Rattle.std.proofs.Common.{◌≡◌, ◌≢◌, pred, ◌⊎◌, ◌≤◌, ◌<◌, ◌+◌, ℕ, zero, suc, pos, true, List, [], ◌∷◌, Some, None, slice_get, refl, sym, ap, subst, ◌∙◌, inl, inr, arith}
+use Rattle.std.proofs.Common.{◌≡◌, ◌≢◌, pred, ◌⊎◌, ◌≤◌, ◌<◌, ◌+◌, ℕ, zero, suc, pos, true, List, [], ◌∷◌, Some, slice_get, refl, sym, ap, subst, ◌∙◌, inl, inr, arith}
 use native.Mathlib.Decide.{ℕ_discrete, dec_le, dec_lt}
 use Rattle.gptp_lists.specs.Members.{In}
 use Rattle.gptp_graph.specs.Order.{IsLower}
@@ -63,10 +63,6 @@ mine_disabled root steps e = absurd cc
 mine_aged : {A : Type 0} (root steps : ℕ) → Mine root steps ≡ Aged → A
 mine_aged root steps e = absurd cc
 
--- no timer is due where none runs
-never_due : (due : ℕ) → None ≡ Some due → ⊥
-never_due due e = cc
-
 module _ (now clock identity timer : ℕ) (early : now ≤ timer) (soon : timer ≤ now + 4)
     (known : In (record { clock = clock; identity = identity; ports = 1 }) network.graph.systems)
     (linked : IsLinked network.graph (port_of clock 1)) where
@@ -104,7 +100,6 @@ module _ (now clock identity timer : ℕ) (early : now ≤ timer) (soon : timer 
   pub lone_calm : IsCalmStation network now (lone clock identity timer)
   lone_calm = record {
     at_rest = lone_rests;
-    fed = λ d due near follows late lapse. absurd (never_due due lapse);
     ports = each_of_one (λ i q. IsCalmPort network now (port_of clock (suc i)) q)
         (record { held = Mine identity 0; log = pos 2; interval = 4; announce = timer })
         (record {
@@ -163,7 +158,6 @@ module _ (now at : ℕ) (came : at ≤ now) (stays : now ≤ at + 8) where
   pub following_calm : IsCalmStation network now (following at)
   following_calm = record {
     at_rest = following_rests;
-    fed = λ d due near follows late lapse. absurd (never_due due lapse);
     ports = each_of_one (λ i q. IsCalmPort network now (port_of 2 (suc i)) q)
         (record { held = Received (heard at); log = pos 2; interval = 4; announce = 4 })
         (record {

@@ -1,5 +1,5 @@
 -- The steps of the example run.
-use Rattle.std.proofs.Common.{◌≡◌, ◌≢◌, ◌⊎◌, ◌≤◌, ◌+◌, ℕ, zero, suc, pos, true, List, [], ◌∷◌, Some, slice_get, append-nil, refl, sym, ap, subst, inl, inr, arith}
+use Rattle.std.proofs.Common.{◌≡◌, ◌≢◌, ◌⊎◌, ◌≤◌, ◌+◌, ℕ, zero, suc, pos, true, List, [], ◌∷◌, Some, None, slice_get, append-nil, refl, sym, ap, subst, inl, inr, arith}
 use Rattle.gptp_lists.specs.Members.{In}
 use Rattle.gptp_graph.specs.Snapshot.{PortIdentity, port_of, IsLinked}
 use Rattle.gptp_settling.specs.Frame.{Announce, Frame, Lane, Send}
@@ -8,10 +8,12 @@ use Rattle.gptp_settling.specs.Touch.{Hear, Tick, Qualified, Replaces}
 use Rattle.gptp_settling.specs.Reacts.{IsOwn, IsMasterAt, PortStep, Reacts}
 use Rattle.gptp_settling.specs.Acts.{LaneStep, Steps}
 use Rattle.gptp_settling.specs.Calm.{Calm}
+use Rattle.gptp_settling.specs.Lapsing.{NothingLapses}
 use Rattle.gptp_settling.specs.Run.{IsRun}
 use Rattle.gptp_settling.specs.Example.{lane_out, lane_back, heard, first_identity, second_identity, network, announce, octets, says, first, alone, following, frame, state, turns, begin, run}
 use Rattle.gptp_settling.specs.ExampleLaws.{ExampleSettles}
 use Rattle.gptp_settling.proofs.RunLemmas.{run_settles}
+use Rattle.gptp_settling.proofs.SyncLemmas.{none_lapses}
 use Rattle.gptp_settling.proofs.ExampleLemmas.{each_of_one, each_of_two, mine_received, mine_disabled, lone_station, lone_calm, following_station, following_calm, calm, is_network}
 
 -- a moment comes
@@ -239,6 +241,13 @@ following_is_calm now at timer frames came stays early soon flight =
     calm now timer (following at) frames early soon (following_station now at came stays)
     (following_calm now at came stays) refl refl flight
 
+-- nothing lapses in it: no lapse timer runs
+nothing_lapses : (now timer : ℕ) (second : Station) (frames : List Frame) → second.lapse ≡ None
+    → NothingLapses network (state now timer second frames)
+nothing_lapses now timer second frames none =
+    none_lapses network (state now timer second frames) (λ i s at live.
+    each_of_two (λ i (s : Station). s.lapse ≡ None) (first timer) second refl none i s at)
+
 -- nothing is in flight, or one frame
 none_in_flight : (now : ℕ) (f : Frame) → In f [] → (now ≤ f.due) × (f.due ≤ now + 1)
 none_in_flight now f h = absurd h
@@ -263,18 +272,22 @@ turns_run at zero =
     following_is_calm at at (3 + at) [] (omega arith) (omega arith) (omega arith) (omega arith) (none_in_flight at)
 turns_run at (suc count) = (
   following_is_calm at at (3 + at) [] (omega arith) (omega arith) (omega arith) (omega arith) (none_in_flight at),
+  nothing_lapses at (3 + at) (following at) [] refl,
   waits at (3 + at) (3 + at) (following at) [] (omega arith),
   (
     following_is_calm (3 + at) at (3 + at) [] (omega arith) (omega arith) (omega arith) (omega arith)
         (none_in_flight (3 + at)),
+    nothing_lapses (3 + at) (3 + at) (following at) [] refl,
     tells_at (3 + at) (7 + at) (4 + at) (following at) (omega arith) (omega arith),
     (
       following_is_calm (3 + at) at (7 + at) (frame (4 + at) ∷ []) (omega arith) (omega arith) (omega arith)
           (omega arith) (one_in_flight (3 + at) (4 + at) (omega arith) (omega arith)),
+      nothing_lapses (3 + at) (7 + at) (following at) (frame (4 + at) ∷ []) refl,
       waits (3 + at) (4 + at) (7 + at) (following at) (frame (4 + at) ∷ []) (omega arith),
       (
         following_is_calm (4 + at) at (7 + at) (frame (4 + at) ∷ []) (omega arith) (omega arith) (omega arith)
             (omega arith) (one_in_flight (4 + at) (4 + at) (omega arith) (omega arith)),
+        nothing_lapses (4 + at) (7 + at) (following at) (frame (4 + at) ∷ []) refl,
         hears (4 + at) (7 + at) (following at)
             (record { held = Received (heard at); log = pos 2; interval = 4; announce = 4 }) refl refl refl refl
             (λ e. absurd cc) (inl refl),
@@ -289,17 +302,21 @@ turns_run at (suc count) = (
 example_runs : IsRun says network begin run
 example_runs = (
   alone_calm 0 1 [] (omega arith) (omega arith) (omega arith) (none_in_flight 0),
+  nothing_lapses 0 1 alone [] refl,
   waits 0 1 1 alone [] (omega arith),
   (
     alone_calm 1 1 [] (omega arith) (omega arith) (omega arith) (none_in_flight 1),
+    nothing_lapses 1 1 alone [] refl,
     tells_at 1 5 2 alone refl refl,
     (
       alone_calm 1 5 (frame 2 ∷ []) (omega arith) (omega arith) (omega arith)
           (one_in_flight 1 2 (omega arith) (omega arith)),
+      nothing_lapses 1 5 alone (frame 2 ∷ []) refl,
       waits 1 2 5 alone (frame 2 ∷ []) (omega arith),
       (
         alone_calm 2 5 (frame 2 ∷ []) (omega arith) (omega arith) (omega arith)
             (one_in_flight 2 2 (omega arith) (omega arith)),
+        nothing_lapses 2 5 alone (frame 2 ∷ []) refl,
         hears 2 5 alone (record { held = Mine second_identity 0; log = pos 2; interval = 4; announce = 4 }) refl refl
             refl refl (mine_disabled second_identity 0) (inl (omega arith)),
         turns_run 2 10,

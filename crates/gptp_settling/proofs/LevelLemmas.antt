@@ -19,12 +19,13 @@ use Rattle.gptp_settling.specs.Stage.{IsFinal}
 use Rattle.gptp_settling.specs.Link.{Stand, LinkSettles}
 use Rattle.gptp_settling.specs.Network.{Network, IsNetwork, setting, clean_from, since, wiring}
 use Rattle.gptp_settling.specs.Calm.{Calm}
+use Rattle.gptp_settling.specs.Lapsing.{NothingLapses}
 use Rattle.gptp_settling.specs.Levels.{LeadsFarther, LevelSettles, Invariant}
 use Rattle.gptp_settling.proofs.PlaceLemmas.{there_within}
 use Rattle.gptp_settling.proofs.LinkLemmas.{link_kept, link_settled}
 use Rattle.gptp_settling.proofs.CleanLemmas.{clean_kept, clean_begins, held_whole}
 use Rattle.gptp_settling.proofs.RestLemmas.{Chooses, zero_settles, suc_settles}
-use Rattle.gptp_settling.proofs.EndsLemmas.{AllChoose, clear_at, station_of, is_station, ends}
+use Rattle.gptp_settling.proofs.EndsLemmas.{AllChoose, clear_at, station_of, is_station, ends, lapses_later}
 
 -- a port's number is one more than its place
 pub place_of : (m : ℕ) → 1 ≤ m → (p : ℕ) × (m ≡ suc p)
@@ -72,9 +73,9 @@ module _ (says : Says) (n : Network) (net : IsNetwork n) (w : State) (calm : Cal
       from_known : In v (clocks n.graph)
       from_known = Joins-clock n.graph (port_of v (suc p)) (port_of u (suc q)) net.graph leads.joins
 
-      in_time : since n d + n.feed + n.interval_of (port_of v (suc p)) + n.most ≤ w.time
+      in_time : since n d + n.sync_wait + n.interval_of (port_of v (suc p)) + n.most ≤ w.time
       in_time =
-          let round : n.feed + n.interval_of (port_of v (suc p)) + n.most ≤ n.step =
+          let round : n.sync_wait + n.interval_of (port_of v (suc p)) + n.most ≤ n.step =
           net.round (port_of v (suc p)) (port_of u (suc q), leads.joins) in
           omega arith
 
@@ -149,7 +150,7 @@ module _ (says : Says) (n : Network) (net : IsNetwork n) where
   pub whole_from : (w : State) → Calm n w → Invariant says n w → clean_from n ≤ w.time → HeldIsWhole (setting n) w
   whole_from w calm invariant late = held_whole says (setting n) n.reach w net.paths calm.facts invariant.traces late
 
-  module _ (w w' : State) (calm : Calm n w) (calm' : Calm n w') (step : Steps says w w')
+  module _ (w w' : State) (calm : Calm n w) (calm' : Calm n w') (nothing : NothingLapses n w) (step : Steps says w w')
       (invariant : Invariant says n w) (traces' : TracesAreClean says (setting n) w') where
     whole' : clean_from n ≤ w'.time → HeldIsWhole (setting n) w'
     whole' late = held_whole says (setting n) n.reach w' net.paths calm'.facts traces' late
@@ -162,6 +163,9 @@ module _ (says : Says) (n : Network) (net : IsNetwork n) where
         (λ late. chooses says n net w calm (whole_from w calm invariant) d (λ e less. invariant.levels e) near late))
         (ends n net w' calm' whole' d best v p u q near leads
         (λ late. chooses says n net w' calm' whole' d below near late))
+        (lapses_later n net w calm (whole_from w calm invariant) d best v p u q near leads
+        (λ late. chooses says n net w calm (whole_from w calm invariant) d (λ e less. invariant.levels e) near late)
+        nothing)
         step (invariant.levels d best v p u q near leads)
 
     -- so all are
@@ -173,13 +177,13 @@ module _ (says : Says) (n : Network) (net : IsNetwork n) where
     ]
 
   -- every step from a calm state to a calm state keeps the invariant
-  pub invariant_kept : (w w' : State) → Calm n w → Calm n w' → Steps says w w' → Invariant says n w
+  pub invariant_kept : (w w' : State) → Calm n w → Calm n w' → NothingLapses n w → Steps says w w' → Invariant says n w
       → Invariant says n w'
-  invariant_kept w w' calm calm' step invariant =
+  invariant_kept w w' calm calm' nothing step invariant =
       let traces' = clean_kept says (setting n) w w' calm.facts calm'.facts step invariant.traces in
       record {
         traces = traces';
-        levels = λ d. levels_below w w' calm calm' step invariant traces' (suc d) d (omega arith);
+        levels = λ d. levels_below w w' calm calm' nothing step invariant traces' (suc d) d (omega arith);
       }
 
 -- before the start it claims nothing

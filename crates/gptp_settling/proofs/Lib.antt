@@ -16,6 +16,10 @@ pub mod EndsLemmas
 pub mod LevelLemmas
 pub mod SettledLemmas
 pub mod RunLemmas
-pub mod FlowLemmas
+pub mod MatchingLemmas
+pub mod SyncStepLemmas
+pub mod SyncLemmas
+pub mod SyncActLemmas
+pub mod SyncRunLemmas
 mod ExampleLemmas
 mod ExampleRun

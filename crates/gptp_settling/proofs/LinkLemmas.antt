@@ -7,7 +7,7 @@ use Rattle.gptp_settling.specs.Station.{Reception, Received, Port, Station, Stat
 use Rattle.gptp_settling.specs.Touch.{Touch, Hear, Tick, Grow, Enable, Disable, Other}
 use Rattle.gptp_settling.specs.Acts.{Arrives, Drops, Runs, Acts, Steps}
 use Rattle.gptp_settling.specs.Stage.{Wiring, to_port, IsFinal, IsSaid, Stage}
-use Rattle.gptp_settling.specs.Link.{Ends, Stand, LinkSettles}
+use Rattle.gptp_settling.specs.Link.{Ends, LapsesLater, Stand, LinkSettles}
 use Rattle.gptp_settling.proofs.StageLemmas.{settled}
 use Rattle.gptp_settling.proofs.PlaceLemmas.{same_there}
 use Rattle.gptp_settling.proofs.PopLemmas.{ends_popped, stood_popped, other_lane, silent_frame}
@@ -25,8 +25,9 @@ is_hear Other = inr (λ n a e. absurd cc)
 
 module _ (says : Says) (k : Wiring) where
   -- something that is no delivery
-  runs : (w w' : State) → Ends k w → Ends k w' → Runs says w w' → LinkSettles says k w → LinkSettles says k w'
-  runs w w' ends ends' act link late =
+  runs : (w w' : State) → Ends k w → Ends k w' → LapsesLater k w → Runs says w w' → LinkSettles says k w
+      → LinkSettles says k w'
+  runs w w' ends ends' lapses act link late =
       called says k act.touch w w' act.call ends ends' (subst (λ t. k.since ≤ t) act.call.time late) link
       (λ a here touched. act.deaf (suc k.hearer_port) a touched) ages late
     where
@@ -35,10 +36,10 @@ module _ (says : Says) (k : Wiring) where
           → slice_get act.call.s.ports k.hearer_port ≡ Some q → q.held ≡ Received r → r.at + r.span ≤ w.time
       ages q r here grown at holds = elim (act.ages k.hearer_port q r grown at holds) [
         | inl old ↦ old
-        | inr lapses ↦
+        | inr now ↦
             let fresh : w.time < w.time =
-            ends.fed act.call.s w.time (subst (λ n. slice_get w.stations n ≡ Some act.call.s) (sym here) act.call.here)
-            (subst (λ t. k.since ≤ t) act.call.time late) lapses.slave lapses.due in
+            lapses act.call.s w.time (subst (λ n. slice_get w.stations n ≡ Some act.call.s) (sym here) act.call.here)
+            (subst (λ t. k.since ≤ t) act.call.time late) now.slave now.due in
             absurd (omega arith)
       ]
 
@@ -138,10 +139,11 @@ module _ (says : Says) (k : Wiring) where
     ]
 
   -- whatever happens keeps the link at a stage
-  acts : (w w' : State) → Ends k w → Ends k w' → Acts says w w' → LinkSettles says k w → LinkSettles says k w'
-  acts w w' ends ends' (inl act) link = arrives w w' ends ends' act link
-  acts w w' ends ends' (inr (inl act)) link = drops w w' ends act link
-  acts w w' ends ends' (inr (inr act)) link = runs w w' ends ends' act link
+  acts : (w w' : State) → Ends k w → Ends k w' → LapsesLater k w → Acts says w w' → LinkSettles says k w
+      → LinkSettles says k w'
+  acts w w' ends ends' lapses (inl act) link = arrives w w' ends ends' act link
+  acts w w' ends ends' lapses (inr (inl act)) link = drops w w' ends act link
+  acts w w' ends ends' lapses (inr (inr act)) link = runs w w' ends ends' lapses act link
 
   -- a moment comes: where the teller settles by then, its timer is due within an interval of an earlier time
   later : (w : State) (t : ℕ) → Ends k w → Ends k (record w { time = t }) → LinkSettles says k w
@@ -166,12 +168,12 @@ module _ (says : Says) (k : Wiring) where
       }
 
   -- every step keeps the link at a stage
-  pub link_kept : (w w' : State) → Ends k w → Ends k w' → Steps says w w' → LinkSettles says k w
+  pub link_kept : (w w' : State) → Ends k w → Ends k w' → LapsesLater k w → Steps says w w' → LinkSettles says k w
       → LinkSettles says k w'
-  link_kept w w' ends ends' (inl wait) link =
+  link_kept w w' ends ends' lapses (inl wait) link =
       subst (LinkSettles says k) (sym wait.is)
       (later w wait.time ends (subst (Ends k) wait.is ends') link)
-  link_kept w w' ends ends' (inr act) link = acts w w' ends ends' act link
+  link_kept w w' ends ends' lapses (inr act) link = acts w w' ends ends' lapses act link
 
   -- an interval and the largest delay after the teller has settled the hearer holds what it tells
   pub link_settled : (w : State) (pv pu : Port) (l : Lane) → Ends k w → LinkSettles says k w → Stand k w pv pu l

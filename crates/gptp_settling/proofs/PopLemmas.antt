@@ -1,5 +1,5 @@
 -- A frame is taken off a lane: what that does to the ends of a link, and to its stage.
-use Rattle.std.proofs.Common.{◌≡◌, ◌≢◌, ◌<◌, ◌≤◌, ℕ, List, Some, slice_get, sym, ap, subst, ◌∙◌, inl, inr}
+use Rattle.std.proofs.Common.{◌≡◌, ◌≢◌, ◌≤◌, ℕ, List, Some, slice_get, sym, ap, subst, ◌∙◌, inl, inr}
 use Rattle.gptp_lists.specs.Members.{In}
 use Rattle.gptp_settling.specs.Frame.{Says, Frame, Lane}
 use Rattle.gptp_settling.specs.Station.{Port, State}
@@ -34,8 +34,6 @@ module _ (says : Says) (k : Wiring) where
         (ends.teller s q (pops.stations k.teller_place s at) port);
     hearer = λ s q at port since. ends.hearer s q (pops.stations k.hearer_place s at) port
         (subst (λ t. k.since ≤ t) pops.time since);
-    fed = λ s due at since slave lapse. subst (λ t. t < due) (sym pops.time)
-        (ends.fed s due (pops.stations k.hearer_place s at) (subst (λ t. k.since ≤ t) pops.time since) slave lapse);
   }
     where
       there : k.lane ≡ j → slice_get w.lanes k.lane ≡ Some l

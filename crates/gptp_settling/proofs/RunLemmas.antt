@@ -19,8 +19,8 @@ module _ (says : Says) (n : Network) (net : IsNetwork n) where
   pub run_keeps : (w : State) (ws : List State) → IsRun says n w ws → Invariant says n w
       → Calm n (last_of w ws) × Invariant says n (last_of w ws)
   run_keeps w [] run invariant = (run, invariant)
-  run_keeps w (w' ∷ ws) (calm, step, rest) invariant =
-      run_keeps w' ws rest (invariant_kept says n net w w' calm (first_calm w' ws rest) step invariant)
+  run_keeps w (w' ∷ ws) (calm, nothing, step, rest) invariant =
+      run_keeps w' ws rest (invariant_kept says n net w w' calm (first_calm w' ws rest) nothing step invariant)
 
   -- so it is settled, where the run begins early and ends late enough
   pub run_settles : (w : State) (ws : List State) → IsRun says n w ws → w.time < n.start

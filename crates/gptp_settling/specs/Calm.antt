@@ -1,14 +1,13 @@
 -- What is known of each state of a network whose last change is past, of one item each. This is what a world has to
--- show of itself; the laws of settling have no other premise.
+-- show of itself; besides, the laws of settling have one premise, that nothing lapses (`Lapsing`).
 use Rattle.std.specs.Prelude.{◌≡◌, ◌≢◌, ◌<◌, ◌≤◌, ◌+◌, ℕ, suc, true, Some, slice_get}
 use Rattle.gptp_lists.specs.Members.{In}
-use Rattle.gptp_graph.specs.Snapshot.{System, PortIdentity, Snapshot, port_of, Joins, IsLinked}
-use Rattle.gptp_graph.specs.Distance.{IsDistance}
+use Rattle.gptp_graph.specs.Snapshot.{System, PortIdentity, port_of, Joins, IsLinked}
 use Rattle.gptp_settling.specs.Frame.{Frame, Lane}
 use Rattle.gptp_settling.specs.Station.{Reception, Disabled, Mine, Received, Port, Station, State}
 use Rattle.gptp_settling.specs.Facts.{system_of, Facts}
 use Rattle.gptp_settling.specs.AtRest.{IsAtRest}
-use Rattle.gptp_settling.specs.Network.{Network, setting, since}
+use Rattle.gptp_settling.specs.Network.{Network, setting}
 
 -- What is known of port p of a live system. Its interval is the one it has in the network, and its timer is due within
 -- that while it is master. From the start it is disabled exactly where no link is at it. What came over its link and
@@ -22,21 +21,9 @@ pub record IsCalmPort (n : Network) (now : ℕ) (p : PortIdentity) (q : Port) : 
   pub long : (r : Reception) (from : PortIdentity) → q.held ≡ Received r → Joins n.graph from p
       → r.said.source ≡ from → r.said.log ≡ n.log_of from → n.interval_of from + n.most < r.span
 
--- the link at the slave port leads from distance d to the system, a step farther
-pub record FollowsNearer (g : Snapshot) (s : Station) (d : ℕ) : Type 0 where
-  pub here : IsDistance g s.clock (suc d)
-  pub port : ℕ
-  pub slave : s.slave ≡ Some port
-  pub from : PortIdentity
-  pub joins : Joins g from (port_of s.clock port)
-  pub there : IsDistance g from.clock d
-
--- What is known of a live system: it is at rest, each of its ports is such a one, and what it received of a near system
--- doesn't lapse once that has settled and the Sync was waited for.
+-- what is known of a live system: it is at rest, and each of its ports is such a one
 pub record IsCalmStation (n : Network) (now : ℕ) (s : Station) : Type 0 where
   pub at_rest : IsAtRest s
-  pub fed : (d due : ℕ) → d < 255 → FollowsNearer n.graph s d → since n d + n.feed ≤ now → s.lapse ≡ Some due
-      → now < due
   pub ports : (i : ℕ) (q : Port) → slice_get s.ports i ≡ Some q → IsCalmPort n now (port_of s.clock (suc i)) q
 
 -- the system of the snapshot stands at its place, live

@@ -32,7 +32,8 @@ network = record {
   most = 1;
   timeout = 2;
   start = 1;
-  feed = 0;
+  syncs = record { interval = 1; residence = 0; span = 3 };
+  sync_wait = 0;
   step = 8;
 }
 
@@ -57,6 +58,9 @@ lone clock identity timer = record {
   steps = 0;
   slave = None;
   trace = clock ∷ [];
+  kept = None;
+  sync = 0;
+  relay = None;
   lapse = None;
 }
 
@@ -81,6 +85,9 @@ following at = record {
   steps = 1;
   slave = Some 1;
   trace = 1 ∷ 2 ∷ [];
+  kept = None;
+  sync = 0;
+  relay = None;
   lapse = None;
 }
 

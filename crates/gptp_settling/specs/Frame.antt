@@ -16,6 +16,20 @@ pub record Announce : Type 0 where
 abbrev pub Says : Type 1
 Says = List ℕ → Announce → Type 0
 
+-- what a Sync and its Follow_Up have in common: the port that sent both, and their number (sourcePortIdentity and
+-- sequenceId; IEEE 1588-2019, 9.5.5)
+pub record SyncId : Type 0 where
+  pub source : PortIdentity
+  pub sequence : ℕ
+
+-- the two messages that tell time (IEEE 802.1AS-2020, 11.4.3 and 11.4.4)
+pub data SyncMessage : Type 0 where
+  Sync FollowUp : SyncId → SyncMessage
+
+-- Which octets say which of them. Every law is over all such relations too.
+abbrev pub SaysSync : Type 1
+SaysSync = List ℕ → SyncMessage → Type 0
+
 -- a frame in flight: when it is due at the other end, and its octets
 pub record Frame : Type 0 where
   pub due : ℕ

@@ -14,12 +14,15 @@ pub mod LinkLaws
 pub mod AtRest
 pub mod Network
 pub mod Calm
+pub mod Lapsing
+pub mod Matching
+pub mod Syncs
+pub mod SyncActs
 pub mod Levels
 pub mod Settled
 pub mod SettlingLaws
 pub mod Run
+pub mod SyncLaws
 pub mod Example
 pub mod ExampleLaws
 pub mod HeldLaws
-pub mod Flow
-pub mod FlowLaws

@@ -64,8 +64,12 @@ pub record Ends (k : Wiring) (w : State) : Type 0 where
       → slice_get s.ports k.teller_port ≡ Some q → IsTeller k w.time s q
   pub hearer : (s : Station) (q : Port) → slice_get w.stations k.hearer_place ≡ Some s
       → slice_get s.ports k.hearer_port ≡ Some q → k.since ≤ w.time → HearsSettled k q
-  pub fed : (s : Station) (due : ℕ) → slice_get w.stations k.hearer_place ≡ Some s → k.since ≤ w.time
-      → s.slave ≡ Some (suc k.hearer_port) → s.lapse ≡ Some due → w.time < due
+
+-- what the hearer received over the link doesn't lapse now, once the teller has settled
+abbrev pub LapsesLater : Wiring → State → Type 0
+LapsesLater k w = (s : Station) (due : ℕ) → slice_get w.stations k.hearer_place ≡ Some s → k.since ≤ w.time
+    → s.slave ≡ Some (suc k.hearer_port) → s.lapse ≡ Some due
+    → w.time < due
 
 -- what stands at the two ends and between them
 pub record Stand (k : Wiring) (w : State) (pv pu : Port) (l : Lane) : Type 0 where

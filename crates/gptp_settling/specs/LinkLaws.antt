@@ -4,12 +4,12 @@ use Rattle.gptp_settling.specs.Frame.{Says, Lane}
 use Rattle.gptp_settling.specs.Station.{Reception, Received, Port, State}
 use Rattle.gptp_settling.specs.Acts.{Steps}
 use Rattle.gptp_settling.specs.Stage.{Wiring, IsFinal}
-use Rattle.gptp_settling.specs.Link.{Ends, Stand, LinkSettles}
+use Rattle.gptp_settling.specs.Link.{Ends, LapsesLater, Stand, LinkSettles}
 
 -- every step keeps that the link is at one of the stages once the teller has settled
 abbrev pub LinkIsKept : Says → Type 0
 LinkIsKept says = (k : Wiring) (w w' : State)
-    → Ends k w → Ends k w' → Steps says w w' → LinkSettles says k w
+    → Ends k w → Ends k w' → LapsesLater k w → Steps says w w' → LinkSettles says k w
     → LinkSettles says k w'
 
 -- an interval and the largest delay after the teller has settled the hearer holds a final Announce

@@ -5,12 +5,18 @@ use Rattle.gptp_graph.specs.PathBound.{BoundsPaths}
 use Rattle.gptp_settling.specs.Facts.{Setting, turn}
 use Rattle.gptp_settling.specs.Stage.{Wiring}
 
+-- the sync interval, how long after a Follow_Up a system relays it, and how long after one its lapse timer is due
+pub record SyncTiming : Type 0 where
+  pub interval : ℕ
+  pub residence : ℕ
+  pub span : ℕ
+
 -- The live systems and their links; how many systems a path of them has at most; at which place a system stands, by its
 -- clock, and a lane, by the port that it leads from; the announce interval of each port, first its logarithm, and the
 -- largest of them; the largest delay of a link; the announce receipt timeout, in intervals; when every port on a link
--- is capable and all others are disabled; for how long at most a settled system waits for the next Sync of the best;
--- and what each step of distance takes. Where nothing lapses for want of Sync the wait is none and a step takes two
--- intervals.
+-- is capable and all others are disabled; the times of Syncs; for how long at most a settled system waits for the next
+-- Sync of the best; and what each step of distance takes. Where nothing lapses for want of Sync the wait is none and a
+-- step takes two intervals.
 pub record Network : Type 0 where
   pub graph : Snapshot
   pub reach : ℕ
@@ -22,7 +28,8 @@ pub record Network : Type 0 where
   pub most : ℕ
   pub timeout : ℕ
   pub start : ℕ
-  pub feed : ℕ
+  pub syncs : SyncTiming
+  pub sync_wait : ℕ
   pub step : ℕ
 
 -- The snapshot is a network's, no path of it has more systems than is said, and a step of distance takes at least the
@@ -30,7 +37,7 @@ pub record Network : Type 0 where
 pub record IsNetwork (n : Network) : Type 0 where
   pub graph : IsWellFormed n.graph
   pub paths : BoundsPaths n.graph n.reach
-  pub round : (p : PortIdentity) → IsLinked n.graph p → n.feed + n.interval_of p + n.most ≤ n.step
+  pub round : (p : PortIdentity) → IsLinked n.graph p → n.sync_wait + n.interval_of p + n.most ≤ n.step
 
 -- what is received stays for the receipt timeout at most
 abbrev pub setting : Network → Setting
@@ -52,7 +59,7 @@ settled_from n = n.start
     + n.reach * n.step
 
 -- The link from port p + 1 of system v, at distance d from its best, to port q + 1 of system u. Claims of it are made
--- from when u, if it follows v by then, has heard a Sync from it.
+-- from when the wait for a Sync from v is over.
 abbrev pub wiring : Network → ℕ → System → ℕ → ℕ → ℕ → ℕ → Wiring
 wiring n d best v p u q = record {
   teller = v;
@@ -67,5 +74,5 @@ wiring n d best v p u q = record {
   most = n.most;
   root = best.identity;
   steps = d;
-  since = since n d + n.feed;
+  since = since n d + n.sync_wait;
 }

@@ -6,12 +6,13 @@ use Rattle.gptp_settling.specs.Station.{Station, State}
 use Rattle.gptp_settling.specs.Acts.{Steps}
 use Rattle.gptp_settling.specs.Network.{Network, IsNetwork, settled_from}
 use Rattle.gptp_settling.specs.Calm.{Calm}
+use Rattle.gptp_settling.specs.Lapsing.{NothingLapses}
 use Rattle.gptp_settling.specs.Settled.{FollowsBest, HasSettledRoles}
 
--- each state follows from the one before it by a step, and all are calm
+-- each state follows from the one before it by a step, in none of them something lapses, and all are calm
 abbrev pub IsRun : Says → Network → State → List State → Type 0
 IsRun says n w [] = Calm n w
-IsRun says n w (w' ∷ ws) = Calm n w × Steps says w w' × IsRun says n w' ws
+IsRun says n w (w' ∷ ws) = Calm n w × NothingLapses n w × Steps says w w' × IsRun says n w' ws
 
 -- the last of the states
 abbrev pub last_of : State → List State → State

@@ -8,6 +8,7 @@ use Rattle.gptp_settling.specs.Station.{Station, State}
 use Rattle.gptp_settling.specs.Acts.{Steps}
 use Rattle.gptp_settling.specs.Network.{Network, IsNetwork, clean_from, since, settled_from}
 use Rattle.gptp_settling.specs.Calm.{Calm}
+use Rattle.gptp_settling.specs.Lapsing.{NothingLapses}
 use Rattle.gptp_settling.specs.Levels.{Invariant}
 use Rattle.gptp_settling.specs.Settled.{FollowsBest, HasSettledRoles}
 
@@ -17,10 +18,10 @@ InvariantBegins says = (n : Network) (w : State)
     → Calm n w → w.time < n.start
     → Invariant says n w
 
--- every step from a calm state to a calm state keeps it
+-- every step from a calm state in which nothing lapses to a calm state keeps it
 abbrev pub InvariantIsKept : Says → Type 0
 InvariantIsKept says = (n : Network) (w w' : State)
-    → IsNetwork n → Calm n w → Calm n w' → Steps says w w' → Invariant says n w
+    → IsNetwork n → Calm n w → Calm n w' → NothingLapses n w → Steps says w w' → Invariant says n w
     → Invariant says n w'
 
 -- a near system at distance d follows its component's best over its parent, once all that is held is wholly clean and

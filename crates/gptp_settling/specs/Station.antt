@@ -1,6 +1,6 @@
 -- The state of the machine: systems with what their ports hold, and the lanes between them.
 use Rattle.std.specs.Prelude.{◌≡◌, ℕ, ℤ, Bool, List, Option, Some, slice_get}
-use Rattle.gptp_settling.specs.Frame.{Announce, Lane}
+use Rattle.gptp_settling.specs.Frame.{Announce, SyncId, Lane}
 
 -- an Announce that was received: what it said, when, and for how long it stays if nothing replaces it
 pub record Reception : Type 0 where
@@ -24,8 +24,9 @@ pub record Port : Type 0 where
   pub announce : ℕ
 
 -- A system, live or failed, by its clock and identity: its ports, of which number n stands at place n - 1; what it
--- follows, which is the root, the steps to it, the slave port and the path trace that it announces; and when what its
--- slave port holds lapses for want of Sync, while a timer for that runs.
+-- follows, which is the root, the steps to it, the slave port and the path trace that it announces; the Sync that it
+-- keeps until the Follow_Up comes; and when its Sync timer is due, while they run its Relay timer, and the one by which
+-- what its slave port holds lapses for want of Sync.
 pub record Station : Type 0 where
   pub live : Bool
   pub clock : ℕ
@@ -35,6 +36,9 @@ pub record Station : Type 0 where
   pub steps : ℕ
   pub slave : Option ℕ
   pub trace : List ℕ
+  pub kept : Option SyncId
+  pub sync : ℕ
+  pub relay : Option ℕ
   pub lapse : Option ℕ
 
 -- the time, the systems, and one lane for each direction of each link

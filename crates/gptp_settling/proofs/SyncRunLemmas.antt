@@ -1,0 +1,59 @@
+-- A run in which Syncs are told keeps what is expected of them, so that nothing lapses and it ends settled.
+use Rattle.std.proofs.Common.{◌<◌, ◌≤◌, ◌+◌, ◌*◌, ℕ, zero, suc, pred, List, [], ◌∷◌, arith}
+use native.Mathlib.Nat.{mul-le-mul_right}
+use Rattle.gptp_settling.specs.Frame.{Says, SaysSync}
+use Rattle.gptp_settling.specs.Station.{State}
+use Rattle.gptp_settling.specs.Network.{Network, IsNetwork, settled_from}
+use Rattle.gptp_settling.specs.Calm.{Calm}
+use Rattle.gptp_settling.specs.Levels.{Invariant}
+use Rattle.gptp_settling.specs.Run.{last_of, IsSettled}
+use Rattle.gptp_settling.specs.Syncs.{HaveSyncTimers, wait, IsPrompt, SyncsAreExpected}
+use Rattle.gptp_settling.specs.SyncLaws.{IsSyncRun}
+use Rattle.gptp_settling.proofs.LevelLemmas.{invariant_begins, invariant_kept, whole_from}
+use Rattle.gptp_settling.proofs.SettledLemmas.{network_settles}
+use Rattle.gptp_settling.proofs.SyncLemmas.{expected_begins, nothing_lapses}
+use Rattle.gptp_settling.proofs.SyncActLemmas.{step_of, expected_kept}
+
+-- the wait is longest at the end of the longest path
+pub prompt : (n : Network) → n.syncs.interval + pred n.reach * (n.syncs.residence + n.most) ≤ n.sync_wait
+    → n.sync_wait < n.syncs.span → IsPrompt n
+prompt n within short = record { covers = covers; short = short }
+  where
+    covers : (d : ℕ) → suc d < n.reach → wait n d ≤ n.sync_wait
+    covers d near =
+        let fewer : suc d ≤ pred n.reach = le_pred (suc d) n.reach near in
+        let more : suc d * (n.syncs.residence + n.most) ≤ pred n.reach * (n.syncs.residence + n.most) =
+        mul-le-mul_right (n.syncs.residence + n.most) fewer in
+        omega arith
+      where
+        le_pred : (a b : ℕ) → a < b → a ≤ pred b
+        le_pred a zero h = absurd (omega arith)
+        le_pred a (suc b) h = omega arith
+
+module _ (says : Says) (says_sync : SaysSync) (n : Network) (net : IsNetwork n) (is_prompt : IsPrompt n) where
+  -- the first state of a run is calm, and Syncs are told in it
+  first_calm : (w : State) (ws : List State) → IsSyncRun says says_sync n w ws → Calm n w × HaveSyncTimers n w
+  first_calm w [] (calm, facts) = (calm, facts)
+  first_calm w (w' ∷ ws) (calm, facts, step, rest) = (calm, facts)
+
+  -- the last state is calm and keeps the invariant, where the first does and Syncs are expected in it
+  run_keeps : (w : State) (ws : List State) → IsSyncRun says says_sync n w ws → Invariant says n w
+      → SyncsAreExpected says_sync n w → Calm n (last_of w ws) × Invariant says n (last_of w ws)
+  run_keeps w [] (calm, facts) invariant expected = (calm, invariant)
+  run_keeps w (w' ∷ ws) (calm, facts, step, rest) invariant expected =
+      let (calm', facts') = first_calm w' ws rest in
+      let nothing =
+      nothing_lapses says_sync n net w calm (whole_from says n net w calm invariant) facts is_prompt expected in
+      let invariant' =
+      invariant_kept says n net w w' calm calm' nothing (step_of says says_sync n w w' step) invariant in
+      run_keeps w' ws rest invariant'
+      (expected_kept says says_sync n net w w' calm calm' facts facts' step invariant invariant' expected)
+
+  -- so it ends settled, where it begins early and ends late enough
+  pub sync_run_settles : (w : State) (ws : List State) → IsSyncRun says says_sync n w ws → w.time < n.start
+      → settled_from n ≤ (last_of w ws).time → IsSettled n (last_of w ws)
+  sync_run_settles w ws run early late i s at live near =
+      let (first, facts) = first_calm w ws run in
+      let (calm, invariant) =
+      run_keeps w ws run (invariant_begins says n w first early) (expected_begins says_sync n w early) in
+      network_settles says n (last_of w ws) i s net calm invariant at live near late
