@@ -1,0 +1,4 @@
+pub mod RightLemmas
+pub mod FlowLemmas
+pub mod FollowerLemmas
+pub mod TellingLemmas

@@ -1,0 +1,60 @@
+-- Laws on what is told and known on a way, hop by hop.
+use Rattle.std.specs.Prelude.{◌≡◌, ℕ, suc, ◌+◌, ◌<◌, ◌≤◌, ℤ, pos, ◌+ℤ◌, ◌-ℤ◌, length}
+use Rattle.gptp_scaled.specs.Rate.{FitsRate}
+use Rattle.gptp_scaled.specs.Stamp.{scaled_of}
+use Rattle.gptp_scaled.specs.Counts.{AreWithin}
+use Rattle.gptp_pdelay.specs.Measured.{AreMeasured}
+use Rattle.gptp_correction.specs.declared.correction.Relayed.{Relayed}
+use Rattle.gptp_correction.specs.Correction.{bridge, received, relayed}
+use Rattle.gptp_measuring.specs.Setting.{IsInTime}
+use Rattle.gptp_accuracy.specs.TimeError.{Link, Way, jitter_at, link_at, time_error_at}
+use Rattle.gptp_accuracy.specs.WayLaws.{IsDocumented, longer, shown_at}
+use Rattle.gptp_timing.specs.Right.{IsMeasuredAt, IsRight, info_of}
+
+-- what the root tells is right: its own clock as the Sync is sent, and the rate of its own clock
+abbrev pub RootTellsRight : Type 0
+RootTellsRight = (w : Way) (phase : ℕ → ℕ) (told : Relayed) (sent : ℕ)
+    → scaled_of told.origin +ℤ told.correction ≡ shown_at w phase 0 sent → told.rate ≡ pos 0
+    → IsRight w phase 0 told sent
+
+-- A Sync was sent over the link at a place at one time, and came at another, and what its Follow_Up told is right.
+pub record IsOnWay (w : Way) (phase : ℕ → ℕ) (i : ℕ) (told : Relayed) (sent came : ℕ) : Type 0 where
+  pub documented : IsDocumented w
+  pub on_way : i < length w.links
+  pub long : sent + (link_at w i).least ≤ came
+  pub short : came ≤ sent + (link_at w i).most
+  pub right : IsRight w phase i told sent
+
+-- What a bridge tells is right, where what it knows was right as it was told, where it has measured the link well, and
+-- where it keeps the Sync for at most the jitter and a residence: the jitter until the Follow_Up comes, and a residence
+-- from then on.
+abbrev pub BridgeTellsRight : Type 0
+BridgeTellsRight = (w : Way) (phase : ℕ → ℕ) (i : ℕ) (told : Relayed) (sent came due : ℕ) (rate delay : ℤ)
+    → IsOnWay w phase i told sent came → IsMeasuredAt w i rate delay
+    → IsInTime came due (w.residence + jitter_at w i) → FitsRate (told.rate +ℤ rate)
+    → let info = info_of told (shown_at w phase (suc i) came) in
+    IsRight w phase (suc i) (relayed info (bridge info delay rate (shown_at w phase (suc i) due))) due
+
+-- The offset that a system computes at a Follow_Up, which is its clock as the Sync came less the root's time then, is
+-- within the time error of what its clock shows as the Follow_Up comes less what the root's does.
+abbrev pub OffsetIsRight : Type 0
+OffsetIsRight = (w : Way) (phase : ℕ → ℕ) (i : ℕ) (told : Relayed) (sent came now : ℕ) (rate delay : ℤ)
+    → IsOnWay w phase i told sent came → IsMeasuredAt w i rate delay
+    → came ≤ now → now ≤ sent + (link_at w i).most
+    → let ingress = shown_at w phase (suc i) came in
+    AreWithin (time_error_at w (suc i)) (ingress -ℤ received (info_of told ingress) delay rate)
+    (shown_at w phase (suc i) now -ℤ shown_at w phase 0 now)
+
+-- what is right on a way is right where the way goes on
+abbrev pub RightStays : Type 0
+RightStays = (w : Way) (l : Link) (phase phase' : ℕ → ℕ) (i : ℕ) (told : Relayed) (sent : ℕ)
+    → i ≤ length w.links → phase' 0 ≡ phase 0 → IsRight w phase i told sent
+    → IsRight (longer w l) phase' i told sent
+
+-- what is measured by two exchanges over the link at a place, one after the other, is right
+abbrev pub ExchangesMeasureRight : Type 0
+ExchangesMeasureRight = (w : Way) (phase : ℕ → ℕ) (i : ℕ) (rate delay : ℤ)
+    → IsDocumented w → i < length w.links → (link_at w i).least ≤ (link_at w i).most
+    → AreMeasured (link_at w i).least (link_at w i).most w.turnaround w.interval (shown_at w phase (suc i))
+    (shown_at w phase i) rate delay
+    → IsMeasuredAt w i rate delay

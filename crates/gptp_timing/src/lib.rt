@@ -1,0 +1,26 @@
+//! How exact the time is that a system computes, once the network has settled: a small machine, and its laws.
+//!
+//! The machine is one system that follows its parent, with the Sync that it keeps, what it knows and when it sends that
+//! on, and the frames in flight from the parent. Its acts say of a step of the network only what the laws use (IEEE
+//! 802.1AS-2020, 10.2.9, 11.2.14 and 11.2.15): a frame arrives, the parent sends Sync and Follow_Up, what is known is
+//! sent on, and others send. What the octets of a frame mean, how long it takes between the least and the greatest
+//! delay of its link, and what was in flight, kept or known as the network settled are free.
+//!
+//! The definitions stand in `specs/`. Each function of this crate is a law: it does nothing, and its contract is a
+//! theorem about the definitions. What Syncs and Follow_Ups in flight bring, and what a bridge knows, is right within the
+//! time error of gptp_accuracy; and so is the offset that a system computes at each Follow_Up that belongs to the Sync
+//! that it keeps. Nothing says that a Sync comes. Lemmas for the crates above are in the public modules of `proofs/`.
+#![tactic(auto)]
+
+mod coding;
+mod follower;
+mod right;
+
+pub use coding::Coding;
+pub use follower::{
+    invariant_begins, invariant_holds_later, invariant_kept, offset_is_exact, parent_tells_right,
+    root_tells,
+};
+pub use right::{
+    bridge_tells_right, exchanges_measure_right, offset_is_right, right_stays, root_tells_right,
+};
