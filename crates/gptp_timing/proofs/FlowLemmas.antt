@@ -19,7 +19,7 @@ module _ (k : Setting) (says : List ℕ → Message → Type 0) where
       inr (inl (mute f (inl refl), flows_mute kept fs (mute_rest says f fs mute)))
 
   -- frames that are due before what comes is right may bring anything
-  pub flows_old : (fs : List Frame) → ((f : Frame) → In f fs → f.due ≤ from k) → Flows k says None fs
+  pub flows_old : (fs : List Frame) → ((f : Frame) → In f fs → f.due < from k) → Flows k says None fs
   flows_old [] old = tt
   flows_old (f ∷ fs) old = inl (old f (inl refl), flows_old fs (λ g at. old g (inr at)))
 
@@ -49,7 +49,7 @@ module _ (k : Setting) (says : List ℕ → Message → Type 0) where
 
   -- a Follow_Up that was sent now behind its Sync
   module _ (time sequence : ℕ) (told : Relayed)
-      (right : from k < time + (link_of k).most → IsRight k.way k.phase k.place told time) where
+      (right : from k ≤ time + (link_of k).most → IsRight k.way k.phase k.place told time) where
     -- the first that isn't mute is the Follow_Up
     follow_up_flows : (came : ℕ) → time + (link_of k).least ≤ came → (fs : List Frame)
         → ((f : Frame) → In f fs → came ≤ f.due) → ((f : Frame) → In f fs → f.due ≤ time + (link_of k).most)
@@ -59,11 +59,11 @@ module _ (k : Setting) (says : List ℕ → Message → Type 0) where
     follow_up_flows came long (f ∷ fs) behind short (inr (mute, later)) =
         inr (inl (mute, follow_up_flows came long fs (λ g at. behind g (inr at)) (λ g at. short g (inr at)) later))
     follow_up_flows came long (f ∷ fs) behind short (inl (said, mute)) =
-        by_time (cases_lt (from k) f.due)
+        by_time (cases_lt f.due (from k))
       where
-        by_time : (from k < f.due) ⊎ (f.due ≤ from k) → Flows k says (Some (arrival sequence came)) (f ∷ fs)
-        by_time (inr old) = inl (old, flows_mute None fs mute)
-        by_time (inl late) = inr (inr (inr (
+        by_time : (f.due < from k) ⊎ (from k ≤ f.due) → Flows k says (Some (arrival sequence came)) (f ∷ fs)
+        by_time (inl old) = inl (old, flows_mute None fs mute)
+        by_time (inr late) = inr (inr (inr (
           sequence,
           told,
           said,

@@ -10,7 +10,7 @@ use Rattle.gptp_measuring.specs.Lanes.{Frame, IsMute}
 use Rattle.gptp_measuring.specs.Setting.{IsInTime}
 use Rattle.gptp_timing.specs.Messages.{Message, Sync, FollowUp, IsOneMessage}
 use Rattle.gptp_timing.specs.Right.{IsRight, info_of, told_of}
-use Rattle.gptp_timing.specs.Follower.{Follower, KeptSync, Setting, from, link_of, own_clock, root_clock}
+use Rattle.gptp_timing.specs.Follower.{Follower, IsSetting, KeptSync, Setting, from, link_of, own_clock, root_clock}
 use Rattle.gptp_timing.specs.Flows.{Arrival, AreCarried, Flows, IsTold, arrival}
 use Rattle.gptp_timing.specs.Acts.{Acts, FrameArrives, Hears, IsUnmoved, Keeps, Knows, KnowsAnew, KnowsStill, Passes, hears, kept, others_send, parent_tells, relays}
 use Rattle.gptp_timing.specs.Invariant.{Inv, IsFresh, IsInformed, IsKept, IsKnownRight}
@@ -25,7 +25,7 @@ module _ (k : Setting) (says : List ℕ → Message → Type 0) where
 
   -- where what is known, if anything, is sent on a residence from now or earlier, and it isn't late yet, nothing is
   -- claimed of it
-  known_early : (s s' : Follower) → s.time ≤ from k → KnowsAnew k s s' → IsKnownRight k s'
+  known_early : (s s' : Follower) → s.time < from k → KnowsAnew k s s' → IsKnownRight k s'
   known_early s s' early anew info due known relay late =
       let by = (anew info due known relay).1 in absurd (omega (arith, early, by, late))
 
@@ -91,7 +91,7 @@ module _ (k : Setting) (says : List ℕ → Message → Type 0) where
       }
 
       -- whatever it is
-      anyway : act.front.due ≤ from k → KnowsStill s s' ⊎ KnowsAnew k s s' → IsKnownRight k s'
+      anyway : act.front.due < from k → KnowsStill s s' ⊎ KnowsAnew k s s' → IsKnownRight k s'
       anyway old (inl still) = known_still s s' still inv.known
       anyway old (inr anew) = known_early s s' (omega (arith, old, act.now)) anew
 
@@ -160,10 +160,11 @@ module _ (k : Setting) (says : List ℕ → Message → Type 0) where
   inv_later s s' (time, is) inv = subst (λ (t : Follower). Inv k says t) (sym is)
       (record { arrival = inv.arrival; is_kept = inv.is_kept; flows = inv.flows; known = inv.known })
 
-  pub inv_begins : (s : Follower) → IsFresh k s → Inv k says s
-  inv_begins s fresh = record {
+  pub inv_begins : (s : Follower) → IsSetting k → IsFresh k s → Inv k says s
+  inv_begins s is fresh = record {
     arrival = None;
     is_kept = tt;
-    flows = FlowLemmas.flows_old k says s.lane fresh.lane;
+    flows = FlowLemmas.flows_old k says s.lane
+        (λ f at. let by = fresh.lane f at in omega (arith, by, is.short));
     known = λ info due known relay late. (let by = fresh.relay due relay in absurd (omega (arith, by, late)));
   }

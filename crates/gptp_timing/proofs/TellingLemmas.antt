@@ -23,8 +23,8 @@ root_tells k told sent first time rate =
     subst (λ i. IsRight k.way k.phase i told sent) (sym first) (root_tells_right k.way k.phase told sent time rate)
 
 -- what comes to those that follow the system when it is right there was heard when what comes is right here
-parents_time : (k k' : Setting) (time : ℕ) → IsSetting k' → IsParent k k' → from k' < time + (link_of k').most
-    → from k + k.way.residence < time
+parents_time : (k k' : Setting) (time : ℕ) → IsSetting k' → IsParent k k' → from k' ≤ time + (link_of k').most
+    → from k + k.way.residence ≤ time
 parents_time k k' time is' parent late =
     let before : from k' ≡ k.settled + suc (suc k.place) * (k.longest + k.way.residence) = rw
     (parent.way, parent.place, parent.settled, parent.longest) refl in
@@ -45,7 +45,7 @@ on_way k told sent came heard is carried right = record {
 module _ (k : Setting) (says : List ℕ → Message → Type 0) where
   -- what is known and sent on is right as it is sent
   pub relay_tells_right : (s : Follower) (info : SyncInfo) (rate delay : ℤ) → IsSetting k → Inv k says s
-      → s.known ≡ Some info → s.relay ≡ Some s.time → from k + k.way.residence < s.time
+      → s.known ≡ Some info → s.relay ≡ Some s.time → from k + k.way.residence ≤ s.time
       → IsMeasuredAt k.way k.place rate delay → FitsRate (info.rate +ℤ rate)
       → IsRight k.way k.phase (suc k.place) (relayed info (bridge info delay rate (own_clock k s.time))) s.time
   relay_tells_right s info rate delay is inv known relay late measured fits =
@@ -62,7 +62,7 @@ module _ (k : Setting) (says : List ℕ → Message → Type 0) where
 
   pub parent_tells_right : (k' : Setting) (s : Follower) (info : SyncInfo) (rate delay : ℤ)
       → IsSetting k → IsSetting k' → IsParent k k' → Inv k says s
-      → s.known ≡ Some info → s.relay ≡ Some s.time → from k' < s.time + (link_of k').most
+      → s.known ≡ Some info → s.relay ≡ Some s.time → from k' ≤ s.time + (link_of k').most
       → IsMeasuredAt k.way k.place rate delay → FitsRate (info.rate +ℤ rate)
       → IsRight k'.way k'.phase k'.place (relayed info (bridge info delay rate (own_clock k s.time))) s.time
   parent_tells_right k' s info rate delay is is' parent inv known relay late measured fits =
@@ -76,7 +76,7 @@ module _ (k : Setting) (says : List ℕ → Message → Type 0) where
   pub offset_is_exact : (s : Follower) (front : Frame) (rest : List Frame) (source : PortIdentity)
       (sequence : ℕ) (told : Relayed) (ingress rate delay : ℤ)
       → IsSetting k → Inv k says s
-      → s.lane ≡ front ∷ rest → front.due ≡ s.time → from k < s.time
+      → s.lane ≡ front ∷ rest → front.due ≡ s.time → from k ≤ s.time
       → IsOneMessage says front.octets (FollowUp source sequence told)
       → s.kept ≡ Some (kept source sequence ingress) → IsMeasuredAt k.way k.place rate delay
       → AreWithin (time_error_at k.way (suc k.place)) (ingress -ℤ received (info_of told ingress) delay rate)

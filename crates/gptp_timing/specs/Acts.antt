@@ -89,7 +89,7 @@ module _ (k : Setting) (says : List ℕ → Message → Type 0) (s s' : Follower
     pub lane : s'.lane ≡ s.lane ++ news
     pub sent : SendsTime says k.parent sequence told news
     pub in_time : AreSentInTime k s.time news
-    pub right : from k < s.time + (link_of k).most → IsRight k.way k.phase k.place told s.time
+    pub right : from k ≤ s.time + (link_of k).most → IsRight k.way k.phase k.place told s.time
 
   -- what is known is sent on to those that follow the system, or something doesn't fit
   pub record RelayExpires : Type 0 where

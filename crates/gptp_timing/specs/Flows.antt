@@ -1,5 +1,5 @@
 -- What the frames in flight to a system that follows its parent bring.
-use Rattle.std.specs.Prelude.{◌≡◌, ◌⊎◌, ⊤, ℕ, ◌+◌, ◌≤◌, List, [], ◌∷◌, Option, Some, None}
+use Rattle.std.specs.Prelude.{◌≡◌, ◌⊎◌, ⊤, ℕ, ◌+◌, ◌<◌, ◌≤◌, List, [], ◌∷◌, Option, Some, None}
 use Rattle.gptp_correction.specs.declared.correction.Relayed.{Relayed}
 use Rattle.gptp_measuring.specs.Lanes.{Frame, IsMute}
 use Rattle.gptp_timing.specs.Messages.{Message, Sync, FollowUp}
@@ -38,7 +38,7 @@ module _ (k : Setting) (says : List ℕ → Message → Type 0) where
   abbrev pub Flows : Option Arrival → List Frame → Type 0
   Flows kept [] = ⊤
   Flows kept (f ∷ fs) =
-      ((f.due ≤ from k) × Flows None fs)
+      ((f.due < from k) × Flows None fs)
       ⊎ ((IsMute says f × Flows kept fs)
       ⊎ (((sequence : ℕ) × says f.octets (Sync k.parent sequence) × Flows (Some (arrival sequence f.due)) fs)
       ⊎ ((sequence : ℕ) × (told : Relayed) × says f.octets (FollowUp k.parent sequence told)

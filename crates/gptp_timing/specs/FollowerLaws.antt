@@ -37,14 +37,14 @@ module _ (says : List ℕ → Message → Type 0) where
 
   -- it holds as the network becomes settled
   abbrev pub InvBegins : Type 0
-  InvBegins = (k : Setting) (s : Follower) → IsFresh k s → Inv k says s
+  InvBegins = (k : Setting) (s : Follower) → IsSetting k → IsFresh k s → Inv k says s
 
   -- What a bridge sends on is right for those that follow it, where it may come to them after what comes is right. So
   -- they have what `ParentTells` asks for.
   abbrev pub ParentTellsRight : Type 0
   ParentTellsRight = (k k' : Setting) (s : Follower) (info : SyncInfo) (rate delay : ℤ)
       → IsSetting k → IsSetting k' → IsParent k k' → Inv k says s
-      → s.known ≡ Some info → s.relay ≡ Some s.time → from k' < s.time + (link_of k').most
+      → s.known ≡ Some info → s.relay ≡ Some s.time → from k' ≤ s.time + (link_of k').most
       → IsMeasuredAt k.way k.place rate delay → FitsRate (info.rate +ℤ rate)
       → IsRight k'.way k'.phase k'.place (relayed info (bridge info delay rate (own_clock k s.time))) s.time
 
@@ -54,7 +54,7 @@ module _ (says : List ℕ → Message → Type 0) where
   OffsetIsExact = (k : Setting) (s : Follower) (front : Frame) (rest : List Frame) (source : PortIdentity)
       (sequence : ℕ) (told : Relayed) (ingress rate delay : ℤ)
       → IsSetting k → Inv k says s
-      → s.lane ≡ front ∷ rest → front.due ≡ s.time → from k < s.time
+      → s.lane ≡ front ∷ rest → front.due ≡ s.time → from k ≤ s.time
       → IsOneMessage says front.octets (FollowUp source sequence told)
       → s.kept ≡ Some (kept source sequence ingress) → IsMeasuredAt k.way k.place rate delay
       → AreWithin (time_error_at k.way (suc k.place)) (ingress -ℤ received (info_of told ingress) delay rate)

@@ -6,7 +6,7 @@ use Rattle.gptp_measuring.specs.Lanes.{Frame}
 use Rattle.gptp_measuring.specs.Setting.{IsInTime}
 use Rattle.gptp_timing.specs.Messages.{Message}
 use Rattle.gptp_timing.specs.Right.{IsRight, told_of}
-use Rattle.gptp_timing.specs.Follower.{Follower, KeptSync, Setting, from, own_clock}
+use Rattle.gptp_timing.specs.Follower.{Follower, KeptSync, Setting, from, link_of, own_clock}
 use Rattle.gptp_timing.specs.Flows.{Arrival, AreCarried, Flows}
 use Rattle.gptp_timing.specs.Acts.{kept}
 
@@ -21,10 +21,10 @@ pub record IsInformed (k : Setting) (info : SyncInfo) (due : ℕ) : Type 0 where
   pub ingress : info.ingress ≡ own_clock k came
   pub right : IsRight k.way k.phase k.place (told_of info) sent
 
--- it is so where it is to be sent on more than a residence after what comes is right
+-- it is so where it is to be sent on a residence or more after what comes is right
 abbrev pub IsKnownRight : Setting → Follower → Type 0
 IsKnownRight k s = (info : SyncInfo) (due : ℕ) → s.known ≡ Some info → s.relay ≡ Some due
-    → from k + k.way.residence < due → IsInformed k info due
+    → from k + k.way.residence ≤ due → IsInformed k info due
 
 -- the Sync that is kept is this one, where one is known to be
 abbrev pub IsKept : Setting → Option Arrival → Option KeptSync → Type 0
@@ -38,8 +38,8 @@ pub record Inv (k : Setting) (says : List ℕ → Message → Type 0) (s : Follo
   pub flows : Flows k says arrival s.lane
   pub known : IsKnownRight k s
 
--- Nothing is known but that what is in flight is due before what comes is right, and what is known is to be sent on at
--- most a residence after that: so it is as the network becomes settled.
+-- As the network becomes settled nothing is known but that what is in flight was sent before that, and that what is
+-- known was told before that.
 pub record IsFresh (k : Setting) (s : Follower) : Type 0 where
-  pub lane : (f : Frame) → In f s.lane → f.due ≤ from k
-  pub relay : (due : ℕ) → s.relay ≡ Some due → due ≤ from k + k.way.residence
+  pub lane : (f : Frame) → In f s.lane → f.due < k.settled + (link_of k).most
+  pub relay : (due : ℕ) → s.relay ≡ Some due → due < k.settled + k.way.residence
