@@ -16,5 +16,8 @@ pub mod FactLaws
 pub mod BoundLaws
 pub mod CapabilityLaws
 pub mod SilenceLaws
+pub mod Meter
+pub mod Measured
+pub mod MeasuredLaws
 pub mod Runs
 pub mod Example
