@@ -187,8 +187,12 @@ right_stays w l phase phase' i told sent h root right =
     (λ j m. steady_same w l j (omega (arith, h, m))) in
     record { time = rw (sent_same w l i h, root) right.time; rate = rw (errors, rates) right.rate; fits = right.fits }
 
-pub exchanges_measure_right : ExchangesMeasureRight
-exchanges_measure_right w phase i rate delay k h order a =
+-- two exchanges over the link at a place
+measured_right : (w : Way) (phase : ℕ → ℕ) (i : ℕ) (rate delay : ℤ) → IsDocumented w → i < length w.links →
+    (link_at w i).least ≤ (link_at w i).most →
+    AreMeasured (link_at w i).least (link_at w i).most w.turnaround w.interval (shown_at w phase (suc i))
+    (shown_at w phase i) rate delay → IsMeasuredAt w i rate delay
+measured_right w phase i rate delay k h order a =
     let l = link_at w i in
     let is = measurement_is_within l.least l.most w.turnaround w.interval
     (ceil_div (2202000000000 * jitter_at w i) w.interval) (phase (suc i)) (phase i) (drift_at w (suc i)) (drift_at w i)
@@ -205,3 +209,24 @@ exchanges_measure_right w phase i rate delay k h order a =
     bounded mine yours m =
         rw m.rate_is (rate_is_bounded (yours (m.later.heard + w.turnaround) -ℤ yours (m.earlier.heard + w.turnaround))
         (mine m.later.came -ℤ mine m.earlier.came))
+
+-- the same delays, parameters and clocks
+same_exchanges : (least most most' turnaround turnaround' interval interval' : ℕ) (mine mine' yours yours' : ℕ → ℤ)
+    (rate delay : ℤ) → most' ≡ most → turnaround' ≡ turnaround → interval' ≡ interval → mine' ≡ mine → yours' ≡ yours →
+    AreMeasured least most turnaround interval mine yours rate delay →
+    AreMeasured least most' turnaround' interval' mine' yours' rate delay
+same_exchanges least most most' turnaround turnaround' interval interval' mine mine' yours yours' rate delay a b c d e
+    m =
+    rw (a, b, c, d, e) m
+
+pub exchanges_measure_right : ExchangesMeasureRight
+exchanges_measure_right k w phase i last on h =
+    let l = link_at w i in
+    let m = h.measured in (
+      m,
+      h.is,
+      measured_right w phase i m.rate m.delay on.documented on.on_way (omega (arith, on.order, on.most))
+          (same_exchanges l.least k.most l.most k.turnaround w.turnaround k.period w.interval k.asking_clock
+          (shown_at w phase (suc i)) k.answering_clock (shown_at w phase i) m.rate m.delay (sym on.most) (sym on.turnaround)
+          (sym on.period) (sym on.asking) (sym on.answering) h.exchanges),
+    )

@@ -15,7 +15,7 @@ use Rattle.gptp_timing.specs.Follower.{Follower, IsSetting, KeptSync, Setting, f
 use Rattle.gptp_timing.specs.Flows.{AreCarried, Arrival, Flows, IsTold}
 use Rattle.gptp_timing.specs.Acts.{kept}
 use Rattle.gptp_timing.specs.Invariant.{Inv, IsInformed, IsKept}
-use Rattle.gptp_timing.specs.FollowerLaws.{IsParent, RootTells}
+use Rattle.gptp_timing.specs.FollowerLaws.{IsParentOf, RootTells}
 use Rattle.gptp_timing.proofs.RightLemmas.{bridge_tells_right, offset_is_right, right_stays, root_tells_right}
 
 pub root_tells : RootTells
@@ -23,7 +23,7 @@ root_tells k told sent first time rate =
     subst (λ i. IsRight k.way k.phase i told sent) (sym first) (root_tells_right k.way k.phase told sent time rate)
 
 -- what comes to those that follow the system when it is right there was heard when what comes is right here
-parents_time : (k k' : Setting) (time : ℕ) → IsSetting k' → IsParent k k' → from k' ≤ time + (link_of k').most
+parents_time : (k k' : Setting) (time : ℕ) → IsSetting k' → IsParentOf k k' → from k' ≤ time + (link_of k').most
     → from k + k.way.residence ≤ time
 parents_time k k' time is' parent late =
     let before : from k' ≡ k.settled + suc (suc k.place) * (k.longest + k.way.residence) = rw
@@ -61,7 +61,7 @@ module _ (k : Setting) (says : List ℕ → Message → Type 0) where
       (relayed x (bridge x delay rate (own_clock k s.time))) s.time) same right
 
   pub parent_tells_right : (k' : Setting) (s : Follower) (info : SyncInfo) (rate delay : ℤ)
-      → IsSetting k → IsSetting k' → IsParent k k' → Inv k says s
+      → IsSetting k → IsSetting k' → IsParentOf k k' → Inv k says s
       → s.known ≡ Some info → s.relay ≡ Some s.time → from k' ≤ s.time + (link_of k').most
       → IsMeasuredAt k.way k.place rate delay → FitsRate (info.rate +ℤ rate)
       → IsRight k'.way k'.phase k'.place (relayed info (bridge info delay rate (own_clock k s.time))) s.time

@@ -17,7 +17,7 @@ use Rattle.gptp_timing.specs.Acts.{Acts, Passes, kept}
 use Rattle.gptp_timing.specs.Invariant.{Inv, IsFresh}
 
 -- The system with the setting k is the parent of that with k': the way goes on over one link, from the same root.
-pub record IsParent (k k' : Setting) : Type 0 where
+pub record IsParentOf (k k' : Setting) : Type 0 where
   pub link : Link
   pub way : k'.way ≡ longer k.way link
   pub end : length k.way.links ≡ suc k.place
@@ -43,7 +43,7 @@ module _ (says : List ℕ → Message → Type 0) where
   -- they have what `ParentTells` asks for.
   abbrev pub ParentTellsRight : Type 0
   ParentTellsRight = (k k' : Setting) (s : Follower) (info : SyncInfo) (rate delay : ℤ)
-      → IsSetting k → IsSetting k' → IsParent k k' → Inv k says s
+      → IsSetting k → IsSetting k' → IsParentOf k k' → Inv k says s
       → s.known ≡ Some info → s.relay ≡ Some s.time → from k' ≤ s.time + (link_of k').most
       → IsMeasuredAt k.way k.place rate delay → FitsRate (info.rate +ℤ rate)
       → IsRight k'.way k'.phase k'.place (relayed info (bridge info delay rate (own_clock k s.time))) s.time

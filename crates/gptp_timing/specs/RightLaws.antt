@@ -1,12 +1,13 @@
 -- Laws on what is told and known on a way, hop by hop.
-use Rattle.std.specs.Prelude.{◌≡◌, ℕ, suc, ◌+◌, ◌<◌, ◌≤◌, ℤ, pos, ◌+ℤ◌, ◌-ℤ◌, length}
+use Rattle.std.specs.Prelude.{◌≡◌, ℕ, suc, ◌+◌, ◌<◌, ◌≤◌, ℤ, pos, ◌+ℤ◌, ◌-ℤ◌, Option, Some, length}
 use Rattle.gptp_scaled.specs.Rate.{FitsRate}
 use Rattle.gptp_scaled.specs.Stamp.{scaled_of}
 use Rattle.gptp_scaled.specs.Counts.{AreWithin}
-use Rattle.gptp_pdelay.specs.Measured.{AreMeasured}
+use Rattle.gptp_pdelay.specs.declared.exchange.Measurement.{Measurement}
 use Rattle.gptp_correction.specs.declared.correction.Relayed.{Relayed}
 use Rattle.gptp_correction.specs.Correction.{bridge, received, relayed}
-use Rattle.gptp_measuring.specs.Setting.{IsInTime}
+use Rattle.gptp_measuring.specs.Setting.{IsInTime, Setting}
+use Rattle.gptp_measuring.specs.Measured.{HasMeasured}
 use Rattle.gptp_accuracy.specs.TimeError.{Link, Way, jitter_at, link_at, time_error_at}
 use Rattle.gptp_accuracy.specs.WayLaws.{IsDocumented, longer, shown_at}
 use Rattle.gptp_timing.specs.Right.{IsMeasuredAt, IsRight, info_of}
@@ -51,10 +52,19 @@ RightStays = (w : Way) (l : Link) (phase phase' : ℕ → ℕ) (i : ℕ) (told :
     → i ≤ length w.links → phase' 0 ≡ phase 0 → IsRight w phase i told sent
     → IsRight (longer w l) phase' i told sent
 
--- what is measured by two exchanges over the link at a place, one after the other, is right
+-- A port measures the link at a place: delays, parameters and clocks are those of the way.
+pub record MeasuresOnWay (k : Setting) (w : Way) (phase : ℕ → ℕ) (i : ℕ) : Type 0 where
+  pub documented : IsDocumented w
+  pub on_way : i < length w.links
+  pub order : (link_at w i).least ≤ k.most
+  pub most : k.most ≡ (link_at w i).most
+  pub turnaround : k.turnaround ≡ w.turnaround
+  pub period : k.period ≡ w.interval
+  pub asking : k.asking_clock ≡ shown_at w phase (suc i)
+  pub answering : k.answering_clock ≡ shown_at w phase i
+
+-- what such a port has measured, once that is of two exchanges, one after the other, is right
 abbrev pub ExchangesMeasureRight : Type 0
-ExchangesMeasureRight = (w : Way) (phase : ℕ → ℕ) (i : ℕ) (rate delay : ℤ)
-    → IsDocumented w → i < length w.links → (link_at w i).least ≤ (link_at w i).most
-    → AreMeasured (link_at w i).least (link_at w i).most w.turnaround w.interval (shown_at w phase (suc i))
-    (shown_at w phase i) rate delay
-    → IsMeasuredAt w i rate delay
+ExchangesMeasureRight = (k : Setting) (w : Way) (phase : ℕ → ℕ) (i : ℕ) (last : Option Measurement)
+    → MeasuresOnWay k w phase i → HasMeasured k (link_at w i).least last
+    → (m : Measurement) × (last ≡ Some m) × IsMeasuredAt w i m.rate m.delay

@@ -24,7 +24,7 @@ pub fn right_stays()
     ensures { RightStays }
 {}
 
-/// What a port has measured by two exchanges, one after the other, is right.
+/// What a port has measured by two exchanges, one after the other, is right: so it is of each port that has settled.
 pub fn exchanges_measure_right()
     ensures { ExchangesMeasureRight }
 {}
