@@ -2,3 +2,5 @@ pub mod RightLemmas
 pub mod FlowLemmas
 pub mod FollowerLemmas
 pub mod TellingLemmas
+pub mod RunLemmas
+mod ExampleLemmas

@@ -1,5 +1,6 @@
 -- Laws on a system that follows its parent.
 use Rattle.std.specs.Prelude.{◌≡◌, ℕ, suc, ◌+◌, ◌<◌, ◌≤◌, ℤ, pos, ◌+ℤ◌, ◌-ℤ◌, List, ◌∷◌, Some, length}
+use Rattle.gptp_lists.specs.Members.{In}
 use Rattle.gptp_graph.specs.Snapshot.{PortIdentity}
 use Rattle.gptp_scaled.specs.Rate.{FitsRate}
 use Rattle.gptp_scaled.specs.Stamp.{scaled_of}
@@ -15,6 +16,7 @@ use Rattle.gptp_timing.specs.Right.{IsMeasuredAt, IsRight, info_of}
 use Rattle.gptp_timing.specs.Follower.{Follower, IsSetting, Setting, from, link_of, own_clock, root_clock}
 use Rattle.gptp_timing.specs.Acts.{Acts, Passes, kept}
 use Rattle.gptp_timing.specs.Invariant.{Inv, IsFresh}
+use Rattle.gptp_timing.specs.Runs.{IsRun}
 
 -- The system with the setting k is the parent of that with k': the way goes on over one link, from the same root.
 pub record IsParentOf (k k' : Setting) : Type 0 where
@@ -65,3 +67,9 @@ abbrev pub RootTells : Type 0
 RootTells = (k : Setting) (told : Relayed) (sent : ℕ)
     → k.place ≡ 0 → scaled_of told.origin +ℤ told.correction ≡ root_clock k sent → told.rate ≡ pos 0
     → IsRight k.way k.phase k.place told sent
+
+-- So it is in every run that begins as the network becomes settled: the invariant holds of each of its states.
+abbrev pub RunsKeepInv : (List ℕ → Message → Type 0) → Type 0
+RunsKeepInv says = (k : Setting) (s t : Follower) (run : List Follower)
+    → IsSetting k → IsFresh k s → IsRun k says s run → In t (s ∷ run)
+    → Inv k says t

@@ -5,4 +5,6 @@ pub mod Follower
 pub mod Flows
 pub mod Acts
 pub mod Invariant
+pub mod Runs
 pub mod FollowerLaws
+pub mod Example

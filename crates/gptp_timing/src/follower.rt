@@ -1,7 +1,7 @@
 //! Laws on a system that follows its parent.
 
 ghost use Rattle.gptp_timing.specs.FollowerLaws.{InvIsKept, InvHoldsLater, InvBegins};
-ghost use Rattle.gptp_timing.specs.FollowerLaws.{OffsetIsExact, ParentTellsRight, RootTells};
+ghost use Rattle.gptp_timing.specs.FollowerLaws.{OffsetIsExact, ParentTellsRight, RootTells, RunsKeepInv};
 
 use crate::coding::Coding;
 
@@ -18,6 +18,11 @@ pub fn invariant_holds_later<C: Coding>()
 /// The invariant holds as the network becomes settled, whatever is kept, known and in flight.
 pub fn invariant_begins<C: Coding>()
     ensures { InvBegins C.says }
+{}
+
+/// In every run that begins as the network becomes settled the invariant holds of each state.
+pub fn runs_keep_invariant<C: Coding>()
+    ensures { RunsKeepInv C.says }
 {}
 
 /// What a bridge sends on is right for those that follow it.

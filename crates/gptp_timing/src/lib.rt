@@ -13,13 +13,15 @@
 #![tactic(auto)]
 
 mod coding;
+mod examples;
 mod follower;
 mod right;
 
 pub use coding::Coding;
+pub use examples::sync_over_two_links;
 pub use follower::{
     invariant_begins, invariant_holds_later, invariant_kept, offset_is_exact, parent_tells_right,
-    root_tells,
+    root_tells, runs_keep_invariant,
 };
 pub use right::{
     bridge_tells_right, exchanges_measure_right, offset_is_right, right_stays, root_tells_right,
