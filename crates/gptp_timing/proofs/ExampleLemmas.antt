@@ -11,7 +11,7 @@ use Rattle.gptp_accuracy.specs.TimeError.{drift_at}
 use Rattle.gptp_accuracy.specs.Examples.{two_links_way}
 use Rattle.gptp_accuracy.specs.WayLaws.{IsDocumented}
 use Rattle.gptp_timing.specs.Messages.{Message, Sync, FollowUp, IsOneMessage}
-use Rattle.gptp_timing.specs.Right.{IsMeasuredAt, IsRight, info_of}
+use Rattle.gptp_timing.specs.Right.{IsHeldAt, IsMeasuredAt, IsRight, info_of}
 use Rattle.gptp_timing.specs.Follower.{Follower, IsSetting, KeptSync, Setting, from, link_of, own_clock}
 use Rattle.gptp_timing.specs.Acts.{FrameArrives, Hears, ParentTells, RelayExpires, hears, kept, parent_tells, relays}
 use Rattle.gptp_timing.specs.Invariant.{Inv, IsFresh}
@@ -20,7 +20,6 @@ use Rattle.gptp_timing.specs.Runs.{IsRun}
 use Rattle.gptp_timing.specs.Example.{Pair, at_bridge, at_slave, book, came, coming, delay, due, follow_up_due, follow_up_frame, from_bridge, from_root, going_on, heard, info, known, rate, ready, relay_due, says, sent_on, sync, sync_due, sync_frame, sync_kept, told, SyncOverTwoLinks}
 use Rattle.gptp_timing.proofs.RunLemmas.{runs_keep_inv}
 use Rattle.gptp_timing.proofs.TellingLemmas.{parent_tells_right, root_tells}
-
 
 module _ (k : Setting) (speaks : List ℕ → Message → Type 0) (x : Pair) (order : (link_of k).least ≤ (link_of k).most)
     (one_sync : IsOneMessage speaks x.sync (Sync k.parent x.sequence))
@@ -200,18 +199,22 @@ slave_measures = record {
 bridge_comes : IsRun at_bridge says (ready at_bridge from_root)
     (coming at_bridge from_root ++ going_on at_bridge from_root)
 bridge_comes = comes at_bridge says from_root (omega arith) (says_one (0 ∷ []) _ refl) (says_one (1 ∷ []) _ refl)
-    (going_on at_bridge from_root) (λ late. root_tells at_bridge from_root.told from_root.sent refl refl refl)
+    (going_on at_bridge from_root) (λ late. root_tells at_bridge (record { seconds = 2; nanos = 0 }) 0 from_root.sent refl
+    (record { stamp = record { seconds = omega arith; nanos = omega arith }; small = omega arith; whole = refl }))
     (goes_on at_bridge says from_root (omega arith) (says_one (0 ∷ []) _ refl) (says_one (1 ∷ []) _ refl))
+
+bridge_adds : IsHeldAt at_bridge.way 0 from_root.told.rate rate from_root.told.rate
+bridge_adds = record { fits = omega (arith, ints); nearest = inl refl }
 
 -- what the bridge sends on is right
 bridge_right : IsRight at_slave.way at_slave.phase at_slave.place from_bridge.told from_bridge.sent
 bridge_right = parent_tells_right at_bridge says at_slave (relay_due at_bridge from_root) (info at_bridge from_root)
-    rate delay bridge_is slave_is parent_is
+    rate delay from_root.told.rate bridge_is slave_is parent_is
     (runs_keep_inv at_bridge says (ready at_bridge from_root) (relay_due at_bridge from_root)
     (coming at_bridge from_root ++ going_on at_bridge from_root) bridge_is
     (begins at_bridge says from_root (omega arith) (says_one (0 ∷ []) _ refl) (says_one (1 ∷ []) _ refl))
     bridge_comes (inr (inr (inr (inr (inr (inr (inl refl))))))))
-    refl refl (omega arith) bridge_measures (omega (arith, ints))
+    refl refl (omega arith) bridge_measures bridge_adds
 
 pub sync_over_two_links : SyncOverTwoLinks
 sync_over_two_links = record {
@@ -224,7 +227,8 @@ sync_over_two_links = record {
   bridge_measures = bridge_measures;
   slave_measures = slave_measures;
   bridge_run = bridge_comes;
-  bridge_fits = omega (arith, ints);
+  bridge_adds = bridge_adds;
+  slave_adds = record { fits = omega (arith, ints); nearest = inl refl };
   slave_run = comes at_slave says from_bridge (omega arith) (says_one (2 ∷ []) _ refl) (says_one (3 ∷ []) _ refl) []
       (λ late. bridge_right) tt;
   late = omega arith;

@@ -1,3 +1,4 @@
+pub mod SizeLemmas
 pub mod RightLemmas
 pub mod FlowLemmas
 pub mod FollowerLemmas

@@ -1,7 +1,6 @@
 -- A Sync over two links, state by state: from the root over a bridge to a slave.
 use Rattle.std.specs.Prelude.{◌≡◌, ℕ, zero, suc, ◌+◌, ◌≤◌, ℤ, pos, ◌+ℤ◌, ◌-ℤ◌, neg_ℤ, List, [], ◌∷◌, ◌++◌, Option, Some, None, slice_get, get_or}
 use Rattle.gptp_graph.specs.Snapshot.{port_of}
-use Rattle.gptp_scaled.specs.Rate.{FitsRate}
 use Rattle.gptp_correction.specs.declared.correction.Relayed.{Relayed}
 use Rattle.gptp_correction.specs.declared.sync_in.SyncInfo.{SyncInfo}
 use Rattle.gptp_correction.specs.Correction.{bridge, received, relayed}
@@ -9,7 +8,7 @@ use Rattle.gptp_measuring.specs.Lanes.{Frame}
 use Rattle.gptp_accuracy.specs.TimeError.{Link, Way, link_at, time_error_at}
 use Rattle.gptp_accuracy.specs.Examples.{two_links_way}
 use Rattle.gptp_timing.specs.Messages.{Message, Sync, FollowUp, IsOneMessage}
-use Rattle.gptp_timing.specs.Right.{IsMeasuredAt, info_of}
+use Rattle.gptp_timing.specs.Right.{IsHeldAt, IsMeasuredAt, info_of, root_time}
 use Rattle.gptp_timing.specs.Follower.{Follower, IsSetting, KeptSync, Setting, at_time, from, link_of, own_clock}
 use Rattle.gptp_timing.specs.Acts.{kept}
 use Rattle.gptp_timing.specs.Invariant.{IsFresh}
@@ -105,7 +104,7 @@ at_slave = setting two_links_way 1 2
 abbrev pub from_root : Pair
 from_root = record {
   sequence = 7;
-  told = record { origin = record { seconds = 2; nanos = 0 }; correction = pos 0; rate = pos 0 };
+  told = root_time (record { seconds = 2; nanos = 0 }) 0;
   sent = 2000000000;
   sync = 0 ∷ [];
   follow_up = 1 ∷ [];
@@ -149,7 +148,8 @@ pub record SyncOverTwoLinks : Type 0 where
   pub slave_measures : IsMeasuredAt at_slave.way at_slave.place rate delay
   pub bridge_run : IsRun at_bridge says (ready at_bridge from_root)
       (coming at_bridge from_root ++ going_on at_bridge from_root)
-  pub bridge_fits : FitsRate ((info at_bridge from_root).rate +ℤ rate)
+  pub bridge_adds : IsHeldAt at_bridge.way at_bridge.place from_root.told.rate rate from_root.told.rate
+  pub slave_adds : IsHeldAt at_slave.way at_slave.place from_bridge.told.rate rate from_bridge.told.rate
   pub slave_run : IsRun at_slave says (ready at_slave from_bridge) (coming at_slave from_bridge)
   pub late : from at_slave ≤ heard at_slave from_bridge
   pub one : IsOneMessage says from_bridge.follow_up (FollowUp at_slave.parent from_bridge.sequence from_bridge.told)

@@ -1,7 +1,7 @@
 -- What a Follow_Up tells as it is sent, and what a port has measured, where both are as exact as the time error says.
-use Rattle.std.specs.Prelude.{ℕ, zero, suc, ◌+◌, ◌*◌, ℤ, pos, ◌+ℤ◌, ◌*ℤ◌}
+use Rattle.std.specs.Prelude.{◌≡◌, ◌⊎◌, ℕ, zero, suc, ◌+◌, ◌*◌, ◌≤◌, ℤ, pos, negsuc, ◌+ℤ◌, ◌*ℤ◌, ◌≤ℤ◌, unsigned_abs}
 use Rattle.gptp_scaled.specs.Rate.{FitsRate, IsNeighborRate}
-use Rattle.gptp_scaled.specs.Stamp.{scaled_of}
+use Rattle.gptp_scaled.specs.Stamp.{Timestamp, scaled_of}
 use Rattle.gptp_scaled.specs.Counts.{AreWithin}
 use Rattle.gptp_pdelay.specs.GoodLink.{ceil_div}
 use Rattle.gptp_pdelay.specs.Measured.{IsDelayWithin}
@@ -29,12 +29,20 @@ sent_error_at w zero = 0
 sent_error_at w (suc i) =
     33550000 * time_error_at w (suc i) + rates_error_at w i * (w.residence + jitter_at w i)
 
+-- The correction that is sent over the link at a place is at most this, in units of 2^-16 ns: a nanosecond from the
+-- root, and for each link and the bridge behind it twice the time that passes there at most, with a turnaround.
+abbrev pub most_correction_at : Way → ℕ → ℕ
+most_correction_at w i = 65536
+    + total_below i (λ j. 131072 * ((link_at w j).most + w.turnaround + w.residence + jitter_at w j + 1))
+
 -- What a Follow_Up tells is right, as its Sync is sent over the link at a place at that time, in ns: origin and
--- correction are the root's clock then, the rate is the sum of the neighbour rates up to there, and it is a number of
--- 32 bits (IEEE 802.1AS-2020, 11.4.4).
+-- correction are the root's clock then, and the correction is what passed since the origin; the rate is the sum of the
+-- neighbour rates up to there, and a number of 32 bits (IEEE 802.1AS-2020, 11.4.4).
 pub record IsRight (w : Way) (phase : ℕ → ℕ) (i : ℕ) (told : Relayed) (sent : ℕ) : Type 0 where
   pub time : AreWithin (sent_error_at w i) (pos 33550000 *ℤ (scaled_of told.origin +ℤ told.correction))
       (pos 33550000 *ℤ shown_at w phase 0 sent)
+  pub later : pos 0 ≤ℤ told.correction
+  pub small : told.correction ≤ℤ pos (most_correction_at w i)
   pub rate : AreWithin (total_below i (measured_error_at w)) told.rate (sum_below i (steady_rate_at w))
   pub fits : FitsRate told.rate
 
@@ -46,3 +54,22 @@ info_of told ingress =
 -- what it told
 abbrev pub told_of : SyncInfo → Relayed
 told_of info = record { origin = info.origin; correction = info.correction; rate = info.rate }
+
+-- what the root tells: its own clock as a timestamp and a rest, at its own rate
+abbrev pub root_time : Timestamp → ℕ → Relayed
+root_time stamp rest = record { origin = stamp; correction = pos rest; rate = pos 0 }
+
+-- the same told at another rate
+abbrev pub at_rate : Relayed → ℤ → Relayed
+at_rate told rate = record told { rate = rate }
+
+-- the sum of the rates up to the link at a place is far enough from the limits of 32 bits for a neighbour rate
+abbrev pub IsModest : Way → ℕ → Type 0
+IsModest w i = unsigned_abs (sum_below i (steady_rate_at w)) ≤ 1700000000
+
+-- The rate to which the neighbour rate is added has a sum of 32 bits with it. It is the one that was told; or where the
+-- sum of that hasn't, the one whose sum is held at the nearest limit (profile).
+pub record IsHeldAt (w : Way) (i : ℕ) (told neighbour held : ℤ) : Type 0 where
+  pub fits : FitsRate (held +ℤ neighbour)
+  pub nearest : (held ≡ told) ⊎ (IsModest w i × (((held +ℤ neighbour ≡ pos 2147483647) × (held ≤ℤ told))
+      ⊎ ((held +ℤ neighbour ≡ negsuc 2147483647) × (told ≤ℤ held))))

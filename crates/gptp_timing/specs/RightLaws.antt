@@ -1,22 +1,28 @@
 -- Laws on what is told and known on a way, hop by hop.
-use Rattle.std.specs.Prelude.{◌≡◌, ℕ, suc, ◌+◌, ◌<◌, ◌≤◌, ℤ, pos, ◌+ℤ◌, ◌-ℤ◌, Option, Some, length}
-use Rattle.gptp_scaled.specs.Rate.{FitsRate}
-use Rattle.gptp_scaled.specs.Stamp.{scaled_of}
+use Rattle.std.specs.Prelude.{◌≡◌, ℕ, suc, ◌+◌, ◌^◌, ◌<◌, ◌≤◌, ℤ, ◌-ℤ◌, Option, Some, length}
+use Rattle.gptp_scaled.specs.Rate.{IsNeighborRate}
+use Rattle.gptp_scaled.specs.Stamp.{Timestamp, IsSplit}
 use Rattle.gptp_scaled.specs.Counts.{AreWithin}
+use Rattle.gptp_pdelay.specs.Clock.{IsTime}
 use Rattle.gptp_pdelay.specs.declared.exchange.Measurement.{Measurement}
 use Rattle.gptp_correction.specs.declared.correction.Relayed.{Relayed}
-use Rattle.gptp_correction.specs.Correction.{bridge, received, relayed}
+use Rattle.gptp_correction.specs.Correction.{bridge, carried, carried_on, received, relayed, BridgeFits}
 use Rattle.gptp_measuring.specs.Setting.{IsInTime, Setting}
 use Rattle.gptp_measuring.specs.Measured.{HasMeasured}
 use Rattle.gptp_accuracy.specs.TimeError.{Link, Way, jitter_at, link_at, time_error_at}
 use Rattle.gptp_accuracy.specs.WayLaws.{IsDocumented, longer, shown_at}
-use Rattle.gptp_timing.specs.Right.{IsMeasuredAt, IsRight, info_of}
+use Rattle.gptp_timing.specs.Right.{IsHeldAt, IsMeasuredAt, IsRight, at_rate, info_of, most_correction_at, root_time}
 
--- what the root tells is right: its own clock as the Sync is sent, and the rate of its own clock
+-- what the root tells is right: its own clock as the Sync is sent
 abbrev pub RootTellsRight : Type 0
-RootTellsRight = (w : Way) (phase : ℕ → ℕ) (told : Relayed) (sent : ℕ)
-    → scaled_of told.origin +ℤ told.correction ≡ shown_at w phase 0 sent → told.rate ≡ pos 0
-    → IsRight w phase 0 told sent
+RootTellsRight = (w : Way) (phase : ℕ → ℕ) (stamp : Timestamp) (rest sent : ℕ)
+    → IsSplit (shown_at w phase 0 sent) stamp rest → IsRight w phase 0 (root_time stamp rest) sent
+
+-- what was told is right at the rate that is held, too
+abbrev pub HeldIsRight : Type 0
+HeldIsRight = (w : Way) (phase : ℕ → ℕ) (i : ℕ) (told : Relayed) (sent : ℕ) (neighbour held : ℤ)
+    → IsNeighborRate neighbour → IsHeldAt w i told.rate neighbour held → IsRight w phase i told sent
+    → IsRight w phase i (at_rate told held) sent
 
 -- A Sync was sent over the link at a place at one time, and came at another, and what its Follow_Up told is right.
 pub record IsOnWay (w : Way) (phase : ℕ → ℕ) (i : ℕ) (told : Relayed) (sent came : ℕ) : Type 0 where
@@ -30,20 +36,31 @@ pub record IsOnWay (w : Way) (phase : ℕ → ℕ) (i : ℕ) (told : Relayed) (s
 -- where it keeps the Sync for at most the jitter and a residence: the jitter until the Follow_Up comes, and a residence
 -- from then on.
 abbrev pub BridgeTellsRight : Type 0
-BridgeTellsRight = (w : Way) (phase : ℕ → ℕ) (i : ℕ) (told : Relayed) (sent came due : ℕ) (rate delay : ℤ)
+BridgeTellsRight = (w : Way) (phase : ℕ → ℕ) (i : ℕ) (told : Relayed) (sent came due : ℕ) (rate delay held : ℤ)
     → IsOnWay w phase i told sent came → IsMeasuredAt w i rate delay
-    → IsInTime came due (w.residence + jitter_at w i) → FitsRate (told.rate +ℤ rate)
-    → let info = info_of told (shown_at w phase (suc i) came) in
+    → IsInTime came due (w.residence + jitter_at w i) → IsHeldAt w i told.rate rate held
+    → let info = info_of (at_rate told held) (shown_at w phase (suc i) came) in
     IsRight w phase (suc i) (relayed info (bridge info delay rate (shown_at w phase (suc i) due))) due
+
+-- and all its numbers fit, where the correction may have 63 bits
+abbrev pub BridgeNumbersFit : Type 0
+BridgeNumbersFit = (w : Way) (phase : ℕ → ℕ) (i : ℕ) (told : Relayed) (sent came due : ℕ) (rate delay held : ℤ)
+    → IsOnWay w phase i told sent came → IsMeasuredAt w i rate delay
+    → IsInTime came due (w.residence + jitter_at w i) → IsHeldAt w i told.rate rate held
+    → most_correction_at w (suc i) < 2 ^ 63
+    → IsTime (shown_at w phase (suc i) came) → IsTime (shown_at w phase (suc i) due)
+    → let info = info_of (at_rate told held) (shown_at w phase (suc i) came) in
+    let hop = bridge info delay rate (shown_at w phase (suc i) due) in
+    BridgeFits hop (carried_on (carried info) hop)
 
 -- The offset that a system computes at a Follow_Up, which is its clock as the Sync came less the root's time then, is
 -- within the time error of what its clock shows as the Follow_Up comes less what the root's does.
 abbrev pub OffsetIsRight : Type 0
-OffsetIsRight = (w : Way) (phase : ℕ → ℕ) (i : ℕ) (told : Relayed) (sent came now : ℕ) (rate delay : ℤ)
-    → IsOnWay w phase i told sent came → IsMeasuredAt w i rate delay
+OffsetIsRight = (w : Way) (phase : ℕ → ℕ) (i : ℕ) (told : Relayed) (sent came now : ℕ) (rate delay held : ℤ)
+    → IsOnWay w phase i told sent came → IsMeasuredAt w i rate delay → IsHeldAt w i told.rate rate held
     → came ≤ now → now ≤ sent + (link_at w i).most
     → let ingress = shown_at w phase (suc i) came in
-    AreWithin (time_error_at w (suc i)) (ingress -ℤ received (info_of told ingress) delay rate)
+    AreWithin (time_error_at w (suc i)) (ingress -ℤ received (info_of (at_rate told held) ingress) delay rate)
     (shown_at w phase (suc i) now -ℤ shown_at w phase 0 now)
 
 -- what is right on a way is right where the way goes on

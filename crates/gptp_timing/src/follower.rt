@@ -1,7 +1,8 @@
 //! Laws on a system that follows its parent.
 
 ghost use Rattle.gptp_timing.specs.FollowerLaws.{InvIsKept, InvHoldsLater, InvBegins};
-ghost use Rattle.gptp_timing.specs.FollowerLaws.{OffsetIsExact, ParentTellsRight, RootTells, RunsKeepInv};
+ghost use Rattle.gptp_timing.specs.FollowerLaws.{OffsetIsExact, ParentTellsRight, ParentsNumbersFit};
+ghost use Rattle.gptp_timing.specs.FollowerLaws.{RootTells, RunsKeepInv};
 
 use crate::coding::Coding;
 
@@ -28,6 +29,11 @@ pub fn runs_keep_invariant<C: Coding>()
 /// What a bridge sends on is right for those that follow it.
 pub fn parent_tells_right<C: Coding>()
     ensures { ParentTellsRight C.says }
+{}
+
+/// All numbers of such a bridge fit.
+pub fn parents_numbers_fit<C: Coding>()
+    ensures { ParentsNumbersFit C.says }
 {}
 
 /// At each Follow_Up that is used the offset is within the time error of the system.

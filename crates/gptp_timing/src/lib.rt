@@ -21,8 +21,9 @@ pub use coding::Coding;
 pub use examples::sync_over_two_links;
 pub use follower::{
     invariant_begins, invariant_holds_later, invariant_kept, offset_is_exact, parent_tells_right,
-    root_tells, runs_keep_invariant,
+    parents_numbers_fit, root_tells, runs_keep_invariant,
 };
 pub use right::{
-    bridge_tells_right, exchanges_measure_right, offset_is_right, right_stays, root_tells_right,
+    bridge_numbers_fit, bridge_tells_right, exchanges_measure_right, held_is_right,
+    offset_is_right, right_stays, root_tells_right,
 };
