@@ -28,7 +28,8 @@ module _ (k : Setting) (least : ℕ) (asks : List ℕ → Request → Type 0) (r
   moved a a' w w' o o' b b' ea ew eo eb clean = rw (ea, ew, eo, eb) clean
 
   -- a follow-up to the recorded response completes a good exchange
-  pub completes_well : (a a' : Asker) (octets : List ℕ) (time sequence came heard : ℕ) → IsBetween a.asked came least k.most
+  pub completes_well : (a a' : Asker) (octets : List ℕ) (time sequence came heard : ℕ)
+      → IsBetween a.asked came least k.most
       → IsBetween (came + k.turnaround) heard least k.most
       → a.progress ≡ Answered sequence k.answering (k.asking_clock a.asked) (k.answering_clock came)
       (k.asking_clock heard)
@@ -57,7 +58,8 @@ module _ (k : Setting) (least : ℕ) (asks : List ℕ → Request → Type 0) (r
   asker_heard a a' w out front rest time now takes clean = by_phase clean.phase
     where
       -- the oldest frame is no reply
-      unmoved : IsMute replies front → Phase k least asks replies a w out rest → IsClean k least asks replies calm a' w out rest
+      unmoved : IsMute replies front → Phase k least asks replies a w out rest
+          → IsClean k least asks replies calm a' w out rest
       unmoved mute phase = moved a a' w w out out rest rest (takes.nothing mute) refl refl refl
           (record { phase = phase; counts = clean.counts })
 
@@ -121,7 +123,8 @@ module _ (k : Setting) (least : ℕ) (asks : List ℕ → Request → Type 0) (r
 
   -- the request timer expires
   request_sent : (p p' : Pair) → IsGood k gone calm → Facts k gone p → Facts k gone p'
-      → IsSentLate least p.time p.out p'.out → RequestTimerExpires k asks replies p p' → InvFrom k least asks replies gone calm p → calm ≤ p'.asker.asked
+      → IsSentLate least p.time p.out p'.out → RequestTimerExpires k asks replies p p'
+      → InvFrom k least asks replies gone calm p → calm ≤ p'.asker.asked
       → IsClean k least asks replies calm p'.asker p'.waits p'.out p'.back
   request_sent p p' good facts facts' long act inv since = moved
       (asks_now p.time act.sequence (k.asking_clock p.time) left) p'.asker
@@ -158,14 +161,14 @@ module _ (k : Setting) (least : ℕ) (asks : List ℕ → Request → Type 0) (r
 
       goes : Phase k least asks replies (asks_now p.time act.sequence (k.asking_clock p.time) left) p.waits
           (p.out ++ act.news) p.back
-      goes = PhaseLemmas.request_goes k least asks replies left p.waits p.out p.back act.news p.time act.sequence pends.out
-          pends.waits pends.back in_time act.sent
+      goes = PhaseLemmas.request_goes k least asks replies left p.waits p.out p.back act.news p.time act.sequence
+          pends.out pends.waits pends.back in_time act.sent
 
       known : calm ≤ p.asker.asked → (p.asker.progress ≡ Closed) × Counts k calm p.asker
       known old =
           let clean = inv.clean old in (
-            PhaseLemmas.closed_where_nothing_pends k least asks replies p.asker p.waits p.out p.back pends.out pends.waits
-                pends.back clean.phase,
+            PhaseLemmas.closed_where_nothing_pends k least asks replies p.asker p.waits p.out p.back pends.out
+                pends.waits pends.back clean.phase,
             clean.counts,
           )
 
@@ -177,8 +180,8 @@ module _ (k : Setting) (least : ℕ) (asks : List ℕ → Request → Type 0) (r
   answer_sent p p' good facts facts' long act since clean = moved p.asker p'.asker None p'.waits p.out p'.out
       (p.back ++ act.news) p'.back act.asker act.waits act.out act.back
       (record {
-        phase = PhaseLemmas.answered k least asks replies p.asker act.waiting p.out p.back act.news p.time act.now in_time
-            act.sent (subst (λ w. Phase k least asks replies p.asker w p.out p.back) act.was clean.phase);
+        phase = PhaseLemmas.answered k least asks replies p.asker act.waiting p.out p.back act.news p.time act.now
+            in_time act.sent (subst (λ w. Phase k least asks replies p.asker w p.out p.back) act.was clean.phase);
         counts = clean.counts;
       })
     where
@@ -225,8 +228,8 @@ module _ (k : Setting) (least : ℕ) (asks : List ℕ → Request → Type 0) (r
       })
   clean_kept p p' good facts facts' there home (answerer_hears act) inv since =
       let clean = inv.clean (still_calm p.asker p'.asker act.asker since) in
-      let heard = PhaseLemmas.answerer_heard k least asks replies p.asker p.waits p'.waits act.front act.rest p.back p.time
-      act.now act.waits
+      let heard = PhaseLemmas.answerer_heard k least asks replies p.asker p.waits p'.waits act.front act.rest p.back
+      p.time act.now act.waits
       (subst (λ o. Phase k least asks replies p.asker p.waits o p.back) act.was clean.phase) in
       moved p.asker p'.asker p'.waits p'.waits act.rest p'.out (p.back ++ act.news) p'.back act.asker refl act.out
       act.back
@@ -259,7 +262,8 @@ module _ (k : Setting) (least : ℕ) (asks : List ℕ → Request → Type 0) (r
   }
 
   -- time that passes keeps it
-  pub inv_from_later : (p p' : Pair) → Passes p p' → InvFrom k least asks replies gone calm p → InvFrom k least asks replies gone calm p'
+  pub inv_from_later : (p p' : Pair) → Passes p p' → InvFrom k least asks replies gone calm p
+      → InvFrom k least asks replies gone calm p'
   inv_from_later p p' (time, on, is) inv = subst (λ (q : Pair). InvFrom k least asks replies gone calm q) (sym is)
       (record {
         bounds = record {

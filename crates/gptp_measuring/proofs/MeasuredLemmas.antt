@@ -207,13 +207,16 @@ module _ (k : Setting) (least : ℕ) (asks : List ℕ → Request → Type 0) (r
   measured_sent m m' good facts act kept inv since = measured_still k least calm
       (asks_now p.time act.sequence (k.asking_clock p.time) (after_interval k.allowed p.asker.progress p.asker))
       m'.pair.asker m'.last m'.last act.asker refl
-      (measured_asked k least calm p.asker m.last m'.last p.time act.sequence (k.asking_clock p.time) act.now kept known)
+      (measured_asked k least calm p.asker m.last m'.last p.time act.sequence (k.asking_clock p.time) act.now kept
+      known)
     where
       p : Pair
       p = m.pair
 
       late : calm ≤ p.time
-      late = let asked : m'.pair.asker.asked ≡ p.time = ap (λ (b : Asker). b.asked) act.asker in omega (arith, since, asked)
+      late =
+          let asked : m'.pair.asker.asked ≡ p.time = ap (λ (b : Asker). b.asked) act.asker in
+          omega (arith, since, asked)
 
       known : calm ≤ p.asker.asked → (p.asker.progress ≡ Closed) × MeasuredSince k least calm p.asker m.last
       known old =

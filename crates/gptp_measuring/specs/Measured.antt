@@ -22,8 +22,8 @@ module _ (k : Setting) (least : ℕ) where
     pub asked : moments.asked ≤ a.asked
     pub ended : (moments.asked + k.period ≤ a.asked) ⊎ (a.progress ≡ Closed)
 
-  -- The last measurement is that of two exchanges over the link, one after the other: neighbour rate and mean link delay
-  -- are what those measure.
+  -- The last measurement is that of two exchanges over the link, one after the other: neighbour rate and mean link
+  -- delay are what those measure.
   pub record HasMeasured (last : Option Measurement) : Type 0 where
     pub measured : Measurement
     pub is : last ≡ Some measured

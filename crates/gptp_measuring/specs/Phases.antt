@@ -36,25 +36,25 @@ module _ (k : Setting) (least : ℕ) (asks : List ℕ → Request → Type 0) (r
   abbrev pub ResponseInFlight : ℕ → List Frame → Type 0
   ResponseInFlight came back = FirstIs replies (IsItsResponse came) (FollowUpInFlight came) back
 
-module _ (k : Setting) (least : ℕ) (asks : List ℕ → Request → Type 0) (replies : List ℕ → Reply → Type 0) (a : Asker)
-  where
-    -- Where the exchange of the last request stands. It rests; its request is in flight; the request came at one time and
-    -- waits; response and follow-up are in flight; the response is back, and the follow-up is in flight. Nothing else of
-    -- any exchange is pending.
-    pub data Phase (waits : Option Waiting) (out back : List Frame) : Type 0 where
-      Rests : a.progress ≡ Closed → AreMute asks out → waits ≡ None → AreMute replies back
-          → Phase waits out back
-      RequestGoes : (sequence : ℕ) → a.progress ≡ Asked sequence (k.asking_clock a.asked)
-          → RequestInFlight k least asks replies sequence a.asked out → waits ≡ None → AreMute replies back
-          → Phase waits out back
-      AnswerWaits : (sequence came : ℕ) → IsBetween a.asked came least k.most
-          → a.progress ≡ Asked sequence (k.asking_clock a.asked) → AreMute asks out
-          → waits ≡ Some (noted k (own_request k sequence) came) → AreMute replies back → Phase waits out back
-      ResponseComes : (sequence came : ℕ) → IsBetween a.asked came least k.most
-          → a.progress ≡ Asked sequence (k.asking_clock a.asked) → AreMute asks out → waits ≡ None
-          → ResponseInFlight k least asks replies sequence came back → Phase waits out back
-      FollowUpComes : (sequence came heard : ℕ) → IsBetween a.asked came least k.most
-          → IsBetween (came + k.turnaround) heard least k.most
-          → a.progress ≡ Answered sequence k.answering (k.asking_clock a.asked) (k.answering_clock came)
-          (k.asking_clock heard) → AreMute asks out → waits ≡ None
-          → FollowUpInFlight k least asks replies sequence came back → Phase waits out back
+module _ (k : Setting) (least : ℕ) (asks : List ℕ → Request → Type 0) (replies : List ℕ → Reply → Type 0)
+    (a : Asker) where
+  -- Where the exchange of the last request stands. It rests; its request is in flight; the request came at one time and
+  -- waits; response and follow-up are in flight; the response is back, and the follow-up is in flight. Nothing else of
+  -- any exchange is pending.
+  pub data Phase (waits : Option Waiting) (out back : List Frame) : Type 0 where
+    Rests : a.progress ≡ Closed → AreMute asks out → waits ≡ None → AreMute replies back
+        → Phase waits out back
+    RequestGoes : (sequence : ℕ) → a.progress ≡ Asked sequence (k.asking_clock a.asked)
+        → RequestInFlight k least asks replies sequence a.asked out → waits ≡ None → AreMute replies back
+        → Phase waits out back
+    AnswerWaits : (sequence came : ℕ) → IsBetween a.asked came least k.most
+        → a.progress ≡ Asked sequence (k.asking_clock a.asked) → AreMute asks out
+        → waits ≡ Some (noted k (own_request k sequence) came) → AreMute replies back → Phase waits out back
+    ResponseComes : (sequence came : ℕ) → IsBetween a.asked came least k.most
+        → a.progress ≡ Asked sequence (k.asking_clock a.asked) → AreMute asks out → waits ≡ None
+        → ResponseInFlight k least asks replies sequence came back → Phase waits out back
+    FollowUpComes : (sequence came heard : ℕ) → IsBetween a.asked came least k.most
+        → IsBetween (came + k.turnaround) heard least k.most
+        → a.progress ≡ Answered sequence k.answering (k.asking_clock a.asked) (k.answering_clock came)
+        (k.asking_clock heard) → AreMute asks out → waits ≡ None
+        → FollowUpInFlight k least asks replies sequence came back → Phase waits out back

@@ -298,7 +298,8 @@ offset_is_right w phase i told sent came now rate delay held on measured at late
     (held_on_way w phase i told sent came rate delay held on measured at) measured later soon
 
 -- what is measured on the links that a way had stays as it was
-measured_same : (w : Way) (l : Link) (i : ℕ) → i < length w.links → measured_error_at (longer w l) i ≡ measured_error_at w i
+measured_same : (w : Way) (l : Link) (i : ℕ) → i < length w.links →
+    measured_error_at (longer w l) i ≡ measured_error_at w i
 measured_same w l i h =
     ap (λ (k : Link). ceil_div (2202000000000 * (k.most - k.least)) w.interval + 3) (link_same w l i h)
 
@@ -375,6 +376,6 @@ exchanges_measure_right k w phase i last on h =
       h.is,
       measured_right w phase i m.rate m.delay on.documented on.on_way (omega (arith, on.order, on.most))
           (same_exchanges l.least k.most l.most k.turnaround w.turnaround k.period w.interval k.asking_clock
-          (shown_at w phase (suc i)) k.answering_clock (shown_at w phase i) m.rate m.delay (sym on.most) (sym on.turnaround)
-          (sym on.period) (sym on.asking) (sym on.answering) h.exchanges),
+          (shown_at w phase (suc i)) k.answering_clock (shown_at w phase i) m.rate m.delay (sym on.most)
+          (sym on.turnaround) (sym on.period) (sym on.asking) (sym on.answering) h.exchanges),
     )

@@ -46,7 +46,8 @@ on_way k told sent came heard is carried right = record {
 
 module _ (k : Setting) (says : List ℕ → Message → Type 0) where
   -- the stay of what is known and sent on
-  stays : (info : SyncInfo) (due : ℕ) (i : IsInformed k info due) → IsInTime i.came due (k.way.residence + jitter_at k.way k.place)
+  stays : (info : SyncInfo) (due : ℕ) (i : IsInformed k info due)
+      → IsInTime i.came due (k.way.residence + jitter_at k.way k.place)
   stays info due i =
       let carried = i.carried in
       let stay = i.stay in
@@ -112,7 +113,8 @@ module _ (k : Setting) (says : List ℕ → Message → Type 0) where
       → AreWithin (time_error_at k.way (suc k.place))
       (ingress -ℤ received (info_of (at_rate told held) ingress) delay rate)
       (own_clock k s.time -ℤ root_clock k s.time)
-  offset_is_exact s front rest source sequence told ingress rate delay held is inv was now late one keeps measured held_at =
+  offset_is_exact s front rest source sequence told ingress rate delay held is inv was now late one keeps measured
+      held_at =
       by_frame inv.arrival inv.is_kept (subst (λ fs. Flows k says inv.arrival fs) was inv.flows)
     where
       Claim : Type 0

@@ -31,10 +31,10 @@ pub record IsTold (k : Setting) (kept : Option Arrival) (sequence due : ℕ) (to
   pub right : IsRight k.way k.phase k.place told sent
 
 module _ (k : Setting) (says : List ℕ → Message → Type 0) where
-  -- The frames in turn, with the Sync that is kept as each is reached, if one is known to be: a frame that is due before
-  -- what comes is right may be anything; a frame may be mute; it may be a Sync of the parent, which is kept from then
-  -- on; it may be a Follow_Up of the parent, which tells what is right. Behind a Follow_Up no Sync is known to be kept:
-  -- where a number doesn't fit, it is forgotten.
+  -- The frames in turn, with the Sync that is kept as each is reached, if one is known to be: a frame that is due
+  -- before what comes is right may be anything; a frame may be mute; it may be a Sync of the parent, which is kept from
+  -- then on; it may be a Follow_Up of the parent, which tells what is right. Behind a Follow_Up no Sync is known to be
+  -- kept: where a number doesn't fit, it is forgotten.
   abbrev pub Flows : Option Arrival → List Frame → Type 0
   Flows kept [] = ⊤
   Flows kept (f ∷ fs) =

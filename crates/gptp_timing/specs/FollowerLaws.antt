@@ -63,7 +63,7 @@ module _ (says : List ℕ → Message → Type 0) where
       let hop = bridge used delay rate (own_clock k s.time) in
       BridgeFits hop (carried_on (carried used) hop)
 
-  -- At each Follow_Up of the parent that belongs to the Sync that is kept, after what comes is right, the offset that is
+  -- At each Follow_Up that belongs to the Sync that is kept, from when on what comes is right, the offset that is
   -- computed is within the time error of the system of its clock less the root's.
   abbrev pub OffsetIsExact : Type 0
   OffsetIsExact = (k : Setting) (s : Follower) (front : Frame) (rest : List Frame) (source : PortIdentity)

@@ -7,9 +7,10 @@
 //! delay of its link, and what was in flight, kept or known as the network settled are free.
 //!
 //! The definitions stand in `specs/`. Each function of this crate is a law: it does nothing, and its contract is a
-//! theorem about the definitions. What Syncs and Follow_Ups in flight bring, and what a bridge knows, is right within the
-//! time error of gptp_accuracy; and so is the offset that a system computes at each Follow_Up that belongs to the Sync
-//! that it keeps. Nothing says that a Sync comes. Lemmas for the crates above are in the public modules of `proofs/`.
+//! theorem about the definitions. What Syncs and Follow_Ups in flight bring, and what a bridge knows, is right within
+//! the time error of gptp_accuracy; and so is the offset that a system computes at each Follow_Up that belongs to the
+//! Sync that it keeps. Nothing says that a Sync comes. Lemmas for the crates above are in the public modules of
+//! `proofs/`.
 #![tactic(auto)]
 
 mod coding;
