@@ -9,3 +9,4 @@ pub mod CapabilityLemmas
 pub mod MeasuredLemmas
 pub mod SilenceLemmas
 mod ExampleLemmas
+mod MeterExampleLemmas

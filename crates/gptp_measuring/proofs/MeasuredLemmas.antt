@@ -1,23 +1,26 @@
 -- What a port has measured: every act keeps what is known of it.
-use Rattle.std.proofs.Common.{◌≡◌, ◌⊎◌, ◌≤◌, ◌<◌, ◌+◌, ◌*◌, ℕ, ℤ, ◌-ℤ◌, true, List, ◌∷◌, Option, Some, None, refl, sym, ap, subst, ◌∙◌, inl, inr, arith}
+use Rattle.std.proofs.Common.{◌≡◌, ◌≤◌, ◌<◌, ◌+◌, ◌*◌, ℕ, ℤ, ◌-ℤ◌, true, List, [], ◌∷◌, Option, refl, sym, ap, subst, ◌∙◌, inl, inr, arith}
 use Rattle.gptp_lists.specs.Members.{In}
 use Rattle.gptp_graph.specs.Snapshot.{PortIdentity}
 use Rattle.gptp_scaled.specs.Rate.{rate_of}
 use Rattle.gptp_pdelay.specs.declared.exchange.Measurement.{Measurement}
-use Rattle.gptp_pdelay.specs.Exchange.{mean_delay, neighbor_rate}
-use Rattle.gptp_pdelay.specs.Measured.{AreMeasured, IsCarried, Moments}
-use Rattle.gptp_measuring.specs.Lanes.{Frame, IsMute}
-use Rattle.gptp_measuring.specs.Messages.{Request, Reply, FollowUp}
+use Rattle.gptp_pdelay.specs.Exchange.{neighbor_rate}
+use Rattle.gptp_pdelay.specs.GoodLink.{IsGoodLink}
+use Rattle.gptp_pdelay.specs.Measured.{IsCarried, Moments}
+use Rattle.gptp_measuring.specs.Lanes.{IsMute}
+use Rattle.gptp_measuring.specs.Messages.{Request, Reply}
 use Rattle.gptp_measuring.specs.Setting.{Setting, IsBetween}
-use Rattle.gptp_measuring.specs.Asker.{Asker, Progress, Closed, Asked, Answered, own_request, after_interval, asks_now, completed, Takes}
+use Rattle.gptp_measuring.specs.Asker.{Asker, Closed, Asked, Answered, after_interval, asks_now, completed}
 use Rattle.gptp_measuring.specs.Pair.{Pair, at_time}
 use Rattle.gptp_measuring.specs.Acts.{RequestTimerExpires, AskerHears}
 use Rattle.gptp_measuring.specs.Facts.{Facts, IsGood, IsSentLate}
 use Rattle.gptp_measuring.specs.Phases.{Phase, Rests, RequestGoes, AnswerWaits, ResponseComes, FollowUpComes}
-use Rattle.gptp_measuring.specs.Invariant.{InvFrom, IsFresh}
+use Rattle.gptp_measuring.specs.Invariant.{IsFresh}
 use Rattle.gptp_measuring.specs.Meter.{Measures, Meter, MeterActs, MeterPasses, TakesMeasure, act_of}
 use Rattle.gptp_measuring.specs.Meter.{meter_asks, meter_hears, meter_heard, meter_answered, meter_rests}
 use Rattle.gptp_measuring.specs.Measured.{HasMeasured, HasTaken, MeasuredSince, MeterInv}
+use Rattle.gptp_measuring.specs.Runs.{IsMeterRun}
+use Rattle.gptp_measuring.proofs.FactLemmas.{timing_is_enough}
 use Rattle.gptp_measuring.proofs.InvariantLemmas.{inv_from_begins, inv_from_kept, inv_from_later, nothing_pends, completes_well}
 use Rattle.gptp_measuring.proofs.PhaseLemmas
 
@@ -298,3 +301,40 @@ pub measuring_settles : (k : Setting) (least : ℕ) (asks : List ℕ → Request
 measuring_settles k least asks replies change interval m short facts inv late =
     measured_from_calm k least asks replies (change + interval) (change + 2 * interval) m facts inv
     (omega (arith, short, late))
+
+-- the facts are known of the state that a run begins with
+first_facts : (k : Setting) (least : ℕ) (asks : List ℕ → Request → Type 0) (replies : List ℕ → Reply → Type 0)
+    (gone : ℕ) (run : List Meter) (m : Meter) → IsMeterRun k least asks replies gone m run → Facts k gone m.pair
+first_facts k least asks replies gone [] m facts = facts
+first_facts k least asks replies gone (n ∷ run) m (facts, step, on) = facts
+
+-- the invariant holds and the facts are known of each state of a run
+measured_along : (k : Setting) (least : ℕ) (asks : List ℕ → Request → Type 0) (replies : List ℕ → Reply → Type 0)
+    (gone calm : ℕ) (run : List Meter) (m n : Meter) → IsGood k gone calm → MeterInv k least asks replies gone calm m
+    → IsMeterRun k least asks replies gone m run → In n (m ∷ run)
+    → MeterInv k least asks replies gone calm n × Facts k gone n.pair
+measured_along k least asks replies gone calm [] m n good inv facts (inl same) =
+    subst (λ (o : Meter). MeterInv k least asks replies gone calm o × Facts k gone o.pair) (sym same) (inv, facts)
+measured_along k least asks replies gone calm [] m n good inv facts (inr at) = absurd at
+measured_along k least asks replies gone calm (o ∷ run) m n good inv (facts, step, on) (inl same) =
+    subst (λ (l : Meter). MeterInv k least asks replies gone calm l × Facts k gone l.pair) (sym same) (inv, facts)
+measured_along k least asks replies gone calm (o ∷ run) m n good inv (facts, inl passes, on) (inr at) =
+    measured_along k least asks replies gone calm run o n good
+    (meter_later k least asks replies gone calm m o passes inv) on at
+measured_along k least asks replies gone calm (o ∷ run) m n good inv (facts, inr (acts, there, home), on) (inr at) =
+    measured_along k least asks replies gone calm run o n good
+    (meter_kept k least asks replies gone calm m o good facts (first_facts k least asks replies gone run o on) there
+    home acts inv) on at
+
+-- so it is in every run that begins just after the last change
+pub runs_end_measured : (k : Setting) (least : ℕ) (asks : List ℕ → Request → Type 0)
+    (replies : List ℕ → Reply → Type 0) (threshold change interval : ℕ) (m n : Meter) (run : List Meter)
+    → IsGoodLink k.most k.turnaround threshold → 2 * threshold + k.turnaround < k.period → k.period ≤ interval
+    → IsFresh k (change + interval) (change + 2 * interval) m.pair
+    → IsMeterRun k least asks replies (change + interval) m run → In n (m ∷ run) → change + 5 * interval ≤ n.pair.time
+    → HasMeasured k least n.last
+runs_end_measured k least asks replies threshold change interval m n run link short period fresh is at late =
+    let good = timing_is_enough k threshold change interval link short period in
+    let (inv, facts) = measured_along k least asks replies (change + interval) (change + 2 * interval) run m n good
+    (meter_begins k least asks replies (change + interval) (change + 2 * interval) m fresh) is at in
+    measuring_settles k least asks replies change interval n period facts inv late

@@ -1,6 +1,6 @@
 -- From phase to phase: what each act does to an exchange that began with nothing old in flight.
-use Rattle.std.proofs.Common.{◌≡◌, ◌≤◌, ◌+◌, ◌++◌, ℕ, List, ◌∷◌, Option, Some, None, refl, sym, ap, subst, ◌∙◌, inl}
-use Rattle.std.proofs.Common.{inr, arith}
+use Rattle.std.proofs.Common.{◌≡◌, ◌+◌, ◌++◌, ℕ, List, ◌∷◌, Option, Some, None, refl, sym, ap, subst, ◌∙◌, inl}
+use Rattle.std.proofs.Common.{inr}
 use Rattle.gptp_lists.specs.Members.{In}
 use Rattle.gptp_measuring.specs.Lanes.{Frame, IsMute, AreMute}
 use Rattle.gptp_measuring.specs.Messages.{Request, Reply, Response, FollowUp}

@@ -18,6 +18,7 @@ pub mod CapabilityLaws
 pub mod SilenceLaws
 pub mod Meter
 pub mod Measured
-pub mod MeasuredLaws
 pub mod Runs
+pub mod MeasuredLaws
 pub mod Example
+pub mod MeterExample

@@ -1,11 +1,14 @@
 -- Laws on what a port has measured, on a good link between two live systems.
-use Rattle.std.specs.Prelude.{ℕ, ◌+◌, ◌*◌, ◌≤◌, List}
+use Rattle.std.specs.Prelude.{ℕ, ◌+◌, ◌*◌, ◌<◌, ◌≤◌, List, ◌∷◌}
+use Rattle.gptp_lists.specs.Members.{In}
+use Rattle.gptp_pdelay.specs.GoodLink.{IsGoodLink}
 use Rattle.gptp_measuring.specs.Messages.{Request, Reply}
 use Rattle.gptp_measuring.specs.Setting.{Setting}
 use Rattle.gptp_measuring.specs.Facts.{Facts, IsGood, IsSentLate}
 use Rattle.gptp_measuring.specs.Invariant.{IsFresh}
 use Rattle.gptp_measuring.specs.Meter.{Meter, MeterActs, MeterPasses}
 use Rattle.gptp_measuring.specs.Measured.{HasMeasured, MeterInv}
+use Rattle.gptp_measuring.specs.Runs.{IsMeterRun}
 
 module _ (asks : List ℕ → Request → Type 0) (replies : List ℕ → Reply → Type 0) where
   -- every act keeps the invariant, where each frame that it sends takes the least delay or more
@@ -41,3 +44,12 @@ module _ (asks : List ℕ → Request → Type 0) (replies : List ℕ → Reply 
       → MeterInv k least asks replies (change + interval) (change + 2 * interval) m
       → change + 5 * interval ≤ m.pair.time
       → HasMeasured k least m.last
+
+  -- So it is in every run over a good link that begins just after the last change, where threshold, turnaround and
+  -- intervals keep their limits.
+  abbrev pub RunsEndMeasured : Type 0
+  RunsEndMeasured = (k : Setting) (least threshold change interval : ℕ) (m n : Meter) (run : List Meter)
+      → IsGoodLink k.most k.turnaround threshold → 2 * threshold + k.turnaround < k.period → k.period ≤ interval
+      → IsFresh k (change + interval) (change + 2 * interval) m.pair
+      → IsMeterRun k least asks replies (change + interval) m run → In n (m ∷ run) → change + 5 * interval ≤ n.pair.time
+      → HasMeasured k least n.last

@@ -1,5 +1,5 @@
 -- A port that asks, with what it has measured of its link (IEEE 802.1AS-2020, 11.2.19.3).
-use Rattle.std.specs.Prelude.{◌≡◌, ℕ, ◌+◌, ◌≤◌, ℤ, ◌-ℤ◌, List, Option, Some}
+use Rattle.std.specs.Prelude.{◌≡◌, ℕ, ◌≤◌, ℤ, ◌-ℤ◌, List, Option, Some}
 use Rattle.gptp_pdelay.specs.declared.exchange.Measurement.{Measurement}
 use Rattle.gptp_pdelay.specs.Exchange.{mean_delay, neighbor_rate}
 use Rattle.gptp_measuring.specs.Messages.{Request, Reply, Response, FollowUp}

@@ -1,7 +1,7 @@
 //! Laws on what a port has measured, on a link that is up, loses nothing and is good, between two live systems.
 
 ghost use Rattle.gptp_measuring.specs.MeasuredLaws.{MeterInvIsKept, MeterInvHoldsLater, MeterInvBegins};
-ghost use Rattle.gptp_measuring.specs.MeasuredLaws.{MeasuredFromCalm, MeasuringSettles};
+ghost use Rattle.gptp_measuring.specs.MeasuredLaws.{MeasuredFromCalm, MeasuringSettles, RunsEndMeasured};
 
 use crate::coding::Coding;
 
@@ -30,4 +30,9 @@ pub fn measured_from_calm<C: Coding>()
 /// They are so from five announce intervals after the last change on.
 pub fn measuring_settles<C: Coding>()
     ensures { MeasuringSettles C.asks C.replies }
+{}
+
+/// In every run that begins just after the last change, whatever was measured before, they are so from then on.
+pub fn runs_end_measured<C: Coding>()
+    ensures { RunsEndMeasured C.asks C.replies }
 {}

@@ -1,5 +1,5 @@
 -- The example's states are a run.
-use Rattle.std.proofs.Common.{◌≡◌, ◌≤◌, ◌<◌, ◌+◌, ◌++◌, ℕ, zero, suc, ℤ, pos, ◌+ℤ◌, List, [], ◌∷◌, Option, Some, None, refl, sym, ap, subst, ◌∙◌, inl, inr, rules, arith}
+use Rattle.std.proofs.Common.{◌≡◌, ◌≤◌, ◌+◌, ◌++◌, ℕ, zero, suc, ℤ, pos, List, [], ◌∷◌, Some, refl, sym, ap, ◌∙◌, inl, inr, arith}
 use Rattle.std.proofs.lemmas.Int.{ints}
 use Rattle.gptp_lists.specs.Members.{In}
 use Rattle.gptp_pdelay.specs.Clock.{IsDrift}
@@ -9,15 +9,14 @@ use Rattle.gptp_measuring.specs.Lanes.{Frame}
 use Rattle.gptp_measuring.proofs.LaneLemmas.{no_frames_mute}
 use Rattle.gptp_accuracy.specs.TimeError.{drift_at}
 use Rattle.gptp_accuracy.specs.Examples.{two_links_way}
-use Rattle.gptp_accuracy.specs.WayLaws.{IsDocumented}
 use Rattle.gptp_timing.specs.Messages.{Message, Sync, FollowUp, IsOneMessage}
 use Rattle.gptp_timing.specs.Right.{IsHeldAt, IsMeasuredAt, IsRight, info_of}
 use Rattle.gptp_timing.specs.Follower.{Follower, IsSetting, KeptSync, Setting, from, link_of, own_clock}
-use Rattle.gptp_timing.specs.Acts.{FrameArrives, Hears, ParentTells, RelayExpires, hears, kept, parent_tells, relays}
-use Rattle.gptp_timing.specs.Invariant.{Inv, IsFresh}
+use Rattle.gptp_timing.specs.Acts.{Hears, ParentTells, hears, kept, parent_tells, relays}
+use Rattle.gptp_timing.specs.Invariant.{IsFresh}
 use Rattle.gptp_timing.specs.FollowerLaws.{IsParentOf}
 use Rattle.gptp_timing.specs.Runs.{IsRun}
-use Rattle.gptp_timing.specs.Example.{Pair, at_bridge, at_slave, book, came, coming, delay, due, follow_up_due, follow_up_frame, from_bridge, from_root, going_on, heard, info, known, rate, ready, relay_due, says, sent_on, sync, sync_due, sync_frame, sync_kept, told, SyncOverTwoLinks}
+use Rattle.gptp_timing.specs.Example.{Pair, at_bridge, at_slave, came, coming, delay, due, follow_up_due, follow_up_frame, from_bridge, from_root, going_on, heard, info, known, rate, ready, relay_due, says, sync, sync_due, sync_frame, sync_kept, told, SyncOverTwoLinks}
 use Rattle.gptp_timing.proofs.RunLemmas.{runs_keep_inv}
 use Rattle.gptp_timing.proofs.TellingLemmas.{parent_tells_right, root_tells}
 

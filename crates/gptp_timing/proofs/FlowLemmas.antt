@@ -3,13 +3,13 @@ use Rattle.std.proofs.Common.{◌≡◌, ◌⊎◌, ◌≤◌, ◌<◌, ◌+◌,
 use Rattle.std.proofs.lemmas.Bool.{cases_lt}
 use Rattle.gptp_lists.specs.Members.{In}
 use Rattle.gptp_correction.specs.declared.correction.Relayed.{Relayed}
-use Rattle.gptp_measuring.specs.Lanes.{Frame, IsMute, AreMute, FirstIs}
+use Rattle.gptp_measuring.specs.Lanes.{Frame, AreMute, FirstIs}
 use Rattle.gptp_measuring.proofs.LaneLemmas.{mute_rest}
-use Rattle.gptp_timing.specs.Messages.{Message, Sync, FollowUp}
+use Rattle.gptp_timing.specs.Messages.{Message, FollowUp}
 use Rattle.gptp_timing.specs.Right.{IsRight}
 use Rattle.gptp_timing.specs.Follower.{Setting, from, link_of}
 use Rattle.gptp_timing.specs.Flows.{Arrival, Flows, arrival}
-use Rattle.gptp_timing.specs.Acts.{AreInOrder, AreSentInTime, SendsTime}
+use Rattle.gptp_timing.specs.Acts.{AreSentInTime, SendsTime}
 
 module _ (k : Setting) (says : List ℕ → Message → Type 0) where
   -- mute frames bring nothing

@@ -1,20 +1,13 @@
 -- The invariant of a system that follows its parent: it begins, every act keeps it, and what it gives.
-use Rattle.std.proofs.Common.{◌≡◌, ◌⊎◌, ◌≤◌, ◌<◌, ◌+◌, ◌*◌, ◌++◌, ℕ, suc, ℤ, List, ◌∷◌, Option, Some, None, refl, sym, ap, subst, ◌∙◌, inl, inr, arith}
-use Rattle.std.proofs.Math.Nat.{mul-le-mul_left}
-use Rattle.gptp_lists.specs.Members.{In}
-use Rattle.gptp_graph.specs.Snapshot.{PortIdentity}
-use Rattle.gptp_scaled.specs.Counts.{AreWithin}
+use Rattle.std.proofs.Common.{◌≡◌, ◌⊎◌, ◌<◌, ◌++◌, ℕ, List, ◌∷◌, Option, Some, None, sym, ap, subst, ◌∙◌, inl, inr, arith}
 use Rattle.gptp_correction.specs.declared.correction.Relayed.{Relayed}
-use Rattle.gptp_correction.specs.declared.sync_in.SyncInfo.{SyncInfo}
 use Rattle.gptp_measuring.specs.Lanes.{Frame, IsMute}
-use Rattle.gptp_measuring.specs.Setting.{IsInTime}
-use Rattle.gptp_timing.specs.Messages.{Message, Sync, FollowUp, IsOneMessage}
-use Rattle.gptp_timing.specs.Right.{IsRight, info_of, told_of}
-use Rattle.gptp_timing.specs.Follower.{Follower, IsSetting, KeptSync, Setting, from, link_of, own_clock, root_clock}
-use Rattle.gptp_timing.specs.Flows.{Arrival, AreCarried, Flows, IsTold, arrival}
-use Rattle.gptp_timing.specs.Acts.{Acts, FrameArrives, Hears, IsUnmoved, Keeps, Knows, KnowsAnew, KnowsStill, Passes, hears, kept, others_send, parent_tells, relays}
-use Rattle.gptp_timing.specs.Invariant.{Inv, IsFresh, IsInformed, IsKept, IsKnownRight}
-use Rattle.gptp_timing.specs.FollowerLaws.{InvBegins, InvHoldsLater, InvIsKept}
+use Rattle.gptp_timing.specs.Messages.{Message}
+use Rattle.gptp_timing.specs.Right.{info_of}
+use Rattle.gptp_timing.specs.Follower.{Follower, IsSetting, KeptSync, Setting, from, own_clock}
+use Rattle.gptp_timing.specs.Flows.{Arrival, Flows, IsTold, arrival}
+use Rattle.gptp_timing.specs.Acts.{Acts, FrameArrives, Knows, KnowsAnew, KnowsStill, Passes, hears, kept, others_send, parent_tells, relays}
+use Rattle.gptp_timing.specs.Invariant.{Inv, IsFresh, IsKept, IsKnownRight}
 use Rattle.gptp_timing.proofs.FlowLemmas
 
 module _ (k : Setting) (says : List ℕ → Message → Type 0) where

@@ -1,5 +1,5 @@
 -- What is told and known on a way, hop by hop.
-use Rattle.std.proofs.Common.{◌≡◌, ℕ, zero, suc, ◌*◌, ◌+◌, ◌-◌, ◌/◌, ◌<◌, ◌≤◌, ℤ, pos, negsuc, ◌^◌, ◌⊎◌, inl, inr, ◌+ℤ◌, ◌-ℤ◌, ◌*ℤ◌, ◌≤ℤ◌, length, ap, ◌∙◌, sym, subst, refl, arith}
+use Rattle.std.proofs.Common.{◌≡◌, ℕ, zero, suc, ◌*◌, ◌+◌, ◌-◌, ◌/◌, ◌<◌, ◌≤◌, ℤ, pos, negsuc, ◌^◌, ◌⊎◌, inl, inr, ◌+ℤ◌, ◌-ℤ◌, ◌*ℤ◌, ◌≤ℤ◌, length, ap, ◌∙◌, sym, refl, arith}
 use Rattle.std.proofs.lemmas.Int.{ints}
 use Rattle.gptp_scaled.specs.Floor.{floor_div}
 use Rattle.gptp_scaled.specs.Rate.{FitsRate, IsNeighborRate, unit}
@@ -14,7 +14,7 @@ use Rattle.gptp_correction.specs.declared.correction.Relayed.{Relayed}
 use Rattle.gptp_correction.specs.Correction.{bridge, carried, carried_on, received, relayed, BridgeFits}
 use Rattle.gptp_correction.specs.Sum.{sum_below}
 use Rattle.gptp_measuring.specs.Setting.{IsInTime}
-use Rattle.gptp_accuracy.specs.TimeError.{Link, Way, clock_at, drift_at, hop_error_at, jitter_at, link_at, rate_error_at, rates_error_at, steady_rate_at, time_error_at, total_below, wait_error_at}
+use Rattle.gptp_accuracy.specs.TimeError.{Link, Way, clock_at, drift_at, jitter_at, link_at, rate_error_at, rates_error_at, steady_rate_at, time_error_at, total_below}
 use Rattle.gptp_accuracy.specs.HopLaws.{IsOverLink, IsRateBehind, IsRateWithin}
 use Rattle.gptp_accuracy.specs.WayLaws.{IsDocumented, longer, shown_at}
 use Rattle.gptp_accuracy.proofs.HopLemmas.{hop_keeps, offset_is_within}

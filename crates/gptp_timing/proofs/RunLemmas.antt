@@ -1,5 +1,5 @@
 -- The invariant along a run.
-use Rattle.std.proofs.Common.{◌≡◌, ℕ, List, [], ◌∷◌, sym, subst, inl, inr}
+use Rattle.std.proofs.Common.{ℕ, List, [], ◌∷◌, sym, subst, inl, inr}
 use Rattle.gptp_lists.specs.Members.{In}
 use Rattle.gptp_timing.specs.Messages.{Message}
 use Rattle.gptp_timing.specs.Follower.{Follower, IsSetting, Setting}

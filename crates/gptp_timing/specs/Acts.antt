@@ -1,6 +1,6 @@
 -- The acts that a system sees which follows its parent, and the lane between them, on a link that loses nothing, as far
 -- as time is carried.
-use Rattle.std.specs.Prelude.{◌≡◌, ◌⊎◌, ⊤, ◌++◌, ℕ, ◌+◌, ◌<◌, ◌≤◌, ℤ, List, [], ◌∷◌, Option, Some, None}
+use Rattle.std.specs.Prelude.{◌≡◌, ◌⊎◌, ⊤, ◌++◌, ℕ, ◌+◌, ◌≤◌, ℤ, List, [], ◌∷◌, Some, None}
 use Rattle.gptp_lists.specs.Members.{In}
 use Rattle.gptp_graph.specs.Snapshot.{PortIdentity}
 use Rattle.gptp_correction.specs.declared.correction.Relayed.{Relayed}

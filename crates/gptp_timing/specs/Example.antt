@@ -1,11 +1,11 @@
 -- A Sync over two links, state by state: from the root over a bridge to a slave.
-use Rattle.std.specs.Prelude.{◌≡◌, ℕ, zero, suc, ◌+◌, ◌≤◌, ℤ, pos, ◌+ℤ◌, ◌-ℤ◌, neg_ℤ, List, [], ◌∷◌, ◌++◌, Option, Some, None, slice_get, get_or}
+use Rattle.std.specs.Prelude.{◌≡◌, ℕ, ◌+◌, ◌≤◌, ℤ, pos, ◌-ℤ◌, neg_ℤ, List, [], ◌∷◌, ◌++◌, Some, None, slice_get, get_or}
 use Rattle.gptp_graph.specs.Snapshot.{port_of}
 use Rattle.gptp_correction.specs.declared.correction.Relayed.{Relayed}
 use Rattle.gptp_correction.specs.declared.sync_in.SyncInfo.{SyncInfo}
 use Rattle.gptp_correction.specs.Correction.{bridge, received, relayed}
 use Rattle.gptp_measuring.specs.Lanes.{Frame}
-use Rattle.gptp_accuracy.specs.TimeError.{Link, Way, link_at, time_error_at}
+use Rattle.gptp_accuracy.specs.TimeError.{Way, time_error_at}
 use Rattle.gptp_accuracy.specs.Examples.{two_links_way}
 use Rattle.gptp_timing.specs.Messages.{Message, Sync, FollowUp, IsOneMessage}
 use Rattle.gptp_timing.specs.Right.{IsHeldAt, IsMeasuredAt, info_of, root_time}
