@@ -1,5 +1,6 @@
 pub mod SizeLemmas
 pub mod RightLemmas
+pub mod ModestLemmas
 pub mod FlowLemmas
 pub mod FollowerLemmas
 pub mod TellingLemmas

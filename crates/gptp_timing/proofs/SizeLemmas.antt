@@ -1,5 +1,5 @@
 -- How large what a bridge adds to the correction is.
-use Rattle.std.proofs.Common.{◌≡◌, ℕ, ◌*◌, ◌+◌, ◌/◌, ◌≤◌, ℤ, pos, ◌+ℤ◌, ◌-ℤ◌, ◌≤ℤ◌, arith}
+use Rattle.std.proofs.Common.{◌≡◌, ℕ, zero, suc, ◌*◌, ◌+◌, ◌/◌, ◌≤◌, ℤ, pos, ◌+ℤ◌, ◌-ℤ◌, ◌≤ℤ◌, arith}
 use Rattle.std.proofs.lemmas.Int.{ints}
 use Rattle.std.proofs.Math.Nat.{mul-le-mul_left}
 use Rattle.gptp_scaled.specs.Rate.{FitsRate, IsNeighborRate, unit, scaled_by}
@@ -8,6 +8,7 @@ use Rattle.gptp_scaled.proofs.CountLemmas.{quotient_is}
 use Rattle.gptp_pdelay.specs.Measured.{IsDelayWithin}
 use Rattle.gptp_correction.specs.declared.correction.Hop.{Hop}
 use Rattle.gptp_correction.specs.Correction.{link_time, passage}
+use Rattle.gptp_timing.specs.RightLaws.{CorrectionsAreSmall}
 use Rattle.gptp_accuracy.proofs.HopLemmas.{link_time_of, scaled_time}
 use Rattle.gptp_accuracy.proofs.WayLemmas.{natural}
 
@@ -66,3 +67,10 @@ passage_small least most turnaround up own stay count span h rate u o limited d 
       later = omega (arith, ints, scaled.passed);
       small = omega (arith, ints, scaled.reached, product, short, counted, room);
     }
+
+pub corrections_are_small : CorrectionsAreSmall
+corrections_are_small w longest zero h = omega arith
+corrections_are_small w longest (suc i) h =
+    let before = corrections_are_small w longest i (λ j m. h j (omega (arith, m))) in
+    let here = h i (omega arith) in
+    omega (arith, before, here)

@@ -1,6 +1,7 @@
 -- Laws on what is told and known on a way, hop by hop.
-use Rattle.std.specs.Prelude.{◌≡◌, ℕ, suc, ◌+◌, ◌^◌, ◌<◌, ◌≤◌, ℤ, ◌-ℤ◌, Option, Some, length}
-use Rattle.gptp_scaled.specs.Rate.{IsNeighborRate}
+use Rattle.std.specs.Prelude.{◌≡◌, ℕ, suc, ◌+◌, ◌*◌, ◌^◌, ◌<◌, ◌≤◌, ℤ, pos, negsuc, ◌+ℤ◌, ◌-ℤ◌, Option, Some, length}
+use Rattle.std.specs.Int.{int_max, int_min}
+use Rattle.gptp_scaled.specs.Rate.{FitsRate, IsNeighborRate}
 use Rattle.gptp_scaled.specs.Stamp.{Timestamp, IsSplit}
 use Rattle.gptp_scaled.specs.Counts.{AreWithin}
 use Rattle.gptp_pdelay.specs.Clock.{IsTime}
@@ -11,12 +12,31 @@ use Rattle.gptp_measuring.specs.Setting.{IsInTime, Setting}
 use Rattle.gptp_measuring.specs.Measured.{HasMeasured}
 use Rattle.gptp_accuracy.specs.TimeError.{Link, Way, jitter_at, link_at, time_error_at}
 use Rattle.gptp_accuracy.specs.WayLaws.{IsDocumented, longer, shown_at}
-use Rattle.gptp_timing.specs.Right.{IsHeldAt, IsMeasuredAt, IsRight, at_rate, info_of, most_correction_at, root_time}
+use Rattle.gptp_timing.specs.Right.{IsHeldAt, IsMeasuredAt, IsModest, IsRight, at_rate, info_of, most_correction_at, root_time}
 
 -- what the root tells is right: its own clock as the Sync is sent
 abbrev pub RootTellsRight : Type 0
 RootTellsRight = (w : Way) (phase : ℕ → ℕ) (stamp : Timestamp) (rest sent : ℕ)
     → IsSplit (shown_at w phase 0 sent) stamp rest → IsRight w phase 0 (root_time stamp rest) sent
+
+-- On the way of a document with at most 10000 links the sum of the rates is far from the limits of 32 bits: without
+-- jitter it is what the first and the last clock differ by, within 88000 units a link.
+abbrev pub WaysAreModest : Type 0
+WaysAreModest = (w : Way) (i : ℕ) → IsDocumented w → i ≤ length w.links → i ≤ 10000 → IsModest w i
+
+-- where no link takes longer than a delay, corrections are no larger than that of so many links of it
+abbrev pub CorrectionsAreSmall : Type 0
+CorrectionsAreSmall = (w : Way) (longest i : ℕ) → ((j : ℕ) → j < i → (link_at w j).most ≤ longest)
+    → most_correction_at w i ≤ 65536 + i * (131072 * (2 * longest + w.turnaround + w.residence + 1))
+
+-- The rate whose sum with the neighbour rate is the nearest number of 32 bits to that of the rate that was told is such
+-- a rate; and so is the rate that was told, where that sum has 32 bits.
+pub record RatesAreHeld : Type 0 where
+  pub by_limits : (w : Way) (i : ℕ) (told neighbour : ℤ) → IsModest w i
+      → IsHeldAt w i told neighbour
+      (int_max (negsuc 2147483647) (int_min (told +ℤ neighbour) (pos 2147483647)) -ℤ neighbour)
+  pub as_told : (w : Way) (i : ℕ) (told neighbour : ℤ) → FitsRate (told +ℤ neighbour)
+      → IsHeldAt w i told neighbour told
 
 -- what was told is right at the rate that is held, too
 abbrev pub HeldIsRight : Type 0

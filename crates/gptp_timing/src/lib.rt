@@ -25,6 +25,6 @@ pub use follower::{
     parents_numbers_fit, root_tells, runs_keep_invariant,
 };
 pub use right::{
-    bridge_numbers_fit, bridge_tells_right, exchanges_measure_right, held_is_right,
-    offset_is_right, right_stays, root_tells_right,
+    bridge_numbers_fit, bridge_tells_right, corrections_are_small, exchanges_measure_right,
+    held_is_right, offset_is_right, rates_are_held, right_stays, root_tells_right, ways_are_modest,
 };

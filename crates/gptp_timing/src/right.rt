@@ -1,11 +1,27 @@
 //! Laws on what is told and known on a way, hop by hop.
 
-ghost use Rattle.gptp_timing.specs.RightLaws.{BridgeNumbersFit, BridgeTellsRight, ExchangesMeasureRight};
-ghost use Rattle.gptp_timing.specs.RightLaws.{HeldIsRight, OffsetIsRight, RightStays, RootTellsRight};
+ghost use Rattle.gptp_timing.specs.RightLaws.{BridgeNumbersFit, BridgeTellsRight, CorrectionsAreSmall};
+ghost use Rattle.gptp_timing.specs.RightLaws.{ExchangesMeasureRight, HeldIsRight, OffsetIsRight, RightStays};
+ghost use Rattle.gptp_timing.specs.RightLaws.{RatesAreHeld, RootTellsRight, WaysAreModest};
 
 /// What the root tells is right: its own clock.
 pub fn root_tells_right()
     ensures { RootTellsRight }
+{}
+
+/// On no way of a document with at most 10000 links the sum of the rates comes near the limits of 32 bits.
+pub fn ways_are_modest()
+    ensures { WaysAreModest }
+{}
+
+/// Corrections grow by at most twice what may pass on a link and at the bridge behind it.
+pub fn corrections_are_small()
+    ensures { CorrectionsAreSmall }
+{}
+
+/// Where a sum of rates hasn't 32 bits, the rate whose sum is at the nearest limit is one that the laws allow.
+pub fn rates_are_held()
+    ensures { RatesAreHeld }
 {}
 
 /// What was told stays right where the sum of rates is held at the limits of 32 bits.
