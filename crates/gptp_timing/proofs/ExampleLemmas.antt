@@ -106,7 +106,7 @@ module _ (k : Setting) (speaks : List ℕ → Message → Type 0) (x : Pair) (or
   comes rest right on = (
     inr (parent_tells (tells right)),
     (
-      inl (came k x, refl),
+      inl (came k x, omega arith, refl),
       (
         inr (hears (record {
           front = sync_frame k x;
@@ -116,7 +116,7 @@ module _ (k : Setting) (speaks : List ℕ → Message → Type 0) (x : Pair) (or
           lane = refl;
           hears = hears_sync;
         })),
-        (inl (heard k x, refl), on),
+        (inl (heard k x, omega (arith, order), refl), on),
       ),
     ),
   )
@@ -131,7 +131,7 @@ module _ (k : Setting) (speaks : List ℕ → Message → Type 0) (x : Pair) (or
       lane = refl;
       hears = hears_follow_up;
     })),
-    (inl (due k x, refl), (inr (relays (record { kept = refl; lane = refl; relay = refl })), tt)),
+    (inl (due k x, omega arith, refl), (inr (relays (record { now = refl; kept = refl; lane = refl; relay = refl })), tt)),
   )
 
   -- nothing is in flight or known before

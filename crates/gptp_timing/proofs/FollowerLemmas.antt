@@ -150,7 +150,7 @@ module _ (k : Setting) (says : List ℕ → Message → Type 0) where
   }
 
   pub inv_later : (s s' : Follower) → Passes s s' → Inv k says s → Inv k says s'
-  inv_later s s' (time, is) inv = subst (λ (t : Follower). Inv k says t) (sym is)
+  inv_later s s' (time, on, is) inv = subst (λ (t : Follower). Inv k says t) (sym is)
       (record { arrival = inv.arrival; is_kept = inv.is_kept; flows = inv.flows; known = inv.known })
 
   pub inv_begins : (s : Follower) → IsSetting k → IsFresh k s → Inv k says s

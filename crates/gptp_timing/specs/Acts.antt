@@ -20,7 +20,7 @@ pub record KnowsStill (s s' : Follower) : Type 0 where
   pub known : s'.known ≡ s.known
   pub relay : s'.relay ≡ s.relay
 
--- what is known, if anything, is sent on at most a residence from now
+-- what is known, if anything, is to be sent on now or later, at most a residence from now
 abbrev pub KnowsAnew : Setting → Follower → Follower → Type 0
 KnowsAnew k s s' = (info : SyncInfo) (due : ℕ) → s'.known ≡ Some info → s'.relay ≡ Some due
     → IsInTime s.time due k.way.residence
@@ -35,15 +35,15 @@ pub record Keeps (k : Setting) (sequence : ℕ) (s s' : Follower) : Type 0 where
   pub kept : s'.kept ≡ Some (kept k.parent sequence (own_clock k s.time))
   pub still : KnowsStill s s'
 
--- What a Follow_Up tells is known, with the ingress of its Sync. It is sent on a residence from now, or where a timer
--- runs already, when that expires.
+-- What a Follow_Up tells is known, with the ingress of its Sync. It is to be sent on a residence from now, or where a
+-- Relay timer runs that stays, when that expires.
 pub record Knows (k : Setting) (told : Relayed) (ingress : ℤ) (s s' : Follower) : Type 0 where
   pub known : s'.known ≡ Some (info_of told ingress)
   pub anew : KnowsAnew k s s'
 
 -- What the system makes of octets that it hears. Nothing, where they are neither message. A Sync of the parent is kept.
 -- A Follow_Up of the parent with the number of the Sync that is kept is known; or, where a number doesn't fit, nothing
--- is. Whatever they are, what is known stays or is sent on in time.
+-- is. Whatever they are, what is known stays, or is to be sent on in time.
 pub record Hears (k : Setting) (says : List ℕ → Message → Type 0) (octets : List ℕ) (s s' : Follower) : Type 0 where
   pub nothing : ((m : Message) → says octets m → ⊥) → IsUnmoved s s'
   pub sync : (sequence : ℕ) → says octets (Sync k.parent sequence) → Keeps k sequence s s'
@@ -91,8 +91,9 @@ module _ (k : Setting) (says : List ℕ → Message → Type 0) (s s' : Follower
     pub in_time : AreSentInTime k s.time news
     pub right : from k ≤ s.time + (link_of k).most → IsRight k.way k.phase k.place told s.time
 
-  -- what is known is sent on to those that follow the system, or something doesn't fit
+  -- the Relay timer expires: what is known is sent on to those that follow the system, or something doesn't fit
   pub record RelayExpires : Type 0 where
+    pub now : s.relay ≡ Some s.time
     pub kept : s'.kept ≡ s.kept
     pub lane : s'.lane ≡ s.lane
     pub relay : s'.relay ≡ None
@@ -113,4 +114,4 @@ module _ (k : Setting) (says : List ℕ → Message → Type 0) (s s' : Follower
 
 -- time passes and nothing else happens
 abbrev pub Passes : Follower → Follower → Type 0
-Passes s s' = (time : ℕ) × (s' ≡ at_time s time)
+Passes s s' = (time : ℕ) × (s.time ≤ time) × (s' ≡ at_time s time)

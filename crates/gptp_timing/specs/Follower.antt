@@ -29,8 +29,8 @@ own_clock k t = shown_at k.way k.phase (suc k.place) t
 abbrev pub root_clock : Setting → ℕ → ℤ
 root_clock k t = shown_at k.way k.phase 0 t
 
--- From then on what comes left the root since the network is settled: each link up to here took its greatest delay, and
--- each bridge kept it for a residence.
+-- From then on what comes left the root when the network was settled, even where each link up to here takes the longest
+-- delay, and each system keeps it for a residence.
 abbrev pub from : Setting → ℕ
 from k = k.settled + suc k.place * (k.longest + k.way.residence)
 

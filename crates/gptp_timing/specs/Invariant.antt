@@ -10,8 +10,8 @@ use Rattle.gptp_timing.specs.Follower.{Follower, KeptSync, Setting, from, link_o
 use Rattle.gptp_timing.specs.Flows.{Arrival, AreCarried, Flows}
 use Rattle.gptp_timing.specs.Acts.{kept}
 
--- What is known and is to be sent on at that time is right: it was told by a Follow_Up that came within the residence
--- before, and its ingress is the own clock as the Sync came.
+-- What is known and is to be sent on at that time is right: it was told by a Follow_Up that came at most a residence
+-- before that, and its ingress is the own clock as the Sync came.
 pub record IsInformed (k : Setting) (info : SyncInfo) (due : ℕ) : Type 0 where
   pub sent : ℕ
   pub came : ℕ
@@ -21,7 +21,7 @@ pub record IsInformed (k : Setting) (info : SyncInfo) (due : ℕ) : Type 0 where
   pub ingress : info.ingress ≡ own_clock k came
   pub right : IsRight k.way k.phase k.place (told_of info) sent
 
--- it is so where it is to be sent on a residence or more after what comes is right
+-- it is so where it is to be sent on a residence or more behind the time from which on what comes is right
 abbrev pub IsKnownRight : Setting → Follower → Type 0
 IsKnownRight k s = (info : SyncInfo) (due : ℕ) → s.known ≡ Some info → s.relay ≡ Some due
     → from k + k.way.residence ≤ due → IsInformed k info due
