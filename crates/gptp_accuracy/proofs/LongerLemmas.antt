@@ -41,7 +41,7 @@ pub rate_error_same : (w : Way) (l : Link) (i : ℕ) → i < length w.links
 rate_error_same w l i h =
     ap (λ (k : Link). ceil_div (2202000000000 * (k.most - k.least)) w.interval + 4) (link_same w l i h)
 
-pub hop_same : (w : Way) (l : Link) (i : ℕ) → i < length w.links → hop_error_at (longer w l) i ≡ hop_error_at w i
+hop_same : (w : Way) (l : Link) (i : ℕ) → i < length w.links → hop_error_at (longer w l) i ≡ hop_error_at w i
 hop_same w l i h = ap (λ (k : Link). hop_error (k.most - k.least) k.most w.turnaround) (link_same w l i h)
 
 unlike_same : (w : Way) (l : Link) (i : ℕ) → i < length w.links → unlike_at (longer w l) i ≡ unlike_at w i
@@ -64,7 +64,7 @@ rates_same w l i h =
     let missed = unlike_same w l i h in
     ap (λ n. n + unlike_at (longer w l) i) totals ∙ ap (λ n. total_below (suc i) (rate_error_at w) + n) missed
 
-pub wait_same : (w : Way) (l : Link) (i : ℕ) → suc i < length w.links → wait_error_at (longer w l) i ≡ wait_error_at w i
+wait_same : (w : Way) (l : Link) (i : ℕ) → suc i < length w.links → wait_error_at (longer w l) i ≡ wait_error_at w i
 wait_same w l i h =
     ap (λ (k : Link). ceil_div ((w.residence + (k.most - k.least) + (link_at (longer w l) (suc i)).most)
     * rates_error_at (longer w l) i) 33550000) (link_same w l i (omega (arith, h)))

@@ -131,7 +131,10 @@ module _ (k : Setting) (speaks : List ℕ → Message → Type 0) (x : Pair) (or
       lane = refl;
       hears = hears_follow_up;
     })),
-    (inl (due k x, omega arith, refl), (inr (relays (record { now = refl; kept = refl; lane = refl; relay = refl })), tt)),
+    (
+      inl (due k x, omega arith, refl),
+      (inr (relays (record { now = refl; kept = refl; lane = refl; relay = refl })), tt),
+    ),
   )
 
   -- nothing is in flight or known before
