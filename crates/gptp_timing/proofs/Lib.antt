@@ -5,4 +5,5 @@ pub mod FlowLemmas
 pub mod FollowerLemmas
 pub mod TellingLemmas
 pub mod RunLemmas
+pub mod TreeLemmas
 mod ExampleLemmas

@@ -7,4 +7,6 @@ pub mod Acts
 pub mod Invariant
 pub mod Runs
 pub mod FollowerLaws
+pub mod Tree
+pub mod TreeLaws
 pub mod Example

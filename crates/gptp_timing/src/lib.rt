@@ -17,6 +17,7 @@ mod coding;
 mod examples;
 mod follower;
 mod right;
+mod tree;
 
 pub use coding::Coding;
 pub use examples::sync_over_two_links;
@@ -28,3 +29,4 @@ pub use right::{
     bridge_numbers_fit, bridge_tells_right, corrections_are_small, exchanges_measure_right,
     held_is_right, offset_is_right, rates_are_held, right_stays, root_tells_right, ways_are_modest,
 };
+pub use tree::{parents_are_parents, way_exists, way_is_one, way_leads_to, ways_are_settings};
