@@ -371,11 +371,13 @@ same_exchanges least most most' turnaround turnaround' interval interval' mine m
 pub exchanges_measure_right : ExchangesMeasureRight
 exchanges_measure_right k w phase i last on h =
     let l = link_at w i in
-    let m = h.measured in (
+    let m = h.measured in
+    let mine : k.asking_clock ≡ shown_at w phase (suc i) = λ j t. on.asking t j in
+    let yours : k.answering_clock ≡ shown_at w phase i = λ j t. on.answering t j in (
       m,
       h.is,
       measured_right w phase i m.rate m.delay on.documented on.on_way (omega (arith, on.order, on.most))
           (same_exchanges l.least k.most l.most k.turnaround w.turnaround k.period w.interval k.asking_clock
           (shown_at w phase (suc i)) k.answering_clock (shown_at w phase i) m.rate m.delay (sym on.most)
-          (sym on.turnaround) (sym on.period) (sym on.asking) (sym on.answering) h.exchanges),
+          (sym on.turnaround) (sym on.period) (sym mine) (sym yours) h.exchanges),
     )

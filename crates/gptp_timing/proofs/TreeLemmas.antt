@@ -4,17 +4,17 @@ use Rattle.std.specs.Prelude.{if◌then◌else◌, nat_lt}
 use Rattle.std.proofs.lemmas.Bool.Decides.{nat_tests}
 use Rattle.gptp_graph.specs.Best.{IsBest}
 use Rattle.gptp_graph.specs.Distance.{IsDistance}
-use Rattle.gptp_graph.specs.Parent.{ParentLink}
+use Rattle.gptp_graph.specs.Parent.{ParentLink, IsParent}
 use Rattle.gptp_graph.specs.Snapshot.{IsWellFormed, Snapshot, System}
 use Rattle.gptp_graph.proofs.BestLemmas.{IsBest-neighbour}
 use Rattle.gptp_graph.proofs.DistanceLemmas.{best_at_zero}
 use Rattle.gptp_graph.proofs.ParentLemmas.{IsParent-unique, LeadsNearer-distance, parent_exists}
 use Rattle.gptp_pdelay.specs.Clock.{IsDrift, local_clock}
 use Rattle.gptp_accuracy.specs.TimeError.{Link, Way, drift_at, link_at}
-use Rattle.gptp_accuracy.specs.WayLaws.{IsDocumented, longer}
-use Rattle.gptp_accuracy.proofs.LongerLemmas.{documented_longer, drift_last, link_last, longer_length}
+use Rattle.gptp_accuracy.specs.WayLaws.{IsDocumented, longer, shown_at}
+use Rattle.gptp_accuracy.proofs.LongerLemmas.{documented_longer, drift_last, drift_same, link_last, longer_length}
 use Rattle.gptp_timing.specs.Tree.{IsWayTo, Parts, last_link, root_way}
-use Rattle.gptp_timing.specs.TreeLaws.{ArePartsOf, ParentsAreParents, WayExists, WayIsOne, WayLeadsTo, WaysAreSettings}
+use Rattle.gptp_timing.specs.TreeLaws.{ArePartsOf, ParentsAreMeasured, ParentsAreParents, WayEndsAtParent, WayExists, WayIsOne, WayLeadsTo, WaysAreSettings}
 
 -- a way is the same by phases that are the same on it
 same_phases : (x : Parts) (g : Snapshot) (steps clock : ℕ) (w : Way) (phase phase' : ℕ → ℕ)
@@ -118,6 +118,42 @@ way_leads_to = record {
       ap (λ p. local_clock p w.drift t) is.1 ∙ ap (λ d. local_clock (x.phase best.clock) d t) is.0);
 }
 
+-- the last link is that to the parent
+end_is : (x : Parts) (g : Snapshot) (steps clock : ℕ) (parent : ParentLink) (w : Way) (phase : ℕ → ℕ)
+    → IsParent g clock parent → IsWayTo x g (suc steps) clock w phase → link_at w steps ≡ last_link x clock parent
+end_is x g steps clock parent w phase follows (other, above, follows', way, is, last) =
+    ap (λ (v : Way). link_at v steps) is
+    ∙ link_last above (last_link x clock other) steps (sym (long x g steps other.clock above phase way))
+    ∙ ap (last_link x clock) (IsParent-unique g clock other parent follows' follows)
+
+-- and the clock before it is the parent's
+clock_is : (x : Parts) (g : Snapshot) (steps clock t : ℕ) (parent : ParentLink) (w : Way) (phase : ℕ → ℕ)
+    → IsParent g clock parent → IsWayTo x g (suc steps) clock w phase
+    → shown_at w phase steps t ≡ local_clock (x.phase parent.clock) (x.drift parent.clock) t
+clock_is x g steps clock t parent w phase follows (other, above, follows', way, is, last) =
+    let same : other ≡ parent = IsParent-unique g clock other parent follows' follows in
+    let all = long x g steps other.clock above phase way in
+    ap (λ (v : Way). local_clock (phase steps) (drift_at v steps) t) is
+    ∙ ap (λ d. local_clock (phase steps) d t)
+    (drift_same above (last_link x clock other) steps (omega (arith, all))
+    ∙ drift_is x g steps other.clock above phase way)
+    ∙ ap (λ p. local_clock p (x.drift other.clock) t) (phase_is x g steps other.clock above phase way)
+    ∙ ap (λ (p : ParentLink). local_clock (x.phase p.clock) (x.drift p.clock) t) same
+
+common : (x : Parts) (g : Snapshot) (steps clock : ℕ) (w : Way) (phase : ℕ → ℕ) → IsWayTo x g steps clock w phase
+    → (w.interval ≡ x.interval) × (w.turnaround ≡ x.turnaround) × (w.residence ≡ x.residence)
+common x g zero clock w phase (distance, is, first) =
+    (ap (λ (v : Way). v.interval) is, ap (λ (v : Way). v.turnaround) is, ap (λ (v : Way). v.residence) is)
+common x g (suc steps) clock w phase (parent, above, follows, way, is, last) =
+    let up = common x g steps parent.clock above phase way in (
+      ap (λ (v : Way). v.interval) is ∙ up.0,
+      ap (λ (v : Way). v.turnaround) is ∙ up.1,
+      ap (λ (v : Way). v.residence) is ∙ up.2,
+    )
+
+pub way_ends_at_parent : WayEndsAtParent
+way_ends_at_parent = record { link = end_is; clock = clock_is; common = common }
+
 documented : (x : Parts) (g : Snapshot) (steps clock longest : ℕ) (w : Way) (phase : ℕ → ℕ) → ArePartsOf x longest
     → IsWayTo x g steps clock w phase → IsDocumented w
 documented x g zero clock longest w phase parts (distance, is, first) = subst IsDocumented (sym is) (record {
@@ -136,9 +172,7 @@ documented x g (suc steps) clock longest w phase parts (parent, above, follows, 
 pub ways_are_settings : WaysAreSettings
 ways_are_settings x g steps clock settled longest port w phase parts (parent, above, follows, way, is, last) =
     let whole : IsWayTo x g (suc steps) clock w phase = (parent, above, follows, way, is, last) in
-    let end : link_at w steps ≡ last_link x clock parent =
-    ap (λ (v : Way). link_at v steps) is
-    ∙ link_last above (last_link x clock parent) steps (sym (long x g steps parent.clock above phase way)) in
+    let end = end_is x g steps clock parent w phase follows whole in
     let short = parts.short in
     record {
       documented = documented x g (suc steps) clock longest w phase parts whole;
@@ -160,4 +194,19 @@ parents_are_parents x g steps clock settled longest l port port' w w' phase phas
       root = up.1;
       settled = refl;
       longest = refl;
+    }
+
+pub parents_are_measured : ParentsAreMeasured
+parents_are_measured x g steps clock longest parent w phase k parts follows way m =
+    let end = end_is x g steps clock parent w phase follows way in
+    let all = common x g (suc steps) clock w phase way in
+    record {
+      documented = documented x g (suc steps) clock longest w phase parts way;
+      on_way = (let long = long x g (suc steps) clock w phase way in omega (arith, long));
+      order = subst (λ (l : Link). l.least ≤ k.most) (sym end) m.least;
+      most = m.most ∙ ap (λ (l : Link). l.most) (sym end);
+      turnaround = m.turnaround ∙ sym all.1;
+      period = m.period ∙ sym all.0;
+      asking = λ t. m.asking t ∙ sym (way_leads_to.own x g (suc steps) clock t w phase way);
+      answering = λ t. m.answering t ∙ sym (clock_is x g steps clock t parent w phase follows way);
     }

@@ -97,8 +97,8 @@ pub record MeasuresOnWay (k : Setting) (w : Way) (phase : ℕ → ℕ) (i : ℕ)
   pub most : k.most ≡ (link_at w i).most
   pub turnaround : k.turnaround ≡ w.turnaround
   pub period : k.period ≡ w.interval
-  pub asking : k.asking_clock ≡ shown_at w phase (suc i)
-  pub answering : k.answering_clock ≡ shown_at w phase i
+  pub asking : (t : ℕ) → k.asking_clock t ≡ shown_at w phase (suc i) t
+  pub answering : (t : ℕ) → k.answering_clock t ≡ shown_at w phase i t
 
 -- what such a port has measured, once that is of two exchanges, one after the other, is right
 abbrev pub ExchangesMeasureRight : Type 0

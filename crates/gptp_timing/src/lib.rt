@@ -29,4 +29,7 @@ pub use right::{
     bridge_numbers_fit, bridge_tells_right, corrections_are_small, exchanges_measure_right,
     held_is_right, offset_is_right, rates_are_held, right_stays, root_tells_right, ways_are_modest,
 };
-pub use tree::{parents_are_parents, way_exists, way_is_one, way_leads_to, ways_are_settings};
+pub use tree::{
+    parents_are_measured, parents_are_parents, way_ends_at_parent, way_exists, way_is_one,
+    way_leads_to, ways_are_settings,
+};

@@ -1,6 +1,7 @@
 //! Laws on the ways of a settled network.
 
-ghost use Rattle.gptp_timing.specs.TreeLaws.{ParentsAreParents, WayExists, WayIsOne, WayLeadsTo, WaysAreSettings};
+ghost use Rattle.gptp_timing.specs.TreeLaws.{ParentsAreMeasured, ParentsAreParents, WayEndsAtParent, WayExists};
+ghost use Rattle.gptp_timing.specs.TreeLaws.{WayIsOne, WayLeadsTo, WaysAreSettings};
 
 /// Each system with a distance has a way, over its parents, as long as the distance is.
 pub fn way_exists()
@@ -17,6 +18,11 @@ pub fn way_leads_to()
     ensures { WayLeadsTo }
 {}
 
+/// The last link of the way to a system is that to its parent, whose clock is the one before it.
+pub fn way_ends_at_parent()
+    ensures { WayEndsAtParent }
+{}
+
 /// A system on its way is what the laws of followers ask for.
 pub fn ways_are_settings()
     ensures { WaysAreSettings }
@@ -25,4 +31,9 @@ pub fn ways_are_settings()
 /// Parents in the settled choice are parents of followers.
 pub fn parents_are_parents()
     ensures { ParentsAreParents }
+{}
+
+/// A system that measures its link to its parent measures the last link of its way.
+pub fn parents_are_measured()
+    ensures { ParentsAreMeasured }
 {}
