@@ -310,3 +310,14 @@ module _ (k : Setting) (asks : List ℕ → Request → Type 0) (replies : List 
 
   pub inv_begins : (p : Pair) → IsFresh k gone calm p → Inv k asks replies gone calm p
   inv_begins = inv_from_begins k 0 asks replies gone calm
+
+  -- and holds where it does for whatever least delay
+  pub inv_forgets : (least : ℕ) (p : Pair) → InvFrom k least asks replies gone calm p → Inv k asks replies gone calm p
+  inv_forgets least p inv = record {
+    bounds = inv.bounds;
+    clean = λ since. (let clean = inv.clean since in
+        record {
+          phase = PhaseLemmas.phase_forgets k least asks replies p.asker p.waits p.out p.back clean.phase;
+          counts = clean.counts;
+        });
+  }

@@ -15,13 +15,13 @@ use Rattle.gptp_measuring.specs.Pair.{Pair, at_time}
 use Rattle.gptp_measuring.specs.Acts.{RequestTimerExpires, AskerHears}
 use Rattle.gptp_measuring.specs.Facts.{Facts, IsGood, IsSentLate}
 use Rattle.gptp_measuring.specs.Phases.{Phase, Rests, RequestGoes, AnswerWaits, ResponseComes, FollowUpComes}
-use Rattle.gptp_measuring.specs.Invariant.{IsFresh}
+use Rattle.gptp_measuring.specs.Invariant.{Inv, IsFresh}
 use Rattle.gptp_measuring.specs.Meter.{Measures, Meter, MeterActs, MeterPasses, TakesMeasure, act_of}
 use Rattle.gptp_measuring.specs.Meter.{meter_asks, meter_hears, meter_heard, meter_answered, meter_rests}
 use Rattle.gptp_measuring.specs.Measured.{HasMeasured, HasTaken, MeasuredSince, MeterInv}
 use Rattle.gptp_measuring.specs.Runs.{IsMeterRun}
 use Rattle.gptp_measuring.proofs.FactLemmas.{timing_is_enough}
-use Rattle.gptp_measuring.proofs.InvariantLemmas.{inv_from_begins, inv_from_kept, inv_from_later, nothing_pends, completes_well}
+use Rattle.gptp_measuring.proofs.InvariantLemmas.{inv_forgets, inv_from_begins, inv_from_kept, inv_from_later, nothing_pends, completes_well}
 use Rattle.gptp_measuring.proofs.PhaseLemmas
 
 module _ (k : Setting) (least : ℕ) (calm : ℕ) where
@@ -338,3 +338,9 @@ runs_end_measured k least asks replies threshold change interval m n run link sh
     let (inv, facts) = measured_along k least asks replies (change + interval) (change + 2 * interval) run m n good
     (meter_begins k least asks replies (change + interval) (change + 2 * interval) m fresh) is at in
     measuring_settles k least asks replies change interval n period facts inv late
+
+-- the invariant of capability
+pub meter_is_inv : (k : Setting) (least : ℕ) (asks : List ℕ → Request → Type 0) (replies : List ℕ → Reply → Type 0)
+    (gone calm : ℕ) (m : Meter) → MeterInv k least asks replies gone calm m → Inv k asks replies gone calm m.pair
+meter_is_inv k least asks replies gone calm m inv =
+    inv_forgets k asks replies gone calm least m.pair inv.phases

@@ -1,6 +1,6 @@
 -- From phase to phase: what each act does to an exchange that began with nothing old in flight.
 use Rattle.std.proofs.Common.{◌≡◌, ◌+◌, ◌++◌, ℕ, List, ◌∷◌, Option, Some, None, refl, sym, ap, subst, ◌∙◌, inl}
-use Rattle.std.proofs.Common.{inr}
+use Rattle.std.proofs.Common.{inr, arith}
 use Rattle.gptp_lists.specs.Members.{In}
 use Rattle.gptp_measuring.specs.Lanes.{Frame, IsMute, AreMute}
 use Rattle.gptp_measuring.specs.Messages.{Request, Reply, Response, FollowUp}
@@ -206,3 +206,29 @@ module _ (k : Setting) (least : ℕ) (asks : List ℕ → Request → Type 0) (r
       (IsLastRequest k least asks replies sequence time) (AreMute asks)
       (AreMute asks) news (λ f at said. (said, in_time f at said)) (λ gs same mute. mute) sent))
       none replies_none
+
+-- whatever the least delay is, a phase is one where nothing is known of it
+pub phase_forgets : (k : Setting) (least : ℕ) (asks : List ℕ → Request → Type 0) (replies : List ℕ → Reply → Type 0)
+    (a : Asker) (waits : Option Waiting) (out back : List Frame) → Phase k least asks replies a waits out back
+    → Phase k 0 asks replies a waits out back
+phase_forgets k least asks replies a waits out back (Rests closed asks_none none replies_none) =
+    Rests closed asks_none none replies_none
+phase_forgets k least asks replies a waits out back (RequestGoes sequence progress request none replies_none) =
+    RequestGoes sequence progress
+    (first_map asks (IsLastRequest k least asks replies sequence a.asked)
+    (IsLastRequest k 0 asks replies sequence a.asked) (AreMute asks) (AreMute asks) out
+    (λ f at is. (is.0, (let long = is.1.0 in omega (arith, long), is.1.1))) (λ gs part mute. mute) request)
+    none replies_none
+phase_forgets k least asks replies a waits out back
+    (AnswerWaits sequence came there progress asks_none is replies_none) =
+    AnswerWaits sequence came (let long = there.0 in omega (arith, long), there.1) progress asks_none is replies_none
+phase_forgets k least asks replies a waits out back
+    (ResponseComes sequence came there progress asks_none none response) =
+    ResponseComes sequence came (let long = there.0 in omega (arith, long), there.1) progress asks_none none
+    (first_map replies (IsItsResponse k least asks replies sequence came) (IsItsResponse k 0 asks replies sequence came)
+    (FollowUpInFlight k least asks replies sequence came) (FollowUpInFlight k 0 asks replies sequence came) back
+    (λ f at is. (is.0, (let long = is.1.0 in omega (arith, long), is.1.1))) (λ gs part follow_up. follow_up) response)
+phase_forgets k least asks replies a waits out back
+    (FollowUpComes sequence came heard there home progress asks_none none follow_up) =
+    FollowUpComes sequence came heard (let long = there.0 in omega (arith, long), there.1)
+    (let long = home.0 in omega (arith, long), home.1) progress asks_none none follow_up

@@ -5,7 +5,7 @@ use Rattle.gptp_pdelay.specs.GoodLink.{IsGoodLink}
 use Rattle.gptp_measuring.specs.Messages.{Request, Reply}
 use Rattle.gptp_measuring.specs.Setting.{Setting}
 use Rattle.gptp_measuring.specs.Facts.{Facts, IsGood, IsSentLate}
-use Rattle.gptp_measuring.specs.Invariant.{IsFresh}
+use Rattle.gptp_measuring.specs.Invariant.{Inv, IsFresh}
 use Rattle.gptp_measuring.specs.Meter.{Meter, MeterActs, MeterPasses}
 use Rattle.gptp_measuring.specs.Measured.{HasMeasured, MeterInv}
 use Rattle.gptp_measuring.specs.Runs.{IsMeterRun}
@@ -30,6 +30,12 @@ module _ (asks : List ℕ → Request → Type 0) (replies : List ℕ → Reply 
   MeterInvBegins = (k : Setting) (least gone calm : ℕ) (m : Meter)
       → IsFresh k gone calm m.pair
       → MeterInv k least asks replies gone calm m
+
+  -- so the invariant of capability holds too, in which nothing is known of the least delay
+  abbrev pub MeterInvIsInv : Type 0
+  MeterInvIsInv = (k : Setting) (least gone calm : ℕ) (m : Meter)
+      → MeterInv k least asks replies gone calm m
+      → Inv k asks replies gone calm m.pair
 
   -- three periods after `calm` the last measurement is that of two exchanges, one after the other
   abbrev pub MeasuredFromCalm : Type 0

@@ -34,8 +34,8 @@ pub use examples::{two_exchanges, two_measurements};
 pub use exchange::{exchanges_are_good, exchanges_show_neighbor};
 pub use facts::{facts_hold_later, facts_kept, timing_is_enough};
 pub use measured::{
-    measured_from_calm, measuring_settles, meter_begins, meter_holds_later, meter_kept,
-    runs_end_measured,
+    measured_from_calm, measuring_settles, meter_begins, meter_holds_later, meter_is_invariant,
+    meter_kept, runs_end_measured,
 };
 pub use silence::{
     incapable_from_gone, runs_end_incapable, silence_begins, silence_holds_later, silence_kept,

@@ -1,7 +1,7 @@
 //! Laws on what a port has measured, on a link that is up, loses nothing and is good, between two live systems.
 
 ghost use Rattle.gptp_measuring.specs.MeasuredLaws.{MeterInvIsKept, MeterInvHoldsLater, MeterInvBegins};
-ghost use Rattle.gptp_measuring.specs.MeasuredLaws.{MeasuredFromCalm, MeasuringSettles, RunsEndMeasured};
+ghost use Rattle.gptp_measuring.specs.MeasuredLaws.{MeasuredFromCalm, MeasuringSettles, MeterInvIsInv, RunsEndMeasured};
 
 use crate::coding::Coding;
 
@@ -19,6 +19,11 @@ pub fn meter_holds_later<C: Coding>()
 /// The invariant holds just after every change, whatever was measured before.
 pub fn meter_begins<C: Coding>()
     ensures { MeterInvBegins C.asks C.replies }
+{}
+
+/// Where it holds the invariant of capability does.
+pub fn meter_is_invariant<C: Coding>()
+    ensures { MeterInvIsInv C.asks C.replies }
 {}
 
 /// Neighbour rate and mean link delay are those of two exchanges, one after the other, from three intervals between
