@@ -29,7 +29,7 @@ as_natural (pos n) h = (n, refl)
 as_natural (negsuc n) h = absurd (omega (arith, ints, h))
 
 -- a link time is a quotient
-link_time_of : (delay neighbour : ℤ) (value ratio : ℕ) → delay ≡ pos value → unit +ℤ neighbour ≡ pos ratio →
+pub link_time_of : (delay neighbour : ℤ) (value ratio : ℕ) → delay ≡ pos value → unit +ℤ neighbour ≡ pos ratio →
     link_time delay neighbour ≡ pos (value * 2199023255552 / ratio)
 link_time_of delay neighbour value ratio e f =
     let p : delay *ℤ unit ≡ pos (value * 2199023255552) = rw e (omega (arith, ints)) in
@@ -145,7 +145,7 @@ offset_low least most turnaround root own above delay wait count passed time aft
     omega (arith, ints, s.passed, b, d, f, g, n.low, c.high, atleast, small, soon)
 
 -- a whole number scaled by a rate
-scaled_time : (rate : ℤ) (time : ℤ) (n after : ℕ) → time ≡ pos n → unit +ℤ rate ≡ pos after →
+pub scaled_time : (rate : ℤ) (time : ℤ) (n after : ℕ) → time ≡ pos n → unit +ℤ rate ≡ pos after →
     IsScaled n after (scaled_by rate time)
 scaled_time rate time n after e f = rw e (scaled_is rate n after (omega (arith, ints, f)))
 

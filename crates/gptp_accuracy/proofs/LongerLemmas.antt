@@ -1,12 +1,15 @@
-use Rattle.std.proofs.Common.{◌≡◌, ℕ, zero, suc, ◌+◌, ◌-◌, ◌*◌, ◌<◌, ◌≤◌, ℤ, pos, ◌+ℤ◌, ◌-ℤ◌, ◌*ℤ◌, unsigned_abs, [], ◌∷◌, length, ap, ◌∙◌, refl, arith}
-use Rattle.std.proofs.lemmas.List.{get_or_append_left}
+use Rattle.std.proofs.Common.{◌≡◌, ℕ, zero, suc, ◌+◌, ◌-◌, ◌*◌, ◌<◌, ◌≤◌, ℤ, pos, ◌+ℤ◌, ◌-ℤ◌, ◌*ℤ◌, unsigned_abs, [], ◌∷◌, length, inl, inr, ap, ◌∙◌, sym, subst, refl, arith}
+use Rattle.std.proofs.lemmas.Bool.{cases_lt}
+use Rattle.std.proofs.lemmas.List.{get_or_append_left, length-append}
+use Rattle.std.proofs.Math.Seq.{get_or-append_seam}
+use Rattle.gptp_pdelay.specs.Clock.{IsDrift}
 use Rattle.gptp_scaled.specs.Floor.{floor_div}
 use Rattle.gptp_scaled.specs.Rate.{unit, rate_of}
 use Rattle.gptp_pdelay.specs.GoodLink.{ceil_div}
 use Rattle.gptp_pdelay.specs.Measured.{clock_rate}
 use Rattle.gptp_correction.specs.Sum.{sum_below}
-use Rattle.gptp_accuracy.specs.TimeError.{Link, Way, clock_at, hop_error, hop_error_at, jitter_at, link_at, rate_error_at, rates_error_at, steady_rate_at, total_below, unlike_at, wait_error_at}
-use Rattle.gptp_accuracy.specs.WayLaws.{ParentsErrorStays, longer}
+use Rattle.gptp_accuracy.specs.TimeError.{Link, Way, clock_at, drift_at, hop_error, hop_error_at, jitter_at, link_at, rate_error_at, rates_error_at, steady_rate_at, total_below, unlike_at, wait_error_at}
+use Rattle.gptp_accuracy.specs.WayLaws.{IsDocumented, ParentsErrorStays, longer}
 
 -- sums of the same numbers are the same
 pub total_same : (n : ℕ) (f g : ℕ → ℕ) → ((i : ℕ) → i < n → f i ≡ g i) → total_below n f ≡ total_below n g
@@ -82,3 +85,33 @@ parents_error_stays w l h k =
     (λ i m. wait_same w l i (omega (arith, k, m))) in
     ap (λ n. n + total_below (h - 1) (wait_error_at (longer w l))) hops
     ∙ ap (λ n. total_below h (hop_error_at w) + n) waits
+
+-- a way that goes on is one link longer, and its last link is that one
+pub longer_length : (w : Way) (l : Link) → length (longer w l).links ≡ suc (length w.links)
+longer_length w l = omega (arith, length-append w.links (l ∷ []))
+
+pub link_last : (w : Way) (l : Link) (i : ℕ) → i ≡ length w.links → link_at (longer w l) i ≡ l
+link_last w l i e =
+    ap (link_at (longer w l)) e ∙ get_or-append_seam w.links l [] (record { least = 0; most = 0; drift = pos 0 })
+
+-- the drifts of a way that goes on
+pub drift_same : (w : Way) (l : Link) (i : ℕ) → i ≤ length w.links → drift_at (longer w l) i ≡ drift_at w i
+drift_same w l zero h = refl
+drift_same w l (suc i) h = ap (λ (k : Link). k.drift) (link_same w l i h)
+
+pub drift_last : (w : Way) (l : Link) (i : ℕ) → i ≡ suc (length w.links) → drift_at (longer w l) i ≡ l.drift
+drift_last w l i e =
+    ap (drift_at (longer w l)) e ∙ ap (λ (k : Link). k.drift) (link_last w l (length w.links) refl)
+
+-- a way that goes on to a clock within its limits is one of a document
+pub documented_longer : (w : Way) (l : Link) → IsDocumented w → IsDrift l.drift → IsDocumented (longer w l)
+documented_longer w l documented drift = record {
+  long = documented.long;
+  waits = documented.waits;
+  drifts = λ i within. elim (cases_lt i (suc (length w.links))) [
+    | inl before ↦ (let early : i ≤ length w.links = omega (arith, before) in
+        subst IsDrift (sym (drift_same w l i early)) (documented.drifts i early))
+    | inr last ↦ (let e : i ≡ suc (length w.links) = omega (arith, last, within, longer_length w l) in
+        subst IsDrift (sym (drift_last w l i e)) drift)
+  ];
+}

@@ -59,17 +59,17 @@ error_before w zero = 0
 error_before w (suc i) = rates_error_at w i
 
 -- a whole number is so far from 0 as its absolute value
-record IsSize (z : ℤ) (n : ℕ) : Type 0 where
-  low : (pos 0 -ℤ pos n) ≤ℤ z
-  high : z ≤ℤ pos n
+pub record IsSize (z : ℤ) (n : ℕ) : Type 0 where
+  pub low : (pos 0 -ℤ pos n) ≤ℤ z
+  pub high : z ≤ℤ pos n
 
-size_is : (z : ℤ) → IsSize z (unsigned_abs z)
+pub size_is : (z : ℤ) → IsSize z (unsigned_abs z)
 size_is (pos n) = record { low = omega (arith, ints); high = omega (arith, ints) }
 size_is (negsuc n) = record { low = omega (arith, ints); high = omega (arith, ints) }
 
 -- the rate of a quotient
-rate_near : (root own rate quotient e : ℕ) → IsQuotient (root * 2199023255552) own quotient → rate + 1 ≤ quotient + e →
-    quotient + 1 ≤ rate + e → IsRateWithin e root own rate
+pub rate_near : (root own rate quotient e : ℕ) → IsQuotient (root * 2199023255552) own quotient →
+    rate + 1 ≤ quotient + e → quotient + 1 ≤ rate + e → IsRateWithin e root own rate
 rate_near root own rate quotient e q high low =
     let a : own * (rate + 1) ≤ own * (quotient + e) = mul-le-mul_left own high in
     let b : own * (quotient + 1) ≤ own * (rate + e) = mul-le-mul_left own low in
@@ -103,7 +103,7 @@ rate_fits hops origin f zero h = omega (arith, ints)
 rate_fits hops origin f (suc n) h = (f.bridges n h).rate
 
 -- a rate of 32 bits as a natural number
-natural : (z : ℤ) → pos 0 ≤ℤ z → (n : ℕ) × (z ≡ pos n)
+pub natural : (z : ℤ) → pos 0 ≤ℤ z → (n : ℕ) × (z ≡ pos n)
 natural (pos n) h = (n, refl)
 natural (negsuc n) h = absurd (omega (arith, ints, h))
 
@@ -150,7 +150,7 @@ rate_behind w hops phase sent came origin k g f n h =
     }
 
 -- the error of the time at the egress to the link at a place, in parts of 33550000 to a unit
-abbrev error_sent : Way → ℕ → ℕ
+abbrev pub error_sent : Way → ℕ → ℕ
 error_sent w zero = 0
 error_sent w (suc i) =
     33550000 * (total_below (suc i) (hop_error_at w) + total_below i (wait_error_at w))
@@ -167,14 +167,14 @@ wait_is w i =
     omega (arith, c)
 
 -- the error at the end of a link
-link_grows : (w : Way) (n : ℕ) →
+pub link_grows : (w : Way) (n : ℕ) →
     error_sent w n + (33550000 * hop_error_at w n + error_before w n * (link_at w n).most) ≤
     33550000 * (total_below (suc n) (hop_error_at w) + total_below n (wait_error_at w))
 link_grows w zero = omega arith
 link_grows w (suc i) = omega (arith, wait_is w i)
 
 -- and at the end of the stay behind it
-stay_grows : (w : Way) (n stay : ℕ) → stay ≤ w.residence + jitter_at w n →
+pub stay_grows : (w : Way) (n stay : ℕ) → stay ≤ w.residence + jitter_at w n →
     error_sent w n + (33550000 * hop_error_at w n + error_before w n * (link_at w n).most + rates_error_at w n * stay) ≤
     error_sent w (suc n)
 stay_grows w n stay h =
@@ -183,7 +183,8 @@ stay_grows w n stay h =
     omega (arith, a, link_grows w n)
 
 -- errors add up
-adds : (m n total : ℕ) (origin sum added before after : ℤ) (passed : ℕ) → m + n ≤ total → after -ℤ before ≡ pos passed →
+pub adds : (m n total : ℕ) (origin sum added before after : ℤ) (passed : ℕ) → m + n ≤ total →
+    after -ℤ before ≡ pos passed →
     AreWithin m (pos 33550000 *ℤ (origin +ℤ sum)) (pos 33550000 *ℤ before) →
     AreWithin n (pos 33550000 *ℤ added) (pos (33550000 * passed)) →
     AreWithin total (pos 33550000 *ℤ (origin +ℤ (sum +ℤ added))) (pos 33550000 *ℤ after)
@@ -227,7 +228,7 @@ egress_within w hops phase sent came k g f (suc n) h =
     (stay_grows w n stay (omega (arith, g.kept_short n h, kept))) passed.is before added
 
 -- the time error behind a link
-error_behind : (w : Way) (i : ℕ) →
+pub error_behind : (w : Way) (i : ℕ) →
     time_error_at w (suc i) ≡ total_below (suc i) (hop_error_at w) + total_below i (wait_error_at w)
 error_behind w i =
     let p : suc i - 1 ≡ i =

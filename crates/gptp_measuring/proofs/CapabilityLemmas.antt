@@ -22,8 +22,8 @@ module _ (k : Setting) (asks : List ℕ → Request → Type 0) (replies : List 
   pub no_request_is_lost : (p : Pair) → IsGood k gone calm → Facts k gone p → Inv k asks replies gone calm p
       → calm ≤ p.asker.asked → p.asker.asked + k.period ≡ p.time → p.asker.progress ≡ Closed
   no_request_is_lost p good facts inv since now =
-      let pends = nothing_pends k asks replies gone calm p good facts now (omega arith) inv.bounds in
-      PhaseLemmas.closed_where_nothing_pends k asks replies p.asker p.waits p.out p.back pends.out pends.waits
+      let pends = nothing_pends k 0 asks replies gone calm p good facts now (omega arith) inv.bounds in
+      PhaseLemmas.closed_where_nothing_pends k 0 asks replies p.asker p.waits p.out p.back pends.out pends.waits
       pends.back
       (inv.clean since).phase
 
@@ -33,16 +33,16 @@ module _ (k : Setting) (asks : List ℕ → Request → Type 0) (replies : List 
       → calm ≤ p.asker.asked → p.asker.progress ≡ Answered sequence source t1 t2 t4 → AskerHears k asks replies p p'
       → (p'.asker ≡ p.asker) ⊎ (p'.asker ≡ completed true p.asker)
   no_exchange_is_bad p p' sequence source t1 t2 t4 inv since recorded act =
-      by_phase (subst (λ b. Phase k asks replies p.asker p.waits p.out b) act.was (inv.clean since).phase)
+      by_phase (subst (λ b. Phase k 0 asks replies p.asker p.waits p.out b) act.was (inv.clean since).phase)
     where
-      by_phase : Phase k asks replies p.asker p.waits p.out (act.front ∷ act.rest)
+      by_phase : Phase k 0 asks replies p.asker p.waits p.out (act.front ∷ act.rest)
           → (p'.asker ≡ p.asker) ⊎ (p'.asker ≡ completed true p.asker)
       by_phase (Rests closed asks_none none replies_none) = absurd cc
       by_phase (RequestGoes sequence progress request none replies_none) = absurd cc
       by_phase (AnswerWaits sequence came there progress asks_none is replies_none) = absurd cc
       by_phase (ResponseComes sequence came there progress asks_none none response) = absurd cc
       by_phase (FollowUpComes sequence came heard there home progress asks_none none (inl ((said, by), behind))) = inr
-          (completes_well k asks replies gone calm p.asker p'.asker act.front.octets p.time sequence came heard there
+          (completes_well k 0 asks replies gone calm p.asker p'.asker act.front.octets p.time sequence came heard there
           home
           progress act.asker said)
       by_phase (FollowUpComes sequence came heard there home progress asks_none none (inr (mute, later))) =

@@ -38,7 +38,7 @@ same_request r q e = same_numbers r.source.clock q.source.clock r.source.port q.
     (cc) (cc) (cc)
 
 -- stamps that are spelled alike are one
-same_stamp : (t u : ℤ) → stamp_octets t ≡ stamp_octets u → t ≡ u
+pub same_stamp : (t u : ℤ) → stamp_octets t ≡ stamp_octets u → t ≡ u
 same_stamp (pos m) (pos n) e = let same : m ≡ n = cc in ap pos same
 same_stamp (pos m) (negsuc n) e = absurd cc
 same_stamp (negsuc m) (pos n) e = absurd cc
@@ -70,7 +70,7 @@ none_waits time w e = absurd cc
 
 module _ (x : Start) where
   -- the request timer expires
-  sends_request : x.before.asked + link.period ≡ x.sent
+  pub sends_request : x.before.asked + link.period ≡ x.sent
       → RequestTimerExpires link asks replies (timer_due x) (request_sent x)
   sends_request now = record {
     time = refl;
@@ -85,7 +85,7 @@ module _ (x : Start) where
   }
 
   -- the request arrives
-  hears_request : AnswererHears link asks replies (request_due x) (request_heard x)
+  pub hears_request : AnswererHears link asks replies (request_due x) (request_heard x)
   hears_request = record {
     time = refl;
     asker = refl;
@@ -104,7 +104,7 @@ module _ (x : Start) where
       one_request = record { said = refl; only = λ other says. sym (same_request (request x) other says) }
 
   -- the answer's timer expires
-  sends_answer : AnswerTimerExpires link asks replies (answer_due x) (answer_sent x)
+  pub sends_answer : AnswerTimerExpires link asks replies (answer_due x) (answer_sent x)
   sends_answer = record {
     time = refl;
     asker = refl;
@@ -119,7 +119,7 @@ module _ (x : Start) where
   }
 
   -- the response is recorded
-  takes_response : Takes link replies (home x) (response_frame x).octets (asking x) (recorded x)
+  pub takes_response : Takes link replies (home x) (response_frame x).octets (asking x) (recorded x)
   takes_response = record {
     nothing = λ none. absurd (none (response x) refl);
     asked = refl;
@@ -135,7 +135,7 @@ module _ (x : Start) where
       as_recorded sequence t1 t2 same one two = rw (← same, ← one, ← two)
 
   -- the follow-up completes the exchange
-  takes_follow_up : Takes link replies (home x) (follow_up_frame x).octets (recorded x) (done x)
+  pub takes_follow_up : Takes link replies (home x) (follow_up_frame x).octets (recorded x) (done x)
   takes_follow_up = record {
     nothing = λ none. absurd (none (follow_up x) refl);
     asked = refl;
@@ -144,7 +144,7 @@ module _ (x : Start) where
   }
 
   -- the response arrives
-  hears_response : AskerHears link asks replies (replies_due x) (response_heard x)
+  unfoldable pub hears_response : AskerHears link asks replies (replies_due x) (response_heard x)
   hears_response = record {
     time = refl;
     waits = refl;
@@ -160,7 +160,7 @@ module _ (x : Start) where
   }
 
   -- the follow-up arrives
-  hears_follow_up : AskerHears link asks replies (response_heard x) (follow_up_heard x)
+  unfoldable pub hears_follow_up : AskerHears link asks replies (response_heard x) (follow_up_heard x)
   hears_follow_up = record {
     time = refl;
     waits = refl;
@@ -176,7 +176,7 @@ module _ (x : Start) where
   }
 
   -- before the request nothing is pending
-  at_timer : x.before.asked + link.period ≡ x.sent → Facts link second (timer_due x)
+  pub at_timer : x.before.asked + link.period ≡ x.sent → Facts link second (timer_due x)
   at_timer now = record {
     asked = omega arith;
     request_timer = omega arith;
@@ -199,29 +199,29 @@ module _ (x : Start) where
   }
 
   -- the request is in flight
-  at_request : (time : ℕ) → x.sent ≤ time → time ≤ came x → Facts link second (at_time (request_sent x) time)
+  pub at_request : (time : ℕ) → x.sent ≤ time → time ≤ came x → Facts link second (at_time (request_sent x) time)
   at_request time since by = known (at_time (request_sent x) time) refl since (omega arith) (none_waits time)
       (more_in_time time (request_frame x) [] by (omega arith) (none_in_time time)) (none_in_time time)
 
   -- the answer waits
-  at_answer : (time : ℕ) → came x ≤ time → time ≤ answered x → Facts link second (at_time (request_heard x) time)
+  pub at_answer : (time : ℕ) → came x ≤ time → time ≤ answered x → Facts link second (at_time (request_heard x) time)
   at_answer time since by = known (at_time (request_heard x) time) refl (omega arith) (omega arith)
       (waits_in_time time (noted link (request x) (came x)) by) (none_in_time time) (none_in_time time)
 
   -- both replies are in flight
-  at_replies : (time : ℕ) → answered x ≤ time → time ≤ home x → Facts link second (at_time (answer_sent x) time)
+  pub at_replies : (time : ℕ) → answered x ≤ time → time ≤ home x → Facts link second (at_time (answer_sent x) time)
   at_replies time since by = known (at_time (answer_sent x) time) refl (omega arith) (omega arith) (none_waits time)
       (none_in_time time)
       (more_in_time time (response_frame x) (follow_up_frame x ∷ []) by (omega arith)
       (more_in_time time (follow_up_frame x) [] by (omega arith) (none_in_time time)))
 
   -- the follow-up is in flight
-  at_follow_up : Facts link second (response_heard x)
+  pub at_follow_up : Facts link second (response_heard x)
   at_follow_up = known (response_heard x) refl (omega arith) (omega arith) (none_waits (home x)) (none_in_time (home x))
       (more_in_time (home x) (follow_up_frame x) [] (omega arith) (omega arith) (none_in_time (home x)))
 
   -- the exchange is complete
-  at_rest : (time : ℕ) → home x ≤ time → time ≤ x.sent + link.period
+  pub at_rest : (time : ℕ) → home x ≤ time → time ≤ x.sent + link.period
       → Facts link second (at_time (follow_up_heard x) time)
   at_rest time since by = known (at_time (follow_up_heard x) time) refl (omega arith) by (none_waits time)
       (none_in_time time) (none_in_time time)
@@ -275,7 +275,7 @@ module _ (x : Start) where
   )
 
 -- the clocks are within their limits
-link_clocks : HasLocalClocks link
+pub link_clocks : HasLocalClocks link
 link_clocks = record {
   asking_phase = 0;
   asking_drift = pos 0;
@@ -288,7 +288,7 @@ link_clocks = record {
 }
 
 -- at the first second nothing is pending
-first_is_fresh : IsFresh link second (2 * second) (timer_due first)
+pub first_is_fresh : IsFresh link second (2 * second) (timer_due first)
 first_is_fresh = record {
   asked = omega arith;
   out = λ f at. absurd at;

@@ -6,5 +6,7 @@ pub mod PhaseLemmas
 pub mod CountLemmas
 pub mod InvariantLemmas
 pub mod CapabilityLemmas
+pub mod MeasuredLemmas
 pub mod SilenceLemmas
 mod ExampleLemmas
+mod MeterExampleLemmas

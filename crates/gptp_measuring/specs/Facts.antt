@@ -26,6 +26,10 @@ abbrev pub IsSentInTime : Setting → ℕ → List Frame → List Frame → Type
 IsSentInTime k time was now = (f : Frame) → In f now
     → In f was ⊎ ((time ≤ f.due) × ((f.due ≤ time + k.most) ⊎ ((g : Frame) × In g was × (f.due ≤ g.due))))
 
+-- A frame that is new in the lane takes `least` ns or more.
+abbrev pub IsSentLate : ℕ → ℕ → List Frame → List Frame → Type 0
+IsSentLate least time was now = (f : Frame) → In f now → In f was ⊎ (time + least ≤ f.due)
+
 -- nothing that is pending is due before that time
 pub record NothingIsDueBefore (k : Setting) (time : ℕ) (p : Pair) : Type 0 where
   pub request_timer : time ≤ p.asker.asked + k.period

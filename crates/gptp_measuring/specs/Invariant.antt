@@ -11,16 +11,21 @@ use Rattle.gptp_measuring.specs.Bounds.{Bounds}
 use Rattle.gptp_measuring.specs.Phases.{Phase}
 use Rattle.gptp_measuring.specs.Counts.{Counts}
 
-module _ (k : Setting) (asks : List ℕ → Request → Type 0) (replies : List ℕ → Reply → Type 0) where
+module _ (k : Setting) (least : ℕ) (asks : List ℕ → Request → Type 0) (replies : List ℕ → Reply → Type 0) where
   -- the exchange is in one of its phases, and what had to be measured before it was
   pub record IsClean (calm : ℕ) (a : Asker) (waits : Option Waiting) (out back : List Frame) : Type 0 where
-    pub phase : Phase k asks replies a waits out back
+    pub phase : Phase k least asks replies a waits out back
     pub counts : Counts k calm a
 
-  -- the bounds hold, and exchanges that began at `calm` or later are clean
-  pub record Inv (gone calm : ℕ) (p : Pair) : Type 0 where
+  -- the bounds hold, and exchanges that began at `calm` or later are clean, where each frame of theirs takes `least` ns
+  -- or more
+  pub record InvFrom (gone calm : ℕ) (p : Pair) : Type 0 where
     pub bounds : Bounds k asks replies gone p
     pub clean : calm ≤ p.asker.asked → IsClean calm p.asker p.waits p.out p.back
+
+-- the same where nothing is known of the least delay
+abbrev pub Inv : Setting → (List ℕ → Request → Type 0) → (List ℕ → Reply → Type 0) → ℕ → ℕ → Pair → Type 0
+Inv k asks replies gone calm p = InvFrom k 0 asks replies gone calm p
 
 -- just after a change nothing is known but that what is in flight is due by `gone`, and that what waits is answered
 -- within the turnaround from then

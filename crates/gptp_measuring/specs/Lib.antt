@@ -16,5 +16,9 @@ pub mod FactLaws
 pub mod BoundLaws
 pub mod CapabilityLaws
 pub mod SilenceLaws
+pub mod Meter
+pub mod Measured
 pub mod Runs
+pub mod MeasuredLaws
 pub mod Example
+pub mod MeterExample

@@ -1,20 +1,22 @@
--- The phases of an exchange that began with nothing old in flight.
+-- The phases of an exchange that began with nothing old in flight, where each frame takes `least` ns or more, and at
+-- most the greatest delay.
 use Rattle.std.specs.Prelude.{◌≡◌, ◌≤◌, ℕ, ◌+◌, List, Option, Some, None}
 use Rattle.gptp_measuring.specs.Lanes.{Frame, AreMute, FirstIs}
 use Rattle.gptp_measuring.specs.Messages.{Request, Reply, Response, FollowUp}
-use Rattle.gptp_measuring.specs.Setting.{Setting, IsInTime}
+use Rattle.gptp_measuring.specs.Setting.{Setting, IsBetween}
 use Rattle.gptp_measuring.specs.Asker.{Asker, Closed, Asked, Answered, own_request}
 use Rattle.gptp_measuring.specs.Answerer.{Waiting, noted}
 
-module _ (k : Setting) (asks : List ℕ → Request → Type 0) (replies : List ℕ → Reply → Type 0) (sequence : ℕ) where
-  -- the frame is the request that was sent then, due within the greatest delay
+module _ (k : Setting) (least : ℕ) (asks : List ℕ → Request → Type 0) (replies : List ℕ → Reply → Type 0)
+    (sequence : ℕ) where
+  -- the frame is the request that was sent then, due between the least and the greatest delay
   abbrev pub IsLastRequest : ℕ → Frame → Type 0
-  IsLastRequest asked f = asks f.octets (own_request k sequence) × (f.due ≤ asked + k.most)
+  IsLastRequest asked f = asks f.octets (own_request k sequence) × IsBetween asked f.due least k.most
 
-  -- the frame is the response to that request, which came then, due within the greatest delay
+  -- the frame is the response to that request, which came then, due between the least and the greatest delay
   abbrev pub IsItsResponse : ℕ → Frame → Type 0
   IsItsResponse came f = replies f.octets (Response k.answering (own_request k sequence) (k.answering_clock came))
-      × IsInTime (came + k.turnaround) f.due k.most
+      × IsBetween (came + k.turnaround) f.due least k.most
 
   -- the frame is the follow-up of that response, due within the greatest delay
   abbrev pub IsItsFollowUp : ℕ → Frame → Type 0
@@ -34,7 +36,8 @@ module _ (k : Setting) (asks : List ℕ → Request → Type 0) (replies : List 
   abbrev pub ResponseInFlight : ℕ → List Frame → Type 0
   ResponseInFlight came back = FirstIs replies (IsItsResponse came) (FollowUpInFlight came) back
 
-module _ (k : Setting) (asks : List ℕ → Request → Type 0) (replies : List ℕ → Reply → Type 0) (a : Asker) where
+module _ (k : Setting) (least : ℕ) (asks : List ℕ → Request → Type 0) (replies : List ℕ → Reply → Type 0)
+    (a : Asker) where
   -- Where the exchange of the last request stands. It rests; its request is in flight; the request came at one time and
   -- waits; response and follow-up are in flight; the response is back, and the follow-up is in flight. Nothing else of
   -- any exchange is pending.
@@ -42,16 +45,16 @@ module _ (k : Setting) (asks : List ℕ → Request → Type 0) (replies : List 
     Rests : a.progress ≡ Closed → AreMute asks out → waits ≡ None → AreMute replies back
         → Phase waits out back
     RequestGoes : (sequence : ℕ) → a.progress ≡ Asked sequence (k.asking_clock a.asked)
-        → RequestInFlight k asks replies sequence a.asked out → waits ≡ None → AreMute replies back
+        → RequestInFlight k least asks replies sequence a.asked out → waits ≡ None → AreMute replies back
         → Phase waits out back
-    AnswerWaits : (sequence came : ℕ) → IsInTime a.asked came k.most
+    AnswerWaits : (sequence came : ℕ) → IsBetween a.asked came least k.most
         → a.progress ≡ Asked sequence (k.asking_clock a.asked) → AreMute asks out
         → waits ≡ Some (noted k (own_request k sequence) came) → AreMute replies back → Phase waits out back
-    ResponseComes : (sequence came : ℕ) → IsInTime a.asked came k.most
+    ResponseComes : (sequence came : ℕ) → IsBetween a.asked came least k.most
         → a.progress ≡ Asked sequence (k.asking_clock a.asked) → AreMute asks out → waits ≡ None
-        → ResponseInFlight k asks replies sequence came back → Phase waits out back
-    FollowUpComes : (sequence came heard : ℕ) → IsInTime a.asked came k.most
-        → IsInTime (came + k.turnaround) heard k.most
+        → ResponseInFlight k least asks replies sequence came back → Phase waits out back
+    FollowUpComes : (sequence came heard : ℕ) → IsBetween a.asked came least k.most
+        → IsBetween (came + k.turnaround) heard least k.most
         → a.progress ≡ Answered sequence k.answering (k.asking_clock a.asked) (k.answering_clock came)
         (k.asking_clock heard) → AreMute asks out → waits ≡ None
-        → FollowUpInFlight k asks replies sequence came back → Phase waits out back
+        → FollowUpInFlight k least asks replies sequence came back → Phase waits out back

@@ -20,6 +20,10 @@ pub record Setting : Type 0 where
 abbrev pub IsInTime : ℕ → ℕ → ℕ → Type 0
 IsInTime s y most = (s ≤ y) × (y ≤ s + most)
 
+-- y is from s + least on, by s + most at the latest
+abbrev pub IsBetween : ℕ → ℕ → ℕ → ℕ → Type 0
+IsBetween s y least most = (s + least ≤ y) × (y ≤ s + most)
+
 -- The four times are those of one exchange over the link (IEEE 802.1AS-2020, figure 11-1): the request was sent at one
 -- time and came at another within the greatest delay, the response was sent the turnaround later, and came within the
 -- greatest delay too.

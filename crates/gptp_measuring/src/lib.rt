@@ -10,7 +10,8 @@
 //! The definitions stand in `specs/`. Each function of this crate is a law: it does nothing, and its contract is a
 //! theorem about the definitions. On a link that is up, loses nothing and is good, between two live systems, the port
 //! is capable from L + 5 announce intervals after the last change on, where L is the number of requests that may be
-//! lost; on a link whose other end has failed it isn't capable from then on. `docs/LINK_FACTS.md` lists what a network
+//! lost, and what it has measured is that of two exchanges over the link from five on; on a link whose other end has
+//! failed it isn't capable from L + 5 on. `docs/LINK_FACTS.md` lists what a network
 //! must show to be such a machine. Lemmas for the crates above are in the public modules of `proofs/`.
 #![tactic(auto)]
 
@@ -20,6 +21,7 @@ mod coding;
 mod examples;
 mod exchange;
 mod facts;
+mod measured;
 mod silence;
 
 pub use bounds::bounds_kept;
@@ -28,9 +30,13 @@ pub use capability::{
     no_exchange_is_bad, no_request_is_lost, runs_end_capable,
 };
 pub use coding::Coding;
-pub use examples::two_exchanges;
+pub use examples::{two_exchanges, two_measurements};
 pub use exchange::{exchanges_are_good, exchanges_show_neighbor};
 pub use facts::{facts_hold_later, facts_kept, timing_is_enough};
+pub use measured::{
+    measured_from_calm, measuring_settles, meter_begins, meter_holds_later, meter_is_invariant,
+    meter_kept, runs_end_measured,
+};
 pub use silence::{
     incapable_from_gone, runs_end_incapable, silence_begins, silence_holds_later, silence_kept,
     silence_settles,
