@@ -222,7 +222,8 @@ not_refused : (d : DocumentState) (t : Times) (all : List Case) (c : Case) → I
     → last_change d.events ≤ t.from
 not_refused d t [] c member none = absurd member
 not_refused d t (x ∷ xs) c member none =
-    by (nat_lt 4094 (length d.events)) refl (nat_lt latest_event t.from) refl (nat_lt t.from (last_change d.events)) refl
+    by (nat_lt 4094 (length d.events)) refl (nat_lt latest_event t.from) refl
+    (nat_lt t.from (last_change d.events)) refl
   where
     by : (many : Bool) → nat_lt 4094 (length d.events) ≡ many → (late : Bool) → nat_lt latest_event t.from ≡ late
         → (early : Bool) → nat_lt t.from (last_change d.events) ≡ early → last_change d.events ≤ t.from
@@ -237,8 +238,10 @@ pub follow_settles : (d : DocumentState) (options : FaultsOptions) (lines : List
     → TellsSettled g o
 follow_settles d options lines exceeded f o bound g playable default member bounded stands =
     let t = f.times in
-    let (number, of_part, (p, there, outcome)) = each_for (IsOutcomeAt d t f.planned) _ f.outcomes o f.are_outcomes member in
-    let (c, a_case, (is_case, hold_is)) = each_at (IsPlanned d options t) f.cases f.planned number p f.are_planned there in
+    let (number, of_part, (p, there, outcome)) =
+    each_for (IsOutcomeAt d t f.planned) _ f.outcomes o f.are_outcomes member in
+    let (c, a_case, (is_case, hold_is)) =
+    each_at (IsPlanned d options t) f.cases f.planned number p f.are_planned there in
     let failing : o.failing ≡ p.failing = ap (λ (x : OutcomeState). x.failing) outcome.is in
     let hold : IsHold d t p.failing None p.hold =
     subst (λ x. IsHold d t x None p.hold) (sym is_case) (subst (λ asked. IsHold d t c asked p.hold) default hold_is) in

@@ -44,8 +44,8 @@ use Rattle.gptp_kept.proofs.SyncCallLemmas.{TakesSyncs, kept_stays, slave_takes,
 use Rattle.gptp_kept.proofs.SyncHeardLemmas.{follow_ups_are_used, followed_here, syncs_are_kept}
 use Rattle.gptp_kept.proofs.TimeStepLemmas.{KeepsSync}
 
-module _ (p : Pace) (m start wait step : ℕ) (w : WorldState) (sound : IsSound w) (legible : IsLegible w) (set : AreSet p w)
-    (knows : KnowTime w) (above : 0 < p.params.sync_timeout) where
+module _ (p : Pace) (m start wait step : ℕ) (w : WorldState) (sound : IsSound w) (legible : IsLegible w)
+    (set : AreSet p w) (knows : KnowTime w) (above : 0 < p.params.sync_timeout) where
   abbrev n : Network
   n = network_with p m start wait step w
 
@@ -77,8 +77,8 @@ module _ (p : Pace) (m start wait step : ℕ) (w : WorldState) (sound : IsSound 
       let so : RunsSo (station_view c.station) (station_view (in_state c.after c.station)) (view w') = (
         timers_step place (TimerExpires timer) (stopped place timer w) draws k.answer w' c steady its timely time
             (on place c.station c.here) apart n (span place c.station c.here),
-        λ still. kept_stays place (TimerExpires timer) (stopped place timer w) draws k.answer w' c steady its timely time
-            (on place c.station c.here) apart n (span place c.station c.here) still
+        λ still. kept_stays place (TimerExpires timer) (stopped place timer w) draws k.answer w' c steady its timely
+            time (on place c.station c.here) apart n (span place c.station c.here) still
             (λ (kept : KeepsSync (TimerExpires timer) c.station.system c.after). let is = kept.heard in absurd cc),
       ) in
       let seen : RunsSo run.act.call.s run.act.call.s' (view w') =
@@ -196,7 +196,8 @@ module _ (p : Pace) (m start wait step : ℕ) (w : WorldState) (sound : IsSound 
           let seen = subst (λ X. X) same so in
           record { timers = seen.0; hears = seen.1.0; keeps = seen.1.1 }
 
-    pub deliveries_tell : ((act : Arrives says (view w) (view w')) × SyncArrives says says_sync n (view w) (view w') act)
+    pub deliveries_tell : ((act : Arrives says (view w) (view w'))
+        × SyncArrives says says_sync n (view w) (view w') act)
         ⊎ ((act : Drops says (view w) (view w')) × SyncDrops says says_sync (view w) (view w') act)
     deliveries_tell = by answer k.hears
       where

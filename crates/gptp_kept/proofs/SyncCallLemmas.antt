@@ -197,7 +197,8 @@ module _ (place : ℕ) (input : Input) (w : WorldState) (draws : List Draw) (ans
       (let count = its.ports in let most = its.few in omega arith) k.station.live i j q l l' root steps there mine here
       (subst (λ (v : WorldState). slice_get (lanes_view v.net.channels) j ≡ Some l') k.is now_here)
 
-  ends_pairs : input ≡ Expires timers.Sync → leads s ≡ true → SendsPairs says_sync (view w) (view w') (station_view called)
+  ends_pairs : input ≡ Expires timers.Sync → leads s ≡ true
+      → SendsPairs says_sync (view w) (view w') (station_view called)
   ends_pairs is leading =
       let steps = subst (λ one. Steps one w.time s k.after k.sends answer) is k.steps in
       sends_pairs (leaders_tell w.time s k.after k.sends answer leading steps)

@@ -101,8 +101,8 @@ module _ (s : SystemState) (p : ℕ) (source : PortIdentity) (takes : TakesTime 
 -- ---- a Sync
 
 pub syncs_are_kept : (p : ℕ) (octets : List ℕ) (now : ℕ) (s s' : SystemState) (sends : List Sending) (answer : Answer)
-    (id : SyncId) → Steps (FrameHeard p octets) now s s' sends answer → TakesTime s p id.source → says_sync octets (Sync id)
-    → kept_view s' ≡ Some id
+    (id : SyncId) → Steps (FrameHeard p octets) now s s' sends answer → TakesTime s p id.source
+    → says_sync octets (Sync id) → kept_view s' ≡ Some id
 syncs_are_kept p octets now s s' sends answer id k takes (head, reads, two_step, is) =
     capable (is_capable_at s p) takes.capable (heard_as p octets (messages.Sync head) now s s' sends answer reads k)
   where
@@ -120,7 +120,8 @@ syncs_are_kept p octets now s s' sends answer id k takes (head, reads, two_step,
 
 pub follow_ups_are_used : (p : ℕ) (octets : List ℕ) (now : ℕ) (s s' : SystemState) (sends : List Sending)
     (answer : Answer) (source : PortIdentity) (id : SyncId) → Steps (FrameHeard p octets) now s s' sends answer
-    → 0 < s.params.sync_timeout → TakesTime s p source → kept_view s ≡ Some id → says_sync octets (FollowUp id) → IsHeard now s s'
+    → 0 < s.params.sync_timeout → TakesTime s p source → kept_view s ≡ Some id → says_sync octets (FollowUp id)
+    → IsHeard now s s'
 follow_ups_are_used p octets now s s' sends answer source id k on takes keeps (m, reads, is) =
     capable (is_capable_at s p) takes.capable
     (heard_as p octets (messages.FollowUp m) now s s' sends answer reads k)

@@ -33,8 +33,8 @@ HasNetwork = (p : Pace) (m start : ℕ) (w : WorldState)
     → IsSound w → AreBetween w → IsLegible w → IsKnown p w → BoundsPaths (snapshot_of w) m
     → IsNetwork (network_of p m start w)
 
--- Such a world is a calm state where its links are quiet, the largest announce interval passes from the last change to the
--- start, and from the start its ports are disabled exactly where no link of the snapshot is at them.
+-- Such a world is a calm state where its links are quiet, the largest announce interval passes from the last change to
+-- the start, and from the start its ports are disabled exactly where no link of the snapshot is at them.
 abbrev pub IsCalmState : Type 0
 IsCalmState = (p : Pace) (m start wait step : ℕ) (w : WorldState)
     → IsSound w → IsLegible w → IsKnown p w → HaveQuietLinks p.params w

@@ -15,9 +15,9 @@ use Rattle.gptp_kept.specs.View.{says, says_sync, view}
 abbrev pub delay_in : WorldState → ℕ
 delay_in w = greatest_delay (live_systems w.stations) w.net.channels
 
--- Where no path has more than m systems: a Sync is waited for as long as a sync interval and, for each link of a path, a
--- residence time and the greatest delay; nothing lapses by then; and in a step of distance both that and the Announces
--- of one interval come.
+-- Where no path has more than m systems: a Sync is waited for as long as a sync interval and, for each link of a path,
+-- a residence time and the greatest delay; nothing lapses by then; and in a step of distance both that and the
+-- Announces of one interval come.
 pub record IsLongEnough (p : Pace) (m wait step : ℕ) (w : WorldState) : Type 0 where
   pub waits : interval_of p.params.sync + pred m * (p.params.residence + delay_in w) ≤ wait
   pub short : wait < lapse_span p.params

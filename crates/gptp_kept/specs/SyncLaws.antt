@@ -123,8 +123,8 @@ TimeKeepsTimed = (p : Pace) (m start wait step : ℕ) (w : WorldState) (time : �
     → IsCalmFrom p m start w → IsCalmFrom p m start (at time w) → HoldsTimed p m start wait step w
     → HoldsTimed p m start wait step (at time w)
 
--- Then the world has settled once a turn of the receipt timeout for each of m systems and as many steps of distance have
--- passed since the start.
+-- Then the world has settled once a turn of the receipt timeout for each of m systems and as many steps of distance
+-- have passed since the start.
 abbrev pub TimedSettles : Type 0
 TimedSettles = (p : Pace) (m start wait step : ℕ) (w : WorldState)
     → IsLongEnough p m wait step w → IsCalmFrom p m start w → HoldsTimed p m start wait step w

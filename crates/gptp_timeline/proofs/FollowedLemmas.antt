@@ -106,8 +106,11 @@ module _ (w : WorldState) (P : ℕ → ℕ → Type 0) where
           split (c ∷ cs) member so =
               let same = first_is n c ns cs member so in
               subst (λ first. Each P (first ∷ cs) (roots (n ∷ ns))) (sym same)
-              (rw is (follows n s is, next cs (first_lives n ns cs
-              (subst (λ first. AreLive (n ∷ ns) (first ∷ cs)) same so))))
+              (rw is (
+                follows n s is,
+                next cs (first_lives n ns cs
+                    (subst (λ first. AreLive (n ∷ ns) (first ∷ cs)) same so)),
+              ))
 
 -- ---- the end of a stretch
 
@@ -170,8 +173,8 @@ module _ {F : Type 0} (answers : Bounds → ℕ → F → Option ℕ → F → T
       → p.bound ≡ Some bound → (IsSpan d p.from bound → p.from + bound ≤ p.to) → IsSnapshot d p.from g
       → AreRoots g (roots_of (map (λ name. shown name p.after) names))
   follow_there until passages fate fate_after start after p bound g keeps pass member bounded lasts at_begin =
-      let b = begins answers d playable names until passages 0 [] (events_by until d.events) fate fate_after start after p
-      (left_first answers d playable names until) keeps pass member in
+      let b = begins answers d playable names until passages 0 [] (events_by until d.events) fate fate_after start after
+      p (left_first answers d playable names until) keeps pass member in
       let events = b.before ++ now_of b.from b.left in
       let are : events_by b.from d.events ≡ events =
       events_then answers d playable names until b.from b.before b.left b.is_left in

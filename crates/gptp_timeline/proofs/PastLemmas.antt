@@ -112,7 +112,8 @@ by_past time (e ∷ es) left past =
     let early : nat_le e.at time ≡ true = grind (arith, nat_tests) in
     rw early (ap (λ fs. e ∷ fs) (by_past time es left past.1))
 
-pub by_sooner : (time until : ℕ) (es : List Timed) → time ≤ until → events_by time (events_by until es) ≡ events_by time es
+pub by_sooner : (time until : ℕ) (es : List Timed) → time ≤ until
+    → events_by time (events_by until es) ≡ events_by time es
 by_sooner time until [] le = refl
 by_sooner time until (e ∷ es) le = by (nat_le e.at until) refl (by_sooner time until es le)
   where

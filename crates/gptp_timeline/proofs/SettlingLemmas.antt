@@ -400,8 +400,8 @@ module _ {F : Type 0} (answers : Bounds → ℕ → F → Option ℕ → F → T
         within = omega arith;
       }
 
-  pub left_next : (until from to : ℕ) (before left : List Timed) → IsLeft until from before left → later_than from left ≢ []
-      → to ≡ end_before until (later_than from left)
+  pub left_next : (until from to : ℕ) (before left : List Timed) → IsLeft until from before left
+      → later_than from left ≢ [] → to ≡ end_before until (later_than from left)
       → IsLeft until to (before ++ now_of from left) (later_than from left)
   left_next until from to before left is some ends =
       let test : Timed → Bool = λ (e : Timed). nat_lt from e.at in
