@@ -94,8 +94,8 @@ claimed_settled w claimed calm place station here =
     settles calm.pace w is.world calm.quiet (claim_capable calm.pace w is) is.settling calm.late place station
     here
 
--- By a number m that bounds the systems of paths: one that does so too and is no more than m, nor than what is read off
--- the links. A world that is quiet by its own paths is so by that one, and no step takes longer.
+-- A number that bounds the systems of paths and is no more than m, nor than what is read off the links: a world that is
+-- quiet by its own paths is quiet by it, and no step takes longer.
 pub record IsReach (p : Pace) (m : ℕ) (w : WorldState) : Type 0 where
   pub reach : ℕ
   pub bounded : BoundsPaths (snapshot_of w) reach

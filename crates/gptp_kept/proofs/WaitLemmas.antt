@@ -13,7 +13,7 @@ use Rattle.gptp_kept.specs.Calm.{step_with, wait_with}
 
 -- ---- the wait
 
--- a wait that ends before the span of Lapse timers does has a syncReceiptTimeout
+-- where Syncs come in less than the span of Lapse timers there is a syncReceiptTimeout
 pub has_timeout : (p : Params) (paths : SyncPaths) → sync_wait p paths < lapse_span p → 0 < p.sync_timeout
 has_timeout p paths short = by p.sync_timeout refl
   where
@@ -22,7 +22,7 @@ has_timeout p paths short = by p.sync_timeout refl
         let off : lapse_span p ≡ 0 = ap (λ k. k * interval_of p.sync) none ∙ zero-mul _ in absurd (omega arith)
     by (suc more) some = omega arith
 
--- then Sync is waited for so long
+-- and a settled system waits for them
 pub wait_is : (p : Params) (paths : SyncPaths) → sync_wait p paths < lapse_span p
     → wait_with p paths ≡ sync_wait p paths
 wait_is p paths short = by (nat_lt (sync_wait p paths) (lapse_span p)) refl
@@ -32,7 +32,7 @@ wait_is p paths short = by (nat_lt (sync_wait p paths) (lapse_span p)) refl
     by true is = refl
     by false is = absurd (grind (arith, nat_tests))
 
--- in a step the wait ends, and then the Announces of one interval come
+-- in a step that wait ends, and then the Announces of one interval come
 pub step_long : (p : Pace) (paths : SyncPaths) → paths.delay ≤ largest_interval p
     → wait_with p.params paths + largest_interval p + paths.delay ≤ step_with p paths
 step_long p paths short = by (nat_lt (sync_wait p.params paths) (lapse_span p.params))
@@ -52,7 +52,7 @@ module _ (p : Pace) (a b delay : ℕ) (fewer : a ≤ b) where
   abbrev great : SyncPaths
   great = record { systems = b; delay = delay }
 
-  -- a Sync that has fewer to cross is waited for for a shorter time
+  -- the wait over fewer systems is shorter
   wait_less : sync_wait p.params small ≤ sync_wait p.params great
   wait_less =
       let links = mul-le-mul_right (p.params.residence + delay) (pred_less a b fewer) in omega (arith, links)
@@ -62,7 +62,7 @@ module _ (p : Pace) (a b delay : ℕ) (fewer : a ≤ b) where
       pred_less (suc m) zero h = absurd (omega arith)
       pred_less (suc m) (suc n) h = omega arith
 
-  -- so it too comes in time
+  -- so Syncs come in time there too
   pub in_time_less : SyncsComeInTime p.params great → SyncsComeInTime p.params small
   in_time_less (inl none) = inl none
   in_time_less (inr short) = let less = wait_less in inr (omega arith)
@@ -85,7 +85,7 @@ module _ (p : Pace) (a b delay : ℕ) (fewer : a ≤ b) where
           absurd (grind (arith, nat_tests))
       by true on false is (inr short) = absurd (grind (arith, nat_tests))
 
--- so much more is the span of more systems, in which a step takes no shorter time
+-- a span grows with the systems, and with what a step takes
 pub spans_grow : (turns rest interval m n x y : ℕ) → m ≤ n → x ≤ y
     → (turns * m + rest) * interval + m * x ≤ (turns * n + rest) * interval + n * y
 spans_grow turns rest interval m n x y more longer =
