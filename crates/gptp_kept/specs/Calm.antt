@@ -148,8 +148,8 @@ network_with p m start wait step w = record {
   step = step;
 }
 
--- So it is with the wait and the step that such paths ask for: without a syncReceiptTimeout no Sync is waited for, and a
--- step takes two of the largest intervals.
+-- So it is with the wait and the step that such paths ask for: without a syncReceiptTimeout no Sync is waited for, and
+-- a step takes two of the largest intervals.
 abbrev pub network_of : Pace → ℕ → ℕ → WorldState → Network
 network_of p m start w =
     network_with p m start (wait_with p.params (paths_with m w)) (step_with p (paths_with m w)) w

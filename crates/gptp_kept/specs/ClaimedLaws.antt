@@ -93,8 +93,8 @@ ClaimedSettledByNeighbours = (w : WorldState)
     → Claimed w → IsCalmFor (span_over (path_bound (snapshot_of w))) w
     → Settled w
 
--- Where syncReceiptTimeout is 0 a world is calm by its links alone, and has been for the settling span of m systems once
--- their intervals have passed.
+-- Where syncReceiptTimeout is 0 a world is calm by its links alone, and has been for the settling span of m systems
+-- once their intervals have passed.
 abbrev pub CalmWithoutTimeout : Type 0
 CalmWithoutTimeout = (p : Pace) (m : ℕ) (w : WorldState)
     → NothingLapses p.params → HavePace p w → HaveQuietLinks p.params w → w.last_change + settling_span p m ≤ w.time

@@ -68,8 +68,8 @@ PlaysByPaths number port w role = (m : ℕ)
 
 -- ---- by distance
 
--- two announce intervals for each of d steps, and what a step takes longer where Sync is waited for, behind the turns in
--- which all that is held becomes wholly clean
+-- two announce intervals for each of d steps, and what a step takes longer where Sync is waited for, behind the turns
+-- in which all that is held becomes wholly clean
 abbrev pub distance_span : ℕ → ℕ → Pace → SyncPaths → ℕ → ℕ
 distance_span m d p paths n = turns_span m p paths n + 2 * d * largest_interval p + d * step_more p paths
 
