@@ -18,7 +18,7 @@ use Rattle.gptp_kept.specs.LinkView.{LinkPlace, opposite}
 use Rattle.gptp_kept.proofs.LinkLemmas.{sender_opposite}
 use Rattle.gptp_kept.proofs.WatchLemmas.{watched_capable}
 use Rattle.gptp_kept.specs.View.{identity_of}
-use Rattle.gptp_kept.specs.Calm.{IsQuietWorld}
+use Rattle.gptp_kept.specs.Calm.{HaveQuietLinks}
 use Rattle.gptp_kept.specs.Standing.{has_clock, is_used, live_systems, snapshot_of}
 use Rattle.gptp_kept.proofs.StandsLemmas.{sender_lives, stands_well, used_up}
 use Rattle.gptp_kept.proofs.SystemLemmas.{clock_lives, live_from}
@@ -53,7 +53,7 @@ receiver_lives w direction channel used =
 
 -- ---- a port at a link of the snapshot
 
-module _ (p : Pace) (w : WorldState) (pace : KeepPace p) (is : IsWorld p w) (quiet : IsQuietWorld p.params w)
+module _ (p : Pace) (w : WorldState) (pace : KeepPace p) (is : IsWorld p w) (quiet : HaveQuietLinks p.params w)
     (watches : Watches p w) (late : start_of p w ≤ w.time) (place : ℕ) (station : Station)
     (here : slice_get w.stations place ≡ Some station) (live : station.live ≡ true) where
   -- where a way from a port of the system stands
@@ -69,7 +69,7 @@ module _ (p : Pace) (w : WorldState) (pace : KeepPace p) (is : IsWorld p w) (qui
   way_stands : (n : ℕ) (to : PortIdentity) → Joins (snapshot_of w) (identity_of (own station.system n)) to
       → (way : IsWay w (identity_of (own station.system n)) to) → StandsAt (place_of_way n to way) w
   way_stands n to joins way =
-      let links = quiet.links way.link way.channel way.here way.used in
+      let links = quiet way.link way.channel way.here way.used in
       let other = receiver_lives w way.direction way.channel way.used in
       let asking = (is.known.set place station here).starts.params in
       let answering = (is.known.set other.place other.at.station other.at.here).starts.params in
@@ -131,7 +131,7 @@ module _ (p : Pace) (w : WorldState) (pace : KeepPace p) (is : IsWorld p w) (qui
       let capable = way_capable i q to there joins way in
       record { capable = capable; enabled = (shown.each i h q holds there).on capable }
 
-pub used_capable : (p : Pace) (w : WorldState) → KeepPace p → IsWorld p w → IsQuietWorld p.params w → Watches p w
+pub used_capable : (p : Pace) (w : WorldState) → KeepPace p → IsWorld p w → HaveQuietLinks p.params w → Watches p w
     → start_of p w ≤ w.time → AreUsedCapable w
 used_capable p w pace is quiet watches late place station here live =
     port_capable p w pace is quiet watches late place station here live

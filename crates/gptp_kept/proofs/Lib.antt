@@ -46,11 +46,9 @@ pub mod LogLemmas
 pub mod CalmAtRestLemmas
 pub mod CalmFactLemmas
 pub mod DelayLemmas
+pub mod WaitLemmas
 pub mod CalmLemmas
 pub mod SettledWorldLemmas
-pub mod HoldsLemmas
-pub mod ParentLemmas
-pub mod SettledLemmas
 pub mod LinkOctetLemmas
 pub mod TimeStepLemmas
 pub mod SyncOctetLemmas
@@ -59,7 +57,9 @@ pub mod SyncHeardLemmas
 pub mod SyncLaneLemmas
 pub mod SyncCallLemmas
 pub mod SyncActLemmas
-pub mod SyncHoldsLemmas
+pub mod HoldsLemmas
+pub mod ParentLemmas
+pub mod SettledLemmas
 pub mod LinkLaneLemmas
 pub mod SentLemmas
 pub mod PartLemmas

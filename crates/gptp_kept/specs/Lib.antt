@@ -14,7 +14,6 @@ pub mod Calm
 pub mod CalmLaws
 pub mod Holds
 pub mod Settled
-pub mod SyncHolds
 pub mod SyncLaws
 pub mod SettledLaws
 pub mod LinkView

@@ -10,7 +10,7 @@ impl Document {
 
     /// Whether the network is calm after the events up to a time, in ns: each link that then is up between two live
     /// systems loses nothing, and its greatest delay is short enough for the threshold; and nothing lapses for want of
-    /// Sync, since `sync_timeout` is 0.
+    /// Sync: `sync_timeout` is 0, or a settled system waits for Sync for less than so many sync intervals.
     pub fn calm_at(&self, at: u64) -> bool
         ensures { IsTrue result ↔ IsCalmAt self.now at }
     {
@@ -18,14 +18,22 @@ impl Document {
         self.network().is_calm(events_by(self.events(), at))
     }
 
-    /// How long the network, as it stands after the events up to a time, takes at most to settle if it is calm, in ns: by how
-    /// many systems a path over the live systems and the links between them has. Refused for want of memory alone.
+    /// How long the network, as it stands after the events up to a time, takes at most to settle if it is calm, in ns:
+    /// by how many systems a path over the live systems and the links between them has, and by how long a settled
+    /// system waits for Sync. Refused for want of memory alone.
+    #[tactic(auto, using(crate::proofs::SpanLemmas::allowed_by))]
     pub fn span_at(&self, alloc: Global, at: u64) -> Result<u64, AllocError>
         ensures span { IfOk result (IsSpan self.now at) }
-        ensures bound { IfOk result (λ span. span ≤ 160000000000000) }
+        ensures bound { IfOk result (λ span. span ≤ 200000000000000) }
     {
+        self.well_formed();
+        let events = events_by(self.events(), at);
         let snapshot = self.snapshot(alloc, at)?;
-        Ok(self.network().settling_span_over(snapshot.path_bound()))
+        self.network().well_formed();
+        Ok(
+            self.network()
+                .settling_span_over(snapshot.path_bound(), events),
+        )
     }
 
     /// That span where the network is calm then; `None` where it isn't. Refused for want of memory alone.
