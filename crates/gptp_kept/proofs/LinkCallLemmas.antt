@@ -19,7 +19,7 @@ use Rattle.gptp_system.specs.State.{SystemState}
 use Rattle.gptp_acts.specs.World.{WorldState, queue, receiver, sender}
 use Rattle.gptp_lists.proofs.PlaceLemmas.{same_place}
 use Rattle.gptp_measuring.specs.Acts.{OthersSend}
-use Rattle.gptp_measuring.specs.Facts.{IsSentInTime}
+use Rattle.gptp_measuring.specs.Facts.{IsSentInTime, IsSentLate}
 use Rattle.gptp_measuring.specs.Lanes.{Frame as SeenFrame, AreMute}
 use Rattle.gptp_measuring.specs.Setting.{Setting}
 use Rattle.gptp_kept.specs.LinkView.{IsEndOf, IsLinkOf, LinkPlace, asker_view, asks, frame_view, lane_view, opposite, pair, replies, setting, waits_view}
@@ -119,6 +119,21 @@ sent_in_time k time old news was now is kept dues g member =
         by (later, inr (h, there, before)) =
             (later, inr (frame_view h, kept (frame_view h) (In-map frame_view h old there), before))
 
+-- frames that take so long are sent so late
+pub sent_late : (least time : ℕ) (old news : List Frame) (was now : List SeenFrame)
+    → now ≡ map frame_view old ++ map frame_view news
+    → ((g : SeenFrame) → In g (map frame_view old) → In g was)
+    → ((f : Frame) → In f news → time + least ≤ f.due)
+    → IsSentLate least time was now
+sent_late least time old news was now is kept lates g member =
+    elim (In-parts g (map frame_view old) (map frame_view news) (subst (In g) is member)) [
+      | inl stays ↦ inl (kept g stays)
+      | inr added ↦ inr (new (seen_from news g added))
+    ]
+  where
+    new : ((f : Frame) × In f news × (g ≡ frame_view f)) → time + least ≤ g.due
+    new (f, among, same) = subst (λ (x : SeenFrame). time + least ≤ x.due) (sym same) (lates f among)
+
 -- ---- the link
 
 no_octets : (news : List Frame) → octets_of news ≡ [] → news ≡ []
@@ -214,6 +229,18 @@ module _ {at : LinkPlace} {place : ℕ} {input : Input} {w w' : WorldState} {l :
       sent_in_time (setting at w l) w.time (queue (opposite at.direction) l.channel) (news (opposite at.direction))
       (pair at w l).back (pair at w' step.after).back back_is (λ g member. member)
       (step.grows.dues (opposite at.direction))
+
+  -- and takes the least delay of the link or more
+  pub out_late : IsSentLate l.channel.bounds.min w.time (pair at w l).out (pair at w' step.after).out
+  out_late =
+      sent_late l.channel.bounds.min w.time (queue at.direction l.channel) (news at.direction) (pair at w l).out
+      (pair at w' step.after).out out_is (λ g member. member) (step.grows.lates at.direction)
+
+  pub back_late : IsSentLate l.channel.bounds.min w.time (pair at w l).back (pair at w' step.after).back
+  back_late =
+      sent_late l.channel.bounds.min w.time (queue (opposite at.direction) l.channel) (news (opposite at.direction))
+      (pair at w l).back (pair at w' step.after).back back_is (λ g member. member)
+      (step.grows.lates (opposite at.direction))
 
   -- an act that leaves what the one port asked and what waits at the other
   pub others_send : asker_view period (part_of step.after.asking.state) ≡ asker_view period (part_of l.asking.state)
