@@ -88,10 +88,12 @@ pub mod BeforeLemmas
 pub mod UnansweredWorldLemmas
 pub mod BeginLemmas
 pub mod CapableKeptLemmas
+pub mod UsedLinkLemmas
 pub mod CapableLemmas
 pub mod ClaimedCapableLemmas
 pub mod ClaimLemmas
 pub mod ClaimedLemmas
+pub mod MeasuredLinkLemmas
 pub mod ShownLemmas
 pub mod TraceLemmas
 pub mod TreeLemmas

@@ -1,5 +1,5 @@
 -- From the last change on a link is watched; its port becomes capable, and measures the link.
-use Rattle.std.proofs.Common.{◌+◌, ◌*◌, ℕ, refl, sym, ap, subst}
+use Rattle.std.proofs.Common.{◌≡◌, ◌+◌, ◌*◌, ℕ, refl, sym, ap, subst}
 use Rattle.gptp_links.specs.declared.bounds.Bounds.{Bounds}
 use Rattle.gptp_measuring.specs.Facts.{Facts, IsGood}
 use Rattle.gptp_measuring.specs.Measured.{MeterInv}
@@ -34,6 +34,7 @@ watch_kept at gone calm act w w' draws done sound calm_act acts is =
     let one = seen.so in
     let facts = facts_kept k gone asks replies m.pair m'.pair (act_of k asks replies m m' one.acts) one.out one.back
     is.facts in
+    let same_least : least ≡ least_delay at w' seen.after = ap (λ (b : Bounds). b.min) (sym seen.bounds) in
     let inv = meter_kept k least asks replies gone calm m m' is.good is.facts facts one.out_late one.back_late one.acts
     is.inv in
     record {
@@ -41,8 +42,7 @@ watch_kept at gone calm act w w' draws done sound calm_act acts is =
       good = subst (λ (x : Setting). IsGood x gone calm) (sym seen.settled) is.good;
       facts = subst (λ (x : Setting). Facts x gone m'.pair) (sym seen.settled) facts;
       inv = subst (λ (x : Setting). MeterInv x (least_delay at w' seen.after) asks replies gone calm m')
-          (sym seen.settled)
-          (subst (λ (n : ℕ). MeterInv k n asks replies gone calm m') (ap (λ (b : Bounds). b.min) (sym seen.bounds)) inv);
+          (sym seen.settled) (subst (λ (n : ℕ). MeterInv k n asks replies gone calm m') same_least inv);
     }
 
 pub watch_goes_on : WatchGoesOn
