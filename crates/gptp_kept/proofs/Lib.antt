@@ -68,6 +68,7 @@ pub mod EndLemmas
 pub mod LinkLemmas
 pub mod LinkCallLemmas
 pub mod LinkExpiryLemmas
+pub mod PoppedLemmas
 pub mod LinkDeliveryLemmas
 pub mod LinkActLemmas
 pub mod MeasuredLemmas

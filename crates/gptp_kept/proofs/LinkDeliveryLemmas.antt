@@ -1,15 +1,13 @@
 -- A delivery, seen at a link: the port that asks hears, the port that answers hears, or others send.
-use Rattle.std.proofs.Common.{◌≡◌, ◌≢◌, ◌⊎◌, ◌+◌, ◌≤◌, ℕ, Bool, true, false, List, [], ◌∷◌, ◌++◌, map, Option, Some, None, slice_get, slice_set, refl, sym, ap, subst, ◌∙◌, inl, inr, eq-eqb, eqb-true}
+use Rattle.std.proofs.Common.{◌≡◌, ◌≢◌, ◌+◌, ◌≤◌, ℕ, Bool, true, false, List, [], ◌∷◌, ◌++◌, map, Option, Some, None, slice_get, slice_set, refl, sym, ap, subst, ◌∙◌, inl, inr, eq-eqb, eqb-true}
 use Rattle.std.specs.Prelude.{if◌then◌else◌, ◌==◌}
 use Rattle.std.proofs.lemmas.List.{append-nil, map-append}
 use Rattle.gptp_lists.specs.Members.{In}
 use Rattle.gptp_lists.proofs.MemberLemmas.{In-map}
 use Rattle.gptp_vector.specs.declared.port.PortId.{PortId}
-use Rattle.gptp_links.specs.declared.bounds.Bounds.{Bounds}
 use Rattle.gptp_links.specs.declared.link.Direction.{Direction}
-use Rattle.gptp_links.specs.declared.link.Direction.TheVariants.{FromA, FromB}
 use Rattle.gptp_links.specs.Fate.{Draw}
-use Rattle.gptp_links.specs.Queue.{Frame, frame}
+use Rattle.gptp_links.specs.Queue.{frame}
 use Rattle.gptp_pdelay.specs.GoodLink.{IsGoodLink}
 use Rattle.gptp_system.specs.declared.answer.Answer.{Answer}
 use Rattle.gptp_setup.specs.declared.setup.Params.{Params}
@@ -21,10 +19,10 @@ use Rattle.gptp_system.specs.Steps.{IsUp}
 use Rattle.gptp_acts.specs.declared.station.Station.{Station}
 use Rattle.gptp_acts.specs.Act.{Calls, Delivers, HasFailed, Hears}
 use Rattle.gptp_acts.specs.Sound.{IsSound}
-use Rattle.gptp_acts.specs.World.{Channel, Net, WorldState, queue, receiver, sender, with_queue}
+use Rattle.gptp_acts.specs.World.{Net, WorldState, queue, receiver, sender, with_queue}
 use Rattle.gptp_lists.proofs.MappedLemmas.{same_there}
 use Rattle.gptp_lists.proofs.PlaceLemmas.{get-set_other, get-set_same, same_place}
-use Rattle.gptp_acts.proofs.StayLemmas.{carry_join, sender_same, takes_carry}
+use Rattle.gptp_acts.proofs.StayLemmas.{carry_join, takes_carry}
 use Rattle.gptp_measuring.specs.Acts.{AskerHears, AnswererHears}
 use Rattle.gptp_measuring.specs.Answerer.{Notes}
 use Rattle.gptp_measuring.specs.Asker.{Takes}
@@ -32,113 +30,16 @@ use Rattle.gptp_measuring.specs.ExchangeLaws.{HasLocalClocks}
 use Rattle.gptp_measuring.specs.Facts.{IsSentInTime, IsSentLate}
 use Rattle.gptp_measuring.specs.Lanes.{Frame as SeenFrame}
 use Rattle.gptp_measuring.specs.Meter.{MeterActs, TakesMeasure, meter_heard, meter_hears, meter_rests}
-use Rattle.gptp_kept.specs.LinkView.{IsEndOf, IsLinkOf, LinkPlace, SaysWhatFits, asker_view, asks, frame_view, identity_of, lane_view, least_delay, meter, opposite, pair, replies, setting, waits_view}
+use Rattle.gptp_kept.specs.LinkView.{IsEndOf, IsLinkOf, LinkPlace, SaysWhatFits, asker_view, asks, frame_view, lane_view, least_delay, meter, opposite, pair, replies, setting, waits_view}
 use Rattle.gptp_kept.specs.LinkActs.{IsOneAct, IsSeen}
 use Rattle.gptp_kept.proofs.LinkCallLemmas.{asker_is, back_in_time, back_is, back_late, back_mute, back_stays, others_send as others_seen, out_in_time, out_is, out_late, out_mute, out_stays, seen_from, sent_in_time, sent_late}
-use Rattle.gptp_kept.proofs.EndLemmas.{PartStep, renamed}
+use Rattle.gptp_kept.proofs.PoppedLemmas.{carried, least_same, left_there, most_same, opposite_twice, popped_link, popped_receiver, popped_sender, popped_settled, queue_left, queue_set, receiver_opposite, which_way}
+use Rattle.gptp_kept.proofs.EndLemmas.{PartStep}
 use Rattle.gptp_kept.proofs.LinkExpiryLemmas.{clock_is}
 use Rattle.gptp_kept.proofs.HearLemmas.{Hears as PartHears, hears_measure, hears_notes, hears_takes}
 use Rattle.gptp_kept.proofs.LinkLaneLemmas.{IsDueSoon}
 use Rattle.gptp_kept.proofs.PartLemmas.{AsksAsBefore, asks_still}
-use Rattle.gptp_kept.proofs.LinkLemmas.{IsOrderly, LinkStep, clocks_apart, link_called, net_orderly, receiver_same, sender_opposite, sound_orderly}
-
--- ---- a frame leaves its lane
-
--- a link of which only the frames in flight change
-record SameLink (old new : Channel) : Type 0 where
-  a : new.a ≡ old.a
-  b : new.b ≡ old.b
-  bounds : new.bounds ≡ old.bounds
-  up : new.up ≡ old.up
-
-same_link : (direction : Direction) (frames : List Frame) (channel : Channel)
-    → SameLink channel (with_queue direction frames channel)
-same_link FromA frames channel = record { a = refl; b = refl; bounds = refl; up = refl }
-same_link FromB frames channel = record { a = refl; b = refl; bounds = refl; up = refl }
-
-queue_set : (direction : Direction) (frames : List Frame) (channel : Channel)
-    → queue direction (with_queue direction frames channel) ≡ frames
-queue_set FromA frames channel = refl
-queue_set FromB frames channel = refl
-
-queue_left : (direction : Direction) (frames : List Frame) (channel : Channel)
-    → queue (opposite direction) (with_queue direction frames channel) ≡ queue (opposite direction) channel
-queue_left FromA frames channel = refl
-queue_left FromB frames channel = refl
-
-opposite_twice : (direction : Direction) → opposite (opposite direction) ≡ direction
-opposite_twice FromA = refl
-opposite_twice FromB = refl
-
--- a direction is this one or the other
-which_way : (direction way : Direction) → (direction ≡ way) ⊎ (direction ≡ opposite way)
-which_way FromA FromA = inl refl
-which_way FromA FromB = inr refl
-which_way FromB FromA = inr refl
-which_way FromB FromB = inl refl
-
-receiver_opposite : (direction : Direction) (channel : Channel)
-    → receiver (opposite direction) channel ≡ sender direction channel
-receiver_opposite FromA channel = refl
-receiver_opposite FromB channel = refl
-
--- the link with the oldest frame gone
-module _ (at : LinkPlace) (w : WorldState) (l : IsLinkOf at w) (direction : Direction) (front : Frame)
-    (rest : List Frame) (was : queue direction l.channel ≡ front ∷ rest) (net : Net)
-    (here : slice_get net.channels at.link ≡ Some (with_queue direction rest l.channel)) where
-  abbrev popped : Channel
-  popped = with_queue direction rest l.channel
-
-  carried : SameLink l.channel popped
-  carried = same_link direction rest l.channel
-
-  popped_sender : sender at.direction popped ≡ sender at.direction l.channel
-  popped_sender = sender_same at.direction l.channel popped carried.a carried.b
-
-  popped_receiver : receiver at.direction popped ≡ receiver at.direction l.channel
-  popped_receiver = receiver_same at.direction l.channel popped carried.a carried.b
-
-  left_there : (way : Direction) (f : Frame) → In f (queue way popped) → In f (queue way l.channel)
-  left_there way f member = by (which_way way direction)
-    where
-      by : (way ≡ direction) ⊎ (way ≡ opposite direction) → In f (queue way l.channel)
-      by (inl e) =
-          let among : In f rest =
-          subst (In f) (queue_set direction rest l.channel) (subst (λ d. In f (queue d popped)) e member) in
-          let whole : In f (front ∷ rest) = inr among in
-          subst (λ d. In f (queue d l.channel)) (sym e) (subst (In f) (sym was) whole)
-      by (inr e) =
-          subst (λ d. In f (queue d l.channel)) (sym e)
-          (subst (In f) (queue_left direction rest l.channel) (subst (λ d. In f (queue d popped)) e member))
-
-  most_same : popped.bounds.max ≡ l.channel.bounds.max
-  most_same = ap (λ (b : Bounds). b.max) carried.bounds
-
-  least_same : popped.bounds.min ≡ l.channel.bounds.min
-  least_same = ap (λ (b : Bounds). b.min) carried.bounds
-
-  abbrev popped_link : IsLinkOf at (record w { net = net })
-  popped_link = record {
-    channel = popped;
-    here = here;
-    up = carried.up ∙ l.up;
-    lossless = ap (λ (b : Bounds). b.loss) carried.bounds ∙ l.lossless;
-    asking = renamed at.asking (sender at.direction l.channel) (sender at.direction popped) w (sym popped_sender)
-        l.asking;
-    answering = renamed at.answering (receiver at.direction l.channel) (receiver at.direction popped) w
-        (sym popped_receiver) l.answering;
-    apart = l.apart;
-    good = subst (λ most. IsGoodLink most l.answering.station.setup.params.turnaround
-        l.asking.station.setup.params.threshold) (sym most_same) l.good;
-    fit = λ way f member. l.fit way f (left_there way f member);
-  }
-
-  popped_settled : setting at (record w { net = net }) popped_link ≡ setting at w l
-  popped_settled = λ i. record (setting at w l) {
-    asking = identity_of (popped_sender i);
-    answering = identity_of (popped_receiver i);
-    most = most_same i;
-  }
+use Rattle.gptp_kept.proofs.LinkLemmas.{IsOrderly, LinkStep, clocks_apart, link_called, net_orderly, sender_opposite, sound_orderly}
 
 -- ---- what the receiver is given
 
