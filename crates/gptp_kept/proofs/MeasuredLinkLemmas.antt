@@ -20,14 +20,14 @@ pub used_measured : (p : Pace) (w : WorldState) → KeepPace p → IsWorld p w �
     → w.last_change + 5 * largest_interval p ≤ w.time → HaveMeasuredLinks w
 used_measured p w pace is quiet watches late place station here live i h q holds there to joins =
     let x = used_watched p w pace is quiet watches place station here live i q to there joins in
+    let l = x.watched.link in
     record {
       at = x.at;
-      link = x.watched.link;
+      link = l;
       from_is = x.from_is;
       to_is = x.to_is;
       state = x.state;
-      measured = subst (λ (state : Port). HasMeasured (setting x.at w x.watched.link) (least_delay x.at w x.watched.link)
-          state.peer.last) x.state
+      measured = subst (λ (state : Port). HasMeasured (setting x.at w l) (least_delay x.at w l) state.peer.last) x.state
           (watched_measure x.at w.last_change (largest_interval p) w x.watched x.period late);
     }
 
