@@ -24,7 +24,7 @@ impl Document {
     #[tactic(auto, using(crate::proofs::SpanLemmas::allowed_by))]
     pub fn span_at(&self, alloc: Global, at: u64) -> Result<u64, AllocError>
         ensures span { IfOk result (IsSpan self.now at) }
-        ensures bound { IfOk result (λ span. span ≤ 200000000000000) }
+        ensures bound { IfOk result (λ span. span ≤ 195000000000000) }
     {
         self.well_formed();
         let events = events_by(self.events(), at);

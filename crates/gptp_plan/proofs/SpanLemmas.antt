@@ -16,7 +16,7 @@ few_steps live step h k = mul-le-mul {n₂ = 512} {m₂ = 176000000000} h k
 -- what a step of so many systems takes longer is above an announce interval, which each of them takes anyway
 pub short_span : (rest live interval reach : ℕ) → rest ≤ 6404 → live ≤ 512 → interval ≤ 16000000000
     → reach ≤ 176000000000
-    → (rest + live) * interval + live * (reach - interval) ≤ 200000000000000
+    → (rest + live) * interval + live * (reach - interval) ≤ 195000000000000
 short_span rest live interval reach r l i h = elim (dec_le interval reach) [
   | yes below ↦
       let more : ℕ = reach - interval in

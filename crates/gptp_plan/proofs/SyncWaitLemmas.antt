@@ -36,7 +36,7 @@ never_longer p paths n off =
 -- no longer than so: the wait is below the longest timeout, and intervals and delays are within sixteen seconds
 pub short_time : (p : Pace) (paths : SyncPaths) (n : ℕ) → KeepParams p.params → IsLog p.largest → n ≤ 512
     → paths.delay ≤ 16000000000
-    → settling_span_with p paths n ≤ 200000000000000
+    → settling_span_with p paths n ≤ 195000000000000
 short_time p paths n params log few short =
     by (nat_lt (sync_wait p.params paths) (lapse_span p.params)) refl
   where
@@ -63,7 +63,7 @@ short_time p paths n params log few short =
 
     by : (test : Bool) → nat_lt (sync_wait p.params paths) (lapse_span p.params) ≡ test
         → settling_span p n + n * cond test (sync_wait p.params paths + paths.delay - interval_of p.largest) 0
-        ≤ 200000000000000
+        ≤ 195000000000000
     by true is =
         let timely : sync_wait p.params paths < lapse_span p.params = grind (arith, nat_tests) in
         let limit = timeout_short in

@@ -43,7 +43,7 @@ fn settling_span_with(params: &Params, largest: i8, paths: SyncPaths, live: u64)
     requires short { paths.delay ≤ 16000000000 }
     requires live { live ≤ 512 }
     ensures span { result ≡ settling_span_with (record { params = params.now; largest = largest }) paths live }
-    ensures bound { result ≤ 200000000000000 }
+    ensures bound { result ≤ 195000000000000 }
 {
     settling_span(params, largest, live) + live * step_more(params, largest, paths)
 }
@@ -73,7 +73,7 @@ impl Network {
         requires { AreAllowed events.now }
         ensures span { result ≡ settling_span_with (pace_of self.now) (sync_paths self.now events.now)
             (live_systems self.now.systems events.now) }
-        ensures bound { result ≤ 200000000000000 }
+        ensures bound { result ≤ 195000000000000 }
     {
         self.well_formed();
         let params = self.params();
@@ -97,7 +97,7 @@ impl Network {
         ensures span { result ≡ settling_span_with (pace_of self.now)
             (record { systems = systems; delay = greatest_delay self.now.systems events.now self.now.links })
             systems }
-        ensures bound { result ≤ 200000000000000 }
+        ensures bound { result ≤ 195000000000000 }
     {
         self.well_formed();
         let params = self.params();
@@ -114,7 +114,7 @@ impl Network {
         requires few { paths.systems ≤ 512 }
         requires short { paths.delay ≤ 16000000000 }
         ensures span { result ≡ settling_span_with (pace_of self.now) paths paths.systems }
-        ensures bound { result ≤ 200000000000000 }
+        ensures bound { result ≤ 195000000000000 }
     {
         self.well_formed();
         settling_span_with(&self.params(), self.largest(), paths, paths.systems as u64)
