@@ -85,7 +85,7 @@ has_order (s ∷ systems) different = one_more (has_order systems different.1)
         }
 
 -- so a network has a snapshot after any events
-stands_after : (n : NetworkState) (events : List Timed) → IsNetwork n → (g : Snapshot) × StandsAfter n events g
+pub stands_after : (n : NetworkState) (events : List Timed) → IsNetwork n → (g : Snapshot) × StandsAfter n events g
 stands_after n events network =
     let order = has_order (live_systems n.systems events) (live_once n.systems events network.clocks) in (
       record { systems = order.ordered; links = used_links n.links events order.ordered },

@@ -74,7 +74,7 @@ module _ (n : NetworkState) (network : IsNetwork n) (events : List Timed) (g : S
     (stands : StandsAfter n events g) where
   -- ---- systems
 
-  live_there : (clock : ℕ) → lives n.systems events clock ≡ true → has_clock g.systems clock ≡ true
+  pub live_there : (clock : ℕ) → lives n.systems events clock ≡ true → has_clock g.systems clock ≡ true
   live_there clock live =
       let (m, among, both) =
       passes (λ m. clock_of m.identity == clock && (system_after events m).live) n.systems live in
@@ -88,7 +88,7 @@ module _ (n : NetworkState) (network : IsNetwork n) (events : List Timed) (g : S
       passes_at (λ (s : System). s.clock == clock) g.systems (system_of pair) member
       (eq-eqb (clock_of pair.0) clock (clock_after events m ∙ eqb-true (clock_of m.identity) clock named))
 
-  there_live : (clock : ℕ) → has_clock g.systems clock ≡ true → lives n.systems events clock ≡ true
+  pub there_live : (clock : ℕ) → has_clock g.systems clock ≡ true → lives n.systems events clock ≡ true
   there_live clock has =
       let (s, member, is) = with_clock g.systems clock has in
       let listed = In-permutation s g.systems (live_systems n.systems events)
