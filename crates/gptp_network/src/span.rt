@@ -2,7 +2,32 @@
 
 use crate::document::Document;
 use crate::events::events_by;
+use crate::snapshot::Snapshot;
+use gptp_plan::{Network, Timed};
 use std::alloc::{AllocError, Global};
+
+impl Snapshot {
+    ghost use Rattle.std.specs.Prelude.{◌≡◌, ◌≤◌};
+    ghost use Rattle.gptp_graph.specs.PathBound.{path_bound};
+    ghost use Rattle.gptp_plan.specs.Allowed.{AreAllowed};
+    ghost use Rattle.gptp_plan.specs.Network.{pace_of};
+    ghost use Rattle.gptp_plan.specs.SettlingTime.{settling_span_with};
+    ghost use Rattle.gptp_plan.specs.SyncWait.{sync_paths};
+    ghost use Rattle.gptp_network.specs.Snapshot.{StandsAfter};
+
+    /// How long a network that stands so after these events takes at most to settle if it is calm, in ns: by how many
+    /// systems a path has, and by how long a settled system waits for Sync.
+    pub fn settling_span(&self, network: &Network, events: &[Timed]) -> u64
+        requires stands { StandsAfter network.now events.now self.now }
+        requires allowed { AreAllowed events.now }
+        ensures span { result
+            ≡ settling_span_with (pace_of network.now) (sync_paths network.now events.now) (path_bound self.now) }
+        ensures bound { result ≤ 195000000000000 }
+    {
+        network.well_formed();
+        network.settling_span_over(self.path_bound(), events)
+    }
+}
 
 impl Document {
     ghost use Rattle.std.specs.Prelude.{◌≡◌, ◌↔◌, ◌≤◌, ℕ, IfOk, IsTrue, Option};
@@ -29,11 +54,7 @@ impl Document {
         self.well_formed();
         let events = events_by(self.events(), at);
         let snapshot = self.snapshot(alloc, at)?;
-        self.network().well_formed();
-        Ok(
-            self.network()
-                .settling_span_over(snapshot.path_bound(), events),
-        )
+        Ok(snapshot.settling_span(self.network(), events))
     }
 
     /// That span where the network is calm then; `None` where it isn't. Refused for want of memory alone.
