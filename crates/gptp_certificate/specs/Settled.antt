@@ -2,11 +2,11 @@
 use Rattle.std.specs.Prelude.{List}
 use Rattle.gptp_graph.specs.Labelling.{SystemLine}
 use Rattle.gptp_graph.specs.SettledChoice.{IsSettledChoice}
-use Rattle.gptp_plan.specs.SettlingTime.{settling_span}
+use Rattle.gptp_plan.specs.SettlingTime.{settling_span_with}
 use Rattle.gptp_acts.specs.World.{WorldState}
 use Rattle.gptp_kept.specs.Standing.{snapshot_of}
 use Rattle.gptp_kept.specs.CalmFor.{IsCalmFor}
 
 -- once the world has been calm for the settling span, the lines are the settled choice of its snapshot
 abbrev pub IsRightInTime : WorldState → List SystemLine → Type 0
-IsRightInTime w lines = IsCalmFor settling_span w → IsSettledChoice (snapshot_of w) lines
+IsRightInTime w lines = IsCalmFor settling_span_with w → IsSettledChoice (snapshot_of w) lines

@@ -15,7 +15,8 @@ use Rattle.gptp_network.specs.declared.fault.DocumentFault.TheVariants.{TooMany}
 use Rattle.gptp_network.proofs.LawLemmas as network_laws
 use Rattle.gptp_plan.specs.Calm.{last_change}
 use Rattle.gptp_plan.specs.Network.{pace_of}
-use Rattle.gptp_plan.specs.SettlingTime.{settling_span}
+use Rattle.gptp_plan.specs.SettlingTime.{settling_span_with}
+use Rattle.gptp_plan.specs.SyncWait.{sync_paths}
 use Rattle.gptp_plan.specs.declared.change.Timed.{Timed}
 use Rattle.gptp_report.specs.Transitions.{Courses, Transition}
 use Rattle.gptp_outcome.specs.Named.{AnswersOnce, IsNamed}
@@ -54,7 +55,8 @@ one_bound d at None (Some span) x y = absurd (x y.0)
 one_bound d at (Some span) None x y = absurd (y x.0)
 one_bound d at (Some m) (Some n) (_, x) (_, y) =
     let same = network_laws.one_snapshot d at x.snapshot y.snapshot x.stands y.stands in
-    ap Some (x.is ∙ ap (λ (g : Snapshot). settling_span (pace_of d.network) (path_bound g)) same ∙ sym y.is)
+    let paths = sync_paths d.network (events_by at d.events) in
+    ap Some (x.is ∙ ap (λ (g : Snapshot). settling_span_with (pace_of d.network) paths (path_bound g)) same ∙ sym y.is)
 
 -- as far as they are told, errors are the same, or there are none
 abbrev SameErrors : Option TimeErrors → Option TimeErrors → Type 0
@@ -258,7 +260,7 @@ one_end (Some asked) d m n x y = x ∙ sym y
 one_end None d m n x y =
     let last = last_change d.events in
     let same = network_laws.one_snapshot d last x.snapshot y.snapshot x.stands y.stands in
-    x.is ∙ ap (end_behind d.network last) same ∙ sym y.is
+    x.is ∙ ap (end_behind d.network d.events) same ∙ sym y.is
 
 -- ways are determined where names mean one thing
 each_named : (d : DocumentState) → NamesOne d.network → HasOneEach d.network

@@ -14,7 +14,9 @@ use Rattle.gptp_network.specs.Span.{IsBound, IsSpan}
 use Rattle.gptp_network.proofs.LawLemmas.{one_snapshot}
 use Rattle.gptp_plan.specs.Calm.{last_change}
 use Rattle.gptp_plan.specs.Network.{pace_of}
-use Rattle.gptp_plan.specs.SettlingTime.{settling_span}
+use Rattle.gptp_plan.specs.SettlingTime.{settling_span, settling_span_with}
+use Rattle.gptp_plan.specs.SyncWait.{sync_paths}
+use Rattle.gptp_plan.specs.declared.sync_wait.SyncPaths.{SyncPaths}
 use Rattle.gptp_plan.specs.declared.change.Act.TheVariants as acts
 use Rattle.gptp_plan.specs.declared.change.Timed.{Timed}
 use Rattle.gptp_reached.specs.PlayedLaws.{IsPlayable}
@@ -126,8 +128,8 @@ bound_kept e (s ∷ ss) = bound_kept (joined e (of_one s)) ss
 -- ---- a run of a case
 
 -- a network takes some time to settle
-span_some : (p : Pace) (n : ℕ) → IsLog p.largest → 0 < settling_span p n
-span_some p n log =
+span_some : (p : Pace) (paths : SyncPaths) (n : ℕ) → IsLog p.largest → 0 < settling_span_with p paths n
+span_some p paths n log =
     let interval = interval_positive p.largest log in
     let some : 1 * 1 ≤ settling_span p n =
     mul-le 1 1 ((p.params.timeout + 3) * n + p.params.lost + 5) (interval_of p.largest) (omega arith) interval in
@@ -149,7 +151,9 @@ module _ (d : DocumentState) (t : Times) (p : Planned) (playable : IsPlayable d)
 
   holds : 0 < p.hold
   holds =
-      let some = span_some (pace_of d.network) (path_bound hold.snapshot) (largest_log d.network playable.network) in
+      let paths = sync_paths d.network (events_by t.from failed.events) in
+      let log = largest_log d.network playable.network in
+      let some = span_some (pace_of d.network) paths (path_bound hold.snapshot) log in
       let is = hold.is in omega (arith, some, is)
 
   past : PastBy t.from d.events
@@ -190,8 +194,13 @@ module _ (d : DocumentState) (t : Times) (p : Planned) (playable : IsPlayable d)
       subst (λ es. StandsAfter d.network es span.snapshot) (ap (λ time. events_by time whole.events) is ∙ by_fault)
       span.stands in
       let same = one_snapshot failed t.from span.snapshot hold.snapshot stands hold.stands in
+      let pace = pace_of d.network in
+      let made : events_by at whole.events ≡ events_by t.from failed.events =
+      ap (λ time. events_by time whole.events) is ∙ by_fault in
       let equal : bound ≡ p.hold =
-      span.is ∙ ap (λ g. settling_span (pace_of d.network) (path_bound g)) same ∙ sym hold.is in
+      span.is ∙ ap (λ es. settling_span_with pace (sync_paths d.network es) (path_bound span.snapshot)) made
+      ∙ ap (λ g. settling_span_with pace (sync_paths d.network (events_by t.from failed.events)) (path_bound g)) same
+      ∙ sym hold.is in
       omega (arith, is, equal)
 
   -- the roots where its first run ends to be down are those of the settled choice

@@ -13,23 +13,23 @@ use Rattle.gptp_graph.specs.PathBound.{BoundsPaths}
 use Rattle.gptp_graph.specs.Snapshot.{IsWellFormed, System, clocks}
 use Rattle.gptp_graph.proofs.BestLemmas.{IsBest-unique}
 use Rattle.gptp_graph.proofs.DistanceLemmas.{IsDistance-unique}
-use Rattle.gptp_plan.specs.SettlingTime.{settling_span}
+use Rattle.gptp_plan.specs.SettlingTime.{settling_span_with}
 use Rattle.gptp_system.specs.State.{clock}
 use Rattle.gptp_acts.specs.declared.station.Station.{Station}
 use Rattle.gptp_acts.specs.World.{WorldState}
 use Rattle.gptp_settling.proofs.SettledLemmas.{systems_bounded}
 use Rattle.gptp_kept.specs.Bounded.{IsBoundedWorld, statement_of, statements, statements_of}
-use Rattle.gptp_kept.specs.Calm.{IsQuietWorld}
+use Rattle.gptp_kept.specs.Calm.{IsQuietWith, paths_with}
 use Rattle.gptp_kept.specs.CalmFor.{IsCalmFor, span_over}
 use Rattle.gptp_kept.specs.Claimed.{Claimed}
 use Rattle.gptp_kept.specs.Holds.{BecomeCapable, Holds, IsWorld, settling_network}
 use Rattle.gptp_kept.specs.Standing.{live_systems, snapshot_of, standing}
 use Rattle.gptp_kept.specs.View.{says, station_view, view}
 use Rattle.gptp_kept.proofs.ClaimLemmas.{claim_capable}
-use Rattle.gptp_kept.proofs.ClaimedLemmas.{set_alike}
+use Rattle.gptp_kept.proofs.ClaimedLemmas.{reach_of, set_alike, span_within}
 use Rattle.gptp_kept.proofs.HoldsLemmas.{is_calm, is_network, systems_bound}
 use Rattle.gptp_kept.proofs.PlaceLemmas.{station_there}
-use Rattle.gptp_kept.proofs.SettledLemmas.{settles_by_paths}
+use Rattle.gptp_kept.proofs.SettledLemmas.{settles_by_paths, span_ends}
 use Rattle.gptp_kept.proofs.StandsLemmas.{stands_well}
 use Rattle.gptp_kept.proofs.SystemLemmas.{clock_in, live_from, live_there}
 
@@ -97,9 +97,9 @@ stated_lives w one member =
 
 -- ---- what is stated is bounded
 
-module _ (p : Pace) (w : WorldState) (is : IsWorld p w) (quiet : IsQuietWorld p.params w) (capable : BecomeCapable p w)
-    (holds : Holds p w) (m : ℕ) (bounded : BoundsPaths (snapshot_of w) m)
-    (late : w.last_change + settling_span p m ≤ w.time) (place : ℕ) (station : Station)
+module _ (p : Pace) (w : WorldState) (is : IsWorld p w) (capable : BecomeCapable p w) (holds : Holds p w) (m : ℕ)
+    (bounded : BoundsPaths (snapshot_of w) m) (quiet : IsQuietWith p.params (paths_with m w) w) (n : ℕ) (more : m ≤ n)
+    (late : w.last_change + settling_span_with p (paths_with m w) n ≤ w.time) (place : ℕ) (station : Station)
     (here : slice_get w.stations place ≡ Some station) (live : station.live ≡ true) where
   graph_wf : IsWellFormed (snapshot_of w)
   graph_wf = stands_well w is.sound is.between is.legible
@@ -110,15 +110,16 @@ module _ (p : Pace) (w : WorldState) (is : IsWorld p w) (quiet : IsQuietWorld p.
       × ((d : ℕ) → IsDistance (snapshot_of w) (clock station.system) d → station.system.root ≡ best.identity
       → d ≤ station.system.steps)
   is_above best is_best =
+      let ends = span_ends p w is capable holds m bounded quiet n more late in
       systems_bounded says (settling_network p m w) (view w) place (station_view station) best
-      (is_network p m w is bounded) (is_calm p m w is quiet capable) (holds m bounded quiet)
-      (station_there w.stations place station here) live is_best (omega (arith, late))
+      (is_network p m w is bounded) (is_calm p m w is quiet.links capable) (holds m bounded quiet).invariant
+      (station_there w.stations place station here) live is_best (omega (arith, ends))
 
   is_near : (best : System) (d : ℕ) → IsBest (snapshot_of w) (clock station.system) best
       → IsDistance (snapshot_of w) (clock station.system) d → d < 255
       → (station.system.root ≡ best.identity) × (station.system.steps ≡ d)
   is_near best d is_best there near =
-      let settled = settles_by_paths p w is quiet capable holds m bounded late place station here live
+      let settled = settles_by_paths p w is capable holds m bounded quiet n more late place station here live
       (d, there, near) in
       let (own, is_own, root) = settled.root in (
         root
@@ -144,13 +145,14 @@ bounded_by_paths m w claimed bounded calm = record {
   bounded = λ one member.
       let at = statement_from w.stations one member in
       let is = set_alike w claimed calm.pace calm.set at.place at.station at.here in
+      let r = reach_of calm.pace m w is.world bounded calm.quiet in
       subst (IsBounded (snapshot_of w)) (sym at.is)
-      (is_bounded calm.pace w is.world calm.quiet (claim_capable calm.pace w is) is.settling m bounded calm.late
-      at.place at.station at.here at.live);
+      (is_bounded calm.pace w is.world (claim_capable calm.pace w is) is.settling r.reach r.bounded r.quiet m r.within
+      (span_within calm.pace m w calm.late r) at.place at.station at.here at.live);
 }
 
 -- so it is by the number of live systems
-pub claimed_bounded : (w : WorldState) → Claimed w → IsCalmFor settling_span w → IsBoundedWorld w
+pub claimed_bounded : (w : WorldState) → Claimed w → IsCalmFor settling_span_with w → IsBoundedWorld w
 claimed_bounded w claimed calm =
     bounded_by_paths (length (snapshot_of w).systems) w claimed (systems_bound claimed.pace w claimed.is.world)
     (record { pace = calm.pace; set = calm.set; quiet = calm.quiet; late = calm.late })

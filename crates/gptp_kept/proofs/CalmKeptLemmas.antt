@@ -1,8 +1,9 @@
 -- What a delivery and an expiry leave of the network that a world has.
-use Rattle.std.proofs.Common.{◌≡◌, ◌≢◌, ◌*◌, ℕ, zero, suc, pos, true, List, [], ◌∷◌, map, Option, Some, None, slice_get, slice_set, refl, sym, ap, subst, ◌∙◌}
+use Rattle.std.proofs.Common.{◌≡◌, ◌≢◌, ℕ, zero, suc, pos, true, List, [], ◌∷◌, map, Option, Some, None, slice_get, slice_set, refl, sym, ap, subst, ◌∙◌}
 use Rattle.std.specs.Prelude.{if◌then◌else◌, ◌==◌, max}
 use Rattle.std.specs.Option.{option_map_or}
 use Rattle.std.proofs.lemmas.Option.{same_Some}
+use Rattle.gptp_graph.specs.PathBound.{path_bound}
 use Rattle.gptp_graph.specs.Snapshot.{PortIdentity, System}
 use Rattle.gptp_links.specs.declared.link.Direction.{Direction}
 use Rattle.gptp_links.specs.declared.link.Direction.TheVariants.{FromA, FromB}
@@ -16,8 +17,10 @@ use Rattle.gptp_setup.specs.Intervals.{interval_of}
 use Rattle.gptp_system.specs.Input.{Input, Frame as FrameHeard, Priority, Expires as TimerExpires}
 use Rattle.gptp_system.specs.State.{clock}
 use Rattle.gptp_system.proofs.StepLemmas.{steps_steady}
+use Rattle.gptp_plan.specs.Calm.{SyncsComeInTime}
 use Rattle.gptp_plan.specs.declared.change.Act.{Act}
 use Rattle.gptp_plan.specs.declared.change.Act.TheVariants.{Deliver, Expire, Change as Changing}
+use Rattle.gptp_plan.specs.declared.sync_wait.SyncPaths.{SyncPaths}
 use Rattle.gptp_acts.specs.declared.done.Done.{Done}
 use Rattle.gptp_acts.specs.declared.station.Station.{Station}
 use Rattle.gptp_acts.specs.Act.{Calls, Delivers, Expires, Hears, in_state}
@@ -28,9 +31,10 @@ use Rattle.gptp_acts.proofs.BareLemmas.{DifferInFlight, bare, calls_bare, takes_
 use Rattle.gptp_lists.proofs.MappedLemmas.{alike}
 use Rattle.gptp_lists.proofs.PlaceLemmas.{map-set_same}
 use Rattle.gptp_acts.proofs.SteadyLemmas.{same_clock, same_ports}
+use Rattle.gptp_settling.specs.Network.{Network}
 use Rattle.gptp_kept.specs.SeenLaws.{IsNoChange}
 use Rattle.gptp_kept.specs.View.{lane_place}
-use Rattle.gptp_kept.specs.Calm.{HaveQuietLinks, IsQuietWorld, greatest_delay, is_port, lane_of, log_at, log_of, network_of, network_with, place_of, setups_of}
+use Rattle.gptp_kept.specs.Calm.{HaveQuietLinks, IsQuietWith, IsQuietWorld, delay_in, greatest_delay, is_port, lane_of, log_at, log_of, network_of, network_with, paths_with, place_of, setups_of, step_with, wait_with}
 use Rattle.gptp_kept.specs.Standing.{is_used, joined, live_systems, snapshot_of, standing, used_links}
 
 -- ---- systems
@@ -120,6 +124,10 @@ net_keeps w net links = record {
   change = refl;
 }
 
+-- a network by what Sync has to cross
+abbrev network_by : Pace → ℕ → ℕ → SyncPaths → WorldState → Network
+network_by p m start paths w = network_with p m start (wait_with p.params paths) (step_with p paths) w
+
 module _ (w w' : WorldState) (k : KeepsNetwork w w') where
   links_kept : used_links (live_systems w'.stations) w'.net.channels
       ≡ used_links (live_systems w.stations) w.net.channels
@@ -128,8 +136,7 @@ module _ (w w' : WorldState) (k : KeepsNetwork w w') where
       ap (λ s. used_links s w'.net.channels) k.systems
       ∙ of_kept (used_links systems) (used_bare systems) w.net.channels w'.net.channels k.links
 
-  delay_kept : greatest_delay (live_systems w'.stations) w'.net.channels
-      ≡ greatest_delay (live_systems w.stations) w.net.channels
+  delay_kept : delay_in w' ≡ delay_in w
   delay_kept =
       let systems = live_systems w.stations in
       ap (λ s. greatest_delay s w'.net.channels) k.systems
@@ -170,7 +177,9 @@ module _ (w w' : WorldState) (k : KeepsNetwork w w') where
   }
 
   pub same_network : (p : Pace) (m start : ℕ) → network_of p m start w' ≡ network_of p m start w
-  same_network p m start = same_network_with p m start 0 (2 * largest_interval p)
+  same_network p m start =
+      ap (λ delay. network_by p m start (record { systems = m; delay = delay }) w') delay_kept
+      ∙ same_network_with p m start (wait_with p.params (paths_with m w)) (step_with p (paths_with m w))
 
   -- links that are quiet stay so
   pub links_quiet : (p : Params) → HaveQuietLinks p w → HaveQuietLinks p w'
@@ -182,16 +191,26 @@ module _ (w w' : WorldState) (k : KeepsNetwork w w') where
       let bounds = ap (λ (c : Channel). c.bounds) same in
       record { lossless = rw⁻¹ bounds is.lossless; good = rw⁻¹ bounds is.good }
 
+  pub stays_quiet_with : (p : Params) (m : ℕ) → IsQuietWith p (paths_with m w) w
+      → IsQuietWith p (paths_with m w') w'
+  stays_quiet_with p m quiet = record {
+    links = links_quiet p quiet.links;
+    lapses = subst (λ delay. SyncsComeInTime p (record { systems = m; delay = delay })) (sym delay_kept) quiet.lapses;
+  }
+
   pub stays_quiet : (p : Params) → IsQuietWorld p w → IsQuietWorld p w'
-  stays_quiet p quiet = record { links = links_quiet p quiet.links; lapses = quiet.lapses }
+  stays_quiet p quiet =
+      stays_quiet_with p (path_bound (snapshot_of w'))
+      (subst (λ g. IsQuietWith p (paths_with (path_bound g) w) w) (sym same_snapshot) quiet)
 
 -- time that passes leaves a quiet world quiet
 pub later_quiet : (p : Params) (w : WorldState) (time : ℕ) → IsQuietWorld p w → IsQuietWorld p (at time w)
 later_quiet p w time quiet = record { links = quiet.links; lapses = quiet.lapses }
 
 -- and it was quiet before
-pub earlier_quiet : (p : Params) (w : WorldState) (time : ℕ) → IsQuietWorld p (at time w) → IsQuietWorld p w
-earlier_quiet p w time quiet = record { links = quiet.links; lapses = quiet.lapses }
+pub earlier_quiet : (p : Params) (m : ℕ) (w : WorldState) (time : ℕ) → IsQuietWith p (paths_with m w) (at time w)
+    → IsQuietWith p (paths_with m w) w
+earlier_quiet p m w time quiet = record { links = quiet.links; lapses = quiet.lapses }
 
 -- ---- acts
 

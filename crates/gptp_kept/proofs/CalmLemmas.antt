@@ -1,5 +1,5 @@
 -- A calm world is seen as a calm state of the machine.
-use Rattle.std.proofs.Common.{◌≡◌, ◌≤◌, ◌<◌, ◌+◌, ◌*◌, ℕ, suc, ℤ, true, Some, slice_get, refl, sym, ap, subst, ◌∙◌, arith}
+use Rattle.std.proofs.Common.{◌≡◌, ◌≤◌, ◌<◌, ◌+◌, ℕ, suc, ℤ, true, Some, None, slice_get, refl, sym, ap, subst, ◌∙◌, arith}
 use Rattle.gptp_lists.specs.Members.{In}
 use Rattle.gptp_graph.specs.Snapshot.{Joins, PortIdentity, System, port_of}
 use Rattle.gptp_graph.specs.PathBound.{BoundsPaths}
@@ -15,19 +15,21 @@ use Rattle.gptp_acts.specs.Sound.{IsSound}
 use Rattle.gptp_acts.specs.World.{Channel, WorldState, receiver, sender}
 use Rattle.gptp_settling.specs.Calm.{Calm, HasLane, HasStation, IsCalmPort, IsCalmStation}
 use Rattle.gptp_settling.specs.Frame.{Frame as SeenFrame, Lane}
+use Rattle.gptp_plan.specs.Calm.{NothingLapses as IsOff}
 use Rattle.gptp_settling.specs.Lapsing.{NothingLapses}
 use Rattle.gptp_settling.specs.Network.{IsNetwork, Network}
 use Rattle.gptp_settling.specs.Station.{Reception as SeenReception, Received, Station as SeenStation}
+use Rattle.gptp_settling.specs.Syncs.{SyncsAreExpected}
 use Rattle.gptp_settling.proofs.SyncLemmas.{none_lapses}
 use Rattle.gptp_kept.specs.Known.{IsKnown, IsSetTo}
 use Rattle.gptp_kept.proofs.DueLemmas.{frames_fresh, frames_not_late, ports_known}
 use Rattle.gptp_kept.specs.Legible.{IsLegible}
-use Rattle.gptp_kept.specs.View.{held_view, identity_of, lane_place, lane_view, lanes_view, port_view, span_at, station_view, view}
+use Rattle.gptp_kept.specs.View.{held_view, identity_of, lane_place, lane_view, lanes_view, port_view, says_sync, span_at, station_view, view}
 use Rattle.gptp_kept.proofs.SeenLaneLemmas.{lane_from, lane_there}
 use Rattle.gptp_kept.proofs.MidLemmas.{seen_on}
 use Rattle.gptp_kept.proofs.PlaceLemmas.{port_from, station_from, station_there}
 use Rattle.gptp_kept.proofs.ReactLemmas.{received_back}
-use Rattle.gptp_kept.specs.Calm.{AreCapableFrom, HaveQuietLinks, IsQuietWorld, greatest_delay, lane_of, log_of, network_of, network_with, place_of}
+use Rattle.gptp_kept.specs.Calm.{AreCapableFrom, HaveQuietLinks, delay_in, lane_of, log_of, network_of, network_with, paths_with, place_of, step_with, wait_with}
 use Rattle.gptp_kept.specs.Standing.{AreBetween, live_systems, snapshot_of}
 use Rattle.gptp_kept.proofs.CalmAtRestLemmas.{rest_seen}
 use Rattle.gptp_kept.proofs.DelayLemmas.{delay_of_used, delay_short, receipts_stay}
@@ -38,6 +40,7 @@ use Rattle.gptp_kept.proofs.PortLemmas.{mine_back, same_standing}
 use Rattle.gptp_kept.proofs.SetLemmas.{log_shorter, log_there, span_is}
 use Rattle.gptp_kept.proofs.StandsLemmas.{stands_well, used_up}
 use Rattle.gptp_kept.proofs.SystemLemmas.{live_from}
+use Rattle.gptp_kept.proofs.WaitLemmas.{step_long}
 use Rattle.gptp_kept.proofs.WayLemmas.{IsWay, one_way, way_of}
 
 -- ---- the network
@@ -45,7 +48,7 @@ use Rattle.gptp_kept.proofs.WayLemmas.{IsWay, one_way, way_of}
 -- a step of distance takes long enough for the wait for a Sync, the largest announce interval and the greatest delay
 pub network_so : (p : Pace) (m start wait step : ℕ) (w : WorldState) → IsSound w → AreBetween w → IsLegible w
     → IsKnown p w → BoundsPaths (snapshot_of w) m
-    → wait + largest_interval p + greatest_delay (live_systems w.stations) w.net.channels ≤ step
+    → wait + largest_interval p + delay_in w ≤ step
     → IsNetwork (network_with p m start wait step w)
 network_so p m start wait step w sound between legible known bounded long = record {
   graph = stands_well w sound between legible;
@@ -58,8 +61,9 @@ network_so p m start wait step w sound between legible known bounded long = reco
 pub network : (p : Pace) (m start : ℕ) (w : WorldState) → IsSound w → AreBetween w → IsLegible w → IsKnown p w
     → BoundsPaths (snapshot_of w) m → IsNetwork (network_of p m start w)
 network p m start w sound between legible known bounded =
-    let short = delay_short p w known in
-    network_so p m start 0 (2 * largest_interval p) w sound between legible known bounded (omega arith)
+    let paths = paths_with m w in
+    network_so p m start (wait_with p.params paths) (step_with p paths) w sound between legible known bounded
+    (step_long p paths (delay_short p w known))
 
 -- ---- directions
 
@@ -243,10 +247,19 @@ module _ (p : Pace) (m start wait step : ℕ) (w : WorldState) (sound : IsSound 
     due = due_soon;
   }
 
--- no Lapse timer runs in a quiet world
-pub nothing_lapses : (p : Pace) (n : Network) (w : WorldState) → IsKnown p w → IsQuietWorld p.params w
-    → NothingLapses n (view w)
-nothing_lapses p n w known quiet =
-    none_lapses n (view w) (λ i seen there live.
-    let at = station_from w.stations i seen there in
-    ap (λ (x : SeenStation). x.lapse) at.is ∙ (known.set i at.station at.here).lapses quiet.lapses)
+-- where there is no syncReceiptTimeout
+module _ (p : Pace) (n : Network) (w : WorldState) (known : IsKnown p w) (off : IsOff p.params) where
+  -- no Lapse timer runs
+  no_timer : (i : ℕ) (seen : SeenStation) → slice_get (view w).stations i ≡ Some seen → seen.lapse ≡ None
+  no_timer i seen there =
+      let at = station_from w.stations i seen there in
+      ap (λ (x : SeenStation). x.lapse) at.is ∙ (known.set i at.station at.here).lapses off
+
+  -- so nothing lapses
+  pub nothing_lapses : NothingLapses n (view w)
+  nothing_lapses = none_lapses n (view w) (λ i seen there live. no_timer i seen there)
+
+  -- and no Sync is expected
+  pub none_expected : SyncsAreExpected says_sync n (view w)
+  none_expected i seen d due there live near follows late runs =
+      absurd (let same : None ≡ Some due = sym (no_timer i seen there) ∙ runs in cc)

@@ -19,7 +19,7 @@ use Rattle.gptp_acts.specs.World.{Channel, WorldState, receiver, sender}
 use Rattle.gptp_kept.specs.Linked.{BeginsLink}
 use Rattle.gptp_kept.specs.LinkView.{LinkPlace}
 use Rattle.gptp_kept.specs.View.{identity_of}
-use Rattle.gptp_kept.specs.Calm.{IsQuietWorld}
+use Rattle.gptp_kept.specs.Calm.{HaveQuietLinks}
 use Rattle.gptp_kept.specs.Standing.{HasPort, IsBetween, has_clock, is_used, live_systems, snapshot_of, standing}
 use Rattle.gptp_kept.proofs.SystemLemmas.{clock_in, clock_there, live_there}
 use Rattle.gptp_kept.proofs.WayLemmas.{used_joins}
@@ -161,7 +161,7 @@ module _ (g : Snapshot) (itself : PortId) (h : Held) (q : Port) (shown : IsShown
       by (inr off) on = absurd (not_both q on off)
 
 pub ports_settled : (p : Pace) (w : WorldState) → KeepPace p → IsWorld p w → Watches p w → AreSilent p w
-    → IsQuietWorld p.params w → start_of p w ≤ w.time → ArePortsSettled w
+    → HaveQuietLinks p.params w → start_of p w ≤ w.time → ArePortsSettled w
 ports_settled p w pace is watched silent quiet late place station here live i h q stands there =
     port_settled (snapshot_of w) (own station.system (suc i)) h q
     ((is.sound.on_time.stations place station here).steady.shown.each i h q stands there)

@@ -1,11 +1,12 @@
 -- The claim without its parameters: it begins, is kept, and says that a calm world settles.
-use Rattle.std.proofs.Common.{◌≡◌, ◌≤◌, ◌<◌, ◌+◌, ℕ, suc, true, Option, Some, length, slice_get, sym, subst, ◌∙◌, arith}
+use Rattle.std.proofs.Common.{◌≡◌, ◌≤◌, ◌<◌, ◌+◌, ◌*◌, ℕ, suc, true, Option, Some, length, slice_get, sym, subst, inl, ◌∙◌, arith}
+use native.Mathlib.Decide.{dec_le}
+use Rattle.std.proofs.Math.Nat.{mul-le-mul_left, mul-le-mul_right}
 use Rattle.gptp_setup.specs.Pace.{Pace}
 use Rattle.gptp_graph.specs.Distance.{IsDistance}
 use Rattle.gptp_graph.specs.PathBound.{BoundsPaths, path_bound}
 use Rattle.gptp_graph.specs.SettledRole.{IsSettledRole}
 use Rattle.gptp_graph.specs.Snapshot.{port_of}
-use Rattle.gptp_graph.proofs.PathBoundLemmas.{paths_within}
 use Rattle.gptp_links.specs.declared.bounds.Bounds.{Bounds}
 use Rattle.gptp_plan.specs.declared.change.Timed.{Timed}
 use Rattle.gptp_acts.specs.declared.done.Done.{Done}
@@ -16,21 +17,29 @@ use Rattle.gptp_acts.specs.Course.{Begun, WasDone}
 use Rattle.gptp_acts.specs.Initial.{initial}
 use Rattle.gptp_plan.specs.Network.{IsNetwork, NetworkState, pace_of}
 use Rattle.gptp_acts.specs.Pending.{NothingBefore}
-use Rattle.gptp_plan.specs.SettlingTime.{settling_span}
+use Rattle.gptp_plan.specs.SettlingTime.{capability_span, settling_span, settling_span_with}
+use Rattle.gptp_plan.specs.SyncWait.{step_more}
+use Rattle.gptp_plan.specs.Calm.{NothingLapses}
+use Rattle.gptp_plan.proofs.SyncWaitLemmas.{never_longer}
 use Rattle.gptp_acts.specs.Sound.{IsSound}
 use Rattle.gptp_acts.specs.World.{WorldState}
+use Rattle.gptp_settling.specs.Network.{since}
 use Rattle.gptp_settling.specs.Settled.{FollowsBest}
 use Rattle.gptp_system.specs.Start.{role_at}
 use Rattle.gptp_system.specs.State.{clock}
 use Rattle.gptp_system.specs.Steps.{IsPortOf}
 use Rattle.gptp_acts.specs.Prompt.{IsPromptIn, HavePace}
 use Rattle.gptp_kept.specs.LegibleLaws.{SetsAnOctet}
+use Rattle.gptp_kept.specs.Calm.{HaveQuietLinks, IsQuietWith, IsQuietWorld, delay_in, paths_with, sync_paths_of}
+use Rattle.gptp_kept.specs.Holds.{IsWorld, settling_network}
 use Rattle.gptp_kept.specs.Standing.{snapshot_of}
 use Rattle.gptp_kept.specs.Settled.{Settled, role_of}
 use Rattle.gptp_kept.specs.Shown.{distance_span}
+use Rattle.gptp_kept.specs.Traces.{turn_of}
 use Rattle.gptp_kept.specs.View.{station_view}
 use Rattle.gptp_kept.proofs.SettledLemmas.{follows_by_distance, roles_by_distance, settles, settles_by_paths}
-use Rattle.gptp_kept.proofs.StandsLemmas.{stands_well}
+use Rattle.gptp_kept.proofs.HoldsLemmas.{paths_bound}
+use Rattle.gptp_kept.proofs.WaitLemmas.{in_time_less, more_less}
 use Rattle.gptp_kept.specs.CalmFor.{ArePortsSettled, IsCalmFor, capable_span, span_over}
 use Rattle.gptp_kept.specs.Claimed.{Claimed, IsClaimed}
 use Rattle.gptp_kept.proofs.ClaimedCapableLemmas.{ports_settled}
@@ -77,21 +86,73 @@ set_alike w claimed p have place station here =
 pub claimed_capable : (w : WorldState) → Claimed w → IsCalmFor capable_span w → ArePortsSettled w
 claimed_capable w claimed calm place station here =
     let is = set_alike w claimed calm.pace calm.set place station here in
-    ports_settled calm.pace w is.pace is.world is.watched is.silent calm.quiet calm.late place station here
+    ports_settled calm.pace w is.pace is.world is.watched is.silent calm.quiet.links calm.late place station here
 
-pub claimed_settled : (w : WorldState) → Claimed w → IsCalmFor settling_span w → Settled w
+pub claimed_settled : (w : WorldState) → Claimed w → IsCalmFor settling_span_with w → Settled w
 claimed_settled w claimed calm place station here =
     let is = set_alike w claimed calm.pace calm.set place station here in
     settles calm.pace w is.world calm.quiet (claim_capable calm.pace w is) is.settling calm.late place station
     here
+
+-- A number that bounds the systems of paths and is no more than m, nor than what is read off the links: a world that is
+-- quiet by its own paths is quiet by it, and no step takes longer.
+pub record IsReach (p : Pace) (m : ℕ) (w : WorldState) : Type 0 where
+  pub reach : ℕ
+  pub bounded : BoundsPaths (snapshot_of w) reach
+  pub within : reach ≤ m
+  pub quiet : IsQuietWith p.params (paths_with reach w) w
+  pub more : step_more p (paths_with reach w) ≤ step_more p (sync_paths_of w)
+
+pub reach_of : (p : Pace) (m : ℕ) (w : WorldState) → IsWorld p w → BoundsPaths (snapshot_of w) m
+    → IsQuietWorld p.params w → IsReach p m w
+reach_of p m w is bounded quiet = elim (dec_le m (path_bound (snapshot_of w))) [
+  | yes fewer ↦ record {
+    reach = m;
+    bounded = bounded;
+    within = omega arith;
+    quiet = record {
+      links = quiet.links;
+      lapses = in_time_less p m (path_bound (snapshot_of w)) (delay_in w) fewer quiet.lapses;
+    };
+    more = more_less p m (path_bound (snapshot_of w)) (delay_in w) fewer quiet.lapses;
+  }
+  | no more ↦ record {
+    reach = path_bound (snapshot_of w);
+    bounded = paths_bound p w is;
+    within = omega arith;
+    quiet = quiet;
+    more = omega arith;
+  }
+]
+
+-- the spans end sooner by it
+pub span_within : (p : Pace) (m : ℕ) (w : WorldState)
+    → w.last_change + settling_span_with p (sync_paths_of w) m ≤ w.time
+    → (r : IsReach p m w)
+    → w.last_change + settling_span_with p (paths_with r.reach w) m ≤ w.time
+span_within p m w late r =
+    let steps : m * step_more p (paths_with r.reach w) ≤ m * step_more p (sync_paths_of w) =
+    mul-le-mul_left m r.more in
+    omega (arith, late, steps)
+
+since_within : (p : Pace) (m : ℕ) (w : WorldState) (d : ℕ)
+    → w.last_change + distance_span m d p (sync_paths_of w) (length (snapshot_of w).systems) ≤ w.time
+    → (r : IsReach p m w)
+    → since (settling_network p r.reach w) d ≤ w.time
+since_within p m w d late r =
+    let turns : r.reach * turn_of p ≤ m * turn_of p = mul-le-mul_right (turn_of p) r.within in
+    let steps : d * step_more p (paths_with r.reach w) ≤ d * step_more p (sync_paths_of w) =
+    mul-le-mul_left d r.more in
+    omega (arith, late, turns, steps)
 
 -- and where no path of the snapshot has more than m systems, for the settling span of m
 pub settled_by_paths : (m : ℕ) (w : WorldState) → Claimed w → BoundsPaths (snapshot_of w) m
     → IsCalmFor (span_over m) w → Settled w
 settled_by_paths m w claimed bounded calm place station here =
     let is = set_alike w claimed calm.pace calm.set place station here in
-    settles_by_paths calm.pace w is.world calm.quiet (claim_capable calm.pace w is) is.settling m bounded calm.late
-    place station here
+    let r = reach_of calm.pace m w is.world bounded calm.quiet in
+    settles_by_paths calm.pace w is.world (claim_capable calm.pace w is) is.settling r.reach r.bounded r.quiet m
+    r.within (span_within calm.pace m w calm.late r) place station here
 
 -- ---- by distance
 
@@ -102,35 +163,40 @@ module _ (m d : ℕ) (w : WorldState) (claimed : Claimed w) (bounded : BoundsPat
   pub distance_follows : IsCalmFor (distance_span m d) w → FollowsBest (snapshot_of w) (station_view station)
   distance_follows calm =
       let is = set_alike w claimed calm.pace calm.set place station here in
-      let late = calm.late in
-      follows_by_distance calm.pace w is.world calm.quiet (claim_capable calm.pace w is) is.settling m bounded
-      place station here live d distance near (omega arith)
+      let r = reach_of calm.pace m w is.world bounded calm.quiet in
+      follows_by_distance calm.pace w is.world (claim_capable calm.pace w is) is.settling r.reach r.bounded r.quiet
+      place station here live d distance near (since_within calm.pace m w d calm.late r)
 
   pub distance_plays : IsCalmFor (distance_span m (suc d)) w → (port : ℕ) → IsPortOf station.system port
       → IsSettledRole (snapshot_of w) (port_of (clock station.system) port) (role_of (role_at station.system port))
   distance_plays calm =
       let is = set_alike w claimed calm.pace calm.set place station here in
-      let late = calm.late in
-      roles_by_distance calm.pace w is.world calm.quiet (claim_capable calm.pace w is) is.settling m bounded
-      place station here live d distance near (omega arith)
+      let r = reach_of calm.pace m w is.world bounded calm.quiet in
+      roles_by_distance calm.pace w is.world (claim_capable calm.pace w is) is.settling r.reach r.bounded r.quiet
+      place station here live d distance near (since_within calm.pace m w (suc d) calm.late r)
 
 -- ---- by neighbours
 
 pub settled_by_neighbours : (w : WorldState) → Claimed w → IsCalmFor (span_over (path_bound (snapshot_of w))) w
     → Settled w
 settled_by_neighbours w claimed =
-    let is = claimed.is.world in
-    settled_by_paths (path_bound (snapshot_of w)) w claimed
-    (paths_within (snapshot_of w) (stands_well w is.sound is.between is.legible))
+    settled_by_paths (path_bound (snapshot_of w)) w claimed (paths_bound claimed.pace w claimed.is.world)
 
-pub settled_capable : (w : WorldState) → IsCalmFor settling_span w → IsCalmFor capable_span w
+-- where there is no syncReceiptTimeout no step takes longer
+pub calm_without : (p : Pace) (m : ℕ) (w : WorldState) → NothingLapses p.params → HavePace p w
+    → HaveQuietLinks p.params w → w.last_change + settling_span p m ≤ w.time → IsCalmFor (span_over m) w
+calm_without p m w off set quiet late =
+    let same : settling_span p m ≡ settling_span_with p (sync_paths_of w) m = never_longer p (sync_paths_of w) m off in
+    record { pace = p; set = set; quiet = record { links = quiet; lapses = inl off }; late = rw same at late }
+
+pub settled_capable : (w : WorldState) → IsCalmFor settling_span_with w → IsCalmFor capable_span w
 settled_capable w calm =
     let passed = calm.late in
-    let sooner : w.last_change + capable_span calm.pace (length (snapshot_of w).systems) ≤ w.time = omega arith in
+    let sooner : w.last_change + capability_span calm.pace ≤ w.time = omega arith in
     record { pace = calm.pace; set = calm.set; quiet = calm.quiet; late = sooner }
 
 pub over_capable : (m : ℕ) (w : WorldState) → IsCalmFor (span_over m) w → IsCalmFor capable_span w
 over_capable m w calm =
     let passed = calm.late in
-    let sooner : w.last_change + capable_span calm.pace (length (snapshot_of w).systems) ≤ w.time = omega arith in
+    let sooner : w.last_change + capability_span calm.pace ≤ w.time = omega arith in
     record { pace = calm.pace; set = calm.set; quiet = calm.quiet; late = sooner }

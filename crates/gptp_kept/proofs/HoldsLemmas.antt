@@ -1,13 +1,17 @@
 -- The claim begins by itself, and is kept.
-use Rattle.std.proofs.Common.{◌≡◌, ◌<◌, ◌≤◌, ◌+◌, ◌*◌, ℕ, List, Option, length, refl, sym, ap, subst, ◌∙◌, inl, inr, arith}
+use Rattle.std.proofs.Common.{◌≡◌, ◌<◌, ◌≤◌, ◌+◌, ℕ, List, Option, length, refl, sym, ap, subst, ◌∙◌, inl, inr, arith}
 use Rattle.std.specs.List.{range_with_len}
-use Rattle.gptp_graph.specs.PathBound.{BoundsPaths}
+use Rattle.gptp_graph.specs.PathBound.{BoundsPaths, path_bound}
+use Rattle.gptp_graph.specs.Snapshot.{Snapshot}
+use Rattle.gptp_graph.proofs.PathBoundLemmas.{paths_within}
 use Rattle.gptp_graph.proofs.PathLemmas.{path_bounded}
 use Rattle.gptp_links.specs.declared.bounds.Bounds.{Bounds}
 use Rattle.gptp_links.specs.Fate.{Draw}
 use Rattle.gptp_setup.specs.Intervals.{IsLog}
-use Rattle.gptp_setup.specs.Pace.{Pace, largest_interval}
+use Rattle.gptp_setup.specs.Pace.{Pace, lapse_span, largest_interval}
 use Rattle.gptp_setup.proofs.IntervalLemmas.{interval_positive}
+use Rattle.gptp_plan.specs.Calm.{NothingLapses as IsOff, SyncsComeInTime}
+use Rattle.gptp_plan.specs.SyncWait.{sync_wait}
 use Rattle.gptp_plan.specs.declared.change.Act.{Act}
 use Rattle.gptp_plan.specs.declared.change.Act.TheVariants.{Deliver, Expire, Change as Changing}
 use Rattle.gptp_plan.specs.declared.change.Change.{Change}
@@ -22,23 +26,31 @@ use Rattle.gptp_acts.specs.Prompt.{IsPromptIn}
 use Rattle.gptp_plan.specs.SettlingTime.{capability_span}
 use Rattle.gptp_plan.proofs.LogLemmas.{largest_log}
 use Rattle.gptp_acts.specs.World.{WorldState}
-use Rattle.gptp_settling.specs.Acts.{Steps}
+use Rattle.gptp_settling.specs.Acts.{Steps, Waits}
 use Rattle.gptp_settling.specs.Calm.{Calm}
+use Rattle.gptp_settling.specs.Lapsing.{NothingLapses}
 use Rattle.gptp_settling.specs.Levels.{Invariant}
 use Rattle.gptp_settling.specs.Network.{IsNetwork, Network}
-use Rattle.gptp_settling.proofs.LevelLemmas.{invariant_begins, invariant_kept}
+use Rattle.gptp_settling.specs.SyncActs.{SyncSteps}
+use Rattle.gptp_settling.specs.Syncs.{HaveSyncTimers, IsPrompt}
+use Rattle.gptp_settling.proofs.LevelLemmas.{invariant_begins, invariant_kept, whole_from}
+use Rattle.gptp_settling.proofs.SyncActLemmas.{expected_kept}
+use Rattle.gptp_settling.proofs.SyncLemmas.{expected_begins, nothing_lapses as lapses_in_time}
+use Rattle.gptp_settling.proofs.SyncRunLemmas.{prompt}
 use Rattle.gptp_kept.specs.LegibleLaws.{SetsAnOctet}
 use Rattle.gptp_kept.specs.SeenLaws.{IsNoChange}
-use Rattle.gptp_kept.specs.View.{says, view}
+use Rattle.gptp_kept.specs.View.{says, says_sync, view}
 use Rattle.gptp_kept.proofs.SeenActLemmas.{acts_seen}
-use Rattle.gptp_kept.specs.Calm.{IsQuietWorld, network_of}
-use Rattle.gptp_kept.proofs.CalmLemmas.{calm, network, nothing_lapses}
-use Rattle.gptp_kept.proofs.CalmKeptLemmas.{KeepsNetwork, acts_keep, earlier_quiet, same_network, stays_quiet}
+use Rattle.gptp_kept.specs.Calm.{HaveQuietLinks, IsQuietWith, network_of, paths_with, step_with, wait_with}
+use Rattle.gptp_kept.proofs.CalmLemmas.{calm, network, none_expected, nothing_lapses}
+use Rattle.gptp_kept.proofs.CalmKeptLemmas.{KeepsNetwork, acts_keep, earlier_quiet, same_network, stays_quiet_with}
 use Rattle.gptp_kept.specs.Standing.{snapshot_of}
 use Rattle.gptp_kept.proofs.StandsLemmas.{stands_well}
-use Rattle.gptp_kept.specs.Holds.{BecomeCapable, Holds, IsWorld, settling_network, start_of}
+use Rattle.gptp_kept.specs.Holds.{BecomeCapable, Holds, IsSettling, IsWorld, settling_network, start_of}
 use Rattle.gptp_kept.proofs.OutlineLemmas.{change_is_last, starts_are_last}
 use Rattle.gptp_kept.proofs.SettledWorldLemmas.{done_stays, ready_stays, still_acts_stay}
+use Rattle.gptp_kept.proofs.SyncActLemmas.{acts_tell, timers_seen}
+use Rattle.gptp_kept.proofs.WaitLemmas.{has_timeout, wait_is}
 
 -- ---- one world
 
@@ -53,18 +65,29 @@ pub systems_bound : (p : Pace) (w : WorldState) → IsWorld p w
 systems_bound p w is v u us path =
     path_bounded (snapshot_of w) v u us (stands_well w is.sound is.between is.legible) path
 
--- and a quiet one is a calm state
-pub is_calm : (p : Pace) (m : ℕ) (w : WorldState) → IsWorld p w → IsQuietWorld p.params w → BecomeCapable p w
+-- nor more than gptp_graph reads off its links, which are no more than live
+pub paths_bound : (p : Pace) (w : WorldState) → IsWorld p w → BoundsPaths (snapshot_of w) (path_bound (snapshot_of w))
+paths_bound p w is = paths_within (snapshot_of w) (stands_well w is.sound is.between is.legible)
+
+pub paths_fewer : (g : Snapshot) → path_bound g ≤ length g.systems
+paths_fewer g = omega arith
+
+-- and one with quiet links is a calm state
+pub is_calm : (p : Pace) (m : ℕ) (w : WorldState) → IsWorld p w → HaveQuietLinks p.params w → BecomeCapable p w
     → Calm (settling_network p m w) (view w)
 is_calm p m w is quiet capable =
     let passed : w.last_change + largest_interval p ≤ start_of p w = omega arith in
-    calm p m (start_of p w) 0 (2 * largest_interval p) w is.sound is.legible is.known quiet.links passed (capable quiet)
+    calm p m (start_of p w) (wait_with p.params (paths_with m w)) (step_with p (paths_with m w)) w is.sound is.legible
+    is.known quiet passed (capable quiet)
 
 -- before the start nothing is claimed
 pub begins : (p : Pace) (w : WorldState) → IsWorld p w → w.time < start_of p w → Holds p w
 begins p w is early m bounded quiet =
-    let state = is_calm p m w is quiet (λ still begun. absurd (omega arith)) in
-    invariant_begins says (settling_network p m w) (view w) state early
+    let state = is_calm p m w is quiet.links (λ still begun. absurd (omega arith)) in
+    record {
+      invariant = invariant_begins says (settling_network p m w) (view w) state early;
+      expected = expected_begins says_sync (settling_network p m w) (view w) early;
+    }
 
 -- nor where no time has passed since the last change
 fresh_begins : (p : Pace) (w : WorldState) → IsLog p.largest → w.last_change ≡ w.time → IsWorld p w → Holds p w
@@ -85,18 +108,68 @@ first_begins answers n fate fate_after w network k =
 -- ---- from one world to the next
 
 -- a step of the machine keeps the claim, where the network and its links stay as they are
-step_keeps : (p : Pace) (w w' : WorldState) → IsWorld p w → IsWorld p w' → BecomeCapable p w → BecomeCapable p w'
-    → ((m : ℕ) → settling_network p m w' ≡ settling_network p m w)
-    → (IsQuietWorld p.params w' → IsQuietWorld p.params w) → Steps says (view w) (view w') → Holds p w → Holds p w'
-step_keeps p w w' is is' capable capable' same back step holds m bounded quiet =
-    let bounds : BoundsPaths (snapshot_of w) m =
-    subst (λ (n : Network). BoundsPaths n.graph m) (same m) bounded in
-    let before = is_calm p m w is (back quiet) capable in
-    let after = subst (λ n. Calm n (view w')) (same m) (is_calm p m w' is' quiet capable') in
-    subst (λ n. Invariant says n (view w')) (sym (same m))
-    (invariant_kept says (settling_network p m w) (is_network p m w is bounds) (view w) (view w') before after
-    (nothing_lapses p (settling_network p m w) w is.known (back quiet)) step
-    (holds m bounds (back quiet)))
+module _ (p : Pace) (w w' : WorldState) (is : IsWorld p w) (is' : IsWorld p w') (capable : BecomeCapable p w)
+    (capable' : BecomeCapable p w') (same : (m : ℕ) → settling_network p m w' ≡ settling_network p m w)
+    (back : (m : ℕ) → IsQuietWith p.params (paths_with m w') w' → IsQuietWith p.params (paths_with m w) w)
+    (step : Steps says (view w) (view w'))
+    (told : (m : ℕ) → 0 < p.params.sync_timeout
+    → SyncSteps says says_sync (settling_network p m w) (view w) (view w')) where
+  module _ (m : ℕ) (bounded : BoundsPaths (snapshot_of w) m) (quiet : IsQuietWith p.params (paths_with m w) w)
+      (quiet' : HaveQuietLinks p.params w') (settling : IsSettling (settling_network p m w) (view w)) where
+    abbrev n : Network
+    n = settling_network p m w
+
+    net : IsNetwork n
+    net = is_network p m w is bounded
+
+    before : Calm n (view w)
+    before = is_calm p m w is quiet.links capable
+
+    after : Calm n (view w')
+    after = subst (λ x. Calm x (view w')) (same m) (is_calm p m w' is' quiet' capable')
+
+    timers_of : (x : WorldState) → IsWorld p x → HaveSyncTimers (settling_network p m x) (view x)
+    timers_of x of =
+        timers_seen p m (start_of p x) (wait_with p.params (paths_with m x)) (step_with p (paths_with m x)) x of.sound
+        of.known
+
+    -- nothing lapses without a syncReceiptTimeout
+    settling_off : IsOff p.params → IsSettling n (view w')
+    settling_off off = record {
+      invariant = invariant_kept says n net (view w) (view w') before after (nothing_lapses p n w is.known off) step
+          settling.invariant;
+      expected = none_expected p n w' is'.known off;
+    }
+
+    -- nor where Syncs come in time
+    settling_on : sync_wait p.params (paths_with m w) < lapse_span p.params → IsSettling n (view w')
+    settling_on short =
+        let waits : n.sync_wait ≡ sync_wait p.params (paths_with m w) = wait_is p.params (paths_with m w) short in
+        let timely : IsPrompt n = prompt n (omega (arith, waits)) (omega (arith, waits, short)) in
+        let timers = timers_of w is in
+        let timers' = subst (λ x. HaveSyncTimers x (view w')) (same m) (timers_of w' is') in
+        let nothing : NothingLapses n (view w) =
+        lapses_in_time says_sync n net (view w) before
+        (whole_from says n net (view w) before settling.invariant) timers timely settling.expected in
+        let invariant : Invariant says n (view w') =
+        invariant_kept says n net (view w) (view w') before after nothing step settling.invariant in
+        record {
+          invariant = invariant;
+          expected = expected_kept says says_sync n net (view w) (view w') before after timers timers'
+              (told m (has_timeout p.params (paths_with m w) short)) settling.invariant invariant settling.expected;
+        }
+
+    settling_after : SyncsComeInTime p.params (paths_with m w) → IsSettling n (view w')
+    settling_after (inl off) = settling_off off
+    settling_after (inr short) = settling_on short
+
+  step_keeps : Holds p w → Holds p w'
+  step_keeps holds m bounded quiet =
+      let bounds : BoundsPaths (snapshot_of w) m =
+      subst (λ (n : Network). BoundsPaths n.graph m) (same m) bounded in
+      let was = back m quiet in
+      subst (λ n. IsSettling n (view w')) (sym (same m))
+      (settling_after m bounds was quiet.links (holds m bounds was) was.lapses)
 
 -- what keeps a network is kept by the way back
 kept_back : (w w' : WorldState) → KeepsNetwork w w' → KeepsNetwork w' w
@@ -121,14 +194,18 @@ pub acts_hold : (p : Pace) (act : Act) (w : WorldState) (draws : List Draw) (don
 acts_hold p act w draws done w' none k is capable capable' =
     let keeps = acts_keep act w draws done w' none k in
     step_keeps p w w' is (still_acts_stay p act w draws done w' none k is) capable capable'
-    (same_settling p w w' keeps) (stays_quiet w' w (kept_back w w' keeps) p.params)
+    (same_settling p w w' keeps) (stays_quiet_with w' w (kept_back w w' keeps) p.params)
     (inr (acts_seen act w draws done w' none is.sound is.legible k))
+    (λ m on.
+    inr (acts_tell p m (start_of p w) (wait_with p.params (paths_with m w)) (step_with p (paths_with m w)) w is.sound
+    is.legible is.known.set is.known.time on act draws done w' none k))
 
 pub later_holds : (p : Pace) (w : WorldState) (time : ℕ) → w.time ≤ time → IsWorld p w → IsWorld p (at time w)
     → BecomeCapable p w → BecomeCapable p (at time w) → Holds p w → Holds p (at time w)
 later_holds p w time later is is' capable capable' =
-    step_keeps p w (at time w) is is' capable capable' (λ m. refl) (earlier_quiet p.params w time)
-    (inl (record { time = time; later = later; is = refl }))
+    let waits : Waits (view w) (view (at time w)) = record { time = time; later = later; is = refl } in
+    step_keeps p w (at time w) is is' capable capable' (λ m. refl) (λ m. earlier_quiet p.params m w time) (inl waits)
+    (λ m on. inl waits)
 
 -- so the claim is kept from act to act
 pub done_holds : {F : Type 0} (answers : Bounds → ℕ → F → Option ℕ → F → Type 0) (p : Pace) (timed : Timed)

@@ -46,11 +46,9 @@ pub mod LogLemmas
 pub mod CalmAtRestLemmas
 pub mod CalmFactLemmas
 pub mod DelayLemmas
+pub mod WaitLemmas
 pub mod CalmLemmas
 pub mod SettledWorldLemmas
-pub mod HoldsLemmas
-pub mod ParentLemmas
-pub mod SettledLemmas
 pub mod LinkOctetLemmas
 pub mod TimeStepLemmas
 pub mod SyncOctetLemmas
@@ -59,7 +57,9 @@ pub mod SyncHeardLemmas
 pub mod SyncLaneLemmas
 pub mod SyncCallLemmas
 pub mod SyncActLemmas
-pub mod SyncHoldsLemmas
+pub mod HoldsLemmas
+pub mod ParentLemmas
+pub mod SettledLemmas
 pub mod LinkLaneLemmas
 pub mod SentLemmas
 pub mod PartLemmas
@@ -68,6 +68,7 @@ pub mod EndLemmas
 pub mod LinkLemmas
 pub mod LinkCallLemmas
 pub mod LinkExpiryLemmas
+pub mod PoppedLemmas
 pub mod LinkDeliveryLemmas
 pub mod LinkActLemmas
 pub mod MeasuredLemmas
@@ -88,10 +89,12 @@ pub mod BeforeLemmas
 pub mod UnansweredWorldLemmas
 pub mod BeginLemmas
 pub mod CapableKeptLemmas
+pub mod UsedLinkLemmas
 pub mod CapableLemmas
 pub mod ClaimedCapableLemmas
 pub mod ClaimLemmas
 pub mod ClaimedLemmas
+pub mod MeasuredLinkLemmas
 pub mod ShownLemmas
 pub mod TraceLemmas
 pub mod TreeLemmas

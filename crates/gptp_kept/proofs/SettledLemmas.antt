@@ -1,12 +1,12 @@
 -- A world of which the claim has held for long enough has settled.
-use Rattle.std.proofs.Common.{◌≡◌, ◌≢◌, ◌≤◌, ◌<◌, ◌+◌, ◌*◌, ℕ, zero, suc, Bool, true, false, Option, Some, None, length, slice_get, refl, ap, arith, ℤ}
+use Rattle.std.proofs.Common.{◌≡◌, ◌≢◌, ◌≤◌, ◌<◌, ◌+◌, ℕ, zero, suc, Bool, true, false, Option, Some, None, length, slice_get, refl, ap, arith, ℤ}
 use Rattle.std.specs.Option.{option_map_or}
 use Rattle.std.specs.Prelude.{◌==◌}
 use Rattle.std.proofs.lemmas.Bool.{eq-eqb, eqb-true}
 use Rattle.std.proofs.lemmas.Option.{none-some, same_Some}
 use Rattle.gptp_setup.specs.Pace.{Pace, largest_interval}
 use Rattle.gptp_graph.specs.Distance.{IsDistance}
-use Rattle.gptp_graph.specs.PathBound.{BoundsPaths}
+use Rattle.gptp_graph.specs.PathBound.{BoundsPaths, path_bound}
 use Rattle.gptp_graph.specs.Snapshot.{Snapshot, port_of}
 use Rattle.gptp_graph.specs.SettledRole.{Role, Disabled, Master, Slave, Passive, IsSettledRole}
 use Rattle.gptp_receipt.specs.declared.held.Held.{Held}
@@ -17,7 +17,8 @@ use Rattle.gptp_system.specs.Start.{role_at, role_by}
 use Rattle.gptp_system.specs.State.{SystemState, clock}
 use Rattle.gptp_system.specs.Steps.{IsPortOf}
 use Rattle.gptp_acts.specs.declared.station.Station.{Station}
-use Rattle.gptp_plan.specs.SettlingTime.{settling_span}
+use Rattle.gptp_plan.specs.SettlingTime.{settling_span_with}
+use Rattle.gptp_plan.specs.SyncWait.{step_more}
 use Rattle.gptp_acts.specs.World.{WorldState}
 use Rattle.gptp_lists.proofs.PlaceLemmas.{member_there}
 use Rattle.gptp_settling.specs.Calm.{Calm}
@@ -29,12 +30,13 @@ use Rattle.gptp_settling.proofs.CleanLemmas.{held_whole}
 use Rattle.gptp_settling.proofs.SettledLemmas.{follows_best, network_settles, settled_roles}
 use Rattle.gptp_kept.specs.View.{held_view, port_view, says, span_at, station_view, view}
 use Rattle.gptp_kept.proofs.PlaceLemmas.{port_there, station_there}
-use Rattle.gptp_kept.specs.Calm.{IsQuietWorld, network_with}
+use Rattle.gptp_kept.specs.Calm.{IsQuietWith, IsQuietWorld, network_with, paths_with, step_with, sync_paths_of, wait_with}
 use Rattle.gptp_kept.specs.Standing.{snapshot_of}
-use Rattle.gptp_kept.specs.Holds.{BecomeCapable, Holds, IsWorld, settling_network, start_of}
+use Rattle.gptp_kept.specs.Holds.{BecomeCapable, Holds, IsSettling, IsWorld, settling_network, start_of}
 use Rattle.gptp_kept.specs.Settled.{Settled, role_of}
-use Rattle.gptp_kept.proofs.HoldsLemmas.{is_calm, is_network, systems_bound}
+use Rattle.gptp_kept.proofs.HoldsLemmas.{is_calm, is_network, paths_bound, paths_fewer}
 use Rattle.gptp_kept.proofs.ParentLemmas.{parent_settled}
+use Rattle.gptp_kept.proofs.WaitLemmas.{spans_grow}
 
 -- ---- roles
 
@@ -157,35 +159,57 @@ module _ (p : Pace) (m start wait step : ℕ) (w : WorldState) (is : IsWorld p w
           roles = roles_are place station here live roles;
         }
 
--- where nothing can lapse
-module _ (p : Pace) (w : WorldState) (is : IsWorld p w) (quiet : IsQuietWorld p.params w) (capable : BecomeCapable p w)
-    (holds : Holds p w) (m : ℕ) (bounded : BoundsPaths (snapshot_of w) m) where
+-- by a number of systems that bounds its paths
+module _ (p : Pace) (w : WorldState) (is : IsWorld p w) (capable : BecomeCapable p w) (holds : Holds p w) (m : ℕ)
+    (bounded : BoundsPaths (snapshot_of w) m) (quiet : IsQuietWith p.params (paths_with m w) w) where
+  abbrev wait : ℕ
+  wait = wait_with p.params (paths_with m w)
+
+  abbrev step : ℕ
+  step = step_with p (paths_with m w)
+
   abbrev seen : Network
   seen = settling_network p m w
+
+  state : Calm seen (view w)
+  state = is_calm p m w is quiet.links capable
+
+  settling : IsSettling seen (view w)
+  settling = holds m bounded quiet
 
   module _ (place : ℕ) (station : Station) (here : slice_get w.stations place ≡ Some station)
       (live : station.live ≡ true) (d : ℕ) (distance : IsDistance (snapshot_of w) (clock station.system) d)
       (near : d < 255) where
-    -- two intervals for each step after all that is held is wholly clean
+    -- a step's time for each link after all that is held is wholly clean
     pub follows_by_distance : since seen d ≤ w.time → FollowsBest (snapshot_of w) (station_view station)
     follows_by_distance =
-        follows_so p m (start_of p w) 0 (2 * largest_interval p) w is (is_network p m w is bounded)
-        (is_calm p m w is quiet capable) (holds m bounded quiet) place station here live d distance near
+        follows_so p m (start_of p w) wait step w is (is_network p m w is bounded) state settling.invariant place
+        station here live d distance near
 
-    -- two intervals later its ports have settled
+    -- a step's time later its ports have settled
     pub roles_by_distance : since seen (suc d) ≤ w.time → (port : ℕ) → IsPortOf station.system port
         → IsSettledRole (snapshot_of w) (port_of (clock station.system) port) (role_of (role_at station.system port))
     roles_by_distance =
-        roles_so p m (start_of p w) 0 (2 * largest_interval p) w is (is_network p m w is bounded)
-        (is_calm p m w is quiet capable) (holds m bounded quiet) place station here live d distance near
+        roles_so p m (start_of p w) wait step w is (is_network p m w is bounded) state settling.invariant place
+        station here live d distance near
 
-  pub settles_by_paths : w.last_change + settling_span p m ≤ w.time → Settled w
-  settles_by_paths late =
-      settles_so p m (start_of p w) 0 (2 * largest_interval p) w is (is_network p m w is bounded)
-      (is_calm p m w is quiet capable) (holds m bounded quiet) (omega (arith, late))
+  -- the span of as many systems or more ends when all have settled
+  pub span_ends : (n : ℕ) → m ≤ n → w.last_change + settling_span_with p (paths_with m w) n ≤ w.time
+      → settled_from seen ≤ w.time
+  span_ends n more late =
+      let grown = spans_grow (p.params.timeout + 3) (p.params.lost + 5) (largest_interval p) m n
+      (step_more p (paths_with m w)) (step_more p (paths_with m w)) more (omega arith) in
+      omega (arith, late, grown)
 
--- so it settles by the number of live systems
+  pub settles_by_paths : (n : ℕ) → m ≤ n → w.last_change + settling_span_with p (paths_with m w) n ≤ w.time
+      → Settled w
+  settles_by_paths n more late =
+      settles_so p m (start_of p w) wait step w is (is_network p m w is bounded) state settling.invariant
+      (span_ends n more late)
+
+-- so it settles by its own paths and the number of live systems
 pub settles : (p : Pace) (w : WorldState) → IsWorld p w → IsQuietWorld p.params w → BecomeCapable p w → Holds p w
-    → w.last_change + settling_span p (length (snapshot_of w).systems) ≤ w.time → Settled w
+    → w.last_change + settling_span_with p (sync_paths_of w) (length (snapshot_of w).systems) ≤ w.time → Settled w
 settles p w is quiet capable holds =
-    settles_by_paths p w is quiet capable holds (length (snapshot_of w).systems) (systems_bound p w is)
+    settles_by_paths p w is capable holds (path_bound (snapshot_of w)) (paths_bound p w is) quiet
+    (length (snapshot_of w).systems) (paths_fewer (snapshot_of w))

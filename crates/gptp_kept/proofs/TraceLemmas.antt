@@ -5,7 +5,7 @@ use Rattle.gptp_setup.specs.Pace.{Pace}
 use Rattle.gptp_lists.specs.Members.{In}
 use Rattle.gptp_graph.specs.Best.{IsBest}
 use Rattle.gptp_graph.specs.Distance.{IsDistance}
-use Rattle.gptp_graph.specs.PathBound.{BoundsPaths}
+use Rattle.gptp_graph.specs.PathBound.{BoundsPaths, path_bound}
 use Rattle.gptp_graph.specs.Snapshot.{IsWellFormed, Snapshot, System, port_of}
 use Rattle.gptp_graph.proofs.BestLemmas.{IsBest-neighbour}
 use Rattle.gptp_graph.proofs.LinkLemmas.{Joins-sym}
@@ -46,24 +46,24 @@ use Rattle.gptp_kept.proofs.PlaceLemmas.{port_there, station_there}
 use Rattle.gptp_kept.specs.Calm.{IsQuietWorld}
 use Rattle.gptp_kept.specs.Standing.{snapshot_of}
 use Rattle.gptp_kept.specs.Holds.{settling_network, start_of}
-use Rattle.gptp_kept.proofs.HoldsLemmas.{is_calm, systems_bound}
+use Rattle.gptp_kept.proofs.HoldsLemmas.{is_calm, paths_bound}
 use Rattle.gptp_kept.specs.Claimed.{Claimed, IsClaimed}
 use Rattle.gptp_kept.specs.Traces.{AreHeldCleanInTime, AreHeldWholeInTime, IsCleanInTime, IsFrameClean, IsHeardClean, IsHeldClean, IsHeldWhole, IsTraceClean, announced, heard, turn_of}
 use Rattle.gptp_kept.proofs.ClaimedLemmas.{set_alike}
 use Rattle.gptp_kept.proofs.ClaimLemmas.{claim_capable}
 
 module _ (p : Pace) (w : WorldState) (is : IsClaimed p w) (quiet : IsQuietWorld p.params w) where
-  abbrev live_count : ℕ
-  live_count = length (snapshot_of w).systems
+  abbrev reach : ℕ
+  reach = path_bound (snapshot_of w)
 
   abbrev k : Setting
-  k = setting (settling_network p live_count w)
+  k = setting (settling_network p reach w)
 
-  state : Calm (settling_network p live_count w) (view w)
-  state = is_calm p live_count w is.world quiet (claim_capable p w is)
+  state : Calm (settling_network p reach w) (view w)
+  state = is_calm p reach w is.world quiet.links (claim_capable p w is)
 
   traces : TracesAreClean says k (view w)
-  traces = (is.settling live_count (systems_bound p w is.world) quiet).traces
+  traces = (is.settling reach (paths_bound p w is.world) quiet).invariant.traces
 
   -- ---- one live system
 

@@ -1,7 +1,7 @@
 -- Laws on what the systems of a world state of themselves.
 use Rattle.std.specs.Prelude.{ℕ}
 use Rattle.gptp_graph.specs.PathBound.{BoundsPaths}
-use Rattle.gptp_plan.specs.SettlingTime.{settling_span}
+use Rattle.gptp_plan.specs.SettlingTime.{settling_span_with}
 use Rattle.gptp_acts.specs.World.{WorldState}
 use Rattle.gptp_kept.specs.Bounded.{IsBoundedWorld}
 use Rattle.gptp_kept.specs.CalmFor.{IsCalmFor, span_over}
@@ -10,7 +10,7 @@ use Rattle.gptp_kept.specs.Standing.{snapshot_of}
 
 -- where a world has been calm for the settling span of its live systems, it is bounded
 abbrev pub ClaimedBounded : Type 0
-ClaimedBounded = (w : WorldState) → Claimed w → IsCalmFor settling_span w → IsBoundedWorld w
+ClaimedBounded = (w : WorldState) → Claimed w → IsCalmFor settling_span_with w → IsBoundedWorld w
 
 -- so it is where it has been for the settling span of m systems, and no path of its snapshot has more
 abbrev pub ClaimedBoundedByPaths : Type 0

@@ -1,6 +1,7 @@
 -- A calm world, and the network of the machine of gptp_settling that it then has.
-use Rattle.std.specs.Prelude.{◌≡◌, ◌≢◌, ◌≤◌, ◌*◌, ◌==◌, ◌&&◌, ℕ, suc, ℤ, pos, max, Bool, true, if◌then◌else◌, List, [], ◌∷◌, map, Some, slice_get}
+use Rattle.std.specs.Prelude.{◌≡◌, ◌≢◌, ◌≤◌, ◌+◌, ◌*◌, ◌==◌, ◌&&◌, ℕ, suc, ℤ, pos, max, nat_lt, Bool, true, if◌then◌else◌, List, [], ◌∷◌, map, Some, slice_get}
 use Rattle.std.specs.Option.{option_map_or}
+use Rattle.gptp_graph.specs.PathBound.{path_bound}
 use Rattle.gptp_graph.specs.Snapshot.{IsLinked, PortIdentity, Snapshot, System}
 use Rattle.gptp_vector.specs.declared.port.PortId.{PortId}
 use Rattle.gptp_links.specs.declared.link.Direction.TheVariants.{FromA, FromB}
@@ -12,7 +13,9 @@ use Rattle.gptp_setup.specs.declared.setup.Setup.{Setup}
 use Rattle.gptp_setup.specs.Intervals.{interval_of}
 use Rattle.gptp_setup.specs.Pace.{Pace, lapse_span, largest_interval}
 use Rattle.gptp_system.specs.State.{clock, number}
-use Rattle.gptp_plan.specs.Calm.{NothingLapses}
+use Rattle.gptp_plan.specs.Calm.{SyncsComeInTime}
+use Rattle.gptp_plan.specs.SyncWait.{step_more, sync_wait}
+use Rattle.gptp_plan.specs.declared.sync_wait.SyncPaths.{SyncPaths}
 use Rattle.gptp_acts.specs.declared.station.Station.{Station}
 use Rattle.gptp_acts.specs.World.{Channel, WorldState}
 use Rattle.gptp_settling.specs.Network.{Network}
@@ -32,18 +35,45 @@ abbrev pub HaveQuietLinks : Params → WorldState → Type 0
 HaveQuietLinks p w = (link : ℕ) (channel : Channel) → slice_get w.net.channels link ≡ Some channel
     → is_used (live_systems w.stations) channel ≡ true → IsQuietLink p channel
 
--- and nothing lapses for want of Sync
-pub record IsQuietWorld (p : Params) (w : WorldState) : Type 0 where
-  pub links : HaveQuietLinks p w
-  pub lapses : NothingLapses p
-
--- the greatest delay of those links, or 0
+-- the greatest delay of these links, where they are up between two of these systems, or 0
 abbrev pub greatest_delay : List System → List Channel → ℕ
 greatest_delay systems [] = 0
 greatest_delay systems (channel ∷ channels) =
     if is_used systems channel
     then max channel.bounds.max (greatest_delay systems channels)
     else greatest_delay systems channels
+
+-- that of the links that are up between two live systems
+abbrev pub delay_in : WorldState → ℕ
+delay_in w = greatest_delay (live_systems w.stations) w.net.channels
+
+-- ---- Syncs
+
+-- what Sync has to cross in a world where no path has more than m systems
+abbrev pub paths_with : ℕ → WorldState → SyncPaths
+paths_with m w = record { systems = m; delay = delay_in w }
+
+-- where gptp_graph reads that number off the links: two, and those systems that have two neighbours
+abbrev pub sync_paths_of : WorldState → SyncPaths
+sync_paths_of w = paths_with (path_bound (snapshot_of w)) w
+
+-- Each link that is up between two live systems is quiet, and nothing lapses for want of Sync where it has these paths
+-- to cross: syncReceiptTimeout is 0, or a settled system waits for Sync for less.
+pub record IsQuietWith (p : Params) (paths : SyncPaths) (w : WorldState) : Type 0 where
+  pub links : HaveQuietLinks p w
+  pub lapses : SyncsComeInTime p paths
+
+-- so a world is quiet: by its own paths
+abbrev pub IsQuietWorld : Params → WorldState → Type 0
+IsQuietWorld p w = IsQuietWith p (sync_paths_of w) w
+
+-- for how long at most a settled system waits for Sync where something can lapse; where nothing can it needn't wait
+abbrev pub wait_with : Params → SyncPaths → ℕ
+wait_with p paths = if nat_lt (sync_wait p paths) (lapse_span p) then sync_wait p paths else 0
+
+-- how long a step of distance takes
+abbrev pub step_with : Pace → SyncPaths → ℕ
+step_with p paths = 2 * largest_interval p + step_more p paths
 
 -- ---- places
 
@@ -106,7 +136,7 @@ network_with p m start wait step w = record {
   log_of = log_of w.stations;
   interval_of = λ port. interval_of (log_of w.stations port);
   interval = largest_interval p;
-  most = greatest_delay (live_systems w.stations) w.net.channels;
+  most = delay_in w;
   timeout = p.params.timeout;
   start = start;
   syncs = record {
@@ -118,6 +148,8 @@ network_with p m start wait step w = record {
   step = step;
 }
 
--- Where it is quiet nothing lapses: no Sync is waited for, and a step of distance takes two of the largest intervals.
+-- So it is with the wait and the step that such paths ask for: without a syncReceiptTimeout no Sync is waited for, and
+-- a step takes two of the largest intervals.
 abbrev pub network_of : Pace → ℕ → ℕ → WorldState → Network
-network_of p m start w = network_with p m start 0 (2 * largest_interval p) w
+network_of p m start w =
+    network_with p m start (wait_with p.params (paths_with m w)) (step_with p (paths_with m w)) w

@@ -7,30 +7,31 @@ use Rattle.gptp_pdelay.specs.Peer.{is_capable}
 use Rattle.gptp_receipt.specs.declared.held.Held.{Held}
 use Rattle.gptp_receipt.specs.declared.held.Held.TheVariants.{Disabled}
 use Rattle.gptp_system.specs.declared.port.Port.{Port}
-use Rattle.gptp_plan.specs.SettlingTime.{capability_span, settling_span}
+use Rattle.gptp_plan.specs.SettlingTime.{capability_span, settling_span_with}
+use Rattle.gptp_plan.specs.declared.sync_wait.SyncPaths.{SyncPaths}
 use Rattle.gptp_acts.specs.Prompt.{HavePace}
 use Rattle.gptp_acts.specs.World.{WorldState}
 use Rattle.gptp_kept.specs.Due.{OfEachPort}
 use Rattle.gptp_kept.specs.View.{identity_of}
-use Rattle.gptp_kept.specs.Calm.{IsQuietWorld}
+use Rattle.gptp_kept.specs.Calm.{IsQuietWorld, sync_paths_of}
 use Rattle.gptp_kept.specs.Standing.{snapshot_of}
 
 -- All systems start with the same parameters and largest announce interval; each link that is up between two live
 -- systems loses nothing and is short enough for the threshold; nothing lapses for want of Sync; and since the last
--- change a span has passed that may depend on how many systems live.
-pub record IsCalmFor (span : Pace → ℕ → ℕ) (w : WorldState) : Type 0 where
+-- change a span has passed that may depend on what Sync has to cross and on how many systems live.
+pub record IsCalmFor (span : Pace → SyncPaths → ℕ → ℕ) (w : WorldState) : Type 0 where
   pub pace : Pace
   pub set : HavePace pace w
   pub quiet : IsQuietWorld pace.params w
-  pub late : w.last_change + span pace (length (snapshot_of w).systems) ≤ w.time
+  pub late : w.last_change + span pace (sync_paths_of w) (length (snapshot_of w).systems) ≤ w.time
 
--- by when every port is capable that will be, and no other is, however many systems live
-abbrev pub capable_span : Pace → ℕ → ℕ
-capable_span p n = capability_span p
+-- by when every port is capable that will be, and no other is, whatever Sync has to cross and however many systems live
+abbrev pub capable_span : Pace → SyncPaths → ℕ → ℕ
+capable_span p paths n = capability_span p
 
 -- the settling span of m systems, however many live
-abbrev pub span_over : ℕ → Pace → ℕ → ℕ
-span_over m p n = settling_span p m
+abbrev pub span_over : ℕ → Pace → SyncPaths → ℕ → ℕ
+span_over m p paths n = settling_span_with p paths m
 
 -- a port is capable exactly where a link of the snapshot is at it, and Disabled exactly where it isn't capable
 pub record IsPortSettled (g : Snapshot) (itself : PortId) (h : Held) (q : Port) : Type 0 where

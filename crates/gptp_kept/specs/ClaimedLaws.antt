@@ -1,21 +1,23 @@
 -- Laws on what every world of a network keeps.
-use Rattle.std.specs.Prelude.{◌≤◌, ℕ, Option}
+use Rattle.std.specs.Prelude.{◌≤◌, ◌+◌, ℕ, Option}
 use Rattle.gptp_setup.specs.Pace.{Pace}
 use Rattle.gptp_graph.specs.PathBound.{BoundsPaths, path_bound}
 use Rattle.gptp_links.specs.declared.bounds.Bounds.{Bounds}
 use Rattle.gptp_plan.specs.declared.change.Timed.{Timed}
 use Rattle.gptp_acts.specs.declared.done.Done.{Done}
 use Rattle.gptp_plan.specs.Allowed.{IsFitAct}
+use Rattle.gptp_plan.specs.Calm.{NothingLapses}
 use Rattle.gptp_acts.specs.Acts.{at}
 use Rattle.gptp_acts.specs.Course.{Begun, WasDone}
 use Rattle.gptp_acts.specs.Initial.{initial}
 use Rattle.gptp_plan.specs.Network.{IsNetwork, NetworkState, pace_of}
 use Rattle.gptp_acts.specs.Pending.{NothingBefore}
-use Rattle.gptp_plan.specs.SettlingTime.{settling_span}
+use Rattle.gptp_plan.specs.SettlingTime.{settling_span, settling_span_with}
 use Rattle.gptp_acts.specs.Sound.{IsSound}
 use Rattle.gptp_acts.specs.World.{WorldState}
-use Rattle.gptp_acts.specs.Prompt.{IsPromptIn}
+use Rattle.gptp_acts.specs.Prompt.{HavePace, IsPromptIn}
 use Rattle.gptp_kept.specs.LegibleLaws.{SetsAnOctet}
+use Rattle.gptp_kept.specs.Calm.{HaveQuietLinks}
 use Rattle.gptp_kept.specs.Holds.{BecomeCapable}
 use Rattle.gptp_kept.specs.Settled.{Settled}
 use Rattle.gptp_kept.specs.Standing.{snapshot_of}
@@ -77,7 +79,7 @@ ClaimedCapable = (w : WorldState) → Claimed w → IsCalmFor capable_span w →
 
 -- where it has been for the settling span of its live systems, it has settled
 abbrev pub ClaimedSettled : Type 0
-ClaimedSettled = (w : WorldState) → Claimed w → IsCalmFor settling_span w → Settled w
+ClaimedSettled = (w : WorldState) → Claimed w → IsCalmFor settling_span_with w → Settled w
 
 -- so it has where it has been for the settling span of m systems, and no path of its snapshot has more
 abbrev pub ClaimedSettledByPaths : Type 0
@@ -91,9 +93,16 @@ ClaimedSettledByNeighbours = (w : WorldState)
     → Claimed w → IsCalmFor (span_over (path_bound (snapshot_of w))) w
     → Settled w
 
+-- Where syncReceiptTimeout is 0 a world is calm by its links alone, and has been for the settling span of m systems
+-- once their intervals have passed.
+abbrev pub CalmWithoutTimeout : Type 0
+CalmWithoutTimeout = (p : Pace) (m : ℕ) (w : WorldState)
+    → NothingLapses p.params → HavePace p w → HaveQuietLinks p.params w → w.last_change + settling_span p m ≤ w.time
+    → IsCalmFor (span_over m) w
+
 -- by then its ports have too
 abbrev pub SettledIsCapable : Type 0
-SettledIsCapable = (w : WorldState) → IsCalmFor settling_span w → IsCalmFor capable_span w
+SettledIsCapable = (w : WorldState) → IsCalmFor settling_span_with w → IsCalmFor capable_span w
 
 abbrev pub SettledIsCapableByPaths : Type 0
 SettledIsCapableByPaths = (m : ℕ) (w : WorldState) → IsCalmFor (span_over m) w → IsCalmFor capable_span w

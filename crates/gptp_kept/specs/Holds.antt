@@ -7,10 +7,12 @@ use Rattle.gptp_acts.specs.Sound.{IsSound}
 use Rattle.gptp_acts.specs.World.{WorldState}
 use Rattle.gptp_settling.specs.Levels.{Invariant}
 use Rattle.gptp_settling.specs.Network.{Network}
+use Rattle.gptp_settling.specs.Station.{State}
+use Rattle.gptp_settling.specs.Syncs.{SyncsAreExpected}
 use Rattle.gptp_kept.specs.Known.{IsKnown}
 use Rattle.gptp_kept.specs.Legible.{IsLegible}
-use Rattle.gptp_kept.specs.View.{says, view}
-use Rattle.gptp_kept.specs.Calm.{AreCapableFrom, IsQuietWorld, network_of}
+use Rattle.gptp_kept.specs.View.{says, says_sync, view}
+use Rattle.gptp_kept.specs.Calm.{AreCapableFrom, HaveQuietLinks, IsQuietWith, network_of, paths_with}
 use Rattle.gptp_kept.specs.Standing.{AreBetween, snapshot_of}
 
 -- a world of a network with these parameters and this largest announce interval, at any time
@@ -24,16 +26,21 @@ pub record IsWorld (p : Pace) (w : WorldState) : Type 0 where
 abbrev pub start_of : Pace → WorldState → ℕ
 start_of p w = w.last_change + capability_span p
 
--- it is so of the ports of live systems, where the world is quiet
+-- it is so of the ports of live systems, where the links in use are quiet
 abbrev pub BecomeCapable : Pace → WorldState → Type 0
-BecomeCapable p w = IsQuietWorld p.params w → AreCapableFrom (start_of p w) w
+BecomeCapable p w = HaveQuietLinks p.params w → AreCapableFrom (start_of p w) w
 
 -- the network of the machine of gptp_settling that the world then has, where no path has more than m systems
 abbrev pub settling_network : Pace → ℕ → WorldState → Network
 settling_network p m w = network_of p m (start_of p w) w
 
--- where the world is quiet, the invariant of that machine holds of what it sees of it, for each number that bounds how
--- many systems a path has
+-- the invariant of that machine holds of a state, and Syncs are expected in it in time
+pub record IsSettling (n : Network) (seen : State) : Type 0 where
+  pub invariant : Invariant says n seen
+  pub expected : SyncsAreExpected says_sync n seen
+
+-- So it is of what that machine sees of the world, for each number that bounds how many systems a path has, where the
+-- world is quiet by that number.
 abbrev pub Holds : Pace → WorldState → Type 0
-Holds p w = (m : ℕ) → BoundsPaths (snapshot_of w) m → IsQuietWorld p.params w
-    → Invariant says (settling_network p m w) (view w)
+Holds p w = (m : ℕ) → BoundsPaths (snapshot_of w) m → IsQuietWith p.params (paths_with m w) w
+    → IsSettling (settling_network p m w) (view w)

@@ -14,7 +14,6 @@ pub mod Calm
 pub mod CalmLaws
 pub mod Holds
 pub mod Settled
-pub mod SyncHolds
 pub mod SyncLaws
 pub mod SettledLaws
 pub mod LinkView
@@ -33,6 +32,8 @@ pub mod CapableLaws
 pub mod Claimed
 pub mod CalmFor
 pub mod ClaimedLaws
+pub mod MeasuredLinks
+pub mod MeasuredLinkLaws
 pub mod Traces
 pub mod TraceLaws
 pub mod Shown

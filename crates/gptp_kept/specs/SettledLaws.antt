@@ -14,13 +14,13 @@ use Rattle.gptp_acts.specs.Acts.{Acts, at}
 use Rattle.gptp_plan.specs.Allowed.{IsFitAct}
 use Rattle.gptp_acts.specs.Course.{Begun, WasDone}
 use Rattle.gptp_plan.specs.Network.{IsNetwork, NetworkState, pace_of}
-use Rattle.gptp_plan.specs.SettlingTime.{settling_span}
+use Rattle.gptp_plan.specs.SettlingTime.{settling_span_with}
 use Rattle.gptp_acts.specs.Prompt.{IsPromptIn}
 use Rattle.gptp_acts.specs.Sound.{IsSound}
 use Rattle.gptp_acts.specs.World.{WorldState}
 use Rattle.gptp_kept.specs.LegibleLaws.{SetsAnOctet}
 use Rattle.gptp_kept.specs.SeenLaws.{IsNoChange}
-use Rattle.gptp_kept.specs.Calm.{IsQuietWorld}
+use Rattle.gptp_kept.specs.Calm.{IsQuietWith, IsQuietWorld, paths_with, sync_paths_of}
 use Rattle.gptp_kept.specs.Standing.{snapshot_of}
 use Rattle.gptp_kept.specs.Holds.{BecomeCapable, Holds, IsWorld, start_of}
 use Rattle.gptp_kept.specs.Settled.{Settled}
@@ -90,17 +90,18 @@ HoldsDone {F} answers = (p : Pace) (timed : Timed) (fate fate_after : F) (w w' :
 
 -- ---- the world settles
 
--- A quiet world of which it holds, and no path of which has more than m systems, has settled once the span of m systems
--- has passed from the last change.
+-- A world of which it holds, no path of which has more than m systems, and which is quiet by that number, has settled
+-- once the span of as many systems or more has passed from the last change.
 abbrev pub HoldsSettledByPaths : Type 0
-HoldsSettledByPaths = (p : Pace) (m : ℕ) (w : WorldState)
-    → IsWorld p w → IsQuietWorld p.params w → BecomeCapable p w → Holds p w → BoundsPaths (snapshot_of w) m
-    → w.last_change + settling_span p m ≤ w.time
+HoldsSettledByPaths = (p : Pace) (m n : ℕ) (w : WorldState)
+    → IsWorld p w → BecomeCapable p w → Holds p w
+    → BoundsPaths (snapshot_of w) m → IsQuietWith p.params (paths_with m w) w → m ≤ n
+    → w.last_change + settling_span_with p (paths_with m w) n ≤ w.time
     → Settled w
 
--- so it has once the span of its live systems has
+-- so has one that is quiet by its own paths, once the span of its live systems has
 abbrev pub HoldsSettled : Type 0
 HoldsSettled = (p : Pace) (w : WorldState)
     → IsWorld p w → IsQuietWorld p.params w → BecomeCapable p w → Holds p w
-    → w.last_change + settling_span p (length (snapshot_of w).systems) ≤ w.time
+    → w.last_change + settling_span_with p (sync_paths_of w) (length (snapshot_of w).systems) ≤ w.time
     → Settled w

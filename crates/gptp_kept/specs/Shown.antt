@@ -10,7 +10,9 @@ use Rattle.gptp_roles.specs.declared.role.Role.{Role}
 use Rattle.gptp_roles.specs.declared.role.Role.TheVariants.{Disabled}
 use Rattle.gptp_system.specs.State.{SystemState, clock, is_capable_at}
 use Rattle.gptp_system.specs.Steps.{IsPortOf}
-use Rattle.gptp_plan.specs.SettlingTime.{settling_span}
+use Rattle.gptp_plan.specs.SettlingTime.{settling_span_with}
+use Rattle.gptp_plan.specs.SyncWait.{step_more}
+use Rattle.gptp_plan.specs.declared.sync_wait.SyncPaths.{SyncPaths}
 use Rattle.gptp_acts.specs.World.{WorldState}
 use Rattle.gptp_settling.specs.Settled.{IsSlaveOf}
 use Rattle.gptp_kept.specs.Standing.{snapshot_of}
@@ -44,7 +46,8 @@ pub record IsSettledFor (g : Snapshot) (number root steps : ℕ) (slave : Option
 -- that is what the near system with this clock follows, once the world has been calm for the settling span
 abbrev pub FollowsInTime : ℕ → WorldState → ℕ → ℕ → Option ℕ → Type 0
 FollowsInTime number w root steps slave =
-    IsCalmFor settling_span w → IsNear (snapshot_of w) number → IsSettledFor (snapshot_of w) number root steps slave
+    IsCalmFor settling_span_with w → IsNear (snapshot_of w) number
+    → IsSettledFor (snapshot_of w) number root steps slave
 
 -- so it is once the world has been calm for the settling span of m systems, where no path of its snapshot has more
 abbrev pub FollowsByPaths : ℕ → WorldState → ℕ → ℕ → Option ℕ → Type 0
@@ -55,7 +58,7 @@ FollowsByPaths number w root steps slave = (m : ℕ)
 -- and by then each of its ports has its settled role
 abbrev pub PlaysInTime : ℕ → ℕ → WorldState → Role → Type 0
 PlaysInTime number port w role =
-    IsCalmFor settling_span w → IsNear (snapshot_of w) number
+    IsCalmFor settling_span_with w → IsNear (snapshot_of w) number
     → IsSettledRole (snapshot_of w) (port_of number port) (role_of role)
 
 abbrev pub PlaysByPaths : ℕ → ℕ → WorldState → Role → Type 0
@@ -65,9 +68,10 @@ PlaysByPaths number port w role = (m : ℕ)
 
 -- ---- by distance
 
--- two announce intervals for each of d steps, behind the turns in which all that is held becomes wholly clean
-abbrev pub distance_span : ℕ → ℕ → Pace → ℕ → ℕ
-distance_span m d p n = turns_span m p n + 2 * d * largest_interval p
+-- two announce intervals for each of d steps, and what a step takes longer where Sync is waited for, behind the turns
+-- in which all that is held becomes wholly clean
+abbrev pub distance_span : ℕ → ℕ → Pace → SyncPaths → ℕ → ℕ
+distance_span m d p paths n = turns_span m p paths n + 2 * d * largest_interval p + d * step_more p paths
 
 -- that is when a near system at distance d follows its component's best over its parent, where no path of the snapshot
 -- has more than m systems
@@ -76,7 +80,7 @@ FollowsByDistance number w root steps slave = (m d : ℕ)
     → BoundsPaths (snapshot_of w) m → IsDistance (snapshot_of w) number d → d < 255 → IsCalmFor (distance_span m d) w
     → IsSettledFor (snapshot_of w) number root steps slave
 
--- and two intervals later each of its ports has its settled role
+-- and a step later each of its ports has its settled role
 abbrev pub PlaysByDistance : ℕ → ℕ → WorldState → Role → Type 0
 PlaysByDistance number port w role = (m d : ℕ)
     → BoundsPaths (snapshot_of w) m → IsDistance (snapshot_of w) number d → d < 255

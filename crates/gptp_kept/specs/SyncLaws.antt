@@ -1,5 +1,5 @@
 -- Laws on what systems tell of time.
-use Rattle.std.specs.Prelude.{◌≡◌, ◌⊎◌, ◌<◌, ◌≤◌, ◌+◌, ◌*◌, ℕ, suc, true, List, Some, slice_get}
+use Rattle.std.specs.Prelude.{◌≡◌, ◌⊎◌, ◌<◌, ℕ, suc, true, List, Some, slice_get}
 use Rattle.gptp_graph.specs.Snapshot.{PortIdentity}
 use Rattle.gptp_settling.specs.Frame.{FollowUp, Sync, SyncId}
 use Rattle.gptp_messages.specs.Frame.{PortFits}
@@ -16,10 +16,10 @@ use Rattle.gptp_system.specs.Syncing.{leads}
 use Rattle.gptp_settling.specs.SyncActs.{SyncActs}
 use Rattle.gptp_settling.specs.Syncs.{HaveSyncTimers}
 use Rattle.gptp_links.specs.Fate.{Draw}
-use Rattle.gptp_setup.specs.Pace.{Pace, largest_interval}
+use Rattle.gptp_setup.specs.Pace.{Pace}
 use Rattle.gptp_plan.specs.declared.change.Act.{Act}
 use Rattle.gptp_acts.specs.declared.done.Done.{Done}
-use Rattle.gptp_acts.specs.Acts.{Acts, at}
+use Rattle.gptp_acts.specs.Acts.{Acts}
 use Rattle.gptp_acts.specs.Sound.{IsSound}
 use Rattle.gptp_acts.specs.World.{WorldState}
 use Rattle.gptp_kept.specs.Calm.{network_with}
@@ -27,8 +27,6 @@ use Rattle.gptp_kept.specs.Known.{IsKnown}
 use Rattle.gptp_kept.specs.Legible.{IsLegible}
 use Rattle.gptp_kept.specs.Said.{said_at}
 use Rattle.gptp_kept.specs.SeenLaws.{IsNoChange}
-use Rattle.gptp_kept.specs.Settled.{Settled}
-use Rattle.gptp_kept.specs.SyncHolds.{HoldsTimed, IsCalmFrom, IsLongEnough}
 use Rattle.gptp_kept.specs.SyncView.{ArePaired, AreTimeless, IsHeard, KnowsTime, TakesTime}
 use Rattle.gptp_kept.specs.View.{identity_of, kept_view, says, says_sync, view}
 
@@ -99,34 +97,3 @@ abbrev pub TimersAreSeen : Type 0
 TimersAreSeen = (p : Pace) (m start wait step : ℕ) (w : WorldState)
     → IsSound w → IsKnown p w
     → HaveSyncTimers (network_with p m start wait step w) (view w)
-
--- ---- the claim
-
--- between two changes the claim begins by itself
-abbrev pub TimedBegins : Type 0
-TimedBegins = (p : Pace) (m start wait step : ℕ) (w : WorldState)
-    → IsCalmFrom p m start w → w.time < start
-    → HoldsTimed p m start wait step w
-
--- every act that changes nothing of the network keeps it, where something can lapse and the waits are long enough
-abbrev pub ActsKeepTimed : Type 0
-ActsKeepTimed = (p : Pace) (m start wait step : ℕ) (act : Act) (w : WorldState) (draws : List Draw) (done : Done)
-    (w' : WorldState)
-    → IsNoChange act → 0 < p.params.sync_timeout → IsLongEnough p m wait step w
-    → IsCalmFrom p m start w → IsCalmFrom p m start w' → Acts act w draws done w' → HoldsTimed p m start wait step w
-    → HoldsTimed p m start wait step w'
-
--- and so does time that passes
-abbrev pub TimeKeepsTimed : Type 0
-TimeKeepsTimed = (p : Pace) (m start wait step : ℕ) (w : WorldState) (time : ℕ)
-    → w.time ≤ time → IsLongEnough p m wait step w
-    → IsCalmFrom p m start w → IsCalmFrom p m start (at time w) → HoldsTimed p m start wait step w
-    → HoldsTimed p m start wait step (at time w)
-
--- Then the world has settled once a turn of the receipt timeout for each of m systems and as many steps of distance
--- have passed since the start.
-abbrev pub TimedSettles : Type 0
-TimedSettles = (p : Pace) (m start wait step : ℕ) (w : WorldState)
-    → IsLongEnough p m wait step w → IsCalmFrom p m start w → HoldsTimed p m start wait step w
-    → start + m * ((p.params.timeout + 1) * largest_interval p) + m * step ≤ w.time
-    → Settled w

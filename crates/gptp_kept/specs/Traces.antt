@@ -2,6 +2,7 @@
 use Rattle.std.specs.Prelude.{◌≡◌, ◌⊎◌, ◌≤◌, ◌+◌, ◌*◌, ℕ, ⊤, suc, pos, length, Some}
 use Rattle.gptp_setup.specs.Pace.{Pace, largest_interval, longest_span}
 use Rattle.gptp_lists.specs.Members.{In}
+use Rattle.gptp_plan.specs.declared.sync_wait.SyncPaths.{SyncPaths}
 use Rattle.gptp_graph.specs.PathBound.{BoundsPaths}
 use Rattle.gptp_graph.specs.Snapshot.{Joins, PortIdentity, Snapshot, clocks, port_of}
 use Rattle.gptp_receipt.specs.declared.held.Reception.{Reception}
@@ -17,6 +18,7 @@ use Rattle.gptp_settling.specs.Clean.{Clean, Good, Whole}
 use Rattle.gptp_settling.specs.Frame.{Announce}
 use Rattle.gptp_kept.specs.View.{identity_of, said}
 use Rattle.gptp_kept.specs.Standing.{snapshot_of}
+use Rattle.gptp_kept.specs.Calm.{sync_paths_of}
 use Rattle.gptp_kept.specs.CalmFor.{IsCalmFor, capable_span}
 
 -- A turn is the longest time from when an Announce is sent to when a system last sends on what it took from it: what is
@@ -25,17 +27,20 @@ abbrev pub turn_of : Pace → ℕ
 turn_of p = longest_span p + largest_interval p
 
 -- so many turns after ports have become capable
-abbrev pub turns_span : ℕ → Pace → ℕ → ℕ
-turns_span c p n = capable_span p n + c * turn_of p
+abbrev pub turns_span : ℕ → Pace → SyncPaths → ℕ → ℕ
+turns_span c p paths n = capable_span p paths n + c * turn_of p
 
 -- the world is calm, for however long
 abbrev pub IsCalmWorld : WorldState → Type 0
-IsCalmWorld = IsCalmFor (λ p n. 0)
+IsCalmWorld = IsCalmFor (λ p paths n. 0)
 
 -- what arrived at this time was sent so many turns after ports have become capable
 abbrev pub WasSentAfter : ℕ → ℕ → (w : WorldState) → IsCalmWorld w → Type 0
 WasSentAfter c time w calm =
-    w.last_change + turns_span c calm.pace (length (snapshot_of w).systems) + largest_interval calm.pace ≤ time
+    w.last_change
+    + turns_span c calm.pace (sync_paths_of w) (length (snapshot_of w).systems)
+    + largest_interval calm.pace
+    ≤ time
 
 -- ---- what a system announces
 

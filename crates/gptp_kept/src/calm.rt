@@ -30,9 +30,10 @@ pub fn snapshot_is_kept()
     ensures last { ActsKeepLastChange }
 {}
 
-/// A sound, legible and known world has a network of the machine: its snapshot is well formed, and from an Announce to
-/// the arrival of the next over a link it takes no longer than two of the largest announce intervals. The facts that
-/// the machine has of each of its states hold of the view of every sound and known world, quiet or not.
+/// A sound, legible and known world has a network of the machine: its snapshot is well formed, and a step of distance
+/// takes as long as the wait for a Sync and, from an Announce to the arrival of the next over a link, the announce
+/// interval and the delay. The facts that the machine has of each of its states hold of the view of every sound and
+/// known world, quiet or not.
 pub fn worlds_have_networks()
     ensures network { HasNetwork }
     ensures facts { HasFacts }

@@ -3,7 +3,8 @@
 ghost use Rattle.gptp_kept.specs.ClaimedLaws.{ClaimBegins, ClaimIsCapable, ClaimKept, ClaimLater};
 ghost use Rattle.gptp_kept.specs.ClaimedLaws.{ClaimedBegins, ClaimedKept, ClaimedLater};
 ghost use Rattle.gptp_kept.specs.ClaimedLaws.{ClaimedCapable, SettledIsCapable, SettledIsCapableByPaths};
-ghost use Rattle.gptp_kept.specs.ClaimedLaws.{ClaimedSettled, ClaimedSettledByPaths, ClaimedSettledByNeighbours};
+ghost use Rattle.gptp_kept.specs.ClaimedLaws.{CalmWithoutTimeout, ClaimedSettled, ClaimedSettledByNeighbours};
+ghost use Rattle.gptp_kept.specs.ClaimedLaws.{ClaimedSettledByPaths};
 ghost use Rattle.gptp_kept.specs.ShownLaws.{RolesAreEnabled, RolesSettle, SystemsAreCapable, SystemsSettle};
 ghost use Rattle.gptp_kept.specs.ShownLaws.{RolesSettleByDistance, RolesSettleByPaths};
 ghost use Rattle.gptp_kept.specs.ShownLaws.{SystemsSettleByDistance, SystemsSettleByPaths};
@@ -19,7 +20,7 @@ pub fn claim_begins<F: Fate>()
 {}
 
 /// Every act that keeps the limits keeps it, a change included, whatever is drawn for its frames; and so does time that
-/// passes. In a quiet world it says from the start on which ports are disabled.
+/// passes. Where the links in use are quiet it says from the start on which ports are disabled.
 pub fn claim_is_kept<F: Fate>()
     ensures done { ClaimKept F.answers }
     ensures time { ClaimLater }
@@ -51,10 +52,15 @@ pub fn ports_settle()
 /// slave port, and each of its ports has its settled role. So it has where it has been calm for the settling span of m
 /// systems, and no path of its snapshot has more; and so for the number that gptp_graph reads off the links, two and
 /// those that have two neighbours.
+///
+/// The network may have a syncReceiptTimeout: calm asks then that a settled system waits for Sync for less, and the span
+/// is longer by what a step of distance takes longer. Without one a world is calm by its links alone, and the span is
+/// that of its systems alone.
 pub fn worlds_settle()
     ensures systems { ClaimedSettled }
     ensures by_paths { ClaimedSettledByPaths }
     ensures neighbours { ClaimedSettledByNeighbours }
+    ensures without_timeout { CalmWithoutTimeout }
 {}
 
 /// A settled world is a tree: each near system other than its component's best hangs on one that is one step nearer, by

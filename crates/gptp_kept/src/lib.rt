@@ -3,16 +3,17 @@
 //! The state of a world is that of `gptp_acts`, and so are its acts. Each subject has its definitions in `specs/`, and
 //! its laws in a module:
 //!
-//! - [`known`]: what is known of every item at every time, in lossy and changing networks too: when timers and frames are
-//!   due, and which ports measure;
+//! - [`known`]: what is known of every item at every time, in lossy and changing networks too: when timers and frames
+//!   are due, and which ports measure;
 //! - [`seen`]: a world as a state of the machine of `gptp_settling`, and its acts as the machine's;
 //! - [`calm`]: the snapshot of a world, and a calm world as a calm state of that machine;
 //! - [`settled`]: the claim of that machine on worlds, kept by every act;
 //! - [`link_acts`], [`link_facts`], [`link_watch`], [`link_worlds`]: one link as the machine of `gptp_measuring`;
 //! - [`unanswered_acts`], [`silence`], [`unanswered_worlds`]: a port beside a failed system as such a machine;
 //! - [`capable`]: ports at links in use become capable;
-//! - [`claimed`]: all this as one claim that begins with the world of every network and is kept by every act, that worlds
-//!   settle, and what the calls of a world show then;
+//! - [`measured_links`]: ports have measured the links in use;
+//! - [`claimed`]: all this as one claim that begins with the world of every network and is kept by every act, that
+//!   worlds settle, and what the calls of a world show then;
 //! - [`bounded`]: what the systems of a world state of themselves then, far ones too;
 //! - [`syncs`]: how systems tell time and hear it, as the machine of `gptp_settling` asks where something can lapse.
 //!
@@ -31,6 +32,7 @@ pub mod link_acts;
 pub mod link_facts;
 pub mod link_watch;
 pub mod link_worlds;
+pub mod measured_links;
 pub mod seen;
 pub mod settled;
 pub mod silence;

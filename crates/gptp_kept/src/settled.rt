@@ -22,9 +22,9 @@ pub fn claim_begins<F: Fate>()
     ensures network { HoldsAtFirst F.answers }
 {}
 
-/// A delivery, an expiry and time that passes keep the claim, where in a quiet world, from the start on, the ports of
+/// A delivery, an expiry and time that passes keep the claim, where with quiet links, from the start on, the ports of
 /// live systems are disabled exactly where no link of the snapshot is at them. So it is kept from act to act, a change
-/// included.
+/// included. In a network that has a syncReceiptTimeout nothing lapses then, as Syncs come down in time.
 pub fn claim_is_kept<F: Fate>()
     ensures acts { HoldsKept }
     ensures time { HoldsLater }
@@ -34,7 +34,8 @@ pub fn claim_is_kept<F: Fate>()
 /// Where the claim holds of a quiet world, and the settling span of its live systems has passed from the last change,
 /// the world has settled: each near live system has the identity of its component's best as its root and its distance
 /// as its steps, it follows its parent over its slave port, and each of its ports has its settled role. So it has once
-/// the span of m systems has passed, where no path of the snapshot has more than m.
+/// the span of n systems has passed, where it is quiet by a number m that no path of the snapshot exceeds, and n is no
+/// less.
 pub fn worlds_settle()
     ensures systems { HoldsSettled }
     ensures by_paths { HoldsSettledByPaths }

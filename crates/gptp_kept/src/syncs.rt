@@ -1,13 +1,11 @@
-//! Laws on the Syncs and Follow_Ups that systems send and hear, and on networks in which something can lapse for want of
-//! them.
+//! Laws on the Syncs and Follow_Ups that systems send and hear.
 
 ghost use Rattle.gptp_kept.specs.SyncLaws.{ActsTellSyncs, FollowUpsAreUsed, SyncsAreKept, TimersAreSeen};
-ghost use Rattle.gptp_kept.specs.SyncLaws.{ActsKeepTimed, TimeKeepsTimed, TimedBegins, TimedSettles};
 ghost use Rattle.gptp_kept.specs.SyncLaws.{KnowsAtStart, KnowsOn, LeadersTell, RelaysTell, TellsInPairs};
 
 /// What a step sends at one port tells no time, or is a Sync and, directly behind it, the Follow_Up of the same
-/// sequenceId. Each Master port sends both where the Sync timer of a root expires that may be grandmaster; and where the
-/// Relay timer expires, in a network that has a syncReceiptTimeout.
+/// sequenceId. Each Master port sends both where the Sync timer of a root expires that may be grandmaster; and where
+/// the Relay timer expires, in a network that has a syncReceiptTimeout.
 pub fn time_is_told_in_pairs()
     ensures pairs { TellsInPairs }
     ensures leaders { LeadersTell }
@@ -22,8 +20,9 @@ pub fn known_time_is_kept()
     ensures steps { KnowsOn }
 {}
 
-/// A Sync from the port that a system follows is kept, and the Follow_Up of the one that is kept is used, where the port
-/// is capable and the network has a syncReceiptTimeout: the Relay timer runs then, and the Lapse timer begins anew.
+/// A Sync from the port that a system follows is kept, and the Follow_Up of the one that is kept is used, where the
+/// port is capable and the network has a syncReceiptTimeout: the Relay timer runs then, and the Lapse timer begins
+/// anew.
 pub fn syncs_are_heard()
     ensures kept { SyncsAreKept }
     ensures used { FollowUpsAreUsed }
@@ -36,20 +35,4 @@ pub fn syncs_are_heard()
 pub fn acts_tell_syncs()
     ensures acts { ActsTellSyncs }
     ensures timers { TimersAreSeen }
-{}
-
-/// Between two changes of a network that has a syncReceiptTimeout the claim on its world begins before the start, and
-/// every act and time that passes keep it: the invariant of the machine, and that Syncs are expected in time. It takes
-/// quiet links, ports that are capable from the start on, a wait for Syncs that is long enough and below the timeout,
-/// and a step of distance in which both that and the Announces of one interval come.
-pub fn timed_claim_is_kept()
-    ensures begins { TimedBegins }
-    ensures acts { ActsKeepTimed }
-    ensures time { TimeKeepsTimed }
-{}
-
-/// With that claim a world settles: once `k + 1` of the largest announce intervals and a step of distance for each of m
-/// systems have passed since the start, where no path has more than m systems and k is the receipt timeout.
-pub fn timed_worlds_settle()
-    ensures { TimedSettles }
 {}

@@ -1,15 +1,12 @@
 -- A link stands at each time of a document as the events up to then leave it.
-use Rattle.std.proofs.Common.{◌≡◌, ◌≢◌, ◌≤◌, ◌<◌, ℕ, Bool, true, false, ◌==◌, nat_le, cond, List, [], ◌∷◌, ◌++◌, filter, map, append_assoc, eqb-true, refl, sym, ap, subst, ◌∙◌, arith}
+use Rattle.std.proofs.Common.{◌≡◌, ◌≤◌, ◌<◌, ℕ, Bool, true, false, ◌==◌, nat_le, cond, List, [], ◌∷◌, ◌++◌, map, append_assoc, eqb-true, refl, sym, ap, ◌∙◌, arith}
 use Rattle.std.specs.List.{AllByRecursion}
 use Rattle.std.proofs.lemmas.Bool.Decides.{nat_tests}
 use Rattle.gptp_vector.specs.declared.port.PortId.{PortId}
-use Rattle.gptp_plan.specs.Change.{is_at, link_acted, link_after, link_changed, with_bounds, with_up}
-use Rattle.gptp_plan.specs.declared.change.Act.{Act}
-use Rattle.gptp_plan.specs.declared.change.Act.TheVariants as acts
-use Rattle.gptp_plan.specs.declared.change.Change.{Change}
-use Rattle.gptp_plan.specs.declared.change.Change.TheVariants as changes
+use Rattle.gptp_plan.specs.Change.{link_after}
 use Rattle.gptp_plan.specs.declared.change.Timed.{Timed}
 use Rattle.gptp_plan.specs.declared.network.Wire.{Wire}
+use Rattle.gptp_plan.proofs.AfterLemmas.{acted_keeps, after_keeps}
 use Rattle.gptp_network.specs.Events.{AreInOrder}
 use Rattle.gptp_network.specs.Snapshot.{events_by}
 use Rattle.gptp_lint.specs.Course.{acted, at_time, cable_of, course_from, course_of, first, lives_acted, wire_of}
@@ -18,39 +15,6 @@ use Rattle.gptp_lint.specs.declared.course.Standing.{Standing}
 use Rattle.gptp_lint.proofs.LivesLemmas.{lives_after}
 
 -- ---- a link keeps its ends
-
-pub record KeepsEnds (v w : Wire) : Type 0 where
-  pub a : v.a ≡ w.a
-  pub b : v.b ≡ w.b
-
-up_keeps : (test up : Bool) (w : Wire) → KeepsEnds (cond test (with_up up w) w) w
-up_keeps true up w = record { a = refl; b = refl }
-up_keeps false up w = record { a = refl; b = refl }
-
-set_keeps : (test : Bool) (least greatest loss : ℕ) (w : Wire)
-    → KeepsEnds (cond test (with_bounds least greatest loss w) w) w
-set_keeps true least greatest loss w = record { a = refl; b = refl }
-set_keeps false least greatest loss w = record { a = refl; b = refl }
-
-changed_keeps : (change : Change) (w : Wire) → KeepsEnds (link_changed change w) w
-changed_keeps (changes.LinkDown clock port) w = up_keeps (is_at clock port w) false w
-changed_keeps (changes.LinkUp clock port) w = up_keeps (is_at clock port w) true w
-changed_keeps (changes.LinkSet clock port least greatest loss) w = set_keeps (is_at clock port w) least greatest loss w
-changed_keeps (changes.Fail clock) w = record { a = refl; b = refl }
-changed_keeps (changes.Recover clock) w = record { a = refl; b = refl }
-changed_keeps (changes.Priority1 clock value) w = record { a = refl; b = refl }
-changed_keeps (changes.Inject clock port octets) w = record { a = refl; b = refl }
-
-pub acted_keeps : (act : Act) (w : Wire) → KeepsEnds (link_acted act w) w
-acted_keeps (acts.Deliver link direction) w = record { a = refl; b = refl }
-acted_keeps (acts.Expire clock timer) w = record { a = refl; b = refl }
-acted_keeps (acts.Change change) w = changed_keeps change w
-
-after_keeps : (events : List Timed) (w : Wire) → KeepsEnds (link_after events w) w
-after_keeps [] w = record { a = refl; b = refl }
-after_keeps (t ∷ ts) w =
-    let one = acted_keeps t.act w in let rest = after_keeps ts (link_acted t.act w) in
-    record { a = rest.a ∙ one.a; b = rest.b ∙ one.b }
 
 pub same_a : (events : List Timed) (w : Wire) → (link_after events w).a ≡ w.a
 same_a events w = (after_keeps events w).a

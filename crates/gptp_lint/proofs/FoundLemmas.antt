@@ -1,21 +1,24 @@
 -- What is found at the links, one after another, is what is defined of all.
-use Rattle.std.proofs.Common.{◌≡◌, ◌+◌, ◌<◌, ℕ, Bool, List, [], ◌∷◌, ◌++◌, Option, Some, None, append_assoc, drop, length, map, slice_get, refl, sym, ap, ◌∙◌}
-use Rattle.std.specs.List.{flat_map}
+use Rattle.std.proofs.Common.{◌≡◌, ◌+◌, ◌<◌, ℕ, Bool, List, [], ◌∷◌, ◌++◌, Option, Some, None, append_assoc, drop, length, map, slice_get, refl, sym, ap, subst, ◌∙◌, inl, inr, ◌↔◌}
+use Rattle.std.specs.List.{AllByRecursion, flat_map}
 use Rattle.std.specs.Option.{option_map}
 use Rattle.std.proofs.lemmas.List.{append-nil}
 use Rattle.std.proofs.lemmas.Option.{none-some, same_Some}
+use Rattle.gptp_lists.specs.Members.{In}
 use Rattle.gptp_lists.proofs.PlaceLemmas.{member_there}
 use Rattle.gptp_vector.specs.declared.port.PortId.{PortId}
 use Rattle.gptp_links.specs.declared.bounds.Bounds.{Bounds}
+use Rattle.gptp_setup.specs.Pace.{lapse_span}
 use Rattle.gptp_plan.specs.Network.{IsNetwork}
 use Rattle.gptp_plan.specs.declared.network.Member.{Member}
 use Rattle.gptp_plan.specs.declared.network.Wire.{Wire}
 use Rattle.gptp_network.specs.Document.{DocumentState}
 use Rattle.gptp_network.specs.Events.{AreEvents}
 use Rattle.gptp_lint.specs.Course.{cable_of, wire_of}
-use Rattle.gptp_lint.specs.Findings.{AreCalmTimes, AreFound}
+use Rattle.gptp_lint.specs.Findings.{AreCalmTimes, AreFound, IsTime, NoneIsLate, late_at}
 use Rattle.gptp_lint.specs.Trouble.{longs_of, lossies_of}
 use Rattle.gptp_lint.specs.declared.course.Cable.{Cable}
+use Rattle.gptp_lint.specs.declared.findings.CalmTime.{CalmTime}
 use Rattle.gptp_lint.specs.declared.findings.Findings.{Findings}
 use Rattle.gptp_lint.proofs.QuietLemmas.{quiet}
 
@@ -80,23 +83,41 @@ none_there f ys place within is =
     let (y, there) = member_there ys place within in
     absurd (none-some (f y) (is ∙ ap (option_map f) there))
 
+-- ---- all times
+
+-- at none of the times Sync is late exactly where it is at none of the document
+none_late : (d : DocumentState) (times : List CalmTime) → AllByRecursion (IsTime d) times
+    → NoneIsLate times ↔ ((at : ℕ) → In at (map (λ (t : CalmTime). t.at) times) → late_at d at ≡ None)
+none_late d [] each = (λ none at member. absurd member, λ none. tt)
+none_late d (t ∷ times) (here, more) =
+    let rest = none_late d times more in (
+      λ none at member. elim member [
+        | inl same ↦ ap (late_at d) same ∙ sym here.needs ∙ none.0
+        | inr among ↦ rest.0 none.1 at among
+      ],
+      λ none. (here.needs ∙ none t.at (inl refl), rest.1 (λ at among. none at (inr among))),
+    )
+
 -- ---- all links
 
 pub found : (d : DocumentState) (f : Findings) (cables : List Cable) → IsNetwork d.network
     → AreEvents d.network d.events → cables ≡ map cable_of d.network.links
     → f.long.items ≡ longs_of d (map wire_of cables) → f.lossy.items ≡ lossies_of d (map wire_of cables)
-    → AreCalmTimes d f.calm.items → AreFound d f
-found d f cables network events are long lossy calm =
+    → AreCalmTimes d f.calm.items → f.limit ≡ lapse_span d.network.params → AreFound d f
+found d f cables network events are long lossy calm limit =
     let whole : map wire_of cables ≡ d.network.links = ap (map wire_of) are ∙ wires_back d.network.links in
     let longs : f.long.items ≡ longs_of d d.network.links = long ∙ ap (longs_of d) whole in
     let lossies : f.lossy.items ≡ lossies_of d d.network.links = lossy ∙ ap (lossies_of d) whole in
     let law = quiet d network events.in_order in
+    let late = subst (λ times. NoneIsLate f.calm.items ↔ ((at : ℕ) → In at times → late_at d at ≡ None))
+    calm.times_are (none_late d f.calm.items calm.each) in
     record {
       long = longs;
       lossy = lossies;
       calm = calm;
+      limit = limit;
       quiet = (
-        λ none. law.0 (sym longs ∙ none.0, sym lossies ∙ none.1, none.2),
-        λ always. let none = law.1 always in (longs ∙ none.0, lossies ∙ none.1, none.2),
+        λ none. law.0 (sym longs ∙ none.0, sym lossies ∙ none.1, late.0 none.2),
+        λ always. let none = law.1 always in (longs ∙ none.0, lossies ∙ none.1, late.1 none.2),
       );
     }

@@ -1,8 +1,7 @@
 -- An act changes nothing at a link at none of whose ends it names a system.
-use Rattle.std.proofs.Common.{◌≡◌, ◌≢◌, ℕ, Bool, true, false, ◌==◌, ◌&&◌, ◌||◌, cond, refl, sym, ap, ◌∙◌, arith}
+use Rattle.std.proofs.Common.{◌≡◌, ◌≢◌, ℕ, Bool, true, false, ◌==◌, cond, refl, sym, ap}
 use Rattle.std.proofs.lemmas.Bool.{and_left, ne_eqb, or_from}
-use Rattle.gptp_vector.specs.declared.port.PortId.{PortId}
-use Rattle.gptp_plan.specs.Change.{is_at, link_acted, link_changed, system_changed, with_bounds, with_live, with_priority1, with_up}
+use Rattle.gptp_plan.specs.Change.{is_at, link_acted, link_changed, system_changed, with_bounds, with_up}
 use Rattle.gptp_plan.specs.Network.{same_port}
 use Rattle.gptp_plan.specs.declared.change.Act.{Act}
 use Rattle.gptp_plan.specs.declared.change.Act.TheVariants as acts

@@ -1,14 +1,14 @@
--- Each time of a document is told of with its bound, as its events are passed.
-use Rattle.std.proofs.Common.{◌≡◌, ◌≢◌, ◌≤◌, ◌<◌, ℕ, Bool, true, false, ◌==◌, cond, List, [], ◌∷◌, ◌++◌, map, Option, append_assoc, refl, sym, ap, subst, ◌∙◌, arith}
+-- Each time of a document is told of, as its events are passed.
+use Rattle.std.proofs.Common.{◌≡◌, ◌≤◌, ◌<◌, ℕ, Bool, true, false, ◌==◌, cond, List, [], ◌∷◌, ◌++◌, map, slice_get, Some, zero, suc, append_assoc, refl, sym, ap, subst, ◌∙◌, arith}
 use Rattle.std.specs.List.{AllByRecursion}
 use Rattle.std.proofs.lemmas.Bool.{eqb-true, eqb-false}
 use Rattle.std.proofs.lemmas.List.{map-append}
+use Rattle.gptp_plan.specs.Allowed.{AreAllowed}
 use Rattle.gptp_plan.specs.declared.change.Timed.{Timed}
 use Rattle.gptp_network.specs.Document.{DocumentState}
 use Rattle.gptp_network.specs.Events.{AreInOrder}
 use Rattle.gptp_network.specs.Snapshot.{events_by}
-use Rattle.gptp_network.specs.Span.{IsBound}
-use Rattle.gptp_lint.specs.Findings.{AreCalmTimes}
+use Rattle.gptp_lint.specs.Findings.{AreCalmTimes, IsTime}
 use Rattle.gptp_lint.specs.Tables.{told}
 use Rattle.gptp_lint.specs.Times.{times_from, times_of}
 use Rattle.gptp_lint.specs.declared.findings.CalmTime.{CalmTime}
@@ -17,9 +17,6 @@ use Rattle.gptp_lint.proofs.CourseLemmas.{all_from_0, behind, not_before, only_p
 abbrev at_of : CalmTime → ℕ
 at_of c = c.at
 
-abbrev HasBound : DocumentState → CalmTime → Type 0
-HasBound d c = IsBound d c.at c.bound
-
 -- These events are done, and those are left; the last time so far is this one, and all times before it are told of.
 pub record Passed (d : DocumentState) (done left : List Timed) (at : ℕ) (times : List CalmTime) : Type 0 where
   pub split : done ++ left ≡ d.events
@@ -27,7 +24,7 @@ pub record Passed (d : DocumentState) (done left : List Timed) (at : ℕ) (times
   pub come : not_before at left
   pub order : AreInOrder left
   pub times_are : map at_of times ++ times_from at left ≡ times_of d.events
-  pub bounds : AllByRecursion (HasBound d) times
+  pub each : AllByRecursion (IsTime d) times
 
 pub passed_none : (d : DocumentState) → AreInOrder d.events → Passed d [] d.events 0 []
 passed_none d order = record {
@@ -36,24 +33,34 @@ passed_none d order = record {
   come = all_from_0 d.events;
   order = order;
   times_are = refl;
-  bounds = tt;
+  each = tt;
 }
 
-one_more_bound : (d : DocumentState) (times : List CalmTime) (c : CalmTime) → AllByRecursion (HasBound d) times
-    → HasBound d c → AllByRecursion (HasBound d) (times ++ c ∷ [])
-one_more_bound d [] c all one = (one, tt)
-one_more_bound d (b ∷ times) c all one = (all.0, one_more_bound d times c all.1 one)
+-- what a world can be asked for at each place it can be before one
+pub allowed_before : (done left all : List Timed) → done ++ left ≡ all → AreAllowed all → AreAllowed done
+allowed_before done left all split allowed = λ place t there.
+    allowed place t (ap (λ ts. slice_get ts place) (sym split) ∙ front done place t there)
+  where
+    front : (ts : List Timed) (place : ℕ) (t : Timed) → slice_get ts place ≡ Some t
+        → slice_get (ts ++ left) place ≡ Some t
+    front [] place t there = absurd cc
+    front (u ∷ ts) zero t there = there
+    front (u ∷ ts) (suc place) t there = front ts place t there
 
-module _ (d : DocumentState) (done : List Timed) (at : ℕ) (bound : Option ℕ) (times : List CalmTime) where
-  -- the time is told of
-  abbrev this : CalmTime
-  this = record { at = at; bound = bound }
+one_more_time : (d : DocumentState) (times : List CalmTime) (c : CalmTime) → AllByRecursion (IsTime d) times
+    → IsTime d c → AllByRecursion (IsTime d) (times ++ c ∷ [])
+one_more_time d [] c all one = (one, tt)
+one_more_time d (b ∷ times) c all one = (all.0, one_more_time d times c all.1 one)
+
+module _ (d : DocumentState) (done : List Timed) (this : CalmTime) (times : List CalmTime) where
+  abbrev at : ℕ
+  at = this.at
 
   -- at the next event
   pub passed_more : (t : Timed) (left : List Timed) (after : List CalmTime) → Passed d done (t ∷ left) at times
-      → after ≡ told t.at at bound times → (events_by at d.events ≡ done → IsBound d at bound)
+      → after ≡ told t.at this times → (events_by at d.events ≡ done → IsTime d this)
       → Passed d (done ++ t ∷ []) left t.at after
-  passed_more t left after so_far is bounded =
+  passed_more t left after so_far is told_so =
       subst (Passed d (done ++ t ∷ []) left t.at) (sym is) (by (t.at == at) refl)
     where
       joined : (done ++ t ∷ []) ++ left ≡ d.events
@@ -79,7 +86,7 @@ module _ (d : DocumentState) (done : List Timed) (at : ℕ) (bound : Option ℕ)
             times_are =
                 ap (λ a. map at_of times ++ times_from a left) same
                 ∙ ap (λ ts. map at_of times ++ ts) (sym step) ∙ so_far.times_are;
-            bounds = so_far.bounds;
+            each = so_far.each;
           }
       by false is =
           let apart = eqb-false t.at at is in
@@ -97,16 +104,16 @@ module _ (d : DocumentState) (done : List Timed) (at : ℕ) (bound : Option ℕ)
                 ap (λ ts. ts ++ times_from t.at left) (map-append at_of times (this ∷ []))
                 ∙ append_assoc (map at_of times) (at ∷ []) (times_from t.at left)
                 ∙ ap (λ ts. map at_of times ++ ts) (sym step) ∙ so_far.times_are;
-            bounds = one_more_bound d times this so_far.bounds (bounded now);
+            each = one_more_time d times this so_far.each (told_so now);
           }
 
   -- behind the last
   pub passed_all : (after : List CalmTime) → Passed d done [] at times → after ≡ times ++ this ∷ []
-      → (events_by at d.events ≡ done → IsBound d at bound) → AreCalmTimes d after
-  passed_all after so_far is bounded =
+      → (events_by at d.events ≡ done → IsTime d this) → AreCalmTimes d after
+  passed_all after so_far is told_so =
       let now : events_by at d.events ≡ done =
       ap (events_by at) (sym so_far.split) ∙ only_past at done [] so_far.past tt in
       subst (AreCalmTimes d) (sym is) (record {
         times_are = map-append at_of times (this ∷ []) ∙ so_far.times_are;
-        bounds = one_more_bound d times this so_far.bounds (bounded now);
+        each = one_more_time d times this so_far.each (told_so now);
       })

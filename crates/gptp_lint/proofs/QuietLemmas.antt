@@ -1,25 +1,30 @@
--- No link is told of, and nothing lapses, exactly where each time is calm.
-use Rattle.std.proofs.Common.{◌≡◌, ◌↔◌, ◌≤◌, ℕ, Bool, true, false, ◌==◌, ◌&&◌, nat_lt, cond, List, [], ◌∷◌, Option, Some, None, get_or, refl, sym, ap, subst, ◌∙◌, inl, arith}
+-- No link is told of, and Sync is never late, exactly where each time is calm.
+use Rattle.std.proofs.Common.{◌≡◌, ◌↔◌, ◌≤◌, ℕ, Bool, true, false, ◌==◌, ◌&&◌, nat_le, nat_lt, not, cond, List, [], Option, Some, None, get_or, refl, sym, ap, subst, ◌∙◌, inl, inr, arith}
 use Rattle.std.specs.List.{All}
 use Rattle.std.specs.Option.{option_to_list}
+use Rattle.std.proofs.lemmas.Bool.{eq-eqb, eqb-true, not-false}
 use Rattle.std.proofs.lemmas.Bool.Decides.{nat_tests}
 use Rattle.std.proofs.lemmas.Option.{same_Some, slice_get-get_or, slice_get_within}
 use Rattle.gptp_lists.specs.Members.{In}
 use Rattle.gptp_lists.proofs.MemberLemmas.{In-map, In-slice_get, from_map, slice_get-In}
 use Rattle.gptp_vector.specs.declared.port.PortId.{PortId}
+use Rattle.gptp_setup.specs.Pace.{lapse_span}
 use Rattle.gptp_setup.specs.declared.setup.Params.{Params}
-use Rattle.gptp_plan.specs.Calm.{AllRest, IsLive, IsUsed, NothingLapses, Rests}
+use Rattle.gptp_plan.specs.Calm.{AllRest, IsLive, IsUsed, Rests, SyncsComeInTime}
 use Rattle.gptp_plan.specs.Change.{link_after}
 use Rattle.gptp_plan.specs.Network.{IsNetwork, IsPort}
+use Rattle.gptp_plan.specs.SyncWait.{sync_paths, sync_wait}
 use Rattle.gptp_plan.specs.declared.change.Timed.{Timed}
 use Rattle.gptp_plan.specs.declared.network.Member.{Member}
 use Rattle.gptp_plan.specs.declared.network.Wire.{Wire}
+use Rattle.gptp_plan.specs.declared.sync_wait.SyncPaths.{SyncPaths}
 use Rattle.gptp_network.specs.Document.{DocumentState}
 use Rattle.gptp_network.specs.Events.{AreInOrder}
 use Rattle.gptp_network.specs.Snapshot.{events_by}
 use Rattle.gptp_lint.specs.Course.{course_of, first, is_used}
-use Rattle.gptp_lint.specs.Findings.{IsAlwaysCalm}
-use Rattle.gptp_lint.specs.Times.{times_from, times_of}
+use Rattle.gptp_lint.specs.Findings.{IsAlwaysCalm, late_at}
+use Rattle.gptp_lint.specs.Tables.{late_of, may_lapse}
+use Rattle.gptp_lint.specs.Times.{times_of}
 use Rattle.gptp_lint.specs.Trouble.{is_long, longs_of, loss_in_use, lossies_of, needed}
 use Rattle.gptp_lint.specs.declared.course.Standing.{Standing}
 use Rattle.gptp_lint.proofs.CourseLemmas.{a_after, after, b_after, cable_after, course_is, same_a, same_b, stood}
@@ -112,16 +117,34 @@ rests_to p members events w a b rests =
       subst (λ most. needed p most ≤ p.threshold) (sym (ap (λ c. c.bounds.max) same)) quiet.good,
     ))
 
--- ---- all links at all times
+-- ---- Sync that isn't late comes in time
 
--- a time is among its own and those of the events behind it
-first_time : (at : ℕ) (events : List Timed) → In at (times_from at events)
-first_time at [] = inl refl
-first_time at (t ∷ ts) = by (t.at == at) (first_time at ts)
-  where
-    by : (test : Bool) → In at (times_from at ts) → In at (cond test (times_from at ts) (at ∷ times_from t.at ts))
-    by true later = later
-    by false later = inl refl
+late_by : (p : Params) (paths : SyncPaths) (lapse slow : Bool) → may_lapse p ≡ lapse
+    → nat_le (lapse_span p) (sync_wait p paths) ≡ slow
+    → (cond (lapse && slow) (Some (sync_wait p paths)) None ≡ None) ↔ SyncsComeInTime p paths
+late_by p paths true true on slow =
+    let late : lapse_span p ≤ sync_wait p paths = grind (arith, nat_tests) in (
+      λ none. absurd cc,
+      λ in_time. elim in_time [
+        | inl off ↦ let no : true ≡ false = sym on ∙ ap not (eq-eqb p.sync_timeout 0 off) in absurd cc
+        | inr soon ↦ absurd (omega (arith, late, soon))
+      ],
+    )
+late_by p paths true false on soon = (λ none. inr (grind (arith, nat_tests)), λ in_time. refl)
+late_by p paths false slow off is =
+    (λ none. inl (eqb-true p.sync_timeout 0 (not-false (p.sync_timeout == 0) off)), λ in_time. refl)
+
+late_is : (p : Params) (paths : SyncPaths) → (late_of p paths ≡ None) ↔ SyncsComeInTime p paths
+late_is p paths =
+    late_by p paths (may_lapse p) (nat_le (lapse_span p) (sync_wait p paths)) refl refl
+
+pub in_time : (p : Params) (paths : SyncPaths) → late_of p paths ≡ None → SyncsComeInTime p paths
+in_time p paths = (late_is p paths).0
+
+pub not_late : (p : Params) (paths : SyncPaths) → SyncsComeInTime p paths → late_of p paths ≡ None
+not_late p paths = (late_is p paths).1
+
+-- ---- all links at all times
 
 none_told : {X : Type 0} (o : Option X) → option_to_list o ≡ [] → o ≡ None
 none_told None none = refl
@@ -140,10 +163,6 @@ module _ (d : DocumentState) (network : IsNetwork d.network) (order : AreInOrder
       rests_from params d.network.systems (events_by at d.events) w
       (not_long params (course_of d.events w) (none_told _ (none_of _ d.network.links long w member)) (f at) there)
       (not_lossy w.bounds.link (course_of d.events w) (none_of _ d.network.links lossy w member) (f at) there))
-
-  -- that nothing lapses is so at any time, and there is one
-  never_lapses_where_calm : IsAlwaysCalm d → NothingLapses params
-  never_lapses_where_calm calm = (calm 0 (first_time 0 d.events)).lapses
 
   -- how a link of the network stands at a time that is calm
   stands_quiet : IsAlwaysCalm d → (w : Wire) → In w d.network.links → (s : Standing) → In s (course_of d.events w)
@@ -166,8 +185,17 @@ module _ (d : DocumentState) (network : IsNetwork d.network) (order : AreInOrder
       no_lossy w.bounds.link 0 (course_of d.events w) (λ s stands. (stands_quiet calm w member s stands).1))
 
   pub quiet :
-      ((longs_of d d.network.links ≡ []) × (lossies_of d d.network.links ≡ []) × NothingLapses params) ↔ IsAlwaysCalm d
+      ((longs_of d d.network.links ≡ []) × (lossies_of d d.network.links ≡ [])
+      × ((at : ℕ) → In at (times_of d.events) → late_at d at ≡ None))
+      ↔ IsAlwaysCalm d
   quiet = (
-    λ none at time. record { links = all_rest_where_quiet none.0 none.1 at time; lapses = none.2 },
-    λ calm. (no_long_where_calm calm, no_lossy_where_calm calm, never_lapses_where_calm calm),
+    λ none at time. record {
+      links = all_rest_where_quiet none.0 none.1 at time;
+      lapses = in_time params (sync_paths d.network (events_by at d.events)) (none.2 at time);
+    },
+    λ calm. (
+      no_long_where_calm calm,
+      no_lossy_where_calm calm,
+      λ at time. not_late params (sync_paths d.network (events_by at d.events)) (calm at time).lapses,
+    ),
   )

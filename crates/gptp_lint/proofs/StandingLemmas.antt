@@ -1,7 +1,6 @@
 -- The tables of a network stand as its events leave its systems and links: an act meets the links at the system that it
 -- names, and no other.
-use Rattle.std.proofs.Common.{◌≡◌, ◌≢◌, ◌≤◌, ◌<◌, ◌+◌, ◌⊎◌, ℕ, zero, suc, Bool, true, false, ◌==◌, cond, List, [], ◌∷◌, ◌++◌, length, map, Some, None, slice_get, slice_set, append_assoc, refl, sym, ap, ap₂, subst, ◌∙◌, inl, inr, arith}
-use Rattle.std.specs.List.{flat_map}
+use Rattle.std.proofs.Common.{◌≡◌, ◌≢◌, ◌≤◌, ◌+◌, ◌⊎◌, ℕ, zero, suc, Bool, true, false, ◌==◌, cond, List, [], ◌∷◌, ◌++◌, length, map, Some, slice_get, slice_set, append_assoc, refl, sym, ap, ap₂, subst, ◌∙◌, inl, inr, arith}
 use Rattle.std.proofs.lemmas.Bool.{eqb-true, eqb-false, ne_eqb}
 use Rattle.std.proofs.lemmas.List.{length-map}
 use Rattle.std.proofs.lemmas.Option.{same_Some}
@@ -15,10 +14,9 @@ use Rattle.gptp_plan.specs.declared.change.Timed.{Timed}
 use Rattle.gptp_plan.specs.declared.network.Member.{Member}
 use Rattle.gptp_plan.specs.declared.network.Wire.{Wire}
 use Rattle.gptp_lint.specs.Course.{acted, cable_of, first, lives_acted, named, wire_of}
-use Rattle.gptp_lint.specs.Tables.{Acted, AreFirst, AreMarked, NodeState, acted_along, acted_at, cables_of, clocks_of, led, mark_of, neighbours_at, neighbours_of, node_acted, node_of, seen}
+use Rattle.gptp_lint.specs.Tables.{Acted, AreFirst, AreMarked, NodeState, acted_along, acted_at, cables_of, clocks_of, led, neighbours_at, neighbours_of, node_acted, seen}
 use Rattle.gptp_lint.specs.declared.course.Cable.{Cable}
 use Rattle.gptp_lint.specs.declared.course.Standing.{Standing}
-use Rattle.gptp_lint.specs.declared.nodes.Neighbour.{Neighbour}
 use Rattle.gptp_lint.specs.declared.nodes.Node.{Node}
 use Rattle.gptp_lint.specs.declared.tables.Tables.{Tables}
 use Rattle.gptp_lint.proofs.CourseLemmas.{after, cable_after, one_more, same_a, same_b}

@@ -1,5 +1,6 @@
 -- Lines behind one another are lines.
 use Rattle.std.proofs.Common.{◌≡◌, ◌==◌, ℕ, not, nat_lt, List, [], ◌∷◌, ◌++◌, Some, slice_get, get_or, take, ◌+◌, ◌<◌, length, map, append_assoc, sym, ap, ◌∙◌, arith}
+use Rattle.std.specs.List.{flat_map}
 use Rattle.std.proofs.lemmas.Bool.Decides.{nat_tests}
 use Rattle.std.proofs.lemmas.List.{append-nil, length-append, map-append}
 use Rattle.std.proofs.lemmas.List.Concat.{flat_map-append}
@@ -80,3 +81,20 @@ four_kinds t0 t1 t2 t3 t4 xs ys zs us first second third fourth =
     let two = joined t0 t1 t2 xs ys first second in
     let three = joined t0 t2 t3 (xs ++ ys) zs two third in
     joined t0 t3 t4 (xs ++ ys ++ zs) us three fourth
+
+-- a fifth behind them
+pub five_kinds : (t0 t1 t2 t3 t4 t5 : List ℕ) (xs ys zs us vs : List (List ℕ)) → t1 ≡ t0 ++ text_of xs
+    → t2 ≡ t1 ++ text_of ys → t3 ≡ t2 ++ text_of zs → t4 ≡ t3 ++ text_of us → t5 ≡ t4 ++ text_of vs
+    → t5 ≡ t0 ++ text_of (xs ++ ys ++ zs ++ us ++ vs)
+five_kinds t0 t1 t2 t3 t4 t5 xs ys zs us vs first second third fourth =
+    joined t0 t4 t5 (xs ++ ys ++ zs ++ us) vs (four_kinds t0 t1 t2 t3 t4 xs ys zs us first second third fourth)
+
+-- the lines of some, each of which may have several, and of one more
+pub several_more : {X : Type 0} (lines : X → List (List ℕ)) (xs : List X) (i : ℕ) (x : X) (old text new : List ℕ)
+    → slice_get xs i ≡ Some x → text ≡ old ++ text_of (flat_map lines (take i xs)) → new ≡ text ++ text_of (lines x)
+    → new ≡ old ++ text_of (flat_map lines (take (i + 1) xs))
+several_more lines xs i x old text new there so_far told =
+    joined old text new (flat_map lines (take i xs)) (lines x) so_far told
+    ∙ ap (λ ys. old ++ text_of ys)
+    (ap (λ ys. flat_map lines (take i xs) ++ ys) (sym (append-nil (lines x)))
+    ∙ sym (flat_map-append lines (take i xs) (x ∷ [])) ∙ ap (flat_map lines) (sym (taken xs i x there)))

@@ -1,7 +1,5 @@
 -- What a course tells of what is new at a link, the events that name a system at one of its ends tell too.
-use Rattle.std.proofs.Common.{◌≡◌, ◌≢◌, ◌≤◌, ◌<◌, ℕ, Bool, true, false, ◌==◌, ◌||◌, cond, List, [], ◌∷◌, ◌++◌, filter, Option, Some, None, refl, sym, ap, ap₂, subst, ◌∙◌, arith}
-use Rattle.std.specs.List.{AllByRecursion}
-use Rattle.std.specs.Option.{option_to_list}
+use Rattle.std.proofs.Common.{◌≡◌, ◌≤◌, ◌<◌, ℕ, Bool, true, false, ◌==◌, cond, List, [], ◌∷◌, ◌++◌, Some, refl, sym, ap, ap₂, ◌∙◌, arith}
 use Rattle.std.proofs.lemmas.Bool.{eqb-true, eqb-false, eq-eqb, ne_eqb, or_parts}
 use Rattle.gptp_setup.specs.declared.setup.Params.{Params}
 use Rattle.gptp_vector.specs.declared.port.PortId.{PortId}
@@ -9,13 +7,12 @@ use Rattle.gptp_plan.specs.declared.change.Timed.{Timed}
 use Rattle.gptp_plan.specs.declared.network.Wire.{Wire}
 use Rattle.gptp_network.specs.Document.{DocumentState}
 use Rattle.gptp_network.specs.Events.{AreInOrder}
+use Rattle.gptp_plan.proofs.AfterLemmas.{acted_keeps}
 use Rattle.gptp_lint.specs.Course.{acted, at_time, cable_of, course_from, course_of, first, is_end, named, naming, past, wire_of}
-use Rattle.gptp_lint.specs.Trouble.{ended, is_long, long_at, long_of, longs_of, loss_in_use, lossies_of, stretches}
+use Rattle.gptp_lint.specs.Trouble.{ended, is_long, long_at, long_of, loss_in_use, stretches}
 use Rattle.gptp_lint.specs.declared.course.Cable.{Cable}
 use Rattle.gptp_lint.specs.declared.course.Standing.{Standing}
-use Rattle.gptp_lint.specs.declared.trouble.Long.{Long}
-use Rattle.gptp_lint.specs.declared.trouble.Lossy.{Lossy}
-use Rattle.gptp_lint.proofs.CourseLemmas.{acted_keeps, all_from_0, behind, not_before, order_behind}
+use Rattle.gptp_lint.proofs.CourseLemmas.{all_from_0, behind, not_before, order_behind}
 use Rattle.gptp_lint.proofs.NamedLemmas.{untouched}
 
 -- the link's ends are at these systems

@@ -1,28 +1,46 @@
 -- What is found in a document (profile).
-use Rattle.std.specs.Prelude.{◌≡◌, ◌↔◌, ℕ, List, [], map}
+use Rattle.std.specs.Prelude.{◌≡◌, ◌↔◌, ℕ, List, [], map, Option, None}
 use Rattle.std.specs.List.{AllByRecursion}
 use Rattle.gptp_lists.specs.Members.{In}
-use Rattle.gptp_plan.specs.Calm.{NothingLapses}
+use Rattle.gptp_setup.specs.Pace.{lapse_span}
+use Rattle.gptp_plan.specs.SyncWait.{sync_paths}
 use Rattle.gptp_network.specs.Document.{DocumentState}
+use Rattle.gptp_network.specs.Snapshot.{events_by}
 use Rattle.gptp_network.specs.Span.{IsBound, IsCalmAt}
+use Rattle.gptp_lint.specs.Tables.{late_of}
 use Rattle.gptp_lint.specs.Times.{times_of}
 use Rattle.gptp_lint.specs.Trouble.{longs_of, lossies_of}
 use Rattle.gptp_lint.specs.declared.findings.CalmTime.{CalmTime}
 use Rattle.gptp_lint.specs.declared.findings.Findings.{Findings}
 
--- each time of a document, with its bound
+-- for how long at most a settled system waits for Sync after the events up to a time, where that isn't below the
+-- timeout
+abbrev pub late_at : DocumentState → ℕ → Option ℕ
+late_at d at = late_of d.network.params (sync_paths d.network (events_by at d.events))
+
+-- a time of a document, with its bound and that wait
+pub record IsTime (d : DocumentState) (t : CalmTime) : Type 0 where
+  pub bound : IsBound d t.at t.bound
+  pub needs : t.needs ≡ late_at d t.at
+
+-- each time of a document
 pub record AreCalmTimes (d : DocumentState) (times : List CalmTime) : Type 0 where
   pub times_are : map (λ (t : CalmTime). t.at) times ≡ times_of d.events
-  pub bounds : AllByRecursion (λ (t : CalmTime). IsBound d t.at t.bound) times
+  pub each : AllByRecursion (IsTime d) times
+
+-- at none of these times Sync is late
+abbrev pub NoneIsLate : List CalmTime → Type 0
+NoneIsLate = AllByRecursion (λ (t : CalmTime). t.needs ≡ None)
 
 -- each time of a document is calm
 abbrev pub IsAlwaysCalm : DocumentState → Type 0
 IsAlwaysCalm d = (at : ℕ) → In at (times_of d.events) → IsCalmAt d at
 
--- Links in use that are too long or lose frames, and the times, as they are defined. There is no such link, and nothing
--- lapses, exactly where each time is calm.
+-- Links in use that are too long or lose frames, the times, and how long what the Slave port holds stays without Sync,
+-- as they are defined. There is no such link, and Sync is never late, exactly where each time is calm.
 pub record AreFound (d : DocumentState) (f : Findings) : Type 0 where
   pub long : f.long.items ≡ longs_of d d.network.links
   pub lossy : f.lossy.items ≡ lossies_of d d.network.links
   pub calm : AreCalmTimes d f.calm.items
-  pub quiet : ((f.long.items ≡ []) × (f.lossy.items ≡ []) × NothingLapses d.network.params) ↔ IsAlwaysCalm d
+  pub limit : f.limit ≡ lapse_span d.network.params
+  pub quiet : ((f.long.items ≡ []) × (f.lossy.items ≡ []) × NoneIsLate f.calm.items) ↔ IsAlwaysCalm d

@@ -1,6 +1,8 @@
 -- What `lint` writes for a document (profile).
-use Rattle.std.specs.Prelude.{◌≡◌, ◌==◌, ℕ, not, Bool, codes, List, ◌++◌, length, map, Option, Some, None}
+use Rattle.std.specs.Prelude.{◌≡◌, ◌==◌, ℕ, not, Bool, codes, List, ◌++◌, length, map, Option, Some, None, option_map}
 use Rattle.std.specs.Fmt.{decimal}
+use Rattle.std.specs.List.{flat_map}
+use Rattle.std.specs.Option.{option_to_list}
 use Rattle.gptp_network.specs.Faults as documents
 use Rattle.gptp_network.specs.declared.fault.DocumentFault.{DocumentFault}
 use Rattle.gptp_spelling.specs.Digits.{clock_text, identity_text, or_none}
@@ -28,6 +30,14 @@ abbrev pub lossy_line : Option ℕ → Lossy → List ℕ
 lossy_line line l =
     codes "lossy link " ++ decimal l.link ++ line_words line ++ codes " loss " ++ decimal l.loss ++ codes " from "
     ++ decimal l.from ++ codes " to " ++ or_none decimal l.to
+
+-- that of a time at which Sync is late, and the lines of a time
+abbrev pub late_line : ℕ → ℕ → ℕ → List ℕ
+late_line limit at needs =
+    codes "late " ++ decimal at ++ codes " needs " ++ decimal needs ++ codes " limit " ++ decimal limit
+
+abbrev pub late_lines : ℕ → CalmTime → List (List ℕ)
+late_lines limit t = option_to_list (option_map (late_line limit t.at) t.needs)
 
 -- that of a time
 abbrev pub calm_words : Option ℕ → List ℕ
@@ -59,15 +69,17 @@ other_lines f =
     map unlinked_line f.unlinked.items ++ map apart_line f.components.apart.items
     ++ map chance_line f.components.chance.items ++ map nobody_line f.components.nobody.items
 
--- all lines but those of the times
+-- all lines but those that tell of each time whether it is calm
 abbrev pub found_lines : ℕ → Findings → List UnreadKey → (ℕ → Option ℕ) → List (List ℕ)
 found_lines threshold f unread header =
     map unread_line unread ++ map (λ (l : Long). long_line threshold (header l.link) l) f.long.items
-    ++ map (λ (l : Lossy). lossy_line (header l.link) l) f.lossy.items ++ other_lines f
+    ++ map (λ (l : Lossy). lossy_line (header l.link) l) f.lossy.items
+    ++ flat_map (late_lines f.limit) f.calm.items ++ other_lines f
 
 -- The findings of a document of this threshold: the keys that aren't read, the links that are too long or lose frames,
--- each with the line of its header, the other findings, and the times; and whether there is a line but those of the
--- times. There is no other line: which keys aren't read, and the lines of headers, are left open here.
+-- each with the line of its header, the times at which Sync is late, the other findings, and each time; and whether
+-- there is a line but the last. There is no other line: which keys aren't read, and the lines of headers, are left open
+-- here.
 pub record AreLines (threshold : ℕ) (f : Findings) (lines : List (List ℕ)) (found : Bool) : Type 0 where
   pub unread : List UnreadKey
   pub header : ℕ → Option ℕ

@@ -1,12 +1,16 @@
 -- How the systems and the links of a document stand, by place, and what bounds its settling then (profile).
-use Rattle.std.specs.Prelude.{◌≡◌, ℕ, zero, suc, ◌+◌, ◌==◌, ◌&&◌, ◌||◌, min, not, Bool, true, false, if◌then◌else◌, List, [], ◌∷◌, ◌++◌, map, Option, Some, None, slice_get}
+use Rattle.std.specs.Prelude.{◌≡◌, ℕ, zero, suc, ◌+◌, ◌==◌, ◌&&◌, ◌||◌, max, min, nat_le, not, Bool, true, false, if◌then◌else◌, List, [], ◌∷◌, ◌++◌, map, Option, Some, None, slice_get}
 use Rattle.std.specs.List.{count_by, flat_map, list_any}
+use Rattle.std.specs.Option.{is_some}
 use Rattle.gptp_roles.specs.Selection.{clock_of}
+use Rattle.gptp_setup.specs.Pace.{lapse_span}
 use Rattle.gptp_setup.specs.declared.setup.Params.{Params}
 use Rattle.gptp_plan.specs.Network.{NetworkState, pace_of}
-use Rattle.gptp_plan.specs.SettlingTime.{settling_span}
+use Rattle.gptp_plan.specs.SettlingTime.{settling_span_with}
+use Rattle.gptp_plan.specs.SyncWait.{sync_wait}
 use Rattle.gptp_plan.specs.declared.change.Act.{Act}
 use Rattle.gptp_plan.specs.declared.network.Member.{Member}
+use Rattle.gptp_plan.specs.declared.sync_wait.SyncPaths.{SyncPaths}
 use Rattle.gptp_lint.specs.Course.{acted, cable_of, first, is_used, lives_acted, named}
 use Rattle.gptp_lint.specs.Trouble.{is_long, loss_in_use}
 use Rattle.gptp_lint.specs.declared.course.Cable.{Cable}
@@ -65,9 +69,22 @@ abbrev pub acted_along : Act → List Neighbour → List Standing → List Stand
 acted_along act [] ss = ss
 acted_along act (o ∷ os) ss = acted_along act os (acted_at act o.link ss)
 
--- whether a link is in use, and then isn't good or loses frames
+-- the greatest delay of a link in use, or 0
+abbrev pub delay_in_use : Standing → ℕ
+delay_in_use s = if is_used s then s.cable.bounds.max else 0
+
+-- whether a link is in use, and then isn't good or loses frames, and its greatest delay
 abbrev pub mark_of : Params → Standing → Mark
-mark_of p s = record { used = is_used s; troubled = is_long p s || not (loss_in_use s == 0) }
+mark_of p s = record {
+  used = is_used s;
+  troubled = is_long p s || not (loss_in_use s == 0);
+  delay = delay_in_use s;
+}
+
+-- the greatest of these delays
+abbrev pub greatest_used : List Mark → ℕ
+greatest_used [] = 0
+greatest_used (m ∷ ms) = max m.delay (greatest_used ms)
 
 abbrev pub is_marked : Option Mark → Bool
 is_marked None = false
@@ -104,15 +121,35 @@ path_bound marks os = min (count_by (lives_between marks) os + 2) (count_by (λ 
 abbrev pub may_lapse : Params → Bool
 may_lapse p = not (p.sync_timeout == 0)
 
--- the span, where nothing may lapse and no link in use is too long or loses frames
-abbrev pub bound_of : NetworkState → List Mark → List Node → Option ℕ
-bound_of n marks os =
-    if may_lapse n.params || list_any (λ (m : Mark). m.troubled) marks then None
-    else Some (settling_span (pace_of n) (path_bound marks os))
+-- what Sync has to cross; where nothing may lapse for want of it delays don't count
+abbrev pub delay_of : Params → List Mark → ℕ
+delay_of p marks = if may_lapse p then greatest_used marks else 0
 
--- what is told of a time where the next is another
-abbrev pub told : ℕ → ℕ → Option ℕ → List CalmTime → List CalmTime
-told next at bound times = if next == at then times else times ++ record { at = at; bound = bound } ∷ []
+abbrev pub paths_of : Params → List Mark → List Node → SyncPaths
+paths_of p marks os = record { systems = path_bound marks os; delay = delay_of p marks }
+
+-- for how long at most a settled system waits for Sync, where that isn't below the timeout
+abbrev pub late_of : Params → SyncPaths → Option ℕ
+late_of p paths =
+    if may_lapse p && nat_le (lapse_span p) (sync_wait p paths) then Some (sync_wait p paths) else None
+
+-- the span, where Sync isn't late and no link in use is too long or loses frames
+abbrev pub bound_of : NetworkState → SyncPaths → List Mark → Option ℕ
+bound_of n paths marks =
+    if is_some (late_of n.params paths) || list_any (λ (m : Mark). m.troubled) marks then None
+    else Some (settling_span_with (pace_of n) paths paths.systems)
+
+-- what is told of a time
+abbrev pub time_of : NetworkState → List Mark → List Node → ℕ → CalmTime
+time_of n marks os at = record {
+  at = at;
+  bound = bound_of n (paths_of n.params marks os) marks;
+  needs = late_of n.params (paths_of n.params marks os);
+}
+
+-- it is told where the next time is another
+abbrev pub told : ℕ → CalmTime → List CalmTime → List CalmTime
+told next time times = if next == time.at then times else times ++ time ∷ []
 
 -- what is kept of the links agrees with how they stand
 abbrev pub AreMarked : Tables → Type 0

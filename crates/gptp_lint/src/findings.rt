@@ -4,23 +4,28 @@ ghost use Rattle.std.specs.Prelude.{◌≡◌, ◌++◌, ◌∷◌, ◌≤◌, [
 ghost use Rattle.std.specs.Option.{option_to_list};
 ghost use Rattle.gptp_lint.specs.Course.{names_of, wire_of};
 ghost use Rattle.gptp_lint.specs.Findings.{AreCalmTimes, AreFound};
-ghost use Rattle.gptp_lint.specs.Tables.{bound_of, cables_of, told};
+ghost use Rattle.gptp_lint.specs.Tables.{cables_of, greatest_used, time_of, told};
 ghost use Rattle.gptp_lint.specs.Trouble.{longs_of, lossies_of};
 
 use crate::components::{Components, components_of};
 use crate::course::{Cable, cables_of, course_of, names_of};
-use crate::tables::Tables;
+use crate::tables::{Tables, late_of};
 use crate::trouble::{Long, Lossy, long_of, push_stretches};
 use gptp_network::Document;
 use gptp_plan::Network;
+use gptp_setup::lapse_span;
 use gptp_vector::ClockId;
 use std::alloc::{AllocError, Global};
 
-/// A time of a document, in ns, and how long its network then takes at most to settle, in ns; none where it isn't calm.
+/// A time of a document.
 #[derive(Clone, Copy)]
 pub struct CalmTime {
+    /// In ns.
     pub at: u64,
+    /// How long the network then takes at most to settle, in ns; none where it isn't calm.
     pub bound: Option<u64>,
+    /// For how long at most a settled system then waits for Sync, in ns, where that isn't below `sync_timeout`.
+    pub needs: Option<u64>,
 }
 
 /// What a planner may have overlooked in a document.
@@ -35,9 +40,25 @@ pub struct Findings {
     pub(crate) components: Components,
     /// Each time of the document.
     pub calm: Vec<CalmTime>,
+    /// How long what the Slave port holds stays without Sync, in ns: `sync_timeout` sync intervals.
+    pub limit: u64,
 }
 
-/// Puts a time with its bound behind others, where the next is another.
+/// A time, as the tables stand then.
+fn time_of(tables: &Tables, network: &Network, at: u64) -> CalmTime
+    requires few { length tables.now.nodes.items ≤ 512 }
+    requires short { greatest_used tables.now.marks.items ≤ 16000000000 }
+    ensures { result ≡ time_of network.now tables.now.marks.items tables.now.nodes.items at }
+{
+    let paths = tables.paths(&network.params());
+    CalmTime {
+        at,
+        bound: tables.bound(network, paths),
+        needs: late_of(network, paths),
+    }
+}
+
+/// Puts a time behind others, where the next is another.
 fn tell(
     calm: &mut Vec<CalmTime>,
     tables: &Tables,
@@ -45,20 +66,18 @@ fn tell(
     at: u64,
     next: u64,
 ) -> Result<(), AllocError>
-    requires { length tables.now.nodes.items ≤ 512 }
+    requires few { length tables.now.nodes.items ≤ 512 }
+    requires short { greatest_used tables.now.marks.items ≤ 16000000000 }
     ensures { OnOk result (calm.new.items
-        ≡ told next at (bound_of network.now tables.now.marks.items tables.now.nodes.items) calm.old.items) }
+        ≡ told next (time_of network.now tables.now.marks.items tables.now.nodes.items at) calm.old.items) }
 {
     if next != at {
-        calm.push(CalmTime {
-            at,
-            bound: tables.bound(network),
-        })?;
+        calm.push(time_of(tables, network, at))?;
     }
     Ok(())
 }
 
-/// Each time, with its bound, of a document whose links are these.
+/// Each time of a document whose links are these.
 fn calm_times(
     alloc: Global,
     document: &Document,
@@ -79,10 +98,7 @@ fn calm_times(
         at = event.at;
         tables.act(&event.act);
     }
-    calm.push(CalmTime {
-        at,
-        bound: tables.bound(network),
-    })?;
+    calm.push(time_of(&tables, network, at))?;
     Ok(calm)
 }
 
@@ -150,8 +166,8 @@ fn push_troubles(
 }
 
 /// What a planner may have overlooked in a document: its links in use that are too long or lose frames, systems that no
-/// link names, components, and each time with its bound. There is no such link, and nothing lapses for want of Sync,
-/// exactly where each time is calm. Refused for want of memory alone.
+/// link names, components, and each time. There is no such link, and Sync is never late, exactly where each time is
+/// calm. Refused for want of memory alone.
 pub fn find(alloc: Global, document: &Document) -> Result<Findings, AllocError>
     ensures { IfOk result (AreFound document.now) }
 {
@@ -173,5 +189,6 @@ pub fn find(alloc: Global, document: &Document) -> Result<Findings, AllocError>
         unlinked,
         components,
         calm,
+        limit: lapse_span(&document.network().params()),
     })
 }

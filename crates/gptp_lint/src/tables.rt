@@ -4,20 +4,22 @@ ghost use Rattle.std.specs.Prelude.{◌≡◌, ◌≤◌, ◌+◌, map, length, 
 ghost use Rattle.std.specs.List.{count_by, list_any};
 ghost use Rattle.gptp_plan.specs.Network.{NetworkState};
 ghost use Rattle.gptp_lint.specs.Course.{first, wire_of};
-ghost use Rattle.gptp_lint.specs.Tables.{Acted, AreFirst, AreMarked, acted_along, acted_at, bound_of, cables_of, first_used, leads_elsewhere, leads_to_two, lives_between, mark_of, may_lapse, path_bound, used_at};
+ghost use Rattle.gptp_lint.specs.Tables.{Acted, AreFirst, AreMarked, acted_along, acted_at, bound_of, cables_of, delay_in_use, delay_of, first_used, greatest_used, late_of, leads_elsewhere, leads_to_two, lives_between, mark_of, may_lapse, path_bound, paths_of, used_at};
 
 use crate::course::{Cable, Standing, act, first, is_used, named};
 use crate::nodes::{Neighbour, Node, act_on_nodes, live_nodes, neighbours_at, nodes_of};
 use crate::trouble::{is_long, loss_in_use};
-use gptp_plan::{Act, Network, Params};
+use gptp_plan::{Act, Network, Params, SyncPaths};
+use gptp_setup::lapse_span;
 use gptp_vector::ClockId;
 use std::alloc::{AllocError, Global};
 
-/// Whether a link is in use, and whether it then isn't good or loses frames.
+/// Whether a link is in use, whether it then isn't good or loses frames, and its greatest delay then, in ns.
 #[derive(Clone, Copy)]
 pub(crate) struct Mark {
     pub used: bool,
     pub troubled: bool,
+    pub delay: u64,
 }
 
 /// How the systems and the links of a network stand, by place.
@@ -30,6 +32,17 @@ pub(crate) struct Tables {
     pub marks: Vec<Mark>,
 }
 
+/// The greatest delay of a link in use, in ns, or 0.
+fn delay_in_use(standing: &Standing) -> u64
+    ensures { result ≡ delay_in_use standing.now }
+{
+    if is_used(standing) {
+        standing.cable.bounds.max
+    } else {
+        0
+    }
+}
+
 /// What is asked of a link at each time.
 fn mark_of(params: &Params, standing: &Standing) -> Mark
     ensures { result ≡ mark_of params.now standing.now }
@@ -37,6 +50,7 @@ fn mark_of(params: &Params, standing: &Standing) -> Mark
     Mark {
         used: is_used(standing),
         troubled: is_long(params, standing) || loss_in_use(standing) != 0,
+        delay: delay_in_use(standing),
     }
 }
 
@@ -129,6 +143,29 @@ fn path_bound(marks: &[Mark], nodes: &[Node]) -> usize
     (live_between(marks, nodes) + 2).min(live_nodes(nodes))
 }
 
+/// The greatest delay of the links in use, in ns, or 0.
+#[tactic(auto, using(crate::proofs::BoundLemmas::delay_moves))]
+fn greatest_used(marks: &[Mark]) -> u64
+    ensures { result ≡ greatest_used marks.now }
+{
+    let mut greatest = 0;
+    for mark in marks {
+        greatest = mark.delay.max(greatest);
+    }
+    greatest
+}
+
+/// What counts of it: nothing where nothing may lapse for want of Sync.
+fn delay_of(params: &Params, marks: &[Mark]) -> u64
+    ensures { result ≡ delay_of params.now marks.now }
+{
+    if may_lapse(params) {
+        greatest_used(marks)
+    } else {
+        0
+    }
+}
+
 /// Whether some link in use isn't good, or loses frames.
 fn is_troubled(marks: &[Mark]) -> bool
     ensures { result ≡ list_any (λ (m : Mark). m.troubled) marks.now }
@@ -141,6 +178,23 @@ fn may_lapse(params: &Params) -> bool
     ensures { result ≡ may_lapse params.now }
 {
     params.sync_timeout != 0
+}
+
+/// For how long at most a settled system waits for Sync, in ns, where it has these paths to cross and that isn't below
+/// the timeout.
+pub(crate) fn late_of(network: &Network, paths: SyncPaths) -> Option<u64>
+    requires few { paths.systems ≤ 512 }
+    requires short { paths.delay ≤ 16000000000 }
+    ensures { result ≡ late_of network.now.params paths }
+{
+    network.well_formed();
+    let params = network.params();
+    let needs = network.sync_wait(paths);
+    if may_lapse(&params) && lapse_span(&params) <= needs {
+        Some(needs)
+    } else {
+        None
+    }
 }
 
 /// Does to the link at a place what an act does.
@@ -217,16 +271,29 @@ impl Tables {
         act_on_nodes(self.nodes.as_mut_slice(), done);
     }
 
-    /// How long the network takes at most to settle, in ns, where nothing may lapse for want of Sync and no link in use
-    /// is too long or loses frames.
-    pub(crate) fn bound(&self, network: &Network) -> Option<u64>
+    /// What Sync has to cross; where nothing may lapse for want of it delays don't count.
+    pub(crate) fn paths(&self, params: &Params) -> SyncPaths
         requires { length self.now.nodes.items ≤ 512 }
-        ensures { result ≡ bound_of network.now self.now.marks.items self.now.nodes.items }
+        ensures is { result ≡ paths_of params.now self.now.marks.items self.now.nodes.items }
+        ensures few { result.systems ≤ 512 }
     {
-        if may_lapse(&network.params()) || is_troubled(&self.marks) {
+        SyncPaths {
+            systems: path_bound(&self.marks, &self.nodes),
+            delay: delay_of(params, &self.marks),
+        }
+    }
+
+    /// How long the network takes at most to settle where Sync has these paths to cross, in ns, where it isn't late and
+    /// no link in use is too long or loses frames.
+    pub(crate) fn bound(&self, network: &Network, paths: SyncPaths) -> Option<u64>
+        requires few { paths.systems ≤ 512 }
+        requires short { paths.delay ≤ 16000000000 }
+        ensures { result ≡ bound_of network.now paths self.now.marks.items }
+    {
+        if late_of(network, paths).is_some() || is_troubled(&self.marks) {
             None
         } else {
-            Some(network.settling_span_over(path_bound(&self.marks, &self.nodes)))
+            Some(network.settling_span_with(paths))
         }
     }
 }

@@ -1,8 +1,9 @@
 //! Findings as text.
 
 ghost use Rattle.std.specs.Prelude.{◌≡◌, ◌++◌, ◌∷◌, ◌↔◌, [], Bool, List, ℕ, IfOk, IsTrue, OnOk, map, slice_get, string_bytes};
+ghost use Rattle.std.specs.List.{flat_map};
 ghost use Rattle.gptp_spelling.specs.Lines.{text_of};
-ghost use Rattle.gptp_lint.specs.LintText.{AppendsFindings, apart_line, calm_line, chance_line, long_line, lossy_line, nobody_line, other_lines, unlinked_line};
+ghost use Rattle.gptp_lint.specs.LintText.{AppendsFindings, apart_line, calm_line, chance_line, late_line, late_lines, long_line, lossy_line, nobody_line, other_lines, unlinked_line};
 ghost use Rattle.gptp_lint.specs.Unread.{AppendsUnread};
 
 use crate::components::{Apart, Nobody};
@@ -106,6 +107,34 @@ fn write_stretches(
 {
     for lossy in stretches {
         write_stretch(text, outline, lossy)?;
+    }
+    Ok(())
+}
+
+/// Appends the line of a time at which Sync is late.
+fn write_late_line(text: &mut String, limit: u64, at: u64, needs: u64) -> Result<(), AllocError>
+    ensures { OnOk result (string_bytes text.new ≡ string_bytes text.old ++ (late_line limit at needs ++ 10 ∷ [])) }
+{
+    writeln!(text, "late {at} needs {needs} limit {limit}")
+}
+
+/// Appends the line of a time, where Sync is late then.
+fn write_late(text: &mut String, limit: u64, time: &CalmTime) -> Result<(), AllocError>
+    ensures { OnOk result (string_bytes text.new ≡ string_bytes text.old ++ text_of (late_lines limit time.now)) }
+{
+    match time.needs {
+        Some(needs) => write_late_line(text, limit, time.at, needs),
+        None => Ok(()),
+    }
+}
+
+/// Appends the lines of times at which Sync is late.
+fn write_lates(text: &mut String, limit: u64, times: &[CalmTime]) -> Result<(), AllocError>
+    ensures { OnOk result (string_bytes text.new ≡ string_bytes text.old
+        ++ text_of (flat_map (late_lines limit) times.now)) }
+{
+    for time in times {
+        write_late(text, limit, time)?;
     }
     Ok(())
 }
@@ -251,6 +280,7 @@ pub fn write_findings(
     write_unread(alloc, text, input, &outline)?;
     write_longs(text, threshold, &outline, &findings.long)?;
     write_stretches(text, &outline, &findings.lossy)?;
+    write_lates(text, findings.limit, &findings.calm)?;
     write_others(text, findings)?;
     let found = before < text.as_bytes().len();
     write_calm_times(text, &findings.calm)?;

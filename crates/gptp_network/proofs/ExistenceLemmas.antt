@@ -1,5 +1,5 @@
 -- What stands after events is the snapshot of some graph: systems of different clocks have a rising order.
-use Rattle.std.proofs.Common.{◌≡◌, ◌<◌, ◌⊎◌, ℕ, List, [], ◌∷◌, ◌++◌, map, refl, sym, ap, subst, ◌∙◌, inl, inr, arith}
+use Rattle.std.proofs.Common.{◌≡◌, ◌<◌, ℕ, List, [], ◌∷◌, map, refl, inl, inr, arith}
 use native.Mathlib.Decide.{dec_lt}
 use Rattle.std.specs.List.Sorted.{IsPermutation}
 use Rattle.std.proofs.lemmas.List.Sorted.{IsPermutation-cons, IsPermutation-map, IsPermutation-middle, IsPermutation-refl, IsPermutation-sym, IsPermutation-trans}
@@ -85,7 +85,7 @@ has_order (s ∷ systems) different = one_more (has_order systems different.1)
         }
 
 -- so a network has a snapshot after any events
-stands_after : (n : NetworkState) (events : List Timed) → IsNetwork n → (g : Snapshot) × StandsAfter n events g
+pub stands_after : (n : NetworkState) (events : List Timed) → IsNetwork n → (g : Snapshot) × StandsAfter n events g
 stands_after n events network =
     let order = has_order (live_systems n.systems events) (live_once n.systems events network.clocks) in (
       record { systems = order.ordered; links = used_links n.links events order.ordered },

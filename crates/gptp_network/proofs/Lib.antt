@@ -8,4 +8,6 @@ pub mod TakingLemmas
 pub mod ExistenceLemmas
 pub mod PathBoundLemmas
 pub mod LawLemmas
+pub mod PassLemmas
+pub mod InUseLemmas
 pub mod SpanLemmas

@@ -4,7 +4,8 @@ use Rattle.gptp_graph.specs.PathBound.{path_bound}
 use Rattle.gptp_graph.specs.Snapshot.{Snapshot}
 use Rattle.gptp_plan.specs.Calm.{IsCalm}
 use Rattle.gptp_plan.specs.Network.{pace_of}
-use Rattle.gptp_plan.specs.SettlingTime.{settling_span}
+use Rattle.gptp_plan.specs.SettlingTime.{settling_span_with}
+use Rattle.gptp_plan.specs.SyncWait.{sync_paths}
 use Rattle.gptp_network.specs.Document.{DocumentState}
 use Rattle.gptp_network.specs.Snapshot.{IsSnapshot, events_by}
 
@@ -12,11 +13,13 @@ use Rattle.gptp_network.specs.Snapshot.{IsSnapshot, events_by}
 abbrev pub IsCalmAt : DocumentState → ℕ → Type 0
 IsCalmAt d at = IsCalm d.network (events_by at d.events)
 
--- The span at a time: that of as many systems as a path has at most after the events up to then.
+-- The span at a time: that of as many systems as a path has at most after the events up to then, and of what Sync then
+-- has to cross.
 pub record IsSpan (d : DocumentState) (at span : ℕ) : Type 0 where
   pub snapshot : Snapshot
   pub stands : IsSnapshot d at snapshot
-  pub is : span ≡ settling_span (pace_of d.network) (path_bound snapshot)
+  pub is : span
+      ≡ settling_span_with (pace_of d.network) (sync_paths d.network (events_by at d.events)) (path_bound snapshot)
 
 -- the bound at a time: that span where it is calm then
 abbrev pub IsBound : DocumentState → ℕ → Option ℕ → Type 0

@@ -90,8 +90,8 @@ impl Document {
     }
 
     /// Whether the network is calm after all events: each link that then is up between two live systems loses nothing,
-    /// and its greatest delay is short enough for the threshold; and nothing lapses for want of Sync, since
-    /// `sync_timeout` is 0.
+    /// and its greatest delay is short enough for the threshold; and nothing lapses for want of Sync: `sync_timeout` is
+    /// 0, or a settled system waits for Sync for less than so many sync intervals.
     pub fn calm(&self) -> bool
         ensures { IsTrue result ↔ IsCalm self.now.network self.now.events }
     {
@@ -104,6 +104,7 @@ impl Document {
         ensures time { result ≡ settles self.now.network self.now.events }
         ensures bound { result ≤ 1000000000000000 }
     {
+        self.well_formed();
         last_change(&self.events) + self.network.settling_span(&self.events)
     }
 

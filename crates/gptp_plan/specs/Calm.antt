@@ -1,14 +1,17 @@
 -- When a network comes to rest after its last change (profile).
-use Rattle.std.specs.Prelude.{◌≡◌, ℕ, true, List, [], ◌∷◌, Some, slice_get}
+use Rattle.std.specs.Prelude.{◌≡◌, ◌⊎◌, ◌<◌, ℕ, true, List, [], ◌∷◌, Some, slice_get}
 use Rattle.std.specs.List.{All}
 use Rattle.gptp_roles.specs.Selection.{clock_of}
 use Rattle.gptp_pdelay.specs.GoodLink.{IsGoodLink}
 use Rattle.gptp_setup.specs.declared.setup.Params.{Params}
+use Rattle.gptp_setup.specs.Pace.{lapse_span}
 use Rattle.gptp_plan.specs.Change.{system_after, link_after}
 use Rattle.gptp_plan.specs.Network.{NetworkState}
+use Rattle.gptp_plan.specs.SyncWait.{sync_paths, sync_wait}
 use Rattle.gptp_plan.specs.declared.change.Timed.{Timed}
 use Rattle.gptp_plan.specs.declared.network.Member.{Member}
 use Rattle.gptp_plan.specs.declared.network.Wire.{Wire}
+use Rattle.gptp_plan.specs.declared.sync_wait.SyncPaths.{SyncPaths}
 
 -- the time of the last of these, or 0
 abbrev pub last_change : List Timed → ℕ
@@ -48,8 +51,12 @@ AllRest p systems links events = All (Rests p systems events) links
 abbrev pub NothingLapses : Params → Type 0
 NothingLapses p = p.sync_timeout ≡ 0
 
--- A network is calm after these events where each link that then is up between two live systems is quiet, and nothing
--- lapses for want of Sync.
+-- nothing lapses in a network that has settled: the timeout is off, or each Sync comes before it
+abbrev pub SyncsComeInTime : Params → SyncPaths → Type 0
+SyncsComeInTime p paths = NothingLapses p ⊎ (sync_wait p paths < lapse_span p)
+
+-- A network is calm after these events where each link that then is up between two live systems is quiet, and Syncs
+-- come before anything lapses for want of them.
 pub record IsCalm (n : NetworkState) (events : List Timed) : Type 0 where
   pub links : AllRest n.params n.systems n.links events
-  pub lapses : NothingLapses n.params
+  pub lapses : SyncsComeInTime n.params (sync_paths n events)

@@ -1,16 +1,12 @@
 -- By when a calm network has settled after its last change (profile).
 use Rattle.std.specs.Prelude.{ℕ, ◌+◌, ◌*◌, List}
-use Rattle.std.specs.List.{count_by}
 use Rattle.gptp_setup.specs.Pace.{largest_interval, Pace}
 use Rattle.gptp_plan.specs.Calm.{last_change}
-use Rattle.gptp_plan.specs.Change.{system_after}
+use Rattle.gptp_plan.specs.InUse.{live_systems}
 use Rattle.gptp_plan.specs.Network.{NetworkState, pace_of}
+use Rattle.gptp_plan.specs.SyncWait.{step_more, sync_paths}
 use Rattle.gptp_plan.specs.declared.change.Timed.{Timed}
-use Rattle.gptp_plan.specs.declared.network.Member.{Member}
-
--- how many systems live after the events
-abbrev pub live_systems : List Member → List Timed → ℕ
-live_systems systems events = count_by (λ m. (system_after events m).live) systems
+use Rattle.gptp_plan.specs.declared.sync_wait.SyncPaths.{SyncPaths}
 
 -- Links become capable, or not, after the requests that may be lost and five more. Intervals count as the largest
 -- announce interval of any port.
@@ -18,10 +14,16 @@ abbrev pub capability_span : Pace → ℕ
 capability_span p = (p.params.lost + 5) * largest_interval p
 
 -- With n live systems: what isn't of a live system ages within k + 1 announce intervals for each of them, what is left
--- settles within two more for each, and links become capable in the rest.
+-- settles within two more for each, and links become capable in the rest. So it is where nothing lapses.
 abbrev pub settling_span : Pace → ℕ → ℕ
 settling_span p n = ((p.params.timeout + 3) * n + p.params.lost + 5) * largest_interval p
 
+-- So it is with n systems where Sync has such paths to cross.
+abbrev pub settling_span_with : Pace → SyncPaths → ℕ → ℕ
+settling_span_with p paths n = settling_span p n + n * step_more p paths
+
 -- the time from which on the network has settled
 abbrev pub settles : NetworkState → List Timed → ℕ
-settles n events = last_change events + settling_span (pace_of n) (live_systems n.systems events)
+settles n events =
+    last_change events
+    + settling_span_with (pace_of n) (sync_paths n events) (live_systems n.systems events)

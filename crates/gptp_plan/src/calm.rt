@@ -1,16 +1,17 @@
-//! Whether a network is calm after changes, and by when it has settled.
+//! Whether a network is calm after changes.
 
 ghost use Rattle.std.specs.Prelude.{◌≡◌, ◌↔◌, ◌≤◌, ◌+◌, ◌*◌, ℕ, IsTrue, true, length};
-ghost use Rattle.gptp_plan.specs.Calm.{IsLive, IsUsed, IsQuiet, Rests, AllRest, NothingLapses, IsCalm};
+ghost use Rattle.gptp_plan.specs.Calm.{IsLive, IsUsed, IsQuiet, Rests, AllRest, SyncsComeInTime, IsCalm};
 ghost use Rattle.gptp_plan.specs.Change.{standing, is_at, system_changed, link_changed, system_acted, link_acted, system_after, link_after, live_after, joined_after};
 ghost use Rattle.gptp_plan.specs.Params.{KeepParams};
-ghost use Rattle.gptp_plan.specs.SettlingTime.{live_systems, settling_span};
-ghost use Rattle.gptp_setup.specs.Intervals.{IsLog};
+ghost use Rattle.gptp_plan.specs.InUse.{is_used, live_systems, lives};
+ghost use Rattle.gptp_plan.specs.SyncWait.{sync_paths};
 
 use crate::change::{Act, Change, Timed};
 use crate::network::{Member, Network, Wire};
+use crate::sync_wait::{comes_in_time, sync_paths};
 use gptp_links::Bounds;
-use gptp_setup::{Params, interval_of};
+use gptp_setup::Params;
 use gptp_vector::{ClockId, Identity, PortId};
 
 /// How a system stands: its identity, and whether it lives.
@@ -133,7 +134,7 @@ fn act_on_link(act: &Act, wire: &mut Wire)
 }
 
 /// A system after these events.
-fn system_after(events: &[Timed], member: &Member) -> Standing
+pub(crate) fn system_after(events: &[Timed], member: &Member) -> Standing
     ensures { result ≡ system_after events.now member.now }
 {
     let own = member.identity.clock();
@@ -148,7 +149,7 @@ fn system_after(events: &[Timed], member: &Member) -> Standing
 }
 
 /// A link after these events.
-fn link_after(events: &[Timed], wire: &Wire) -> Wire
+pub(crate) fn link_after(events: &[Timed], wire: &Wire) -> Wire
     ensures { result ≡ link_after events.now wire.now }
 {
     let mut after = *wire;
@@ -183,15 +184,17 @@ pub(crate) fn joined_after(events: &[Timed], wire: &Wire) -> Option<(PortId, Por
 
 /// Whether the system with this clock lives after these events.
 fn is_live(systems: &[Member], events: &[Timed], clock: ClockId) -> bool
-    ensures { IsTrue result ↔ IsLive systems.now events.now clock }
+    ensures is { result ≡ lives systems.now events.now clock }
+    ensures live { IsTrue result ↔ IsLive systems.now events.now clock }
 {
     systems.iter().any(|member| member.identity.clock() == clock
         && system_after(events, member).live)
 }
 
 /// Whether a link is up and joins two live systems.
-fn is_used(systems: &[Member], events: &[Timed], wire: &Wire) -> bool
-    ensures { IsTrue result ↔ IsUsed systems.now events.now wire.now }
+pub(crate) fn is_used(systems: &[Member], events: &[Timed], wire: &Wire) -> bool
+    ensures is { result ≡ is_used systems.now events.now wire.now }
+    ensures used { IsTrue result ↔ IsUsed systems.now events.now wire.now }
 {
     wire.up && is_live(systems, events, wire.a.clock) && is_live(systems, events, wire.b.clock)
 }
@@ -226,20 +229,24 @@ fn all_rest(params: &Params, systems: &[Member], links: &[Wire], events: &[Timed
         .all(|wire| rests(params, systems, events, wire))
 }
 
-/// Whether nothing lapses for want of Sync.
-fn nothing_lapses(params: &Params) -> bool
-    ensures { IsTrue result ↔ NothingLapses params.now }
+/// Whether nothing lapses for want of Sync once a network of these has settled.
+fn syncs_come_in_time(params: &Params, systems: &[Member], links: &[Wire], events: &[Timed]) -> bool
+    requires params { KeepParams params.now }
+    requires few { length systems.now ≤ 512 }
+    ensures { IsTrue result ↔ SyncsComeInTime params.now
+        (sync_paths (record { params = params.now; systems = systems.now; links = links.now }) events.now) }
 {
-    params.sync_timeout == 0
+    params.sync_timeout == 0 || comes_in_time(params, sync_paths(systems, links, events))
 }
 
 /// Whether a network of these is calm after these events.
 pub(crate) fn is_calm(params: &Params, systems: &[Member], links: &[Wire], events: &[Timed]) -> bool
-    requires { KeepParams params.now }
+    requires params { KeepParams params.now }
+    requires few { length systems.now ≤ 512 }
     ensures { IsTrue result
         ↔ IsCalm (record { params = params.now; systems = systems.now; links = links.now }) events.now }
 {
-    nothing_lapses(params) && all_rest(params, systems, links, events)
+    all_rest(params, systems, links, events) && syncs_come_in_time(params, systems, links, events)
 }
 
 /// How many systems live after these events.
@@ -252,28 +259,4 @@ pub(crate) fn live_systems(systems: &[Member], events: &[Timed]) -> u64
         count += u64::from(system_after(events, member).live);
     }
     count
-}
-
-/// How long a network of that largest announce interval takes at most to settle, in ns.
-#[tactic(auto, using(crate::proofs::SpanLemmas::few_systems))]
-pub(crate) fn settling_span(params: &Params, largest: i8, live: u64) -> u64
-    requires params { KeepParams params.now }
-    requires largest { IsLog largest }
-    requires live { live ≤ 512 }
-    ensures span { result ≡ settling_span (record { params = params.now; largest = largest }) live }
-    ensures bound { result ≤ 160000000000000 }
-{
-    let intervals = (u64::from(params.timeout) + 3) * live + u64::from(params.lost) + 5;
-    times(intervals, interval_of(largest))
-}
-
-/// So many intervals.
-#[tactic(auto, using(crate::proofs::SpanLemmas::few_intervals))]
-fn times(intervals: u64, interval: u64) -> u64
-    requires few { intervals ≤ 10000 }
-    requires short { interval ≤ 16000000000 }
-    ensures span { result ≡ intervals * interval }
-    ensures bound { result ≤ 160000000000000 }
-{
-    intervals * interval
 }

@@ -6,18 +6,21 @@ ghost use Rattle.std.specs.Option.{option_and_then, option_map};
 ghost use Rattle.gptp_lists.specs.Members.{In};
 ghost use Rattle.gptp_plan.specs.Faults.{IsRefusal};
 ghost use Rattle.gptp_plan.specs.Params.{is_log, params_fault};
-ghost use Rattle.gptp_plan.specs.Network.{member, wire, without_members, with_system, with_link, logs_of, smallest_of, largest_of, pace_of, is_member_in_range, is_member_timed, is_any_slower, is_wire_in_range, are_bounds_in_range, has_clock, has_port, is_taken, same_port, system_fault, link_fault, IsNetwork, IsMember, IsMemberTimed, IsPort, IsFree, IsFresh, CanAddSystem, CanAddLink};
+ghost use Rattle.gptp_plan.specs.Network.{member, wire, without_members, with_system, with_link, logs_of, smallest_of, largest_of, is_member_in_range, is_member_timed, is_any_slower, is_wire_in_range, are_bounds_in_range, has_clock, has_port, is_taken, same_port, system_fault, link_fault, IsNetwork, IsMember, IsMemberTimed, IsPort, IsFree, IsFresh, CanAddSystem, CanAddLink};
 ghost use Rattle.gptp_links.specs.Bounds.{Fit};
 ghost use Rattle.gptp_plan.specs.Calm.{IsCalm};
 ghost use Rattle.gptp_plan.specs.Change.{joined_after, live_after};
-ghost use Rattle.gptp_plan.specs.SettlingTime.{live_systems, settling_span};
+ghost use Rattle.gptp_plan.specs.Allowed.{AreAllowed};
+ghost use Rattle.gptp_plan.specs.InUse.{greatest_delay, live_systems};
+ghost use Rattle.gptp_plan.specs.SyncWait.{sync_paths};
 ghost use Rattle.gptp_setup.specs.Intervals.{interval_of, IsLog};
 
-use crate::calm::{is_calm, joined_after, live_after, live_systems, settling_span};
+use crate::calm::{is_calm, joined_after, live_after, live_systems};
 use crate::change::Timed;
 use crate::fault::NetworkFault;
 use crate::logs::{copy_intervals, largest_with, smallest_with};
 use crate::params::{is_between, is_log, params_fault};
+use crate::sync_wait::{SyncPaths, greatest_delay, sync_paths};
 use arrayvec::ArrayVec;
 use gptp_links::Bounds;
 use gptp_setup::{Params, interval_of};
@@ -269,35 +272,42 @@ impl Network {
     }
 
     /// Whether the network is calm after these events: each link that then is up between two live systems loses
-    /// nothing, and its greatest delay is short enough for the threshold; and nothing lapses for want of Sync, since
-    /// syncReceiptTimeout is off.
+    /// nothing, and its greatest delay is short enough for the threshold; and nothing lapses for want of Sync:
+    /// syncReceiptTimeout is off, or longer than a settled system waits for Sync.
     pub fn is_calm(&self, events: &[Timed]) -> bool
         ensures { IsTrue result ↔ IsCalm self.now events.now }
     {
         is_calm(&self.params, &self.systems, &self.links, events)
     }
 
-    /// How long the network takes at most to settle after these events, in ns.
-    pub fn settling_span(&self, events: &[Timed]) -> u64
-        ensures span { result ≡ settling_span (pace_of self.now) (live_systems self.now.systems events.now) }
-        ensures bound { result ≤ 160000000000000 }
+    /// What Sync has to cross in the network after these events.
+    #[tactic(auto, using(crate::proofs::InUseLemmas::short_delay))]
+    pub fn sync_paths(&self, events: &[Timed]) -> SyncPaths
+        ensures is { result ≡ sync_paths self.now events.now }
+        ensures few { result.systems ≤ 512 }
+        ensures short { AreAllowed events.now → result.delay ≤ 16000000000 }
     {
-        settling_span(
-            &self.params,
-            self.largest(),
-            live_systems(&self.systems, events),
-        )
+        self.well_formed();
+        sync_paths(&self.systems, &self.links, events)
     }
 
-    /// How long the network takes at most to settle where no path over its live systems and the links between them has
-    /// more than so many systems, in ns: k + 3 of its largest announce intervals for each, and L + 5 more, with
-    /// announce receipt timeout k and L lost responses allowed.
-    pub fn settling_span_over(&self, systems: usize) -> u64
-        requires { systems ≤ 512 }
-        ensures span { result ≡ settling_span (pace_of self.now) systems }
-        ensures bound { result ≤ 160000000000000 }
+    /// The greatest delay of the links in use after these events, as they then stand, in ns, or 0.
+    #[tactic(auto, using(crate::proofs::InUseLemmas::short_delay))]
+    pub(crate) fn greatest_delay(&self, events: &[Timed]) -> u64
+        ensures is { result ≡ greatest_delay self.now.systems events.now self.now.links }
+        ensures short { AreAllowed events.now → result ≤ 16000000000 }
     {
-        settling_span(&self.params, self.largest(), systems as u64)
+        self.well_formed();
+        greatest_delay(&self.systems, events, &self.links)
+    }
+
+    /// How many systems live after these events.
+    pub(crate) fn live_systems(&self, events: &[Timed]) -> u64
+        ensures count { result ≡ live_systems self.now.systems events.now }
+        ensures few { result ≤ 512 }
+    {
+        self.well_formed();
+        live_systems(&self.systems, events)
     }
 
     /// Every network is within its limits, its clocks differ, its intervals go together, its links join ports of two

@@ -9,11 +9,11 @@ use Rattle.gptp_plan.specs.declared.change.Timed.{Timed}
 use Rattle.gptp_plan.specs.declared.network.Member.{Member}
 use Rattle.gptp_plan.specs.declared.network.Wire.{Wire}
 use Rattle.gptp_acts.specs.declared.station.Station.{Station}
-use Rattle.gptp_plan.specs.Calm.{IsCalm, IsLive, IsQuiet, Rests}
+use Rattle.gptp_plan.specs.Calm.{IsCalm, IsLive, IsQuiet, Rests, SyncsComeInTime}
 use Rattle.gptp_plan.specs.Change.{link_after, live_after, system_after}
-use Rattle.gptp_plan.specs.Network.{NetworkState, pace_of}
-use Rattle.gptp_plan.specs.SettlingTime as acts
-use Rattle.gptp_plan.specs.SettlingTime.{settling_span}
+use Rattle.gptp_plan.specs.InUse as acts
+use Rattle.gptp_plan.specs.Network.{IsNetwork, NetworkState, pace_of}
+use Rattle.gptp_plan.specs.SettlingTime.{settling_span_with}
 use Rattle.gptp_acts.specs.Prompt.{HavePace}
 use Rattle.gptp_acts.specs.Sound.{IsSound}
 use Rattle.gptp_acts.specs.World.{Channel, WorldState}
@@ -22,7 +22,7 @@ use Rattle.gptp_network.specs.Document.{DocumentState}
 use Rattle.gptp_network.specs.Snapshot as network
 use Rattle.gptp_network.specs.Snapshot.{events_by}
 use Rattle.gptp_network.proofs.SnapshotLemmas.{clock_after}
-use Rattle.gptp_kept.specs.Calm.{IsQuietLink, IsQuietWorld}
+use Rattle.gptp_kept.specs.Calm.{IsQuietLink, IsQuietWorld, sync_paths_of}
 use Rattle.gptp_kept.specs.CalmFor.{IsCalmFor}
 use Rattle.gptp_kept.specs.Claimed.{Claimed}
 use Rattle.gptp_kept.specs.Known.{AreSet, IsSetTo}
@@ -33,6 +33,7 @@ use Rattle.gptp_links.specs.declared.link.Direction.TheVariants.{FromA, FromB}
 use Rattle.gptp_reached.specs.Reached.{Shape, StandsAs, shape, shape_after, wire_of}
 use Rattle.gptp_reached.specs.PlayedLaws.{IsAtRest, IsReached}
 use Rattle.gptp_reached.proofs.SnapshotLemmas.{systems_stand}
+use Rattle.gptp_reached.proofs.SyncPathLemmas.{paths_stand}
 
 -- ---- how many systems live
 
@@ -115,9 +116,13 @@ quiet_link n events w so calm link channel here used =
     let same = subst (IsQuiet n.params.turnaround n.params.threshold) is quiet in
     record { lossless = same.lossless; good = same.good }
 
-pub quiet_stands : (n : NetworkState) (events : List Timed) (w : WorldState) → StandsAs n events w → IsCalm n events
+pub quiet_stands : (n : NetworkState) (events : List Timed) (w : WorldState) → IsNetwork n → StandsAs n events w
+    → IsSound w → IsCalm n events
     → IsQuietWorld n.params w
-quiet_stands n events w so calm = record { links = quiet_link n events w so calm; lapses = calm.lapses }
+quiet_stands n events w is so sound calm = record {
+  links = quiet_link n events w so calm;
+  lapses = subst (SyncsComeInTime n.params) (paths_stand n events w is so sound) calm.lapses;
+}
 
 -- ---- parameters
 
@@ -140,12 +145,12 @@ set_stands n events w so claimed place station here =
 
 -- ---- a document
 
-pub document_calm : (d : DocumentState) (until : ℕ) (w : WorldState) → IsReached d until w → Claimed w
-    → IsAtRest d until → IsCalmFor settling_span w
-document_calm d until w reached claimed rest = record {
+pub document_calm : (d : DocumentState) (until : ℕ) (w : WorldState) → IsNetwork d.network → IsReached d until w
+    → Claimed w → IsAtRest d until → IsCalmFor settling_span_with w
+document_calm d until w is reached claimed rest = record {
   pace = pace_of n;
   set = pace_stands n events w so;
-  quiet = quiet_stands n events w so rest.calm;
+  quiet = quiet_stands n events w is so reached.sound rest.calm;
   late = late;
 }
   where
@@ -158,7 +163,8 @@ document_calm d until w reached claimed rest = record {
     so : StandsAs n events w
     so = reached.stands
 
-    late : w.last_change + settling_span (pace_of n) (length (snapshot_of w).systems) ≤ w.time
+    late : w.last_change + settling_span_with (pace_of n) (sync_paths_of w) (length (snapshot_of w).systems) ≤ w.time
     late =
         let count = count_stands n events w so reached.sound in
-        rw (so.last, count, reached.now) rest.settled
+        subst (λ paths. w.last_change + settling_span_with (pace_of n) paths (length (snapshot_of w).systems) ≤ w.time)
+        (paths_stand n events w is so reached.sound) (rw (so.last, count, reached.now) rest.settled)

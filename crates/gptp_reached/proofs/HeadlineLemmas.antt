@@ -104,7 +104,7 @@ documents_lead answers d until fate told w is plays rest =
     let reached = played_stands answers d until fate told w is.network (events_made d until is.network is.events) plays
     in
     let claimed = played_claimed answers d until fate told w is plays in
-    let calm = document_calm d until w reached claimed rest in (
+    let calm = document_calm d until w is.network reached claimed rest in (
       settled_for (length (snapshot_of w).systems) w claimed (systems_bound claimed.pace w claimed.is.world)
           (record { pace = calm.pace; set = calm.set; quiet = calm.quiet; late = calm.late }),
       λ g stands.

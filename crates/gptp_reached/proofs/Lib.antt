@@ -5,6 +5,7 @@ pub mod SystemLemmas
 pub mod ChangeLemmas
 pub mod PlayedLemmas
 pub mod SnapshotLemmas
+pub mod SyncPathLemmas
 pub mod CalmLemmas
 pub mod AlikeLemmas
 pub mod SettleLemmas

@@ -16,7 +16,7 @@ first_early t (u ∷ us) ordered =
     let next = ordered.0 in let later = first_early u us ordered.1 in omega (arith, next, later)
 
 -- by the time of the last event all are there
-all_by : (until : ℕ) (events : List Timed) → AreInOrder events → last_change events ≤ until
+pub all_by : (until : ℕ) (events : List Timed) → AreInOrder events → last_change events ≤ until
     → events_by until events ≡ events
 all_by until [] ordered early = refl
 all_by until (t ∷ []) ordered early = rw (le-leb t.at until early) refl

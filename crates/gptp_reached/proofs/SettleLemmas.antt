@@ -6,6 +6,7 @@ use Rattle.gptp_graph.specs.Snapshot.{Snapshot}
 use Rattle.gptp_links.specs.declared.bounds.Bounds.{Bounds}
 use Rattle.gptp_acts.specs.Advancing.{Told}
 use Rattle.gptp_acts.specs.World.{WorldState}
+use Rattle.gptp_plan.specs.Network.{IsNetwork}
 use Rattle.gptp_network.specs.Document.{DocumentState}
 use Rattle.gptp_network.specs.Snapshot.{IsSnapshot, events_by}
 use Rattle.gptp_report.specs.Run.{Plays}
@@ -22,13 +23,14 @@ use Rattle.gptp_reached.proofs.PlayedLemmas.{played_stands}
 use Rattle.gptp_reached.proofs.SnapshotLemmas.{snapshots_stand}
 
 pub documents_settle : (d : DocumentState) (until : ℕ) (w : WorldState) (lines : List SystemLine) (g : Snapshot)
-    → IsReached d until w → Claimed w → IsAtRest d until → States w lines → IsSnapshot d until g
+    → IsNetwork d.network → IsReached d until w → Claimed w → IsAtRest d until → States w lines
+    → IsSnapshot d until g
     → IsSettledChoice g lines
-documents_settle d until w lines g reached claimed rest states stands =
+documents_settle d until w lines g is reached claimed rest states stands =
     let (systems, links) =
     snapshots_stand d.network (events_by until d.events) w g reached.stands reached.sound stands in
     let alike : AreAlike (snapshot_of w) g = record { systems = systems; links = links } in
-    let calm = document_calm d until w reached claimed rest in
+    let calm = document_calm d until w is reached claimed rest in
     same_choice (snapshot_of w) g lines alike (right_in_time w lines claimed states calm)
 
 pub played_settle : {F : Type 0} (answers : Bounds → ℕ → F → Option ℕ → F → Type 0) (d : DocumentState) (until : ℕ)
@@ -36,6 +38,6 @@ pub played_settle : {F : Type 0} (answers : Bounds → ℕ → F → Option ℕ 
     → Plays answers d until fate told w → IsAtRest d until → States w lines → IsSnapshot d until g
     → IsSettledChoice g lines
 played_settle answers d until fate told w lines g is k =
-    documents_settle d until w lines g
+    documents_settle d until w lines g is.network
     (played_stands answers d until fate told w is.network (events_made d until is.network is.events) k)
     (played_claimed answers d until fate told w is k)

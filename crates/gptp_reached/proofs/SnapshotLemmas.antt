@@ -160,23 +160,31 @@ any_clock (s ∷ systems) number = ap (λ more. (s.clock == number) || more) (an
 
 -- ---- the whole world
 
+systems_move : (n : NetworkState) (events : List Timed) (w : WorldState) (g : Snapshot) → StandsAs n events w
+    → IsSound w → StandsAfter n events g
+    → IsPermutation (live_systems w.stations) g.systems
+systems_move n events w g so sound stands =
+    subst (λ ss. IsPermutation ss g.systems) (sym (systems_stand n events w so sound)) stands.systems
+
+-- the same systems have clocks
+pub clocks_stand : (n : NetworkState) (events : List Timed) (w : WorldState) (g : Snapshot) → StandsAs n events w
+    → IsSound w → StandsAfter n events g
+    → (number : ℕ) → has_clock (live_systems w.stations) number ≡ network.has_clock g.systems number
+clocks_stand n events w g so sound stands number =
+    any_clock (live_systems w.stations) number
+    ∙ list_any-IsPermutation (λ (s : System). s.clock == number) (live_systems w.stations) g.systems
+    (systems_move n events w g so sound stands)
+
 pub snapshots_stand : (n : NetworkState) (events : List Timed) (w : WorldState) (g : Snapshot)
     → StandsAs n events w → IsSound w → StandsAfter n events g
     → IsPermutation (snapshot_of w).systems g.systems × ((snapshot_of w).links ≡ g.links)
-snapshots_stand n events w g so sound stands = (moved, links)
+snapshots_stand n events w g so sound stands = (systems_move n events w g so sound stands, links)
   where
     systems : List System
     systems = live_systems w.stations
 
-    moved : IsPermutation systems g.systems
-    moved = subst (λ ss. IsPermutation ss g.systems) (sym (systems_stand n events w so sound)) stands.systems
-
     same_clocks : has_clock systems ≡ network.has_clock g.systems
-    same_clocks =
-        let each : (number : ℕ) → has_clock systems number ≡ network.has_clock g.systems number =
-        λ number. any_clock systems number
-        ∙ list_any-IsPermutation (λ (s : System). s.clock == number) systems g.systems moved in
-        λ i number. each number i
+    same_clocks = λ i number. clocks_stand n events w g so sound stands number i
 
     links : used_links systems w.net.channels ≡ g.links
     links =

@@ -13,9 +13,11 @@ use Rattle.gptp_graph.specs.PathBound.{BoundsPaths, path_bound}
 use Rattle.gptp_graph.specs.SettledChoice.{IsSettledChoice}
 use Rattle.gptp_pdelay.specs.GoodLink.{ceil_div}
 use Rattle.gptp_setup.specs.Pace.{Pace, largest_interval}
-use Rattle.gptp_plan.specs.Calm.{NothingLapses}
+use Rattle.gptp_plan.specs.Calm.{SyncsComeInTime}
+use Rattle.gptp_plan.specs.SyncWait.{step_more}
 use Rattle.gptp_acts.specs.Prompt.{HavePace}
 use Rattle.gptp_acts.specs.World.{Channel, WorldState}
+use Rattle.gptp_kept.specs.Calm.{sync_paths_of}
 use Rattle.gptp_kept.specs.Standing.{is_used, live_systems, snapshot_of}
 use Rattle.gptp_kept.specs.Tree.{IsTree}
 use Rattle.gptp_certificate.specs.Stated.{States}
@@ -24,19 +26,25 @@ use Rattle.gptp_certificate.specs.Stated.{States}
 
 -- Each link of the snapshot loses nothing and is good: its largest delay leaves room below the threshold of
 -- neighborPropDelay for the drift of two clocks (law of good links). All systems start with the parameters of one
--- network and with the largest announce interval of any of its ports, as those of every world do. Nothing that a Slave
--- port holds lapses for want of Sync.
+-- network and with the largest announce interval of any of its ports, as those of every world do. And what a Slave port
+-- holds doesn't lapse for want of Sync: syncReceiptTimeout is 0, or the paths of the snapshot are so short, and its
+-- links so prompt, that a settled system always hears the next Sync sooner.
 pub record IsCalm (p : Pace) (w : WorldState) : Type 0 where
   pub of : HavePace p w
   pub links : (link : Channel) → In link w.net.channels → is_used (live_systems w.stations) link ≡ true
       → (link.bounds.loss ≡ 0)
       × (link.bounds.max + ceil_div link.bounds.max 1000 + ceil_div p.params.turnaround 2000 + 2 ≤ p.params.threshold)
-  pub lapses : NothingLapses p.params
+  pub lapses : SyncsComeInTime p.params (sync_paths_of w)
 
 -- ((k + 3)m + L + 5) intervals have passed since the last change: k is the announce receipt timeout, L how many peer
--- delay requests in a row may be lost, and the interval the largest announce interval of any port
+-- delay requests in a row may be lost, and the interval the largest announce interval of any port. Where
+-- syncReceiptTimeout isn't 0, m times has passed too what the wait for the next Sync and the greatest delay of a link
+-- are together above one interval.
 abbrev pub HasPassed : Pace → ℕ → WorldState → Type 0
-HasPassed p m w = w.last_change + ((p.params.timeout + 3) * m + p.params.lost + 5) * largest_interval p ≤ w.time
+HasPassed p m w =
+    w.last_change
+    + (((p.params.timeout + 3) * m + p.params.lost + 5) * largest_interval p + m * step_more p (sync_paths_of w))
+    ≤ w.time
 
 -- ---- what is said
 
@@ -52,8 +60,8 @@ pub record IsSettled (w : WorldState) : Type 0 where
   pub tree : IsTree w
   pub certified : (lines : List SystemLine) → States w lines → IsCertified w lines
 
--- The theorem: a calm world is settled once (k+3)m + L + 5 intervals have passed since its last change, where no path
--- of its snapshot has more than m systems.
+-- The theorem: a calm world is settled once so long has passed since its last change, where no path of its snapshot has
+-- more than m systems.
 abbrev pub Headline : WorldState → Type 0
 Headline w = (p : Pace) (m : ℕ)
     → IsCalm p w → BoundsPaths (snapshot_of w) m → HasPassed p m w

@@ -9,7 +9,7 @@ use Rattle.gptp_plan.specs.Allowed.{IsFitAct}
 use Rattle.gptp_acts.specs.Advancing.{Told}
 use Rattle.gptp_plan.specs.Calm.{IsCalm}
 use Rattle.gptp_plan.specs.Network.{IsNetwork}
-use Rattle.gptp_plan.specs.SettlingTime.{settles, settling_span}
+use Rattle.gptp_plan.specs.SettlingTime.{settles, settling_span_with}
 use Rattle.gptp_acts.specs.Sound.{IsSound}
 use Rattle.gptp_acts.specs.World.{WorldState}
 use Rattle.gptp_network.specs.Document.{DocumentState, Means}
@@ -78,5 +78,5 @@ CalmRests = (d : DocumentState) (until : ℕ)
 -- systems.
 abbrev pub DocumentIsCalm : Type 0
 DocumentIsCalm = (d : DocumentState) (until : ℕ) (w : WorldState)
-    → IsReached d until w → Claimed w → IsAtRest d until
-    → IsCalmFor settling_span w
+    → IsNetwork d.network → IsReached d until w → Claimed w → IsAtRest d until
+    → IsCalmFor settling_span_with w

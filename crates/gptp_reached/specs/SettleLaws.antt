@@ -6,6 +6,7 @@ use Rattle.gptp_graph.specs.Snapshot.{Snapshot}
 use Rattle.gptp_links.specs.declared.bounds.Bounds.{Bounds}
 use Rattle.gptp_acts.specs.Advancing.{Told}
 use Rattle.gptp_acts.specs.World.{WorldState}
+use Rattle.gptp_plan.specs.Network.{IsNetwork}
 use Rattle.gptp_network.specs.Document.{DocumentState}
 use Rattle.gptp_network.specs.Snapshot.{IsSnapshot}
 use Rattle.gptp_report.specs.Run.{Plays}
@@ -17,7 +18,8 @@ use Rattle.gptp_reached.specs.PlayedLaws.{IsAtRest, IsPlayable, IsReached}
 -- settled choice of its snapshot.
 abbrev pub DocumentsSettle : Type 0
 DocumentsSettle = (d : DocumentState) (until : ℕ) (w : WorldState) (lines : List SystemLine) (g : Snapshot)
-    → IsReached d until w → Claimed w → IsAtRest d until → States w lines → IsSnapshot d until g
+    → IsNetwork d.network → IsReached d until w → Claimed w → IsAtRest d until → States w lines
+    → IsSnapshot d until g
     → IsSettledChoice g lines
 
 -- so it is whatever is drawn for the frames meanwhile

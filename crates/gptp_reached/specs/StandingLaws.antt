@@ -4,12 +4,13 @@ use Rattle.std.specs.List.Sorted.{IsPermutation}
 use Rattle.gptp_graph.specs.Snapshot.{Snapshot}
 use Rattle.gptp_plan.specs.declared.change.Timed.{Timed}
 use Rattle.gptp_plan.specs.Calm.{IsCalm}
-use Rattle.gptp_plan.specs.Network.{NetworkState, pace_of}
-use Rattle.gptp_plan.specs.SettlingTime.{live_systems}
+use Rattle.gptp_plan.specs.InUse.{live_systems}
+use Rattle.gptp_plan.specs.Network.{IsNetwork, NetworkState, pace_of}
+use Rattle.gptp_plan.specs.SyncWait.{sync_paths}
 use Rattle.gptp_acts.specs.Sound.{IsSound}
 use Rattle.gptp_acts.specs.World.{WorldState}
 use Rattle.gptp_network.specs.Snapshot.{StandsAfter}
-use Rattle.gptp_kept.specs.Calm.{IsQuietWorld}
+use Rattle.gptp_kept.specs.Calm.{IsQuietWorld, sync_paths_of}
 use Rattle.gptp_kept.specs.Claimed.{Claimed}
 use Rattle.gptp_kept.specs.Known.{AreSet}
 use Rattle.gptp_kept.specs.Standing.{snapshot_of}
@@ -27,10 +28,16 @@ StandsCount = (n : NetworkState) (events : List Timed) (w : WorldState)
     → StandsAs n events w → IsSound w
     → length (snapshot_of w).systems ≡ live_systems n.systems events
 
+-- Sync has the same to cross
+abbrev pub StandsPaths : Type 0
+StandsPaths = (n : NetworkState) (events : List Timed) (w : WorldState)
+    → IsNetwork n → StandsAs n events w → IsSound w
+    → sync_paths n events ≡ sync_paths_of w
+
 -- it is quiet where the network is calm
 abbrev pub StandsQuiet : Type 0
 StandsQuiet = (n : NetworkState) (events : List Timed) (w : WorldState)
-    → StandsAs n events w → IsCalm n events
+    → IsNetwork n → StandsAs n events w → IsSound w → IsCalm n events
     → IsQuietWorld n.params w
 
 -- all its systems have the parameters of the network, and its largest announce interval

@@ -5,12 +5,12 @@ ghost use Rattle.gptp_reached.specs.HeadlineLaws.{WorldsSettle, WorldsSettleByNe
 
 use gptp_links::Fate;
 
-/// Every world that `gptp_world` can be brought to, where it is calm, is settled once (k+3)m + L + 5 announce intervals
-/// have passed since its last change, where no path of its snapshot has more than m systems: its near systems follow
-/// their component's best by fewest steps, slave ports form a tree to it, and what is stated of its systems is
-/// accepted, and nothing else is. So it is with m the number of its live systems, and with the number that is read off
-/// the links: 2 and those that have two neighbours. That its systems have the parameters of one network is so of every
-/// world.
+/// Every world that `gptp_world` can be brought to, where it is calm, is settled once (k+3)m + L + 5 announce intervals,
+/// and what a syncReceiptTimeout adds, have passed since its last change, where no path of its snapshot has more than m
+/// systems: its near systems follow their component's best by fewest steps, slave ports form a tree to it, and what is
+/// stated of its systems is accepted, and nothing else is. So it is with m the number of its live systems, and with the
+/// number that is read off the links: 2 and those that have two neighbours. That its systems have the parameters of one
+/// network is so of every world.
 pub fn worlds_settle()
     ensures theorem { WorldsSettle }
     ensures systems { WorldsSettleBySystems }

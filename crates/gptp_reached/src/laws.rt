@@ -4,7 +4,7 @@ ghost use Rattle.gptp_reached.specs.AlikeLaws.{SameChoice};
 ghost use Rattle.gptp_reached.specs.PlayedLaws.{CalmRests, DocumentIsCalm, DocumentsArePlayable, EventsAreMade, PlayedClaimed, PlayedStands};
 ghost use Rattle.gptp_reached.specs.ReachedLaws.{ActsStand, BegunStands, ChangesStand, TimeStands};
 ghost use Rattle.gptp_reached.specs.SettleLaws.{DocumentsSettle, PlayedSettle};
-ghost use Rattle.gptp_reached.specs.StandingLaws.{StandsCount, StandsQuiet, StandsSet, StandsSnapshot};
+ghost use Rattle.gptp_reached.specs.StandingLaws.{StandsCount, StandsPaths, StandsQuiet, StandsSet, StandsSnapshot};
 
 use gptp_links::Fate;
 
@@ -30,10 +30,11 @@ pub fn snapshots_stand()
     ensures { StandsSnapshot }
 {}
 
-/// As many systems of it live as of the network; it is quiet where the network is calm; and in a world that keeps what
-/// every world keeps, all systems have the parameters of the network.
+/// As many systems of it live as of the network, and Sync has the same to cross; it is quiet where the network is calm;
+/// and in a world that keeps what every world keeps, all systems have the parameters of the network.
 pub fn calm_stands()
     ensures count { StandsCount }
+    ensures paths { StandsPaths }
     ensures quiet { StandsQuiet }
     ensures set { StandsSet }
 {}

@@ -13,11 +13,13 @@ use Rattle.gptp_report.specs.SystemLines.{system_lines}
 abbrev pub time_line : ℕ → List ℕ
 time_line until = codes "time " ++ decimal until
 
--- the last change of the whole document, and by when it has settled where it is calm then
+-- a last change, and by when a network that is calm after it has settled
+abbrev pub calm_text : ℕ → ℕ → List ℕ
+calm_text last settled = codes "change " ++ decimal last ++ codes " calm yes settle " ++ decimal settled
+
+-- those of the whole document
 abbrev pub calm_line : DocumentState → List ℕ
-calm_line d =
-    codes "change " ++ decimal (last_change d.events)
-    ++ codes " calm yes settle " ++ decimal (settles d.network d.events)
+calm_line d = calm_text (last_change d.events) (settles d.network d.events)
 
 abbrev pub restless_line : DocumentState → List ℕ
 restless_line d = codes "change " ++ decimal (last_change d.events) ++ codes " calm no"

@@ -4,7 +4,7 @@ ghost use Rattle.std.specs.Prelude.{◌≡◌, ◌++◌, ℕ, List, [], ◌∷�
 ghost use Rattle.gptp_acts.specs.Acts.{AnySystem, AtSystem};
 ghost use Rattle.gptp_acts.specs.Views.{rising_clocks};
 ghost use Rattle.gptp_spelling.specs.Lines.{text_of};
-ghost use Rattle.gptp_report.specs.Report.{calm_line, restless_line, time_line, IsChangeLine, Reports, ShowsSystems, WritesSystem};
+ghost use Rattle.gptp_report.specs.Report.{calm_line, calm_text, restless_line, time_line, IsChangeLine, Reports, ShowsSystems, WritesSystem};
 
 use crate::system_lines::{write_failed, write_system};
 use gptp_links::Fate;
@@ -13,13 +13,20 @@ use gptp_vector::ClockId;
 use gptp_world::World;
 use std::alloc::AllocError;
 
+/// The line of a last change after which a network is calm, and by when it has settled, in ns.
+fn write_settling(text: &mut String, last: u64, settles: u64) -> Result<(), AllocError>
+    ensures { OnOk result (string_bytes text.new ≡ string_bytes text.old ++ (calm_text last settles ++ 10 ∷ [])) }
+{
+    writeln!(text, "change {last} calm yes settle {settles}")
+}
+
 /// The line of the last change of a document that is calm after it.
 fn write_calm(text: &mut String, document: &Document) -> Result<(), AllocError>
     ensures { OnOk result (string_bytes text.new ≡ string_bytes text.old ++ (calm_line document.now ++ 10 ∷ [])) }
 {
     let last = document.last_change();
     let settles = document.settles();
-    writeln!(text, "change {last} calm yes settle {settles}")
+    write_settling(text, last, settles)
 }
 
 /// The line of the last change of a document that isn't.

@@ -8,7 +8,8 @@ use Rattle.gptp_graph.specs.SettledChoice.{IsBestIdentity}
 use Rattle.gptp_graph.specs.Snapshot.{Snapshot, IsWellFormed, clocks}
 use Rattle.gptp_plan.specs.Calm.{IsCalm, last_change}
 use Rattle.gptp_plan.specs.Network.{NetworkState, pace_of}
-use Rattle.gptp_plan.specs.SettlingTime.{settling_span}
+use Rattle.gptp_plan.specs.SettlingTime.{settling_span_with}
+use Rattle.gptp_plan.specs.SyncWait.{sync_paths}
 use Rattle.gptp_plan.specs.declared.change.Timed.{Timed}
 use Rattle.gptp_network.specs.Document.{DocumentState}
 use Rattle.gptp_network.specs.Snapshot.{IsSnapshot, events_by}
@@ -29,7 +30,7 @@ is_capable root = nat_lt (root / 2 ^ 104) 255
 -- uses has come down the settled tree, at most a threshold and a residence for each system of a path.
 abbrev pub exact_from : NetworkState → List Timed → Snapshot → ℕ
 exact_from n events g =
-    last_change events + settling_span (pace_of n) (path_bound g)
+    last_change events + settling_span_with (pace_of n) (sync_paths n events) (path_bound g)
     + path_bound g * (n.params.threshold + n.params.residence)
 
 -- that time, or none where the network isn't calm

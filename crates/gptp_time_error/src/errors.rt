@@ -6,7 +6,7 @@ ghost use Rattle.gptp_graph.specs.Labelling.{line_clocks};
 ghost use Rattle.gptp_plan.specs.Allowed.{AreAllowed};
 ghost use Rattle.gptp_plan.specs.Calm.{last_change};
 ghost use Rattle.gptp_network.specs.Events.{AreInOrder};
-ghost use Rattle.gptp_network.specs.Snapshot.{events_by};
+ghost use Rattle.gptp_network.specs.Snapshot.{StandsAfter, events_by};
 ghost use Rattle.gptp_certificate_text.specs.Certificate.{line_of};
 ghost use Rattle.gptp_time_error.specs.TimeErrors.{AreEntries, AreTimeErrors, IsFrom, IsRefusedAt, IsSystemOf, error_of, exact_from};
 
@@ -70,20 +70,22 @@ fn last_change(events: &[Timed]) -> u64
 
 /// The time from which on a network that is calm after these events is as exact as is said.
 fn holds_from(network: &Network, events: &[Timed], snapshot: &Snapshot) -> u64
-    requires { AreAllowed events.now }
+    requires allowed { AreAllowed events.now }
+    requires stands { StandsAfter network.now events.now snapshot.now }
     ensures { result ≡ exact_from network.now events.now snapshot.now }
 {
     network.well_formed();
     let systems = snapshot.path_bound();
     let params = network.params();
     last_change(events)
-        + network.settling_span_over(systems)
+        + snapshot.settling_span(network, events)
         + systems as u64 * (params.threshold + params.residence)
 }
 
 /// The same, if it is calm.
 fn holds_from_if_calm(network: &Network, events: &[Timed], snapshot: &Snapshot) -> Option<u64>
-    requires { AreAllowed events.now }
+    requires allowed { AreAllowed events.now }
+    requires stands { StandsAfter network.now events.now snapshot.now }
     ensures { IsFrom network.now events.now snapshot.now result }
 {
     if network.is_calm(events) {

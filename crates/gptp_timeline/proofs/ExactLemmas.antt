@@ -9,7 +9,8 @@ use Rattle.gptp_network.specs.Span.{IsBound}
 use Rattle.gptp_network.proofs.LawLemmas.{one_snapshot}
 use Rattle.gptp_plan.specs.Calm.{last_change}
 use Rattle.gptp_plan.specs.Network.{NetworkState, pace_of}
-use Rattle.gptp_plan.specs.SettlingTime.{settling_span}
+use Rattle.gptp_plan.specs.SettlingTime.{settling_span_with}
+use Rattle.gptp_plan.specs.SyncWait.{sync_paths}
 use Rattle.gptp_plan.specs.declared.change.Timed.{Timed}
 use Rattle.gptp_time_error.specs.TimeErrors.{AreTimeErrors, exact_from, IsFrom}
 use Rattle.gptp_time_error.specs.declared.errors.TimeErrors.{TimeErrors}
@@ -46,9 +47,10 @@ none_before d at to None restless late t are (exact, from, by) = elim are.from [
 ]
 none_before d at to (Some span) (calm_there, bound) late t are (exact, from, by) = elim are.from [
   | inl calm ↦ (let same = one_snapshot d at bound.snapshot are.snapshot bound.stands are.is in
-      let spans : span ≡ settling_span (pace_of d.network) (path_bound are.snapshot) =
-      bound.is ∙ ap (λ (g : Snapshot). settling_span (pace_of d.network) (path_bound g)) same in
       let events = events_by at d.events in
+      let paths = sync_paths d.network events in
+      let spans : span ≡ settling_span_with (pace_of d.network) paths (path_bound are.snapshot) =
+      bound.is ∙ ap (λ (g : Snapshot). settling_span_with (pace_of d.network) paths (path_bound g)) same in
       let after : ℕ = path_bound are.snapshot * (d.network.params.threshold + d.network.params.residence) in
       let is : exact ≡ last_change events + span + after =
       same_Some exact (exact_from d.network events are.snapshot) (sym from ∙ calm.1)

@@ -33,7 +33,7 @@ use Rattle.gptp_timeline.specs.declared.timeline.TimelineOptions.{TimelineOption
 use Rattle.gptp_timeline.proofs.PastLemmas.{last_past, past_both}
 use Rattle.gptp_timeline.proofs.NameLemmas.{AreNamed}
 use Rattle.gptp_timeline.proofs.RestLemmas.{found_live, IsAtRest, lives_there, stands_there}
-use Rattle.gptp_timeline.proofs.SettlingLemmas.{alike_after, begins, events_then, is_there, keeps_first, keeps_one, Keeps, left_first, rests}
+use Rattle.gptp_timeline.proofs.SettlingLemmas.{alike_after, begins, events_then, is_there, keeps_first, keeps_one, Keeps, left_first, rests, span_after}
 
 -- ---- the roots of live systems, name by name
 
@@ -191,9 +191,10 @@ module _ {F : Type 0} (answers : Bounds → ℕ → F → Option ℕ → F → T
       let time = courses_end answers p.to p.events p.acts b.fate b.fate_after b.w p.after b.passage.courses in
       let settled : b.from + bound ≤ p.after.time = omega (arith, is, time, late) in
       let last = last_past b.from events (past_both b.from b.before b.left b.is_left.past) in
+      let spans = subst (λ es. bound ≡ span_after answers d playable names es span.snapshot) are span.is in
       each_root p.after (IsRootOf g) names (clocks g) (live_names events g p.after stands at_end)
       (λ name s lives. root_settles events g p.after name s stands at_end
-      (λ near. rests answers d playable names events b.from bound span.snapshot calm stood last span.is p.after at_end
+      (λ near. rests answers d playable names events b.from bound span.snapshot calm stood last spans p.after at_end
       settled name near s lives) lives)
 
 pub stretches_follow : {F : Type 0} (answers : Bounds → ℕ → F → Option ℕ → F → Type 0) (d : DocumentState) (until : ℕ)

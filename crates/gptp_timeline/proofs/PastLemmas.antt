@@ -43,7 +43,6 @@ use Rattle.gptp_plan.specs.Allowed.{IsFitAct}
 use Rattle.gptp_plan.specs.Calm.{IsCalm, last_change}
 use Rattle.gptp_plan.specs.Network.{pace_of, smallest_of}
 use Rattle.gptp_plan.specs.Prompt.{IsPromptAct}
-use Rattle.gptp_plan.specs.SettlingTime.{settling_span}
 use Rattle.gptp_plan.specs.declared.change.Act.{Act}
 use Rattle.gptp_plan.specs.declared.change.Act.TheVariants.{Change as Changing}
 use Rattle.gptp_plan.specs.declared.change.Change.{Change}
@@ -54,7 +53,6 @@ use Rattle.gptp_reached.specs.PlayedLaws.{IsPlayable}
 use Rattle.gptp_reached.specs.Reached.{StandsAs}
 use Rattle.gptp_reached.proofs.AlikeLemmas.{turned}
 use Rattle.gptp_reached.proofs.BeginLemmas.{begun_stands}
-use Rattle.gptp_reached.proofs.CalmLemmas.{quiet_stands}
 use Rattle.gptp_reached.proofs.ChangeLemmas.{changes_stand}
 use Rattle.gptp_reached.proofs.ClaimedLemmas.{each_there}
 use Rattle.gptp_reached.proofs.KeptLemmas.{acts_stand, time_stands}

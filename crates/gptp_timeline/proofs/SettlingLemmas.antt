@@ -49,7 +49,8 @@ use Rattle.gptp_plan.specs.Allowed.{IsFitAct}
 use Rattle.gptp_plan.specs.Calm.{IsCalm, last_change}
 use Rattle.gptp_plan.specs.Network.{pace_of, smallest_of}
 use Rattle.gptp_plan.specs.Prompt.{IsPromptAct}
-use Rattle.gptp_plan.specs.SettlingTime.{settling_span}
+use Rattle.gptp_plan.specs.SettlingTime.{settling_span_with}
+use Rattle.gptp_plan.specs.SyncWait.{sync_paths}
 use Rattle.gptp_plan.specs.declared.change.Act.{Act}
 use Rattle.gptp_plan.specs.declared.change.Act.TheVariants.{Change as Changing}
 use Rattle.gptp_plan.specs.declared.change.Change.{Change}
@@ -64,6 +65,7 @@ use Rattle.gptp_reached.proofs.ChangeLemmas.{changes_stand}
 use Rattle.gptp_reached.proofs.ClaimedLemmas.{each_there}
 use Rattle.gptp_reached.proofs.KeptLemmas.{acts_stand, time_stands}
 use Rattle.gptp_reached.proofs.SnapshotLemmas.{snapshots_stand}
+use Rattle.gptp_reached.proofs.SyncPathLemmas.{paths_stand}
 use Rattle.gptp_world.specs.Transitions.{Passes, PassesTo, Transition}
 use Rattle.gptp_report.specs.Transitions.{Courses, Makes}
 use Rattle.gptp_setup.specs.Intervals.{interval_of}
@@ -106,6 +108,10 @@ module _ {F : Type 0} (answers : Bounds → ℕ → F → Option ℕ → F → T
 
   abbrev least : ℕ
   least = interval_of (smallest_of d.network)
+
+  -- the settling span of a network that stands so after these events
+  abbrev pub span_after : List Timed → Snapshot → ℕ
+  span_after events g = settling_span_with pace (sync_paths d.network events) (path_bound g)
 
   -- A world keeps what all do, stands as the network does after these events, and has systems of these names.
   pub record Keeps (events : List Timed) (w : WorldState) : Type 0 where
@@ -246,7 +252,7 @@ module _ {F : Type 0} (answers : Bounds → ℕ → F → Option ℕ → F → T
 
   module _ (events : List Timed) (from span : ℕ) (g : Snapshot) (calm : IsCalm d.network events)
       (stands : StandsAfter d.network events g) (last : last_change events ≤ from)
-      (span_is : span ≡ settling_span pace (path_bound g)) where
+      (span_is : span ≡ span_after events g) where
     abbrev m : ℕ
     m = path_bound g
 
@@ -263,11 +269,14 @@ module _ {F : Type 0} (answers : Bounds → ℕ → F → Option ℕ → F → T
     calm_for : (w : WorldState) → Keeps events w → from + span ≤ w.time → IsCalmFor (span_over m) w
     calm_for w keeps late =
         let change : w.last_change ≡ last_change events = keeps.stands.last in
-        let is : span ≡ settling_span pace m = span_is in record {
+        let sound = keeps.claimed.world.sound in
+        let by_now : w.last_change + span ≤ w.time = omega (arith, change, last, late) in
+        let same = paths_stand d.network events w playable.network keeps.stands sound in record {
           pace = pace;
           set = λ place station here. (keeps.claimed.world.known.set place station here).starts;
-          quiet = quiet_stands d.network events w keeps.stands calm;
-          late = omega (arith, change, is, last, late);
+          quiet = quiet_stands d.network events w playable.network keeps.stands sound calm;
+          late = subst (λ paths. w.last_change + settling_span_with pace paths m ≤ w.time) same
+              (subst (λ k. w.last_change + k ≤ w.time) span_is by_now);
         }
 
     pub rests : (w : WorldState) → Keeps events w → from + span ≤ w.time → (name : ℕ) → IsNear (snapshot_of w) name
@@ -358,7 +367,7 @@ module _ {F : Type 0} (answers : Bounds → ℕ → F → Option ℕ → F → T
   pub still_courses : (before events : List Timed) (from span until : ℕ) (g : Snapshot) (ts : List Transition)
       (fate fate_after : F) (w w' : WorldState) → Each IsFitEvent events → Each (λ (e : Timed). e.at ≤ from) events
       → IsCalm d.network (before ++ events) → StandsAfter d.network (before ++ events) g
-      → last_change (before ++ events) ≤ from → span ≡ settling_span pace (path_bound g)
+      → last_change (before ++ events) ≤ from → span ≡ span_after (before ++ events) g
       → Courses answers until events ts fate fate_after w w' → Keeps before w → AllNear (snapshot_of w')
       → StillBehind (from + span) ts
   still_courses before [] from span until g ts fate fate_after w w' fit early calm stands last span_is k keeps near =
@@ -375,7 +384,8 @@ module _ {F : Type 0} (answers : Bounds → ℕ → F → Option ℕ → F → T
       (early_makes (from + span) event first fate drawn w between (omega (arith, le)) makes)
       (still_courses (before ++ event ∷ []) events from span until g rest drawn fate_after between w'
       (λ place. fit (suc place)) (λ place. early (suc place)) (subst (IsCalm d.network) shift calm)
-      (subst (λ es. StandsAfter d.network es g) shift stands) (subst (λ es. last_change es ≤ from) shift last) span_is k
+      (subst (λ es. StandsAfter d.network es g) shift stands) (subst (λ es. last_change es ≤ from) shift last)
+      (subst (λ es. span ≡ span_after es g) shift span_is) k
       (keeps_made before event first fate drawn w between (fit 0 event refl) makes keeps) near))
 
   -- ---- the events of a document, stretch by stretch
@@ -443,7 +453,8 @@ module _ {F : Type 0} (answers : Bounds → ℕ → F → Option ℕ → F → T
         (λ place e there. let passes = filter_passes test left place e there in grind (arith, nat_tests))
         (subst (IsCalm d.network) are bounds.0)
         (subst (λ es. StandsAfter d.network es span.snapshot) are span.stands)
-        (last_past from (before ++ now) (past_both from before left is.past)) span.is
+        (last_past from (before ++ now) (past_both from before left is.past))
+        (subst (λ es. bound ≡ span_after es span.snapshot) are span.is)
         (subst (λ es. Courses answers p.to es p.acts fate fate_after w p.after) passage.events_are passage.courses)
         keeps
         near)

@@ -1,4 +1,4 @@
-use Rattle.gptp_kept.proofs.ClaimedLemmas.{claimed_settled, settled_by_neighbours, settled_by_paths}
+use Rattle.gptp_kept.proofs.ClaimedLemmas.{calm_without, claimed_settled, settled_by_neighbours, settled_by_paths}
 use Rattle.gptp_kept.proofs.claimed.worlds_settle.Goals as goal
 
 pub returns-clause-systems : goal.returns-clause-systems
@@ -9,3 +9,6 @@ returns-clause-by_paths c = settled_by_paths
 
 pub returns-clause-neighbours : goal.returns-clause-neighbours
 returns-clause-neighbours c = settled_by_neighbours
+
+pub returns-clause-without_timeout : goal.returns-clause-without_timeout
+returns-clause-without_timeout c = calm_without

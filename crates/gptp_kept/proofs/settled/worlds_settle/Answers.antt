@@ -6,4 +6,4 @@ returns-clause-systems c = settles
 
 pub returns-clause-by_paths : goal.returns-clause-by_paths
 returns-clause-by_paths c =
-    λ p m w is quiet capable holds bounded. settles_by_paths p w is quiet capable holds m bounded
+    λ p m n w is capable holds bounded quiet. settles_by_paths p w is capable holds m bounded quiet n

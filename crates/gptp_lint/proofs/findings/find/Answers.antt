@@ -1,7 +1,8 @@
 -- One link more is told of behind those before it, and in the end all are, as the law of quiet networks asks.
-use Rattle.std.proofs.Common.{◌≡◌, ◌++◌, ◌∷◌, ◌+◌, [], drop, map, ap, sym, subst, ◌∙◌}
+use Rattle.std.proofs.Common.{◌≡◌, ◌++◌, ◌∷◌, ◌+◌, drop, map, ap, sym, subst, ◌∙◌}
 use Rattle.std.specs.Option.{option_to_list}
 use Rattle.std.proofs.lemmas.List.{append-nil, drop_all, drop_more}
+use Rattle.gptp_setup.specs.Pace.{lapse_span}
 use Rattle.gptp_plan.specs.Network.{IsNetwork, NetworkState}
 use Rattle.gptp_plan.specs.declared.network.Wire.{Wire}
 use Rattle.gptp_lint.specs.Course.{cable_of, course_of, wire_of}
@@ -40,3 +41,5 @@ returns c =
     (sym (append-nil lossy) ∙ ap (λ cs. lossy ++ lossies_of d (map wire_of cs)) (sym end)
     ∙ c.loop-cable.invariant.lossy)
     c.in_ok-calm.ensures
+    (c.lapse_span.ensures.span
+    ∙ ap lapse_span (c.params.ensures ∙ ap (λ (n : NetworkState). n.params) c.network-5.ensures))

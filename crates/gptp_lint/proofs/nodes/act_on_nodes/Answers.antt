@@ -1,5 +1,5 @@
 -- It is done to one system more.
-use Rattle.std.proofs.Common.{◌≡◌, get_or, slice_set, ap, ◌∙◌}
+use Rattle.std.proofs.Common.{get_or, slice_set, ap, ◌∙◌}
 use Rattle.gptp_lint.specs.Tables.{node_acted}
 use Rattle.gptp_lint.specs.declared.nodes.Node.{Node}
 use Rattle.gptp_lint.proofs.MemberLemmas.{mapped_set}

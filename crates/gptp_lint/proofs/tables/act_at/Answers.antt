@@ -1,5 +1,5 @@
 -- The link at the place is met, if there is one, and what is kept of it agrees.
-use Rattle.std.proofs.Common.{◌≡◌, ◌<◌, ◌≤◌, get_or, length, map, slice_set, ap, ap₂, sym, ◌∙◌, arith}
+use Rattle.std.proofs.Common.{◌<◌, get_or, length, slice_set, ap, ap₂, sym, ◌∙◌, arith}
 use Rattle.std.proofs.lemmas.List.{length-map}
 use Rattle.std.proofs.lemmas.Option.{slice_get-get_or}
 use Rattle.gptp_lists.proofs.PlaceLemmas.{map-set}

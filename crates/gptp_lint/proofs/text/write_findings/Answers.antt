@@ -1,11 +1,12 @@
 -- The lines of all findings, one kind behind the other.
 use Rattle.std.proofs.Common.{◌++◌, ℕ, List, Option, length, map, nat_lt, slice_get, refl, ap, ap₂, ◌∙◌}
 use Rattle.std.specs.Prelude.{string_bytes}
-use Rattle.gptp_lint.specs.LintText.{calm_line, found_lines, long_line, lossy_line, other_lines}
+use Rattle.std.specs.List.{flat_map}
+use Rattle.gptp_lint.specs.LintText.{calm_line, found_lines, late_lines, long_line, lossy_line, other_lines}
 use Rattle.gptp_lint.specs.Unread.{unread_line}
 use Rattle.gptp_lint.specs.declared.trouble.Long.{Long}
 use Rattle.gptp_lint.specs.declared.trouble.Lossy.{Lossy}
-use Rattle.gptp_lint.proofs.TextLemmas.{four_kinds, joined, longer}
+use Rattle.gptp_lint.proofs.TextLemmas.{five_kinds, joined, longer}
 use Rattle.gptp_lint.proofs.text.write_findings.Goals as goal
 
 pub returns : goal.returns
@@ -17,10 +18,12 @@ returns c =
     let header : ℕ → Option ℕ = λ link. slice_get c.in_ok-outline.outline.links.items link in
     let long : Long → List ℕ = λ l. long_line c.args.threshold (header l.link) l in
     let lossy : Lossy → List ℕ = λ l. lossy_line (header l.link) l in
-    let mid = four_kinds old (string_bytes c.write_unread.new.text) (string_bytes c.write_longs.new.text)
-    (string_bytes c.write_stretches.new.text) others (map unread_line unread) (map long f.long.items)
-    (map lossy f.lossy.items) (other_lines f) first (rw c.deref.ensures.value at c.in_ok-write_longs.ensures)
-    (rw c.deref-2.ensures.value at c.in_ok-write_stretches.ensures) c.in_ok-write_others.ensures in
+    let mid = five_kinds old (string_bytes c.write_unread.new.text) (string_bytes c.write_longs.new.text)
+    (string_bytes c.write_stretches.new.text) (string_bytes c.write_lates.new.text) others (map unread_line unread)
+    (map long f.long.items) (map lossy f.lossy.items) (flat_map (late_lines f.limit) f.calm.items) (other_lines f) first
+    (rw c.deref.ensures.value at c.in_ok-write_longs.ensures)
+    (rw c.deref-2.ensures.value at c.in_ok-write_stretches.ensures)
+    (rw c.deref-3.ensures.value at c.in_ok-write_lates.ensures) c.in_ok-write_others.ensures in
     let lines = found_lines c.args.threshold f unread header in (
       lines ++ map calm_line f.calm.items,
       record {
@@ -32,5 +35,5 @@ returns c =
             ∙ longer old lines;
       },
       joined old others (string_bytes c.write_calm_times.new.text) lines (map calm_line f.calm.items) mid
-          (rw c.deref-3.ensures.value at c.in_ok-write_calm_times.ensures),
+          (rw c.deref-4.ensures.value at c.in_ok-write_calm_times.ensures),
     )

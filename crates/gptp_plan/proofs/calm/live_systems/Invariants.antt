@@ -1,6 +1,6 @@
 -- Those counted and those left to count are all, and no more are counted than were looked at.
 use Rattle.std.proofs.Common.{◌≡◌, ◌≤◌, ◌+◌, drop}
-use Rattle.gptp_plan.specs.SettlingTime.{live_systems}
+use Rattle.gptp_plan.specs.InUse.{live_systems}
 use Rattle.gptp_plan.proofs.calm.live_systems.Given as goal
 
 abbrev pub invariant-loop-member : goal.invariant-loop-member

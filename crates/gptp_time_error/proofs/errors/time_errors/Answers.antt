@@ -7,10 +7,14 @@ use Rattle.gptp_time_error.proofs.EventLemmas.{allowed_by}
 use Rattle.gptp_time_error.proofs.ExactLemmas.{are_exact}
 use Rattle.gptp_time_error.proofs.errors.time_errors.Goals as goal
 
-pub holds_from_if_calm-from-requires : goal.holds_from_if_calm-from-requires
-holds_from_if_calm-from-requires c =
+pub holds_from_if_calm-from-requires-clause-allowed : goal.holds_from_if_calm-from-requires-clause-allowed
+holds_from_if_calm-from-requires-clause-allowed c =
     subst AreAllowed (sym (c.events_by-events.ensures ∙ ap (events_by c.args.until) c.events.ensures))
     (allowed_by c.args.until c.args.document.now.events c.well_formed-2.ensures.allowed)
+
+pub holds_from_if_calm-from-requires-clause-stands : goal.holds_from_if_calm-from-requires-clause-stands
+holds_from_if_calm-from-requires-clause-stands c =
+    rw (c.network-network.ensures, c.events_by-events.ensures, c.events.ensures) c.in_ok-snapshot.ensures
 
 pub sums_of_all-requires-clause-allowed : goal.sums_of_all-requires-clause-allowed
 sums_of_all-requires-clause-allowed c =

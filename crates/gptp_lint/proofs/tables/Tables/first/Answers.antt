@@ -1,5 +1,5 @@
 -- The tables are those of the network's links.
-use Rattle.std.proofs.Common.{◌≡◌, map, ap, ◌∙◌}
+use Rattle.std.proofs.Common.{map, ap, ◌∙◌}
 use Rattle.gptp_lint.specs.Course.{first, wire_of}
 use Rattle.gptp_lint.specs.Tables.{clocks_of, mark_of, node_of}
 use Rattle.gptp_lint.proofs.StandingLemmas.{starts}
