@@ -27,7 +27,9 @@ use Rattle.gptp_graph.proofs.SureTests.{sure_well_formed, sure_passes}
 use Rattle.gptp_links.specs.declared.bounds.Bounds.{Bounds}
 use Rattle.gptp_plan.specs.Calm.{AllRest, IsCalm}
 use Rattle.gptp_plan.specs.Network.{largest_of, pace_of}
-use Rattle.gptp_plan.specs.SettlingTime.{settling_span}
+use Rattle.gptp_plan.specs.InUse.{path_systems}
+use Rattle.gptp_plan.specs.SettlingTime.{settling_span_with}
+use Rattle.gptp_plan.specs.SyncWait.{sync_paths}
 use Rattle.gptp_acts.specs.Acts.{AtSystem}
 use Rattle.gptp_acts.specs.Advancing.{Advanced, Told}
 use Rattle.gptp_acts.specs.Prompt.{HavePace}
@@ -56,7 +58,8 @@ use Rattle.gptp_reached.specs.Reached.{StandsAs}
 use Rattle.gptp_reached.proofs.CalmLemmas.{quiet_stands, set_stands}
 use Rattle.gptp_reached.proofs.PlayedLemmas.{played_stands}
 use Rattle.gptp_reached.proofs.SnapshotLemmas.{snapshots_stand, systems_stand}
-use Rattle.gptp_network_rows.specs.Pair.{HasBegun, IsPairAt, first, pair_network, pair_pace, pair_snapshot, params, second}
+use Rattle.gptp_reached.proofs.SyncPathLemmas.{paths_stand}
+use Rattle.gptp_network_rows.specs.Pair.{HasBegun, IsPairAt, first, pair_network, pair_pace, pair_paths, pair_snapshot, params, second}
 
 -- ---- the network
 
@@ -68,12 +71,16 @@ pace_is : pace_of pair_network ≡ pair_pace
 unfolding largest_of
 pace_is = refl
 
+paths_are : sync_paths pair_network [] ≡ pair_paths
+unfolding path_systems
+paths_are = refl
+
 links_rest : AllRest pair_network.params pair_network.systems pair_network.links []
 links_rest zero x early = λ used. record { lossless = refl; good = omega arith }
 links_rest (suc i) x early = absurd (omega (arith, early))
 
 calm : IsCalm pair_network []
-calm = record { links = links_rest; lapses = refl }
+calm = record { links = links_rest; lapses = inl refl }
 
 stands_after : StandsAfter pair_network [] pair_snapshot
 stands_after = record {
@@ -120,8 +127,10 @@ module _ {F : Type 0} (answers : Bounds → ℕ → F → Option ℕ → F → T
     calm = λ span early. record {
       pace = pair_pace;
       set = subst (λ p. HavePace p w) pace_is have_pace;
-      quiet = quiet_stands pair_network [] w so calm;
-      late = rw (so.last, systems, reached.now) (omega (arith, early));
+      quiet = quiet_stands pair_network [] w k.network so reached.sound calm;
+      late = subst (λ paths. w.last_change + span pair_pace paths (length (snapshot_of w).systems) ≤ w.time)
+          (sym paths_are ∙ paths_stand pair_network [] w k.network so reached.sound)
+          (rw (so.last, systems, reached.now) (omega (arith, early)));
     };
   }
 
@@ -273,7 +282,7 @@ pub second_follows : (w : WorldState) (root steps : ℕ) (slave : Option ℕ) �
     → FollowsInTime 2 w root steps slave → (root ≡ first) × (steps ≡ 1) × (slave ≡ Some 1)
 second_follows w root steps port at shown =
     let by_rest : IsNear (snapshot_of w) 2 → IsSettledFor (snapshot_of w) 2 root steps port =
-    shown (at.calm settling_span (omega arith)) in
+    shown (at.calm settling_span_with (omega arith)) in
     let is : IsSettledFor pair_snapshot 2 root steps port =
     subst (λ g. IsNear g 2 → IsSettledFor g 2 root steps port) at.snapshot by_rest near in
     (root_is root is.best, steps_are steps is.distance, slave_is port is.parent)
@@ -286,7 +295,7 @@ role_shown : (w : WorldState) (clock : ℕ) (role : Role) → IsPairAt 260000000
     → PlaysInTime clock 1 w role → (wanted : settled.Role) → ShowsRole clock role wanted
 role_shown w clock role at is_near shown wanted want =
     let by_rest : IsNear (snapshot_of w) clock → IsSettledRole (snapshot_of w) (port_of clock 1) (role_of role) =
-    shown (at.calm settling_span (omega arith)) in
+    shown (at.calm settling_span_with (omega arith)) in
     let is : IsSettledRole pair_snapshot (port_of clock 1) (role_of role) =
     subst (λ g. IsNear g clock → IsSettledRole g (port_of clock 1) (role_of role)) at.snapshot by_rest is_near in
     role_is clock (role_of role) wanted is want

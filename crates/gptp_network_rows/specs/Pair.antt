@@ -9,6 +9,7 @@ use Rattle.gptp_links.specs.declared.bounds.Bounds.{Bounds}
 use Rattle.gptp_graph.specs.Snapshot.{Snapshot, port_of}
 use Rattle.gptp_plan.specs.Network.{IsNetwork, NetworkState, member, wire}
 use Rattle.gptp_plan.specs.declared.network.Member.{Member}
+use Rattle.gptp_plan.specs.declared.sync_wait.SyncPaths.{SyncPaths}
 use Rattle.gptp_acts.specs.Course.{Begun}
 use Rattle.gptp_acts.specs.World.{WorldState, port_id}
 use Rattle.gptp_kept.specs.CalmFor.{IsCalmFor}
@@ -58,6 +59,10 @@ pair_network = record {
 abbrev pub pair_pace : Pace
 pair_pace = record { params = params; largest = pos 0 }
 
+-- what Sync has to cross: the one link
+abbrev pub pair_paths : SyncPaths
+pair_paths = record { systems = 2; delay = 500 }
+
 -- both live, and the link is up
 abbrev pub pair_snapshot : Snapshot
 pair_snapshot = record {
@@ -77,8 +82,8 @@ pub record HasBegun {F : Type 0} (answers : Bounds → ℕ → F → Option ℕ 
   pub before : F
   pub begun : Begun answers pair_network before fate w
 
--- The world of both at this time. It has been calm for each span, by the pace of the network and the two systems, that
--- is no longer.
+-- The world of both at this time. It has been calm for each span, by the pace of the network, by what Sync has to cross
+-- and by the two systems, that is no longer.
 pub record IsPairAt (time : ℕ) (w : WorldState) : Type 0 where
   pub snapshot : snapshot_of w ≡ pair_snapshot
-  pub calm : (span : Pace → ℕ → ℕ) → span pair_pace 2 ≤ time → IsCalmFor span w
+  pub calm : (span : Pace → SyncPaths → ℕ → ℕ) → span pair_pace pair_paths 2 ≤ time → IsCalmFor span w

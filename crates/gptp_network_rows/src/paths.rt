@@ -47,12 +47,18 @@ fn paths_have_few_systems(rt: HostRuntime) -> Result<(), Fail> {
 fn short_paths_settle_sooner(rt: HostRuntime) -> Result<(), Fail> {
     let alloc = rt.alloc();
     let document = Document::read(alloc, STAR.as_bytes())?;
+    document.well_formed();
     let network = document.network();
+    let events = document.events();
     for (systems, found, span) in [
-        (3, network.settling_span_over(3), 32_000_000_000),
-        (5, network.settling_span_over(5), 44_000_000_000),
-        (14, network.settling_span_over(14), 98_000_000_000),
-        (512, network.settling_span_over(512), 3_086_000_000_000),
+        (3, network.settling_span_over(3, events), 32_000_000_000),
+        (5, network.settling_span_over(5, events), 44_000_000_000),
+        (14, network.settling_span_over(14, events), 98_000_000_000),
+        (
+            512,
+            network.settling_span_over(512, events),
+            3_086_000_000_000,
+        ),
     ] {
         same_at(&rt, &systems, found, span);
     }
@@ -101,9 +107,10 @@ fn a_hall_settles_by_its_paths(rt: HostRuntime) -> Result<(), Fail> {
     let document = Document::read(alloc, hall(alloc)?.as_bytes())?;
     same(&rt, path_bound(alloc, &document, 0)?, 3);
     // by how many live it would be 68 s
+    document.well_formed();
     same(
         &rt,
-        document.network().settling_span_over(3),
+        document.network().settling_span_over(3, document.events()),
         32_000_000_000,
     );
     let mut world = World::new(alloc, document.network(), PcgFate::new(1))?;
