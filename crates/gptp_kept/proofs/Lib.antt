@@ -97,3 +97,5 @@ pub mod TraceLemmas
 pub mod TreeLemmas
 pub mod BoundedLemmas
 pub mod NameLemmas
+pub mod FollowOctetLemmas
+pub mod FollowHearLemmas

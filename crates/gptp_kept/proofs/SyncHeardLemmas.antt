@@ -49,7 +49,7 @@ ports_same a b same =
 -- ---- a message that is heard
 
 -- it is the one that the octets read as
-heard_as : (p : ℕ) (octets : List ℕ) (m : Message) (now : ℕ) (s s' : SystemState) (sends : List Sending)
+pub heard_as : (p : ℕ) (octets : List ℕ) (m : Message) (now : ℕ) (s s' : SystemState) (sends : List Sending)
     (answer : Answer) → Reads octets m → HearsFrame p octets now s s' sends answer
     → HearsMessage p m now s s' sends answer
 heard_as p octets m now s s' sends answer reads (inl k) =
@@ -57,11 +57,11 @@ heard_as p octets m now s s' sends answer reads (inl k) =
 heard_as p octets m now s s' sends answer reads (inr k) = absurd (never_both octets m k.refused reads k.refuses)
 
 module _ (s : SystemState) (p : ℕ) (source : PortIdentity) (takes : TakesTime s p source) where
-  at_slave : is_slave_at s p ≡ true
+  pub at_slave : is_slave_at s p ≡ true
   at_slave = let slave = takes.slave in rw slave (eq-eqb p p refl)
 
   -- what comes from there is followed
-  followed : (head : Head) → head.two_step ≡ true → identity_of head.source ≡ source → is_followed p head s ≡ true
+  pub followed : (head : Head) → head.two_step ≡ true → identity_of head.source ≡ source → is_followed p head s ≡ true
   followed head two_step from =
       let holds = takes.holds in
       let same : is_port takes.reception.vector.source head.source ≡ true =

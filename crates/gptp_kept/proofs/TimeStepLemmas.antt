@@ -98,7 +98,7 @@ TimeStep input s s' = StaysKnown s s' ⊎ (KeepsSync input s s' ⊎ (Learns s s'
 goes_on : (s s' : SystemState) → s'.lapse ≡ s.lapse → s'.root ≡ s.root → LapseGoesOn s s'
 goes_on s s' lapse root due is = inl (sym lapse ∙ is, root)
 
-still : (s s' : SystemState) → s'.params ≡ s.params → s'.sync_in ≡ s.sync_in → s'.known ≡ s.known
+pub still : (s s' : SystemState) → s'.params ≡ s.params → s'.sync_in ≡ s.sync_in → s'.known ≡ s.known
     → s'.relay ≡ s.relay → s'.lapse ≡ s.lapse → s'.root ≡ s.root → StaysKnown s s'
 still s s' params sync_in known relay lapse root = record {
   params = params;
@@ -110,10 +110,10 @@ still s s' params sync_in known relay lapse root = record {
   lapse = goes_on s s' lapse root;
 }
 
-becomes : (s t s' : SystemState) (sends : List Sending) → StaysKnown s t → Becomes t s' sends → StaysKnown s s'
+pub becomes : (s t s' : SystemState) (sends : List Sending) → StaysKnown s t → Becomes t s' sends → StaysKnown s s'
 becomes s t s' sends k b = subst (StaysKnown s) (sym b.state) k
 
-rests : (s s' : SystemState) (sends : List Sending) → Becomes s s' sends → StaysKnown s s'
+pub rests : (s s' : SystemState) (sends : List Sending) → Becomes s s' sends → StaysKnown s s'
 rests s s' sends b = becomes s s s' sends (still s s refl refl refl refl refl refl) b
 
 -- a Lapse timer begins only where the root may be grandmaster
@@ -167,7 +167,7 @@ selects s now t u sends params sync_in known relay root slave lapse k =
         inr (ap (λ (x : SystemState). can_lead x.root) k.state
         ∙ lapse_leads t.params k.vector.root (slave_port k.vector) now due is)
 
-turns : (p : ℕ) (step : PeerState → PeerState) (now : ℕ) (s s' : SystemState) (sends : List Sending)
+pub turns : (p : ℕ) (step : PeerState → PeerState) (now : ℕ) (s s' : SystemState) (sends : List Sending)
     → Turns p step now s s' sends → StaysKnown s s'
 turns p step now s s' sends h = go (is_turned step (number s.ports p)) h
   where
@@ -344,7 +344,7 @@ syncs_if : (b : Bool) (now : ℕ) (s s' : SystemState) (sends : List Sending) �
 syncs_if true now s s' sends k = subst (StaysKnown s) (sym k.state) (still s _ refl refl refl refl refl refl)
 syncs_if false now s s' sends k = becomes s (restarted now s) s' sends (still s _ refl refl refl refl refl refl) k
 
-hears_announce : (p : ℕ) (a : AnnounceView) (now : ℕ) (s s' : SystemState) (sends : List Sending) (answer : Answer)
+pub hears_announce : (p : ℕ) (a : AnnounceView) (now : ℕ) (s s' : SystemState) (sends : List Sending) (answer : Answer)
     → HearsMessage p (messages.Announce a) now s s' sends answer → StaysKnown s s'
 hears_announce p a now s s' sends answer (inl k) = rests s s' sends k.becomes
 hears_announce p a now s s' sends answer (inr (inl k)) = rests s s' sends k.becomes
@@ -379,7 +379,7 @@ hears_frame p octets now s s' sends answer (inl k) =
     hears_message p octets k.message now s s' sends answer k.reads k.hears
 hears_frame p octets now s s' sends answer (inr k) = inl (rests s s' sends k.becomes)
 
-expires : (timer : Timer) (now : ℕ) (s s' : SystemState) (sends : List Sending) → TimerExpires timer now s s' sends
+pub expires : (timer : Timer) (now : ℕ) (s s' : SystemState) (sends : List Sending) → TimerExpires timer now s s' sends
     → StaysKnown s s' ⊎ Stops (Expires timer) s s'
 expires (timers.Announce p) now s s' sends k =
     inl (subst (StaysKnown s) (sym k.state) (still s _ refl refl refl refl refl refl))

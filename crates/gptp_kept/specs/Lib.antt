@@ -41,3 +41,4 @@ pub mod Tree
 pub mod TreeLaws
 pub mod Bounded
 pub mod BoundedLaws
+pub mod FollowView
