@@ -99,3 +99,5 @@ pub mod BoundedLemmas
 pub mod NameLemmas
 pub mod FollowOctetLemmas
 pub mod FollowHearLemmas
+pub mod FollowLaneLemmas
+pub mod FollowSayLemmas

@@ -42,3 +42,5 @@ pub mod TreeLaws
 pub mod Bounded
 pub mod BoundedLaws
 pub mod FollowView
+pub mod Followers
+pub mod Timed
