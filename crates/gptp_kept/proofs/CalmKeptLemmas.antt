@@ -84,7 +84,7 @@ delay_bare systems (first ∷ channels) =
     ap (λ rest. if is_used systems first then max first.bounds.max rest else rest) (delay_bare systems channels)
 
 -- so it is the same of links that are kept
-of_kept : {X : Type 0} (f : List Channel → X) → ((channels : List Channel) → f (map bare channels) ≡ f channels)
+pub of_kept : {X : Type 0} (f : List Channel → X) → ((channels : List Channel) → f (map bare channels) ≡ f channels)
     → (before after : List Channel) → DifferInFlight before after → f after ≡ f before
 of_kept f each before after kept = sym (each after) ∙ ap f kept ∙ each before
 
@@ -99,7 +99,7 @@ pub record KeepsNetwork (w w' : WorldState) : Type 0 where
   pub links : DifferInFlight w.net.channels w'.net.channels
   pub change : w'.last_change ≡ w.last_change
 
-keeps_on : (first second third : WorldState) → KeepsNetwork first second → KeepsNetwork second third
+pub keeps_on : (first second third : WorldState) → KeepsNetwork first second → KeepsNetwork second third
     → KeepsNetwork first third
 keeps_on first second third f g = record {
   systems = g.systems ∙ f.systems;
@@ -110,7 +110,7 @@ keeps_on first second third f g = record {
 }
 
 -- the links alone are others
-net_keeps : (w : WorldState) (net : Net) → DifferInFlight w.net.channels net.channels
+pub net_keeps : (w : WorldState) (net : Net) → DifferInFlight w.net.channels net.channels
     → KeepsNetwork w (record w { net = net })
 net_keeps w net links = record {
   systems = refl;
@@ -196,7 +196,7 @@ earlier_quiet p w time quiet = record { links = quiet.links; lapses = quiet.laps
 -- ---- acts
 
 -- a call that sets no priority1
-calls_keep : (place : ℕ) (input : Input) (w : WorldState) (draws : List Draw) (answer : Answer) (w' : WorldState)
+pub calls_keep : (place : ℕ) (input : Input) (w : WorldState) (draws : List Draw) (answer : Answer) (w' : WorldState)
     → ((value : ℕ) → input ≢ Priority value) → Calls place input w draws answer w' → KeepsNetwork w w'
 calls_keep place input w draws answer w' other k =
     subst (KeepsNetwork w) (sym k.is)

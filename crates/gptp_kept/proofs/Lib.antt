@@ -101,3 +101,5 @@ pub mod FollowOctetLemmas
 pub mod FollowHearLemmas
 pub mod FollowLaneLemmas
 pub mod FollowSayLemmas
+pub mod FollowPartLemmas
+pub mod FollowTreeLemmas
