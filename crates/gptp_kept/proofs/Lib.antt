@@ -103,3 +103,5 @@ pub mod FollowLaneLemmas
 pub mod FollowSayLemmas
 pub mod FollowPartLemmas
 pub mod FollowTreeLemmas
+pub mod FollowHeardLemmas
+pub mod FollowSettingLemmas
