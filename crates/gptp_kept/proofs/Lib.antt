@@ -105,3 +105,4 @@ pub mod FollowPartLemmas
 pub mod FollowTreeLemmas
 pub mod FollowHeardLemmas
 pub mod FollowSettingLemmas
+pub mod FollowCallLemmas
