@@ -106,3 +106,4 @@ pub mod FollowTreeLemmas
 pub mod FollowHeardLemmas
 pub mod FollowSettingLemmas
 pub mod FollowCallLemmas
+pub mod FollowSizeLemmas
