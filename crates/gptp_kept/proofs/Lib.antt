@@ -107,3 +107,4 @@ pub mod FollowHeardLemmas
 pub mod FollowSettingLemmas
 pub mod FollowCallLemmas
 pub mod FollowSizeLemmas
+pub mod FollowWayLemmas
