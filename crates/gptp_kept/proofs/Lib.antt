@@ -108,3 +108,4 @@ pub mod FollowSettingLemmas
 pub mod FollowCallLemmas
 pub mod FollowSizeLemmas
 pub mod FollowWayLemmas
+pub mod FollowRightLemmas
