@@ -35,6 +35,7 @@ pub record CallSeen (at : LinkPlace) (w w' : WorldState) (f' : IsFollower at w')
   pub before : IsFollower at w
   pub a : f'.channel.a ≡ before.channel.a
   pub b : f'.channel.b ≡ before.channel.b
+  pub bounds : f'.channel.bounds ≡ before.channel.bounds
   pub own : ((at.answering ≡ place) × (state_of at w before ≡ s) × (state_of at w' f' ≡ s'))
       ⊎ ((at.answering ≢ place) × (state_of at w' f' ≡ state_of at w before))
   pub above : at.asking ≡ place → state_above at w before ≡ s
@@ -107,6 +108,7 @@ module _ (place : ℕ) (input : Input) (w : WorldState) (draws : List Draw) (ans
     before = old;
     a = was.a;
     b = was.b;
+    bounds = was.bounds;
     own = own_by own_was.which;
     above = above_by above_was.which;
     news = grows.news;

@@ -109,3 +109,4 @@ pub mod FollowCallLemmas
 pub mod FollowSizeLemmas
 pub mod FollowWayLemmas
 pub mod FollowRightLemmas
+pub mod FollowStepLemmas
