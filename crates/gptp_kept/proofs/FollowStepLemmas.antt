@@ -239,11 +239,15 @@ module _ (p : Pace) (settled longest : ℕ) (w w' : WorldState) (is : IsSettledF
 
     pub step_seen : ((at.answering ≡ place) × (x ≡ s) × (x' ≡ s')) ⊎ ((at.answering ≢ place) × (x' ≡ x))
         → (at.asking ≡ place → state_above at w f ≡ s)
-        → (at.answering ≡ place → StaysPut s s' ⊎ RelayStops w.time s s')
+        → (at.answering ≡ place → s'.root ≡ s.root → s'.slave ≡ s.slave → StaysPut s s' ⊎ RelayStops w.time s s')
         → (at.asking ≡ place → NoneTells (said_at s' (sender at.direction f.channel) sends)
         ⊎ TellsRight kset w.time s sends)
         → Acts kset tells (follower at w f) (after steps h')
-    step_seen (inl (here, was, now)) above moves speaks = by (moves here)
+    step_seen (inl (here, was, now)) above moves speaks =
+        by
+        (moves here
+        (ap (λ (y : SystemState). y.root) (sym now) ∙ root_stays ∙ ap (λ (y : SystemState). y.root) was)
+        (ap (λ (y : SystemState). y.slave) (sym now) ∙ slave_stays ∙ ap (λ (y : SystemState). y.slave) was))
       where
         nothing : news ≡ []
         nothing = quiet (λ there. apart (there ∙ sym here))

@@ -110,3 +110,4 @@ pub mod FollowSizeLemmas
 pub mod FollowWayLemmas
 pub mod FollowRightLemmas
 pub mod FollowStepLemmas
+pub mod FollowExpiryLemmas
