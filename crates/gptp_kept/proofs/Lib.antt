@@ -111,3 +111,4 @@ pub mod FollowWayLemmas
 pub mod FollowRightLemmas
 pub mod FollowStepLemmas
 pub mod FollowExpiryLemmas
+pub mod FollowDeliveryLemmas
