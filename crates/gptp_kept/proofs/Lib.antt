@@ -112,3 +112,5 @@ pub mod FollowRightLemmas
 pub mod FollowStepLemmas
 pub mod FollowExpiryLemmas
 pub mod FollowDeliveryLemmas
+pub mod FollowLaterLemmas
+pub mod FollowOffsetLemmas

@@ -44,3 +44,4 @@ pub mod BoundedLaws
 pub mod FollowView
 pub mod Followers
 pub mod Timed
+pub mod TimedLaws

@@ -1,0 +1,80 @@
+-- Laws on the time that is carried in a settled world.
+use Rattle.std.specs.Prelude.{◌≡◌, ◌<◌, ◌≤◌, ℕ, suc, ℤ, ◌-ℤ◌, List, Some, slice_get}
+use Rattle.gptp_graph.specs.Best.{IsBest}
+use Rattle.gptp_graph.specs.Snapshot.{System}
+use Rattle.gptp_scaled.specs.Counts.{AreWithin}
+use Rattle.gptp_messages.specs.declared.follow_up.FollowUp.{FollowUp}
+use Rattle.gptp_messages.specs.declared.message.Message.TheVariants as messages
+use Rattle.gptp_messages.specs.Grammar.{Reads}
+use Rattle.gptp_links.specs.declared.link.Direction.{Direction}
+use Rattle.gptp_links.specs.Fate.{Draw}
+use Rattle.gptp_setup.specs.Pace.{Pace}
+use Rattle.gptp_plan.specs.declared.change.Act.{Act}
+use Rattle.gptp_plan.specs.declared.change.Act.TheVariants.{Deliver}
+use Rattle.gptp_system.specs.declared.answer.Answer.TheVariants as answers
+use Rattle.gptp_system.specs.State.{clock, local_time}
+use Rattle.gptp_accuracy.specs.TimeError.{time_error_at}
+use Rattle.gptp_acts.specs.Acts.{Acts, Tells, at}
+use Rattle.gptp_acts.specs.declared.done.Done.{Done}
+use Rattle.gptp_acts.specs.declared.station.Station.{Station}
+use Rattle.gptp_acts.specs.World.{WorldState, port_id}
+use Rattle.gptp_timing.specs.Follower.{from}
+use Rattle.gptp_kept.specs.Followers.{HasWay, IsFollower, follower_clock, follower_setting, state_of}
+use Rattle.gptp_kept.specs.Known.{IsKnown}
+use Rattle.gptp_kept.specs.LinkView.{LinkPlace}
+use Rattle.gptp_kept.specs.SeenLaws.{IsNoChange}
+use Rattle.gptp_kept.specs.Standing.{snapshot_of}
+use Rattle.gptp_kept.specs.Timed.{CarriesTime, IsSettledFrom}
+
+-- ---- the claim
+
+-- it begins as the time comes from which the network is settled
+abbrev pub TimeBegins : Type 0
+TimeBegins = (p : Pace) (settled longest : ℕ) (w : WorldState) (time : ℕ)
+    → w.time < settled → IsKnown p w → IsSettledFrom p settled longest (at time w)
+    → CarriesTime p.params settled longest (at time w)
+
+-- every act that changes nothing of the network keeps it
+abbrev pub ActsCarryTime : Type 0
+ActsCarryTime = (p : Pace) (settled longest : ℕ) (act : Act) (w : WorldState) (draws : List Draw) (done : Done)
+    (w' : WorldState)
+    → IsNoChange act → Acts act w draws done w'
+    → IsSettledFrom p settled longest w → IsSettledFrom p settled longest w' → CarriesTime p.params settled longest w
+    → CarriesTime p.params settled longest w'
+
+-- and so does time that passes
+abbrev pub TimeCarriesTime : Type 0
+TimeCarriesTime = (p : Pace) (settled longest : ℕ) (w : WorldState) (time : ℕ)
+    → w.time ≤ time → CarriesTime p.params settled longest w
+    → CarriesTime p.params settled longest (at time w)
+
+-- ---- offsets
+
+-- the station of the root of a system
+pub record IsRootOf (w : WorldState) (number : ℕ) (root : Station) : Type 0 where
+  pub place : ℕ
+  pub here : slice_get w.stations place ≡ Some root
+  pub best : System
+  pub is_best : IsBest (snapshot_of w) number best
+  pub named : clock root.system ≡ best.clock
+
+-- octets are a Follow_Up
+abbrev pub AreFollowUp : List ℕ → Type 0
+AreFollowUp octets = (m : FollowUp) × Reads octets (messages.FollowUp m)
+
+-- Where a Follow_Up is used by a system that follows, from when on what comes left the root in the settled network: the
+-- offset that it leaves, if it leaves one, is within the time error of the way of the system of what its clock shows
+-- then less what the root's clock does (IEEE 802.1AS-2020, 10.2.4.3).
+abbrev pub OffsetsAreExact : Type 0
+OffsetsAreExact = (p : Pace) (settled longest link : ℕ) (direction : Direction) (w : WorldState) (draws : List Draw)
+    (done : Done) (w' : WorldState) (place : LinkPlace) (f : IsFollower place w) (steps port : ℕ) (octets : List ℕ)
+    (root after : Station) (offset : ℤ)
+    → (h : HasWay p.params place w f steps)
+    → Acts (Deliver link direction) w draws done w'
+    → Tells (port_id (follower_clock place w f) port) (Some answers.Used) octets done → AreFollowUp octets
+    → IsSettledFrom p settled longest w → CarriesTime p.params settled longest w
+    → from (follower_setting p.params settled longest place w f steps h) ≤ w.time
+    → IsRootOf w (follower_clock place w f) root
+    → slice_get w'.stations place.answering ≡ Some after → after.system.offset ≡ Some offset
+    → AreWithin (time_error_at h.way (suc steps)) offset
+    (local_time (state_of place w f) w.time -ℤ local_time root.system w.time)
