@@ -66,7 +66,7 @@ same_way FromA FromB = inr (λ e. cc)
 same_way FromB FromA = inr (λ e. cc)
 same_way FromB FromB = inl refl
 
-opposite_same : (one other : Direction) → opposite one ≡ opposite other → one ≡ other
+pub opposite_same : (one other : Direction) → opposite one ≡ opposite other → one ≡ other
 opposite_same FromA FromA e = refl
 opposite_same FromA FromB e = absurd cc
 opposite_same FromB FromA e = absurd cc

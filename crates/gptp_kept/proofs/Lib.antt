@@ -114,3 +114,4 @@ pub mod FollowExpiryLemmas
 pub mod FollowDeliveryLemmas
 pub mod FollowLaterLemmas
 pub mod FollowOffsetLemmas
+pub mod FollowWorldLemmas

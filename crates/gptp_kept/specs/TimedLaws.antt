@@ -1,6 +1,7 @@
 -- Laws on the time that is carried in a settled world.
-use Rattle.std.specs.Prelude.{◌≡◌, ◌<◌, ◌≤◌, ℕ, suc, ℤ, ◌-ℤ◌, List, Some, slice_get}
+use Rattle.std.specs.Prelude.{◌≡◌, ◌≢◌, ◌+◌, ◌^◌, ◌<◌, ◌≤◌, ℕ, suc, ℤ, ◌-ℤ◌, true, List, Some, slice_get}
 use Rattle.gptp_graph.specs.Best.{IsBest}
+use Rattle.gptp_graph.specs.Distance.{IsNear}
 use Rattle.gptp_graph.specs.Snapshot.{System}
 use Rattle.gptp_scaled.specs.Counts.{AreWithin}
 use Rattle.gptp_messages.specs.declared.follow_up.FollowUp.{FollowUp}
@@ -8,7 +9,8 @@ use Rattle.gptp_messages.specs.declared.message.Message.TheVariants as messages
 use Rattle.gptp_messages.specs.Grammar.{Reads}
 use Rattle.gptp_links.specs.declared.link.Direction.{Direction}
 use Rattle.gptp_links.specs.Fate.{Draw}
-use Rattle.gptp_setup.specs.Pace.{Pace}
+use Rattle.gptp_setup.specs.declared.setup.Params.{Params}
+use Rattle.gptp_setup.specs.Pace.{Pace, largest_interval}
 use Rattle.gptp_plan.specs.declared.change.Act.{Act}
 use Rattle.gptp_plan.specs.declared.change.Act.TheVariants.{Deliver}
 use Rattle.gptp_system.specs.declared.answer.Answer.TheVariants as answers
@@ -19,12 +21,15 @@ use Rattle.gptp_acts.specs.declared.done.Done.{Done}
 use Rattle.gptp_acts.specs.declared.station.Station.{Station}
 use Rattle.gptp_acts.specs.World.{WorldState, port_id}
 use Rattle.gptp_timing.specs.Follower.{from}
+use Rattle.gptp_kept.specs.Calm.{HaveQuietLinks}
+use Rattle.gptp_kept.specs.Claimed.{IsClaimed}
 use Rattle.gptp_kept.specs.Followers.{HasWay, IsFollower, follower_clock, follower_setting, state_of}
 use Rattle.gptp_kept.specs.Known.{IsKnown}
 use Rattle.gptp_kept.specs.LinkView.{LinkPlace}
 use Rattle.gptp_kept.specs.SeenLaws.{IsNoChange}
+use Rattle.gptp_kept.specs.Settled.{Settled}
 use Rattle.gptp_kept.specs.Standing.{snapshot_of}
-use Rattle.gptp_kept.specs.Timed.{CarriesTime, IsSettledFrom}
+use Rattle.gptp_kept.specs.Timed.{AllMeasureRight, CarriesTime, IsSettledFrom}
 
 -- ---- the claim
 
@@ -78,3 +83,28 @@ OffsetsAreExact = (p : Pace) (settled longest link : ℕ) (direction : Direction
     → slice_get w'.stations place.answering ≡ Some after → after.system.offset ≡ Some offset
     → AreWithin (time_error_at h.way (suc steps)) offset
     (local_time (state_of place w f) w.time -ℤ local_time root.system w.time)
+
+-- ---- settled worlds
+
+-- the world of a network of which all is claimed, whose links in use are quiet and whose systems have settled, is one
+-- that is settled from this time on, where what was measured is right; no delay of it is above the threshold
+abbrev pub ClaimedIsSettledFrom : Type 0
+ClaimedIsSettledFrom = (p : Pace) (settled : ℕ) (w : WorldState)
+    → IsClaimed p w → HaveQuietLinks p.params w → Settled w → AllMeasureRight p.params w
+    → w.last_change + largest_interval p ≤ settled → settled ≤ w.time → w.time ≤ 10 ^ 18
+    → IsSettledFrom p settled p.params.threshold w
+
+-- each near live system that isn't the best of its component follows, and has a way as long as its distance is
+pub record Follows (p : Params) (w : WorldState) (number : ℕ) : Type 0 where
+  pub place : LinkPlace
+  pub follower : IsFollower place w
+  pub is : follower_clock place w follower ≡ number
+  pub steps : ℕ
+  pub way : HasWay p place w follower steps
+
+abbrev pub OthersFollow : Type 0
+OthersFollow = (p : Pace) (settled longest : ℕ) (w : WorldState) (place : ℕ) (station : Station) (best : System)
+    → IsSettledFrom p settled longest w → slice_get w.stations place ≡ Some station → station.live ≡ true
+    → IsNear (snapshot_of w) (clock station.system) → IsBest (snapshot_of w) (clock station.system) best
+    → best.clock ≢ clock station.system
+    → Follows p.params w (clock station.system)

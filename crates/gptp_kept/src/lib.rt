@@ -14,7 +14,8 @@
 //! - [`claimed`]: all this as one claim that begins with the world of every network and is kept by every act, that worlds
 //!   settle, and what the calls of a world show then;
 //! - [`bounded`]: what the systems of a world state of themselves then, far ones too;
-//! - [`syncs`]: how systems tell time and hear it, as the machine of `gptp_settling` asks where something can lapse.
+//! - [`syncs`]: how systems tell time and hear it, as the machine of `gptp_settling` asks where something can lapse;
+//! - [`timed`]: the systems that follow a parent as the machine of `gptp_timing`, and how exact their offsets are.
 //!
 //! Each port announces at an interval of its own. What is counted in announce intervals is counted in the largest of
 //! them in the network.
@@ -35,5 +36,6 @@ pub mod seen;
 pub mod settled;
 pub mod silence;
 pub mod syncs;
+pub mod timed;
 pub mod unanswered_acts;
 pub mod unanswered_worlds;
