@@ -31,7 +31,7 @@ use Rattle.gptp_kept.specs.LinkView.{LinkPlace}
 use Rattle.gptp_kept.specs.Measured.{IsLiveAt}
 use Rattle.gptp_kept.specs.Said.{said_at}
 use Rattle.gptp_kept.specs.Standing.{snapshot_of}
-use Rattle.gptp_kept.specs.Timed.{AllFollow, CarriesTime, IsSettledFrom, RootsAreFresh}
+use Rattle.gptp_kept.specs.Timed.{AllMeasureRight, CarriesTime, IsSettledFrom, RootsAreFresh}
 use Rattle.gptp_kept.proofs.CalmKeptLemmas.{KeepsNetwork, calls_keep, expires_keep, same_snapshot}
 use Rattle.gptp_kept.proofs.FollowCallLemmas.{CallSeen, call_seen}
 use Rattle.gptp_kept.proofs.FollowHearLemmas.{StaysPut, stays_put}
@@ -87,8 +87,8 @@ known_ran s s' t k runs = by k.same k.relay
 -- ---- an expiry
 
 module _ (p : Pace) (settled longest : ℕ) (w w' : WorldState) (is : IsSettledFrom p settled longest w)
-    (is' : IsSettledFrom p settled longest w') (carries : CarriesTime p.params settled longest w) (place : ℕ)
-    (timer : Timer) (draws : List Draw) (e : Expires place timer w draws w') where
+    (is' : IsSettledFrom p settled longest w') (right : AllMeasureRight p.params w)
+    (carries : CarriesTime p.params settled longest w) (place : ℕ) (timer : Timer) (draws : List Draw) (e : Expires place timer w draws w') where
   abbrev at_rest : WorldState
   at_rest = stopped place timer w
 
@@ -191,7 +191,7 @@ module _ (p : Pace) (settled longest : ℕ) (w w' : WorldState) (is : IsSettledF
         sending : s.relay ≡ Some w.time → SendsOn w.time s s' e.calls.sends → TellsRight kset w.time s e.calls.sends
         sending runs told =
             subst (λ y. TellsRight kset w.time y e.calls.sends) above
-            (relay_right p settled longest w is carries at f steps h s' e.calls.sends
+            (relay_right p settled longest w is right carries at f steps h s' e.calls.sends
             (subst (λ (y : SystemState). y.relay ≡ Some w.time) (sym above) runs)
             (subst (λ y. SendsOn w.time y s' e.calls.sends) (sym above) told))
 

@@ -44,7 +44,7 @@ use Rattle.gptp_kept.specs.FollowView.{kept_sync, tells, told_in}
 use Rattle.gptp_kept.specs.Followers.{HasWay, IsFollower, follower, follower_clock, follower_setting, parts_of, state_of}
 use Rattle.gptp_kept.specs.LinkView.{LinkPlace, frame_view, opposite}
 use Rattle.gptp_kept.specs.Standing.{snapshot_of}
-use Rattle.gptp_kept.specs.Timed.{CarriesTime, IsSettledFrom}
+use Rattle.gptp_kept.specs.Timed.{AllMeasureRight, CarriesTime, IsSettledFrom}
 use Rattle.gptp_kept.specs.TimedLaws.{IsRootOf, OffsetsAreExact}
 use Rattle.gptp_kept.specs.View.{identity_of}
 use Rattle.gptp_kept.proofs.FollowDeliveryLemmas.{opposite_same}
@@ -163,7 +163,7 @@ module _ (p : ℕ) (m : FollowUpFields) (octets : List ℕ) (now : ℕ) (s s' : 
 -- ---- at a system that follows
 
 module _ (p : Pace) (settled longest : ℕ) (w : WorldState) (is : IsSettledFrom p settled longest w)
-    (carries : CarriesTime p.params settled longest w) (place : LinkPlace) (f : IsFollower place w) (steps : ℕ)
+    (right : AllMeasureRight p.params w) (carries : CarriesTime p.params settled longest w) (place : LinkPlace) (f : IsFollower place w) (steps : ℕ)
     (h : HasWay p.params place w f steps) (octets : List ℕ) (rest : List Frame)
     (front : queue place.direction f.channel ≡ frame w.time octets ∷ rest) (m : FollowUpFields)
     (reads : Reads octets (messages.FollowUp m)) where
@@ -188,7 +188,7 @@ module _ (p : Pace) (settled longest : ℕ) (w : WorldState) (is : IsSettledFrom
   measured : IsMeasuredAt h.way steps (rate_at x n) (delay_at x n)
   measured =
       subst (IsMeasuredAt h.way steps (rate_at x n)) same_delay
-      (subst (λ r. IsMeasuredAt h.way steps r (slave_delay x)) same_rate (is.right place f steps h))
+      (subst (λ r. IsMeasuredAt h.way steps r (slave_delay x)) same_rate (right place f steps h))
 
   module _ (s' : SystemState) (used : IsUsed n m x s') (late : from k ≤ w.time) where
     abbrev sync : KeptSync
@@ -332,7 +332,7 @@ module _ (p : Pace) (settled longest : ℕ) (w : WorldState) (is : IsSettledFrom
 
 pub offsets_are_exact : OffsetsAreExact
 offsets_are_exact p settled longest link direction w draws done w' place f steps port octets root after offset h k tells_it
-    (m, reads) is carries late is_root there left =
+    (m, reads) is right carries late is_root there left =
     let once = told_once (port_id (follower_clock place w f) port) (receiver direction k.channel) (Some answers.Used)
     k.answer octets k.octets done tells_it k.told in
     let d = k.delivers in
@@ -342,6 +342,6 @@ offsets_are_exact p settled longest link direction w draws done w' place f steps
     let here = used_here p settled longest w is place f link direction k.octets draws k.answer w' d
     (once.clock_is ∙ ap (λ c. (receiver direction c).clock) channels) m read after there (sym once.answer_is) in
     subst (AreWithin (time_error_at h.way (suc steps)) offset)
-    (clocks_are p settled longest w is carries place f steps h k.octets here.rest here.front m read root is_root)
-    (offset_exact p settled longest w is carries place f steps h k.octets here.rest here.front m read after.system
+    (clocks_are p settled longest w is right carries place f steps h k.octets here.rest here.front m read root is_root)
+    (offset_exact p settled longest w is right carries place f steps h k.octets here.rest here.front m read after.system
     here.used late offset left)

@@ -39,7 +39,7 @@ use Rattle.gptp_kept.specs.Followers.{HasWay, IsFollower, follower, follower_clo
 use Rattle.gptp_kept.specs.LinkView.{LinkPlace}
 use Rattle.gptp_kept.specs.Settled.{IsSettledSystem}
 use Rattle.gptp_kept.specs.Standing.{snapshot_of, standing}
-use Rattle.gptp_kept.specs.Timed.{CarriesTime, IsSettledFrom}
+use Rattle.gptp_kept.specs.Timed.{AllMeasureRight, CarriesTime, IsSettledFrom}
 use Rattle.gptp_kept.specs.View.{identity_of}
 use Rattle.gptp_kept.proofs.FollowOctetLemmas.{ToldFits}
 use Rattle.gptp_kept.proofs.FollowPartLemmas.{clock_shown}
@@ -187,7 +187,7 @@ record BridgeFitsTold (told : Relayed) : Type 0 where
 -- ---- a bridge
 
 module _ (p : Pace) (settled longest : ℕ) (w : WorldState) (is : IsSettledFrom p settled longest w)
-    (carries : CarriesTime p.params settled longest w) (at : LinkPlace) (f : IsFollower at w) (steps : ℕ)
+    (right : AllMeasureRight p.params w) (carries : CarriesTime p.params settled longest w) (at : LinkPlace) (f : IsFollower at w) (steps : ℕ)
     (h : HasWay p.params at w f (suc steps)) where
   abbrev kset : Setting
   kset = follower_setting p.params settled longest at w f (suc steps) h
@@ -237,7 +237,7 @@ module _ (p : Pace) (settled longest : ℕ) (w : WorldState) (is : IsSettledFrom
     own = own_shown p settled longest w is at2 f2 steps h2 w.time
 
     measured : IsMeasuredAt h2.way steps (slave_rate s2) (slave_delay s2)
-    measured = is.right at2 f2 steps h2
+    measured = right at2 f2 steps h2
 
     -- what it tells with a rate that the laws allow is right
     told_right : (held : ℤ) → IsHeldAt h2.way steps info.rate (slave_rate s2) held
@@ -292,10 +292,10 @@ module _ (p : Pace) (settled longest : ℕ) (w : WorldState) (is : IsSettledFrom
 
     room : (told : Relayed) → IsRight kset.way kset.phase kset.place told w.time
         → BridgeFitsTold told → told.origin.nanos < 1000000000 → ToldFits told
-    room told right fits small = record {
+    room told is_right fits small = record {
       origin = origin_fits h.way (short_way p settled longest w is at f (suc steps) h) h.phase (suc steps) told w.time
           (let same = long p settled longest w is at f (suc steps) h in omega (arith, same))
-          (root_time_fits p settled longest w is at f (suc steps) h w.time is.shown) small right;
+          (root_time_fits p settled longest w is at f (suc steps) h w.time is.shown) small is_right;
       correction = fits.correction;
       rate = fits.rate;
     }
@@ -304,14 +304,14 @@ module _ (p : Pace) (settled longest : ℕ) (w : WorldState) (is : IsSettledFrom
         → (HopFits info w.time s2 × (told ≡ relayed info (hop_of info w.time s2))) ⊎ IsTold info w.time s2 told
         → IsGood told
     good told (inl (fits, same)) =
-        let right = told_right info.rate
+        let is_right = told_right info.rate
         (rates_are_held.as_told h2.way steps info.rate (slave_rate s2) fits.rate) in
         subst IsGood (sym same)
-        (right, room _ right (record { correction = fits.correction; rate = fits.rate }))
+        (is_right, room _ is_right (record { correction = fits.correction; rate = fits.rate }))
     good told (inr (inl (fits, same))) =
-        let right = told_right (held_sum info (slave_rate s2)).rate held_allowed in
+        let is_right = told_right (held_sum info (slave_rate s2)).rate held_allowed in
         subst IsGood (sym same)
-        (right, room _ right (record { correction = fits.correction; rate = fits.rate }))
+        (is_right, room _ is_right (record { correction = fits.correction; rate = fits.rate }))
     good told (inr (inr (unfit, same))) =
         absurd (unfit (numbers_fit (held_sum info (slave_rate s2)).rate held_allowed))
 
@@ -336,13 +336,13 @@ module _ (p : Pace) (settled longest : ℕ) (w : WorldState) (is : IsSettledFrom
 
 -- what the Relay timer of any parent sends on
 pub relay_right : (p : Pace) (settled longest : ℕ) (w : WorldState) → IsSettledFrom p settled longest w
-    → CarriesTime p.params settled longest w → (at : LinkPlace) (f : IsFollower at w) (steps : ℕ)
+    → AllMeasureRight p.params w → CarriesTime p.params settled longest w → (at : LinkPlace) (f : IsFollower at w) (steps : ℕ)
     (h : HasWay p.params at w f steps) (s' : SystemState) (sends : List Sending)
     → (state_above at w f).relay ≡ Some w.time → SendsOn w.time (state_above at w f) s' sends
     → TellsRight (follower_setting p.params settled longest at w f steps h) w.time (state_above at w f) sends
-relay_right p settled longest w is carries at f (suc steps) h s' sends runs sent =
-    bridge_right p settled longest w is carries at f steps h s' sends runs sent
-relay_right p settled longest w is carries at f zero h s' sends runs sent =
+relay_right p settled longest w is right carries at f (suc steps) h s' sends runs sent =
+    bridge_right p settled longest w is right carries at f steps h s' sends runs sent
+relay_right p settled longest w is right carries at f zero h s' sends runs sent =
     let s = state_above at w f in
     let k = follower_setting p.params settled longest at w f zero h in
     let said = says_on w.time s s' sends sent in

@@ -26,11 +26,11 @@ use Rattle.gptp_kept.proofs.FollowWayLemmas.{follows_parent}
 -- ---- acts
 
 pub acts_carry_time : ActsCarryTime
-acts_carry_time p settled longest (Deliver link direction) w draws done w' none k is is' carries =
+acts_carry_time p settled longest (Deliver link direction) w draws done w' none k is is' right carries =
     delivery_carries p settled longest w w' is is' carries link direction k.octets draws k.answer k.delivers
-acts_carry_time p settled longest (Expire number timer) w draws done w' none (told, k) is is' carries =
-    expiry_carries p settled longest w w' is is' carries k.place timer draws k.so
-acts_carry_time p settled longest (Changing change) w draws done w' none k is is' carries = absurd none
+acts_carry_time p settled longest (Expire number timer) w draws done w' none (told, k) is is' right carries =
+    expiry_carries p settled longest w w' is is' right carries k.place timer draws k.so
+acts_carry_time p settled longest (Changing change) w draws done w' none k is is' right carries = absurd none
 
 -- ---- delays
 
@@ -50,13 +50,12 @@ used_within systems (first ∷ channels) bound each =
     by false is later = later
 
 pub claimed_is_settled_from : ClaimedIsSettledFrom
-claimed_is_settled_from p settled w claimed quiet choice right old late shown = record {
+claimed_is_settled_from p settled w claimed quiet choice old late shown = record {
   pace = claimed.pace;
   world = claimed.world;
   measured = claimed.measured;
   links = quiet;
   choice = choice;
-  right = right;
   old = old;
   late = late;
   shown = shown;

@@ -20,26 +20,24 @@ use Rattle.gptp_kept.specs.Settled.{Settled}
 use Rattle.gptp_kept.specs.Standing.{snapshot_of}
 use Rattle.gptp_kept.specs.SyncHolds.{delay_in}
 
--- what each system that follows has measured of the link to its parent is right
-abbrev pub AllMeasureRight : Params → WorldState → Type 0
-AllMeasureRight p w = (at : LinkPlace) (f : IsFollower at w) (steps : ℕ) (h : HasWay p at w f steps)
-    → IsMeasuredAt h.way steps (slave_rate (state_of at w f)) (slave_delay (state_of at w f))
-
--- The world of a network that is settled from this time on, as it is since: its links in use are quiet, its systems
--- have settled, and the ports by which they follow have measured right; no delay is above the longest, and the time is
--- one that clocks can show.
+-- The world of a network that is settled from this time on, as it is since: its links in use are quiet and its systems
+-- have settled; no delay is above the longest, and the time is one that clocks can show.
 pub record IsSettledFrom (p : Pace) (settled longest : ℕ) (w : WorldState) : Type 0 where
   pub pace : KeepPace p
   pub world : IsWorld p w
   pub measured : IsMeasured w
   pub links : HaveQuietLinks p.params w
   pub choice : Settled w
-  pub right : AllMeasureRight p.params w
   pub old : w.last_change + largest_interval p ≤ settled
   pub late : settled ≤ w.time
   pub shown : w.time ≤ 10 ^ 18
   pub short : delay_in w ≤ longest
   pub limit : longest ≤ 1000000000
+
+-- what each system that follows has measured of the link to its parent is right
+abbrev pub AllMeasureRight : Params → WorldState → Type 0
+AllMeasureRight p w = (at : LinkPlace) (f : IsFollower at w) (steps : ℕ) (h : HasWay p at w f steps)
+    → IsMeasuredAt h.way steps (slave_rate (state_of at w f)) (slave_delay (state_of at w f))
 
 -- the invariant of the machine holds of each system that follows
 abbrev pub AllFollow : Params → ℕ → ℕ → WorldState → Type 0

@@ -44,7 +44,8 @@ abbrev pub ActsCarryTime : Type 0
 ActsCarryTime = (p : Pace) (settled longest : ℕ) (act : Act) (w : WorldState) (draws : List Draw) (done : Done)
     (w' : WorldState)
     → IsNoChange act → Acts act w draws done w'
-    → IsSettledFrom p settled longest w → IsSettledFrom p settled longest w' → CarriesTime p.params settled longest w
+    → IsSettledFrom p settled longest w → IsSettledFrom p settled longest w' → AllMeasureRight p.params w
+    → CarriesTime p.params settled longest w
     → CarriesTime p.params settled longest w'
 
 -- and so does time that passes
@@ -77,7 +78,7 @@ OffsetsAreExact = (p : Pace) (settled longest link : ℕ) (direction : Direction
     → (h : HasWay p.params place w f steps)
     → Acts (Deliver link direction) w draws done w'
     → Tells (port_id (follower_clock place w f) port) (Some answers.Used) octets done → AreFollowUp octets
-    → IsSettledFrom p settled longest w → CarriesTime p.params settled longest w
+    → IsSettledFrom p settled longest w → AllMeasureRight p.params w → CarriesTime p.params settled longest w
     → from (follower_setting p.params settled longest place w f steps h) ≤ w.time
     → IsRootOf w (follower_clock place w f) root
     → slice_get w'.stations place.answering ≡ Some after → after.system.offset ≡ Some offset
@@ -87,10 +88,10 @@ OffsetsAreExact = (p : Pace) (settled longest link : ℕ) (direction : Direction
 -- ---- settled worlds
 
 -- the world of a network of which all is claimed, whose links in use are quiet and whose systems have settled, is one
--- that is settled from this time on, where what was measured is right; no delay of it is above the threshold
+-- that is settled from this time on; no delay of it is above the threshold
 abbrev pub ClaimedIsSettledFrom : Type 0
 ClaimedIsSettledFrom = (p : Pace) (settled : ℕ) (w : WorldState)
-    → IsClaimed p w → HaveQuietLinks p.params w → Settled w → AllMeasureRight p.params w
+    → IsClaimed p w → HaveQuietLinks p.params w → Settled w
     → w.last_change + largest_interval p ≤ settled → settled ≤ w.time → w.time ≤ 10 ^ 18
     → IsSettledFrom p settled p.params.threshold w
 

@@ -4,16 +4,16 @@ ghost use Rattle.gptp_kept.specs.TimedLaws.{ActsCarryTime, ClaimedIsSettledFrom,
 ghost use Rattle.gptp_kept.specs.TimedLaws.{TimeBegins, TimeCarriesTime};
 
 /// The world of a network of which all is claimed is settled, from a time on, as the other laws ask for, where its links
-/// in use are quiet, its systems have settled, and what was measured of the links that are followed is right. Each near
-/// live system that isn't the best of its component follows its parent there, over a way as long as its distance.
+/// in use are quiet and its systems have settled. Each near live system that isn't the best of its component follows its
+/// parent there, over a way as long as its distance.
 pub fn settled_worlds_follow()
     ensures settled { ClaimedIsSettledFrom }
     ensures follow { OthersFollow }
 {}
 
 /// As the time comes from which the network is settled, the claim on the time that is carried begins: the invariant of
-/// the machine holds of each system that follows. Every act that changes nothing of the network keeps it, and so does
-/// time that passes.
+/// the machine holds of each system that follows. Every act that changes nothing of the network keeps it, where what was
+/// measured of the links that are followed is right, and so does time that passes.
 pub fn carried_time_is_kept()
     ensures begins { TimeBegins }
     ensures acts { ActsCarryTime }
