@@ -168,7 +168,7 @@ ports_settled p w pace is watched silent quiet late place station here live i h 
     (λ linked. (used linked).capable) (linked_or_off p w pace is silent late place station here live i q there)
   where
     used : IsLinked (snapshot_of w) (identity_of (own station.system (suc i))) → IsCapablePort h q
-    used = used_capable p w pace is quiet watched late place station here live i h q stands there
+    used = used_capable p w pace is quiet.links watched late place station here live i h q stands there
 
 -- so the ports are capable as the machine of gptp_settling wants them
 pub are_capable : (p : Pace) (w : WorldState) → KeepPace p → IsWorld p w → Watches p w → AreSilent p w

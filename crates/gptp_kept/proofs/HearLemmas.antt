@@ -1,5 +1,5 @@
 -- What a port makes of octets that it hears, as one that asks and as one that answers.
-use Rattle.std.proofs.Common.{◌≡◌, ◌≢◌, ◌⊎◌, ◌*◌, ℕ, ℤ, pos, int_le, Bool, true, List, Some, None, refl, sym, ap, subst, ◌∙◌, inl, inr, eq-eqb, rules}
+use Rattle.std.proofs.Common.{◌≡◌, ◌≢◌, ◌⊎◌, ◌*◌, ℕ, ℤ, ◌-ℤ◌, pos, int_le, Bool, true, List, Some, None, refl, sym, ap, subst, ◌∙◌, inl, inr, eq-eqb, rules}
 use Rattle.std.specs.Prelude.{if◌then◌else◌, ◌==◌}
 use Rattle.std.specs.Option.{option_map_or}
 use Rattle.gptp_graph.specs.Snapshot.{PortIdentity}
@@ -16,7 +16,7 @@ use Rattle.gptp_pdelay.specs.declared.progress.Progress.{Progress}
 use Rattle.gptp_pdelay.specs.declared.progress.Progress.TheVariants as progresses
 use Rattle.gptp_pdelay.specs.declared.progress.Request.{Request}
 use Rattle.gptp_pdelay.specs.declared.progress.Response.{Response}
-use Rattle.gptp_pdelay.specs.Exchange.{carried_time, measurement_of, neighbor_rate}
+use Rattle.gptp_pdelay.specs.Exchange.{carried_time, mean_delay, measurement_of, neighbor_rate}
 use Rattle.gptp_pdelay.specs.GoodLink.{IsGoodLink, IsWithinThreshold}
 use Rattle.gptp_pdelay.specs.Peer.{after_follow_up, after_response, answered_by, completed, measured_by}
 use Rattle.gptp_pdelay.specs.Progress.{is_follow_up_to, is_response_to, response_of}
@@ -27,12 +27,13 @@ use Rattle.gptp_measuring.specs.Asker.{Asked, Answered, Takes, own_request, comp
 use Rattle.gptp_measuring.specs.Answerer.{Notes}
 use Rattle.gptp_measuring.specs.ExchangeLaws.{HasLocalClocks}
 use Rattle.gptp_measuring.specs.Messages.{Request as SeenRequest, Reply, Response as SaidResponse, FollowUp as SaidFollowUp}
+use Rattle.gptp_measuring.specs.Meter.{Measures, TakesMeasure}
 use Rattle.gptp_measuring.specs.Setting.{Setting, IsExchange}
 use Rattle.gptp_measuring.proofs.ExchangeLemmas.{exchanges_are_good}
 use Rattle.gptp_kept.specs.LinkView.{asked_at, asker_view, asks, follow_up_view, identity_of, replies, request_from, response_view, waits_view}
 use Rattle.gptp_kept.proofs.LinkLaneLemmas.{same_true}
 use Rattle.gptp_kept.proofs.LinkOctetLemmas.{one_request}
-use Rattle.gptp_kept.proofs.PartLemmas.{answered_is, heard_asked, heard_asks, heard_waits, response_passes, same_identity, sent_is}
+use Rattle.gptp_kept.proofs.PartLemmas.{AsksAsBefore, answered_is, asks_still, heard_asked, heard_asks, heard_waits, response_passes, same_identity, sent_is}
 
 -- what a port has after octets came that it hears, where they read as a message or not
 abbrev pub Hears : SystemState → ℕ → List ℕ → Part → Part → Type 0
@@ -130,17 +131,17 @@ module _ (k : Setting) (s : SystemState) (now period : ℕ) (octets : List ℕ) 
     (answering_is : k.answering ≡ identity_of answering) (clock_is : k.asking_clock now ≡ local_time s now)
     (named : x.peer.own ≡ own) (apart : own.clock ≢ answering.clock)
     (good : IsGoodLink k.most k.turnaround x.peer.threshold) (clocks : HasLocalClocks k) where
-  -- octets that are no reply leave what the port asked
-  nothing : ((r : Reply) → replies octets r → ⊥) → asker_view period x' ≡ asker_view period x
+  -- octets that are no reply leave what the port asked and measured
+  nothing : ((r : Reply) → replies octets r → ⊥) → AsksAsBefore period x x'
   nothing none = go hears
     where
-      go : Hears s now octets x x' → asker_view period x' ≡ asker_view period x
+      go : Hears s now octets x x' → AsksAsBefore period x x'
       go (inl (m, reads, is)) =
-          ap (asker_view period) is
-          ∙ heard_asks s now period m x
+          subst (AsksAsBefore period x) (sym is)
+          (heard_asks s now period m x
           (λ r e. none (response_view r) (inl (r, subst (Reads octets) e reads, refl)))
-          (λ r e. none (follow_up_view r) (inr (r, subst (Reads octets) e reads, refl)))
-      go (inr (unread, is)) = ap (asker_view period) is
+          (λ r e. none (follow_up_view r) (inr (r, subst (Reads octets) e reads, refl))))
+      go (inr (unread, is)) = asks_still period x x' is
 
   -- no Pdelay timer starts
   asked : (asker_view period x').asked ≡ (asker_view period x).asked
@@ -151,11 +152,12 @@ module _ (k : Setting) (s : SystemState) (now period : ℕ) (octets : List ℕ) 
           ap (λ (y : Part). asked_at period y.pdelay) is ∙ ap (asked_at period) (heard_asked s now m x)
       go (inr (unread, is)) = ap (λ (y : Part). asked_at period y.pdelay) is
 
-  -- a response to the open request is recorded
+  -- a response to the open request is recorded, and measures nothing
   response_heard : (sequence : ℕ) (t1 t2 : ℤ) → (asker_view period x).progress ≡ Asked sequence t1
       → replies octets (SaidResponse k.answering (own_request k sequence) t2)
-      → asker_view period x'
-      ≡ record (asker_view period x) { progress = Answered sequence k.answering t1 t2 (k.asking_clock now) }
+      → (asker_view period x'
+      ≡ record (asker_view period x) { progress = Answered sequence k.answering t1 t2 (k.asking_clock now) })
+      × (x'.peer.last ≡ x.peer.last)
   response_heard sequence t1 t2 was (inr (m, reads, e)) = absurd cc
   response_heard sequence t1 t2 was (inl (m, reads, e)) =
       let (request, sent, number, first) = sent_is x.peer.progress sequence t1 was in
@@ -172,18 +174,34 @@ module _ (k : Setting) (s : SystemState) (now period : ℕ) (octets : List ℕ) 
       let after : after_response m (local_time s now) x.peer ≡ record x.peer { progress = recorded } =
       ap (λ o. option_map_or (λ progress. record x.peer { progress = progress }) o x.peer) by in
       let part : x' ≡ record x { peer = record x.peer { progress = recorded } } =
-      heard_message s now octets x x' (messages.PdelayResp m) hears reads ∙ ap (λ q. record x { peer = q }) after in
-      ap (asker_view period) part
-      ∙ (λ i. record (asker_view period x) {
-        progress = Answered (number i) (source i) (first i) (time i) (sym clock_is i);
-      })
+      heard_message s now octets x x' (messages.PdelayResp m) hears reads ∙ ap (λ q. record x { peer = q }) after in (
+        ap (asker_view period) part
+            ∙ (λ i. record (asker_view period x) {
+              progress = Answered (number i) (source i) (first i) (time i) (sym clock_is i);
+            }),
+        ap (λ (y : Part). y.peer.last) part,
+      )
 
-  -- a follow-up to the recorded response completes the exchange
+  -- what the four times of an exchange measure, by request and response as they are recorded
+  measures : (request : Request) (response : Response) (third t1 t2 t3 t4 : ℤ) → request.t1 ≡ t1 → response.t2 ≡ t2
+      → third ≡ t3 → response.t4 ≡ t4 → x'.peer.last ≡ Some (measurement_of x.peer.last request response third)
+      → Measures x.peer.last x'.peer.last t1 t2 t3 t4
+  measures request response third t1 t2 t3 t4 first second time fourth is = record {
+    measured = measurement_of x.peer.last request response third;
+    is = is;
+    t3_is = time;
+    t4_is = fourth;
+    rate_is = λ i. neighbor_rate x.peer.last (time i) (fourth i);
+    delay_is = λ i. mean_delay (neighbor_rate x.peer.last third response.t4) (fourth i -ℤ first i) (time i -ℤ second i);
+  }
+
+  -- a follow-up to the recorded response completes the exchange, and measures
   follow_up_heard : (sequence : ℕ) (t1 t2 t3 t4 : ℤ)
       → (asker_view period x).progress ≡ Answered sequence k.answering t1 t2 t4
       → replies octets (SaidFollowUp k.answering (own_request k sequence) t3)
-      → (fine : Bool) × (IsExchange k t1 t2 t3 t4 → fine ≡ true)
-      × (asker_view period x' ≡ completes fine (asker_view period x))
+      → ((fine : Bool) × (IsExchange k t1 t2 t3 t4 → fine ≡ true)
+      × (asker_view period x' ≡ completes fine (asker_view period x)))
+      × Measures x.peer.last x'.peer.last t1 t2 t3 t4
   follow_up_heard sequence t1 t2 t3 t4 was (inl (m, reads, e)) = absurd cc
   follow_up_heard sequence t1 t2 t3 t4 was (inr (m, reads, e)) =
       let (request, response, recorded, number, answered, first, second, fourth) =
@@ -204,21 +222,31 @@ module _ (k : Setting) (s : SystemState) (now period : ℕ) (octets : List ℕ) 
       let part : x' ≡ record x { peer = completed one x.peer } =
       heard_message s now octets x x' (messages.PdelayRespFollowUp m) hears reads
       ∙ ap (λ q. record x { peer = q }) after in (
-        int_le one.delay (pos (65536 * x.peer.threshold)),
-        λ exchange. is_at_most x.peer.threshold one.delay
-            (exchanges_are_good k x.peer.threshold (neighbor_rate x.peer.last third response.t4) request.t1 response.t2
-            third response.t4 good clocks (neighbor_rate_is_within x.peer.last third response.t4)
-            (subst (λ t. IsExchange k request.t1 response.t2 t response.t4) (sym time)
-            (subst (λ t. IsExchange k request.t1 response.t2 t3 t) (sym fourth)
-            (subst (λ t. IsExchange k request.t1 t t3 t4) (sym second)
-            (subst (λ t. IsExchange k t t2 t3 t4) (sym first) exchange))))),
-        ap (asker_view period) part,
+        (
+          int_le one.delay (pos (65536 * x.peer.threshold)),
+          λ exchange. is_at_most x.peer.threshold one.delay
+              (exchanges_are_good k x.peer.threshold (neighbor_rate x.peer.last third response.t4) request.t1
+              response.t2 third response.t4 good clocks (neighbor_rate_is_within x.peer.last third response.t4)
+              (subst (λ t. IsExchange k request.t1 response.t2 t response.t4) (sym time)
+              (subst (λ t. IsExchange k request.t1 response.t2 t3 t) (sym fourth)
+              (subst (λ t. IsExchange k request.t1 t t3 t4) (sym second)
+              (subst (λ t. IsExchange k t t2 t3 t4) (sym first) exchange))))),
+          ap (asker_view period) part,
+        ),
+        measures request response third t1 t2 t3 t4 first second time fourth (ap (λ (y : Part). y.peer.last) part),
       )
 
   pub hears_takes : Takes k replies now octets (asker_view period x) (asker_view period x')
   hears_takes = record {
-    nothing = nothing;
+    nothing = λ none. (nothing none).0;
     asked = asked;
-    response = response_heard;
-    follow_up = follow_up_heard;
+    response = λ sequence t1 t2 was said. (response_heard sequence t1 t2 was said).0;
+    follow_up = λ sequence t1 t2 t3 t4 was said. (follow_up_heard sequence t1 t2 t3 t4 was said).0;
+  }
+
+  pub hears_measure : TakesMeasure k replies octets (asker_view period x) x.peer.last x'.peer.last
+  hears_measure = record {
+    nothing = λ none. (nothing none).1;
+    response = λ sequence t1 t2 was said. (response_heard sequence t1 t2 was said).1;
+    follow_up = λ sequence t1 t2 t3 t4 was said. (follow_up_heard sequence t1 t2 t3 t4 was said).1;
   }

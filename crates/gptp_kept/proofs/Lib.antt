@@ -68,6 +68,7 @@ pub mod EndLemmas
 pub mod LinkLemmas
 pub mod LinkCallLemmas
 pub mod LinkExpiryLemmas
+pub mod PoppedLemmas
 pub mod LinkDeliveryLemmas
 pub mod LinkActLemmas
 pub mod MeasuredLemmas
@@ -88,10 +89,12 @@ pub mod BeforeLemmas
 pub mod UnansweredWorldLemmas
 pub mod BeginLemmas
 pub mod CapableKeptLemmas
+pub mod UsedLinkLemmas
 pub mod CapableLemmas
 pub mod ClaimedCapableLemmas
 pub mod ClaimLemmas
 pub mod ClaimedLemmas
+pub mod MeasuredLinkLemmas
 pub mod ShownLemmas
 pub mod TraceLemmas
 pub mod TreeLemmas

@@ -6,7 +6,7 @@ use Rattle.gptp_kept.proofs.LinkDeliveryLemmas.{delivers_seen}
 use Rattle.gptp_kept.proofs.LinkExpiryLemmas.{expires_seen}
 
 pub passes_seen : TimePasses
-passes_seen at time w l later = record { after = l; settled = refl; so = (time, later, refl) }
+passes_seen at time w l later = record { after = l; settled = refl; bounds = refl; so = (time, later, refl) }
 
 pub acts_seen : ActsAreActs
 acts_seen at (Deliver link direction) w w' draws done l sound calm k =

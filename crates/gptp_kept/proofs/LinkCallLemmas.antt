@@ -19,14 +19,15 @@ use Rattle.gptp_system.specs.State.{SystemState}
 use Rattle.gptp_acts.specs.World.{WorldState, queue, receiver, sender}
 use Rattle.gptp_lists.proofs.PlaceLemmas.{same_place}
 use Rattle.gptp_measuring.specs.Acts.{OthersSend}
-use Rattle.gptp_measuring.specs.Facts.{IsSentInTime}
+use Rattle.gptp_measuring.specs.Meter.{MeterActs, meter_rests}
+use Rattle.gptp_measuring.specs.Facts.{IsSentInTime, IsSentLate}
 use Rattle.gptp_measuring.specs.Lanes.{Frame as SeenFrame, AreMute}
 use Rattle.gptp_measuring.specs.Setting.{Setting}
-use Rattle.gptp_kept.specs.LinkView.{IsEndOf, IsLinkOf, LinkPlace, asker_view, asks, frame_view, lane_view, opposite, pair, replies, setting, waits_view}
+use Rattle.gptp_kept.specs.LinkView.{IsEndOf, IsLinkOf, LinkPlace, asker_view, asks, frame_view, lane_view, least_delay, meter, opposite, pair, replies, setting, waits_view}
 use Rattle.gptp_kept.specs.Said.{said_at}
 use Rattle.gptp_kept.proofs.LinkLaneLemmas.{IsDueSoon}
 use Rattle.gptp_kept.proofs.LinkLemmas.{LinkStep, sender_opposite}
-use Rattle.gptp_kept.proofs.PartLemmas.{answered_asks, asked_waits}
+use Rattle.gptp_kept.proofs.PartLemmas.{AsksAsBefore, answered_asks, asked_waits, asks_still}
 use Rattle.gptp_kept.proofs.SentLemmas.{asks_nothing, octets_of, replies_nothing}
 
 -- ---- parts
@@ -51,20 +52,20 @@ same_respond p q e = cc
 pub asker_timer : (s : SystemState) (now period : ℕ) (timer : Timer) (n : ℕ) (x x' : Part)
     → IsPartAfter s now (Expires timer) n x x'
     → ((timer ≡ timers.Pdelay n) × (x' ≡ part_asked s now after_interval x))
-    ⊎ ((timer ≢ timers.Pdelay n) × (asker_view period x' ≡ asker_view period x))
+    ⊎ ((timer ≢ timers.Pdelay n) × AsksAsBefore period x x')
 asker_timer s now period (timers.Pdelay p) n x x' k = elim (at_own p n (part_asked s now after_interval) x x' k) [
   | inl here ↦ inl (ap timers.Pdelay (sym here.0), here.1)
-  | inr other ↦ inr (λ e. other.0 (sym (same_pdelay p n e)), ap (asker_view period) other.1)
+  | inr other ↦ inr (λ e. other.0 (sym (same_pdelay p n e)), asks_still period x x' other.1)
 ]
 asker_timer s now period (timers.Respond p) n x x' k = elim (at_own p n part_answered x x' k) [
-  | inl here ↦ inr (λ e. absurd cc, ap (asker_view period) here.1 ∙ answered_asks period x)
-  | inr other ↦ inr (λ e. absurd cc, ap (asker_view period) other.1)
+  | inl here ↦ inr (λ e. absurd cc, subst (AsksAsBefore period x) (sym here.1) (answered_asks period x))
+  | inr other ↦ inr (λ e. absurd cc, asks_still period x x' other.1)
 ]
-asker_timer s now period (timers.Announce p) n x x' k = inr (λ e. absurd cc, ap (asker_view period) k)
-asker_timer s now period (timers.Age p) n x x' k = inr (λ e. absurd cc, ap (asker_view period) k)
-asker_timer s now period timers.Sync n x x' k = inr (λ e. absurd cc, ap (asker_view period) k)
-asker_timer s now period timers.Relay n x x' k = inr (λ e. absurd cc, ap (asker_view period) k)
-asker_timer s now period timers.Lapse n x x' k = inr (λ e. absurd cc, ap (asker_view period) k)
+asker_timer s now period (timers.Announce p) n x x' k = inr (λ e. absurd cc, asks_still period x x' k)
+asker_timer s now period (timers.Age p) n x x' k = inr (λ e. absurd cc, asks_still period x x' k)
+asker_timer s now period timers.Sync n x x' k = inr (λ e. absurd cc, asks_still period x x' k)
+asker_timer s now period timers.Relay n x x' k = inr (λ e. absurd cc, asks_still period x x' k)
+asker_timer s now period timers.Lapse n x x' k = inr (λ e. absurd cc, asks_still period x x' k)
 
 -- and of one that answers: its own Respond timer answers, and any other leaves what waits
 pub answerer_timer : (s : SystemState) (now : ℕ) (timer : Timer) (n : ℕ) (x x' : Part)
@@ -118,6 +119,21 @@ sent_in_time k time old news was now is kept dues g member =
         by (later, inl soon) = (later, inl soon)
         by (later, inr (h, there, before)) =
             (later, inr (frame_view h, kept (frame_view h) (In-map frame_view h old there), before))
+
+-- frames that take so long are sent so late
+pub sent_late : (least time : ℕ) (old news : List Frame) (was now : List SeenFrame)
+    → now ≡ map frame_view old ++ map frame_view news
+    → ((g : SeenFrame) → In g (map frame_view old) → In g was)
+    → ((f : Frame) → In f news → time + least ≤ f.due)
+    → IsSentLate least time was now
+sent_late least time old news was now is kept lates g member =
+    elim (In-parts g (map frame_view old) (map frame_view news) (subst (In g) is member)) [
+      | inl stays ↦ inl (kept g stays)
+      | inr added ↦ inr (new (seen_from news g added))
+    ]
+  where
+    new : ((f : Frame) × In f news × (g ≡ frame_view f)) → time + least ≤ g.due
+    new (f, among, same) = subst (λ (x : SeenFrame). time + least ≤ x.due) (sym same) (lates f among)
 
 -- ---- the link
 
@@ -215,20 +231,35 @@ module _ {at : LinkPlace} {place : ℕ} {input : Input} {w w' : WorldState} {l :
       (pair at w l).back (pair at w' step.after).back back_is (λ g member. member)
       (step.grows.dues (opposite at.direction))
 
-  -- an act that leaves what the one port asked and what waits at the other
-  pub others_send : asker_view period (part_of step.after.asking.state) ≡ asker_view period (part_of l.asking.state)
+  -- and takes the least delay of the link or more
+  pub out_late : IsSentLate (least_delay at w l) w.time (pair at w l).out (pair at w' step.after).out
+  out_late =
+      sent_late (least_delay at w l) w.time (queue at.direction l.channel) (news at.direction) (pair at w l).out
+      (pair at w' step.after).out out_is (λ g member. member) (step.grows.lates at.direction)
+
+  pub back_late : IsSentLate (least_delay at w l) w.time (pair at w l).back (pair at w' step.after).back
+  back_late =
+      sent_late (least_delay at w l) w.time (queue (opposite at.direction) l.channel) (news (opposite at.direction))
+      (pair at w l).back (pair at w' step.after).back back_is (λ g member. member)
+      (step.grows.lates (opposite at.direction))
+
+  -- an act that leaves what the one port asked and measured and what waits at the other
+  pub others_send : AsksAsBefore period (part_of l.asking.state) (part_of step.after.asking.state)
       → waits_view (part_of step.after.answering.state) ≡ waits_view (part_of l.answering.state)
       → AreMute asks (map frame_view (news at.direction))
       → AreMute replies (map frame_view (news (opposite at.direction)))
-      → OthersSend (setting at w l) asks replies (pair at w l) (pair at w' step.after)
-  others_send asker waits out back = record {
-    time = step.time;
-    asker = asker_is ∙ asker;
-    waits = waits;
-    ahead = map frame_view (news at.direction);
-    behind = map frame_view (news (opposite at.direction));
-    out = out_is;
-    back = back_is;
-    asks_nothing = out;
-    replies_nothing = back;
-  }
+      → MeterActs (setting at w l) asks replies (meter at w l) (meter at w' step.after)
+  others_send asker waits out back = meter_rests send asker.1
+    where
+      send : OthersSend (setting at w l) asks replies (pair at w l) (pair at w' step.after)
+      send = record {
+        time = step.time;
+        asker = asker_is ∙ asker.0;
+        waits = waits;
+        ahead = map frame_view (news at.direction);
+        behind = map frame_view (news (opposite at.direction));
+        out = out_is;
+        back = back_is;
+        asks_nothing = out;
+        replies_nothing = back;
+      }

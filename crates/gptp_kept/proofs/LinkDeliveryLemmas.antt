@@ -1,15 +1,13 @@
 -- A delivery, seen at a link: the port that asks hears, the port that answers hears, or others send.
-use Rattle.std.proofs.Common.{◌≡◌, ◌≢◌, ◌⊎◌, ℕ, Bool, true, false, List, [], ◌∷◌, ◌++◌, map, Option, Some, None, slice_get, slice_set, refl, sym, ap, subst, ◌∙◌, inl, inr, eq-eqb, eqb-true}
+use Rattle.std.proofs.Common.{◌≡◌, ◌≢◌, ◌+◌, ◌≤◌, ℕ, Bool, true, false, List, [], ◌∷◌, ◌++◌, map, Option, Some, None, slice_get, slice_set, refl, sym, ap, subst, ◌∙◌, inl, inr, eq-eqb, eqb-true}
 use Rattle.std.specs.Prelude.{if◌then◌else◌, ◌==◌}
 use Rattle.std.proofs.lemmas.List.{append-nil, map-append}
 use Rattle.gptp_lists.specs.Members.{In}
 use Rattle.gptp_lists.proofs.MemberLemmas.{In-map}
 use Rattle.gptp_vector.specs.declared.port.PortId.{PortId}
-use Rattle.gptp_links.specs.declared.bounds.Bounds.{Bounds}
 use Rattle.gptp_links.specs.declared.link.Direction.{Direction}
-use Rattle.gptp_links.specs.declared.link.Direction.TheVariants.{FromA, FromB}
 use Rattle.gptp_links.specs.Fate.{Draw}
-use Rattle.gptp_links.specs.Queue.{Frame, frame}
+use Rattle.gptp_links.specs.Queue.{frame}
 use Rattle.gptp_pdelay.specs.GoodLink.{IsGoodLink}
 use Rattle.gptp_system.specs.declared.answer.Answer.{Answer}
 use Rattle.gptp_setup.specs.declared.setup.Params.{Params}
@@ -21,118 +19,27 @@ use Rattle.gptp_system.specs.Steps.{IsUp}
 use Rattle.gptp_acts.specs.declared.station.Station.{Station}
 use Rattle.gptp_acts.specs.Act.{Calls, Delivers, HasFailed, Hears}
 use Rattle.gptp_acts.specs.Sound.{IsSound}
-use Rattle.gptp_acts.specs.World.{Channel, Net, WorldState, queue, receiver, sender, with_queue}
+use Rattle.gptp_acts.specs.World.{Net, WorldState, queue, receiver, sender, with_queue}
 use Rattle.gptp_lists.proofs.MappedLemmas.{same_there}
 use Rattle.gptp_lists.proofs.PlaceLemmas.{get-set_other, get-set_same, same_place}
-use Rattle.gptp_acts.proofs.StayLemmas.{carry_join, sender_same, takes_carry}
-use Rattle.gptp_measuring.specs.Acts.{Acts, AskerHears, AnswererHears, asker_hears, answerer_hears, others_send}
+use Rattle.gptp_acts.proofs.StayLemmas.{carry_join, takes_carry}
+use Rattle.gptp_measuring.specs.Acts.{AskerHears, AnswererHears}
 use Rattle.gptp_measuring.specs.Answerer.{Notes}
 use Rattle.gptp_measuring.specs.Asker.{Takes}
 use Rattle.gptp_measuring.specs.ExchangeLaws.{HasLocalClocks}
-use Rattle.gptp_measuring.specs.Facts.{IsSentInTime}
-use Rattle.gptp_kept.specs.LinkView.{IsEndOf, IsLinkOf, LinkPlace, SaysWhatFits, asker_view, asks, frame_view, identity_of, lane_view, opposite, pair, replies, setting, waits_view}
+use Rattle.gptp_measuring.specs.Facts.{IsSentInTime, IsSentLate}
+use Rattle.gptp_measuring.specs.Lanes.{Frame as SeenFrame}
+use Rattle.gptp_measuring.specs.Meter.{MeterActs, TakesMeasure, meter_heard, meter_hears, meter_rests}
+use Rattle.gptp_kept.specs.LinkView.{IsEndOf, IsLinkOf, LinkPlace, SaysWhatFits, asker_view, asks, frame_view, lane_view, least_delay, meter, opposite, pair, replies, setting, waits_view}
 use Rattle.gptp_kept.specs.LinkActs.{IsOneAct, IsSeen}
-use Rattle.gptp_kept.proofs.LinkCallLemmas.{asker_is, back_in_time, back_is, back_mute, back_stays, others_send as others_seen, out_in_time, out_is, out_mute, out_stays, seen_from, sent_in_time}
-use Rattle.gptp_kept.proofs.EndLemmas.{PartStep, renamed}
+use Rattle.gptp_kept.proofs.LinkCallLemmas.{asker_is, back_in_time, back_is, back_late, back_mute, back_stays, others_send as others_seen, out_in_time, out_is, out_late, out_mute, out_stays, seen_from, sent_in_time, sent_late}
+use Rattle.gptp_kept.proofs.PoppedLemmas.{carried, least_same, left_there, most_same, opposite_twice, popped_link, popped_receiver, popped_sender, popped_settled, queue_left, queue_set, receiver_opposite, which_way}
+use Rattle.gptp_kept.proofs.EndLemmas.{PartStep}
 use Rattle.gptp_kept.proofs.LinkExpiryLemmas.{clock_is}
-use Rattle.gptp_kept.proofs.HearLemmas.{Hears as PartHears, hears_notes, hears_takes}
+use Rattle.gptp_kept.proofs.HearLemmas.{Hears as PartHears, hears_measure, hears_notes, hears_takes}
 use Rattle.gptp_kept.proofs.LinkLaneLemmas.{IsDueSoon}
-use Rattle.gptp_kept.proofs.LinkLemmas.{IsOrderly, LinkStep, clocks_apart, link_called, net_orderly, receiver_same, sender_opposite, sound_orderly}
-
--- ---- a frame leaves its lane
-
--- a link of which only the frames in flight change
-record SameLink (old new : Channel) : Type 0 where
-  a : new.a ≡ old.a
-  b : new.b ≡ old.b
-  bounds : new.bounds ≡ old.bounds
-  up : new.up ≡ old.up
-
-same_link : (direction : Direction) (frames : List Frame) (channel : Channel)
-    → SameLink channel (with_queue direction frames channel)
-same_link FromA frames channel = record { a = refl; b = refl; bounds = refl; up = refl }
-same_link FromB frames channel = record { a = refl; b = refl; bounds = refl; up = refl }
-
-queue_set : (direction : Direction) (frames : List Frame) (channel : Channel)
-    → queue direction (with_queue direction frames channel) ≡ frames
-queue_set FromA frames channel = refl
-queue_set FromB frames channel = refl
-
-queue_left : (direction : Direction) (frames : List Frame) (channel : Channel)
-    → queue (opposite direction) (with_queue direction frames channel) ≡ queue (opposite direction) channel
-queue_left FromA frames channel = refl
-queue_left FromB frames channel = refl
-
-opposite_twice : (direction : Direction) → opposite (opposite direction) ≡ direction
-opposite_twice FromA = refl
-opposite_twice FromB = refl
-
--- a direction is this one or the other
-which_way : (direction way : Direction) → (direction ≡ way) ⊎ (direction ≡ opposite way)
-which_way FromA FromA = inl refl
-which_way FromA FromB = inr refl
-which_way FromB FromA = inr refl
-which_way FromB FromB = inl refl
-
-receiver_opposite : (direction : Direction) (channel : Channel)
-    → receiver (opposite direction) channel ≡ sender direction channel
-receiver_opposite FromA channel = refl
-receiver_opposite FromB channel = refl
-
--- the link with the oldest frame gone
-module _ (at : LinkPlace) (w : WorldState) (l : IsLinkOf at w) (direction : Direction) (front : Frame)
-    (rest : List Frame) (was : queue direction l.channel ≡ front ∷ rest) (net : Net)
-    (here : slice_get net.channels at.link ≡ Some (with_queue direction rest l.channel)) where
-  abbrev popped : Channel
-  popped = with_queue direction rest l.channel
-
-  carried : SameLink l.channel popped
-  carried = same_link direction rest l.channel
-
-  popped_sender : sender at.direction popped ≡ sender at.direction l.channel
-  popped_sender = sender_same at.direction l.channel popped carried.a carried.b
-
-  popped_receiver : receiver at.direction popped ≡ receiver at.direction l.channel
-  popped_receiver = receiver_same at.direction l.channel popped carried.a carried.b
-
-  left_there : (way : Direction) (f : Frame) → In f (queue way popped) → In f (queue way l.channel)
-  left_there way f member = by (which_way way direction)
-    where
-      by : (way ≡ direction) ⊎ (way ≡ opposite direction) → In f (queue way l.channel)
-      by (inl e) =
-          let among : In f rest =
-          subst (In f) (queue_set direction rest l.channel) (subst (λ d. In f (queue d popped)) e member) in
-          let whole : In f (front ∷ rest) = inr among in
-          subst (λ d. In f (queue d l.channel)) (sym e) (subst (In f) (sym was) whole)
-      by (inr e) =
-          subst (λ d. In f (queue d l.channel)) (sym e)
-          (subst (In f) (queue_left direction rest l.channel) (subst (λ d. In f (queue d popped)) e member))
-
-  most_same : popped.bounds.max ≡ l.channel.bounds.max
-  most_same = ap (λ (b : Bounds). b.max) carried.bounds
-
-  abbrev popped_link : IsLinkOf at (record w { net = net })
-  popped_link = record {
-    channel = popped;
-    here = here;
-    up = carried.up ∙ l.up;
-    lossless = ap (λ (b : Bounds). b.loss) carried.bounds ∙ l.lossless;
-    asking = renamed at.asking (sender at.direction l.channel) (sender at.direction popped) w (sym popped_sender)
-        l.asking;
-    answering = renamed at.answering (receiver at.direction l.channel) (receiver at.direction popped) w
-        (sym popped_receiver) l.answering;
-    apart = l.apart;
-    good = subst (λ most. IsGoodLink most l.answering.station.setup.params.turnaround
-        l.asking.station.setup.params.threshold) (sym most_same) l.good;
-    fit = λ way f member. l.fit way f (left_there way f member);
-  }
-
-  popped_settled : setting at (record w { net = net }) popped_link ≡ setting at w l
-  popped_settled = λ i. record (setting at w l) {
-    asking = identity_of (popped_sender i);
-    answering = identity_of (popped_receiver i);
-    most = most_same i;
-  }
+use Rattle.gptp_kept.proofs.PartLemmas.{AsksAsBefore, asks_still}
+use Rattle.gptp_kept.proofs.LinkLemmas.{IsOrderly, LinkStep, clocks_apart, link_called, net_orderly, sender_opposite, sound_orderly}
 
 -- ---- what the receiver is given
 
@@ -223,8 +130,9 @@ module _ (link : ℕ) (direction : Direction) (octets : List ℕ) (w : WorldStat
       unheard = record {
         after = left_link;
         settled = refl;
+        bounds = refl;
         so = record {
-          acts = others_send (record {
+          acts = meter_rests (record {
             time = refl;
             asker = refl;
             waits = refl;
@@ -234,9 +142,11 @@ module _ (link : ℕ) (direction : Direction) (octets : List ℕ) (w : WorldStat
             back = sym (append-nil (pair at w l).back);
             asks_nothing = λ f member. absurd member;
             replies_nothing = λ f member. absurd member;
-          });
+          }) refl;
           out = λ f member. inl member;
           back = λ f member. inl member;
+          out_late = λ f member. inl member;
+          back_late = λ f member. inl member;
         };
       }
 
@@ -270,13 +180,17 @@ module _ (link : ℕ) (direction : Direction) (octets : List ℕ) (w : WorldStat
           record {
             after = step.after;
             settled = step.settled;
+            bounds = step.grows.bounds;
             so = record {
-              acts = others_send (others_seen step
-                  (ap (asker_view (interval_of l.asking.station.setup.params.pdelay)) asker) (ap waits_view answerer)
+              acts = others_seen step
+                  (asks_still (interval_of l.asking.station.setup.params.pdelay) (part_of l.asking.state)
+                  (part_of step.after.asking.state) asker) (ap waits_view answerer)
                   (out_mute step (λ same e. absurd cc) (λ p e. absurd cc))
-                  (back_mute step (λ same e. absurd cc)));
+                  (back_mute step (λ same e. absurd cc));
               out = out_in_time step;
               back = back_in_time step;
+              out_late = out_late step;
+              back_late = back_late step;
             };
           }
 
@@ -363,10 +277,10 @@ module _ (link : ℕ) (direction : Direction) (octets : List ℕ) (w : WorldStat
           asks_elsewhere : at.asking ≢ k.place
           asks_elsewhere same = l.apart (same ∙ sym answers_here)
 
-          asker_left : asker_view period (part_of step.after.asking.state) ≡ asker_view period (part_of l.asking.state)
+          asker_left : AsksAsBefore period (part_of l.asking.state) (part_of step.after.asking.state)
           asker_left = elim step.asking [
             | inl called ↦ absurd (asks_elsewhere called.0)
-            | inr left ↦ ap (asker_view period) left.1
+            | inr left ↦ asks_still period (part_of l.asking.state) (part_of step.after.asking.state) left.1
           ]
 
           request_noted : Notes (setting at w l) asks w.time octets (waits_view (part_of l.answering.state))
@@ -388,7 +302,7 @@ module _ (link : ℕ) (direction : Direction) (octets : List ℕ) (w : WorldStat
           answerer_seen : AnswererHears (setting at w l) asks replies (pair at w l) (pair at w' step.after)
           answerer_seen = record {
             time = step.time;
-            asker = asker_is step ∙ asker_left;
+            asker = asker_is step ∙ asker_left.0;
             front = frame_view (frame w.time octets);
             rest = map frame_view k.takes.rest;
             was = ap (map frame_view) (ap (λ d. queue d l.channel) (sym way) ∙ was);
@@ -436,25 +350,41 @@ module _ (link : ℕ) (direction : Direction) (octets : List ℕ) (w : WorldStat
             answering = λ t. refl;
           }
 
-          reply_taken : Takes (setting at w l) replies w.time octets (asker_view period (part_of l.asking.state))
-              (asker_view period (part_of step.after.asking.state))
-          reply_taken = elim step.asking [
+          asker_hears : PartHears l.asking.station.system w.time octets (part_of l.asking.state)
+              (part_of step.after.asking.state)
+          asker_hears = elim step.asking [
             | inl called ↦
-                hears_takes (setting at w l) l.asking.station.system w.time period octets (part_of l.asking.state)
-                (part_of step.after.asking.state)
-                (hears_here (sender at.direction less.channel) l.asking.station.system (part_of l.asking.state)
+                hears_here (sender at.direction less.channel) l.asking.station.system (part_of l.asking.state)
                 (part_of step.after.asking.state)
                 (ap (λ (p : PortId). p.port)
                 (popped_sender at w l direction (frame w.time octets) k.takes.rest was k.net stands_now
-                ∙ sym port_asks)) called.1)
-                (sender at.direction l.channel) (receiver at.direction l.channel) refl refl
-                (clock_is at.asking (sender at.direction l.channel) w l.asking w.time) l.asking.measures.own
-                (clocks_apart at w l sound.wired.clocks)
-                (subst (IsGoodLink l.channel.bounds.max l.answering.station.setup.params.turnaround)
-                (sym l.asking.measures.threshold) l.good)
-                local_clocks
+                ∙ sym port_asks)) called.1
             | inr left ↦ absurd (left.0 asks_here)
           ]
+
+          good_here : IsGoodLink l.channel.bounds.max l.answering.station.setup.params.turnaround
+              l.asking.state.peer.threshold
+          good_here =
+              subst (IsGoodLink l.channel.bounds.max l.answering.station.setup.params.turnaround)
+              (sym l.asking.measures.threshold) l.good
+
+          reply_taken : Takes (setting at w l) replies w.time octets (asker_view period (part_of l.asking.state))
+              (asker_view period (part_of step.after.asking.state))
+          reply_taken =
+              hears_takes (setting at w l) l.asking.station.system w.time period octets (part_of l.asking.state)
+              (part_of step.after.asking.state) asker_hears (sender at.direction l.channel)
+              (receiver at.direction l.channel) refl refl
+              (clock_is at.asking (sender at.direction l.channel) w l.asking w.time) l.asking.measures.own
+              (clocks_apart at w l sound.wired.clocks) good_here local_clocks
+
+          reply_measured : TakesMeasure (setting at w l) replies octets (asker_view period (part_of l.asking.state))
+              l.asking.state.peer.last step.after.asking.state.peer.last
+          reply_measured =
+              hears_measure (setting at w l) l.asking.station.system w.time period octets (part_of l.asking.state)
+              (part_of step.after.asking.state) asker_hears (sender at.direction l.channel)
+              (receiver at.direction l.channel) refl refl
+              (clock_is at.asking (sender at.direction l.channel) w l.asking w.time) l.asking.measures.own
+              (clocks_apart at w l sound.wired.clocks) good_here local_clocks
 
           other_way : at.direction ≡ opposite direction
           other_way = sym (opposite_twice at.direction) ∙ ap opposite (sym way)
@@ -480,29 +410,51 @@ module _ (link : ℕ) (direction : Direction) (octets : List ℕ) (w : WorldStat
             mute = out_mute step (λ same e. absurd cc) (λ p e. absurd cc);
           }
 
-        heard_act : Acts (setting at w l) asks replies (pair at w l) (pair at w' step.after)
+        heard_act : MeterActs (setting at w l) asks replies (meter at w l) (meter at w' step.after)
+        unfolding asker_seen
         heard_act = elim (which_way direction at.direction) [
-          | inl way ↦ answerer_hears (answerer_seen way)
-          | inr way ↦ asker_hears (asker_seen way)
+          | inl way ↦ meter_heard (answerer_seen way) (asker_left way).1
+          | inr way ↦ meter_hears (asker_seen way) (reply_measured way)
         ]
 
-        -- what is sent is due in time, though a frame is gone
+        -- what is left in a lane and what is sent onto it
+        lane_is : (way : Direction) → lane_view way step.after.channel
+            ≡ map frame_view (queue way less.channel) ++ map frame_view (step.grows.news way)
+        lane_is way =
+            ap (map frame_view) (step.grows.queues way)
+            ∙ map-append frame_view (queue way less.channel) (step.grows.news way)
+
+        lane_left : (way : Direction) (g : SeenFrame) → In g (map frame_view (queue way less.channel))
+            → In g (lane_view way l.channel)
+        lane_left way g member =
+            let (f, among, is) = seen_from (queue way less.channel) g member in
+            subst (λ x. In x (lane_view way l.channel)) (sym is)
+            (In-map frame_view f (queue way l.channel)
+            (left_there at w l direction (frame w.time octets) k.takes.rest was k.net stands_now way f among))
+
+        -- what is sent is due in time, and takes the least delay or more, though a frame is gone
         lane_in_time : (way : Direction)
             → IsSentInTime (setting at w l) w.time (lane_view way l.channel) (lane_view way step.after.channel)
         lane_in_time way =
             sent_in_time (setting at w l) w.time (queue way less.channel) (step.grows.news way)
-            (lane_view way l.channel)
-            (lane_view way step.after.channel)
-            (ap (map frame_view) (step.grows.queues way)
-            ∙ map-append frame_view (queue way less.channel) (step.grows.news way))
-            (λ g member.
-            let (f, among, is) = seen_from (queue way less.channel) g member in
-            subst (λ x. In x (lane_view way l.channel)) (sym is)
-            (In-map frame_view f (queue way l.channel)
-            (left_there at w l direction (frame w.time octets) k.takes.rest was k.net stands_now way f among)))
+            (lane_view way l.channel) (lane_view way step.after.channel) (lane_is way) (lane_left way)
             (λ f member. subst (λ most. IsDueSoon w.time most (queue way less.channel) f)
             (most_same at w l direction (frame w.time octets) k.takes.rest was k.net stands_now)
             (step.grows.dues way f member))
+
+        lane_late : (way : Direction)
+            → IsSentLate (least_delay at w l) w.time (lane_view way l.channel) (lane_view way step.after.channel)
+        lane_late way =
+            sent_late (least_delay at w l) w.time (queue way less.channel) (step.grows.news way)
+            (lane_view way l.channel) (lane_view way step.after.channel) (lane_is way) (lane_left way)
+            (λ f member. subst (λ least. w.time + least ≤ f.due)
+            (least_same at w l direction (frame w.time octets) k.takes.rest was k.net stands_now)
+            (step.grows.lates way f member))
+
+        bounds_stay : step.after.channel.bounds ≡ l.channel.bounds
+        bounds_stay =
+            step.grows.bounds
+            ∙ (carried at w l direction (frame w.time octets) k.takes.rest was k.net stands_now).bounds
 
       -- one of the two stations hears it, and both are live
       no_one_failed : HasFailed k.place emptied → ⊥
@@ -525,38 +477,43 @@ module _ (link : ℕ) (direction : Direction) (octets : List ℕ) (w : WorldStat
       here_seen (Some told) calls = record {
         after = (step told calls).after;
         settled = settled told calls;
+        bounds = bounds_stay told calls;
         so = record {
           acts = heard_act told calls;
           out = lane_in_time told calls at.direction;
           back = lane_in_time told calls (opposite at.direction);
+          out_late = lane_late told calls at.direction;
+          back_late = lane_late told calls (opposite at.direction);
         };
       }
       here_seen None (failed, none, is) = absurd (no_one_failed failed)
 
     -- a frame on this link is heard by the port at its end
     pub answerer_hears_seen : (at : LinkPlace) (l : IsLinkOf at w) → link ≡ at.link → direction ≡ at.direction
-        → IsSeen (λ k p p'. AnswererHears k asks replies p p') at w w' l
+        → IsSeen (λ k m m'. AnswererHears k asks replies m.pair m'.pair) at w w' l
     answerer_hears_seen at l here way = go answer k.hears
       where
         go : (told : Option Answer) → Hears k.place port.port octets emptied draws told w'
-            → IsSeen (λ k p p'. AnswererHears k asks replies p p') at w w' l
+            → IsSeen (λ k m m'. AnswererHears k asks replies m.pair m'.pair) at w w' l
         go None (failed, none, is) = absurd (no_one_failed at l here failed)
         go (Some told) calls = record {
           after = (step at l here told calls).after;
           settled = settled at l here told calls;
+          bounds = bounds_stay at l here told calls;
           so = answerer_seen at l here told calls way;
         }
 
     pub asker_hears_seen : (at : LinkPlace) (l : IsLinkOf at w) → link ≡ at.link → direction ≡ opposite at.direction
-        → IsSeen (λ k p p'. AskerHears k asks replies p p') at w w' l
+        → IsSeen (λ k m m'. AskerHears k asks replies m.pair m'.pair) at w w' l
     asker_hears_seen at l here way = go answer k.hears
       where
         go : (told : Option Answer) → Hears k.place port.port octets emptied draws told w'
-            → IsSeen (λ k p p'. AskerHears k asks replies p p') at w w' l
+            → IsSeen (λ k m m'. AskerHears k asks replies m.pair m'.pair) at w w' l
         go None (failed, none, is) = absurd (no_one_failed at l here failed)
         go (Some told) calls = record {
           after = (step at l here told calls).after;
           settled = settled at l here told calls;
+          bounds = bounds_stay at l here told calls;
           so = asker_seen at l here told calls way;
         }
 

@@ -28,16 +28,17 @@ use Rattle.gptp_acts.proofs.AheadLemmas.{live_due}
 use Rattle.gptp_lists.proofs.MappedLemmas.{same_there}
 use Rattle.gptp_acts.proofs.SteadyLemmas.{same_clock}
 use Rattle.gptp_measuring.specs.Answerer.{Waiting}
-use Rattle.gptp_measuring.specs.Acts.{Acts, SendsAnswer, RequestTimerExpires, AnswerTimerExpires, asks_again, answers, others_send}
-use Rattle.gptp_measuring.specs.Asker.{asks_now, after_interval as gives_up}
+use Rattle.gptp_measuring.specs.Acts.{SendsAnswer, RequestTimerExpires, AnswerTimerExpires}
+use Rattle.gptp_measuring.specs.Asker.{Closed, asks_now, after_interval as gives_up}
+use Rattle.gptp_measuring.specs.Meter.{MeterActs, meter_answered, meter_asks}
 use Rattle.gptp_measuring.specs.Lanes.{Frame as SeenFrame, AreMute, FirstIs}
 use Rattle.gptp_measuring.specs.Messages.{Request, Response, FollowUp}
-use Rattle.gptp_kept.specs.LinkView.{IsEndOf, IsLinkOf, LinkPlace, RequestFits, asked_at, asker_view, asks, frame_view, identity_of, opposite, pair, progress_view, replies, request_from, setting, waits_by, waits_view}
+use Rattle.gptp_kept.specs.LinkView.{IsEndOf, IsLinkOf, LinkPlace, RequestFits, asked_at, asker_view, asks, frame_view, identity_of, meter, opposite, pair, progress_view, replies, request_from, setting, waits_by, waits_view}
 use Rattle.gptp_kept.specs.LinkActs.{IsOneAct, IsSeen}
-use Rattle.gptp_kept.proofs.LinkCallLemmas.{answerer_timer, asker_is, asker_timer, back_in_time, back_is, back_mute, back_stays, others_send as others_seen, out_in_time, out_is, out_mute, out_stays}
+use Rattle.gptp_kept.proofs.LinkCallLemmas.{answerer_timer, asker_is, asker_timer, back_in_time, back_is, back_late, back_mute, back_stays, others_send as others_seen, out_in_time, out_is, out_late, out_mute, out_stays}
 use Rattle.gptp_kept.specs.Said.{said_at}
 use Rattle.gptp_kept.proofs.LinkLemmas.{IsOrderly, LinkStep, end_fits, end_named, end_next, end_request, link_called, sender_opposite, sound_orderly}
-use Rattle.gptp_kept.proofs.PartLemmas.{asked_seen}
+use Rattle.gptp_kept.proofs.PartLemmas.{AsksAsBefore, asked_measured, asked_seen, asks_still}
 use Rattle.gptp_kept.proofs.SentLemmas.{next_of, sends_answer, sends_request}
 
 -- ---- the ends
@@ -198,6 +199,13 @@ module _ (at : LinkPlace) (place : ℕ) (timer : Timer) (w : WorldState) (draws 
       sent = request_goes;
     }
 
+    -- where no request was open the last measurement stays
+    measured_still : progress_view l.asking.state.peer.progress ≡ Closed
+        → step.after.asking.state.peer.last ≡ l.asking.state.peer.last
+    measured_still shut =
+        ap (λ (x : Part). x.peer.last) part
+        ∙ asked_measured l.asking.station.system w.time (part_of l.asking.state) shut
+
   -- ---- the Respond timer of the port that answers
 
   module _ (here : at.answering ≡ place) (timer_is : timer ≡ timers.Respond answerer_port.port)
@@ -205,10 +213,10 @@ module _ (at : LinkPlace) (place : ℕ) (timer : Timer) (w : WorldState) (draws 
     asker_apart : at.asking ≢ place
     asker_apart same = l.apart (same ∙ sym here)
 
-    asker_still : asker_view period (part_of step.after.asking.state) ≡ asker_view period (part_of l.asking.state)
+    asker_still : AsksAsBefore period (part_of l.asking.state) (part_of step.after.asking.state)
     asker_still = elim step.asking [
       | inl called ↦ absurd (asker_apart called.0)
-      | inr left ↦ ap (asker_view period) left.1
+      | inr left ↦ asks_still period (part_of l.asking.state) (part_of step.after.asking.state) left.1
     ]
 
     answers_then : l.answering.state.respond ≡ Some w.time
@@ -263,7 +271,7 @@ module _ (at : LinkPlace) (place : ℕ) (timer : Timer) (w : WorldState) (draws 
     pub answer_seen : AnswerTimerExpires (setting at w l) asks replies (pair at w l) (pair at w' step.after)
     answer_seen = record {
       time = step.time;
-      asker = asker_is step ∙ asker_still;
+      asker = asker_is step ∙ asker_still.0;
       out = out_stays step asker_apart;
       waiting = waiting;
       was = λ i. waits_by (answers_then i) (waiting_is i);
@@ -281,14 +289,17 @@ module _ (at : LinkPlace) (place : ℕ) (timer : Timer) (w : WorldState) (draws 
       × (part_of step.after.asking.state
       ≡ part_asked l.asking.station.system w.time after_interval (part_of l.asking.state)))
       ⊎ ((at.asking ≡ place → timer ≢ timers.Pdelay asker_port.port)
-      × (asker_view period (part_of step.after.asking.state) ≡ asker_view period (part_of l.asking.state)))
+      × AsksAsBefore period (part_of l.asking.state) (part_of step.after.asking.state))
   asker_becomes = elim step.asking [
     | inl called ↦ elim (asker_timer l.asking.station.system w.time period timer asker_port.port
         (part_of l.asking.state) (part_of step.after.asking.state) called.1) [
           | inl own_timer ↦ inl (called.0, own_timer.0, own_timer.1)
           | inr other ↦ inr (λ same. other.0, other.1)
         ]
-    | inr left ↦ inr (λ same. absurd (left.0 same), ap (asker_view period) left.1)
+    | inr left ↦ inr (
+      λ same. absurd (left.0 same),
+      asks_still period (part_of l.asking.state) (part_of step.after.asking.state) left.1,
+    )
   ]
 
   answerer_becomes : ((at.answering ≡ place) × (timer ≡ timers.Respond answerer_port.port)
@@ -307,14 +318,15 @@ module _ (at : LinkPlace) (place : ℕ) (timer : Timer) (w : WorldState) (draws 
   same_timer : (t : Timer) → TimerExpires timer ≡ TimerExpires t → timer ≡ t
   same_timer t e = cc
 
-  one_act : Acts (setting at w l) asks replies (pair at w l) (pair at w' step.after)
+  one_act : MeterActs (setting at w l) asks replies (meter at w l) (meter at w' step.after)
   one_act = elim asker_becomes [
-    | inl asks_next ↦ asks_again (request_seen asks_next.0 asks_next.1 asks_next.2)
+    | inl asks_next ↦ meter_asks (request_seen asks_next.0 asks_next.1 asks_next.2)
+        (measured_still asks_next.0 asks_next.1 asks_next.2)
     | inr asks_on ↦ elim answerer_becomes [
-      | inl answers_now ↦ answers (answer_seen answers_now.0 answers_now.1 answers_now.2)
-      | inr waits_on ↦ others_send (others_seen step asks_on.1 waits_on.1
+      | inl answers_now ↦ meter_answered (answer_seen answers_now.0 answers_now.1 answers_now.2) asks_on.1.1
+      | inr waits_on ↦ others_seen step asks_on.1 waits_on.1
           (out_mute step (λ same e. asks_on.0 same (same_timer _ e)) (λ p e. absurd cc))
-          (back_mute step (λ same e. waits_on.0 same (same_timer _ e))))
+          (back_mute step (λ same e. waits_on.0 same (same_timer _ e)))
     ]
   ]
 
@@ -322,24 +334,37 @@ module _ (at : LinkPlace) (place : ℕ) (timer : Timer) (w : WorldState) (draws 
   expires_seen = record {
     after = step.after;
     settled = step.settled;
+    bounds = step.grows.bounds;
     so = record {
       acts = one_act;
       out = out_in_time step;
       back = back_in_time step;
+      out_late = out_late step;
+      back_late = back_late step;
     };
   }
 
   -- the own timers are seen as themselves
   pub request_timer_seen : at.asking ≡ place → timer ≡ timers.Pdelay asker_port.port
-      → IsSeen (λ k p p'. RequestTimerExpires k asks replies p p') at w w' l
+      → IsSeen (λ k m m'. RequestTimerExpires k asks replies m.pair m'.pair) at w w' l
   request_timer_seen here own_timer = elim asker_becomes [
-    | inl a ↦ record { after = step.after; settled = step.settled; so = request_seen a.0 a.1 a.2 }
+    | inl a ↦ record {
+      after = step.after;
+      settled = step.settled;
+      bounds = step.grows.bounds;
+      so = request_seen a.0 a.1 a.2;
+    }
     | inr other ↦ absurd (other.0 here own_timer)
   ]
 
   pub answer_timer_seen : at.answering ≡ place → timer ≡ timers.Respond answerer_port.port
-      → IsSeen (λ k p p'. AnswerTimerExpires k asks replies p p') at w w' l
+      → IsSeen (λ k m m'. AnswerTimerExpires k asks replies m.pair m'.pair) at w w' l
   answer_timer_seen here own_timer = elim answerer_becomes [
-    | inl a ↦ record { after = step.after; settled = step.settled; so = answer_seen a.0 a.1 a.2 }
+    | inl a ↦ record {
+      after = step.after;
+      settled = step.settled;
+      bounds = step.grows.bounds;
+      so = answer_seen a.0 a.1 a.2;
+    }
     | inr other ↦ absurd (other.0 here own_timer)
   ]

@@ -60,7 +60,8 @@ said_elsewhere s port x xs other = rw (same_false (own s x.port) port other) ref
 abbrev pub IsDueSoon : ℕ → ℕ → List Frame → Frame → Type 0
 IsDueSoon now most old f = (now ≤ f.due) × ((f.due ≤ now + most) ⊎ ((g : Frame) × In g old × (f.due ≤ g.due)))
 
--- The link carries on, and behind what was in flight in each direction these octets are.
+-- The link carries on, and behind what was in flight in each direction these octets are. They are due in time, and take
+-- the least delay of the link or more.
 pub record Grows (now : ℕ) (old : Channel) (octets : Direction → List (List ℕ)) (new : Channel) : Type 0 where
   pub a : new.a ≡ old.a
   pub b : new.b ≡ old.b
@@ -71,6 +72,7 @@ pub record Grows (now : ℕ) (old : Channel) (octets : Direction → List (List 
   pub said : (direction : Direction) → map (λ (f : Frame). f.octets) (news direction) ≡ octets direction
   pub dues : (direction : Direction) (f : Frame) → In f (news direction)
       → IsDueSoon now old.bounds.max (queue direction old) f
+  pub lates : (direction : Direction) (f : Frame) → In f (news direction) → now + old.bounds.min ≤ f.due
 
 pub grows_begins : (now : ℕ) (old : Channel) (octets : Direction → List (List ℕ)) (new : Channel)
     → Grows now old octets new → (direction : Direction) → sender direction new ≡ sender direction old
@@ -88,6 +90,7 @@ still_grows now channel octets none = record {
   queues = λ direction. sym (append-nil (queue direction channel));
   said = λ direction. sym (none direction);
   dues = λ direction f member. absurd member;
+  lates = λ direction f member. absurd member;
 }
 
 -- it grows, and grows again
@@ -110,6 +113,11 @@ grows_on now first second third one two both g h is = record {
       elim (In-parts f (g.news direction) (h.news direction) member) [
         | inl early ↦ g.dues direction f early
         | inr late ↦ due_on direction f (h.dues direction f late)
+      ];
+  lates = λ direction f member.
+      elim (In-parts f (g.news direction) (h.news direction) member) [
+        | inl early ↦ g.lates direction f early
+        | inr late ↦ subst (λ (b : Bounds). now + b.min ≤ f.due) g.bounds (h.lates direction f late)
       ];
 }
   where
@@ -135,10 +143,11 @@ grows_on now first second third one two both g h is = record {
 
 -- one frame goes behind the others in its direction
 entered_grows : (now : ℕ) (way : Direction) (channel : Channel) (f : Frame) (octets : Direction → List (List ℕ))
-    → IsDueSoon now channel.bounds.max (queue way channel) f → octets way ≡ f.octets ∷ []
+    → IsDueSoon now channel.bounds.max (queue way channel) f → now + channel.bounds.min ≤ f.due
+    → octets way ≡ f.octets ∷ []
     → ((direction : Direction) → direction ≢ way → octets direction ≡ [])
     → Grows now channel octets (with_queue way (queue way channel ++ f ∷ []) channel)
-entered_grows now FromA channel f octets soon here other = record {
+entered_grows now FromA channel f octets soon late here other = record {
   a = refl;
   b = refl;
   bounds = refl;
@@ -147,6 +156,7 @@ entered_grows now FromA channel f octets soon here other = record {
   queues = queues;
   said = said;
   dues = dues;
+  lates = lates;
 }
   where
     news : Direction → List Frame
@@ -168,7 +178,12 @@ entered_grows now FromA channel f octets soon here other = record {
     dues FromA x (inl e) = subst (IsDueSoon now channel.bounds.max (queue FromA channel)) (sym e) soon
     dues FromA x (inr none) = absurd none
     dues FromB x none = absurd none
-entered_grows now FromB channel f octets soon here other = record {
+
+    lates : (direction : Direction) (x : Frame) → In x (news direction) → now + channel.bounds.min ≤ x.due
+    lates FromA x (inl e) = subst (λ (y : Frame). now + channel.bounds.min ≤ y.due) (sym e) late
+    lates FromA x (inr none) = absurd none
+    lates FromB x none = absurd none
+entered_grows now FromB channel f octets soon late here other = record {
   a = refl;
   b = refl;
   bounds = refl;
@@ -177,6 +192,7 @@ entered_grows now FromB channel f octets soon here other = record {
   queues = queues;
   said = said;
   dues = dues;
+  lates = lates;
 }
   where
     news : Direction → List Frame
@@ -198,6 +214,11 @@ entered_grows now FromB channel f octets soon here other = record {
     dues FromA x none = absurd none
     dues FromB x (inl e) = subst (IsDueSoon now channel.bounds.max (queue FromB channel)) (sym e) soon
     dues FromB x (inr none) = absurd none
+
+    lates : (direction : Direction) (x : Frame) → In x (news direction) → now + channel.bounds.min ≤ x.due
+    lates FromA x none = absurd none
+    lates FromB x (inl e) = subst (λ (y : Frame). now + channel.bounds.min ≤ y.due) (sym e) late
+    lates FromB x (inr none) = absurd none
 
 -- ---- the link among others
 
@@ -250,6 +271,11 @@ due_soon now delay most fs octets short = (omega arith, by (cases_lt (now + dela
     by (inl late) (inl none) = inl (omega arith)
     by (inl late) (inr (g, among, is)) = inr (g, among, omega arith)
 
+-- and takes the least delay or more
+due_late : (now delay least : ℕ) (fs : List Frame) (octets : List ℕ) → least ≤ delay
+    → now + least ≤ (frame (due_after fs now delay) octets).due
+due_late now delay least fs octets long = omega arith
+
 module _ (now : ℕ) (s : SystemState) (x : Sending) (draw : Draw) (net net' : Net)
     (one : SendsOne now (own s x.port) (written s x) draw net net') (link : ℕ) (channel : Channel)
     (alone : IsAlone link channel net) (carries : Carries channel) where
@@ -286,9 +312,11 @@ module _ (now : ℕ) (s : SystemState) (x : Sending) (draw : Draw) (net net' : N
       let lawful = subst (IsLawful draw.bounds) is one.lawful in
       let bounds_are : draw.bounds ≡ channel.bounds = one.bounds ∙ ap (λ (c : Channel). c.bounds) same in
       let short : delay ≤ channel.bounds.max = subst (λ (b : Bounds). delay ≤ b.max) bounds_are lawful.1 in
+      let long : channel.bounds.min ≤ delay = subst (λ (b : Bounds). b.min ≤ delay) bounds_are lawful.0 in
       let soon = due_soon now delay channel.bounds.max (queue way channel) (written s x) short in
+      let late = due_late now delay channel.bounds.min (queue way channel) (written s x) long in
       let grows : Grows now channel octets new =
-      entered_grows now way channel f octets soon (said_here s (sender way channel) x [] begins)
+      entered_grows now way channel f octets soon late (said_here s (sender way channel) x [] begins)
       (λ direction other. said_elsewhere s (sender direction channel) x []
       (λ e. begins_apart channel alone.ends direction way other (sym e ∙ begins))) in
       let becomes : net' ≡ entered link way channel now (written s x) (Some delay) net =

@@ -24,11 +24,18 @@ use Rattle.gptp_measuring.specs.Asker.{Closed, Asked, Answered, asks_now, after_
 use Rattle.gptp_kept.proofs.LinkLaneLemmas.{same_true}
 use Rattle.gptp_kept.specs.LinkView.{asked_at, asker_view, identity_of, progress_view, waits_by, waits_view}
 
+-- what the port asked and what it measured last is as it was
+abbrev pub AsksAsBefore : ℕ → Part → Part → Type 0
+AsksAsBefore period x x' = (asker_view period x' ≡ asker_view period x) × (x'.peer.last ≡ x.peer.last)
+
+pub asks_still : (period : ℕ) (x x' : Part) → x' ≡ x → AsksAsBefore period x x'
+asks_still period x x' is = (ap (asker_view period) is, ap (λ (y : Part). y.peer.last) is)
+
 -- ---- the Pdelay timer
 
 -- the peer with how far the request has come, and the same for the machine
-closed : (period : ℕ) (x : Part) → x.peer.progress ≡ progresses.Closed → after_interval x.peer ≡ x.peer
-closed period x is = ap (λ (p : Progress). if is_open p then given_up x.peer else x.peer) is
+closed : (x : Part) → x.peer.progress ≡ progresses.Closed → after_interval x.peer ≡ x.peer
+closed x is = ap (λ (p : Progress). if is_open p then given_up x.peer else x.peer) is
 
 opened : (x : Part) → is_open x.peer.progress ≡ true → after_interval x.peer ≡ given_up x.peer
 opened x is = ap (λ (b : Bool). if b then given_up x.peer else x.peer) is
@@ -78,7 +85,7 @@ gives_up_seen period x = go x.peer.progress refl
         → asker_view period (record x { peer = after_interval x.peer })
         ≡ gives_up x.peer.allowed (progress_view x.peer.progress) (asker_view period x)
     go progresses.Closed is =
-        ap (λ q. asker_view period (record x { peer = q })) (closed period x is)
+        ap (λ q. asker_view period (record x { peer = q })) (closed x is)
         ∙ ap (λ g. gives_up x.peer.allowed (progress_view g) (asker_view period x)) (sym is)
     go (progresses.Sent request) is =
         open_one (ap is_open is)
@@ -99,6 +106,17 @@ asked_seen s now x =
     (interval_next x.peer)
     ∙ ap (asks_now now x.peer.next (local_time s now)) (gives_up_seen period x)
 
+-- where no request was open the last measurement stays
+pub asked_measured : (s : SystemState) (now : ℕ) (x : Part) → progress_view x.peer.progress ≡ Closed
+    → (part_asked s now after_interval x).peer.last ≡ x.peer.last
+asked_measured s now x is = go x.peer.progress refl is
+  where
+    go : (g : Progress) → x.peer.progress ≡ g → progress_view g ≡ Closed
+        → (part_asked s now after_interval x).peer.last ≡ x.peer.last
+    go progresses.Closed e shut = ap (λ (q : PeerState). q.last) (closed x e)
+    go (progresses.Sent request) e shut = absurd cc
+    go (progresses.Answered request response) e shut = absurd cc
+
 -- and what waits there waits on
 pub asked_waits : (s : SystemState) (now : ℕ) (x : Part) → waits_view (part_asked s now after_interval x) ≡ waits_view x
 asked_waits s now x = ap (waits_by x.respond) (interval_keeps x.peer)
@@ -106,21 +124,21 @@ asked_waits s now x = ap (waits_by x.respond) (interval_keeps x.peer)
 -- ---- the Respond timer
 
 -- a port that answered asks as before
-pub answered_asks : (period : ℕ) (x : Part) → asker_view period (part_answered x) ≡ asker_view period x
-answered_asks period x = refl
+pub answered_asks : (period : ℕ) (x : Part) → AsksAsBefore period x (part_answered x)
+answered_asks period x = (refl, refl)
 
 -- ---- messages
 
 -- where a message is no reply, what the port asked stands as it did
 pub heard_asks : (s : SystemState) (now period : ℕ) (m : Message) (x : Part)
     → ((r : PdelayResp) → m ≢ messages.PdelayResp r) → ((r : PdelayRespFollowUp) → m ≢ messages.PdelayRespFollowUp r)
-    → asker_view period (part_heard s now m x) ≡ asker_view period x
-heard_asks s now period (messages.Sync head) x response follow_up = refl
-heard_asks s now period (messages.PdelayReq head) x response follow_up = refl
+    → AsksAsBefore period x (part_heard s now m x)
+heard_asks s now period (messages.Sync head) x response follow_up = (refl, refl)
+heard_asks s now period (messages.PdelayReq head) x response follow_up = (refl, refl)
 heard_asks s now period (messages.PdelayResp m) x response follow_up = absurd (response m refl)
-heard_asks s now period (messages.FollowUp m) x response follow_up = refl
+heard_asks s now period (messages.FollowUp m) x response follow_up = (refl, refl)
 heard_asks s now period (messages.PdelayRespFollowUp m) x response follow_up = absurd (follow_up m refl)
-heard_asks s now period (messages.Announce a) x response follow_up = refl
+heard_asks s now period (messages.Announce a) x response follow_up = (refl, refl)
 
 -- no message starts a Pdelay timer
 pub heard_asked : (s : SystemState) (now : ℕ) (m : Message) (x : Part) → (part_heard s now m x).pdelay ≡ x.pdelay

@@ -97,7 +97,7 @@ module _ (gone : ℕ) (at : LinkPlace) (place : ℕ) (timer : Timer) (w : WorldS
   becomes = elim step.part [
     | inl called ↦ elim (asker_timer s w.time period timer port.port x x' called.1) [
       | inl own_timer ↦ inl (called.0, own_timer.0, own_timer.1)
-      | inr other ↦ inr (λ same. other.0, other.1)
+      | inr other ↦ inr (λ same. other.0, other.1.0)
     ]
     | inr left ↦ inr (λ same. absurd (left.0 same), ap (asker_view period) left.1)
   ]

@@ -21,7 +21,7 @@ use Rattle.gptp_acts.specs.World.{WorldState}
 use Rattle.gptp_kept.specs.Measured.{IsMeasured}
 use Rattle.gptp_kept.specs.LegibleLaws.{SetsAnOctet}
 use Rattle.gptp_kept.specs.SeenLaws.{IsNoChange}
-use Rattle.gptp_kept.specs.Calm.{IsQuietWorld}
+use Rattle.gptp_kept.specs.Calm.{HaveQuietLinks}
 use Rattle.gptp_kept.specs.Holds.{IsWorld, start_of}
 use Rattle.gptp_kept.specs.Watch.{AreUsedCapable, Watches}
 
@@ -76,8 +76,8 @@ WatchesDone {F} answers = (p : Pace) (timed : Timed) (fate fate_after : F) (w w'
 
 -- ---- ports become capable
 
--- a quiet world of which it holds has capable ports at all links of its snapshot, from the start on
+-- a world with quiet links of which it holds has capable ports at all links of its snapshot, from the start on
 abbrev pub UsedPortsCapable : Type 0
 UsedPortsCapable = (p : Pace) (w : WorldState)
-    → KeepPace p → IsWorld p w → IsQuietWorld p.params w → Watches p w → start_of p w ≤ w.time
+    → KeepPace p → IsWorld p w → HaveQuietLinks p.params w → Watches p w → start_of p w ≤ w.time
     → AreUsedCapable w

@@ -33,6 +33,8 @@ pub mod CapableLaws
 pub mod Claimed
 pub mod CalmFor
 pub mod ClaimedLaws
+pub mod MeasuredLinks
+pub mod MeasuredLinkLaws
 pub mod Traces
 pub mod TraceLaws
 pub mod Shown

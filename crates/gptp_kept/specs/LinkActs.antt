@@ -1,24 +1,26 @@
 -- An act of a world, seen at a link.
-use Rattle.std.specs.Prelude.{◌≡◌}
+use Rattle.std.specs.Prelude.{◌≡◌, ℕ}
 use Rattle.gptp_acts.specs.World.{WorldState}
-use Rattle.gptp_measuring.specs.Acts.{Acts}
-use Rattle.gptp_measuring.specs.Facts.{IsSentInTime}
-use Rattle.gptp_measuring.specs.Pair.{Pair}
+use Rattle.gptp_measuring.specs.Facts.{IsSentInTime, IsSentLate}
+use Rattle.gptp_measuring.specs.Meter.{Meter, MeterActs}
 use Rattle.gptp_measuring.specs.Setting.{Setting}
-use Rattle.gptp_kept.specs.LinkView.{IsLinkOf, LinkPlace, asks, pair, replies, setting}
+use Rattle.gptp_kept.specs.LinkView.{IsLinkOf, LinkPlace, asks, least_delay, meter, replies, setting}
 
--- the link stands as it did, and what is seen of it becomes what this allows
-pub record IsSeen (So : Setting → Pair → Pair → Type 0) (at : LinkPlace) (w w' : WorldState) (l : IsLinkOf at w)
+-- the link stands as it did, with its bounds, and what is seen of it becomes what this allows
+pub record IsSeen (So : Setting → Meter → Meter → Type 0) (at : LinkPlace) (w w' : WorldState) (l : IsLinkOf at w)
     : Type 0 where
   pub after : IsLinkOf at w'
   pub settled : setting at w' after ≡ setting at w l
-  pub so : So (setting at w l) (pair at w l) (pair at w' after)
+  pub bounds : after.channel.bounds ≡ l.channel.bounds
+  pub so : So (setting at w l) (meter at w l) (meter at w' after)
 
--- one act of the machine, and what is sent by it is due in time
-pub record ActsInTime (k : Setting) (p p' : Pair) : Type 0 where
-  pub acts : Acts k asks replies p p'
-  pub out : IsSentInTime k p.time p.out p'.out
-  pub back : IsSentInTime k p.time p.back p'.back
+-- one act of the machine; what is sent by it is due in time, and takes the least delay or more
+pub record ActsInTime (least : ℕ) (k : Setting) (m m' : Meter) : Type 0 where
+  pub acts : MeterActs k asks replies m m'
+  pub out : IsSentInTime k m.pair.time m.pair.out m'.pair.out
+  pub back : IsSentInTime k m.pair.time m.pair.back m'.pair.back
+  pub out_late : IsSentLate least m.pair.time m.pair.out m'.pair.out
+  pub back_late : IsSentLate least m.pair.time m.pair.back m'.pair.back
 
 abbrev pub IsOneAct : (at : LinkPlace) (w w' : WorldState) → IsLinkOf at w → Type 0
-IsOneAct = IsSeen ActsInTime
+IsOneAct at w w' l = IsSeen (ActsInTime (least_delay at w l)) at w w' l

@@ -24,7 +24,7 @@ use Rattle.gptp_acts.specs.World.{WorldState, queue, receiver, sender}
 use Rattle.gptp_measuring.specs.Acts.{AnswerTimerExpires, AnswererHears, AskerHears, RequestTimerExpires}
 use Rattle.gptp_measuring.specs.Facts.{Facts, NothingIsDueBefore}
 use Rattle.gptp_measuring.specs.Invariant.{IsFresh}
-use Rattle.gptp_measuring.specs.Pair.{Passes}
+use Rattle.gptp_measuring.specs.Meter.{MeterPasses}
 use Rattle.gptp_kept.specs.LegibleLaws.{SetsAnOctet}
 use Rattle.gptp_kept.specs.LinkView.{IsLinkOf, LinkPlace, asks, opposite, pair, replies, setting}
 use Rattle.gptp_kept.specs.LinkActs.{IsOneAct, IsSeen}
@@ -34,7 +34,7 @@ use Rattle.gptp_kept.specs.Short.{IsShort}
 -- time passes at a link as it passes in the world
 abbrev pub TimePasses : Type 0
 TimePasses = (at : LinkPlace) (time : ℕ) (w : WorldState) (l : IsLinkOf at w) → w.time ≤ time
-    → IsSeen (λ k p p'. Passes p p') at w (at_time time w) l
+    → IsSeen (λ k m m'. MeterPasses m m') at w (at_time time w) l
 
 -- a timer that expires at any system is one act
 abbrev pub ExpiriesAreActs : Type 0
@@ -54,12 +54,12 @@ DeliveriesAreActs = (at : LinkPlace) (link : ℕ) (direction : Direction) (octet
 abbrev pub RequestTimersAsk : Type 0
 RequestTimersAsk = (at : LinkPlace) (w w' : WorldState) (draws : List Draw) (l : IsLinkOf at w)
     → IsSound w → Expires at.asking (timers.Pdelay (sender at.direction l.channel).port) w draws w'
-    → IsSeen (λ k p p'. RequestTimerExpires k asks replies p p') at w w' l
+    → IsSeen (λ k m m'. RequestTimerExpires k asks replies m.pair m'.pair) at w w' l
 
 abbrev pub AnswerTimersAnswer : Type 0
 AnswerTimersAnswer = (at : LinkPlace) (w w' : WorldState) (draws : List Draw) (l : IsLinkOf at w)
     → IsSound w → Expires at.answering (timers.Respond (receiver at.direction l.channel).port) w draws w'
-    → IsSeen (λ k p p'. AnswerTimerExpires k asks replies p p') at w w' l
+    → IsSeen (λ k m m'. AnswerTimerExpires k asks replies m.pair m'.pair) at w w' l
 
 -- a frame that is delivered on this link in this direction is heard by the port that answers, and one in the other by
 -- the port that asks
@@ -67,13 +67,13 @@ abbrev pub AnswerersHear : Type 0
 AnswerersHear = (at : LinkPlace) (octets : List ℕ) (w w' : WorldState) (draws : List Draw) (answer : Option Answer)
     (l : IsLinkOf at w)
     → IsSound w → Delivers at.link at.direction octets w draws answer w'
-    → IsSeen (λ k p p'. AnswererHears k asks replies p p') at w w' l
+    → IsSeen (λ k m m'. AnswererHears k asks replies m.pair m'.pair) at w w' l
 
 abbrev pub AskersHear : Type 0
 AskersHear = (at : LinkPlace) (octets : List ℕ) (w w' : WorldState) (draws : List Draw) (answer : Option Answer)
     (l : IsLinkOf at w)
     → IsSound w → Delivers at.link (opposite at.direction) octets w draws answer w'
-    → IsSeen (λ k p p'. AskerHears k asks replies p p') at w w' l
+    → IsSeen (λ k m m'. AskerHears k asks replies m.pair m'.pair) at w w' l
 
 -- every act of a world but a change is one act
 abbrev pub ActsAreActs : Type 0

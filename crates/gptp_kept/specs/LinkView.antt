@@ -32,6 +32,7 @@ use Rattle.gptp_measuring.specs.Answerer.{Waiting}
 use Rattle.gptp_measuring.specs.Asker.{Asker, Progress as SeenProgress, Closed, Asked, Answered}
 use Rattle.gptp_measuring.specs.Lanes.{Frame as SeenFrame}
 use Rattle.gptp_measuring.specs.Messages.{Request, Reply, Response, FollowUp}
+use Rattle.gptp_measuring.specs.Meter.{Meter}
 use Rattle.gptp_measuring.specs.Pair.{Pair}
 use Rattle.gptp_measuring.specs.Setting.{Setting}
 
@@ -213,3 +214,11 @@ abbrev pub pair : (at : LinkPlace) (w : WorldState) → IsLinkOf at w → Pair
 pair at w l =
     pair_view w.time (interval_of l.asking.station.setup.params.pdelay) at.direction l.channel
     (part_of l.asking.state) (part_of l.answering.state)
+
+-- with the last measurement of the port that asks
+abbrev pub meter : (at : LinkPlace) (w : WorldState) → IsLinkOf at w → Meter
+meter at w l = record { pair = pair at w l; last = l.asking.state.peer.last }
+
+-- no frame takes less than this, in ns
+abbrev pub least_delay : (at : LinkPlace) (w : WorldState) → IsLinkOf at w → ℕ
+least_delay at w l = l.channel.bounds.min

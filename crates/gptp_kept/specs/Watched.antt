@@ -1,14 +1,14 @@
--- A link of which the facts and the invariant of the machine of gptp_measuring hold.
+-- A link of which the facts and the invariants of the machine of gptp_measuring hold.
 use Rattle.std.specs.Prelude.{ℕ}
 use Rattle.gptp_measuring.specs.Facts.{Facts, IsGood}
-use Rattle.gptp_measuring.specs.Invariant.{Inv}
+use Rattle.gptp_measuring.specs.Measured.{MeterInv}
 use Rattle.gptp_acts.specs.World.{WorldState}
-use Rattle.gptp_kept.specs.LinkView.{IsLinkOf, LinkPlace, asks, pair, replies, setting}
+use Rattle.gptp_kept.specs.LinkView.{IsLinkOf, LinkPlace, asks, least_delay, meter, pair, replies, setting}
 
--- old frames are gone at one time, and exchanges from the other on find nothing old; what is due is known, and how far
--- the exchanges are
+-- old frames are gone at one time, and exchanges from the other on find nothing old; what is due is known, how far the
+-- exchanges are, and what the port that asks has measured by them
 pub record IsWatched (gone calm : ℕ) (at : LinkPlace) (w : WorldState) : Type 0 where
   pub link : IsLinkOf at w
   pub good : IsGood (setting at w link) gone calm
   pub facts : Facts (setting at w link) gone (pair at w link)
-  pub inv : Inv (setting at w link) asks replies gone calm (pair at w link)
+  pub inv : MeterInv (setting at w link) (least_delay at w link) asks replies gone calm (meter at w link)

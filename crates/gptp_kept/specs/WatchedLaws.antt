@@ -1,4 +1,4 @@
--- Laws: from the last change on a link is watched, and its port becomes capable.
+-- Laws: from the last change on a link is watched; its port becomes capable, and measures the link.
 use Rattle.std.specs.Prelude.{◌≡◌, ◌≢◌, ◌+◌, ◌*◌, ◌<◌, ◌≤◌, ℕ, true, List}
 use Rattle.gptp_links.specs.Fate.{Draw}
 use Rattle.gptp_pdelay.specs.Peer.{is_capable}
@@ -11,9 +11,10 @@ use Rattle.gptp_acts.specs.Pending.{NothingBefore}
 use Rattle.gptp_acts.specs.Sound.{IsSound}
 use Rattle.gptp_acts.specs.World.{WorldState}
 use Rattle.gptp_measuring.specs.Facts.{IsGood}
+use Rattle.gptp_measuring.specs.Measured.{HasMeasured}
 use Rattle.gptp_kept.specs.LinkLaws.{IsGoneBy}
 use Rattle.gptp_kept.specs.Measured.{IsMeasured}
-use Rattle.gptp_kept.specs.LinkView.{IsLinkOf, LinkPlace, setting}
+use Rattle.gptp_kept.specs.LinkView.{IsLinkOf, LinkPlace, least_delay, setting}
 use Rattle.gptp_kept.specs.Watched.{IsWatched}
 
 -- it is watched as soon as what is in flight is known to be due by a time to come
@@ -43,3 +44,12 @@ WatchedPortsBecomeCapable = (at : LinkPlace) (change interval : ℕ) (w : WorldS
     → (setting at w l.link).period ≤ interval
     → change + ((setting at w l.link).allowed + 5) * interval ≤ w.time
     → is_capable l.link.asking.state.peer ≡ true
+
+-- from five announce intervals after the last change on, neighbour rate and mean link delay of the port that asks are
+-- those of two exchanges over the link, one after the other
+abbrev pub WatchedPortsMeasure : Type 0
+WatchedPortsMeasure = (at : LinkPlace) (change interval : ℕ) (w : WorldState)
+    → (l : IsWatched (change + interval) (change + 2 * interval) at w)
+    → (setting at w l.link).period ≤ interval
+    → change + 5 * interval ≤ w.time
+    → HasMeasured (setting at w l.link) (least_delay at w l.link) l.link.asking.state.peer.last

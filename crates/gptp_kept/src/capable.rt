@@ -28,7 +28,7 @@ pub fn watches_are_kept<F: Fate>()
     ensures done { WatchesDone F.answers }
 {}
 
-/// Where they are watched in a quiet world, and L + 5 announce intervals have passed from the last change, where L is
+/// Where they are watched and all links in use are good, and L + 5 announce intervals have passed from the last change, where L is
 /// the number of requests that may be lost, each port of a live system at which a link of the snapshot is, is capable,
 /// and so it isn't Disabled.
 pub fn used_ports_become_capable()

@@ -11,6 +11,7 @@
 //! - [`link_acts`], [`link_facts`], [`link_watch`], [`link_worlds`]: one link as the machine of `gptp_measuring`;
 //! - [`unanswered_acts`], [`silence`], [`unanswered_worlds`]: a port beside a failed system as such a machine;
 //! - [`capable`]: ports at links in use become capable;
+//! - [`measured_links`]: ports have measured the links in use;
 //! - [`claimed`]: all this as one claim that begins with the world of every network and is kept by every act, that worlds
 //!   settle, and what the calls of a world show then;
 //! - [`bounded`]: what the systems of a world state of themselves then, far ones too;
@@ -32,6 +33,7 @@ pub mod link_acts;
 pub mod link_facts;
 pub mod link_watch;
 pub mod link_worlds;
+pub mod measured_links;
 pub mod seen;
 pub mod settled;
 pub mod silence;

@@ -1,6 +1,7 @@
 //! Laws on a link from the last change on.
 
-ghost use Rattle.gptp_kept.specs.WatchedLaws.{WatchBegins, WatchGoesOn, WatchIsKept, WatchedPortsBecomeCapable};
+ghost use Rattle.gptp_kept.specs.WatchedLaws.{WatchBegins, WatchGoesOn, WatchIsKept};
+ghost use Rattle.gptp_kept.specs.WatchedLaws.{WatchedPortsBecomeCapable, WatchedPortsMeasure};
 
 /// The facts and the invariant of the machine hold of a link once it is known when what is in flight there is gone.
 pub fn watch_begins()
@@ -17,4 +18,11 @@ pub fn watch_goes_on()
 /// may be lost, on a link that is up, loses nothing and is good, between two live stations.
 pub fn ports_become_capable()
     ensures { WatchedPortsBecomeCapable }
+{}
+
+/// From five announce intervals after the last change on, what the port measured last is of two exchanges over the
+/// link, one after the other, whose messages took between the least and the greatest delay of the link (IEEE
+/// 802.1AS-2020, 11.2.19.3).
+pub fn ports_measure()
+    ensures { WatchedPortsMeasure }
 {}
