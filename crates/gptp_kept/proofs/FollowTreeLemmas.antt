@@ -20,6 +20,7 @@ use Rattle.gptp_setup.specs.Pace.{Pace}
 use Rattle.gptp_system.specs.declared.answer.Answer.{Answer}
 use Rattle.gptp_system.specs.Input.{Input}
 use Rattle.gptp_system.specs.State.{SystemState, clock, held_at, parent, source_of}
+use Rattle.gptp_system.specs.Steps.{IsPortOf}
 use Rattle.gptp_acts.proofs.BareLemmas.{bare}
 use Rattle.gptp_acts.proofs.StayLemmas.{sender_same}
 use Rattle.gptp_acts.proofs.SteadyLemmas.{same_clock}
@@ -91,16 +92,16 @@ module _ (p : Pace) (settled longest : ℕ) (w : WorldState) (is : IsSettledFrom
           let one = IsParent-unique g (clock s) l (parent_link at.direction f.channel) follows own_parent in
           same ∙ ap Some (sym own ∙ ap (λ (x : ParentLink). x.own_port) one)
 
-  port_numbered : 1 ≤ to.port
-  port_numbered =
+  pub own_port : IsPortOf s to.port
+  own_port =
       let back = sender_opposite at.direction f.channel in
-      let of = is.world.sound.wired.ports at.link at.answering (opposite at.direction) f.channel f.own.station f.here
-      f.own.here (f.own.named ∙ ap (λ (q : PortId). q.clock) (sym back)) in
-      subst (λ (q : PortId). 1 ≤ q.port) back of.least
+      subst (λ (q : PortId). IsPortOf s q.port) back
+      (is.world.sound.wired.ports at.link at.answering (opposite at.direction) f.channel f.own.station f.here f.own.here
+      (f.own.named ∙ ap (λ (q : PortId). q.clock) (sym back)))
 
   -- there it takes its time from the parent
   pub takes_time : TakesTime s to.port (identity_of from)
-  takes_time = by to.port slave_is port_numbered
+  takes_time = by to.port slave_is own_port.least
     where
       by : (n : ℕ) → s.slave ≡ Some n → 1 ≤ n → TakesTime s n (identity_of from)
       by zero slave first = absurd (omega arith)

@@ -118,3 +118,4 @@ pub mod FollowDeliveryLemmas
 pub mod FollowLaterLemmas
 pub mod FollowOffsetLemmas
 pub mod FollowWorldLemmas
+pub mod FollowMeasureLemmas
