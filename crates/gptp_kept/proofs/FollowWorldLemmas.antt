@@ -1,25 +1,34 @@
 -- Worlds of which all is claimed, as the laws on the time that is carried ask for them.
-use Rattle.std.proofs.Common.{◌≡◌, ◌≢◌, ◌≤◌, ℕ, zero, suc, Bool, true, false, List, [], ◌∷◌, Some, slice_get, refl, sym, subst, arith}
+use Rattle.std.proofs.Common.{◌≡◌, ◌≢◌, ◌⊎◌, ◌<◌, ◌≤◌, ℕ, zero, suc, Bool, true, false, List, [], ◌∷◌, Option, Some, slice_get, refl, sym, subst, arith, inl, inr}
+use Rattle.std.proofs.lemmas.Bool.{cases_lt}
 use Rattle.std.specs.Prelude.{if◌then◌else◌, max}
 use Rattle.gptp_graph.specs.Best.{IsBest}
 use Rattle.gptp_graph.specs.Distance.{IsDistance, IsNear}
 use Rattle.gptp_graph.specs.Snapshot.{Snapshot, System}
 use Rattle.gptp_graph.proofs.ParentLemmas.{LeadsNearer-distance}
 use Rattle.gptp_graph.proofs.TreeLemmas.{parent_of_other}
+use Rattle.gptp_links.specs.declared.bounds.Bounds.{Bounds}
 use Rattle.gptp_links.specs.Fate.{Draw}
 use Rattle.gptp_plan.specs.declared.change.Act.TheVariants.{Deliver, Expire, Change as Changing}
+use Rattle.gptp_plan.specs.declared.change.Timed.{Timed}
 use Rattle.gptp_setup.specs.Pace.{Pace}
 use Rattle.gptp_system.specs.State.{clock}
+use Rattle.gptp_acts.specs.Acts.{at}
+use Rattle.gptp_acts.specs.Course.{WasDone}
+use Rattle.gptp_acts.specs.declared.done.Done.{Done}
 use Rattle.gptp_acts.specs.declared.station.Station.{Station}
 use Rattle.gptp_acts.specs.World.{Channel, WorldState}
 use Rattle.gptp_timing.proofs.TreeLemmas.{way_exists}
 use Rattle.gptp_kept.specs.Calm.{HaveQuietLinks, greatest_delay}
 use Rattle.gptp_kept.specs.Followers.{follower_clock, parts_of}
 use Rattle.gptp_kept.specs.Standing.{is_used, live_systems, snapshot_of}
-use Rattle.gptp_kept.specs.SyncHolds.{delay_in}
+use Rattle.gptp_kept.specs.Known.{IsKnown}
+use Rattle.gptp_kept.specs.SeenLaws.{IsNoChange}
+use Rattle.gptp_kept.specs.Timed.{AllMeasureRight, CarriesTime, IsSettledFrom}
 use Rattle.gptp_kept.specs.TimedLaws.{ActsCarryTime, ClaimedIsSettledFrom, Follows, OthersFollow}
 use Rattle.gptp_kept.proofs.FollowDeliveryLemmas.{delivery_carries}
 use Rattle.gptp_kept.proofs.FollowExpiryLemmas.{expiry_carries}
+use Rattle.gptp_kept.proofs.FollowLaterLemmas.{time_begins, time_carries}
 use Rattle.gptp_kept.proofs.FollowTreeLemmas.{well_formed}
 use Rattle.gptp_kept.proofs.FollowWayLemmas.{follows_parent}
 
@@ -31,6 +40,21 @@ acts_carry_time p settled longest (Deliver link direction) w draws done w' none 
 acts_carry_time p settled longest (Expire number timer) w draws done w' none (told, k) is is' right carries =
     expiry_carries p settled longest w w' is is' right carries k.place timer draws k.so
 acts_carry_time p settled longest (Changing change) w draws done w' none k is is' right carries = absurd none
+
+-- so it is from act to act
+module _ {F : Type 0} (answers : Bounds → ℕ → F → Option ℕ → F → Type 0) where
+  pub done_carries : (p : Pace) (settled longest : ℕ) (timed : Timed) (fate fate_after : F) (w w' : WorldState)
+      (done : Done) → IsNoChange timed.act → WasDone answers timed fate fate_after w w' done → IsKnown p w
+      → IsSettledFrom p settled longest (at timed.at w) → AllMeasureRight p.params (at timed.at w)
+      → IsSettledFrom p settled longest w' → (settled ≤ w.time → CarriesTime p.params settled longest w)
+      → CarriesTime p.params settled longest w'
+  done_carries p settled longest timed fate fate_after w w' done none k known is right is' before =
+      acts_carry_time p settled longest timed.act (at timed.at w) k.draws done w' none k.acts is is' right
+      (by (cases_lt w.time settled))
+    where
+      by : (w.time < settled) ⊎ (settled ≤ w.time) → CarriesTime p.params settled longest (at timed.at w)
+      by (inl early) = time_begins p settled longest w timed.at early known is
+      by (inr late) = time_carries p settled longest w timed.at k.ready.timely.now (before late)
 
 -- ---- delays
 

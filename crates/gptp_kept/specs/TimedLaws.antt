@@ -1,5 +1,5 @@
 -- Laws on the time that is carried in a settled world.
-use Rattle.std.specs.Prelude.{◌≡◌, ◌≢◌, ◌+◌, ◌^◌, ◌<◌, ◌≤◌, ℕ, suc, ℤ, ◌-ℤ◌, true, List, Some, slice_get}
+use Rattle.std.specs.Prelude.{◌≡◌, ◌≢◌, ◌+◌, ◌^◌, ◌<◌, ◌≤◌, ℕ, suc, ℤ, ◌-ℤ◌, true, List, Option, Some, slice_get}
 use Rattle.gptp_graph.specs.Best.{IsBest}
 use Rattle.gptp_graph.specs.Distance.{IsNear}
 use Rattle.gptp_graph.specs.Snapshot.{System}
@@ -7,16 +7,19 @@ use Rattle.gptp_scaled.specs.Counts.{AreWithin}
 use Rattle.gptp_messages.specs.declared.follow_up.FollowUp.{FollowUp}
 use Rattle.gptp_messages.specs.declared.message.Message.TheVariants as messages
 use Rattle.gptp_messages.specs.Grammar.{Reads}
+use Rattle.gptp_links.specs.declared.bounds.Bounds.{Bounds}
 use Rattle.gptp_links.specs.declared.link.Direction.{Direction}
 use Rattle.gptp_links.specs.Fate.{Draw}
 use Rattle.gptp_setup.specs.declared.setup.Params.{Params}
 use Rattle.gptp_setup.specs.Pace.{Pace, largest_interval}
 use Rattle.gptp_plan.specs.declared.change.Act.{Act}
 use Rattle.gptp_plan.specs.declared.change.Act.TheVariants.{Deliver}
+use Rattle.gptp_plan.specs.declared.change.Timed.{Timed}
 use Rattle.gptp_system.specs.declared.answer.Answer.TheVariants as answers
 use Rattle.gptp_system.specs.State.{clock, local_time}
 use Rattle.gptp_accuracy.specs.TimeError.{time_error_at}
 use Rattle.gptp_acts.specs.Acts.{Acts, Tells, at}
+use Rattle.gptp_acts.specs.Course.{WasDone}
 use Rattle.gptp_acts.specs.declared.done.Done.{Done}
 use Rattle.gptp_acts.specs.declared.station.Station.{Station}
 use Rattle.gptp_acts.specs.World.{WorldState, port_id}
@@ -26,6 +29,7 @@ use Rattle.gptp_kept.specs.Claimed.{IsClaimed}
 use Rattle.gptp_kept.specs.Followers.{HasWay, IsFollower, follower_clock, follower_setting, state_of}
 use Rattle.gptp_kept.specs.Known.{IsKnown}
 use Rattle.gptp_kept.specs.LinkView.{LinkPlace}
+use Rattle.gptp_kept.specs.MeasuredLinks.{HaveMeasuredLinks}
 use Rattle.gptp_kept.specs.SeenLaws.{IsNoChange}
 use Rattle.gptp_kept.specs.Settled.{Settled}
 use Rattle.gptp_kept.specs.Standing.{snapshot_of}
@@ -53,6 +57,16 @@ abbrev pub TimeCarriesTime : Type 0
 TimeCarriesTime = (p : Pace) (settled longest : ℕ) (w : WorldState) (time : ℕ)
     → w.time ≤ time → CarriesTime p.params settled longest w
     → CarriesTime p.params settled longest (at time w)
+
+-- so it is kept from act to act, where the network is settled at the time of the act and after it
+abbrev pub DoneCarriesTime : {F : Type 0} → (Bounds → ℕ → F → Option ℕ → F → Type 0) → Type 0
+DoneCarriesTime {F} answers = (p : Pace) (settled longest : ℕ) (timed : Timed) (fate fate_after : F)
+    (w w' : WorldState) (done : Done)
+    → IsNoChange timed.act → WasDone answers timed fate fate_after w w' done → IsKnown p w
+    → IsSettledFrom p settled longest (at timed.at w) → AllMeasureRight p.params (at timed.at w)
+    → IsSettledFrom p settled longest w'
+    → (settled ≤ w.time → CarriesTime p.params settled longest w)
+    → CarriesTime p.params settled longest w'
 
 -- ---- offsets
 
@@ -109,3 +123,9 @@ OthersFollow = (p : Pace) (settled longest : ℕ) (w : WorldState) (place : ℕ)
     → IsNear (snapshot_of w) (clock station.system) → IsBest (snapshot_of w) (clock station.system) best
     → best.clock ≢ clock station.system
     → Follows p.params w (clock station.system)
+
+-- what was measured of the links that are followed is right where ports have measured the links of the snapshot
+abbrev pub MeasuredIsRight : Type 0
+MeasuredIsRight = (p : Pace) (settled longest : ℕ) (w : WorldState)
+    → IsSettledFrom p settled longest w → HaveMeasuredLinks w
+    → AllMeasureRight p.params w
