@@ -109,6 +109,12 @@ module _ (p : Pace) (settled longest : ℕ) (w : WorldState) (is : IsSettledFrom
         (ap (λ (c : Channel). c.bounds.min) same_channel ∙ sym (least_is p settled longest w is at f steps h))
         m.measured)
 
+  same_measured : (rate seen_rate delay seen_delay : ℤ) → rate ≡ seen_rate → delay ≡ seen_delay
+      → IsMeasuredAt h.way steps seen_rate seen_delay → IsMeasuredAt h.way steps rate delay
+  same_measured rate seen_rate delay seen_delay rates delays is_right =
+      subst (λ r. IsMeasuredAt h.way steps r delay) (sym rates)
+      (subst (IsMeasuredAt h.way steps seen_rate) (sym delays) is_right)
+
   -- so it is of its Slave port
   module _ (all : HaveMeasuredLinks w) where
     by_number : (n : ℕ) → to.port ≡ n → s.slave ≡ Some n → IsMeasuredAt h.way steps (slave_rate s) (slave_delay s)
@@ -135,8 +141,7 @@ module _ (p : Pace) (settled longest : ℕ) (w : WorldState) (is : IsSettledFrom
         ap (λ o. option_map_or (delay_at s) o (pos 0)) slave
         ∙ ap (λ o. option_map_or (λ (y : Port). option_map_or (λ d. d) (delay_of y.peer) (pos 0)) o (pos 0)) there
         ∙ ap (λ o. option_map_or (λ d. d) (option_map (λ (y : Measurement). y.delay) o) (pos 0)) last in
-        subst (λ r. IsMeasuredAt h.way steps r (slave_delay s)) (sym rate)
-        (subst (IsMeasuredAt h.way steps one.rate) (sym delay) is_right)
+        same_measured (slave_rate s) one.rate (slave_delay s) one.delay rate delay is_right
 
 pub measured_right : (p : Pace) (settled longest : ℕ) (w : WorldState) → IsSettledFrom p settled longest w
     → HaveMeasuredLinks w → AllMeasureRight p.params w
