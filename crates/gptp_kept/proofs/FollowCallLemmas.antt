@@ -1,22 +1,18 @@
 -- A call, seen at a system that follows and at its parent: whose call it is, and what is sent onto the lane.
-use Rattle.std.proofs.Common.{◌≡◌, ◌≢◌, ◌⊎◌, ◌+◌, ◌≤◌, ℕ, List, [], ◌∷◌, ◌++◌, map, Some, slice_get, refl, sym, ap, subst, ◌∙◌, inl, inr}
+use Rattle.std.proofs.Common.{◌≡◌, ◌≢◌, ◌⊎◌, ◌+◌, ◌≤◌, ℕ, List, [], ◌∷◌, ◌++◌, refl, sym, ap, ◌∙◌, inl, inr}
 use Rattle.gptp_lists.specs.Members.{In}
-use Rattle.gptp_vector.specs.declared.port.PortId.{PortId}
-use Rattle.gptp_links.specs.declared.bounds.Bounds.{Bounds}
-use Rattle.gptp_links.specs.declared.link.Direction.{Direction}
 use Rattle.gptp_links.specs.Fate.{Draw}
 use Rattle.gptp_links.specs.Queue.{Frame}
 use Rattle.gptp_lists.proofs.MappedLemmas.{same_there}
 use Rattle.gptp_system.specs.declared.answer.Answer.{Answer}
 use Rattle.gptp_system.specs.declared.sending.Sending.{Sending}
 use Rattle.gptp_system.specs.Input.{Input}
-use Rattle.gptp_system.specs.State.{SystemState, clock}
+use Rattle.gptp_system.specs.State.{SystemState}
 use Rattle.gptp_acts.proofs.SteadyLemmas.{same_clock}
 use Rattle.gptp_acts.specs.Act.{Calls, in_state}
 use Rattle.gptp_acts.specs.declared.station.Station.{Station}
 use Rattle.gptp_acts.specs.Sound.{AreApart, HaveOwnClocks}
-use Rattle.gptp_acts.specs.World.{Channel, WorldState, queue, receiver, sender}
-use Rattle.gptp_acts.proofs.StayLemmas.{sender_same}
+use Rattle.gptp_acts.specs.World.{WorldState, queue, receiver, sender}
 use Rattle.gptp_kept.specs.Followers.{IsFollower, state_above, state_of}
 use Rattle.gptp_kept.specs.LinkView.{LinkPlace}
 use Rattle.gptp_kept.specs.Said.{said_at}

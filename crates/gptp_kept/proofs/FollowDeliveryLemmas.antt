@@ -1,12 +1,9 @@
 -- A delivery in a settled world keeps what is claimed of the time that is carried in it.
-use Rattle.std.proofs.Common.{◌≡◌, ◌≢◌, ◌⊎◌, ◌<◌, ◌≤◌, ◌+◌, ℕ, suc, Bool, true, false, List, [], ◌∷◌, ◌++◌, map, Option, Some, None, slice_get, slice_set, refl, sym, ap, subst, ◌∙◌, inl, inr, arith, eqb-true}
+use Rattle.std.proofs.Common.{◌≡◌, ◌≢◌, ◌⊎◌, ◌≤◌, ◌+◌, ℕ, Bool, true, false, List, [], ◌∷◌, ◌++◌, map, Option, Some, None, slice_get, slice_set, refl, sym, ap, subst, ◌∙◌, inl, inr, arith, eqb-true}
 use Rattle.std.specs.Option.{option_map_or}
 use Rattle.std.specs.Prelude.{◌==◌}
 use Rattle.std.proofs.lemmas.List.{append-nil}
-use Rattle.std.proofs.lemmas.Option.{none-some}
-use Rattle.gptp_graph.specs.Distance.{IsDistance, IsNear}
-use Rattle.gptp_graph.specs.Parent.{IsParent, ParentLink}
-use Rattle.gptp_graph.specs.Snapshot.{IsWellFormed}
+use Rattle.gptp_graph.specs.Distance.{IsDistance}
 use Rattle.gptp_graph.proofs.ParentLemmas.{no_parent_at_zero}
 use Rattle.gptp_vector.specs.declared.port.PortId.{PortId}
 use Rattle.gptp_links.specs.declared.bounds.Bounds.{Bounds}
@@ -23,7 +20,7 @@ use Rattle.gptp_settling.specs.Settled.{IsSlaveOf}
 use Rattle.gptp_system.specs.declared.answer.Answer.{Answer}
 use Rattle.gptp_system.specs.Input.{Frame as FrameHeard, Steps}
 use Rattle.gptp_system.specs.Messages.{AreSent}
-use Rattle.gptp_system.specs.State.{SystemState, clock, local_time}
+use Rattle.gptp_system.specs.State.{SystemState, clock}
 use Rattle.gptp_system.specs.Syncing.{is_slave_at}
 use Rattle.gptp_system.proofs.SentLemmas.{steps_send}
 use Rattle.gptp_acts.proofs.BareLemmas.{takes_bare}
@@ -33,15 +30,13 @@ use Rattle.gptp_acts.specs.Act.{Calls, Delivers, HasFailed, Hears}
 use Rattle.gptp_acts.specs.declared.station.Station.{Station}
 use Rattle.gptp_acts.specs.World.{Channel, Net, WorldState, queue, receiver, sender, with_queue}
 use Rattle.gptp_timing.specs.Acts.{Acts, hears}
-use Rattle.gptp_timing.specs.Follower.{Setting, own_clock}
+use Rattle.gptp_timing.specs.Follower.{Setting}
 use Rattle.gptp_timing.specs.Invariant.{Inv}
 use Rattle.gptp_kept.specs.FollowView.{follower_view, tells}
 use Rattle.gptp_kept.specs.Followers.{HasWay, IsFollower, follower, follower_setting, state_above, state_of}
 use Rattle.gptp_kept.specs.LinkView.{LinkPlace, frame_view, lane_view, opposite}
-use Rattle.gptp_kept.specs.Measured.{IsLiveAt}
 use Rattle.gptp_kept.specs.Said.{said_at}
-use Rattle.gptp_kept.specs.Standing.{live_systems, snapshot_of}
-use Rattle.gptp_kept.specs.SyncView.{TakesTime}
+use Rattle.gptp_kept.specs.Standing.{snapshot_of}
 use Rattle.gptp_kept.specs.Timed.{CarriesTime, IsSettledFrom, RootsAreFresh}
 use Rattle.gptp_kept.specs.View.{identity_of}
 use Rattle.gptp_kept.proofs.CalmKeptLemmas.{KeepsNetwork, calls_keep, keeps_on, net_keeps, same_snapshot}
@@ -50,11 +45,11 @@ use Rattle.gptp_kept.proofs.FollowExpiryLemmas.{known_ran, roots_kept}
 use Rattle.gptp_kept.proofs.FollowHearLemmas.{HearsTime, StaysPut, elsewhere_put, hears_time, stays_put}
 use Rattle.gptp_kept.proofs.FollowHeardLemmas.{hears_seen}
 use Rattle.gptp_kept.proofs.FollowLaneLemmas.{lane_seen}
-use Rattle.gptp_kept.proofs.FollowSayLemmas.{NoneTells, heard_tells_none}
+use Rattle.gptp_kept.proofs.FollowSayLemmas.{heard_tells_none}
 use Rattle.gptp_kept.proofs.FollowSettingLemmas.{own_shown, residence_is}
 use Rattle.gptp_kept.proofs.FollowStepLemmas.{RelayStops, apart, inv_on, others, root_stays, slave_stays, step_seen, way_was}
 use Rattle.gptp_kept.proofs.FollowTreeLemmas.{FollowedBefore, followed_before, slave_is, takes_time, well_formed}
-use Rattle.gptp_kept.proofs.LinkLemmas.{IsOrderly, net_orderly, receiver_same, sender_opposite, sound_orderly}
+use Rattle.gptp_kept.proofs.LinkLemmas.{IsOrderly, net_orderly, sender_opposite, sound_orderly}
 use Rattle.gptp_kept.proofs.SeenDeliveryLemmas.{receiver_up}
 use Rattle.gptp_kept.proofs.WayLemmas.{one_way}
 

@@ -1,9 +1,8 @@
 -- An expiry in a settled world keeps what is claimed of the time that is carried in it.
-use Rattle.std.proofs.Common.{◌≡◌, ◌≢◌, ◌⊎◌, ◌<◌, ◌≤◌, ◌+◌, ℕ, suc, Bool, true, false, List, [], Option, Some, None, slice_get, refl, sym, ap, subst, ◌∙◌, inl, inr, arith}
+use Rattle.std.proofs.Common.{◌≡◌, ◌≢◌, ◌⊎◌, ◌<◌, ◌+◌, ℕ, Bool, true, false, List, [], Some, refl, sym, ap, subst, ◌∙◌, inl, inr}
 use Rattle.std.proofs.lemmas.Option.{none-some}
 use Rattle.gptp_lists.specs.Members.{In}
 use Rattle.gptp_graph.specs.Distance.{IsDistance}
-use Rattle.gptp_graph.specs.Snapshot.{Snapshot}
 use Rattle.gptp_vector.specs.declared.port.PortId.{PortId}
 use Rattle.gptp_links.specs.Fate.{Draw}
 use Rattle.gptp_setup.specs.declared.setup.Params.{Params}
@@ -11,7 +10,6 @@ use Rattle.gptp_setup.specs.declared.timer.Timer.{Timer}
 use Rattle.gptp_setup.specs.declared.timer.Timer.TheVariants as timers
 use Rattle.gptp_setup.specs.Pace.{Pace}
 use Rattle.gptp_system.specs.declared.answer.Answer.{Answer}
-use Rattle.gptp_system.specs.declared.sending.Sending.{Sending}
 use Rattle.gptp_system.specs.Input.{Input, Steps, Expires as TimerExpires}
 use Rattle.gptp_system.specs.Messages.{AreSent}
 use Rattle.gptp_system.specs.Selection.{kept_if}
@@ -22,13 +20,12 @@ use Rattle.gptp_acts.proofs.SteadyLemmas.{same_clock}
 use Rattle.gptp_acts.specs.Act.{Calls, Expires, in_state}
 use Rattle.gptp_acts.specs.Agrees.{stopped}
 use Rattle.gptp_acts.specs.declared.station.Station.{Station}
-use Rattle.gptp_acts.specs.World.{WorldState, receiver, sender}
+use Rattle.gptp_acts.specs.World.{WorldState, sender}
 use Rattle.gptp_timing.specs.Follower.{Setting}
 use Rattle.gptp_timing.specs.Invariant.{Inv}
 use Rattle.gptp_kept.specs.FollowView.{tells}
-use Rattle.gptp_kept.specs.Followers.{HasWay, IsFollower, follower, follower_setting, state_above, state_of}
+use Rattle.gptp_kept.specs.Followers.{HasWay, IsFollower, follower, follower_setting, state_above}
 use Rattle.gptp_kept.specs.LinkView.{LinkPlace}
-use Rattle.gptp_kept.specs.Measured.{IsLiveAt}
 use Rattle.gptp_kept.specs.Said.{said_at}
 use Rattle.gptp_kept.specs.Standing.{snapshot_of}
 use Rattle.gptp_kept.specs.Timed.{AllMeasureRight, CarriesTime, IsSettledFrom, RootsAreFresh}

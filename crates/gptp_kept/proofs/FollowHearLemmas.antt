@@ -1,11 +1,10 @@
 -- What a system makes of what it hears, as far as time is carried: a Sync is kept, a Follow_Up is known, or nothing
 -- moves.
-use Rattle.std.proofs.Common.{◌≡◌, ◌≢◌, ◌⊎◌, ◌+◌, ◌≤◌, ℕ, ℤ, Bool, true, false, List, Option, Some, None, refl, sym, ap, subst, ◌∙◌, inl, inr, arith, eqb-true}
-use Rattle.std.specs.Option.{option_map, option_map_or, unwrap_or}
-use Rattle.std.specs.Prelude.{◌==◌, ◌&&◌, if◌then◌else◌}
+use Rattle.std.proofs.Common.{◌≡◌, ◌≢◌, ◌⊎◌, ◌+◌, ℕ, ℤ, Bool, true, false, List, Option, Some, None, refl, sym, ap, subst, ◌∙◌, inl, inr, arith}
+use Rattle.std.specs.Option.{unwrap_or}
+use Rattle.std.specs.Prelude.{◌&&◌, if◌then◌else◌}
 use Rattle.std.proofs.lemmas.Bool.Decides.{nat_tests}
-use Rattle.std.proofs.lemmas.Bool.{eq-eqb}
-use Rattle.std.proofs.lemmas.Option.{none-some, same_Some}
+use Rattle.std.proofs.lemmas.Option.{none-some}
 use Rattle.gptp_graph.specs.Snapshot.{PortIdentity}
 use Rattle.gptp_vector.specs.declared.port.PortId.{PortId}
 use Rattle.gptp_messages.specs.declared.follow_up.FollowUp.{FollowUp as FollowUpFields}
@@ -14,25 +13,21 @@ use Rattle.gptp_messages.specs.declared.message.Message.{Message as Whole}
 use Rattle.gptp_messages.specs.declared.message.Message.TheVariants as messages
 use Rattle.gptp_messages.specs.Grammar.{Reads}
 use Rattle.gptp_pdelay.specs.Peer.{after_follow_up}
-use Rattle.gptp_correction.specs.declared.correction.Relayed.{Relayed}
 use Rattle.gptp_correction.specs.declared.sync_in.SyncInfo.{SyncInfo}
 use Rattle.gptp_correction.specs.SyncIn.{KeptSync, belongs, information, kept as kept_as, together}
-use Rattle.gptp_setup.specs.declared.timer.Timer.{Timer}
-use Rattle.gptp_setup.specs.declared.timer.Timer.TheVariants as timers
 use Rattle.gptp_setup.specs.Pace.{has_sync_timeout}
 use Rattle.gptp_system.specs.declared.answer.Answer.{Answer}
 use Rattle.gptp_system.specs.declared.sending.Sending.{Sending}
-use Rattle.gptp_system.specs.Input.{Steps, Expires, Frame as FrameHeard}
+use Rattle.gptp_system.specs.Input.{Steps, Frame as FrameHeard}
 use Rattle.gptp_system.specs.Selection.{kept_if}
 use Rattle.gptp_system.specs.State.{SystemState, held_at, is_capable_at, local_time}
-use Rattle.gptp_system.specs.Steps.{HearsFrame, HearsMessage}
+use Rattle.gptp_system.specs.Steps.{HearsMessage}
 use Rattle.gptp_system.specs.Syncing.{HearsFollowUpIf, HearsSyncIf, KeepsIf, KnowsBy, KnowsIf, came_from, delay_at, is_followed, is_slave_at, rate_at, said_on}
-use Rattle.gptp_kept.specs.FollowView.{tells, told_in}
 use Rattle.gptp_kept.specs.SyncView.{TakesTime}
 use Rattle.gptp_kept.specs.View.{identity_of}
 use Rattle.gptp_kept.proofs.SendLemmas.{same_identity}
-use Rattle.gptp_kept.proofs.SyncHeardLemmas.{at_slave, followed, followed_here, heard_as}
-use Rattle.gptp_kept.proofs.TimeStepLemmas.{StaysKnown, Stops, expires, hears_announce, rests, still, turns}
+use Rattle.gptp_kept.proofs.SyncHeardLemmas.{at_slave, followed, heard_as}
+use Rattle.gptp_kept.proofs.TimeStepLemmas.{StaysKnown, hears_announce, rests, still, turns}
 
 -- ---- what doesn't move
 

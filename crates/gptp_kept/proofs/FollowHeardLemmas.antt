@@ -1,17 +1,15 @@
 -- What a system hears at its Slave port is heard as the machine of gptp_timing hears.
-use Rattle.std.proofs.Common.{◌≡◌, ◌⊎◌, ◌+◌, ◌≤◌, ℕ, ℤ, true, List, Option, Some, None, refl, sym, ap, subst, ◌∙◌, inl, inr, arith}
+use Rattle.std.proofs.Common.{◌≡◌, ◌⊎◌, ◌+◌, ℕ, ℤ, List, Option, Some, None, refl, sym, ap, subst, ◌∙◌, inl, inr, arith}
 use Rattle.std.specs.Option.{option_map, unwrap_or}
 use Rattle.std.proofs.lemmas.Option.{none-some, same_Some}
 use Rattle.gptp_graph.specs.Snapshot.{PortIdentity}
-use Rattle.gptp_messages.specs.declared.follow_up.FollowUp.{FollowUp as FollowUpFields}
 use Rattle.gptp_messages.specs.declared.head.Head.{Head}
 use Rattle.gptp_messages.specs.declared.message.Message.TheVariants as messages
-use Rattle.gptp_messages.specs.Grammar.{Reads}
 use Rattle.gptp_messages.proofs.GrammarLemmas.{one_reading}
 use Rattle.gptp_links.specs.declared.link.Direction.{Direction}
 use Rattle.gptp_correction.specs.declared.correction.Relayed.{Relayed}
 use Rattle.gptp_correction.specs.declared.sync_in.SyncInfo.{SyncInfo}
-use Rattle.gptp_correction.specs.SyncIn.{KeptSync as KeptInSystem, kept as kept_as, together}
+use Rattle.gptp_correction.specs.SyncIn.{KeptSync as KeptInSystem, together}
 use Rattle.gptp_system.specs.declared.answer.Answer.{Answer}
 use Rattle.gptp_system.specs.declared.sending.Sending.{Sending}
 use Rattle.gptp_system.specs.Input.{Steps, Frame as FrameHeard}
@@ -25,7 +23,7 @@ use Rattle.gptp_timing.specs.Right.{info_of}
 use Rattle.gptp_kept.specs.FollowView.{follower_view, kept_sync, tells, told_in}
 use Rattle.gptp_kept.specs.SyncView.{TakesTime}
 use Rattle.gptp_kept.specs.View.{identity_of}
-use Rattle.gptp_kept.proofs.FollowHearLemmas.{HasKept, HasLearned, HearsTime, KnowsOrNot, NowKnows, StaysPut, hears_time, slave_keeps, slave_learns, stays_put}
+use Rattle.gptp_kept.proofs.FollowHearLemmas.{HasKept, HearsTime, KnowsOrNot, NowKnows, StaysPut, hears_time, slave_keeps, slave_learns, stays_put}
 use Rattle.gptp_kept.proofs.FollowOctetLemmas.{one_head}
 use Rattle.gptp_kept.proofs.SyncHeardLemmas.{followed_here}
 

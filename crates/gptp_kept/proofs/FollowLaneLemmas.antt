@@ -1,25 +1,15 @@
 -- What a call sends onto a lane stands behind what was in flight, and is due in its order.
-use Rattle.std.proofs.Common.{◌≡◌, ◌≢◌, ◌+◌, ◌≤◌, ℕ, true, List, [], ◌∷◌, ◌++◌, map, Option, Some, None, slice_get, refl, sym, ap, subst, ◌∙◌, append_assoc, ◌⊎◌, inl, inr, arith}
-use Rattle.std.proofs.lemmas.List.{append-nil, map-append}
+use Rattle.std.proofs.Common.{◌≡◌, ◌≢◌, ◌+◌, ◌≤◌, ℕ, true, List, [], ◌∷◌, ◌++◌, map, Some, slice_get, sym, ap, subst, ◌∙◌, inl, inr, arith}
+use Rattle.std.proofs.lemmas.List.{map-append}
 use Rattle.gptp_lists.specs.Members.{In}
-use Rattle.gptp_lists.proofs.MemberLemmas.{In-parts}
-use Rattle.gptp_lists.proofs.MappedLemmas.{same_there}
-use Rattle.gptp_lists.proofs.PlaceLemmas.{get-set_other, get-set_same, same_place}
-use Rattle.gptp_links.specs.Bounds.{IsLawful}
-use Rattle.gptp_links.specs.declared.bounds.Bounds.{Bounds}
 use Rattle.gptp_links.specs.declared.link.Direction.{Direction}
-use Rattle.gptp_links.specs.declared.link.Direction.TheVariants.{FromA, FromB}
 use Rattle.gptp_links.specs.Fate.{Draw}
-use Rattle.gptp_links.specs.Queue.{AreDueInOrder, Frame, due_after, frame}
-use Rattle.gptp_vector.specs.declared.port.PortId.{PortId}
+use Rattle.gptp_links.specs.Queue.{AreDueInOrder, Frame}
 use Rattle.gptp_system.specs.declared.answer.Answer.{Answer}
-use Rattle.gptp_system.specs.declared.sending.Sending.{Sending}
 use Rattle.gptp_system.specs.Input.{Input}
-use Rattle.gptp_system.specs.State.{SystemState, own}
 use Rattle.gptp_acts.specs.Act.{Calls, all_timers, in_state}
-use Rattle.gptp_acts.specs.Sends.{SendsAll, SendsOne, entered, written}
 use Rattle.gptp_acts.specs.Sound.{AreApart}
-use Rattle.gptp_acts.specs.World.{Channel, Net, WorldState, queue, sender, with_queue}
+use Rattle.gptp_acts.specs.World.{Channel, Net, WorldState, queue, sender}
 use Rattle.gptp_measuring.specs.Lanes.{Frame as SeenFrame}
 use Rattle.gptp_timing.specs.Acts.{AreInOrder}
 use Rattle.gptp_kept.specs.LinkView.{frame_view, lane_view}

@@ -1,5 +1,5 @@
 -- As time passes the time that is carried stays right; it is so from when the network is settled.
-use Rattle.std.proofs.Common.{◌≡◌, ◌<◌, ◌≤◌, ◌+◌, ℕ, suc, Option, Some, None, slice_get, refl, sym, ap, subst, ◌∙◌, arith}
+use Rattle.std.proofs.Common.{◌≡◌, ◌<◌, ◌+◌, ℕ, refl, sym, ap, subst, arith}
 use Rattle.gptp_lists.specs.Members.{In}
 use Rattle.gptp_links.specs.Queue.{Frame}
 use Rattle.gptp_setup.specs.declared.setup.Params.{Params}
@@ -9,10 +9,10 @@ use Rattle.gptp_acts.specs.World.{WorldState, queue}
 use Rattle.gptp_measuring.specs.Lanes.{Frame as SeenFrame}
 use Rattle.gptp_timing.specs.Follower.{Setting}
 use Rattle.gptp_timing.specs.Follower as followers
-use Rattle.gptp_timing.specs.Invariant.{Inv, IsFresh}
+use Rattle.gptp_timing.specs.Invariant.{IsFresh}
 use Rattle.gptp_timing.proofs.FollowerLemmas.{inv_begins, inv_later}
 use Rattle.gptp_kept.specs.FollowView.{tells}
-use Rattle.gptp_kept.specs.Followers.{HasWay, IsFollower, follower, follower_setting, state_of}
+use Rattle.gptp_kept.specs.Followers.{HasWay, IsFollower, follower, follower_setting}
 use Rattle.gptp_kept.specs.Known.{IsKnown}
 use Rattle.gptp_kept.specs.LinkView.{LinkPlace, frame_view}
 use Rattle.gptp_kept.specs.Timed.{CarriesTime, IsSettledFrom}

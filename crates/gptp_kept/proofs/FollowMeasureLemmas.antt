@@ -1,32 +1,28 @@
 -- What ports have measured of their links is right of the links that are followed.
-use Rattle.std.proofs.Common.{◌≡◌, ◌≤◌, ℕ, zero, suc, ℤ, pos, Option, Some, None, slice_get, refl, sym, ap, subst, ◌∙◌, arith}
+use Rattle.std.proofs.Common.{◌≡◌, ℕ, zero, suc, ℤ, pos, Some, refl, sym, ap, subst, ◌∙◌, arith}
 use Rattle.std.specs.Option.{option_map, option_map_or}
-use Rattle.gptp_graph.specs.Snapshot.{Joins, PortIdentity, Snapshot, port_of}
+use Rattle.gptp_graph.specs.Snapshot.{Joins, PortIdentity, Snapshot}
 use Rattle.gptp_vector.specs.declared.port.PortId.{PortId}
-use Rattle.gptp_lists.proofs.MappedLemmas.{same_there}
 use Rattle.gptp_lists.proofs.PlaceLemmas.{member_there}
 use Rattle.gptp_pdelay.specs.Clock.{local_clock}
 use Rattle.gptp_pdelay.specs.Peer.{delay_of, rate_of_peer}
 use Rattle.gptp_pdelay.specs.declared.exchange.Measurement.{Measurement}
 use Rattle.gptp_setup.specs.declared.setup.Params.{Params}
-use Rattle.gptp_setup.specs.declared.setup.Setup.{Setup}
 use Rattle.gptp_setup.specs.Intervals.{interval_of}
 use Rattle.gptp_setup.specs.Pace.{Pace}
 use Rattle.gptp_system.specs.declared.port.Port.{Port}
-use Rattle.gptp_system.specs.State.{SystemState, clock, number, own}
+use Rattle.gptp_system.specs.State.{SystemState, number, own}
 use Rattle.gptp_system.specs.Syncing.{delay_at, rate_at, slave_delay, slave_rate}
-use Rattle.gptp_acts.specs.declared.station.Station.{Station}
 use Rattle.gptp_acts.specs.World.{Channel, WorldState, receiver, sender}
 use Rattle.gptp_measuring.specs.Measured.{HasMeasured}
 use Rattle.gptp_measuring.specs.Setting.{Setting as Measuring}
 use Rattle.gptp_timing.specs.Right.{IsMeasuredAt}
-use Rattle.gptp_timing.specs.Follower as followers
 use Rattle.gptp_timing.specs.Tree.{Parts}
 use Rattle.gptp_timing.specs.TreeLaws.{MeasuresParent}
 use Rattle.gptp_timing.proofs.RightLemmas.{exchanges_measure_right}
 use Rattle.gptp_timing.proofs.TreeLemmas.{parents_are_measured}
 use Rattle.gptp_kept.specs.Followers.{HasWay, IsFollower, follower_clock, parent_link, parts_of, state_of}
-use Rattle.gptp_kept.specs.LinkView.{IsEndOf, LinkPlace, least_delay, opposite, setting}
+use Rattle.gptp_kept.specs.LinkView.{IsEndOf, LinkPlace, opposite, setting}
 use Rattle.gptp_kept.specs.MeasuredLinks.{HasMeasuredLink, HaveMeasuredLinks}
 use Rattle.gptp_kept.specs.Standing.{snapshot_of}
 use Rattle.gptp_kept.specs.Timed.{AllMeasureRight, IsSettledFrom}

@@ -2,11 +2,9 @@
 use Rattle.std.proofs.Common.{◌≡◌, ◌<◌, ℕ, List, [], ◌++◌, Some, refl, sym, ap, subst, ◌∙◌, arith}
 use Rattle.std.specs.Int.{w64}
 use Rattle.std.specs.Prelude.{pos, FitsSigned}
-use Rattle.std.proofs.lemmas.List.{append-nil}
 use Rattle.std.proofs.lemmas.Option.{same_Some}
 use Rattle.gptp_messages.specs.declared.follow_up.FollowUp.{FollowUp as FollowUpFields}
 use Rattle.gptp_messages.specs.declared.head.Head.{Head}
-use Rattle.gptp_messages.specs.declared.message.Message.{Message as Whole}
 use Rattle.gptp_messages.specs.declared.message.Message.TheVariants as messages
 use Rattle.gptp_messages.specs.FollowUp.{ReadsRate, follow_up_tlvs}
 use Rattle.gptp_messages.specs.Frame.{PortFits, field}
@@ -22,7 +20,7 @@ use Rattle.gptp_scaled.specs.Stamp.{IsTimestamp, Timestamp}
 use Rattle.gptp_correction.specs.declared.correction.Relayed.{Relayed}
 use Rattle.gptp_settling.specs.Frame.{FollowUp as FollowUpId, Sync as SyncIs, SyncId}
 use Rattle.gptp_system.proofs.TypeLemmas.{type_is}
-use Rattle.gptp_timing.specs.Messages.{IsOneMessage, Message, Sync, FollowUp}
+use Rattle.gptp_timing.specs.Messages.{Message, Sync, FollowUp}
 use Rattle.gptp_kept.specs.FollowView.{tells, told_in}
 use Rattle.gptp_kept.specs.SyncView.{IsTimeless}
 use Rattle.gptp_kept.specs.View.{identity_of, says_sync, sync_id}

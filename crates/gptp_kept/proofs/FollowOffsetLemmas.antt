@@ -1,12 +1,11 @@
 -- A Follow_Up that is used leaves an offset that is exact.
-use Rattle.std.proofs.Common.{◌≡◌, ◌≢◌, ◌⊎◌, ◌<◌, ◌≤◌, ◌+◌, ℕ, zero, suc, ℤ, Bool, true, false, List, ◌∷◌, map, Option, Some, None, slice_get, slice_set, refl, sym, ap, subst, ◌∙◌, inl, inr, arith, eqb-true}
+use Rattle.std.proofs.Common.{◌≡◌, ◌≢◌, ◌⊎◌, ◌≤◌, ℕ, suc, ℤ, Bool, true, false, List, ◌∷◌, map, Option, Some, None, slice_get, slice_set, refl, sym, ap, subst, ◌∙◌, inl, inr, arith, eqb-true}
 use Rattle.std.specs.Option.{option_map, option_map_or}
-use Rattle.std.specs.Prelude.{◌==◌, ◌&&◌, ◌-ℤ◌, ◌+ℤ◌, pos, if◌then◌else◌}
+use Rattle.std.specs.Prelude.{◌==◌, ◌-ℤ◌, pos, if◌then◌else◌}
 use Rattle.std.proofs.lemmas.Bool.Decides.{nat_tests}
 use Rattle.std.proofs.lemmas.Option.{none-some, same_Some}
 use Rattle.gptp_lists.proofs.MappedLemmas.{same_there}
 use Rattle.gptp_lists.proofs.PlaceLemmas.{get-set_same}
-use Rattle.gptp_graph.specs.Snapshot.{PortIdentity}
 use Rattle.gptp_vector.specs.declared.port.PortId.{PortId}
 use Rattle.gptp_scaled.specs.Counts.{AreWithin}
 use Rattle.gptp_messages.specs.declared.follow_up.FollowUp.{FollowUp as FollowUpFields}
@@ -16,7 +15,6 @@ use Rattle.gptp_pdelay.specs.Clock.{local_clock}
 use Rattle.gptp_links.specs.declared.link.Direction.{Direction}
 use Rattle.gptp_links.specs.Fate.{Draw}
 use Rattle.gptp_links.specs.Queue.{Frame, frame}
-use Rattle.gptp_correction.specs.declared.correction.Relayed.{Relayed}
 use Rattle.gptp_correction.specs.declared.sync_in.SyncInfo.{SyncInfo}
 use Rattle.gptp_correction.specs.Correction.{held_sum}
 use Rattle.gptp_correction.specs.SyncIn.{KeptSync, belongs, information, together}
@@ -25,15 +23,15 @@ use Rattle.gptp_system.specs.declared.answer.Answer.{Answer}
 use Rattle.gptp_system.specs.declared.answer.Answer.TheVariants as answers
 use Rattle.gptp_system.specs.declared.sending.Sending.{Sending}
 use Rattle.gptp_system.specs.Input.{Frame as FrameHeard, Steps}
-use Rattle.gptp_system.specs.State.{SystemState, clock, is_capable_at, local_time}
+use Rattle.gptp_system.specs.State.{SystemState, is_capable_at, local_time}
 use Rattle.gptp_system.specs.Syncing.{HearsFollowUpIf, IsOffset, KnowsBy, KnowsIf, OffsetFits, delay_at, is_slave_at, offset_of, rate_at, said_on, slave_delay, slave_rate}
 use Rattle.gptp_accuracy.specs.TimeError.{time_error_at}
-use Rattle.gptp_acts.specs.Act.{Calls, Delivers, Hears, in_state}
-use Rattle.gptp_acts.specs.Acts.{Delivery, Tells}
+use Rattle.gptp_acts.specs.Act.{Delivers, Hears, in_state}
+use Rattle.gptp_acts.specs.Acts.{Tells}
 use Rattle.gptp_acts.specs.declared.done.Done.{Done}
 use Rattle.gptp_acts.specs.declared.done.Done.TheVariants.{Heard, Quiet}
 use Rattle.gptp_acts.specs.declared.station.Station.{Station}
-use Rattle.gptp_acts.specs.World.{WorldState, port_id, queue, receiver, sender}
+use Rattle.gptp_acts.specs.World.{WorldState, port_id, queue, receiver}
 use Rattle.gptp_timing.specs.Follower.{Setting, from, own_clock, root_clock}
 use Rattle.gptp_timing.specs.Messages.{FollowUp, IsOneMessage}
 use Rattle.gptp_timing.specs.Right.{IsHeldAt, IsMeasuredAt}

@@ -1,13 +1,11 @@
 -- What the ways of a world are made of: the numbers of its setups and of its links in use.
 use Rattle.std.proofs.Common.{◌≡◌, ◌≤◌, ℕ, zero, suc, ℤ, pos, negsuc, Bool, true, false, List, [], ◌∷◌, map, Option, Some, None, slice_get, refl, sym, ap, subst, ◌∙◌, ◌⊎◌, inl, inr, arith}
-use Rattle.std.specs.Prelude.{if◌then◌else◌, ◌==◌, ◌&&◌, ◌||◌, max}
+use Rattle.std.specs.Prelude.{if◌then◌else◌, ◌&&◌, ◌||◌, max}
 use Rattle.std.specs.Option.{option_map_or}
-use Rattle.std.proofs.lemmas.Bool.{and_from, and_parts, eq-eqb, eqb-true, or_cases, or_left, or_right}
+use Rattle.std.proofs.lemmas.Bool.{and_from, and_parts, or_cases, or_left, or_right}
 use Rattle.std.proofs.lemmas.Int.{ints}
 use Rattle.std.proofs.lemmas.Option.{none-some, same_Some}
-use Rattle.gptp_graph.specs.Parent.{ParentLink}
-use Rattle.gptp_graph.specs.Snapshot.{PortIdentity, System, port_of}
-use Rattle.gptp_vector.specs.declared.port.PortId.{PortId}
+use Rattle.gptp_graph.specs.Snapshot.{PortIdentity, System}
 use Rattle.gptp_links.specs.declared.bounds.Bounds.{Bounds}
 use Rattle.gptp_links.specs.declared.link.Direction.{Direction}
 use Rattle.gptp_links.specs.declared.link.Direction.TheVariants.{FromA, FromB}
@@ -22,7 +20,6 @@ use Rattle.gptp_acts.proofs.BareLemmas.{bare}
 use Rattle.gptp_acts.specs.declared.station.Station.{Station}
 use Rattle.gptp_acts.specs.Sound.{HaveOwnClocks, HaveTheirSetups, IsSound}
 use Rattle.gptp_acts.specs.World.{Channel, WorldState, receiver, sender}
-use Rattle.gptp_timing.specs.Tree.{Parts}
 use Rattle.gptp_timing.specs.TreeLaws.{ArePartsOf}
 use Rattle.gptp_kept.specs.Calm.{greatest_delay, is_port, place_of, setups_of}
 use Rattle.gptp_kept.specs.Followers.{bound_at, parts_of, set_up_with}

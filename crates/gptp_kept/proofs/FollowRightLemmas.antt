@@ -1,10 +1,8 @@
 -- What the parent of a system tells is right, where it may come after what comes is right: a root tells its own clock,
 -- and a bridge what it knows.
-use Rattle.std.proofs.Common.{◌≡◌, ◌≢◌, ◌⊎◌, ◌<◌, ◌≤◌, ◌+◌, ◌*◌, ℕ, zero, suc, ℤ, Bool, true, false, List, Option, Some, None, slice_get, refl, sym, ap, subst, ◌∙◌, inl, inr, arith, eqb-true}
-use Rattle.std.specs.Prelude.{◌==◌, ◌&&◌, ◌+ℤ◌}
+use Rattle.std.proofs.Common.{◌≡◌, ◌⊎◌, ◌<◌, ◌≤◌, ◌+◌, ◌*◌, ℕ, zero, suc, ℤ, true, List, Some, refl, sym, ap, subst, ◌∙◌, inl, inr, arith, eqb-true}
+use Rattle.std.specs.Prelude.{◌==◌}
 use Rattle.std.proofs.lemmas.Bool.{and_parts}
-use Rattle.std.proofs.lemmas.Int.{ints}
-use Rattle.gptp_graph.specs.Best.{IsBest}
 use Rattle.gptp_graph.specs.Distance.{IsDistance, IsNear}
 use Rattle.gptp_graph.specs.Parent.{IsParent, ParentLink}
 use Rattle.gptp_graph.specs.Snapshot.{IsWellFormed, Snapshot, System}
@@ -15,7 +13,6 @@ use Rattle.gptp_scaled.specs.Interval.{FitsInterval}
 use Rattle.gptp_scaled.specs.Rate.{FitsRate}
 use Rattle.gptp_scaled.specs.Stamp.{IsSplit, Timestamp}
 use Rattle.gptp_pdelay.specs.Clock.{local_clock}
-use Rattle.gptp_correction.specs.declared.correction.Hop.{Hop}
 use Rattle.gptp_correction.specs.declared.correction.Relayed.{Relayed}
 use Rattle.gptp_correction.specs.declared.sync_in.SyncInfo.{SyncInfo}
 use Rattle.gptp_correction.specs.Correction.{bridge, carried, carried_on, held_sum, relayed, BridgeFits}
@@ -24,7 +21,7 @@ use Rattle.gptp_system.specs.declared.sending.Sending.{Sending}
 use Rattle.gptp_system.specs.State.{SystemState, can_lead, clock, local_time}
 use Rattle.gptp_system.specs.Syncing.{HopFits, IsRelayed, IsSentOn, IsTold, LeadsTime, hop_of, leads, own_time, slave_delay, slave_rate, told_by}
 use Rattle.gptp_acts.specs.declared.station.Station.{Station}
-use Rattle.gptp_acts.specs.World.{WorldState, receiver, sender}
+use Rattle.gptp_acts.specs.World.{WorldState, sender}
 use Rattle.gptp_accuracy.specs.TimeError.{Way}
 use Rattle.gptp_timing.specs.Follower.{Setting, from, own_clock, root_clock}
 use Rattle.gptp_timing.specs.Follower as followers
@@ -40,14 +37,13 @@ use Rattle.gptp_kept.specs.LinkView.{LinkPlace}
 use Rattle.gptp_kept.specs.Settled.{IsSettledSystem}
 use Rattle.gptp_kept.specs.Standing.{snapshot_of, standing}
 use Rattle.gptp_kept.specs.Timed.{AllMeasureRight, CarriesTime, IsSettledFrom}
-use Rattle.gptp_kept.specs.View.{identity_of}
 use Rattle.gptp_kept.proofs.FollowOctetLemmas.{ToldFits}
 use Rattle.gptp_kept.proofs.FollowPartLemmas.{clock_shown}
 use Rattle.gptp_kept.proofs.FollowSayLemmas.{SendsOn}
 use Rattle.gptp_kept.proofs.FollowSettingLemmas.{is_setting, own_shown, residence_is}
 use Rattle.gptp_kept.proofs.FollowSizeLemmas.{origin_fits}
 use Rattle.gptp_kept.proofs.FollowTreeLemmas.{well_formed}
-use Rattle.gptp_kept.proofs.FollowWayLemmas.{Follows, correction_small, documented, few, follows_parent, long, own_time_fits, root_time_fits, short_way, way_distance}
+use Rattle.gptp_kept.proofs.FollowWayLemmas.{Follows, correction_small, documented, few, follows_parent, long, own_time_fits, root_time_fits, short_way}
 use Rattle.gptp_kept.proofs.SystemLemmas.{live_there}
 
 -- ---- what is sent on

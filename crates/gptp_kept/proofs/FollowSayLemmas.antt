@@ -1,5 +1,5 @@
 -- What a system tells of time at one of its ports: a Sync and its Follow_Up, which says what is told, or nothing.
-use Rattle.std.proofs.Common.{◌≡◌, ◌≢◌, ◌⊎◌, ◌<◌, ◌≤◌, ℕ, zero, suc, ℤ, Bool, true, false, List, [], ◌∷◌, ◌++◌, map, Option, Some, None, slice_get, refl, sym, ap, subst, ◌∙◌, inl, inr, arith}
+use Rattle.std.proofs.Common.{◌≡◌, ◌≢◌, ◌⊎◌, ◌<◌, ℕ, zero, suc, ℤ, Bool, true, false, List, [], ◌∷◌, ◌++◌, map, Option, Some, None, slice_get, refl, sym, ap, subst, ◌∙◌, inl, inr, arith}
 use Rattle.std.proofs.lemmas.List.{append-nil}
 use Rattle.gptp_lists.specs.Members.{In}
 use Rattle.gptp_graph.specs.Snapshot.{PortIdentity}
@@ -20,15 +20,15 @@ use Rattle.gptp_settling.specs.Frame.{SyncId}
 use Rattle.gptp_system.specs.declared.answer.Answer.{Answer}
 use Rattle.gptp_system.specs.declared.port.Port.{Port}
 use Rattle.gptp_system.specs.declared.sending.Sending.{Sending}
-use Rattle.gptp_system.specs.Input.{Input, Steps, Expires, Frame as FrameHeard}
+use Rattle.gptp_system.specs.Input.{Steps, Expires, Frame as FrameHeard}
 use Rattle.gptp_system.specs.Measuring.{owed_at}
 use Rattle.gptp_system.specs.Messages.{AllAre, Announcing, AreSent, Telling, kind_of}
 use Rattle.gptp_system.specs.State.{SystemState, clock, is_mine, own, trace}
 use Rattle.gptp_system.specs.Syncing.{IsRelayed, IsSentOn, LeadsTime, RelaysBy, RelaysIf, SyncsIf, follow_up_of, leads, sync_of, syncs as all_syncs, told_by}
-use Rattle.gptp_measuring.specs.Lanes.{AreMute, Frame as SeenFrame}
+use Rattle.gptp_measuring.specs.Lanes.{AreMute}
 use Rattle.gptp_timing.specs.Acts.{SendsTime}
 use Rattle.gptp_timing.specs.Messages.{FollowUp, Message, Sync}
-use Rattle.gptp_kept.specs.FollowView.{tells, told_in}
+use Rattle.gptp_kept.specs.FollowView.{tells}
 use Rattle.gptp_kept.specs.LinkView.{frame_view}
 use Rattle.gptp_kept.specs.Said.{said_at}
 use Rattle.gptp_kept.specs.View.{identity_of}

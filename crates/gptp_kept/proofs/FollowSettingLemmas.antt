@@ -1,20 +1,17 @@
 -- The setting of a system that follows is that of its world: clocks, the bounds of its link, and the residence.
-use Rattle.std.proofs.Common.{◌≡◌, ◌≤◌, ℕ, suc, Some, slice_get, refl, sym, ap, subst, ◌∙◌}
-use Rattle.gptp_graph.specs.Snapshot.{Snapshot, port_of}
-use Rattle.gptp_vector.specs.declared.port.PortId.{PortId}
+use Rattle.std.proofs.Common.{◌≡◌, ℕ, suc, sym, ap, ◌∙◌}
+use Rattle.gptp_graph.specs.Snapshot.{Snapshot}
 use Rattle.gptp_pdelay.specs.Clock.{local_clock}
 use Rattle.gptp_setup.specs.Pace.{Pace}
-use Rattle.gptp_setup.specs.declared.setup.Params.{Params}
-use Rattle.gptp_system.specs.State.{clock, local_time}
-use Rattle.gptp_acts.specs.declared.station.Station.{Station}
-use Rattle.gptp_acts.specs.World.{Channel, WorldState, receiver, sender}
+use Rattle.gptp_system.specs.State.{local_time}
+use Rattle.gptp_acts.specs.World.{WorldState, sender}
 use Rattle.gptp_accuracy.specs.TimeError.{Link}
 use Rattle.gptp_timing.specs.Follower.{IsSetting, Setting, own_clock}
 use Rattle.gptp_timing.specs.Follower as followers
 use Rattle.gptp_timing.specs.Tree.{Parts, last_link}
 use Rattle.gptp_timing.specs.TreeLaws.{ArePartsOf}
 use Rattle.gptp_timing.proofs.TreeLemmas.{way_ends_at_parent, way_leads_to, ways_are_settings}
-use Rattle.gptp_kept.specs.Followers.{HasWay, IsFollower, follower_clock, follower_setting, parent_link, parts_of, state_above, state_of}
+use Rattle.gptp_kept.specs.Followers.{HasWay, IsFollower, follower_clock, follower_setting, parent_link, parts_of, state_of}
 use Rattle.gptp_kept.specs.LinkView.{LinkPlace}
 use Rattle.gptp_kept.specs.Standing.{snapshot_of}
 use Rattle.gptp_kept.specs.Timed.{IsSettledFrom}

@@ -1,16 +1,14 @@
 -- The error of the time that is sent is small against the times that timestamps have.
-use Rattle.std.proofs.Common.{◌≡◌, ℕ, zero, suc, ◌+◌, ◌-◌, ◌*◌, ◌/◌, ◌^◌, ◌<◌, ◌≤◌, ℤ, pos, negsuc, ◌+ℤ◌, ◌-ℤ◌, ◌*ℤ◌, ◌≤ℤ◌, ◌<ℤ◌, unsigned_abs, length, refl, sym, subst, arith}
+use Rattle.std.proofs.Common.{ℕ, zero, suc, ◌+◌, ◌-◌, ◌*◌, ◌^◌, ◌<◌, ◌≤◌, ℤ, pos, negsuc, ◌-ℤ◌, ◌*ℤ◌, ◌≤ℤ◌, unsigned_abs, length, arith}
 use Rattle.std.proofs.lemmas.Int.{ints}
 use Rattle.std.proofs.lemmas.Nat.{div_below}
 use native.Mathlib.Nat.{mul-le-mul}
-use Rattle.gptp_scaled.specs.Counts.{AreWithin, IsClockRate}
 use Rattle.gptp_scaled.specs.Floor.{floor_div}
 use Rattle.gptp_scaled.specs.Rate.{unit}
-use Rattle.gptp_scaled.specs.Stamp.{IsTimestamp, Timestamp, nanos_of, scaled_of}
+use Rattle.gptp_scaled.specs.Stamp.{IsTimestamp}
 use Rattle.gptp_scaled.proofs.FloorLemmas.{floor_above, floor_below}
 use Rattle.gptp_pdelay.specs.Clock.{IsTime}
 use Rattle.gptp_pdelay.specs.GoodLink.{ceil_div}
-use Rattle.gptp_pdelay.specs.Measured.{clock_rate}
 use Rattle.gptp_pdelay.proofs.MeasurementLemmas.{clock_counts}
 use Rattle.gptp_correction.specs.declared.correction.Relayed.{Relayed}
 use Rattle.gptp_correction.specs.Sum.{sum_below}

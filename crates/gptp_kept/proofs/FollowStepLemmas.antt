@@ -1,23 +1,21 @@
 -- A call of a settled world, at a system that follows: an act of the machine of gptp_timing, which keeps its invariant.
-use Rattle.std.proofs.Common.{◌≡◌, ◌≢◌, ◌⊎◌, ◌<◌, ◌≤◌, ◌+◌, ℕ, suc, List, [], ◌∷◌, ◌++◌, map, length, Option, Some, None, slice_get, refl, sym, ap, subst, ◌∙◌, inl, inr, arith}
+use Rattle.std.proofs.Common.{◌≡◌, ◌≢◌, ◌⊎◌, ◌≤◌, ◌+◌, ℕ, suc, List, [], ◌++◌, map, Some, None, slice_get, sym, ap, subst, ◌∙◌, inl, inr, arith}
 use Rattle.std.specs.Option.{option_map}
-use Rattle.std.specs.Prelude.{max}
 use Rattle.std.proofs.lemmas.List.{append-nil}
 use Rattle.gptp_lists.specs.Members.{In}
 use Rattle.gptp_lists.proofs.MappedLemmas.{same_there}
 use Rattle.gptp_lists.proofs.MemberLemmas.{In-right}
 use Rattle.gptp_lists.proofs.PlaceLemmas.{same_place}
 use Rattle.gptp_graph.specs.SettledChoice.{IsBestIdentity}
-use Rattle.gptp_graph.specs.Snapshot.{PortIdentity, Snapshot}
 use Rattle.gptp_vector.specs.declared.port.PortId.{PortId}
 use Rattle.gptp_messages.specs.Frame.{PortFits}
 use Rattle.gptp_links.specs.declared.bounds.Bounds.{Bounds}
 use Rattle.gptp_links.specs.Queue.{AreDueInOrder, Frame}
-use Rattle.gptp_setup.specs.Pace.{Pace, largest_interval}
+use Rattle.gptp_setup.specs.Pace.{Pace}
 use Rattle.gptp_system.specs.declared.sending.Sending.{Sending}
 use Rattle.gptp_system.specs.State.{SystemState, clock, own}
 use Rattle.gptp_acts.specs.declared.station.Station.{Station}
-use Rattle.gptp_acts.specs.World.{Channel, WorldState, queue, receiver, sender}
+use Rattle.gptp_acts.specs.World.{WorldState, queue, receiver, sender}
 use Rattle.gptp_acts.proofs.StayLemmas.{sender_same}
 use Rattle.gptp_measuring.specs.Lanes.{AreMute, Frame as SeenFrame}
 use Rattle.gptp_timing.specs.Acts.{Acts, AreSentInTime, IsUnmoved, others_send, parent_tells, relays}
@@ -29,13 +27,12 @@ use Rattle.gptp_timing.specs.Tree.{IsWayTo, follower_of}
 use Rattle.gptp_timing.proofs.FollowerLemmas.{inv_kept}
 use Rattle.gptp_kept.specs.FollowView.{follower_view, kept_sync, tells}
 use Rattle.gptp_kept.specs.Followers.{HasWay, IsFollower, follower, follower_clock, follower_setting, parts_of, state_above, state_of}
-use Rattle.gptp_kept.specs.LinkView.{LinkPlace, frame_view, lane_view}
+use Rattle.gptp_kept.specs.LinkView.{LinkPlace, frame_view}
 use Rattle.gptp_kept.specs.Said.{said_at}
 use Rattle.gptp_kept.specs.Standing.{snapshot_of}
 use Rattle.gptp_kept.specs.Timed.{CarriesTime, IsSettledFrom}
 use Rattle.gptp_kept.specs.View.{identity_of}
 use Rattle.gptp_kept.proofs.CalmKeptLemmas.{KeepsNetwork, same_snapshot}
-use Rattle.gptp_kept.proofs.FollowCallLemmas.{CallSeen}
 use Rattle.gptp_kept.proofs.FollowHeardLemmas.{put_unmoved}
 use Rattle.gptp_kept.proofs.FollowHearLemmas.{StaysPut}
 use Rattle.gptp_kept.proofs.FollowLaneLemmas.{in_order, lane_seen, order_behind}

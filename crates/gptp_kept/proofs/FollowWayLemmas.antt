@@ -8,16 +8,14 @@ use Rattle.gptp_graph.specs.Parent.{IsParent, ParentLink}
 use Rattle.gptp_graph.specs.Snapshot.{IsWellFormed, PortIdentity, Snapshot, System, port_of}
 use Rattle.gptp_graph.proofs.DistanceLemmas.{IsDistance-unique}
 use Rattle.gptp_graph.proofs.LinkLemmas.{Joins-sym}
-use Rattle.gptp_graph.proofs.ParentLemmas.{IsParent-unique, LeadsNearer-distance}
-use Rattle.gptp_vector.specs.declared.port.PortId.{PortId}
 use Rattle.gptp_lists.proofs.MappedLemmas.{mapped}
 use Rattle.gptp_pdelay.specs.Clock.{IsDrift, IsTime}
 use Rattle.gptp_pdelay.proofs.ClockLemmas.{clock_shows_time}
 use Rattle.gptp_setup.specs.declared.setup.Setup.{Setup}
 use Rattle.gptp_setup.specs.Pace.{Pace}
-use Rattle.gptp_system.specs.State.{clock, local_time}
+use Rattle.gptp_system.specs.State.{clock}
 use Rattle.gptp_acts.specs.declared.station.Station.{Station}
-use Rattle.gptp_acts.specs.World.{Channel, WorldState, receiver, sender}
+use Rattle.gptp_acts.specs.World.{WorldState, receiver, sender}
 use Rattle.gptp_accuracy.specs.TimeError.{Link, Way, drift_at, link_at}
 use Rattle.gptp_accuracy.specs.WayLaws.{IsDocumented, shown_at}
 use Rattle.gptp_accuracy.proofs.LongerLemmas.{link_same}
@@ -30,16 +28,14 @@ use Rattle.gptp_timing.proofs.TreeLemmas.{way_ends_at_parent, way_leads_to}
 use Rattle.gptp_kept.specs.Calm.{place_of, setups_of}
 use Rattle.gptp_kept.specs.Followers.{HasWay, IsFollower, follower_clock, follower_setting, parent_link, parts_of, set_up_with, state_of}
 use Rattle.gptp_kept.specs.LinkView.{LinkPlace}
-use Rattle.gptp_kept.specs.Measured.{IsLiveAt}
-use Rattle.gptp_kept.specs.Standing.{has_clock, live_systems, snapshot_of}
+use Rattle.gptp_kept.specs.Standing.{live_systems, snapshot_of}
 use Rattle.gptp_kept.specs.Timed.{IsSettledFrom}
-use Rattle.gptp_kept.specs.View.{identity_of}
-use Rattle.gptp_kept.proofs.FollowSettingLemmas.{fit, is_setting, own_shown, residence_is}
+use Rattle.gptp_kept.proofs.FollowSettingLemmas.{fit, is_setting, own_shown}
 use Rattle.gptp_kept.proofs.FollowSizeLemmas.{IsShortWay}
 use Rattle.gptp_kept.proofs.FollowTreeLemmas.{well_formed}
 use Rattle.gptp_kept.proofs.StandsLemmas.{sender_lives}
 use Rattle.gptp_kept.proofs.SystemLemmas.{clock_lives, live_from}
-use Rattle.gptp_kept.proofs.WayLemmas.{IsWay, way_of}
+use Rattle.gptp_kept.proofs.WayLemmas.{way_of}
 
 -- ---- any way
 

@@ -1,14 +1,12 @@
 -- Worlds of which all is claimed, as the laws on the time that is carried ask for them.
-use Rattle.std.proofs.Common.{◌≡◌, ◌≢◌, ◌⊎◌, ◌<◌, ◌≤◌, ℕ, zero, suc, Bool, true, false, List, [], ◌∷◌, Option, Some, slice_get, refl, sym, subst, arith, inl, inr}
+use Rattle.std.proofs.Common.{◌≡◌, ◌⊎◌, ◌<◌, ◌≤◌, ℕ, zero, suc, Bool, true, false, List, [], ◌∷◌, Option, Some, slice_get, refl, sym, subst, arith, inl, inr}
 use Rattle.std.proofs.lemmas.Bool.{cases_lt}
 use Rattle.std.specs.Prelude.{if◌then◌else◌, max}
-use Rattle.gptp_graph.specs.Best.{IsBest}
-use Rattle.gptp_graph.specs.Distance.{IsDistance, IsNear}
-use Rattle.gptp_graph.specs.Snapshot.{Snapshot, System}
+use Rattle.gptp_graph.specs.Distance.{IsDistance}
+use Rattle.gptp_graph.specs.Snapshot.{System}
 use Rattle.gptp_graph.proofs.ParentLemmas.{LeadsNearer-distance}
 use Rattle.gptp_graph.proofs.TreeLemmas.{parent_of_other}
 use Rattle.gptp_links.specs.declared.bounds.Bounds.{Bounds}
-use Rattle.gptp_links.specs.Fate.{Draw}
 use Rattle.gptp_plan.specs.declared.change.Act.TheVariants.{Deliver, Expire, Change as Changing}
 use Rattle.gptp_plan.specs.declared.change.Timed.{Timed}
 use Rattle.gptp_setup.specs.Pace.{Pace}
@@ -16,16 +14,15 @@ use Rattle.gptp_system.specs.State.{clock}
 use Rattle.gptp_acts.specs.Acts.{at}
 use Rattle.gptp_acts.specs.Course.{WasDone}
 use Rattle.gptp_acts.specs.declared.done.Done.{Done}
-use Rattle.gptp_acts.specs.declared.station.Station.{Station}
 use Rattle.gptp_acts.specs.World.{Channel, WorldState}
 use Rattle.gptp_timing.proofs.TreeLemmas.{way_exists}
-use Rattle.gptp_kept.specs.Calm.{HaveQuietLinks, greatest_delay}
+use Rattle.gptp_kept.specs.Calm.{greatest_delay}
 use Rattle.gptp_kept.specs.Followers.{follower_clock, parts_of}
 use Rattle.gptp_kept.specs.Standing.{is_used, live_systems, snapshot_of}
 use Rattle.gptp_kept.specs.Known.{IsKnown}
 use Rattle.gptp_kept.specs.SeenLaws.{IsNoChange}
 use Rattle.gptp_kept.specs.Timed.{AllMeasureRight, CarriesTime, IsSettledFrom}
-use Rattle.gptp_kept.specs.TimedLaws.{ActsCarryTime, ClaimedIsSettledFrom, Follows, OthersFollow}
+use Rattle.gptp_kept.specs.TimedLaws.{ActsCarryTime, ClaimedIsSettledFrom, OthersFollow}
 use Rattle.gptp_kept.proofs.FollowDeliveryLemmas.{delivery_carries}
 use Rattle.gptp_kept.proofs.FollowExpiryLemmas.{expiry_carries}
 use Rattle.gptp_kept.proofs.FollowLaterLemmas.{time_begins, time_carries}

@@ -1,5 +1,5 @@
 -- A system that follows its parent, and the lane from the one to the other, as the machine of gptp_timing sees them.
-use Rattle.std.specs.Prelude.{◌≡◌, ℕ, true, List, Option}
+use Rattle.std.specs.Prelude.{◌≡◌, ℕ, true, List}
 use Rattle.std.specs.Option.{option_map}
 use Rattle.gptp_messages.specs.declared.follow_up.FollowUp.{FollowUp as FollowUpView}
 use Rattle.gptp_messages.specs.declared.head.Head.{Head}

@@ -1,5 +1,5 @@
 -- The systems of a world that follow a parent, and what their ways are made of, as the machine of gptp_timing asks.
-use Rattle.std.specs.Prelude.{◌≡◌, ◌&&◌, ◌||◌, ℕ, suc, ℤ, pos, true, if◌then◌else◌, List, [], ◌∷◌, Some, slice_get}
+use Rattle.std.specs.Prelude.{◌≡◌, ◌&&◌, ◌||◌, ℕ, suc, pos, true, if◌then◌else◌, List, [], ◌∷◌, Some, slice_get}
 use Rattle.std.specs.Option.{option_map_or}
 use Rattle.gptp_graph.specs.Distance.{IsNear}
 use Rattle.gptp_graph.specs.Parent.{ParentLink, IsParent}
