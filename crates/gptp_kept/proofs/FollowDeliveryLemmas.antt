@@ -171,8 +171,8 @@ module _ (p : Pace) (settled longest : ℕ) (w : WorldState) (is : IsSettledFrom
         by (inl here) (inl way) = inl (record { here = here; way = way })
         by (inl here) (inr other) =
             let same : d.channel ≡ f.channel =
-            same_there w.net.channels at.link d.channel f.channel (ap (slice_get w.net.channels) (sym here) ∙ d.takes.here)
-            f.here in
+            same_there w.net.channels at.link d.channel f.channel
+            (ap (slice_get w.net.channels) (sym here) ∙ d.takes.here) f.here in
             inr (record {
               lane = ap (queue at.direction) (popped here)
                   ∙ queue_other at.direction direction d.takes.rest d.channel other ∙ ap (queue at.direction) same;

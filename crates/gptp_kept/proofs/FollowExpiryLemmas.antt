@@ -85,7 +85,8 @@ known_ran s s' t k runs = by k.same k.relay
 
 module _ (p : Pace) (settled longest : ℕ) (w w' : WorldState) (is : IsSettledFrom p settled longest w)
     (is' : IsSettledFrom p settled longest w') (right : AllMeasureRight p.params w)
-    (carries : CarriesTime p.params settled longest w) (place : ℕ) (timer : Timer) (draws : List Draw) (e : Expires place timer w draws w') where
+    (carries : CarriesTime p.params settled longest w) (place : ℕ) (timer : Timer) (draws : List Draw)
+    (e : Expires place timer w draws w') where
   abbrev at_rest : WorldState
   at_rest = stopped place timer w
 

@@ -94,8 +94,8 @@ module _ (p : Pace) (settled longest : ℕ) (w : WorldState) (time : ℕ) (early
   pub begins : CarriesTime p.params settled longest later
   begins = record {
     follow = λ at f' steps h'.
-        inv_begins (k at f' steps h') tells (follower at later f') (is_setting p settled longest later is at f' steps h')
-        (fresh at f' steps h');
+        inv_begins (k at f' steps h') tells (follower at later f')
+        (is_setting p settled longest later is at f' steps h') (fresh at f' steps h');
     roots = λ place station due here live root runs.
         let soon = (known.in_time place station here live).relay due runs in
         let params = ap (λ (x : Params). x.residence) (known.set place station here).params in

@@ -99,8 +99,8 @@ module _ (p : Pace) (settled longest : ℕ) (w : WorldState) (is : IsSettledFrom
     right : (one : Measurement) × (q.peer.last ≡ Some one) × IsMeasuredAt h.way steps one.rate one.delay
     right =
         exchanges_measure_right k h.way h.phase steps q.peer.last
-        (parents_are_measured x g steps (follower_clock at w f) longest (parent_link at.direction f.channel) h.way h.phase
-        k (fit p settled longest w is at f steps h) f.parent h.is measures)
+        (parents_are_measured x g steps (follower_clock at w f) longest (parent_link at.direction f.channel) h.way
+        h.phase k (fit p settled longest w is at f steps h) f.parent h.is measures)
         (subst (λ n. HasMeasured k n q.peer.last)
         (ap (λ (c : Channel). c.bounds.min) same_channel ∙ sym (least_is p settled longest w is at f steps h))
         m.measured)

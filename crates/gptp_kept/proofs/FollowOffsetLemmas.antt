@@ -57,8 +57,8 @@ use Rattle.gptp_kept.proofs.WayLemmas.{one_way}
 
 -- ---- what a system makes of a Follow_Up that it uses
 
--- It is at the Slave port, and belongs to the Sync that is kept. The offset is that of what both say, with the rate as it
--- came, or with the one whose sum is held at its limits.
+-- It is at the Slave port, and belongs to the Sync that is kept. The offset is that of what both say, with the rate as
+-- it came, or with the one whose sum is held at its limits.
 pub record IsUsed (p : ℕ) (m : FollowUpFields) (s s' : SystemState) : Type 0 where
   pub kept : KeptSync
   pub keeps : s.sync_in ≡ Some kept
@@ -161,8 +161,8 @@ module _ (p : ℕ) (m : FollowUpFields) (octets : List ℕ) (now : ℕ) (s s' : 
 -- ---- at a system that follows
 
 module _ (p : Pace) (settled longest : ℕ) (w : WorldState) (is : IsSettledFrom p settled longest w)
-    (right : AllMeasureRight p.params w) (carries : CarriesTime p.params settled longest w) (place : LinkPlace) (f : IsFollower place w) (steps : ℕ)
-    (h : HasWay p.params place w f steps) (octets : List ℕ) (rest : List Frame)
+    (right : AllMeasureRight p.params w) (carries : CarriesTime p.params settled longest w) (place : LinkPlace)
+    (f : IsFollower place w) (steps : ℕ) (h : HasWay p.params place w f steps) (octets : List ℕ) (rest : List Frame)
     (front : queue place.direction f.channel ≡ frame w.time octets ∷ rest) (m : FollowUpFields)
     (reads : Reads octets (messages.FollowUp m)) where
   abbrev x : SystemState
@@ -261,8 +261,8 @@ record ToldOnce (a b : PortId) (first second : Option Answer) (octets heard : Li
 told_once : (a b : PortId) (first second : Option Answer) (octets heard : List ℕ) (done : Done)
     → Tells a first octets done → Tells b second heard done → ToldOnce a b first second octets heard
 told_once a b first second octets heard Quiet k l = absurd k
-told_once a b first second octets heard (Heard number port told frame) (clocks, ports, answers_are, frames) (c, q, l, f) =
-    record { clock_is = sym clocks ∙ c; answer_is = sym answers_are ∙ l; octets_are = sym frames ∙ f }
+told_once a b first second octets heard (Heard number port told frame) (clocks, ports, answered, frames) (c, q, l, f) =
+    record { clock_is = sym clocks ∙ c; answer_is = sym answered ∙ l; octets_are = sym frames ∙ f }
 
 -- the Follow_Up is the oldest frame on the lane to the system, which uses it
 record IsUsedHere (w : WorldState) (place : LinkPlace) (f : IsFollower place w) (octets : List ℕ) (m : FollowUpFields)
@@ -329,8 +329,8 @@ module _ (p : Pace) (settled longest : ℕ) (w : WorldState) (is : IsSettledFrom
           }
 
 pub offsets_are_exact : OffsetsAreExact
-offsets_are_exact p settled longest link direction w draws done w' place f steps port octets root after offset h k tells_it
-    (m, reads) is right carries late is_root there left =
+offsets_are_exact p settled longest link direction w draws done w' place f steps port octets root after offset h k
+    tells_it (m, reads) is right carries late is_root there left =
     let once = told_once (port_id (follower_clock place w f) port) (receiver direction k.channel) (Some answers.Used)
     k.answer octets k.octets done tells_it k.told in
     let d = k.delivers in

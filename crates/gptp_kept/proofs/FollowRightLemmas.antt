@@ -158,7 +158,9 @@ leader_right p settled longest w is at f zero h s' sends leading k = record {
   told = own_time k.stamp k.rest;
   small = k.split.stamp.nanos;
   are = k.sends_are;
-  right = λ late. root_tells (follower_setting p.params settled longest at w f zero h) k.stamp k.rest w.time refl (subst (λ t. IsSplit t k.stamp k.rest) shown k.split);
+  right = λ late.
+      root_tells (follower_setting p.params settled longest at w f zero h) k.stamp k.rest w.time refl
+      (subst (λ t. IsSplit t k.stamp k.rest) shown k.split);
   fits = λ late. record {
     origin = k.split.stamp;
     correction = let small = k.split.small in record { sfits = omega (arith, small) };
@@ -183,8 +185,8 @@ record BridgeFitsTold (told : Relayed) : Type 0 where
 -- ---- a bridge
 
 module _ (p : Pace) (settled longest : ℕ) (w : WorldState) (is : IsSettledFrom p settled longest w)
-    (right : AllMeasureRight p.params w) (carries : CarriesTime p.params settled longest w) (at : LinkPlace) (f : IsFollower at w) (steps : ℕ)
-    (h : HasWay p.params at w f (suc steps)) where
+    (right : AllMeasureRight p.params w) (carries : CarriesTime p.params settled longest w) (at : LinkPlace)
+    (f : IsFollower at w) (steps : ℕ) (h : HasWay p.params at w f (suc steps)) where
   abbrev kset : Setting
   kset = follower_setting p.params settled longest at w f (suc steps) h
 
@@ -225,7 +227,8 @@ module _ (p : Pace) (settled longest : ℕ) (w : WorldState) (is : IsSettledFrom
   is_parent : IsParentOf k2 kset
   is_parent =
       parents_are_parents (parts_of p.params w) (snapshot_of w) steps (follower_clock at w f) settled longest
-      (parent_link at.direction f.channel) k2.parent kset.parent up.way h.way h.phase h.phase f.parent up.leads_there h.is
+      (parent_link at.direction f.channel) k2.parent kset.parent up.way h.way h.phase h.phase f.parent up.leads_there
+      h.is
 
   module _ (info : SyncInfo) (known : s2.known ≡ Some info) (relay : s2.relay ≡ Some w.time)
       (late : from kset ≤ w.time + (followers.link_of kset).most) where
@@ -317,7 +320,8 @@ module _ (p : Pace) (settled longest : ℕ) (w : WorldState) (is : IsSettledFrom
       let said = says_on w.time (state_above at w f) s' sends sent in
       let known : s2.known ≡ Some said.info = ap (λ (y : SystemState). y.known) (sym bridge_is) ∙ said.known in
       let relay : s2.relay ≡ Some w.time = ap (λ (y : SystemState). y.relay) (sym bridge_is) ∙ runs in
-      let told_is = subst (λ y. (HopFits said.info w.time y × (said.told ≡ relayed said.info (hop_of said.info w.time y)))
+      let told_is = subst (λ y. (HopFits said.info w.time y
+      × (said.told ≡ relayed said.info (hop_of said.info w.time y)))
       ⊎ IsTold said.info w.time y said.told) bridge_is said.is in
       let small : said.told.origin.nanos < 1000000000 =
       subst (λ (t : Timestamp). t.nanos < 1000000000) (sym said.origin)
@@ -332,8 +336,8 @@ module _ (p : Pace) (settled longest : ℕ) (w : WorldState) (is : IsSettledFrom
 
 -- what the Relay timer of any parent sends on
 pub relay_right : (p : Pace) (settled longest : ℕ) (w : WorldState) → IsSettledFrom p settled longest w
-    → AllMeasureRight p.params w → CarriesTime p.params settled longest w → (at : LinkPlace) (f : IsFollower at w) (steps : ℕ)
-    (h : HasWay p.params at w f steps) (s' : SystemState) (sends : List Sending)
+    → AllMeasureRight p.params w → CarriesTime p.params settled longest w → (at : LinkPlace) (f : IsFollower at w)
+    (steps : ℕ) (h : HasWay p.params at w f steps) (s' : SystemState) (sends : List Sending)
     → (state_above at w f).relay ≡ Some w.time → SendsOn w.time (state_above at w f) s' sends
     → TellsRight (follower_setting p.params settled longest at w f steps h) w.time (state_above at w f) sends
 relay_right p settled longest w is right carries at f (suc steps) h s' sends runs sent =

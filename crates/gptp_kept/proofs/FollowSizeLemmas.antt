@@ -44,7 +44,8 @@ difference_size (negsuc x) b m n a low high =
 
 -- ---- a way of short links
 
--- a way of a document with at most 255 links, none of which takes more than a second, as no turnaround or residence does
+-- a way of a document with at most 255 links, none of which takes more than a second; nor does a turnaround or a
+-- residence
 pub record IsShortWay (w : Way) : Type 0 where
   pub documented : IsDocumented w
   pub few : length w.links ≤ 255

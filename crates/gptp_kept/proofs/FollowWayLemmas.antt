@@ -120,8 +120,8 @@ module _ (p : Pace) (settled longest : ℕ) (w : WorldState) (is : IsSettledFrom
 
   link_short : (i : ℕ) → i < suc steps → (link_at h.way i).most ≤ longest
   link_short =
-      links_short x g (suc steps) (follower_clock at w f) longest h.way h.phase (fit p settled longest w is at f steps h)
-      h.is
+      links_short x g (suc steps) (follower_clock at w f) longest h.way h.phase
+      (fit p settled longest w is at f steps h) h.is
 
   pub short_way : IsShortWay h.way
   short_way = record {

@@ -57,8 +57,8 @@ pub record AreAlike (a b : List ℕ) : Type 0 where
   pub flag : (head_of a).two_step ≡ (head_of b).two_step
 
 -- what passes in the one passes in the other
-pub reads_alike : (a b : List ℕ) (m n : Message) (rate : ℤ) → AreAlike a b → (k : Reads a m) → ReadsTlvs k.kind b [] rate
-    → StampIsRead k.kind b → n ≡ message_at k.kind b [] rate → Reads b n
+pub reads_alike : (a b : List ℕ) (m n : Message) (rate : ℤ) → AreAlike a b → (k : Reads a m)
+    → ReadsTlvs k.kind b [] rate → StampIsRead k.kind b → n ≡ message_at k.kind b [] rate → Reads b n
 reads_alike a b m n rate alike k tlvs stamp is = record {
   kind = k.kind;
   header = record {

@@ -84,7 +84,7 @@ AreFollowUp octets = (m : FollowUp) × Reads octets (messages.FollowUp m)
 
 -- Where a Follow_Up is used by a system that follows, from when on what comes left the root in the settled network: the
 -- offset that it leaves, if it leaves one, is within the time error of the way of the system of what its clock shows
--- then less what the root's clock does (IEEE 802.1AS-2020, 10.2.4.3).
+-- then less what the root's clock does.
 abbrev pub OffsetsAreExact : Type 0
 OffsetsAreExact = (p : Pace) (settled longest link : ℕ) (direction : Direction) (w : WorldState) (draws : List Draw)
     (done : Done) (w' : WorldState) (place : LinkPlace) (f : IsFollower place w) (steps port : ℕ) (octets : List ℕ)
