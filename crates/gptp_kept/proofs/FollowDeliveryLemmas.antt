@@ -50,6 +50,7 @@ use Rattle.gptp_kept.proofs.FollowSettingLemmas.{own_shown, residence_is}
 use Rattle.gptp_kept.proofs.FollowStepLemmas.{RelayStops, apart, inv_on, others, root_stays, slave_stays, step_seen, way_was}
 use Rattle.gptp_kept.proofs.FollowTreeLemmas.{FollowedBefore, followed_before, slave_is, takes_time, well_formed}
 use Rattle.gptp_kept.proofs.LinkLemmas.{IsOrderly, net_orderly, sender_opposite, sound_orderly}
+use Rattle.gptp_kept.proofs.PoppedLemmas.{queue_left, queue_set, which_way}
 use Rattle.gptp_kept.proofs.SeenDeliveryLemmas.{receiver_up}
 use Rattle.gptp_kept.proofs.WayLemmas.{one_way}
 
@@ -69,17 +70,12 @@ opposite_same FromB FromB e = refl
 
 queue_other : (one other : Direction) (frames : List Frame) (channel : Channel) → one ≢ other
     → queue one (with_queue other frames channel) ≡ queue one channel
-queue_other FromA FromA frames channel e = absurd (e refl)
-queue_other FromA FromB frames channel e = refl
-queue_other FromB FromA frames channel e = refl
-queue_other FromB FromB frames channel e = absurd (e refl)
-
-queue_same : (one other : Direction) (frames : List Frame) (channel : Channel) → one ≡ other
-    → queue one (with_queue other frames channel) ≡ frames
-queue_same FromA FromA frames channel e = refl
-queue_same FromA FromB frames channel e = absurd cc
-queue_same FromB FromA frames channel e = absurd cc
-queue_same FromB FromB frames channel e = refl
+queue_other one other frames channel differs = elim (which_way one other) [
+  | inl same ↦ absurd (differs same)
+  | inr back ↦
+      ap (λ way. queue way (with_queue other frames channel)) back ∙ queue_left other frames channel
+      ∙ ap (λ way. queue way channel) (sym back)
+]
 
 -- ---- a delivery
 
@@ -216,7 +212,8 @@ module _ (p : Pace) (settled longest : ℕ) (w : WorldState) (is : IsSettledFrom
           ∙ ap (slice_get (slice_set w.net.channels link (with_queue direction d.takes.rest d.channel)))
           (sym came.here)
           ∙ get-set_same w.net.channels link d.channel (with_queue direction d.takes.rest d.channel) d.takes.here))
-          ∙ queue_same at.direction direction d.takes.rest d.channel came.way
+          ∙ ap (λ way. queue way (with_queue direction d.takes.rest d.channel)) came.way
+          ∙ queue_set direction d.takes.rest d.channel
 
   -- ---- nobody hears it
 

@@ -1,33 +1,28 @@
 -- What a system makes of what it hears, as far as time is carried: a Sync is kept, a Follow_Up is known, or nothing
 -- moves.
-use Rattle.std.proofs.Common.{◌≡◌, ◌≢◌, ◌⊎◌, ◌+◌, ℕ, ℤ, Bool, true, false, List, Option, Some, None, refl, sym, ap, subst, ◌∙◌, inl, inr, arith}
+use Rattle.std.proofs.Common.{◌≡◌, ◌≢◌, ◌⊎◌, ◌+◌, ℕ, ℤ, Bool, true, false, List, Some, None, sym, ap, ◌∙◌, inl, inr}
 use Rattle.std.specs.Option.{unwrap_or}
 use Rattle.std.specs.Prelude.{◌&&◌, if◌then◌else◌}
-use Rattle.std.proofs.lemmas.Bool.Decides.{nat_tests}
 use Rattle.std.proofs.lemmas.Option.{none-some}
 use Rattle.gptp_graph.specs.Snapshot.{PortIdentity}
-use Rattle.gptp_vector.specs.declared.port.PortId.{PortId}
 use Rattle.gptp_messages.specs.declared.follow_up.FollowUp.{FollowUp as FollowUpFields}
 use Rattle.gptp_messages.specs.declared.head.Head.{Head}
-use Rattle.gptp_messages.specs.declared.message.Message.{Message as Whole}
 use Rattle.gptp_messages.specs.declared.message.Message.TheVariants as messages
 use Rattle.gptp_messages.specs.Grammar.{Reads}
-use Rattle.gptp_pdelay.specs.Peer.{after_follow_up}
 use Rattle.gptp_correction.specs.declared.sync_in.SyncInfo.{SyncInfo}
-use Rattle.gptp_correction.specs.SyncIn.{KeptSync, belongs, information, kept as kept_as, together}
+use Rattle.gptp_correction.specs.SyncIn.{KeptSync, information, kept as kept_as, together}
 use Rattle.gptp_setup.specs.Pace.{has_sync_timeout}
 use Rattle.gptp_system.specs.declared.answer.Answer.{Answer}
 use Rattle.gptp_system.specs.declared.sending.Sending.{Sending}
 use Rattle.gptp_system.specs.Input.{Steps, Frame as FrameHeard}
 use Rattle.gptp_system.specs.Selection.{kept_if}
-use Rattle.gptp_system.specs.State.{SystemState, held_at, is_capable_at, local_time}
-use Rattle.gptp_system.specs.Steps.{HearsMessage}
-use Rattle.gptp_system.specs.Syncing.{HearsFollowUpIf, HearsSyncIf, KeepsIf, KnowsBy, KnowsIf, came_from, delay_at, is_followed, is_slave_at, rate_at, said_on}
+use Rattle.gptp_system.specs.State.{SystemState, held_at, local_time}
+use Rattle.gptp_system.specs.Syncing.{KnowsBy, came_from, delay_at, is_followed, is_slave_at, rate_at, said_on}
 use Rattle.gptp_kept.specs.SyncView.{TakesTime}
 use Rattle.gptp_kept.specs.View.{identity_of}
 use Rattle.gptp_kept.proofs.SendLemmas.{same_identity}
-use Rattle.gptp_kept.proofs.SyncHeardLemmas.{at_slave, followed, heard_as}
-use Rattle.gptp_kept.proofs.TimeStepLemmas.{StaysKnown, hears_announce, rests, still, turns}
+use Rattle.gptp_kept.proofs.SyncHeardLemmas.{belonging, follow_up_known, followed, sync_kept}
+use Rattle.gptp_kept.proofs.TimeStepLemmas.{KeepsHeard, StaysKnown, frame_heard}
 
 -- ---- what doesn't move
 
@@ -78,30 +73,18 @@ pub record HasLearned (p : ℕ) (octets : List ℕ) (now : ℕ) (s s' : SystemSt
 abbrev pub HearsTime : ℕ → List ℕ → ℕ → SystemState → SystemState → Type 0
 HearsTime p octets now s s' = StaysKnown s s' ⊎ (HasKept p octets now s s' ⊎ HasLearned p octets now s s')
 
--- ---- a Sync
+-- ---- any frame
 
-keeps_if : (b : Bool) (p : ℕ) (octets : List ℕ) (head : Head) (now : ℕ) (s s' : SystemState) (sends : List Sending)
-    (answer : Answer) → is_followed p head s ≡ b → Reads octets (messages.Sync head)
-    → KeepsIf b head now s s' sends answer → HearsTime p octets now s s'
-keeps_if true p octets head now s s' sends answer follows reads k =
-    inr (inl (record {
-      head = head;
-      reads = reads;
-      follows = follows;
-      sync_in = ap (λ (x : SystemState). x.sync_in) k.becomes.state;
-      known = ap (λ (x : SystemState). x.known) k.becomes.state;
-      relay = ap (λ (x : SystemState). x.relay) k.becomes.state;
-    }))
-keeps_if false p octets head now s s' sends answer follows reads k = inl (rests s s' sends k.becomes)
-
-hears_sync : (b : Bool) (p : ℕ) (octets : List ℕ) (head : Head) (now : ℕ) (s s' : SystemState) (sends : List Sending)
-    (answer : Answer) → Reads octets (messages.Sync head) → HearsSyncIf b p head now s s' sends answer
-    → HearsTime p octets now s s'
-hears_sync false p octets head now s s' sends answer reads k = inl (rests s s' sends k.becomes)
-hears_sync true p octets head now s s' sends answer reads k =
-    keeps_if (is_followed p head s) p octets head now s s' sends answer refl reads k
-
--- ---- a Follow_Up
+has_kept : (p : ℕ) (octets : List ℕ) (now : ℕ) (s s' : SystemState) (sends : List Sending) (answer : Answer)
+    → KeepsHeard p octets now s s' sends answer → HasKept p octets now s s'
+has_kept p octets now s s' sends answer k = record {
+  head = k.head;
+  reads = k.reads;
+  follows = k.follows;
+  sync_in = ap (λ (x : SystemState). x.sync_in) k.kept.becomes.state;
+  known = ap (λ (x : SystemState). x.known) k.kept.becomes.state;
+  relay = ap (λ (x : SystemState). x.relay) k.kept.becomes.state;
+}
 
 knows_by : (b : Bool) (info : SyncInfo) (delay rate : ℤ) (now : ℕ) (s s' : SystemState) (sends : List Sending)
     (answer : Answer) → KnowsBy b info delay rate now s s' sends answer → KnowsOrNot info now s s'
@@ -118,48 +101,20 @@ knows_by false info delay rate now s s' sends answer (inl k) =
 knows_by false info delay rate now s s' sends answer (inr k) =
     inr (ap (λ (x : SystemState). x.known) k.becomes.state)
 
-knows_if : (said : Option SyncInfo) (p : ℕ) (octets : List ℕ) (m : FollowUpFields) (delay rate : ℤ) (now : ℕ)
-    (s s' : SystemState) (sends : List Sending) (answer : Answer) → said_on p m s ≡ said
-    → Reads octets (messages.FollowUp m) → KnowsIf said delay rate now s s' sends answer → HearsTime p octets now s s'
-knows_if None p octets m delay rate now s s' sends answer is reads k = inl (rests s s' sends k.becomes)
-knows_if (Some info) p octets m delay rate now s s' sends answer is reads k =
-    inr (inr (record {
-      m = m;
-      reads = reads;
-      info = info;
-      said = is;
-      knows = knows_by (has_sync_timeout s.params) info delay rate now s s' sends answer k;
-    }))
-
-hears_follow_up : (b : Bool) (p : ℕ) (octets : List ℕ) (m : FollowUpFields) (now : ℕ) (s s' : SystemState)
-    (sends : List Sending) (answer : Answer) → Reads octets (messages.FollowUp m)
-    → HearsFollowUpIf b p m now s s' sends answer → HearsTime p octets now s s'
-hears_follow_up false p octets m now s s' sends answer reads k = inl (rests s s' sends k.becomes)
-hears_follow_up true p octets m now s s' sends answer reads k =
-    knows_if (said_on p m s) p octets m (delay_at s p) (rate_at s p) now s s' sends answer refl reads k
-
--- ---- any frame
-
-hears_message : (p : ℕ) (octets : List ℕ) (m : Whole) (now : ℕ) (s s' : SystemState) (sends : List Sending)
-    (answer : Answer) → Reads octets m → HearsMessage p m now s s' sends answer → HearsTime p octets now s s'
-hears_message p octets (messages.Sync head) now s s' sends answer reads k =
-    hears_sync (is_capable_at s p) p octets head now s s' sends answer reads k
-hears_message p octets (messages.PdelayReq head) now s s' sends answer reads k =
-    inl (subst (StaysKnown s) (sym k.becomes.state) (still s _ refl refl refl refl refl refl))
-hears_message p octets (messages.PdelayResp m) now s s' sends answer reads k =
-    inl (subst (StaysKnown s) (sym k.becomes.state) (still s _ refl refl refl refl refl refl))
-hears_message p octets (messages.FollowUp m) now s s' sends answer reads k =
-    hears_follow_up (is_capable_at s p) p octets m now s s' sends answer reads k
-hears_message p octets (messages.PdelayRespFollowUp m) now s s' sends answer reads k =
-    inl (turns p (after_follow_up m) now s s' sends k.turns)
-hears_message p octets (messages.Announce a) now s s' sends answer reads k =
-    inl (hears_announce p a now s s' sends answer k)
-
 pub hears_time : (p : ℕ) (octets : List ℕ) (now : ℕ) (s s' : SystemState) (sends : List Sending) (answer : Answer)
     → Steps (FrameHeard p octets) now s s' sends answer → HearsTime p octets now s s'
-hears_time p octets now s s' sends answer (inl k) =
-    hears_message p octets k.message now s s' sends answer k.reads k.hears
-hears_time p octets now s s' sends answer (inr k) = inl (rests s s' sends k.becomes)
+hears_time p octets now s s' sends answer k = elim (frame_heard p octets now s s' sends answer k) [
+  | inl stays ↦ inl stays
+  | inr (inl keeps) ↦ inr (inl (has_kept p octets now s s' sends answer keeps))
+  | inr (inr learned) ↦ inr (inr (record {
+    m = learned.m;
+    reads = learned.reads;
+    info = learned.info;
+    said = learned.said;
+    knows = knows_by (has_sync_timeout s.params) learned.info (delay_at s p) (rate_at s p) now s s' sends answer
+        learned.knows;
+  }))
+]
 
 -- ---- at another port than the Slave port nothing moves
 
@@ -188,43 +143,19 @@ module _ (p : ℕ) (source : PortIdentity) (octets : List ℕ) (now : ℕ) (s s'
   pub slave_keeps : (head : Head) → Reads octets (messages.Sync head) → head.two_step ≡ true
       → identity_of head.source ≡ source → HasKept p octets now s s'
   slave_keeps head reads two_step from =
-      capable (is_capable_at s p) takes.capable (heard_as p octets (messages.Sync head) now s s' sends answer reads k)
-    where
-      keeps : (b : Bool) → is_followed p head s ≡ b → b ≡ true → KeepsIf b head now s s' sends answer
-          → HasKept p octets now s s'
-      keeps true is same h = record {
+      has_kept p octets now s s' sends answer
+      (record {
         head = head;
         reads = reads;
-        follows = is;
-        sync_in = ap (λ (x : SystemState). x.sync_in) h.becomes.state;
-        known = ap (λ (x : SystemState). x.known) h.becomes.state;
-        relay = ap (λ (x : SystemState). x.relay) h.becomes.state;
-      }
-      keeps false is same h = absurd cc
-
-      capable : (b : Bool) → b ≡ true → HearsSyncIf b p head now s s' sends answer → HasKept p octets now s s'
-      capable true same h = keeps (is_followed p head s) refl (followed s p source takes head two_step from) h
-      capable false same h = absurd cc
+        follows = followed s p source takes head two_step from;
+        kept = sync_kept p octets now s s' sends answer source head k takes reads two_step from;
+      })
 
   -- and what its Follow_Up says with the Sync of its number is known, or nothing is
   pub slave_learns : (m : FollowUpFields) (kept : KeptSync) → Reads octets (messages.FollowUp m)
       → s.sync_in ≡ Some kept → identity_of m.head.source ≡ identity_of kept.source
       → m.head.sequence ≡ kept.sequence → KnowsOrNot (together m kept) now s s'
   slave_learns m kept reads keeps from number =
-      capable (is_capable_at s p) takes.capable (heard_as p octets (messages.FollowUp m) now s s' sends answer reads k)
-    where
-      said : said_on p m s ≡ Some (together m kept)
-      said =
-          let slave = at_slave s p source takes in
-          let port : m.head.source ≡ kept.source = same_identity m.head.source kept.source from in
-          let clock : m.head.source.clock ≡ kept.source.clock = ap (λ (x : PortId). x.clock) port in
-          let port_number : m.head.source.port ≡ kept.source.port = ap (λ (x : PortId). x.port) port in
-          let own : belongs m kept ≡ true = grind (arith, nat_tests) in
-          rw (slave, keeps, own) refl
-
-      capable : (b : Bool) → b ≡ true → HearsFollowUpIf b p m now s s' sends answer
-          → KnowsOrNot (together m kept) now s s'
-      capable true same h =
-          knows_by (has_sync_timeout s.params) (together m kept) (delay_at s p) (rate_at s p) now s s' sends answer
-          (subst (λ o. KnowsIf o (delay_at s p) (rate_at s p) now s s' sends answer) said h)
-      capable false same h = absurd cc
+      knows_by (has_sync_timeout s.params) (together m kept) (delay_at s p) (rate_at s p) now s s' sends answer
+      (follow_up_known p octets now s s' sends answer source m kept k takes reads keeps
+      (belonging m kept (same_identity m.head.source kept.source from) number))

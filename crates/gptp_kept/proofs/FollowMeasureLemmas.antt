@@ -1,5 +1,5 @@
 -- What ports have measured of their links is right of the links that are followed.
-use Rattle.std.proofs.Common.{◌≡◌, ℕ, zero, suc, ℤ, pos, Some, refl, sym, ap, subst, ◌∙◌, arith}
+use Rattle.std.proofs.Common.{◌≡◌, ℕ, zero, suc, ℤ, pos, Some, slice_get, refl, sym, ap, subst, ◌∙◌, arith}
 use Rattle.std.specs.Option.{option_map, option_map_or}
 use Rattle.gptp_graph.specs.Snapshot.{Joins, PortIdentity, Snapshot}
 use Rattle.gptp_vector.specs.declared.port.PortId.{PortId}
@@ -32,6 +32,21 @@ use Rattle.gptp_kept.proofs.FollowSettingLemmas.{fit, least_is}
 use Rattle.gptp_kept.proofs.FollowTreeLemmas.{own_port, slave_is, steady}
 use Rattle.gptp_kept.proofs.LinkLemmas.{sender_opposite}
 use Rattle.gptp_kept.proofs.WayLemmas.{one_way}
+
+-- the rate and the delay of a Slave port are those of its last measurement
+rate_seen : (s : SystemState) (i : ℕ) (q : Port) (one : Measurement) → s.slave ≡ Some (suc i)
+    → slice_get s.ports i ≡ Some q → q.peer.last ≡ Some one → slave_rate s ≡ one.rate
+rate_seen s i q one slave there last =
+    ap (λ o. option_map_or (rate_at s) o (pos 0)) slave
+    ∙ ap (λ o. option_map_or (λ (y : Port). rate_of_peer y.peer) o (pos 0)) there
+    ∙ ap (λ o. option_map_or (λ (y : Measurement). y.rate) o (pos 0)) last
+
+delay_seen : (s : SystemState) (i : ℕ) (q : Port) (one : Measurement) → s.slave ≡ Some (suc i)
+    → slice_get s.ports i ≡ Some q → q.peer.last ≡ Some one → slave_delay s ≡ one.delay
+delay_seen s i q one slave there last =
+    ap (λ o. option_map_or (delay_at s) o (pos 0)) slave
+    ∙ ap (λ o. option_map_or (λ (y : Port). option_map_or (λ d. d) (delay_of y.peer) (pos 0)) o (pos 0)) there
+    ∙ ap (λ o. option_map_or (λ d. d) (option_map (λ (y : Measurement). y.delay) o) (pos 0)) last
 
 module _ (p : Pace) (settled longest : ℕ) (w : WorldState) (is : IsSettledFrom p settled longest w) (at : LinkPlace)
     (f : IsFollower at w) (steps : ℕ) (h : HasWay p.params at w f steps) where
@@ -129,14 +144,8 @@ module _ (p : Pace) (settled longest : ℕ) (w : WorldState) (is : IsSettledFrom
         subst (λ (y : PortId). HasMeasuredLink w (identity_of y) from q) (sym itself)
         (all at.answering f.own.station f.own.here f.own.live i holds q held there from joins) in
         let (one, last, is_right) = right q m in
-        let rate : slave_rate s ≡ one.rate =
-        ap (λ o. option_map_or (rate_at s) o (pos 0)) slave
-        ∙ ap (λ o. option_map_or (λ (y : Port). rate_of_peer y.peer) o (pos 0)) there
-        ∙ ap (λ o. option_map_or (λ (y : Measurement). y.rate) o (pos 0)) last in
-        let delay : slave_delay s ≡ one.delay =
-        ap (λ o. option_map_or (delay_at s) o (pos 0)) slave
-        ∙ ap (λ o. option_map_or (λ (y : Port). option_map_or (λ d. d) (delay_of y.peer) (pos 0)) o (pos 0)) there
-        ∙ ap (λ o. option_map_or (λ d. d) (option_map (λ (y : Measurement). y.delay) o) (pos 0)) last in
+        let rate = rate_seen s i q one slave there last in
+        let delay = delay_seen s i q one slave there last in
         same_measured (slave_rate s) one.rate (slave_delay s) one.delay rate delay is_right
 
 pub measured_right : (p : Pace) (settled longest : ℕ) (w : WorldState) → IsSettledFrom p settled longest w
