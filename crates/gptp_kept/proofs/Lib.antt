@@ -119,3 +119,4 @@ pub mod FollowLaterLemmas
 pub mod FollowOffsetLemmas
 pub mod FollowWorldLemmas
 pub mod FollowMeasureLemmas
+pub mod FollowClaimLemmas

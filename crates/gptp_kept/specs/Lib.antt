@@ -47,3 +47,4 @@ pub mod FollowView
 pub mod Followers
 pub mod Timed
 pub mod TimedLaws
+pub mod TimedClaim

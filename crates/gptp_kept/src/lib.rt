@@ -16,7 +16,8 @@
 //!   settle, and what the calls of a world show then;
 //! - [`bounded`]: what the systems of a world state of themselves then, far ones too;
 //! - [`syncs`]: how systems tell time and hear it, as the machine of `gptp_settling` asks where something can lapse;
-//! - [`timed`]: the systems that follow a parent as the machine of `gptp_timing`, and how exact their offsets are.
+//! - [`timed`]: the systems that follow a parent as the machine of `gptp_timing`, and how exact their offsets are;
+//! - [`timed_claim`]: that this is so in every world, wherever it is calm for long enough.
 //!
 //! Each port announces at an interval of its own. What is counted in announce intervals is counted in the largest of
 //! them in the network.
@@ -39,5 +40,6 @@ pub mod settled;
 pub mod silence;
 pub mod syncs;
 pub mod timed;
+pub mod timed_claim;
 pub mod unanswered_acts;
 pub mod unanswered_worlds;
