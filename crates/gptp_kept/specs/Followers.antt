@@ -58,8 +58,8 @@ parent_link direction channel = record {
   port = (sender direction channel).port;
 }
 
--- At this place stands a link that is up and loses nothing, from the parent of a near live system to that. (The port of
--- the parent is the one that asks, by the words of a link.)
+-- At this place stands a link that is up and loses nothing, from the parent of a near live system to that. Where the
+-- parent stands is `asking` of the place, and where the system stands `answering`.
 pub record IsFollower (at : LinkPlace) (w : WorldState) : Type 0 where
   pub channel : Channel
   pub here : slice_get w.net.channels at.link ≡ Some channel
