@@ -34,7 +34,7 @@ use Rattle.gptp_acts.proofs.SteadyLemmas.{same_clock, same_ports}
 use Rattle.gptp_settling.specs.Network.{Network}
 use Rattle.gptp_kept.specs.SeenLaws.{IsNoChange}
 use Rattle.gptp_kept.specs.View.{lane_place}
-use Rattle.gptp_kept.specs.Calm.{HaveQuietLinks, IsQuietWith, IsQuietWorld, delay_in, greatest_delay, is_port, lane_of, log_at, log_of, network_of, network_with, paths_with, place_of, setups_of, step_with, wait_with}
+use Rattle.gptp_kept.specs.Calm.{HaveQuietLinks, IsQuietWith, IsQuietWorld, delay_in, greatest_delay, is_port, lane_of, log_at, log_of, network_of, network_with, paths_with, place_of, setups_of, step_with, sync_paths_of, wait_with}
 use Rattle.gptp_kept.specs.Standing.{is_used, joined, live_systems, snapshot_of, standing, used_links}
 
 -- ---- systems
@@ -88,7 +88,7 @@ delay_bare systems (first ∷ channels) =
     ap (λ rest. if is_used systems first then max first.bounds.max rest else rest) (delay_bare systems channels)
 
 -- so it is the same of links that are kept
-of_kept : {X : Type 0} (f : List Channel → X) → ((channels : List Channel) → f (map bare channels) ≡ f channels)
+pub of_kept : {X : Type 0} (f : List Channel → X) → ((channels : List Channel) → f (map bare channels) ≡ f channels)
     → (before after : List Channel) → DifferInFlight before after → f after ≡ f before
 of_kept f each before after kept = sym (each after) ∙ ap f kept ∙ each before
 
@@ -103,7 +103,7 @@ pub record KeepsNetwork (w w' : WorldState) : Type 0 where
   pub links : DifferInFlight w.net.channels w'.net.channels
   pub change : w'.last_change ≡ w.last_change
 
-keeps_on : (first second third : WorldState) → KeepsNetwork first second → KeepsNetwork second third
+pub keeps_on : (first second third : WorldState) → KeepsNetwork first second → KeepsNetwork second third
     → KeepsNetwork first third
 keeps_on first second third f g = record {
   systems = g.systems ∙ f.systems;
@@ -114,7 +114,7 @@ keeps_on first second third f g = record {
 }
 
 -- the links alone are others
-net_keeps : (w : WorldState) (net : Net) → DifferInFlight w.net.channels net.channels
+pub net_keeps : (w : WorldState) (net : Net) → DifferInFlight w.net.channels net.channels
     → KeepsNetwork w (record w { net = net })
 net_keeps w net links = record {
   systems = refl;
@@ -153,6 +153,10 @@ module _ (w w' : WorldState) (k : KeepsNetwork w w') where
 
   pub same_snapshot : snapshot_of w' ≡ snapshot_of w
   same_snapshot = λ i. record { systems = k.systems i; links = links_kept i }
+
+  -- Sync has the same to cross
+  pub same_paths : sync_paths_of w' ≡ sync_paths_of w
+  same_paths = λ i. record { systems = path_bound (same_snapshot i); delay = delay_kept i }
 
   pub same_network_with : (p : Pace) (m start wait step : ℕ)
       → network_with p m start wait step w' ≡ network_with p m start wait step w
@@ -215,7 +219,7 @@ earlier_quiet p m w time quiet = record { links = quiet.links; lapses = quiet.la
 -- ---- acts
 
 -- a call that sets no priority1
-calls_keep : (place : ℕ) (input : Input) (w : WorldState) (draws : List Draw) (answer : Answer) (w' : WorldState)
+pub calls_keep : (place : ℕ) (input : Input) (w : WorldState) (draws : List Draw) (answer : Answer) (w' : WorldState)
     → ((value : ℕ) → input ≢ Priority value) → Calls place input w draws answer w' → KeepsNetwork w w'
 calls_keep place input w draws answer w' other k =
     subst (KeepsNetwork w) (sym k.is)

@@ -52,14 +52,14 @@ place_is w own place station here =
 -- ---- lanes
 
 -- a port by its clock and number
-is_port_from : (p : PortId) (port : PortIdentity) → is_port p port ≡ true → identity_of p ≡ port
+pub is_port_from : (p : PortId) (port : PortIdentity) → is_port p port ≡ true → identity_of p ≡ port
 is_port_from p port same =
     let both = and_parts (p.clock == port.clock) (p.port == port.port) same in
     let clocks = eqb-true p.clock port.clock both.0 in
     let ports = eqb-true p.port port.port both.1 in
     λ i. record { clock = clocks i; port = ports i }
 
-is_port_there : (p : PortId) (port : PortIdentity) → identity_of p ≡ port → is_port p port ≡ true
+pub is_port_there : (p : PortId) (port : PortIdentity) → identity_of p ≡ port → is_port p port ≡ true
 is_port_there p port same =
     and_from (p.clock == port.clock) (p.port == port.port)
     (eq-eqb p.clock port.clock (ap (λ (x : PortIdentity). x.clock) same))

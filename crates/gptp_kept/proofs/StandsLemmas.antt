@@ -24,7 +24,7 @@ sender_lives systems FromA channel used = (and_parts _ _ (and_parts channel.up _
 sender_lives systems FromB channel used = (and_parts _ _ (and_parts channel.up _ used).1).1
 
 -- its ends are ports of two systems
-ends_differ : (w : WorldState) → AreBetween w → (link : ℕ) (direction : Direction) (channel : Channel)
+pub ends_differ : (w : WorldState) → AreBetween w → (link : ℕ) (direction : Direction) (channel : Channel)
     → slice_get w.net.channels link ≡ Some channel
     → (sender direction channel).clock ≢ (receiver direction channel).clock
 ends_differ w between link FromA channel here = (between link channel here).apart

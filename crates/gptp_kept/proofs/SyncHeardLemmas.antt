@@ -7,6 +7,7 @@ use Rattle.std.proofs.lemmas.Bool.{eq-eqb}
 use Rattle.std.proofs.lemmas.Option.{none-some, same_Some}
 use Rattle.gptp_graph.specs.Snapshot.{PortIdentity}
 use Rattle.gptp_vector.specs.declared.port.PortId.{PortId}
+use Rattle.gptp_messages.specs.declared.follow_up.FollowUp.{FollowUp as FollowUpFields}
 use Rattle.gptp_messages.specs.declared.head.Head.{Head}
 use Rattle.gptp_messages.specs.declared.message.Message.{Message}
 use Rattle.gptp_messages.specs.declared.message.Message.TheVariants as messages
@@ -21,7 +22,7 @@ use Rattle.gptp_system.specs.declared.sending.Sending.{Sending}
 use Rattle.gptp_system.specs.Input.{Steps, Frame as FrameHeard}
 use Rattle.gptp_system.specs.State.{SystemState, held_at, is_capable_at}
 use Rattle.gptp_system.specs.Steps.{HearsFrame, HearsMessage}
-use Rattle.gptp_system.specs.Syncing.{HearsFollowUpIf, HearsSyncIf, KeepsIf, KnowsBy, KnowsIf, came_from, delay_at, is_followed, is_port, is_slave_at, rate_at, said_on}
+use Rattle.gptp_system.specs.Syncing.{HearsFollowUpIf, HearsSyncIf, IsKept, KeepsIf, KnowsBy, KnowsIf, came_from, delay_at, is_followed, is_port, is_slave_at, rate_at, said_on}
 use Rattle.gptp_settling.specs.Frame.{FollowUp, Sync, SyncId}
 use Rattle.gptp_kept.specs.SyncView.{IsHeard, TakesTime}
 use Rattle.gptp_kept.specs.View.{identity_of, kept_view, says_sync, sync_id}
@@ -49,7 +50,7 @@ ports_same a b same =
 -- ---- a message that is heard
 
 -- it is the one that the octets read as
-heard_as : (p : ℕ) (octets : List ℕ) (m : Message) (now : ℕ) (s s' : SystemState) (sends : List Sending)
+pub heard_as : (p : ℕ) (octets : List ℕ) (m : Message) (now : ℕ) (s s' : SystemState) (sends : List Sending)
     (answer : Answer) → Reads octets m → HearsFrame p octets now s s' sends answer
     → HearsMessage p m now s s' sends answer
 heard_as p octets m now s s' sends answer reads (inl k) =
@@ -57,11 +58,11 @@ heard_as p octets m now s s' sends answer reads (inl k) =
 heard_as p octets m now s s' sends answer reads (inr k) = absurd (never_both octets m k.refused reads k.refuses)
 
 module _ (s : SystemState) (p : ℕ) (source : PortIdentity) (takes : TakesTime s p source) where
-  at_slave : is_slave_at s p ≡ true
+  pub at_slave : is_slave_at s p ≡ true
   at_slave = let slave = takes.slave in rw slave (eq-eqb p p refl)
 
   -- what comes from there is followed
-  followed : (head : Head) → head.two_step ≡ true → identity_of head.source ≡ source → is_followed p head s ≡ true
+  pub followed : (head : Head) → head.two_step ≡ true → identity_of head.source ≡ source → is_followed p head s ≡ true
   followed head two_step from =
       let holds = takes.holds in
       let same : is_port takes.reception.vector.source head.source ≡ true =
@@ -100,54 +101,64 @@ module _ (s : SystemState) (p : ℕ) (source : PortIdentity) (takes : TakesTime 
 
 -- ---- a Sync
 
+-- one that comes from there is kept
+pub sync_kept : (p : ℕ) (octets : List ℕ) (now : ℕ) (s s' : SystemState) (sends : List Sending) (answer : Answer)
+    (source : PortIdentity) (head : Head) → Steps (FrameHeard p octets) now s s' sends answer → TakesTime s p source
+    → Reads octets (messages.Sync head) → head.two_step ≡ true → identity_of head.source ≡ source
+    → IsKept head now s s' sends answer
+sync_kept p octets now s s' sends answer source head k takes reads two_step from =
+    capable (is_capable_at s p) takes.capable (heard_as p octets (messages.Sync head) now s s' sends answer reads k)
+  where
+    keeps : (b : Bool) → b ≡ true → KeepsIf b head now s s' sends answer → IsKept head now s s' sends answer
+    keeps true same h = h
+    keeps false same h = absurd cc
+
+    capable : (b : Bool) → b ≡ true → HearsSyncIf b p head now s s' sends answer → IsKept head now s s' sends answer
+    capable true same h = keeps (is_followed p head s) (followed s p source takes head two_step from) h
+    capable false same h = absurd cc
+
 pub syncs_are_kept : (p : ℕ) (octets : List ℕ) (now : ℕ) (s s' : SystemState) (sends : List Sending) (answer : Answer)
     (id : SyncId) → Steps (FrameHeard p octets) now s s' sends answer → TakesTime s p id.source
     → says_sync octets (Sync id) → kept_view s' ≡ Some id
 syncs_are_kept p octets now s s' sends answer id k takes (head, reads, two_step, is) =
-    capable (is_capable_at s p) takes.capable (heard_as p octets (messages.Sync head) now s s' sends answer reads k)
-  where
-    keeps : (b : Bool) → b ≡ true → KeepsIf b head now s s' sends answer → kept_view s' ≡ Some id
-    keeps true same h = ap kept_view h.becomes.state ∙ ap Some (sym is)
-    keeps false same h = absurd cc
-
-    capable : (b : Bool) → b ≡ true → HearsSyncIf b p head now s s' sends answer → kept_view s' ≡ Some id
-    capable true same h =
-        keeps (is_followed p head s)
-        (followed s p id.source takes head two_step (ap (λ (x : SyncId). x.source) (sym is))) h
-    capable false same h = absurd cc
+    let kept = sync_kept p octets now s s' sends answer id.source head k takes reads two_step
+    (ap (λ (x : SyncId). x.source) (sym is)) in
+    ap kept_view kept.becomes.state ∙ ap Some (sym is)
 
 -- ---- a Follow_Up
+
+-- it belongs to the Sync of its port and number
+pub belonging : (m : FollowUpFields) (kept : KeptSync) → m.head.source ≡ kept.source
+    → m.head.sequence ≡ kept.sequence → belongs m kept ≡ true
+belonging m kept port sequence =
+    let clock = ap (λ (x : PortId). x.clock) port in
+    let number = ap (λ (x : PortId). x.port) port in
+    grind (arith, nat_tests)
+
+-- what it says with that is known, or doesn't fit
+pub follow_up_known : (p : ℕ) (octets : List ℕ) (now : ℕ) (s s' : SystemState) (sends : List Sending)
+    (answer : Answer) (source : PortIdentity) (m : FollowUpFields) (kept : KeptSync)
+    → Steps (FrameHeard p octets) now s s' sends answer → TakesTime s p source → Reads octets (messages.FollowUp m)
+    → s.sync_in ≡ Some kept → belongs m kept ≡ true
+    → KnowsBy (has_sync_timeout s.params) (together m kept) (delay_at s p) (rate_at s p) now s s' sends answer
+follow_up_known p octets now s s' sends answer source m kept k takes reads keeps own =
+    capable (is_capable_at s p) takes.capable
+    (heard_as p octets (messages.FollowUp m) now s s' sends answer reads k)
+  where
+    said : said_on p m s ≡ Some (together m kept)
+    said = let slave = at_slave s p source takes in rw (slave, keeps, own) refl
+
+    capable : (b : Bool) → b ≡ true → HearsFollowUpIf b p m now s s' sends answer
+        → KnowsBy (has_sync_timeout s.params) (together m kept) (delay_at s p) (rate_at s p) now s s' sends answer
+    capable true same h = subst (λ o. KnowsIf o (delay_at s p) (rate_at s p) now s s' sends answer) said h
+    capable false same h = absurd cc
 
 pub follow_ups_are_used : (p : ℕ) (octets : List ℕ) (now : ℕ) (s s' : SystemState) (sends : List Sending)
     (answer : Answer) (source : PortIdentity) (id : SyncId) → Steps (FrameHeard p octets) now s s' sends answer
     → 0 < s.params.sync_timeout → TakesTime s p source → kept_view s ≡ Some id → says_sync octets (FollowUp id)
     → IsHeard now s s'
-follow_ups_are_used p octets now s s' sends answer source id k on takes keeps (m, reads, is) =
-    capable (is_capable_at s p) takes.capable
-    (heard_as p octets (messages.FollowUp m) now s s' sends answer reads k)
+follow_ups_are_used p octets now s s' sends answer source id k on takes keeps (m, reads, is) = by s.sync_in refl keeps
   where
-    has : has_sync_timeout s.params ≡ true
-    has = can_lapse s.params on
-
-    -- it belongs to the Sync that is kept
-    belonging : (k : KeptSync) → Some (id_of k) ≡ Some id → belongs m k ≡ true
-    belonging k names =
-        let same : sync_id m.head ≡ id_of k = sym is ∙ sym (same_Some (id_of k) id names) in
-        let port : m.head.source ≡ k.source =
-        same_identity m.head.source k.source (ap (λ (x : SyncId). x.source) same) in
-        let sequence : m.head.sequence ≡ k.sequence = ap (λ (x : SyncId). x.sequence) same in
-        let clock = ap (λ (x : PortId). x.clock) port in
-        let number = ap (λ (x : PortId). x.port) port in
-        grind (arith, nat_tests)
-
-    said_by : (o : Option KeptSync) → s.sync_in ≡ o → option_map id_of o ≡ Some id
-        → (info : SyncInfo) × (said_on p m s ≡ Some info)
-    said_by None same names = absurd (none-some id names)
-    said_by (Some k) same names =
-        let slave = at_slave s p source takes in
-        let belongs_to = belonging k names in
-        (together m k, rw (slave, same, belongs_to) refl)
-
     used : (b : Bool) (info : SyncInfo) → b ≡ true
         → KnowsBy b info (delay_at s p) (rate_at s p) now s s' sends answer → IsHeard now s s'
     used true info same h = record {
@@ -156,9 +167,12 @@ follow_ups_are_used p octets now s s' sends answer source id k on takes keeps (m
     }
     used false info same h = absurd cc
 
-    capable : (b : Bool) → b ≡ true → HearsFollowUpIf b p m now s s' sends answer → IsHeard now s s'
-    capable true same h =
-        let said = said_by s.sync_in refl keeps in
-        used (has_sync_timeout s.params) said.0 has
-        (subst (λ o. KnowsIf o (delay_at s p) (rate_at s p) now s s' sends answer) said.1 h)
-    capable false same h = absurd cc
+    by : (o : Option KeptSync) → s.sync_in ≡ o → option_map id_of o ≡ Some id → IsHeard now s s'
+    by None same names = absurd (none-some id names)
+    by (Some kept) same names =
+        let ids : sync_id m.head ≡ id_of kept = sym is ∙ sym (same_Some (id_of kept) id names) in
+        let own = belonging m kept
+        (same_identity m.head.source kept.source (ap (λ (x : SyncId). x.source) ids))
+        (ap (λ (x : SyncId). x.sequence) ids) in
+        used (has_sync_timeout s.params) (together m kept) (can_lapse s.params on)
+        (follow_up_known p octets now s s' sends answer source m kept k takes reads same own)

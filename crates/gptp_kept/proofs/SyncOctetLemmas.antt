@@ -48,17 +48,17 @@ plain_fits head fits = record {
 }
 
 -- two frames have headers that pass alike, of one type, source and flag
-record AreAlike (a b : List ℕ) : Type 0 where
-  header : header_fault a ≡ header_fault b
-  kind : message_type a ≡ message_type b
-  whole : message_length a ≡ message_length b
-  size : length a ≡ length b
-  source : port_at 20 a ≡ port_at 20 b
-  flag : (head_of a).two_step ≡ (head_of b).two_step
+pub record AreAlike (a b : List ℕ) : Type 0 where
+  pub header : header_fault a ≡ header_fault b
+  pub kind : message_type a ≡ message_type b
+  pub whole : message_length a ≡ message_length b
+  pub size : length a ≡ length b
+  pub source : port_at 20 a ≡ port_at 20 b
+  pub flag : (head_of a).two_step ≡ (head_of b).two_step
 
 -- what passes in the one passes in the other
-reads_alike : (a b : List ℕ) (m n : Message) (rate : ℤ) → AreAlike a b → (k : Reads a m) → ReadsTlvs k.kind b [] rate
-    → StampIsRead k.kind b → n ≡ message_at k.kind b [] rate → Reads b n
+pub reads_alike : (a b : List ℕ) (m n : Message) (rate : ℤ) → AreAlike a b → (k : Reads a m)
+    → ReadsTlvs k.kind b [] rate → StampIsRead k.kind b → n ≡ message_at k.kind b [] rate → Reads b n
 reads_alike a b m n rate alike k tlvs stamp is = record {
   kind = k.kind;
   header = record {

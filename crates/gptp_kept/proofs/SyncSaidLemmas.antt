@@ -46,13 +46,13 @@ module _ (s' : SystemState) (log : ℤ) (told : Relayed) where
   port_of n = own s' n
 
   -- the octets of a port that holds this
-  abbrev pair_if : Bool → ℕ → Port → List (List ℕ)
+  abbrev pub pair_if : Bool → ℕ → Port → List (List ℕ)
   pair_if false n q = []
   pair_if true n q =
       written s' (sync_of (port_of n) log q) ∷ written s' (follow_up_of (port_of n) log told q) ∷ []
 
   -- and of one that may be there
-  abbrev pair_at : Option Held → Option Port → ℕ → List (List ℕ)
+  abbrev pub pair_at : Option Held → Option Port → ℕ → List (List ℕ)
   pair_at None q n = []
   pair_at (Some h) None n = []
   pair_at (Some h) (Some q) n = pair_if (is_mine h) n q
@@ -65,7 +65,7 @@ module _ (s' : SystemState) (log : ℤ) (told : Relayed) where
   other_port n k other same = other (ap (λ (p : PortId). p.port) same)
 
   -- nothing is said at a port before the first
-  none_before : (k n : ℕ) (hs : List Held) (qs : List Port) → k < n
+  pub none_before : (k n : ℕ) (hs : List Held) (qs : List Port) → k < n
       → said_at s' (port_of k) (all_syncs (clock s') log told n hs qs) ≡ []
   none_before k n [] qs before = refl
   none_before k n (h ∷ hs) [] before = refl
@@ -89,7 +89,7 @@ module _ (s' : SystemState) (log : ℤ) (told : Relayed) where
           ∙ said_elsewhere s' (port_of k) (follow_up_of (port_of n) log told q) rest apart ∙ none
 
   -- at the port of a place its own pair is said
-  said_there : (i k n : ℕ) (hs : List Held) (qs : List Port) → k ≡ n + i
+  pub said_there : (i k n : ℕ) (hs : List Held) (qs : List Port) → k ≡ n + i
       → said_at s' (port_of k) (all_syncs (clock s') log told n hs qs) ≡ pair_at (slice_get hs i) (slice_get qs i) k
   said_there i k n [] qs number = refl
   said_there i k n (h ∷ hs) [] number = no_port (slice_get (h ∷ hs) i) k
@@ -226,7 +226,7 @@ relay_told (Some info) now s s' sends stamped k =
     relays_told (has_sync_timeout s.params) info now s s' sends (stamped info refl) k
 
 -- the Sync and the Relay timer alone tell time
-asks_no_time : (s : SystemState) (p : ℕ) (sends : List Sending) → AsksOnce s p sends → (x : Sending) → In x sends
+pub asks_no_time : (s : SystemState) (p : ℕ) (sends : List Sending) → AsksOnce s p sends → (x : Sending) → In x sends
     → kind_of x.body ≢ Telling
 asks_no_time s p sends sent x member =
     go (with_send-from (request_of p s) x sent.announces (subst (In x) sent.is member))
@@ -235,7 +235,7 @@ asks_no_time s p sends sent x member =
     go (inl it) kind = let e : kind_of x.body ≡ Asking = ap (λ (y : Sending). kind_of y.body) it in cc
     go (inr other) kind = let e = sent.all x other in cc
 
-responds_no_time : (owed : Option Owed) (p now : ℕ) (s : SystemState) (sends : List Sending)
+pub responds_no_time : (owed : Option Owed) (p now : ℕ) (s : SystemState) (sends : List Sending)
     → RespondsIf owed p now s sends → (x : Sending) → In x sends → kind_of x.body ≢ Telling
 responds_no_time owed p now s sends sent x member kind =
     let e = responds_answer owed p now s sends sent x member in cc

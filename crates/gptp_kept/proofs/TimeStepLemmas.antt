@@ -34,7 +34,7 @@ use Rattle.gptp_system.specs.Selection.{Becomes, Selects, SelectsIf, follows_on,
 use Rattle.gptp_system.specs.Start.{started}
 use Rattle.gptp_system.specs.State.{SystemState, can_lead, held_at, is_capable_at, number, own, lapse_of, with_peer}
 use Rattle.gptp_system.specs.Steps.{Expires as TimerExpires, HearsFrame, HearsMessage}
-use Rattle.gptp_system.specs.Syncing.{HearsFollowUpIf, HearsSyncIf, KeepsIf, KnowsBy, KnowsIf, RelaysBy, RelaysIf, SyncsIf, delay_at, forgetting, is_followed, is_slave_at, knowing, leads, offset_of, rate_at, refreshing, restarted, said_on, stopped, telling}
+use Rattle.gptp_system.specs.Syncing.{HearsFollowUpIf, HearsSyncIf, IsKept, KeepsIf, KnowsBy, KnowsIf, RelaysBy, RelaysIf, SyncsIf, delay_at, forgetting, is_followed, is_slave_at, knowing, leads, offset_of, rate_at, refreshing, restarted, said_on, stopped, telling}
 use Rattle.gptp_system.proofs.LapseLemmas.{followed}
 use Rattle.gptp_system.proofs.TypeLemmas.{type_is}
 use Rattle.gptp_kept.specs.SyncView.{KnowsTime}
@@ -190,29 +190,41 @@ turns_and_asks p step now s s' sends k =
       lapse = before.lapse;
     })
 
+-- ---- what is heard
+
+-- a Sync that comes from the port that is followed is kept
+pub record KeepsHeard (p : ℕ) (octets : List ℕ) (now : ℕ) (s s' : SystemState) (sends : List Sending)
+    (answer : Answer) : Type 0 where
+  pub head : Head
+  pub reads : Reads octets (messages.Sync head)
+  pub follows : is_followed p head s ≡ true
+  pub kept : IsKept head now s s' sends answer
+
+-- what a Follow_Up says with the Sync that is kept is known, or doesn't fit
+pub record LearnsHeard (p : ℕ) (octets : List ℕ) (now : ℕ) (s s' : SystemState) (sends : List Sending)
+    (answer : Answer) : Type 0 where
+  pub m : FollowUp
+  pub reads : Reads octets (messages.FollowUp m)
+  pub info : SyncInfo
+  pub said : said_on p m s ≡ Some info
+  pub knows : KnowsBy (has_sync_timeout s.params) info (delay_at s p) (rate_at s p) now s s' sends answer
+
+abbrev pub TimeHeard : ℕ → List ℕ → ℕ → SystemState → SystemState → List Sending → Answer → Type 0
+TimeHeard p octets now s s' sends answer =
+    StaysKnown s s' ⊎ (KeepsHeard p octets now s s' sends answer ⊎ LearnsHeard p octets now s s' sends answer)
+
 -- ---- a Sync
 
 keeps_if : (b : Bool) (p : ℕ) (octets : List ℕ) (head : Head) (now : ℕ) (s s' : SystemState) (sends : List Sending)
     (answer : Answer) → is_followed p head s ≡ b → Reads octets (messages.Sync head)
-    → KeepsIf b head now s s' sends answer → TimeStep (Frame p octets) s s'
-keeps_if true p octets head now s s' sends answer followed reads k =
-    inr (inl (subst (KeepsSync (Frame p octets) s) (sym k.becomes.state) (record {
-      port = p;
-      octets = octets;
-      head = head;
-      heard = refl;
-      reads = reads;
-      followed = followed;
-      params = refl;
-      known = refl;
-      relay = refl;
-      lapse = λ due is. inl (is, refl);
-    })))
-keeps_if false p octets head now s s' sends answer followed reads k = inl (rests s s' sends k.becomes)
+    → KeepsIf b head now s s' sends answer → TimeHeard p octets now s s' sends answer
+keeps_if true p octets head now s s' sends answer follows reads k =
+    inr (inl (record { head = head; reads = reads; follows = follows; kept = k }))
+keeps_if false p octets head now s s' sends answer follows reads k = inl (rests s s' sends k.becomes)
 
 hears_sync : (b : Bool) (p : ℕ) (octets : List ℕ) (head : Head) (now : ℕ) (s s' : SystemState) (sends : List Sending)
     (answer : Answer) → Reads octets (messages.Sync head) → HearsSyncIf b p head now s s' sends answer
-    → TimeStep (Frame p octets) s s'
+    → TimeHeard p octets now s s' sends answer
 hears_sync false p octets head now s s' sends answer reads k = inl (rests s s' sends k.becomes)
 hears_sync true p octets head now s s' sends answer reads k =
     keeps_if (is_followed p head s) p octets head now s s' sends answer refl reads k
@@ -296,20 +308,19 @@ knows_by false info delay rate now s s' sends answer has small (inr k) =
     learns s (forgetting s) s' k.becomes.state refl (λ on. absurd (never on has)) (λ due on. absurd (never on has))
     (λ knows. none_known (forgetting s) has refl knows.lapses)
 
-knows_if : (said : Option SyncInfo) (delay rate : ℤ) (now : ℕ) (s s' : SystemState) (sends : List Sending)
-    (answer : Answer) → ((info : SyncInfo) → said ≡ Some info → info.origin.nanos < 1000000000)
-    → KnowsIf said delay rate now s s' sends answer → StaysKnown s s' ⊎ Learns s s'
-knows_if None delay rate now s s' sends answer small k = inl (rests s s' sends k.becomes)
-knows_if (Some info) delay rate now s s' sends answer small k =
-    inr (knows_by (has_sync_timeout s.params) info delay rate now s s' sends answer refl (small info refl) k)
+knows_if : (said : Option SyncInfo) (p : ℕ) (octets : List ℕ) (m : FollowUp) (now : ℕ) (s s' : SystemState)
+    (sends : List Sending) (answer : Answer) → said_on p m s ≡ said → Reads octets (messages.FollowUp m)
+    → KnowsIf said (delay_at s p) (rate_at s p) now s s' sends answer → TimeHeard p octets now s s' sends answer
+knows_if None p octets m now s s' sends answer is reads k = inl (rests s s' sends k.becomes)
+knows_if (Some info) p octets m now s s' sends answer is reads k =
+    inr (inr (record { m = m; reads = reads; info = info; said = is; knows = k }))
 
-hears_follow_up : (b : Bool) (p : ℕ) (m : FollowUp) (now : ℕ) (s s' : SystemState) (sends : List Sending)
-    (answer : Answer) → m.origin.nanos < 1000000000 → HearsFollowUpIf b p m now s s' sends answer
-    → StaysKnown s s' ⊎ Learns s s'
-hears_follow_up false p m now s s' sends answer small k = inl (rests s s' sends k.becomes)
-hears_follow_up true p m now s s' sends answer small k =
-    knows_if (said_on p m s) (delay_at s p) (rate_at s p) now s s' sends answer
-    (λ info is. subst (λ (t : Timestamp). t.nanos < 1000000000) (sym (origin_on p m s info is)) small) k
+hears_follow_up : (b : Bool) (p : ℕ) (octets : List ℕ) (m : FollowUp) (now : ℕ) (s s' : SystemState)
+    (sends : List Sending) (answer : Answer) → Reads octets (messages.FollowUp m)
+    → HearsFollowUpIf b p m now s s' sends answer → TimeHeard p octets now s s' sends answer
+hears_follow_up false p octets m now s s' sends answer reads k = inl (rests s s' sends k.becomes)
+hears_follow_up true p octets m now s s' sends answer reads k =
+    knows_if (said_on p m s) p octets m now s s' sends answer refl reads k
 
 -- ---- the Relay timer
 
@@ -356,7 +367,8 @@ hears_announce p a now s s' sends answer (inr (inr k)) =
     go false h = becomes s (compared p a now s) s' sends (still s (compared p a now s) refl refl refl refl refl refl) h
 
 hears_message : (p : ℕ) (octets : List ℕ) (m : Message) (now : ℕ) (s s' : SystemState) (sends : List Sending)
-    (answer : Answer) → Reads octets m → HearsMessage p m now s s' sends answer → TimeStep (Frame p octets) s s'
+    (answer : Answer) → Reads octets m → HearsMessage p m now s s' sends answer
+    → TimeHeard p octets now s s' sends answer
 hears_message p octets (messages.Sync head) now s s' sends answer reads k =
     hears_sync (is_capable_at s p) p octets head now s s' sends answer reads k
 hears_message p octets (messages.PdelayReq head) now s s' sends answer reads k =
@@ -364,22 +376,44 @@ hears_message p octets (messages.PdelayReq head) now s s' sends answer reads k =
 hears_message p octets (messages.PdelayResp m) now s s' sends answer reads k =
     inl (subst (StaysKnown s) (sym k.becomes.state) (still s _ refl refl refl refl refl refl))
 hears_message p octets (messages.FollowUp m) now s s' sends answer reads k =
-    elim (hears_follow_up (is_capable_at s p) p m now s s' sends answer (stamp_read octets m reads) k) [
-      | inl stays ↦ inl stays
-      | inr learned ↦ inr (inr (inl learned))
-    ]
+    hears_follow_up (is_capable_at s p) p octets m now s s' sends answer reads k
 hears_message p octets (messages.PdelayRespFollowUp m) now s s' sends answer reads k =
     inl (turns p (after_follow_up m) now s s' sends k.turns)
 hears_message p octets (messages.Announce a) now s s' sends answer reads k =
     inl (hears_announce p a now s s' sends answer k)
 
+pub frame_heard : (p : ℕ) (octets : List ℕ) (now : ℕ) (s s' : SystemState) (sends : List Sending) (answer : Answer)
+    → HearsFrame p octets now s s' sends answer → TimeHeard p octets now s s' sends answer
+frame_heard p octets now s s' sends answer (inl k) =
+    hears_message p octets k.message now s s' sends answer k.reads k.hears
+frame_heard p octets now s s' sends answer (inr k) = inl (rests s s' sends k.becomes)
+
 hears_frame : (p : ℕ) (octets : List ℕ) (now : ℕ) (s s' : SystemState) (sends : List Sending) (answer : Answer)
     → HearsFrame p octets now s s' sends answer → TimeStep (Frame p octets) s s'
-hears_frame p octets now s s' sends answer (inl k) =
-    hears_message p octets k.message now s s' sends answer k.reads k.hears
-hears_frame p octets now s s' sends answer (inr k) = inl (rests s s' sends k.becomes)
+hears_frame p octets now s s' sends answer k = by (frame_heard p octets now s s' sends answer k)
+  where
+    by : TimeHeard p octets now s s' sends answer → TimeStep (Frame p octets) s s'
+    by (inl stays) = inl stays
+    by (inr (inl keeps)) =
+        inr (inl (subst (KeepsSync (Frame p octets) s) (sym keeps.kept.becomes.state) (record {
+          port = p;
+          octets = octets;
+          head = keeps.head;
+          heard = refl;
+          reads = keeps.reads;
+          followed = keeps.follows;
+          params = refl;
+          known = refl;
+          relay = refl;
+          lapse = λ due is. inl (is, refl);
+        })))
+    by (inr (inr learned)) =
+        inr (inr (inl (knows_by (has_sync_timeout s.params) learned.info (delay_at s p) (rate_at s p) now s s' sends
+        answer refl
+        (subst (λ (t : Timestamp). t.nanos < 1000000000) (sym (origin_on p learned.m s learned.info learned.said))
+        (stamp_read octets learned.m learned.reads)) learned.knows)))
 
-expires : (timer : Timer) (now : ℕ) (s s' : SystemState) (sends : List Sending) → TimerExpires timer now s s' sends
+pub expires : (timer : Timer) (now : ℕ) (s s' : SystemState) (sends : List Sending) → TimerExpires timer now s s' sends
     → StaysKnown s s' ⊎ Stops (Expires timer) s s'
 expires (timers.Announce p) now s s' sends k =
     inl (subst (StaysKnown s) (sym k.state) (still s _ refl refl refl refl refl refl))

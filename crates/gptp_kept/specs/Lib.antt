@@ -42,3 +42,10 @@ pub mod Tree
 pub mod TreeLaws
 pub mod Bounded
 pub mod BoundedLaws
+pub mod FollowView
+pub mod Followers
+pub mod Timed
+pub mod TimedLaws
+pub mod TimedClaim
+pub mod Exact
+pub mod TimedClaimLaws

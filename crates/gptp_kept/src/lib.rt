@@ -1,4 +1,4 @@
-//! What every world of a network keeps, and that it settles.
+//! What every world of a network keeps, that it settles, and how exact its offsets are then.
 //!
 //! The state of a world is that of `gptp_acts`, and so are its acts. Each subject has its definitions in `specs/`, and
 //! its laws in a module:
@@ -15,7 +15,10 @@
 //! - [`claimed`]: all this as one claim that begins with the world of every network and is kept by every act, that
 //!   worlds settle, and what the calls of a world show then;
 //! - [`bounded`]: what the systems of a world state of themselves then, far ones too;
-//! - [`syncs`]: how systems tell time and hear it, as the machine of `gptp_settling` asks where something can lapse.
+//! - [`syncs`]: how systems tell time and hear it, as the machine of `gptp_settling` asks where something can lapse;
+//! - [`timed`]: the systems that follow a parent as the machine of `gptp_timing`, and how exact their offsets are;
+//! - [`timed_claim`]: that this is so in every world, wherever it is calm for long enough, as part of all that is claimed;
+//! - [`exact`]: how exact the offsets are that acts of a world leave.
 //!
 //! Each port announces at an interval of its own. What is counted in announce intervals is counted in the largest of
 //! them in the network.
@@ -27,6 +30,7 @@ pub mod bounded;
 pub mod calm;
 pub mod capable;
 pub mod claimed;
+pub mod exact;
 pub mod known;
 pub mod link_acts;
 pub mod link_facts;
@@ -37,5 +41,7 @@ pub mod seen;
 pub mod settled;
 pub mod silence;
 pub mod syncs;
+pub mod timed;
+pub mod timed_claim;
 pub mod unanswered_acts;
 pub mod unanswered_worlds;
