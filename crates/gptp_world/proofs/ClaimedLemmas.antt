@@ -21,8 +21,8 @@ use Rattle.gptp_acts.specs.World.{WorldState}
 use Rattle.gptp_acts.proofs.AdvanceLemmas.{leaves_less, next_fits}
 use Rattle.gptp_acts.proofs.SoundLemmas.{acts_sound, later_sound}
 use Rattle.gptp_kept.specs.LegibleLaws.{SetsAnOctet}
-use Rattle.gptp_kept.specs.Claimed.{Claimed}
-use Rattle.gptp_kept.proofs.ClaimedLemmas.{claimed_begins, claimed_kept}
+use Rattle.gptp_kept.specs.TimedClaim.{AllClaimed}
+use Rattle.gptp_kept.proofs.ExactLemmas.{all_begins, all_kept}
 use Rattle.gptp_world.specs.declared.stage.Stage.{Stage}
 use Rattle.gptp_world.specs.Scene.{SystemsStarted}
 use Rattle.gptp_world.specs.Stage.{world_of}
@@ -44,19 +44,19 @@ begun_from answers n fate fate_after stage after same started =
     }
 
 pub begun_claimed : {F : Type 0} (answers : Bounds → ℕ → F → Option ℕ → F → Type 0) (n : NetworkState)
-    (fate fate_after : F) (w : WorldState) → IsNetwork n → Begun answers n fate fate_after w → Claimed w
+    (fate fate_after : F) (w : WorldState) → IsNetwork n → Begun answers n fate fate_after w → AllClaimed w
 begun_claimed answers n fate fate_after w network begun =
-    claimed_begins answers n fate fate_after w network (initial_sound n network) begun
+    all_begins answers n fate fate_after w network (initial_sound n network) begun
 
 -- ---- an act keeps it, once room is made
 
 pub acted_claimed : {F : Type 0} (answers : Bounds → ℕ → F → Option ℕ → F → Type 0) (timed : Timed)
-    (fate fate_after : F) (w made w' : WorldState) (draws : List Draw) (done : Done) → Claimed w → made ≡ w
+    (fate fate_after : F) (w made w' : WorldState) (draws : List Draw) (done : Done) → AllClaimed w → made ≡ w
     → IsFitAct timed.act → IsPromptIn w timed.act → SetsAnOctet timed.act → IsReadyAct timed.act timed.at w
     → Draws answers fate draws fate_after → Acts timed.act (at timed.at made) draws done w'
-    → Claimed w'
+    → AllClaimed w'
 acted_claimed answers timed fate fate_after w made w' draws done claimed same fit prompt octet ready drawn acts =
-    claimed_kept answers timed fate fate_after w w' done fit prompt octet
+    all_kept answers timed fate fate_after w w' done fit prompt octet
     (record {
       ready = ready;
       draws = draws;

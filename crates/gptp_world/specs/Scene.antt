@@ -8,19 +8,19 @@ use Rattle.gptp_acts.specs.Changing.{StartsAll}
 use Rattle.gptp_acts.specs.Sound.{IsSound}
 use Rattle.gptp_world.specs.Credit.{IsCovered}
 use Rattle.gptp_world.specs.Stage.{world_of, IsStage}
-use Rattle.gptp_kept.specs.Claimed.{Claimed}
+use Rattle.gptp_kept.specs.TimedClaim.{AllClaimed}
 
 -- what the code keeps of a world while its systems start
 pub record IsFounded (stage : Stage) : Type 0 where
   pub stage_kept : IsStage stage
   pub sound : IsSound (world_of stage)
 
--- what it keeps between acts: also what every world of a network keeps, from which it follows that the world settles;
--- and there is room for the credit of each system
+-- what it keeps between acts: also what every world of a network keeps, from which it follows that the world settles
+-- and how exact its offsets are; and there is room for the credit of each system
 pub record IsScene (credit : List ℕ) (stage : Stage) : Type 0 where
   pub stage_kept : IsStage stage
   pub sound : IsSound (world_of stage)
-  pub claimed : Claimed (world_of stage)
+  pub claimed : AllClaimed (world_of stage)
   pub covered : IsCovered credit stage.net
 
 -- so many systems started, one after another

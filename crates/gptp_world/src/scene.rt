@@ -65,6 +65,7 @@ impl Scene {
     ghost use Rattle.gptp_acts.specs.Acts.{IsReadyAct, Refuses};
     ghost use Rattle.gptp_acts.specs.Prompt.{IsPromptIn};
     ghost use Rattle.gptp_kept.specs.LegibleLaws.{SetsAnOctet};
+    ghost use Rattle.gptp_kept.specs.Exact.{IsHeardExact};
     ghost use Rattle.gptp_kept.specs.Traces.{IsHeardClean};
     ghost use Rattle.gptp_world.specs.Aim.{IsAimOf};
     ghost use Rattle.gptp_world.specs.Memory.{AsksForNoMemory};
@@ -92,6 +93,7 @@ impl Scene {
         requires prompt { IsPromptIn self.old timed.now.act }
         ensures done { IfOk result (WasDone F.answers timed.now fate.old fate.new self.old self.new) }
         ensures clean { IfOk result (IsHeardClean self.old timed.now.at) }
+        ensures exact { IfOk result (IsHeardExact self.old timed.now.at self.new) }
         ensures refused { IfErr result (Refuses timed.now.act timed.now.at self.old) }
         ensures free { AsksForNoMemory timed.now.act self.old → IfErr result (λ refused. refused ≢ OutOfMemory) }
         ensures kept { OnErr result (self.new ≡ self.old) }

@@ -26,6 +26,7 @@ impl Scene {
     ghost use Rattle.gptp_kept.specs.Claimed.{Claimed};
     ghost use Rattle.gptp_kept.specs.Shown.{FollowsByDistance, FollowsByPaths, FollowsInTime, IsCapableInTime, IsEnabledInTime};
     ghost use Rattle.gptp_kept.specs.Shown.{PlaysByDistance, PlaysByPaths, PlaysInTime};
+    ghost use Rattle.gptp_kept.specs.TimedClaim.{AllClaimed};
     ghost use Rattle.gptp_kept.specs.Traces.{AreHeldCleanInTime, AreHeldWholeInTime, IsCleanInTime};
 
     /// The time, in ns.
@@ -136,10 +137,11 @@ impl Scene {
     }
 
     /// What is pending agrees with the state, nothing is due before now, and the rest of what is true of every world, from
-    /// which it follows that it settles.
+    /// which it follows that it settles and how exact its offsets are.
     pub(crate) fn well_formed(&self)
         ensures sound { IsSound self.now }
         ensures claimed { Claimed self.now }
+        ensures timed { AllClaimed self.now }
     {
         let _ = &self.stage;
     }

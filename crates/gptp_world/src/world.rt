@@ -32,6 +32,8 @@ impl<F: Fate + Drop> World<F> {
     ghost use Rattle.gptp_kept.specs.Standing.{snapshot_of};
     ghost use Rattle.gptp_kept.specs.Shown.{FollowsByDistance, FollowsByPaths, FollowsInTime, IsCapableInTime, IsEnabledInTime};
     ghost use Rattle.gptp_kept.specs.Shown.{PlaysByDistance, PlaysByPaths, PlaysInTime};
+    ghost use Rattle.gptp_kept.specs.Exact.{IsHeardExact};
+    ghost use Rattle.gptp_kept.specs.TimedClaim.{AllClaimed};
     ghost use Rattle.gptp_kept.specs.Traces.{AreHeldCleanInTime, AreHeldWholeInTime, IsCleanInTime, IsHeardClean};
     ghost use Rattle.gptp_acts.specs.Views.{Follows, HasPort, HasRole, IsLiveSystem, IsNextAct, ShowsLive, rising_clocks};
     ghost use Rattle.gptp_world.specs.Memory.{AsksForNoMemory};
@@ -55,6 +57,10 @@ impl<F: Fate + Drop> World<F> {
     /// where there is no such link or system, no such port of a timer, or no link at the port of a change, `NotDue`, and
     /// `OutOfMemory`. Then nothing changes. A frame that is due is delivered to a failed system too, and dropped there.
     ///
+    /// Where a Follow_Up is delivered and a near system uses it, the offset that it leaves is within the time error of the
+    /// system's way of its clock less its root's, once the world has been calm for the settling span and for as long as a
+    /// Sync takes down that way at most.
+    ///
     /// A failure and other bounds of a link ask for no memory, nor does a change that finds its link or system as it should
     /// become, or an injection where the link is down: these are never refused with `OutOfMemory`.
     pub fn act(&mut self, timed: Timed) -> Result<Done, Refused>
@@ -63,6 +69,7 @@ impl<F: Fate + Drop> World<F> {
         requires prompt { IsPromptIn self.old.scene timed.act }
         ensures done { IfOk result (WasDone F.answers timed self.old.fate self.new.fate self.old.scene self.new.scene) }
         ensures clean { IfOk result (IsHeardClean self.old.scene timed.at) }
+        ensures exact { IfOk result (IsHeardExact self.old.scene timed.at self.new.scene) }
         ensures refused { IfErr result (Refuses timed.act timed.at self.old.scene) }
         ensures free { AsksForNoMemory timed.act self.old.scene → IfErr result (λ refused. refused ≢ OutOfMemory) }
         ensures kept { OnErr result (self.new ≡ self.old) }
@@ -77,6 +84,7 @@ impl<F: Fate + Drop> World<F> {
         requires prompt { IsPromptIn self.old.scene timed.now.act }
         ensures done { IfOk result (WasDone F.answers timed.now self.old.fate self.new.fate self.old.scene self.new.scene) }
         ensures clean { IfOk result (IsHeardClean self.old.scene timed.now.at) }
+        ensures exact { IfOk result (IsHeardExact self.old.scene timed.now.at self.new.scene) }
         ensures refused { IfErr result (Refuses timed.now.act timed.now.at self.old.scene) }
         ensures free { AsksForNoMemory timed.now.act self.old.scene → IfErr result (λ refused. refused ≢ OutOfMemory) }
         ensures kept { OnErr result (self.new ≡ self.old) }
@@ -221,10 +229,11 @@ impl<F: Fate + Drop> World<F> {
 
     /// What is true of every world: what is pending agrees with the state, nothing is due before now, each system is at rest and
     /// keeps its setup, and each port of a live system at a link that is up measures that link. From what more every world
-    /// keeps, whatever happened in it, it follows that it settles.
+    /// keeps, whatever happened in it, it follows that it settles, and how exact its offsets are then.
     pub fn well_formed(&self)
         ensures sound { IsSound self.now.scene }
         ensures claimed { Claimed self.now.scene }
+        ensures timed { AllClaimed self.now.scene }
     {
         self.scene.well_formed();
     }

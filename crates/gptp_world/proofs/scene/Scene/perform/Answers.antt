@@ -4,7 +4,7 @@ use Rattle.gptp_world.specs.Aim.{IsAimOf}
 use Rattle.gptp_world.specs.Memory.{AsksForNoMemory}
 use Rattle.gptp_acts.specs.Sound.{IsSound}
 use Rattle.gptp_world.specs.Stage.{world_of}
-use Rattle.gptp_kept.specs.Claimed.{Claimed}
+use Rattle.gptp_kept.specs.TimedClaim.{AllClaimed}
 use Rattle.gptp_world.proofs.ClaimedLemmas.{acted_claimed}
 use Rattle.gptp_world.proofs.CreditLemmas.{covered_after, leaves_later}
 use Rattle.gptp_world.proofs.LaterLemmas.{aim_later, at_time, room_later}
@@ -46,7 +46,7 @@ invariant_of-self-2 g c =
           c.requires.fit acted.acts;
       claimed = acted_claimed g.F.Fate.answers c.args.timed.now c.args.fate.now c.perform.new.fate c.args.self.now made
           (world_of c.perform.new.self) acted.draws c.perform.result
-          (subst Claimed c.self.view_is c.self.invariant.claimed) (c.make_room_for.ensures.world ∙ c.self.view_is)
+          (subst AllClaimed c.self.view_is c.self.invariant.claimed) (c.make_room_for.ensures.world ∙ c.self.view_is)
           c.requires.fit c.requires.prompt c.requires.octet c.requires.ready acted.drawn acted.acts;
       covered = let stage = c.make_room_for.new.self in let credit = c.make_room_for.new.credit in
           covered_after c.args.aim credit (at_time time stage) c.perform.new.self.net c.perform.ensures.stage.net

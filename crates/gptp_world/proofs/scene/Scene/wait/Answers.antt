@@ -3,7 +3,7 @@ use Rattle.gptp_acts.specs.Pending.{NothingBefore}
 use Rattle.gptp_acts.specs.World.{WorldState}
 use Rattle.gptp_acts.proofs.AdvanceLemmas.{nothing_sooner}
 use Rattle.gptp_acts.proofs.SoundLemmas.{later_sound}
-use Rattle.gptp_kept.proofs.ClaimedLemmas.{claimed_later}
+use Rattle.gptp_kept.proofs.ExactLemmas.{all_later}
 use Rattle.gptp_world.specs.Stage.{world_of}
 use Rattle.gptp_world.proofs.LaterLemmas.{stage_later}
 use Rattle.gptp_world.proofs.scene.Scene.wait.Goals as goal
@@ -19,6 +19,6 @@ invariant_of-self c =
     record {
       stage_kept = stage_later stage until c.requires.moment c.self.invariant.stage_kept;
       sound = later_sound (world_of stage) until stage.last_change c.self.invariant.sound first;
-      claimed = claimed_later (world_of stage) until early first c.self.invariant.claimed;
+      claimed = all_later (world_of stage) until early first c.self.invariant.claimed;
       covered = c.self.invariant.covered;
     }
