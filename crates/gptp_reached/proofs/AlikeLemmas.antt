@@ -85,7 +85,7 @@ nearer g h a v l is = record {
   here = distance g h a v (suc is.distance) is.here;
 }
 
-parent : (g h : Snapshot) → AreAlike g h → (v : ℕ) (l : ParentLink) → IsParent g v l → IsParent h v l
+pub parent : (g h : Snapshot) → AreAlike g h → (v : ℕ) (l : ParentLink) → IsParent g v l → IsParent h v l
 parent g h a v l is = record {
   nearer = nearer g h a v l is.nearer;
   least = λ other leads. is.least other (nearer h g (turned g h a) v other leads);

@@ -1,11 +1,10 @@
 -- The world that a document leads to keeps what every world keeps.
-use Rattle.std.proofs.Common.{◌≡◌, ◌+◌, ℕ, zero, suc, Bool, true, false, cond, List, [], ◌∷◌, Option, Some, nat_le, slice_get, refl, sym, subst, arith}
+use Rattle.std.proofs.Common.{◌≡◌, ◌≤◌, ◌+◌, ℕ, zero, suc, Bool, true, false, cond, List, [], ◌∷◌, Option, Some, nat_le, slice_get, refl, sym, subst, arith}
 use Rattle.std.specs.List.{AllByRecursion}
 use Rattle.std.proofs.lemmas.Option.{none-some, same_Some}
 use Rattle.gptp_links.specs.declared.bounds.Bounds.{Bounds}
 use Rattle.gptp_setup.specs.Intervals.{interval_of}
 use Rattle.gptp_setup.specs.Pace.{Pace}
-use Rattle.gptp_plan.specs.declared.change.Act.{Act}
 use Rattle.gptp_plan.specs.declared.change.Timed.{Timed}
 use Rattle.gptp_plan.specs.Allowed.{IsFitAct}
 use Rattle.gptp_acts.specs.Advancing.{Advanced, Advances, Told}
@@ -52,10 +51,11 @@ up_to P until (event ∷ events) each =
     by false one rest = rest
 
 -- an event that can be made: it sets no link to a delay above this one, and no priority1 that is no octet
-record IsFitEvent (most : ℕ) (timed : Timed) : Type 0 where
-  fit : IsFitAct timed.act
-  prompt : IsPromptAct most timed.act
-  octet : SetsAnOctet timed.act
+pub record IsFitEvent (most : ℕ) (timed : Timed) : Type 0 where
+  pub moment : timed.at ≤ 1000000000000000
+  pub fit : IsFitAct timed.act
+  pub prompt : IsPromptAct most timed.act
+  pub octet : SetsAnOctet timed.act
 
 pub events_made : (d : DocumentState) (until : ℕ) → IsNetwork d.network → AreEvents d.network d.events
     → AllByRecursion IsMade (events_by until d.events)
@@ -69,10 +69,10 @@ events_made d until network are = up_to IsMade until d.events each
         record { change = event.change; act = event.act; fit = allowed.fit }
 
 -- the smallest announce interval of a document
-abbrev least_of : DocumentState → ℕ
+abbrev pub least_of : DocumentState → ℕ
 least_of d = interval_of (smallest_of d.network)
 
-events_fit : (d : DocumentState) (until : ℕ) → IsPlayable d
+pub events_fit : (d : DocumentState) (until : ℕ) → IsPlayable d
     → AllByRecursion (IsFitEvent (least_of d)) (events_by until d.events)
 events_fit d until is = up_to (IsFitEvent (least_of d)) until d.events each
   where
@@ -81,6 +81,7 @@ events_fit d until is = up_to (IsFitEvent (least_of d)) until d.events each
         let allowed = events_allowed d.network d.events (smallest_log d.network is.network) is.events place timed there
         in
         record {
+          moment = allowed.moment;
           fit = allowed.fit;
           prompt = events_prompt d.network d.events is.events place timed there;
           octet = is.octets place timed there;

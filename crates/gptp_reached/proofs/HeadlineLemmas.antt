@@ -1,36 +1,42 @@
--- The settling theorem from its parts.
-use Rattle.std.proofs.Common.{◌≡◌, ◌≤◌, ◌+◌, ◌*◌, ℕ, true, List, Option, Some, length, slice_get, arith}
+-- The theorem from its parts.
+use Rattle.std.proofs.Common.{ℕ, suc, List, Option, length, subst, arith}
 use Rattle.gptp_lists.proofs.MemberLemmas.{In-slice_get}
-use Rattle.gptp_graph.specs.Labelling.{SystemLine, line_clocks}
-use Rattle.gptp_graph.specs.Order.{IsRising}
+use Rattle.gptp_graph.specs.Labelling.{SystemLine}
 use Rattle.gptp_graph.specs.PathBound.{BoundsPaths, path_bound}
-use Rattle.gptp_graph.specs.SettledChoice.{IsSettledChoice}
 use Rattle.gptp_graph.specs.Snapshot.{IsWellFormed}
 use Rattle.gptp_graph.proofs.ChoiceLemmas.{same_choice}
 use Rattle.gptp_graph.proofs.PathBoundLemmas.{paths_within}
 use Rattle.gptp_links.specs.declared.bounds.Bounds.{Bounds}
+use Rattle.gptp_scaled.specs.Counts.{AreWithin}
 use Rattle.gptp_setup.specs.Pace.{Pace}
+use Rattle.gptp_acts.specs.Acts.{at}
+use Rattle.gptp_acts.specs.declared.done.Done.{Done}
+use Rattle.gptp_acts.specs.declared.done.Done.TheVariants.{Quiet, Heard}
 use Rattle.gptp_acts.specs.Prompt.{HavePace}
 use Rattle.gptp_acts.specs.Advancing.{Told}
-use Rattle.gptp_acts.specs.World.{Channel, WorldState}
+use Rattle.gptp_acts.specs.World.{WorldState}
 use Rattle.gptp_network.specs.Document.{DocumentState}
 use Rattle.gptp_network.specs.Snapshot.{events_by}
 use Rattle.gptp_report.specs.Run.{Plays}
 use Rattle.gptp_kept.specs.Bounded.{IsBoundedWorld}
+use Rattle.gptp_kept.specs.Calm.{IsQuietWorld}
 use Rattle.gptp_kept.specs.CalmFor.{IsCalmFor, span_over}
 use Rattle.gptp_kept.specs.Claimed.{Claimed}
+use Rattle.gptp_kept.specs.Exact.{IsHeardExact, exact_span}
 use Rattle.gptp_kept.specs.Known.{AreSet}
 use Rattle.gptp_kept.specs.Settled.{Settled}
-use Rattle.gptp_kept.specs.Standing.{is_used, live_systems, snapshot_of}
+use Rattle.gptp_kept.specs.Standing.{snapshot_of}
 use Rattle.gptp_kept.proofs.BoundedLemmas.{bounded_by_paths}
+use Rattle.gptp_kept.proofs.CalmKeptLemmas.{later_quiet}
 use Rattle.gptp_kept.proofs.ClaimedLemmas.{settled_by_paths}
+use Rattle.gptp_kept.proofs.ExactLemmas.{receipts_are_exact}
 use Rattle.gptp_kept.proofs.HoldsLemmas.{systems_bound}
 use Rattle.gptp_kept.proofs.StandsLemmas.{stands_well}
 use Rattle.gptp_kept.proofs.TreeLemmas.{settled_is_tree}
 use Rattle.gptp_certificate.specs.Stated.{States}
 use Rattle.gptp_certificate.proofs.SettledLemmas.{settled_choice}
-use Rattle.gptp_reached.specs.Headline.{Headline, HeadlineByNeighbours, HeadlineBySystems, HasPassed, IsCalm, IsCertified, IsSettled}
-use Rattle.gptp_reached.specs.HeadlineLaws.{HasSnapshotOf}
+use Rattle.gptp_reached.specs.Headline.{HasComeDown, HasPassed, Headline, HeadlineByNeighbours, HeadlineBySystems, IsCalm, IsCertified, IsSettled, UsesFollowUp}
+use Rattle.gptp_reached.specs.HeadlineLaws.{HasSnapshotOf, WorldsAreExact}
 use Rattle.gptp_reached.specs.PlayedLaws.{IsAtRest, IsPlayable}
 use Rattle.gptp_reached.proofs.CalmLemmas.{document_calm}
 use Rattle.gptp_reached.proofs.ClaimedLemmas.{events_made, played_claimed}
@@ -40,17 +46,24 @@ use Rattle.gptp_reached.proofs.SnapshotLemmas.{snapshots_stand}
 -- ---- of a world
 
 -- what is asked on the page is what the laws of gptp_kept ask
+quiet_as : (p : Pace) (w : WorldState) → IsCalm p w → IsQuietWorld p.params w
+quiet_as p w calm = record {
+  links = λ link channel here used.
+      (let (lossless, good) = calm.links channel (In-slice_get channel w.net.channels link here) used in
+      record { lossless = lossless; good = good });
+  lapses = calm.lapses;
+}
+
 calm_for : (p : Pace) (m : ℕ) (w : WorldState) → IsCalm p w → HasPassed p m w → IsCalmFor (span_over m) w
-calm_for p m w calm passed = record {
+calm_for p m w calm passed = record { pace = p; set = calm.of; quiet = quiet_as p w calm; late = passed }
+
+abbrev exact_for : (p : Pace) (m steps time : ℕ) (w : WorldState) → IsCalm p w → HasComeDown p m steps time w
+    → IsCalmFor (exact_span m steps) (at time w)
+exact_for p m steps time w calm come = record {
   pace = p;
   set = calm.of;
-  quiet = record {
-    links = λ link channel here used.
-        (let (lossless, good) = calm.links channel (In-slice_get channel w.net.channels link here) used in
-        record { lossless = lossless; good = good });
-    lapses = calm.lapses;
-  };
-  late = passed;
+  quiet = later_quiet p.params w time (quiet_as p w calm);
+  late = omega (arith, come);
 }
 
 -- a settled world, of which what the systems state is bounded
@@ -90,6 +103,19 @@ by_neighbours w claimed p calm passed =
     let is = claimed.is.world in
     worlds_settle w claimed p (path_bound (snapshot_of w)) calm
     (paths_within (snapshot_of w) (stands_well w is.sound is.between is.legible)) passed
+
+pub worlds_are_exact : {F : Type 0} (answers : Bounds → ℕ → F → Option ℕ → F → Type 0) → WorldsAreExact answers
+worlds_are_exact answers timed fate fate_after w w' done all k moment p m steps number error offset ahead calm bounded
+    come leaves near way is_ahead =
+    by done leaves.uses
+    (receipts_are_exact answers timed fate fate_after w w' all (omega (arith, moment)) done k)
+  where
+    by : (told : Done) → UsesFollowUp number told → IsHeardExact w timed.at w' told → AreWithin error offset ahead
+    by Quiet uses exact = absurd uses
+    by (Heard clock port answer frame) (same, used, (message, reads)) exact =
+        subst (λ name. IsHeardExact w timed.at w' (Heard name port answer frame)) same exact message leaves.system
+        offset reads used leaves.shows leaves.is m steps error ahead (exact_for p m (suc steps) timed.at w calm come)
+        bounded near way is_ahead
 
 pub of_a_network : (w : WorldState) → Claimed w → (p : Pace) × HavePace p w × AreSet p w
 of_a_network w claimed =

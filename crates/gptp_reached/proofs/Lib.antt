@@ -13,3 +13,4 @@ pub mod ClaimedLemmas
 pub mod OctetLemmas
 pub mod RestLemmas
 pub mod HeadlineLemmas
+pub mod RunLemmas

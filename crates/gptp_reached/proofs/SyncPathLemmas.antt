@@ -1,5 +1,5 @@
 -- What Sync has to cross in a world is what it has to cross in its network.
-use Rattle.std.proofs.Common.{◌≡◌, ◌∙◌, ◌+◌, ℕ, min, cond, Bool, true, false, List, [], ◌∷◌, length, map, refl, sym, ap, ap₂}
+use Rattle.std.proofs.Common.{◌≡◌, ◌∙◌, ◌+◌, ℕ, min, cond, Bool, true, false, List, [], ◌∷◌, map, refl, sym, ap, ap₂}
 use Rattle.std.specs.Prelude.{if◌then◌else◌, ◌&&◌, ◌||◌, ◌==◌, not, max}
 use Rattle.std.specs.List.{count_by, list_any}
 use Rattle.std.specs.List.Sorted.{IsPermutation}

@@ -1,23 +1,34 @@
--- The settling theorem on one page: what it asks of a world, and what every world then is.
+-- The theorem on one page: what it asks of a world; whom every system then follows, how soon, and how exactly.
 --
 -- A world of gptp_world is any that its public calls reach, whatever its network, the acts done in it, the draws of
 -- delays and losses and the order of what happens at one moment. Its *snapshot* is its live systems and the links that
 -- are up between two of them; the *best* of a component has the lowest identity (IEEE 802.1AS-2020, 10.3.2), the
 -- *distance* of a system is the least number of links from it to the best, and a system is *near* where that is below
 -- 255.
-use Rattle.std.specs.Prelude.{◌≡◌, ◌≤◌, ◌+◌, ◌*◌, ℕ, true, List, length}
+use Rattle.std.specs.Prelude.{◌≡◌, ◌≤◌, ◌+◌, ◌*◌, ℕ, ℤ, suc, true, List, Some, length}
 use Rattle.gptp_lists.specs.Members.{In}
+use Rattle.gptp_graph.specs.Distance.{IsNear}
 use Rattle.gptp_graph.specs.Labelling.{SystemLine, line_clocks}
 use Rattle.gptp_graph.specs.Order.{IsRising}
 use Rattle.gptp_graph.specs.PathBound.{BoundsPaths, path_bound}
 use Rattle.gptp_graph.specs.SettledChoice.{IsSettledChoice}
+use Rattle.gptp_messages.specs.declared.follow_up.FollowUp.{FollowUp}
+use Rattle.gptp_messages.specs.declared.message.Message.TheVariants as messages
+use Rattle.gptp_messages.specs.Grammar.{Reads}
 use Rattle.gptp_pdelay.specs.GoodLink.{ceil_div}
+use Rattle.gptp_scaled.specs.Counts.{AreWithin}
 use Rattle.gptp_setup.specs.Pace.{Pace, largest_interval}
 use Rattle.gptp_plan.specs.Calm.{SyncsComeInTime}
 use Rattle.gptp_plan.specs.SyncWait.{step_more}
+use Rattle.gptp_system.specs.declared.answer.Answer.TheVariants as answers
+use Rattle.gptp_system.specs.State.{SystemState}
+use Rattle.gptp_acts.specs.declared.done.Done.{Done}
+use Rattle.gptp_acts.specs.declared.done.Done.TheVariants.{Quiet, Heard}
 use Rattle.gptp_acts.specs.Prompt.{HavePace}
+use Rattle.gptp_acts.specs.Views.{ShowsLive}
 use Rattle.gptp_acts.specs.World.{Channel, WorldState}
 use Rattle.gptp_kept.specs.Calm.{sync_paths_of}
+use Rattle.gptp_kept.specs.Exact.{IsAhead, IsErrorOf}
 use Rattle.gptp_kept.specs.Standing.{is_used, live_systems, snapshot_of}
 use Rattle.gptp_kept.specs.Tree.{IsTree}
 use Rattle.gptp_certificate.specs.Stated.{States}
@@ -77,3 +88,39 @@ abbrev pub HeadlineByNeighbours : WorldState → Type 0
 HeadlineByNeighbours w = (p : Pace)
     → IsCalm p w → HasPassed p (path_bound (snapshot_of w)) w
     → IsSettled w
+
+-- ---- how exactly
+
+-- By this time a Sync that left the root when all was settled has come down a way of so many links, even where each
+-- takes as long as a good link may, and where it stays a residence at each system.
+abbrev pub HasComeDown : Pace → ℕ → ℕ → ℕ → WorldState → Type 0
+HasComeDown p m steps time w =
+    w.last_change
+    + (((p.params.timeout + 3) * m + p.params.lost + 5) * largest_interval p + m * step_more p (sync_paths_of w))
+    + steps * (p.params.threshold + p.params.residence)
+    ≤ time
+
+-- by an act of which this is told, the system with this clock used a Follow_Up (IEEE 802.1AS-2020, 11.2.14)
+abbrev pub UsesFollowUp : ℕ → Done → Type 0
+UsesFollowUp number Quiet = ⊥
+UsesFollowUp number (Heard clock port answer frame) =
+    (clock ≡ number) × (answer ≡ Some answers.Used) × ((m : FollowUp) × Reads frame.items (messages.FollowUp m))
+
+-- and that left it this offset
+pub record LeavesOffset (number : ℕ) (offset : ℤ) (w' : WorldState) (done : Done) : Type 0 where
+  pub uses : UsesFollowUp number done
+  pub system : SystemState
+  pub shows : ShowsLive number w' system
+  pub is : system.offset ≡ Some offset
+
+-- The theorem on time: where an act is done in a calm world once so long has passed, and a near system other than its
+-- component's best uses a Follow_Up by it, the offset that is left is within the time error of the system's way of its
+-- clock less the best's. A way leads over the system's parent and the parents of that. Its time error (gptp_accuracy)
+-- is what each link costs, its jitter, and what each bridge costs: its residence times the error of the rate so far, to
+-- which each link above adds its jitter over the interval of peer delay requests.
+abbrev pub HeadlineOnTime : WorldState → ℕ → WorldState → Done → Type 0
+HeadlineOnTime w time w' done = (p : Pace) (m steps number error : ℕ) (offset ahead : ℤ)
+    → IsCalm p w → BoundsPaths (snapshot_of w) m → HasComeDown p m (suc steps) time w
+    → LeavesOffset number offset w' done
+    → IsNear (snapshot_of w) number → IsErrorOf p.params w number (suc steps) error → IsAhead w number time ahead
+    → AreWithin error offset ahead

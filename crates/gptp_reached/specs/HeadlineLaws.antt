@@ -1,19 +1,25 @@
--- The settling theorem as laws: of every world, and of the worlds that documents lead to.
-use Rattle.std.specs.Prelude.{ℕ, List, Option}
+-- The theorem as laws: of every world, and of the worlds that documents lead to.
+use Rattle.std.specs.Prelude.{◌≤◌, ℕ, List, Option}
+use Rattle.gptp_lists.specs.Members.{In}
 use Rattle.gptp_graph.specs.Snapshot.{Snapshot}
 use Rattle.gptp_links.specs.declared.bounds.Bounds.{Bounds}
 use Rattle.gptp_setup.specs.Pace.{Pace}
+use Rattle.gptp_plan.specs.declared.change.Timed.{Timed}
 use Rattle.gptp_acts.specs.Advancing.{Told}
+use Rattle.gptp_acts.specs.Course.{WasDone}
+use Rattle.gptp_acts.specs.declared.done.Done.{Done}
 use Rattle.gptp_acts.specs.Prompt.{HavePace}
 use Rattle.gptp_acts.specs.World.{WorldState}
 use Rattle.gptp_network.specs.Document.{DocumentState}
 use Rattle.gptp_network.specs.Snapshot.{IsSnapshot}
 use Rattle.gptp_report.specs.Run.{Plays}
+use Rattle.gptp_report.specs.Transitions.{Transition, Unfolds}
 use Rattle.gptp_kept.specs.Claimed.{Claimed}
 use Rattle.gptp_kept.specs.Known.{AreSet}
 use Rattle.gptp_kept.specs.Standing.{snapshot_of}
+use Rattle.gptp_kept.specs.TimedClaim.{AllClaimed}
 use Rattle.gptp_reached.specs.AlikeLaws.{AreAlike}
-use Rattle.gptp_reached.specs.Headline.{Headline, HeadlineByNeighbours, HeadlineBySystems, IsSettled}
+use Rattle.gptp_reached.specs.Headline.{Headline, HeadlineByNeighbours, HeadlineBySystems, HeadlineOnTime, IsSettled}
 use Rattle.gptp_reached.specs.PlayedLaws.{IsAtRest, IsPlayable}
 
 -- what `World::well_formed` shows of every world is all that the theorem asks beside calm and the time
@@ -30,6 +36,18 @@ WorldsSettleByNeighbours = (w : WorldState) → Claimed w → HeadlineByNeighbou
 -- largest
 abbrev pub WorldsAreOfANetwork : Type 0
 WorldsAreOfANetwork = (w : WorldState) → Claimed w → (p : Pace) × HavePace p w × AreSet p w
+
+-- each act in such a world leaves exact offsets, whatever is drawn for its frames; times are at most 10^15 ns
+abbrev pub WorldsAreExact : {F : Type 0} → (Bounds → ℕ → F → Option ℕ → F → Type 0) → Type 0
+WorldsAreExact {F} answers = (timed : Timed) (fate fate_after : F) (w w' : WorldState) (done : Done)
+    → AllClaimed w → WasDone answers timed fate fate_after w w' done → timed.at ≤ 1000000000000000
+    → HeadlineOnTime w timed.at w' done
+
+-- so does each act of a run of a document, whatever is drawn for the frames meanwhile
+abbrev pub RunsAreExact : {F : Type 0} → (Bounds → ℕ → F → Option ℕ → F → Type 0) → Type 0
+RunsAreExact {F} answers = (d : DocumentState) (until : ℕ) (fate : F) (start w : WorldState) (ts : List Transition)
+    (t : Transition) → IsPlayable d → until ≤ 1000000000000000 → Unfolds answers d until fate start ts w → In t ts
+    → HeadlineOnTime t.before t.told.timed.at t.after t.told.done
 
 -- the snapshot of the world is that of the document at a time, but for the order of the systems
 abbrev pub HasSnapshotOf : DocumentState → ℕ → WorldState → Type 0

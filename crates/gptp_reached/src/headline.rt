@@ -1,6 +1,6 @@
-//! The settling theorem.
+//! The theorem: whom every system follows, how soon, and how exactly.
 
-ghost use Rattle.gptp_reached.specs.HeadlineLaws.{DocumentsLeadToSettled, WorldsAreOfANetwork};
+ghost use Rattle.gptp_reached.specs.HeadlineLaws.{DocumentsLeadToSettled, RunsAreExact, WorldsAreExact, WorldsAreOfANetwork};
 ghost use Rattle.gptp_reached.specs.HeadlineLaws.{WorldsSettle, WorldsSettleByNeighbours, WorldsSettleBySystems};
 
 use gptp_links::Fate;
@@ -18,8 +18,18 @@ pub fn worlds_settle()
     ensures parameters { WorldsAreOfANetwork }
 {}
 
-/// So it is of the world that a document leads to by a time at which it is at rest; its snapshot is then the
-/// document's.
+/// Once a Sync has had the time to come down a way from when such a world is settled, each Follow_Up that the near system
+/// at its end uses leaves an offset within the time error of the way of its clock less that of the best.
+pub fn worlds_are_exact<F: Fate>()
+    ensures { WorldsAreExact F.answers }
+{}
+
+/// So it is with each act of every run of a document.
+pub fn runs_are_exact<F: Fate>()
+    ensures { RunsAreExact F.answers }
+{}
+
+/// The world that a document leads to by a time at which it is at rest is settled; its snapshot is then the document's.
 pub fn documents_lead_to_settled_worlds<F: Fate>()
     ensures { DocumentsLeadToSettled F.answers }
 {}
