@@ -1,5 +1,5 @@
 -- The events up to a time: each is one of all, and the last change is no later than events may be.
-use Rattle.std.proofs.Common.{◌≡◌, ◌≤◌, ℕ, zero, suc, List, [], ◌∷◌, filter, Some, slice_get, nat_le, refl, arith}
+use Rattle.std.proofs.Common.{◌≤◌, ℕ, zero, suc, List, [], ◌∷◌, nat_le, refl, arith}
 use Rattle.gptp_lists.proofs.MemberLemmas.{In-slice_get, slice_get-In}
 use Rattle.gptp_plan.specs.Allowed.{AreAllowed}
 use Rattle.gptp_plan.specs.Calm.{last_change}

@@ -1,8 +1,7 @@
 -- The systems of the settled choice with their time errors, line by line.
-use Rattle.std.proofs.Common.{◌≡◌, ◌⊎◌, inl, inr, ℕ, ◌+◌, ◌<◌, ◌≤◌, Bool, true, false, not, ◌&&◌, if◌then◌else◌, List, [], ◌∷◌, ◌++◌, length, map, take, Option, Some, None, is_some, slice_get, refl, sym, ap, ap₂, subst, ◌∙◌, arith}
+use Rattle.std.proofs.Common.{◌≡◌, inl, inr, ℕ, ◌+◌, Bool, true, false, not, ◌&&◌, if◌then◌else◌, List, [], ◌∷◌, ◌++◌, length, map, Option, Some, None, is_some, slice_get, refl, sym, ap, ap₂, subst, ◌∙◌, arith}
 use Rattle.std.proofs.lemmas.List.{length-map, map-append, take_all}
 use Rattle.std.proofs.lemmas.Option.{same_Some}
-use Rattle.gptp_lists.specs.Members.{In}
 use Rattle.gptp_lists.proofs.MappedLemmas.{mapped_there, taken}
 use Rattle.gptp_lists.proofs.MemberLemmas.{In-parts, In-slice_get}
 use Rattle.gptp_graph.specs.Labelling.{SystemLine, line_clocks}
@@ -10,7 +9,6 @@ use Rattle.gptp_graph.specs.Distance.{IsDistance}
 use Rattle.gptp_graph.specs.Order.{IsRising}
 use Rattle.gptp_graph.specs.SettledChoice.{IsBestIdentity, IsSettledChoice}
 use Rattle.gptp_graph.specs.Snapshot.{System, Snapshot, clocks}
-use Rattle.gptp_plan.specs.Calm.{IsCalm}
 use Rattle.gptp_plan.specs.Network.{NetworkState}
 use Rattle.gptp_plan.specs.declared.change.Timed.{Timed}
 use Rattle.gptp_checker.proofs.PlaceLemmas.{AreLinesFor, lines_of_passed}

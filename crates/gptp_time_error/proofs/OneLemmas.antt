@@ -1,5 +1,5 @@
 -- A document has one text of time errors at a time.
-use Rattle.std.proofs.Common.{◌≡◌, ◌⊎◌, inl, inr, ℕ, ◌<◌, ◌≤◌, Bool, true, false, List, [], ◌∷◌, ◌++◌, map, Option, Some, None, refl, sym, ap, ap₂, subst, ◌∙◌, arith}
+use Rattle.std.proofs.Common.{◌≡◌, inl, inr, ℕ, ◌<◌, ◌≤◌, Bool, true, false, List, [], ◌∷◌, ◌++◌, map, Option, Some, None, refl, sym, ap, ap₂, subst, ◌∙◌, arith}
 use Rattle.gptp_lists.specs.Members.{In}
 use Rattle.gptp_graph.specs.Best.{IsBest}
 use Rattle.gptp_graph.specs.Distance.{IsDistance}
@@ -11,11 +11,10 @@ use Rattle.gptp_plan.specs.declared.change.Timed.{Timed}
 use Rattle.gptp_network.specs.Document.{DocumentState}
 use Rattle.gptp_network.specs.Snapshot.{events_by}
 use Rattle.gptp_network.proofs.LawLemmas.{one_snapshot}
-use Rattle.gptp_accuracy.specs.TimeError.{Way, time_error}
-use Rattle.gptp_time_error.specs.AccuracyText.{accuracy_lines, is_exceeded, system_line, time_line, verdict_lines}
+use Rattle.gptp_accuracy.specs.TimeError.{time_error}
+use Rattle.gptp_time_error.specs.AccuracyText.{is_exceeded, system_line, time_line, verdict_lines}
 use Rattle.gptp_time_error.specs.Laws.{OneAccuracy}
-use Rattle.gptp_time_error.specs.TimeErrors.{AreExact, AreTimeErrors, IsErrorOf, IsExact, IsFrom, is_capable}
-use Rattle.gptp_time_error.specs.Ways.{IsWay}
+use Rattle.gptp_time_error.specs.TimeErrors.{AreExact, AreTimeErrors, IsErrorOf, IsExact, IsFrom}
 use Rattle.gptp_time_error.specs.declared.errors.SystemError.{SystemError}
 use Rattle.gptp_time_error.specs.declared.errors.TimeErrors.{TimeErrors}
 use Rattle.gptp_time_error.proofs.WayLemmas.{HasOneEach, one_each, one_way_of}

@@ -1,5 +1,5 @@
 -- One pass from the roots down: the places of lines by rising steps, and where a line's parent stands among them.
-use Rattle.std.proofs.Common.{◌≡◌, ◌≢◌, ℕ, zero, suc, ◌+◌, ◌<◌, ◌≤◌, ℤ, Bool, true, false, List, [], ◌∷◌, ◌++◌, length, get_or, Option, Some, None, slice_get, inl, inr, refl, sym, ap, subst, ◌∙◌, arith}
+use Rattle.std.proofs.Common.{◌≡◌, ◌≢◌, ℕ, zero, suc, ◌+◌, ◌<◌, ◌≤◌, ℤ, Bool, true, false, List, [], ◌∷◌, ◌++◌, length, get_or, Some, None, slice_get, inl, inr, refl, sym, ap, subst, ◌∙◌, arith}
 use Rattle.std.specs.List.Sorted.{IsNonDecreasingBy, IsPermutation, IsSortedByKey}
 use Rattle.std.specs.Ordering.{nat_cmp}
 use Rattle.std.proofs.lemmas.Bool.{cases_lt}
@@ -25,7 +25,7 @@ use Rattle.gptp_plan.specs.declared.network.Wire.{Wire}
 use Rattle.gptp_network.specs.Snapshot.{StandsAfter}
 use Rattle.gptp_network.specs.SnapshotTables.{HasClock}
 use Rattle.gptp_network.proofs.SnapshotLemmas.{In-permutation}
-use Rattle.gptp_checker.proofs.PlaceLemmas.{passed_at, passed_length}
+use Rattle.gptp_checker.proofs.PlaceLemmas.{passed_at}
 use Rattle.gptp_accuracy.specs.TimeError.{Link, Way}
 use Rattle.gptp_accuracy.specs.WayLaws.{longer}
 use Rattle.gptp_time_error.specs.Passing.{AreBySteps, ArePlaces, IsDoneAt, IsParentDone, IsSummedUp}

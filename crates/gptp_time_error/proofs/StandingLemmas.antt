@@ -1,5 +1,5 @@
 -- What stands after events is of the network: each system, and each link with its delays, which are within the limits.
-use Rattle.std.proofs.Common.{◌≡◌, ℕ, zero, suc, ◌+◌, ◌≤◌, ℤ, Bool, true, false, cond, List, [], ◌∷◌, map, Some, slice_get, inl, inr, refl, sym, ap, subst, ◌∙◌, arith}
+use Rattle.std.proofs.Common.{◌≡◌, ℕ, ◌≤◌, ℤ, List, map, inl, inr, sym, ap, subst, ◌∙◌, arith}
 use Rattle.std.specs.List.{filter_map}
 use Rattle.std.proofs.lemmas.List.Sorted.{IsPermutation-sym}
 use Rattle.std.proofs.lemmas.Option.{cond_some}
@@ -8,17 +8,13 @@ use Rattle.gptp_lists.proofs.MemberLemmas.{from_map, slice_get-In}
 use Rattle.gptp_graph.specs.Snapshot.{System, PortIdentity, Link, Snapshot, Joins, clocks}
 use Rattle.gptp_roles.specs.Selection.{clock_of}
 use Rattle.gptp_pdelay.specs.Clock.{IsDrift}
-use Rattle.gptp_links.specs.Bounds.{Fit}
-use Rattle.gptp_plan.specs.Allowed.{AreAllowed, IsFitAct}
-use Rattle.gptp_plan.specs.Change.{is_at, joined_after, link_acted, link_after, link_changed, live_after, system_after, with_bounds, with_up}
+use Rattle.gptp_plan.specs.Allowed.{AreAllowed}
+use Rattle.gptp_plan.specs.Change.{joined_after, link_after, live_after, system_after}
 use Rattle.gptp_plan.specs.Network.{NetworkState, IsEnd, IsNetwork}
-use Rattle.gptp_plan.specs.declared.change.Act.{Act}
-use Rattle.gptp_plan.specs.declared.change.Act.TheVariants as acts
-use Rattle.gptp_plan.specs.declared.change.Change.{Change}
-use Rattle.gptp_plan.specs.declared.change.Change.TheVariants as changes
 use Rattle.gptp_plan.specs.declared.change.Timed.{Timed}
 use Rattle.gptp_plan.specs.declared.network.Member.{Member}
 use Rattle.gptp_plan.specs.declared.network.Wire.{Wire}
+use Rattle.gptp_plan.proofs.AfterLemmas.{after_fits}
 use Rattle.gptp_network.specs.Snapshot.{StandsAfter, joins_two, link_of, live_systems, system_of}
 use Rattle.gptp_network.proofs.SnapshotLemmas.{In-permutation, clock_after, from_filter, from_filter_map, port_id_of}
 use Rattle.gptp_time_error.specs.Ways.{HasDelays, HasDrift}
@@ -58,39 +54,6 @@ module _ (n : NetworkState) (events : List Timed) (g : Snapshot) (stands : Stand
       (w, at, inr (ap (λ (k : Link). port_id_of k.b) is))
 
 -- ---- the limits
-
-up_fits : (test up : Bool) (w : Wire) → Fit w.bounds → Fit (cond test (with_up up w) w).bounds
-up_fits true up w fit = fit
-up_fits false up w fit = fit
-
-set_fits : (test : Bool) (least greatest loss : ℕ) (w : Wire) → Fit (with_bounds least greatest loss w).bounds
-    → Fit w.bounds → Fit (cond test (with_bounds least greatest loss w) w).bounds
-set_fits true least greatest loss w set fit = set
-set_fits false least greatest loss w set fit = fit
-
-changed_fits : (change : Change) (w : Wire) → IsFitAct (acts.Change change) → Fit w.bounds
-    → Fit (link_changed change w).bounds
-changed_fits (changes.LinkDown clock port) w is fit = up_fits (is_at clock port w) false w fit
-changed_fits (changes.LinkUp clock port) w is fit = up_fits (is_at clock port w) true w fit
-changed_fits (changes.LinkSet clock port least greatest loss) w is fit =
-    set_fits (is_at clock port w) least greatest loss w
-    (record { positive = is.positive; ordered = is.ordered; short = is.short; share = is.share }) fit
-changed_fits (changes.Fail clock) w is fit = fit
-changed_fits (changes.Recover clock) w is fit = fit
-changed_fits (changes.Priority1 clock value) w is fit = fit
-changed_fits (changes.Inject clock port octets) w is fit = fit
-
-acted_fits : (act : Act) (w : Wire) → IsFitAct act → Fit w.bounds → Fit (link_acted act w).bounds
-acted_fits (acts.Deliver link direction) w is fit = fit
-acted_fits (acts.Expire clock timer) w is fit = fit
-acted_fits (acts.Change change) w is fit = changed_fits change w is fit
-
--- the bounds of a link stay ones that it can have
-after_fits : (events : List Timed) (w : Wire) → AreAllowed events → Fit w.bounds → Fit (link_after events w).bounds
-after_fits [] w allowed fit = fit
-after_fits (t ∷ ts) w allowed fit =
-    after_fits ts (link_acted t.act w) (λ place timed there. allowed (suc place) timed there)
-    (acted_fits t.act w (allowed zero t refl).fit fit)
 
 module _ (n : NetworkState) (network : IsNetwork n) where
   -- a link has no more than sixteen seconds

@@ -1,9 +1,7 @@
 -- The sums of a way that is one link longer.
-use Rattle.std.proofs.Common.{◌≡◌, ℕ, zero, suc, ◌+◌, ◌-◌, ◌*◌, ◌≤◌, ℤ, pos, negsuc, ◌+ℤ◌, ◌-ℤ◌, ◌*ℤ◌, ◌≤ℤ◌, ◌<ℤ◌, neg_ℤ, unsigned_abs, List, [], ◌∷◌, ◌++◌, length, get_or, refl, sym, ap, subst, ◌∙◌, arith}
+use Rattle.std.proofs.Common.{◌≡◌, ℕ, zero, suc, ◌+◌, ◌-◌, ◌*◌, ◌≤◌, ℤ, pos, negsuc, ◌+ℤ◌, ◌-ℤ◌, ◌*ℤ◌, ◌≤ℤ◌, neg_ℤ, unsigned_abs, length, refl, sym, ap, subst, ◌∙◌, arith}
 use Rattle.std.proofs.lemmas.Int.{ints}
-use Rattle.std.proofs.lemmas.List.{length-append}
 use Rattle.std.proofs.Math.Nat.{zero-div}
-use Rattle.std.proofs.Math.Seq.{get_or-append_seam}
 use Rattle.gptp_scaled.specs.Floor.{floor_div}
 use Rattle.gptp_scaled.specs.Rate.{IsNeighborRate, unit, rate_of}
 use Rattle.gptp_scaled.specs.Counts.{IsClockRate}
@@ -16,7 +14,7 @@ use Rattle.gptp_setup.specs.Intervals.{IsLog, interval_of}
 use Rattle.gptp_setup.specs.declared.setup.Params.{Params}
 use Rattle.gptp_accuracy.specs.TimeError.{Link, Way, clock_at, drift_at, hop_error, hop_error_at, jitter_at, link_at, rate_error_at, rates_error_at, steady_rate_at, time_error, time_error_at, total_below, wait_error_at}
 use Rattle.gptp_accuracy.specs.WayLaws.{longer}
-use Rattle.gptp_accuracy.proofs.LongerLemmas.{clock_same, link_same, parents_error_stays, rate_error_same, rates_same, steady_same, sum_same, total_same}
+use Rattle.gptp_accuracy.proofs.LongerLemmas.{clock_same, link_last, link_same, longer_length, parents_error_stays, rate_error_same, rates_same, steady_same, sum_same, total_same}
 use Rattle.gptp_accuracy.proofs.WayLemmas.{time_error_goes_by_hops}
 use Rattle.gptp_time_error.specs.Sums.{AreSumsOf, AreWithin, IsTimedBy, rates_error_of}
 use Rattle.gptp_time_error.specs.declared.sums.Sums.{Sums}
@@ -74,11 +72,8 @@ no_gain n =
     ap (λ z. floor_div z (pos n)) none ∙ ap pos (zero-div n)
 
 -- a way that is one link longer has that link at its end
-pub longer_length : (w : Way) (l : Link) → length (longer w l).links ≡ suc (length w.links)
-longer_length w l = omega (arith, length-append w.links (l ∷ []))
-
-pub longer_last : (w : Way) (l : Link) → link_at (longer w l) (length w.links) ≡ l
-longer_last w l = get_or-append_seam w.links l [] (record { least = 0; most = 0; drift = pos 0 })
+longer_last : (w : Way) (l : Link) → link_at (longer w l) (length w.links) ≡ l
+longer_last w l = link_last w l (length w.links) refl
 
 module _ (p : Params) (w : Way) (l : Link) (s : Sums) (timed : IsTimedBy p w) (sums : AreSumsOf w s) where
   hop_is : hop_error_at (longer w l) (length w.links) ≡ hop_error (l.most - l.least) l.most p.turnaround

@@ -1,8 +1,6 @@
 -- A system has one way, whose numbers are those of a document.
-use Rattle.std.proofs.Common.{◌≡◌, ◌⊎◌, inl, inr, ℕ, zero, suc, ◌<◌, ◌≤◌, ℤ, List, length, Some, slice_get, refl, sym, ap, ap₂, subst, ◌∙◌, arith}
-use Rattle.std.proofs.lemmas.Bool.{cases_lt}
+use Rattle.std.proofs.Common.{◌≡◌, ℕ, zero, suc, ◌≤◌, ℤ, List, length, Some, slice_get, sym, ap, ap₂, subst, ◌∙◌, arith}
 use Rattle.std.proofs.lemmas.Option.{same_Some}
-use Rattle.gptp_lists.specs.Members.{In}
 use Rattle.gptp_lists.proofs.MemberLemmas.{slice_get-In}
 use Rattle.gptp_graph.specs.Distance.{IsDistance}
 use Rattle.gptp_graph.specs.Parent.{ParentLink}
@@ -17,13 +15,13 @@ use Rattle.gptp_plan.specs.declared.network.Member.{Member}
 use Rattle.gptp_plan.specs.declared.network.Wire.{Wire}
 use Rattle.gptp_roles.specs.Selection.{clock_of}
 use Rattle.gptp_vector.specs.declared.port.PortId.{PortId}
-use Rattle.gptp_accuracy.specs.TimeError.{Link, Way, drift_at, link_at}
+use Rattle.gptp_accuracy.specs.TimeError.{Link, Way, drift_at}
 use Rattle.gptp_accuracy.specs.WayLaws.{IsDocumented, longer}
-use Rattle.gptp_accuracy.proofs.LongerLemmas.{link_same}
+use Rattle.gptp_accuracy.proofs.LongerLemmas.{documented_longer, longer_length}
 use Rattle.gptp_time_error.specs.Laws.{OneWay, WaysAreDocumented}
 use Rattle.gptp_time_error.specs.Ways.{HasDelays, HasDrift, IsLinkTo, IsWay, root_way}
 use Rattle.gptp_time_error.proofs.StandingLemmas.{drift_within}
-use Rattle.gptp_time_error.proofs.SumLemmas.{interval_long, longer_last, longer_length}
+use Rattle.gptp_time_error.proofs.SumLemmas.{interval_long}
 
 -- the way to a system has as many links as its distance is
 pub way_distance : (n : NetworkState) (events : List Timed) (g : Snapshot) (h clock : ℕ) (w : Way) → IsWellFormed g
@@ -105,30 +103,6 @@ one_way n events g clock h k v w network well_formed one other =
     )
 
 -- ---- the numbers of a way
-
--- the clocks of a way that goes on
-drift_same : (w : Way) (l : Link) (i : ℕ) → i ≤ length w.links → drift_at (longer w l) i ≡ drift_at w i
-drift_same w l zero h = refl
-drift_same w l (suc i) h = ap (λ (k : Link). k.drift) (link_same w l i h)
-
-drift_last : (w : Way) (l : Link) (i : ℕ) → i ≡ suc (length w.links) → drift_at (longer w l) i ≡ l.drift
-drift_last w l i e = ap (drift_at (longer w l)) e ∙ ap (λ (k : Link). k.drift) (longer_last w l)
-
-documented_longer : (w : Way) (l : Link) → IsDocumented w → IsDrift l.drift → IsDocumented (longer w l)
-documented_longer w l documented drift = record {
-  long = documented.long;
-  waits = documented.waits;
-  drifts = λ i within. elim (cases_lt i (suc (length w.links))) [
-    | inl before ↦ (
-        let early : i ≤ length w.links = omega (arith, before) in
-        subst IsDrift (sym (drift_same w l i early)) (documented.drifts i early)
-        )
-    | inr last ↦ (
-        let e : i ≡ suc (length w.links) = omega (arith, last, within, longer_length w l) in
-        subst IsDrift (sym (drift_last w l i e)) drift
-        )
-  ];
-}
 
 pub ways_are_documented : WaysAreDocumented
 ways_are_documented n events g clock zero w network (distance, (drift, has, is)) =

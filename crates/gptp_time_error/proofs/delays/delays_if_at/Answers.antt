@@ -1,6 +1,4 @@
-use Rattle.std.proofs.Common.{Bool, slice_get, ◌≡◌, ◌∙◌, sym, ap}
-use Rattle.gptp_vector.specs.declared.port.PortId.{PortId}
-use Rattle.gptp_links.specs.declared.bounds.Bounds.{Bounds}
+use Rattle.std.proofs.Common.{slice_get}
 use Rattle.gptp_lists.proofs.MemberLemmas.{In-slice_get}
 use Rattle.gptp_plan.specs.declared.network.Wire.{Wire}
 use Rattle.gptp_time_error.proofs.DelayLemmas.{delays_found}

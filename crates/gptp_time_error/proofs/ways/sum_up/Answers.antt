@@ -1,10 +1,6 @@
-use Rattle.std.proofs.Common.{◌≡◌, ◌∙◌, ◌<◌, Some, slice_get, length, sym, ap, subst, arith}
-use Rattle.std.proofs.lemmas.Option.{same_Some, slice_get_within}
+use Rattle.std.proofs.Common.{sym}
 use Rattle.gptp_lists.proofs.MemberLemmas.{In-slice_get}
-use Rattle.gptp_lists.proofs.PlaceLemmas.{get-set_other, get-set_same, member_there}
-use Rattle.gptp_graph.specs.Labelling as graphs
 use Rattle.gptp_certificate_text.specs.Certificate.{line_of}
-use Rattle.gptp_time_error.specs.Passing.{IsSummedUp}
 use Rattle.gptp_time_error.proofs.ways.sum_up.Goals as goal
 
 pub sums_to-to-requires-clause-settled : goal.sums_to-to-requires-clause-settled

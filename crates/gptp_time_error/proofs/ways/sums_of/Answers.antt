@@ -1,6 +1,5 @@
 use Rattle.std.proofs.Common.{◌≡◌, ◌∙◌, get_or, unwrap_or, ap, arith}
 use Rattle.std.proofs.lemmas.Option.{get_or_from_slice_get}
-use Rattle.gptp_time_error.specs.declared.sums.Sums.{Sums}
 use Rattle.gptp_time_error.proofs.ways.sums_of.Goals as goal
 
 pub returns-in-Some : goal.returns-in-Some

@@ -1,4 +1,4 @@
-use Rattle.std.proofs.Common.{◌≡◌, ◌∙◌, ℕ, Some, slice_get, get_or, subst, sym, ap, arith}
+use Rattle.std.proofs.Common.{◌∙◌, get_or, subst, sym}
 use Rattle.std.proofs.lemmas.Option.{slice_get-get_or}
 use Rattle.gptp_time_error.specs.Passing.{AreBySteps}
 use Rattle.gptp_time_error.proofs.PassLemmas.{done_all, done_more, parent_done}

@@ -1,5 +1,4 @@
 use Rattle.std.proofs.Common.{◌≤◌, option_map, suc, sym, ap, subst, arith}
-use Rattle.gptp_pdelay.specs.Clock.{IsDrift}
 use Rattle.gptp_certificate_text.specs.Certificate.{line_of, parent_of}
 use Rattle.gptp_accuracy.specs.WayLaws.{longer}
 use Rattle.gptp_time_error.specs.Sums.{AreSummed, AreWithin, link_of}
