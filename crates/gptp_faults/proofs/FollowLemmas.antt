@@ -1,6 +1,6 @@
 -- The roots that are followed while a case is down are those of the settled choice.
 use Rattle.std.proofs.Common.{◌≡◌, ◌≢◌, ◌≤◌, ◌<◌, ◌+◌, ◌*◌, ◌/◌, ◌%◌, ℕ, zero, suc, Bool, true, false, nat_le, nat_lt, List, [], ◌∷◌, ◌++◌, Option, Some, None, length, slice_get, refl, sym, ap, subst, ◌∙◌, inl, inr, append-nil, arith}
-use Rattle.std.specs.List.{AllByRecursion, range_with_len}
+use Rattle.std.specs.List.{range_with_len}
 use Rattle.std.proofs.lemmas.Bool.Decides.{nat_tests}
 use Rattle.gptp_acts.specs.Views.{rising_clocks}
 use Rattle.gptp_graph.specs.PathBound.{path_bound}
@@ -8,7 +8,6 @@ use Rattle.gptp_graph.specs.Snapshot.{Snapshot}
 use Rattle.gptp_lists.specs.Members.{In}
 use Rattle.gptp_network.specs.Adding.{with_event}
 use Rattle.gptp_network.specs.Document.{DocumentState}
-use Rattle.gptp_network.specs.Events.{AreInOrder}
 use Rattle.gptp_network.specs.Snapshot.{events_by, IsSnapshot, StandsAfter}
 use Rattle.gptp_network.specs.Span.{IsBound, IsSpan}
 use Rattle.gptp_network.proofs.LawLemmas.{one_snapshot}
@@ -32,7 +31,7 @@ use Rattle.gptp_setup.specs.Pace.{Pace}
 use Rattle.gptp_setup.proofs.IntervalLemmas.{interval_positive}
 use Rattle.gptp_plan.proofs.LogLemmas.{largest_log}
 use Rattle.std.proofs.lemmas.Nat.{mul-le}
-use Rattle.gptp_timeline.proofs.PastLemmas.{by_past, past_later, PastBy}
+use Rattle.gptp_timeline.proofs.PastLemmas.{all_past, by_past, past_later, PastBy}
 use Rattle.gptp_timeline.proofs.SettlingLemmas.{keeps_first}
 use Rattle.gptp_faults.specs.Cases.{fault_of, return_of}
 use Rattle.gptp_faults.specs.Extremes.{greatest_behind, joined, of_one}
@@ -74,13 +73,6 @@ each_at P (x ∷ xs) (z ∷ zs) (suc place) y each there =
     let (w, member, is) = each_at P xs zs place y each.1 there in (w, inr member, is)
 
 -- ---- events in order
-
-all_past : (time : ℕ) (es : List Timed) → AreInOrder es → last_change es ≤ time → PastBy time es
-all_past time [] order last = tt
-all_past time (e ∷ []) order last = (last, tt)
-all_past time (e ∷ (f ∷ es)) order last =
-    let rest = all_past time (f ∷ es) order.1 last in
-    let first = rest.0 in let step = order.0 in (omega (arith, first, step), rest)
 
 past_with : (time : ℕ) (es : List Timed) (e : Timed) → PastBy time es → e.at ≤ time → PastBy time (es ++ e ∷ [])
 past_with time [] e past early = (early, tt)

@@ -16,39 +16,18 @@ use Rattle.gptp_plan.specs.declared.change.Act.{Act}
 use Rattle.gptp_plan.specs.declared.change.Act.TheVariants.{Change as Changing, Deliver, Expire}
 use Rattle.gptp_world.specs.Transitions.{Transition}
 use Rattle.gptp_system.specs.declared.answer.Answer.{Answer}
-use Rattle.gptp_system.specs.declared.answer.Answer.TheVariants as answers
 use Rattle.gptp_timeline.specs.EventLine.{event_line}
-use Rattle.gptp_timeline.specs.Receipts.{is_follow_up, received_by, receiver}
+use Rattle.gptp_timeline.specs.Receipts.{received_by, receiver}
 use Rattle.gptp_timeline.specs.Stretch.{at_of, is_change, is_event, receives}
 use Rattle.gptp_timeline.specs.Timeline.{all_changes, event_lines, offset_lines}
 use Rattle.gptp_timeline.specs.Watch.{event_look, lines_all, see_act, see_system, seen_lines, system_lines, unless, WatchState}
 use Rattle.gptp_timeline.specs.declared.timeline.TimelineOptions.{TimelineOptions}
 use Rattle.gptp_timeline.proofs.ActLemmas.{delivery_others, delivery_stands, expiry_others, OthersStay}
 use Rattle.gptp_timeline.proofs.ActStepLemmas.{own_lines, own_step, receipt_step}
+use Rattle.gptp_timeline.proofs.HeardLemmas.{receiver_is}
 use Rattle.gptp_timeline.proofs.NameLemmas.{AreNamed, one_named, same_named}
 use Rattle.gptp_timeline.proofs.StepLemmas.{errors_next, event_changes, event_step, Tracks}
 use Rattle.gptp_timeline.proofs.TrackLemmas.{unless_both}
-
--- who receives time by a delivery is who heard the frame
-receiver_is : (clock : ℕ) (answer : Option Answer) (octets : List ℕ)
-    → (receiver clock answer octets ≡ Some clock) ⊎ (receiver clock answer octets ≡ None)
-receiver_is clock None octets = inr refl
-receiver_is clock (Some answers.Used) octets = by (is_follow_up octets) refl
-  where
-    by : (t : Bool) → is_follow_up octets ≡ t
-        → (receiver clock (Some answers.Used) octets ≡ Some clock) ⊎ (receiver clock (Some answers.Used) octets ≡ None)
-    by true test = inl (rw test refl)
-    by false test = inr (rw test refl)
-receiver_is clock (Some answers.Disabled) octets = inr refl
-receiver_is clock (Some (answers.Refused refused)) octets = inr refl
-receiver_is clock (Some answers.Ignored) octets = inr refl
-receiver_is clock (Some answers.Superior) octets = inr refl
-receiver_is clock (Some answers.Repeated) octets = inr refl
-receiver_is clock (Some answers.Inferior) octets = inr refl
-receiver_is clock (Some answers.Own) octets = inr refl
-receiver_is clock (Some answers.Steps) octets = inr refl
-receiver_is clock (Some answers.Loop) octets = inr refl
-receiver_is clock (Some answers.Long) octets = inr refl
 
 no_more : (offsets : Bool) (lines : List (List ℕ)) → lines ++ unless (not offsets) [] ≡ lines
 no_more true lines = append-nil lines

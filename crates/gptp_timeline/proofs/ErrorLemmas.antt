@@ -1,17 +1,20 @@
 -- The greatest error of the receipts of a system, act by act.
-use Rattle.std.proofs.Common.{◌≡◌, ◌==◌, ◌&&◌, ℕ, ℤ, Bool, true, false, List, [], ◌∷◌, ◌++◌, Option, Some, None, if◌then◌else◌, option_map, option_and_then, unsigned_abs, refl, sym, ap, ◌∙◌, arith}
+use Rattle.std.proofs.Common.{◌≡◌, ◌≤◌, ◌==◌, ◌&&◌, ℕ, ℤ, Bool, true, false, nat_le, List, [], ◌∷◌, ◌++◌, Option, Some, None, IfSome, if◌then◌else◌, option_map, option_and_then, unsigned_abs, inl, inr, refl, sym, ap, subst, ◌∙◌, arith}
 use Rattle.std.specs.Prelude.{nat_lt}
-use Rattle.std.specs.List.{filter, filter_map}
+use Rattle.std.specs.List.{AllByRecursion, cons_option, filter, filter_map}
 use Rattle.std.specs.Option.{option_map_or}
+use Rattle.std.proofs.lemmas.Bool.{and_parts}
 use Rattle.std.proofs.lemmas.Bool.Decides.{nat_tests}
 use Rattle.std.proofs.lemmas.List.Elements.{filter-append, filter_map-append}
+use Rattle.gptp_lists.specs.Members.{In}
 use Rattle.gptp_world.specs.Transitions.{Transition}
+use Rattle.gptp_timeline.specs.Laws.{IsWithin}
 use Rattle.gptp_timeline.specs.Measures.{better_if, greatest, greatest_from, one_at}
 use Rattle.gptp_timeline.specs.Receipts.{received_by}
 use Rattle.gptp_timeline.specs.Stretch.{at_of, counts_for, error_at, error_from, error_in, receives}
 use Rattle.gptp_timeline.specs.Watch.{counts_from, error_after}
 use Rattle.gptp_timeline.specs.declared.measures.Greatest.{Greatest}
-use Rattle.gptp_timeline.proofs.MeasureLemmas.{greatest_both}
+use Rattle.gptp_timeline.proofs.MeasureLemmas.{greatest_both, greatest_within}
 use Rattle.gptp_timeline.proofs.StepLemmas.{errors_next}
 
 abbrev amount_in : Option Greatest → Option ℕ
@@ -95,3 +98,51 @@ module _ (name : ℕ) (from : Option ℕ) (t : Transition) where
       ap (λ r. if r
       then error_after (counts_from from (at_of t)) (errors name) (option_map unsigned_abs (error_at name t))
       else errors name) quiet
+
+-- ---- errors within a bound
+
+module _ (name from bound : ℕ) where
+  abbrev IsBelow : Greatest → Type 0
+  IsBelow g = g.amount ≤ bound
+
+  -- where the errors of the receipts of a system are, so are those that count for the greatest of them
+  counted_within : (ts : List Transition) → ((t : Transition) → In t ts → IsWithin name from bound t)
+      → AllByRecursion IsBelow (filter_map error_in (filter (counts_for name (Some from)) ts))
+  counted_within [] each = tt
+  counted_within (t ∷ ts) each =
+      by (counts_for name (Some from) t) refl (counted_within ts (λ u member. each u (inr member)))
+    where
+      rest : List Greatest
+      rest = filter_map error_in (filter (counts_for name (Some from)) ts)
+
+      put : (one : Option Greatest) → IfSome one IsBelow → AllByRecursion IsBelow rest
+          → AllByRecursion IsBelow (cons_option one rest)
+      put None below all = all
+      put (Some g) below all = (below, all)
+
+      one : (error : Option ℤ) → error_at name t ≡ error → from ≤ at_of t → receives name t ≡ true
+          → IfSome (option_map (λ e. one_at name (unsigned_abs e)) error) IsBelow
+      one None is late own = tt
+      one (Some e) is late own = each t (inl refl) e late own is
+
+      by : (test : Bool) → counts_for name (Some from) t ≡ test → AllByRecursion IsBelow rest
+          → AllByRecursion IsBelow (filter_map error_in (filter (counts_for name (Some from)) (t ∷ ts)))
+      by false is all = rw is all
+      by true is all =
+          let (early, own) = and_parts (nat_le from (at_of t)) (receives name t) is in
+          let late : from ≤ at_of t = grind (arith, nat_tests) in
+          rw is (put (error_in t)
+          (subst (λ o. IfSome o IsBelow) (sym (own_error name (Some from) t (received_by t.told.done) refl own))
+          (one (error_at name t) refl late own))
+          all)
+
+  pub errors_within : (ts : List Transition) → ((t : Transition) → In t ts → IsWithin name from bound t)
+      → IfSome (error_from name (Some from) ts) (λ amount. amount ≤ bound)
+  errors_within ts each =
+      amount (greatest (filter_map error_in (filter (counts_for name (Some from)) ts)))
+      (greatest_within bound None (filter_map error_in (filter (counts_for name (Some from)) ts)) tt
+      (counted_within ts each))
+    where
+      amount : (g : Option Greatest) → IfSome g IsBelow → IfSome (amount_in g) (λ a. a ≤ bound)
+      amount None below = tt
+      amount (Some g) below = below

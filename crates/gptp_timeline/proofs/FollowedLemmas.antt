@@ -1,7 +1,6 @@
 -- Where a stretch has a bound and lasts as long, the roots that are followed where it ends are those of the settled
 -- choice.
-use Rattle.std.proofs.Common.{◌≡◌, ◌⊎◌, ◌≤◌, ◌<◌, ◌+◌, ℕ, Bool, List, [], ◌∷◌, ◌++◌, map, Option, Some, None, nat_le, inl, inr, refl, sym, ap, subst, ◌∙◌, arith}
-use Rattle.std.proofs.lemmas.Bool.Decides.{nat_tests}
+use Rattle.std.proofs.Common.{◌≡◌, ◌≤◌, ◌+◌, ℕ, Bool, List, [], ◌∷◌, ◌++◌, map, Option, Some, None, inl, inr, refl, sym, ap, subst, ◌∙◌, arith}
 use Rattle.gptp_acts.specs.Views.{rising_clocks}
 use Rattle.gptp_acts.specs.World.{WorldState}
 use Rattle.gptp_graph.specs.Distance.{IsNear}
@@ -11,27 +10,25 @@ use Rattle.gptp_graph.specs.Snapshot.{clocks, Snapshot, System}
 use Rattle.gptp_kept.specs.Standing.{snapshot_of}
 use Rattle.gptp_links.specs.declared.bounds.Bounds.{Bounds}
 use Rattle.gptp_lists.specs.Members.{In}
-use Rattle.gptp_lists.proofs.MemberLemmas.{from_map, In-map, In-slice_get}
+use Rattle.gptp_lists.proofs.MemberLemmas.{from_map}
 use Rattle.gptp_network.specs.Document.{DocumentState}
 use Rattle.gptp_network.specs.Snapshot.{events_by, IsSnapshot, StandsAfter}
 use Rattle.gptp_network.specs.Span.{IsBound, IsSpan}
-use Rattle.gptp_network.proofs.SnapshotLemmas.{In-permutation}
-use Rattle.gptp_plan.specs.Calm.{IsCalm, last_change}
+use Rattle.gptp_plan.specs.Calm.{IsCalm}
 use Rattle.gptp_plan.specs.declared.change.Timed.{Timed}
 use Rattle.gptp_reached.specs.AlikeLaws.{AreAlike}
 use Rattle.gptp_reached.specs.PlayedLaws.{IsPlayable}
 use Rattle.gptp_reached.proofs.AlikeLemmas.{best, clock_among, distance, turned}
 use Rattle.gptp_report.specs.Transitions.{Courses}
-use Rattle.gptp_system.specs.State.{clock, SystemState}
+use Rattle.gptp_system.specs.State.{SystemState}
 use Rattle.gptp_world.specs.Transitions.{Transition}
 use Rattle.gptp_timeline.specs.Each.{Each}
 use Rattle.gptp_timeline.specs.Laws.{AreRoots, IsRootOf}
 use Rattle.gptp_timeline.specs.Shown.{live_system, shown}
 use Rattle.gptp_timeline.specs.Stretch.{roots_of}
-use Rattle.gptp_timeline.specs.Timeline.{AllPass, IsPassage, now_of, Passage, TimelineOf}
+use Rattle.gptp_timeline.specs.Timeline.{AllPass, now_of, Passage, TimelineOf}
 use Rattle.gptp_timeline.specs.declared.timeline.TimelineOptions.{TimelineOptions}
 use Rattle.gptp_timeline.proofs.PastLemmas.{last_past, past_both}
-use Rattle.gptp_timeline.proofs.NameLemmas.{AreNamed}
 use Rattle.gptp_timeline.proofs.RestLemmas.{found_live, IsAtRest, lives_there, stands_there}
 use Rattle.gptp_timeline.proofs.SettlingLemmas.{alike_after, begins, events_then, is_there, keeps_first, keeps_one, Keeps, left_first, rests, span_after}
 

@@ -18,6 +18,7 @@ pub mod ReceiptLemmas
 pub mod ActStepLemmas
 pub mod EventLemmas
 pub mod CountLemmas
+pub mod HeardLemmas
 pub mod ChainStepLemmas
 pub mod KeptLemmas
 pub mod PassLemmas
@@ -35,4 +36,6 @@ pub mod BehindLemmas
 pub mod PastLemmas
 pub mod SettlingLemmas
 pub mod FollowedLemmas
+pub mod WayLemmas
+pub mod WithinLemmas
 pub mod DifferenceLemmas

@@ -1,5 +1,5 @@
 -- Stretches that pass one after another, and the observer between them.
-use Rattle.std.proofs.Common.{◌≡◌, ◌≢◌, ◌==◌, ℕ, Bool, true, false, not, length, None, arith, List, [], ◌∷◌, ◌++◌, Option, Some, Result, Ok, Err, inl, inr, refl, sym, ap, subst, ◌∙◌, append_assoc, append-nil}
+use Rattle.std.proofs.Common.{◌≡◌, ◌==◌, ℕ, Bool, true, false, not, length, None, arith, List, [], ◌∷◌, ◌++◌, Option, Some, Result, Ok, Err, inl, inr, refl, sym, ap, subst, ◌∙◌, append_assoc, append-nil}
 use Rattle.std.specs.List.{flat_map}
 use Rattle.std.specs.Prelude.{IfOk, OnOk}
 use Rattle.std.proofs.lemmas.Bool.Decides.{nat_tests}
@@ -18,10 +18,10 @@ use Rattle.gptp_report.proofs.RunLemmas.{made_if_stays, passed_stays}
 use Rattle.gptp_spelling.specs.Lines.{text_of}
 use Rattle.gptp_timeline.specs.Ends.{EndState}
 use Rattle.gptp_timeline.specs.LastTwo.{all_kept, end_in, end_of, kept_after, none_kept}
-use Rattle.gptp_timeline.specs.Passing.{BreaksSeen, first_time, IsSeen, IsSeenSoFar, IsSeenToEnd, StopsSeen}
+use Rattle.gptp_timeline.specs.Passing.{first_time, IsSeen, IsSeenSoFar, StopsSeen}
 use Rattle.gptp_timeline.specs.Stretch.{roots_of, shown_of_all, waits}
 use Rattle.gptp_timeline.specs.StretchText.{after_line, ended_stretch}
-use Rattle.gptp_timeline.specs.Timeline.{accuracy_lines, act_lines, all_lines, AllPass, AreErrorsBy, end_before, end_lines, ended_of, exact_time, is_begun, kept_accuracy, IsPassage, IsPlan, later_than, none_waits, now_of, Passage, passage_lines, SomePass, stretch_of}
+use Rattle.gptp_timeline.specs.Timeline.{act_lines, all_lines, AllPass, AreErrorsBy, end_before, end_lines, ended_of, exact_time, is_begun, kept_accuracy, IsPassage, IsPlan, later_than, none_waits, now_of, Passage, passage_lines, SomePass}
 use Rattle.gptp_timeline.specs.Watch.{begun, tells_changes, WatchState}
 use Rattle.gptp_timeline.specs.declared.ends.Kept.{Kept}
 use Rattle.gptp_timeline.specs.declared.measures.Measures.{Measures}
@@ -31,7 +31,7 @@ use Rattle.gptp_timeline.specs.declared.timeline.TimelineOptions.{TimelineOption
 use Rattle.gptp_timeline.specs.declared.watched.Watched.{Watched}
 use Rattle.gptp_timeline.proofs.EventLemmas.{ends_before, some_left}
 use Rattle.gptp_timeline.proofs.LineLemmas.{line_on}
-use Rattle.gptp_timeline.proofs.ObservedLemmas.{broken_told, end_is, end_told, ended_with, IsOfPlan, Observes, Rests, stretch_begins, stretch_ended, stretch_passes, stretch_rests, stretch_told}
+use Rattle.gptp_timeline.proofs.ObservedLemmas.{broken_told, end_is, end_told, ended_with, IsOfPlan, Observes, Rests, stretch_begins, stretch_passes, stretch_rests, stretch_told}
 
 -- ---- answers
 

@@ -1,20 +1,19 @@
 -- What live systems show that have settled in one network is the same.
-use Rattle.std.proofs.Common.{◌≡◌, ◌≤◌, ◌<◌, ◌+◌, ◌==◌, ◌↔◌, ℕ, zero, suc, Bool, true, false, List, [], ◌∷◌, length, map, Option, Some, None, option_map, slice_get, is_some, if◌then◌else◌, refl, sym, ap, subst, ◌∙◌, inl, inr, arith}
+use Rattle.std.proofs.Common.{◌≡◌, ◌≤◌, ◌<◌, ◌+◌, ◌==◌, ◌↔◌, ℕ, zero, suc, Bool, true, false, List, [], ◌∷◌, length, map, Option, Some, None, option_map, slice_get, is_some, if◌then◌else◌, refl, sym, ap, subst, ◌∙◌, arith}
 use Rattle.std.specs.List.{range_with_len}
 use Rattle.std.proofs.lemmas.Bool.Decides.{nat_tests}
 use Rattle.std.proofs.lemmas.Option.{same_Some}
 use Rattle.gptp_acts.specs.declared.station.Station.{Station}
-use Rattle.gptp_acts.specs.Changing.{IsStation}
 use Rattle.gptp_acts.specs.Sound.{HaveOwnClocks}
 use Rattle.gptp_acts.specs.Views.{ShowsLive}
 use Rattle.gptp_acts.specs.World.{WorldState}
 use Rattle.gptp_graph.specs.Distance.{IsDistance, IsNear}
-use Rattle.gptp_graph.specs.Parent.{IsParent, ParentLink}
+use Rattle.gptp_graph.specs.Parent.{ParentLink}
 use Rattle.gptp_graph.specs.PathBound.{BoundsPaths}
 use Rattle.gptp_graph.specs.SettledChoice.{IsBestIdentity}
 use Rattle.gptp_graph.specs.SettledRole.{IsMasterPort, IsSlavePort}
 use Rattle.gptp_graph.specs.SettledRole as graph
-use Rattle.gptp_graph.specs.Snapshot.{IsLinked, IsWellFormed, Snapshot, System, clocks, port_of}
+use Rattle.gptp_graph.specs.Snapshot.{IsLinked, IsWellFormed, Snapshot, System, port_of}
 use Rattle.gptp_graph.proofs.BestLemmas.{IsBest-unique}
 use Rattle.gptp_graph.proofs.DistanceLemmas.{IsDistance-unique}
 use Rattle.gptp_graph.proofs.ParentLemmas.{IsParent-unique}
@@ -24,12 +23,11 @@ use Rattle.gptp_kept.specs.CalmFor.{IsCalmFor, span_over}
 use Rattle.gptp_kept.specs.Claimed.{Claimed}
 use Rattle.gptp_kept.specs.Settled.{IsSettledSystem, role_of}
 use Rattle.gptp_kept.specs.Shown.{AreCapable}
-use Rattle.gptp_kept.specs.Standing.{live_systems, snapshot_of, standing}
+use Rattle.gptp_kept.specs.Standing.{snapshot_of, standing}
 use Rattle.gptp_kept.proofs.ClaimedLemmas.{over_capable, settled_by_paths}
 use Rattle.gptp_kept.proofs.ShownLemmas.{capable_shown}
 use Rattle.gptp_kept.proofs.SystemLemmas.{live_from, live_there}
 use Rattle.gptp_lists.specs.Members.{In}
-use Rattle.gptp_lists.proofs.MemberLemmas.{In-map, from_map}
 use Rattle.gptp_roles.specs.declared.role.Role.{Role}
 use Rattle.gptp_roles.specs.declared.role.Role.TheVariants as roles
 use Rattle.gptp_settling.specs.Settled.{IsSlaveOf}
@@ -185,6 +183,17 @@ found_live name (x ∷ xs) s is = by (clock x.system == name) refl x.live refl (
           is_named = rest.is_named;
         }
 
+-- a live system is in its state
+pub shows_live : (name : ℕ) (w : WorldState) (s : SystemState) → live_system name w ≡ Some s → ShowsLive name w s
+shows_live name w s is =
+    let live = found_live name w.stations s is in record {
+      place = live.place;
+      station = live.station;
+      is = record { here = live.here; named = live.is_named };
+      live = live.live;
+      state = sym live.state;
+    }
+
 -- a live system is one of the snapshot
 pub stands_there : (w : WorldState) (name : ℕ) (s : SystemState) → live_system name w ≡ Some s
     → (x : System) × In x (snapshot_of w).systems × (x.clock ≡ clock s) × (x.ports ≡ length s.ports) × (clock s ≡ name)
@@ -217,19 +226,11 @@ module _ (m : ℕ) (w : WorldState) (claimed : Claimed w) (bounded : BoundsPaths
   pub world_rests : (name : ℕ) (s : SystemState) → live_system name w ≡ Some s → IsNear (snapshot_of w) name
       → IsAtRest (snapshot_of w) s
   world_rests name s is near =
-      let live = found_live name w.stations s is in
-      let shows : ShowsLive name w s = record {
-        place = live.place;
-        station = live.station;
-        is = record { here = live.here; named = live.is_named };
-        live = live.live;
-        state = sym live.state;
-      } in
-      record {
+      let live = found_live name w.stations s is in record {
         settled = subst (IsSettledSystem (snapshot_of w)) live.state
             (settled_by_paths m w claimed bounded calm live.place live.station live.here live.live
             (subst (IsNear (snapshot_of w)) (sym live.is_named) near));
-        capable = capable_shown name w s claimed shows (over_capable m w calm);
+        capable = capable_shown name w s claimed (shows_live name w s is) (over_capable m w calm);
       }
 
 -- Two worlds with one snapshot in which all live systems are at rest show the same.

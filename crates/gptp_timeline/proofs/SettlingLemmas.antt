@@ -1,18 +1,17 @@
 -- Where a stretch has a bound nothing changes behind it, if every live system is near.
-use Rattle.std.proofs.Common.{◌≡◌, ◌⊎◌, ◌≤◌, ◌+◌, ◌-◌, ℕ, zero, suc, Bool, true, false, not, nat_le, List, [], ◌∷◌, ◌++◌, ◌≢◌, filter, length, map, nat_lt, if◌then◌else◌, Option, Some, None, IfSome, option_map, slice_get, inl, inr, refl, sym, ap, subst, ◌∙◌, append_assoc, append-nil, arith}
+use Rattle.std.proofs.Common.{◌≡◌, ◌⊎◌, ◌≤◌, ◌+◌, ◌-◌, ℕ, suc, Bool, true, false, nat_le, List, [], ◌∷◌, ◌++◌, ◌≢◌, length, nat_lt, Option, Some, None, IfSome, option_map, inl, inr, refl, sym, ap, subst, ◌∙◌, append_assoc, append-nil, arith}
 use Rattle.std.specs.List.{AllByRecursion}
-use Rattle.std.specs.Option.{option_or}
 use Rattle.std.proofs.lemmas.Bool.Decides.{nat_tests}
-use Rattle.gptp_acts.specs.Acts.{Acts, at}
+use Rattle.gptp_acts.specs.Acts.{at}
 use Rattle.gptp_acts.specs.Advancing.{Happens}
-use Rattle.gptp_acts.specs.Course.{Begun, WasDone}
+use Rattle.gptp_acts.specs.Course.{Begun}
 use Rattle.gptp_acts.specs.Prompt.{NoneFaster}
 use Rattle.gptp_acts.specs.Sound.{IsSound}
 use Rattle.gptp_acts.specs.Views.{IsActOf, rising_clocks}
 use Rattle.gptp_graph.specs.Distance.{IsNear}
 use Rattle.gptp_reached.proofs.AlikeLemmas.{path, turned}
 use Rattle.gptp_system.specs.State.{SystemState}
-use Rattle.gptp_timeline.proofs.BehindLemmas.{last_choice, last_roles, ShowsTheSame, still_both, StillBehind}
+use Rattle.gptp_timeline.proofs.BehindLemmas.{all_both, IsStill, last_choice, last_roles, ShowsTheSame, StillBehind}
 use Rattle.gptp_timeline.proofs.NameLemmas.{acts_named, AreNamed, first_names, same_named}
 use Rattle.gptp_timeline.proofs.PastLemmas.{by_past, by_sooner, last_past, past_both, past_later, PastBy}
 use Rattle.gptp_acts.specs.World.{WorldState}
@@ -23,21 +22,22 @@ use Rattle.gptp_acts.proofs.AdvanceLemmas.{leaves_less, next_fits, nothing_soone
 use Rattle.gptp_acts.proofs.PromptLemmas.{begun_none_faster, next_prompt, prompt_within, stays_none_faster}
 use Rattle.gptp_acts.proofs.SoundLemmas.{later_sound}
 use Rattle.gptp_acts.proofs.StayLemmas.{done_stays}
-use Rattle.gptp_graph.specs.Path.{IsPath, Route}
 use Rattle.gptp_graph.specs.PathBound.{BoundsPaths, path_bound}
-use Rattle.gptp_graph.specs.Snapshot.{clocks, IsWellFormed, Link, Snapshot, System}
+use Rattle.gptp_graph.specs.Snapshot.{clocks, IsWellFormed, Snapshot, System}
 use Rattle.gptp_graph.proofs.PathBoundLemmas.{paths_within}
 use Rattle.gptp_kept.specs.CalmFor.{IsCalmFor, span_over}
 use Rattle.gptp_kept.specs.Claimed.{IsClaimed}
 use Rattle.gptp_kept.specs.LegibleLaws.{SetsAnOctet}
 use Rattle.gptp_kept.specs.SeenLaws.{IsNoChange}
 use Rattle.gptp_kept.specs.Standing.{snapshot_of}
+use Rattle.gptp_kept.specs.TimedClaim.{CarriesWhereCalm}
 use Rattle.gptp_kept.proofs.CalmKeptLemmas.{acts_keep, same_snapshot}
 use Rattle.gptp_kept.proofs.ClaimLemmas.{claim_begins, claim_kept, claim_later}
+use Rattle.gptp_kept.proofs.FollowClaimLemmas.{carries_begins, carries_kept, carries_later}
 use Rattle.gptp_kept.proofs.StandsLemmas.{stands_well}
 use Rattle.gptp_links.specs.declared.bounds.Bounds.{Bounds}
 use Rattle.gptp_lists.specs.Members.{In}
-use Rattle.gptp_lists.proofs.MemberLemmas.{from_map, In-map}
+use Rattle.gptp_lists.proofs.MemberLemmas.{In-map}
 use Rattle.gptp_network.specs.Document.{DocumentState}
 use Rattle.gptp_network.specs.Events.{AreInOrder, IsEvent}
 use Rattle.gptp_network.specs.Snapshot.{events_by, StandsAfter}
@@ -55,6 +55,7 @@ use Rattle.gptp_plan.specs.declared.change.Act.{Act}
 use Rattle.gptp_plan.specs.declared.change.Act.TheVariants.{Change as Changing}
 use Rattle.gptp_plan.specs.declared.change.Change.{Change}
 use Rattle.gptp_plan.specs.declared.change.Timed.{Timed}
+use Rattle.gptp_plan.specs.declared.sync_wait.SyncPaths.{SyncPaths}
 use Rattle.gptp_plan.proofs.LogLemmas.{smallest_log}
 use Rattle.gptp_reached.specs.AlikeLaws.{AreAlike}
 use Rattle.gptp_reached.specs.PlayedLaws.{IsPlayable}
@@ -66,7 +67,7 @@ use Rattle.gptp_reached.proofs.ClaimedLemmas.{each_there}
 use Rattle.gptp_reached.proofs.KeptLemmas.{acts_stand, time_stands}
 use Rattle.gptp_reached.proofs.SnapshotLemmas.{snapshots_stand}
 use Rattle.gptp_reached.proofs.SyncPathLemmas.{paths_stand}
-use Rattle.gptp_world.specs.Transitions.{Passes, PassesTo, Transition}
+use Rattle.gptp_world.specs.Transitions.{Passes, PassesTo, Transition, transition}
 use Rattle.gptp_report.specs.Transitions.{Courses, Makes}
 use Rattle.gptp_setup.specs.Intervals.{interval_of}
 use Rattle.gptp_setup.specs.Pace.{Pace}
@@ -75,21 +76,19 @@ use Rattle.gptp_world.proofs.InitialLemmas.{initial_sound}
 use Rattle.gptp_timeline.specs.Laws.{AllNear}
 use Rattle.gptp_timeline.specs.Passing.{first_time}
 use Rattle.gptp_timeline.specs.Shown.{live_system, same_choice, same_roles, shown}
-use Rattle.gptp_timeline.specs.Stretch.{at_of, last_at, leaves_another}
-use Rattle.gptp_timeline.specs.declared.shown.Shown.{Shown}
+use Rattle.gptp_timeline.specs.Stretch.{at_of}
 use Rattle.gptp_timeline.specs.Limits.{choice_after}
 use Rattle.gptp_timeline.specs.StretchText.{behind}
 use Rattle.gptp_timeline.specs.Timeline.{AllPass, end_before, IsPassage, later_than, now_of, Passage, stretch_of, TimelineOf}
 use Rattle.gptp_timeline.specs.declared.timeline.TimelineOptions.{TimelineOptions}
 use Rattle.gptp_timeline.proofs.EventLemmas.{Each, ends_first, ends_later, filter_each, filter_in_order, filter_passes, first_due}
-use Rattle.gptp_timeline.proofs.MeasuredLemmas.{any_none}
 use Rattle.gptp_timeline.proofs.UnfoldLemmas.{now_and_later}
 use Rattle.gptp_timeline.proofs.RestLemmas.{IsAtRest, shown_same, stands_there, world_rests}
 
 -- ---- worlds of a document
 
 -- what is pending is no change
-no_change : (item : Item) (act : Act) (w : WorldState) → IsActOf item w act → IsNoChange act
+pub no_change : (item : Item) (act : Act) (w : WorldState) → IsActOf item w act → IsNoChange act
 no_change (Arrival link direction) act w is = subst IsNoChange (sym is) tt
 no_change (Expiry place timer) act w (station, here, is) = subst IsNoChange (sym is) tt
 
@@ -116,6 +115,7 @@ module _ {F : Type 0} (answers : Bounds → ℕ → F → Option ℕ → F → T
   -- A world keeps what all do, stands as the network does after these events, and has systems of these names.
   pub record Keeps (events : List Timed) (w : WorldState) : Type 0 where
     pub claimed : IsClaimed pace w
+    pub carries : CarriesWhereCalm pace w
     pub stands : StandsAs d.network events w
     pub slow : NoneFaster least w
     pub named : AreNamed names w
@@ -126,6 +126,7 @@ module _ {F : Type 0} (answers : Bounds → ℕ → F → Option ℕ → F → T
       let sound = initial_sound d.network playable.network in
       let claimed = claim_begins answers d.network fate fate_after w playable.network sound begun in record {
         claimed = claimed;
+        carries = carries_begins answers d.network fate fate_after w playable.network sound begun;
         stands = begun_stands answers d.network fate fate_after w begun;
         slow = begun_none_faster answers d.network fate fate_after w sound.wired.setups begun;
         named = subst (λ ns. AreNamed ns w) (sym are) (first_names w claimed.world.sound.wired);
@@ -154,21 +155,25 @@ module _ {F : Type 0} (answers : Bounds → ℕ → F → Option ℕ → F → T
 
   -- ---- what happens by itself
 
-  keeps_later : (events : List Timed) (w : WorldState) (time : ℕ) → w.time ≤ time → NothingBefore time w.net.pending
+  pub keeps_later : (events : List Timed) (w : WorldState) (time : ℕ) → w.time ≤ time → NothingBefore time w.net.pending
       → Keeps events w → Keeps events (at time w)
   keeps_later events w time later first keeps = record {
     claimed = claim_later pace w time later first keeps.claimed;
+    carries = carries_later pace w time later first keeps.claimed keeps.carries;
     stands = time_stands d.network events w time keeps.stands;
     slow = keeps.slow;
     named = same_named names w (at time w) refl keeps.named;
   }
 
-  keeps_act : (events : List Timed) (until : ℕ) (t : Transition) (fate drawn : F) (w : WorldState)
+  pub keeps_act : (events : List Timed) (until : ℕ) (t : Transition) (fate drawn : F) (w : WorldState)
       → Happens answers until t.told fate drawn w t.after → Keeps events w → Keeps events t.after
   keeps_act events until t fate drawn w happens keeps =
-      let timed = t.told.timed in let next = happens.next in let was = happens.was_done in record {
-        claimed = claim_kept answers pace timed fate drawn w t.after t.told.done (next_fits w timed next)
-            (next_prompt w timed next) (next_octet next.item timed.act w next.act) was keeps.claimed;
+      let timed = t.told.timed in let next = happens.next in let was = happens.was_done in
+      let fit = next_fits w timed next in let prompt = next_prompt w timed next in
+      let octet = next_octet next.item timed.act w next.act in record {
+        claimed = claim_kept answers pace timed fate drawn w t.after t.told.done fit prompt octet was keeps.claimed;
+        carries = carries_kept answers pace timed fate drawn w t.after t.told.done fit prompt octet was keeps.claimed
+            keeps.carries;
         stands = acts_stand d.network events timed.act (at timed.at w) was.draws t.told.done t.after
             (no_change next.item timed.act w next.act) was.acts
             (time_stands d.network events w timed.at keeps.stands);
@@ -187,7 +192,7 @@ module _ {F : Type 0} (answers : Bounds → ℕ → F → Option ℕ → F → T
       (keeps_act events until t fate drawn w happens keeps)
 
   -- an act was done at its time
-  act_time : (until : ℕ) (t : Transition) (fate drawn : F) (w : WorldState) → IsSound w
+  pub act_time : (until : ℕ) (t : Transition) (fate drawn : F) (w : WorldState) → IsSound w
       → Happens answers until t.told fate drawn w t.after → t.after.time ≡ at_of t
   act_time until t fate drawn w sound happens =
       let timed = t.told.timed in let was = happens.was_done in
@@ -213,13 +218,16 @@ module _ {F : Type 0} (answers : Bounds → ℕ → F → Option ℕ → F → T
       subst (Keeps events) (sym k.is) (keeps_later events k.between until early first on)
 
   -- an event is made
-  keeps_made : (before : List Timed) (event : Timed) (ts : List Transition) (fate fate_after : F) (w w' : WorldState)
-      → IsFitEvent event → Makes answers event ts fate fate_after w w' → Keeps before w
+  pub keeps_made : (before : List Timed) (event : Timed) (ts : List Transition) (fate fate_after : F)
+      (w w' : WorldState) → IsFitEvent event → Makes answers event ts fate fate_after w w' → Keeps before w
       → Keeps (before ++ event ∷ []) w'
   keeps_made before event ts fate fate_after w w' fit k keeps =
-      let on = keeps_to before event.at k.first fate k.drawn w k.between k.passes keeps in record {
-        claimed = claim_kept answers pace event k.drawn fate_after k.between w' k.done fit.fit
-            (prompt_within least event.act k.between on.slow fit.prompt) fit.octet k.made on.claimed;
+      let on = keeps_to before event.at k.first fate k.drawn w k.between k.passes keeps in
+      let prompt = prompt_within least event.act k.between on.slow fit.prompt in record {
+        claimed = claim_kept answers pace event k.drawn fate_after k.between w' k.done fit.fit prompt fit.octet k.made
+            on.claimed;
+        carries = carries_kept answers pace event k.drawn fate_after k.between w' k.done fit.fit prompt fit.octet k.made
+            on.claimed on.carries;
         stands = changes_stand d.network before event fit.change k.between k.made.draws k.done w' fit.act
             on.claimed.world.sound k.made.acts on.stands;
         slow = stays_none_faster least k.between w'
@@ -256,7 +264,7 @@ module _ {F : Type 0} (answers : Bounds → ℕ → F → Option ℕ → F → T
     abbrev m : ℕ
     m = path_bound g
 
-    bounded : (w : WorldState) → Keeps events w → BoundsPaths (snapshot_of w) m
+    pub bounded : (w : WorldState) → Keeps events w → BoundsPaths (snapshot_of w) m
     bounded w keeps =
         let is = keeps.claimed.world in let alike = alike_after events g w stands keeps in
         let own = stands_well w is.sound is.between is.legible in
@@ -266,18 +274,29 @@ module _ {F : Type 0} (answers : Bounds → ℕ → F → Option ℕ → F → T
         (turned (snapshot_of w) g alike).systems member)).octets) in
         λ v u us way. paths_within g well v u us (path (snapshot_of w) g alike v u us way)
 
+    -- by whichever span, where so much has passed since the last change
+    pub calm_since : (over : Pace → SyncPaths → ℕ → ℕ) (w : WorldState) → Keeps events w
+        → last_change events + over pace (sync_paths d.network events) (length (snapshot_of w).systems) ≤ w.time
+        → (calm : IsCalmFor over w) × (calm.pace ≡ pace)
+    calm_since over w keeps late =
+        let sound = keeps.claimed.world.sound in
+        let same = paths_stand d.network events w playable.network keeps.stands sound in (
+          record {
+            pace = pace;
+            set = λ place station here. (keeps.claimed.world.known.set place station here).starts;
+            quiet = quiet_stands d.network events w playable.network keeps.stands sound calm;
+            late = subst (λ paths. w.last_change + over pace paths (length (snapshot_of w).systems) ≤ w.time) same
+                (subst (λ change. change + over pace (sync_paths d.network events) (length (snapshot_of w).systems)
+                ≤ w.time)
+                (sym keeps.stands.last) late);
+          },
+          refl,
+        )
+
     calm_for : (w : WorldState) → Keeps events w → from + span ≤ w.time → IsCalmFor (span_over m) w
     calm_for w keeps late =
-        let change : w.last_change ≡ last_change events = keeps.stands.last in
-        let sound = keeps.claimed.world.sound in
-        let by_now : w.last_change + span ≤ w.time = omega (arith, change, last, late) in
-        let same = paths_stand d.network events w playable.network keeps.stands sound in record {
-          pace = pace;
-          set = λ place station here. (keeps.claimed.world.known.set place station here).starts;
-          quiet = quiet_stands d.network events w playable.network keeps.stands sound calm;
-          late = subst (λ paths. w.last_change + settling_span_with pace paths m ≤ w.time) same
-              (subst (λ k. w.last_change + k ≤ w.time) span_is by_now);
-        }
+        (calm_since (span_over m) w keeps (subst (λ k. last_change events + k ≤ w.time) span_is
+        (omega (arith, last, late)))).0
 
     pub rests : (w : WorldState) → Keeps events w → from + span ≤ w.time → (name : ℕ) → IsNear (snapshot_of w) name
         → (s : SystemState) → live_system name w ≡ Some s → IsAtRest (snapshot_of w) s
@@ -348,20 +367,23 @@ module _ {F : Type 0} (answers : Bounds → ℕ → F → Option ℕ → F → T
       (acts_keep t.told.timed.act (at (at_of t) w) happens.was_done.draws t.told.done t.after
       (no_change happens.next.item t.told.timed.act w happens.next.act) happens.was_done.acts)
 
-  -- acts up to a time
-  early_passes : (time until : ℕ) (ts : List Transition) (fate fate_after : F) (w w' : WorldState) → until ≤ time
-      → Passes answers until ts fate fate_after w w' → StillBehind time ts
-  early_passes time until [] fate fate_after w w' le k = tt
-  early_passes time until (t ∷ ts) fate fate_after w w' le (drawn, before, happens, rest) =
-      let early = happens.early in
-      (inl (omega arith), early_passes time until ts drawn fate_after t.after w' le rest)
+  -- what is so of each act up to a time is so of those that pass by then
+  pub early_passes : (P : Transition → Type 0) (until : ℕ) (ts : List Transition) (fate fate_after : F)
+      (w w' : WorldState) → ((t : Transition) → at_of t ≤ until → P t)
+      → Passes answers until ts fate fate_after w w' → AllByRecursion P ts
+  early_passes P until [] fate fate_after w w' each k = tt
+  early_passes P until (t ∷ ts) fate fate_after w w' each (drawn, before, happens, rest) =
+      (each t happens.early, early_passes P until ts drawn fate_after t.after w' each rest)
 
-  early_makes : (time : ℕ) (event : Timed) (ts : List Transition) (fate fate_after : F) (w w' : WorldState)
-      → event.at ≤ time → Makes answers event ts fate fate_after w w' → StillBehind time ts
-  early_makes time event ts fate fate_after w w' le k =
-      subst (StillBehind time) (sym k.are)
-      (still_both time k.first (_ ∷ []) (early_passes time event.at k.first fate k.drawn w k.passes.between le
-      k.passes.passes) (inl le, tt))
+  -- and of those by which an event is made then
+  pub early_makes : (P : Transition → Type 0) (event : Timed) (ts : List Transition) (fate fate_after : F)
+      (w w' : WorldState) → ((t : Transition) → at_of t ≤ event.at → P t) → Makes answers event ts fate fate_after w w'
+      → AllByRecursion P ts
+  early_makes P event ts fate fate_after w w' each k =
+      subst (AllByRecursion P) (sym k.are)
+      (all_both P k.first (_ ∷ [])
+      (early_passes P event.at k.first fate k.drawn w k.passes.between each k.passes.passes)
+      (each (transition event k.done k.between w') (omega arith), tt))
 
   -- a stretch with events up to the time at which it begins
   pub still_courses : (before events : List Timed) (from span until : ℕ) (g : Snapshot) (ts : List Transition)
@@ -380,8 +402,9 @@ module _ {F : Type 0} (answers : Bounds → ℕ → F → Option ℕ → F → T
       let le = early 0 event refl in
       let shift = sym (append_assoc before (event ∷ []) events) in
       subst (StillBehind (from + span)) (sym is)
-      (still_both (from + span) first rest
-      (early_makes (from + span) event first fate drawn w between (omega (arith, le)) makes)
+      (all_both (IsStill (from + span)) first rest
+      (early_makes (IsStill (from + span)) event first fate drawn w between
+      (λ t by_then. inl (omega (arith, le, by_then))) makes)
       (still_courses (before ++ event ∷ []) events from span until g rest drawn fate_after between w'
       (λ place. fit (suc place)) (λ place. early (suc place)) (subst (IsCalm d.network) shift calm)
       (subst (λ es. StandsAfter d.network es g) shift stands) (subst (λ es. last_change es ≤ from) shift last)
@@ -427,6 +450,17 @@ module _ {F : Type 0} (answers : Bounds → ℕ → F → Option ℕ → F → T
         fits = filter_each IsFitEvent test left is.fits;
         within = first_due until to later due first;
       }
+
+  -- a stretch ends by the end
+  pub ends_by : (until from : ℕ) (before left : List Timed) → IsLeft until from before left
+      → end_before until (later_than from left) ≤ until
+  ends_by until from before left is =
+      by (later_than from left)
+      (filter_each (λ (e : Timed). nat_le e.at until ≡ true) (λ (e : Timed). nat_lt from e.at) left is.due)
+    where
+      by : (later : List Timed) → Each (λ (e : Timed). nat_le e.at until ≡ true) later → end_before until later ≤ until
+      by [] due = omega arith
+      by (e ∷ es) due = first_due until e.at (e ∷ es) due refl
 
   -- the events up to a stretch are those that were made before it and in it
   pub events_then : (until from : ℕ) (before left : List Timed) → IsLeft until from before left

@@ -1,11 +1,11 @@
 -- An act that leaves all of a system as it was changes nothing that is kept, and no line tells of it.
-use Rattle.std.proofs.Common.{◌≡◌, ◌&&◌, ◌||◌, ℕ, zero, suc, not, Bool, true, false, List, [], ◌∷◌, map, Option, Some, None, is_none, slice_get, slice_set, refl, sym, ap, ◌∙◌}
+use Rattle.std.proofs.Common.{◌≡◌, ◌&&◌, ◌||◌, ℕ, zero, suc, not, Bool, true, false, List, [], ◌∷◌, Option, Some, None, is_none, slice_get, slice_set, refl, sym, ap, ◌∙◌}
 use Rattle.std.proofs.lemmas.Option.{same_Some}
 use Rattle.gptp_acts.specs.World.{WorldState}
 use Rattle.gptp_timeline.specs.Changes.{change_lines}
-use Rattle.gptp_timeline.specs.Measures.{better_if, ended_by, since_after}
+use Rattle.gptp_timeline.specs.Measures.{ended_by, since_after}
 use Rattle.gptp_timeline.specs.Shown.{is_expecting, shown}
-use Rattle.gptp_timeline.specs.Watch.{lines_at, measures_after, one_lines, see_at, see_one, StaysSo, taken, unless, watched_after, WatchState}
+use Rattle.gptp_timeline.specs.Watch.{lines_at, measures_after, one_lines, see_at, see_one, StaysSo, unless, watched_after, WatchState}
 use Rattle.gptp_timeline.specs.declared.measures.Measures.{Measures}
 use Rattle.gptp_timeline.specs.declared.shown.Shown.{Shown}
 use Rattle.gptp_timeline.specs.declared.watched.Look.{Look}

@@ -1,8 +1,7 @@
 -- What the lines of a system tell last is what it shows.
-use Rattle.std.proofs.Common.{◌≡◌, ◌≢◌, ◌==◌, ◌&&◌, ◌+◌, ◌<◌, ℕ, zero, suc, Bool, true, false, if◌then◌else◌, List, [], ◌∷◌, ◌++◌, map, Option, Some, None, slice_get, option_map, refl, sym, ap, subst, ◌∙◌, append_assoc, append-nil, arith}
+use Rattle.std.proofs.Common.{◌≡◌, ◌==◌, ◌+◌, ◌<◌, ℕ, zero, suc, Bool, true, false, if◌then◌else◌, List, [], ◌∷◌, ◌++◌, map, Option, Some, None, slice_get, option_map, refl, sym, ap, subst, ◌∙◌, append_assoc, append-nil, arith}
 use Rattle.std.proofs.lemmas.Bool.Decides.{nat_tests}
 use Rattle.std.proofs.lemmas.List.{map-append}
-use Rattle.std.proofs.lemmas.Option.{same_Some}
 use Rattle.std.specs.List.{flat_map}
 use Rattle.std.specs.Option.{option_or}
 use Rattle.gptp_acts.specs.declared.station.Station.{Station}
@@ -15,7 +14,7 @@ use Rattle.gptp_timeline.specs.Changes.{change_lines, is_same, port_lines, port_
 use Rattle.gptp_timeline.specs.Laws.{all_acts}
 use Rattle.gptp_timeline.specs.Ports.{same_bool, same_port}
 use Rattle.gptp_timeline.specs.Shown.{live_among, same_slave, shown, shown_of}
-use Rattle.gptp_timeline.specs.Tellings.{all_tellings, IsAlike, last_by, of_port, of_system, OfFailure, OfPort, OfSystem, port_telling, port_tellings, Telling, telling_line, tellings, TellLast}
+use Rattle.gptp_timeline.specs.Tellings.{all_tellings, IsAlike, last_by, of_port, of_system, OfFailure, OfSystem, port_telling, port_tellings, Telling, telling_line, tellings, TellLast}
 use Rattle.gptp_timeline.specs.Timeline.{TimelineOf}
 use Rattle.gptp_timeline.specs.declared.ports.ShownPort.{ShownPort}
 use Rattle.gptp_timeline.specs.declared.shown.Shown.{Shown}

@@ -1,8 +1,7 @@
 -- Stretches that pass one after another are one run.
-use Rattle.std.proofs.Common.{◌≡◌, ◌≢◌, ◌+◌, ℕ, true, false, Bool, nat_le, nat_lt, List, [], ◌∷◌, ◌++◌, filter, map, Option, refl, sym, ap, subst, ◌∙◌, append_assoc, append-nil, arith}
+use Rattle.std.proofs.Common.{◌≡◌, ◌≢◌, ◌+◌, ℕ, true, false, Bool, nat_le, nat_lt, List, [], ◌∷◌, ◌++◌, map, Option, refl, sym, ap, subst, ◌∙◌, append_assoc, append-nil, arith}
 use Rattle.std.proofs.lemmas.Bool.Decides.{nat_tests}
 use Rattle.gptp_acts.specs.Acts.{at}
-use Rattle.gptp_acts.specs.Course.{Begun}
 use Rattle.gptp_acts.specs.Advancing.{Told}
 use Rattle.gptp_acts.specs.Pending.{NothingBefore}
 use Rattle.gptp_acts.specs.World.{WorldState}

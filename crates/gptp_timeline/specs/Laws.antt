@@ -1,8 +1,9 @@
 -- Laws of timelines.
-use Rattle.std.specs.Prelude.{◌≡◌, ◌≤◌, ◌+◌, ℕ, Bool, List, map, Option, Some, IfSome}
+use Rattle.std.specs.Prelude.{◌≡◌, ◌≢◌, ◌≤◌, ◌+◌, ◌^◌, ℕ, ℤ, unsigned_abs, Bool, true, List, map, Option, Some, IfSome}
 use Rattle.std.specs.List.{flat_map}
 use Rattle.gptp_acts.specs.Advancing.{Told}
 use Rattle.gptp_acts.specs.Views.{rising_clocks}
+use Rattle.gptp_acts.specs.World.{WorldState}
 use Rattle.gptp_graph.specs.Distance.{IsNear}
 use Rattle.gptp_graph.specs.SettledChoice.{IsBestIdentity}
 use Rattle.gptp_graph.specs.Snapshot.{Snapshot, clocks}
@@ -14,13 +15,17 @@ use Rattle.gptp_network.specs.Events.{AreEvents}
 use Rattle.gptp_network.specs.Snapshot.{IsSnapshot}
 use Rattle.gptp_reached.specs.PlayedLaws.{IsPlayable}
 use Rattle.gptp_report.specs.Run.{Plays}
+use Rattle.gptp_roles.specs.Selection.{clock_of}
+use Rattle.gptp_time_error.specs.TimeErrors.{AreTimeErrors}
+use Rattle.gptp_time_error.specs.declared.errors.SystemError.{SystemError}
+use Rattle.gptp_time_error.specs.declared.errors.TimeErrors.{TimeErrors}
 use Rattle.gptp_world.specs.Transitions.{Transition}
 use Rattle.gptp_report.specs.Transitions.{Unfolds}
 use Rattle.gptp_timeline.specs.Changes.{change_lines}
 use Rattle.gptp_timeline.specs.Each.{Each}
 use Rattle.gptp_timeline.specs.Limits.{choice_after}
 use Rattle.gptp_timeline.specs.Shown.{shown}
-use Rattle.gptp_timeline.specs.Stretch.{roots_of}
+use Rattle.gptp_timeline.specs.Stretch.{at_of, error_at, error_from, receives, roots_of}
 use Rattle.gptp_timeline.specs.StretchText.{behind}
 use Rattle.gptp_timeline.specs.Tellings.{all_tellings, telling_line, tellings, TellLast}
 use Rattle.gptp_timeline.specs.Timeline.{Passage, TimelineOf, stretch_of}
@@ -85,3 +90,36 @@ StretchesFollow {F} answers = (d : DocumentState) (until : ℕ) (options : Timel
     (p : Passage) (bound : ℕ) (g : Snapshot)
     → IsPlayable d → In p t.passages → p.bound ≡ Some bound → p.from + bound ≤ p.to → IsSnapshot d p.from g
     → AreRoots g (roots_of (map (λ name. shown name p.after) (rising_clocks t.start)))
+
+-- What time errors say of a system that isn't its own root: its bound, and from when on that holds.
+pub record SayBound (errors : TimeErrors) (name from bound : ℕ) : Type 0 where
+  pub from_is : errors.from ≡ Some from
+  pub system : SystemError
+  pub among : In system errors.systems.items
+  pub named : system.clock ≡ name
+  pub follows : clock_of system.root ≢ system.clock
+  pub bound_is : system.error ≡ Some bound
+
+-- the error of a receipt of a system from a time on is within a bound
+abbrev pub IsWithin : ℕ → ℕ → ℕ → Transition → Type 0
+IsWithin name from bound t = (error : ℤ) → from ≤ at_of t → receives name t ≡ true → error_at name t ≡ Some error
+    → unsigned_abs error ≤ bound
+
+-- Errors of receipts are within the bounds that the time errors of their stretch say, each from the time on from which
+-- these hold; and so is the greatest of them, which is what the `accuracy` line of a system says. So it is as long as
+-- clocks can show the time.
+abbrev pub ErrorsAreWithin : {F : Type 0} → (Bounds → ℕ → F → Option ℕ → F → Type 0) → Type 0
+ErrorsAreWithin {F} answers = (d : DocumentState) (until : ℕ) (options : TimelineOptions) (fate : F)
+    (lines : List (List ℕ)) (exceeded : Bool) (t : TimelineOf answers d until options fate lines exceeded)
+    (p : Passage) (errors : TimeErrors) (name from bound : ℕ)
+    → IsPlayable d → until ≤ 10 ^ 18 → In p t.passages → p.errors ≡ Some errors → SayBound errors name from bound
+    → ((act : Transition) → In act p.acts → IsWithin name from bound act)
+    × IfSome (error_from name (Some from) p.acts) (λ amount. amount ≤ bound)
+
+-- So it is in every run of a document with the time errors of the document as it stands at the end of the run.
+abbrev pub RunsAreWithin : {F : Type 0} → (Bounds → ℕ → F → Option ℕ → F → Type 0) → Type 0
+RunsAreWithin {F} answers = (d : DocumentState) (until : ℕ) (fate : F) (start : WorldState) (ts : List Transition)
+    (w : WorldState) (errors : TimeErrors) (name from bound : ℕ)
+    → IsPlayable d → until ≤ 10 ^ 18 → Unfolds answers d until fate start ts w → AreTimeErrors d until errors
+    → SayBound errors name from bound
+    → (act : Transition) → In act ts → IsWithin name from bound act

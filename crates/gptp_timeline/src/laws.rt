@@ -1,6 +1,6 @@
 //! Laws of timelines.
 
-ghost use Rattle.gptp_timeline.specs.Laws.{ChangesAreTold, LastLinesTell, StretchesFollow, StretchesSettle, TimelineEndsAsRun, TimelineUnfolds};
+ghost use Rattle.gptp_timeline.specs.Laws.{ChangesAreTold, ErrorsAreWithin, LastLinesTell, RunsAreWithin, StretchesFollow, StretchesSettle, TimelineEndsAsRun, TimelineUnfolds};
 
 use gptp_links::Fate;
 
@@ -29,4 +29,14 @@ pub fn stretches_settle<F: Fate>()
 /// component where it ends, and no other root: so the counts of roots there are those of the settled choice.
 pub fn stretches_follow<F: Fate>()
     ensures { StretchesFollow F.answers }
+{}
+
+/// The error of each receipt of time in a stretch of the timeline of a document is at most the bound that is known of
+/// its system, from the time on from which that holds, and so is the greatest of them: on an `accuracy` line the error
+/// isn't above the bound. So it is in each run of a document, by what `accuracy` says of the document where the run
+/// ends. Nothing is said of the root itself, of systems that are far, and of those whose root can't be a grandmaster;
+/// nor that time comes.
+pub fn errors_are_within<F: Fate>()
+    ensures stretches { ErrorsAreWithin F.answers }
+    ensures runs { RunsAreWithin F.answers }
 {}

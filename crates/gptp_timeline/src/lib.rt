@@ -30,7 +30,9 @@ pub use amounts::Near;
 pub use counts::{Counts, times};
 pub use end::end_by_default;
 pub use ends::StretchEnd;
-pub use laws::{last_lines_tell, stretches_follow, stretches_settle, timelines_are_runs};
+pub use laws::{
+    errors_are_within, last_lines_tell, stretches_follow, stretches_settle, timelines_are_runs,
+};
 pub use limits::{Exceeded, Limits, is_above, is_any_above, write_first_exceeded};
 pub use measures::{Greatest, Measures, better_if};
 pub use stretch::{Longest, Stretch, TimeOrNone, Worst};

@@ -1,4 +1,4 @@
-use Rattle.std.proofs.Common.{◌≡◌, ◌≤◌, ◌+◌, cond, drop, nat_lt, ap, ◌∙◌, arith}
+use Rattle.std.proofs.Common.{◌+◌, drop, nat_lt, ap, ◌∙◌, arith}
 use Rattle.std.specs.List.{count_by}
 use Rattle.gptp_timeline.specs.Stretch.{distinct, times}
 use Rattle.gptp_timeline.proofs.CountLemmas.{byte_is, several_more, one_at_most}

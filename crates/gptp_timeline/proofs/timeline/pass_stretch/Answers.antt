@@ -4,7 +4,7 @@ use Rattle.gptp_sink.specs.Sink.{AppendsSome}
 use Rattle.gptp_world.proofs.FollowLemmas.{text_append}
 use Rattle.gptp_sink.proofs.SinkLemmas.{after_error, appends_both, some_behind}
 use Rattle.gptp_spelling.specs.Lines.{text_of}
-use Rattle.gptp_timeline.specs.Timeline.{end_lines, exact_time}
+use Rattle.gptp_timeline.specs.Timeline.{end_lines}
 use Rattle.gptp_timeline.specs.Watch.{begun}
 use Rattle.gptp_timeline.proofs.PassLemmas.{if_ok_both, sees_all, sees_some}
 use Rattle.gptp_timeline.proofs.timeline.pass_stretch.Goals as goal
