@@ -1,1 +1,2 @@
+mod ExactLemmas
 mod PairLemmas

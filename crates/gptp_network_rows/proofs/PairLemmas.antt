@@ -59,7 +59,7 @@ use Rattle.gptp_reached.proofs.CalmLemmas.{quiet_stands, set_stands}
 use Rattle.gptp_reached.proofs.PlayedLemmas.{played_stands}
 use Rattle.gptp_reached.proofs.SnapshotLemmas.{snapshots_stand, systems_stand}
 use Rattle.gptp_reached.proofs.SyncPathLemmas.{paths_stand}
-use Rattle.gptp_network_rows.specs.Pair.{HasBegun, IsPairAt, first, pair_network, pair_pace, pair_paths, pair_snapshot, params, second}
+use Rattle.gptp_network_rows.specs.Pair.{HasBegun, IsPairAt, first, pair_network, pair_pace, pair_paths, pair_snapshot, second}
 
 -- ---- the network
 
@@ -67,11 +67,11 @@ use Rattle.gptp_network_rows.specs.Pair.{HasBegun, IsPairAt, first, pair_network
 abbrev document : DocumentState
 document = record { network = pair_network; events = [] }
 
-pace_is : pace_of pair_network ≡ pair_pace
+pub pace_is : pace_of pair_network ≡ pair_pace
 unfolding largest_of
 pace_is = refl
 
-paths_are : sync_paths pair_network [] ≡ pair_paths
+pub paths_are : sync_paths pair_network [] ≡ pair_paths
 unfolding path_systems
 paths_are = refl
 
@@ -79,7 +79,7 @@ links_rest : AllRest pair_network.params pair_network.systems pair_network.links
 links_rest zero x early = λ used. record { lossless = refl; good = omega arith }
 links_rest (suc i) x early = absurd (omega (arith, early))
 
-calm : IsCalm pair_network []
+pub calm : IsCalm pair_network []
 calm = record { links = links_rest; lapses = inl refl }
 
 stands_after : StandsAfter pair_network [] pair_snapshot
@@ -94,6 +94,12 @@ stands_after = record {
     later y (inr none) = absurd none
 
 -- ---- its world
+
+pub snapshot_is : (w : WorldState) → StandsAs pair_network [] w → IsSound w → snapshot_of w ≡ pair_snapshot
+snapshot_is w so sound =
+    ap₂ (λ (ss : List System) (ls : List Link). record { systems = ss; links = ls })
+    (systems_stand pair_network [] w so sound)
+    (snapshots_stand pair_network [] w pair_snapshot so sound stands_after).1
 
 -- what it comes to by a time
 module _ {F : Type 0} (answers : Bounds → ℕ → F → Option ℕ → F → Type 0) (fate fate_after : F) (told : List Told)
@@ -114,16 +120,13 @@ module _ {F : Type 0} (answers : Bounds → ℕ → F → Option ℕ → F → T
   systems : live_systems w.stations ≡ pair_snapshot.systems
   systems = systems_stand pair_network [] w so reached.sound
 
-  snapshot : snapshot_of w ≡ pair_snapshot
-  snapshot = ap₂ (λ (ss : List System) (ls : List Link). record { systems = ss; links = ls }) systems
-      (snapshots_stand pair_network [] w pair_snapshot so reached.sound stands_after).1
-
   have_pace : HavePace (pace_of pair_network) w
   have_pace place station here = (set_stands pair_network [] w so claimed place station here).starts
 
   pub comes_to : IsPairAt time w
   comes_to = record {
-    snapshot = snapshot;
+    since = record { network = k.network; stands = so; late = rw reached.now (omega arith) };
+    snapshot = snapshot_is w so reached.sound;
     calm = λ span early. record {
       pace = pair_pace;
       set = subst (λ p. HavePace p w) pace_is have_pace;
@@ -157,7 +160,7 @@ leading = record {
   ports = record { number = 1; role = settled.Master } ∷ [];
 }
 
-well_formed : IsWellFormed pair_snapshot
+pub well_formed : IsWellFormed pair_snapshot
 unfolding ℕ_discrete dec_le dec_lt dec_both dec_either IsLower-dec PortIdentity-dec
 well_formed = (sure_well_formed pair_snapshot).1 refl
 
@@ -167,10 +170,10 @@ choice =
     let passes = (sure_passes pair_snapshot (leading ∷ following ∷ [])).1 refl in
     sound pair_snapshot (leading ∷ following ∷ []) well_formed passes
 
-led : IsSettledLine pair_snapshot leading
+pub led : IsSettledLine pair_snapshot leading
 led = choice.settled leading (inl refl)
 
-follows : IsSettledLine pair_snapshot following
+pub follows : IsSettledLine pair_snapshot following
 follows = choice.settled following (inr (inl refl))
 
 -- ---- whatever settles so
@@ -191,7 +194,7 @@ slave_is (Some n) (l, parent, own) =
     let same = IsParent-unique pair_snapshot 2 l there parent (follows.parent refl) in
     ap Some (sym own ∙ ap (λ (k : ParentLink). k.own_port) same)
 
-near : IsNear pair_snapshot 2
+pub near : IsNear pair_snapshot 2
 near = (1, follows.steps, omega arith)
 
 near_first : IsNear pair_snapshot 1

@@ -2,7 +2,6 @@
 -- long enough.
 use Rattle.std.specs.Prelude.{◌≡◌, ◌≤◌, ℕ, ℤ, pos, negsuc, true, List, [], ◌∷◌, Option}
 use Rattle.arrayvec.specs.ArrayVec.{ArrayVec}
-use Rattle.gptp_vector.specs.declared.port.PortId.{PortId}
 use Rattle.gptp_setup.specs.Pace.{Pace}
 use Rattle.gptp_setup.specs.declared.setup.Params.{Params}
 use Rattle.gptp_links.specs.declared.bounds.Bounds.{Bounds}
@@ -14,6 +13,7 @@ use Rattle.gptp_acts.specs.Course.{Begun}
 use Rattle.gptp_acts.specs.World.{WorldState, port_id}
 use Rattle.gptp_kept.specs.CalmFor.{IsCalmFor}
 use Rattle.gptp_kept.specs.Standing.{snapshot_of}
+use Rattle.gptp_reached.specs.Reached.{StandsAs}
 
 -- ---- the network
 
@@ -82,8 +82,15 @@ pub record HasBegun {F : Type 0} (answers : Bounds → ℕ → F → Option ℕ 
   pub before : F
   pub begun : Begun answers pair_network before fate w
 
+-- The world of both at this time or later: nothing has happened to the network.
+pub record IsPairSince (time : ℕ) (w : WorldState) : Type 0 where
+  pub network : IsNetwork pair_network
+  pub stands : StandsAs pair_network [] w
+  pub late : time ≤ w.time
+
 -- The world of both at this time. It has been calm for each span, by the pace of the network, by what Sync has to cross
 -- and by the two systems, that is no longer.
 pub record IsPairAt (time : ℕ) (w : WorldState) : Type 0 where
+  pub since : IsPairSince time w
   pub snapshot : snapshot_of w ≡ pair_snapshot
   pub calm : (span : Pace → SyncPaths → ℕ → ℕ) → span pair_pace pair_paths 2 ≤ time → IsCalmFor span w

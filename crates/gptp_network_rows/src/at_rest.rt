@@ -1,7 +1,7 @@
 //! What is proved of two systems at rest, seen.
 
 use crate::drawn::{
-    announce_at_rest, capable_in_time, enabled_in_time, follow_at_rest, play_at_rest,
+    announce_at_rest, capable_in_time, enabled_in_time, exact_in_time, follow_at_rest, play_at_rest,
 };
 use crate::same::same;
 use gptp_links::PcgFate;
@@ -41,6 +41,12 @@ fn two_systems_at_rest_are_as_proved(rt: HostRuntime) -> Result<(), Fail> {
     same(
         &rt,
         enabled_in_time(rt.alloc(), PcgFate::new(1))?.is_some_and(|role| role != Role::Disabled),
+        true,
+    );
+    let offset = exact_in_time(rt.alloc(), PcgFate::new(1))?;
+    same(
+        &rt,
+        offset.is_some_and(|offset| offset.value().unsigned_abs() <= 19),
         true,
     );
     Ok(())

@@ -9,6 +9,7 @@ use crate::ring::{
 use gptp_links::PcgFate;
 use gptp_messages::{AnnounceView, Message, PathView, decode};
 use gptp_roles::Role;
+use gptp_system::Answer;
 use gptp_vector::ClockId;
 use gptp_world::{Done, Refused, World};
 use std::alloc::Global;
@@ -19,6 +20,13 @@ const ACTS: u32 = 100_000;
 
 /// So many ns.
 const SECOND: u64 = 1_000_000_000;
+
+/// How long what a system uses has been on its way for each link of it: the threshold and the residence.
+const LINK: u64 = 1_800;
+
+/// How wrong an offset is at most, one link from the root and two, in units of 2^-16 ns: worked out by another program,
+/// from the sums as docs/PLANNING.md has them.
+const BOUNDS_OF_LINKS: [u128; 2] = [26_222_419, 52_444_891];
 
 /// From when on what holds, in a stretch between two changes. All is counted from the earlier one, or from the start, in
 /// announce intervals, of which the largest in the network counts.
@@ -277,10 +285,92 @@ fn is_told_clean(live: &Live<'_>, times: &Times, at: u64, done: &Done) -> bool {
     }
 }
 
+/// How wrong the offset of a system is at a time, in units of 2^-16 ns, where its root is another.
+fn error_of(world: &World<PcgFate>, member: ClockId, root: ClockId, at: u64) -> Option<u128>
+    requires moment { at ≤ 1000000000000000 }
+{
+    let system = world.system(member)?;
+    let leader = world.system(root)?;
+    let ahead = system.local(at).checked_sub(leader.local(at)).ok()?;
+    let error = system.offset()?.checked_sub(ahead).ok()?;
+    Some(error.value().unsigned_abs())
+}
+
+/// How wrong it is at most, so many steps away.
+fn bound_of(steps: u16) -> Option<u128> {
+    let place = usize::from(steps).checked_sub(1)?;
+    BOUNDS_OF_LINKS.get(place).copied()
+}
+
+/// Whether it is no worse.
+fn is_within(world: &World<PcgFate>, member: ClockId, root: ClockId, steps: u16, at: u64) -> bool
+    requires moment { at ≤ 1000000000000000 }
+{
+    match (error_of(world, member, root, at), bound_of(steps)) {
+        (Some(error), Some(bound)) => error <= bound,
+        _ => false,
+    }
+}
+
+/// Whether a system that used a Follow_Up at a time is as exact as it should be, by what it should follow.
+fn is_exact(
+    world: &World<PcgFate>,
+    live: &Live<'_>,
+    times: &Times,
+    at: u64,
+    member: ClockId,
+) -> bool
+    requires moment { times.now.end ≤ 1000000000000000 }
+{
+    if at < times.settled || times.end < at {
+        return true;
+    }
+    let since = at - times.settled;
+    for (number, root, steps, _) in live.followed {
+        if member == clock(*number) {
+            return since < u64::from(*steps) * LINK
+                || is_within(world, member, clock(*root), *steps, at);
+        }
+    }
+    false
+}
+
+/// Whether a frame is a Follow_Up.
+fn is_follow_up(frame: &[u8]) -> bool {
+    match decode(frame) {
+        Ok(Message::FollowUp(_)) => true,
+        _ => false,
+    }
+}
+
+/// Whether what an act at a time told left an exact offset, where it is a Follow_Up that was used.
+fn is_told_exact(
+    world: &World<PcgFate>,
+    live: &Live<'_>,
+    times: &Times,
+    at: u64,
+    done: &Done,
+) -> bool
+    requires moment { times.now.end ≤ 1000000000000000 }
+{
+    match done {
+        Done::Heard {
+            clock: member,
+            answer: Some(Answer::Used),
+            frame,
+            ..
+        } => !is_follow_up(frame.as_slice()) || is_exact(world, live, times, at, *member),
+        _ => true,
+    }
+}
+
 /// Whether all holds that should after an act at a time.
-fn holds(world: &World<PcgFate>, live: &Live<'_>, times: &Times, at: u64, done: &Done) -> bool {
+fn holds(world: &World<PcgFate>, live: &Live<'_>, times: &Times, at: u64, done: &Done) -> bool
+    requires moment { times.now.end ≤ 1000000000000000 }
+{
     (at < times.capable || are_capable(world, live))
         && is_told_clean(live, times, at, done)
+        && is_told_exact(world, live, times, at, done)
         && (at < times.settled || is_settled(world, live))
 }
 

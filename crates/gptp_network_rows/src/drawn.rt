@@ -1,18 +1,23 @@
 //! What two systems show once they have settled, as functions whose contracts follow from those of their world's calls:
 //! from what these say of every world that has been calm for long enough. Times are in ns.
 
-ghost use Rattle.std.specs.Prelude.{◌≡◌, ◌≢◌, ◌≤◌, ◌∷◌, [], true, IfOk, None, OnOk, Some};
+ghost use Rattle.std.specs.Prelude.{◌≡◌, ◌≢◌, ◌≤◌, ◌∷◌, [], true, IfOk, IfSome, None, OnOk, Some, pos};
 ghost use Rattle.gptp_acts.specs.Views.{ShowsLive};
 ghost use Rattle.gptp_kept.specs.Shown.{IsCapableInTime};
+ghost use Rattle.gptp_kept.specs.TimedLaws.{AreFollowUp};
+ghost use Rattle.gptp_reached.specs.Headline.{LeavesOffset, UsesFollowUp};
 ghost use Rattle.gptp_roles.specs.declared.role.Role.TheVariants.{Disabled, Master, Slave};
-ghost use Rattle.gptp_network_rows.specs.Pair.{HasBegun, IsPairAt, each_second, first, pair_network, second};
+ghost use Rattle.gptp_scaled.specs.Counts.{AreWithin};
+ghost use Rattle.gptp_network_rows.specs.Pair.{HasBegun, IsPairAt, IsPairSince, each_second, first, pair_network, second};
 
 use arrayvec::ArrayVec;
 use gptp_links::Fate;
+use gptp_messages::{Message, decode};
 use gptp_roles::Role;
-use gptp_system::System;
+use gptp_scaled::ScaledNs;
+use gptp_system::{Answer, System};
 use gptp_vector::{ClockId, Identity, PortId, Trace};
-use gptp_world::{Network, NetworkFault, Params, World};
+use gptp_world::{Done, Network, NetworkFault, Params, World};
 use std::alloc::Global;
 
 /// What both systems have: intervals of 1 s, and of 125 ms for time.
@@ -33,6 +38,13 @@ const CAPABLE: u64 = 14_000_000_000;
 
 /// When all has settled: after (k + 3) n + L + 5, k being 3, and n 2.
 const SETTLED: u64 = 26_000_000_000;
+
+/// Before the second hears the Sync that leaves the first at 27.125 s, and its Follow_Up. By then all has settled, and
+/// what it uses has come down the one link: that takes a threshold and a residence at most, 1,800 ns.
+const AWAITS: u64 = 27_125_000_499;
+
+/// When nothing is awaited any more.
+const LAST: u64 = 28_000_000_000;
 
 /// The identity with this clock, and all defaults.
 fn identity(clock: u8) -> Identity
@@ -232,4 +244,77 @@ pub fn enabled_in_time<F: Fate + Drop>(alloc: Global, fate: F) -> Result<Option<
 {
     let world = pair_at(alloc, fate, CAPABLE)?;
     Ok(second_is_enabled(&world))
+}
+
+/// Whether octets are a Follow_Up.
+fn is_follow_up(octets: &[u8]) -> bool
+    ensures { result ≡ true → AreFollowUp octets.now }
+{
+    match decode(octets) {
+        Ok(Message::FollowUp(_)) => true,
+        _ => false,
+    }
+}
+
+/// Whether the second system used a Follow_Up by an act of which this is told.
+fn second_uses(done: &Done) -> bool
+    ensures { result ≡ true → UsesFollowUp 2 done.now }
+{
+    match done {
+        Done::Heard {
+            clock,
+            answer: Some(Answer::Used),
+            frame,
+            ..
+        } => *clock == ClockId::from(2) && is_follow_up(frame.as_slice()),
+        _ => false,
+    }
+}
+
+/// The offset that it is left, where it did.
+fn second_offset<F: Fate + Drop>(world: &World<F>, done: &Done) -> Option<ScaledNs>
+    ensures { IfSome result (λ offset. LeavesOffset 2 offset world.now.scene done.now) }
+{
+    if !second_uses(done) {
+        return None;
+    }
+    match world.system(ClockId::from(2)) {
+        Some(system) => system.offset(),
+        None => None,
+    }
+}
+
+/// The next act is done. The offset that it leaves the second, where that used a Follow_Up: in units of 2^-16 ns, and no
+/// more than rounding, as both clocks show the same.
+#[tactic(auto, using(crate::proofs::ExactLemmas::second_is_exact))]
+fn receive<F: Fate + Drop>(world: &mut World<F>) -> Result<Option<ScaledNs>, NetworkFault>
+    requires { IsPairSince 27000000000 world.old.scene }
+    ensures since { OnOk result (IsPairSince 27000000000 world.new.scene) }
+    ensures exact { IfOk result (λ received. IfSome received (λ offset. AreWithin 19 offset (pos 0))) }
+{
+    world.well_formed();
+    let timed = match world.next() {
+        Some(timed) => timed,
+        None => return Ok(None),
+    };
+    if LAST < timed.at {
+        return Ok(None);
+    }
+    match world.act(timed) {
+        Ok(done) => Ok(second_offset(world, &done)),
+        Err(_) => Err(NetworkFault::OutOfMemory),
+    }
+}
+
+/// The offset of the second by the first two acts behind 27.125 s: it hears a Sync, and then the Follow_Up. Refused for
+/// want of memory alone.
+pub fn exact_in_time<F: Fate + Drop>(
+    alloc: Global,
+    fate: F,
+) -> Result<Option<ScaledNs>, NetworkFault>
+    ensures { IfOk result (λ received. IfSome received (λ offset. AreWithin 19 offset (pos 0))) }
+{
+    let mut world = pair_at(alloc, fate, AWAITS)?;
+    let _by_sync = receive(&mut world)?;
+    receive(&mut world)
 }

@@ -8,13 +8,13 @@ use gptp_world::{Act, Change, Refused, Timed, World};
 use std::alloc::{AllocError, Global};
 use std::test::Fail;
 
-/// Clocks 1 to 4, with all defaults and as many ports as there are links at them.
+/// Clocks 1 to 4, with as many ports as there are links at them. Some are as fast or as slow as they may be.
 const SYSTEMS: &str =
-    "version = 1\n[[system]]\nclock = \"0000000000000001\"\n[[system]]\nclock = \"0000000000000002\"\nports = 3\n[[system]]\nclock = \"0000000000000003\"\nports = 2\n[[system]]\nclock = \"0000000000000004\"\nports = 2\n";
+    "version = 1\n[[system]]\nclock = \"0000000000000001\"\ndrift = 219902325\n[[system]]\nclock = \"0000000000000002\"\nports = 3\nphase = 1000000\ndrift = -219902325\n[[system]]\nclock = \"0000000000000003\"\nports = 2\nphase = 2000\ndrift = 219902325\n[[system]]\nclock = \"0000000000000004\"\nports = 2\ndrift = 43980465\n";
 
 /// The same in a document of version 2, where some of their ports announce each second and some each two.
 const MIXED_SYSTEMS: &str =
-    "version = 2\n[[system]]\nclock = \"0000000000000001\"\nannounce = [1]\n[[system]]\nclock = \"0000000000000002\"\nports = 3\nannounce = [0, 1, 0]\n[[system]]\nclock = \"0000000000000003\"\nports = 2\nannounce = [1, 0]\n[[system]]\nclock = \"0000000000000004\"\nports = 2\nannounce = [0, 1]\n";
+    "version = 2\n[[system]]\nclock = \"0000000000000001\"\nannounce = [1]\ndrift = 219902325\n[[system]]\nclock = \"0000000000000002\"\nports = 3\nannounce = [0, 1, 0]\nphase = 1000000\ndrift = -219902325\n[[system]]\nclock = \"0000000000000003\"\nports = 2\nannounce = [1, 0]\nphase = 2000\ndrift = 219902325\n[[system]]\nclock = \"0000000000000004\"\nports = 2\nannounce = [0, 1]\ndrift = 43980465\n";
 
 /// What each link joins: clock 1 hangs on clock 2, and 2, 3 and 4 are a ring.
 const LINKS: [&str; 4] = [

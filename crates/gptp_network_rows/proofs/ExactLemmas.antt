@@ -1,0 +1,273 @@
+-- The offset that the second of two systems is left by a Follow_Up is exact, as each act of their world promises.
+use Rattle.std.proofs.Common.{◌≡◌, ◌≤◌, ◌+◌, ◌-ℤ◌, ℕ, zero, suc, ℤ, pos, true, [], ◌∷◌, Option, Some, length, slice_get, refl, sym, ap, subst, ◌∙◌, inl, inr, arith}
+use Rattle.std.proofs.lemmas.Int.{ints}
+use Rattle.std.proofs.lemmas.Option.{none-some, same_Some}
+use Rattle.gptp_accuracy.specs.TimeError.{Way, time_error}
+use Rattle.gptp_accuracy.specs.WayLaws.{longer}
+use Rattle.gptp_acts.specs.Acts.{at}
+use Rattle.gptp_acts.specs.Course.{WasDone}
+use Rattle.gptp_acts.specs.declared.done.Done.{Done}
+use Rattle.gptp_acts.specs.declared.done.Done.TheVariants.{Heard, Quiet}
+use Rattle.gptp_acts.specs.declared.item.Item.{Item}
+use Rattle.gptp_acts.specs.declared.item.Item.TheVariants.{Arrival, Expiry}
+use Rattle.gptp_acts.specs.declared.station.Station.{Station}
+use Rattle.gptp_acts.specs.Prompt.{HavePace}
+use Rattle.gptp_acts.specs.Sound.{IsSound}
+use Rattle.gptp_acts.specs.Views.{IsActOf, IsNextAct, ShowsLive}
+use Rattle.gptp_acts.specs.World.{WorldState, port_id}
+use Rattle.gptp_acts.proofs.AdvanceLemmas.{leaves_less}
+use Rattle.gptp_acts.proofs.SoundLemmas.{later_sound}
+use Rattle.gptp_graph.specs.Best.{IsBest}
+use Rattle.gptp_graph.specs.Distance.{IsDistance, IsNear}
+use Rattle.gptp_graph.specs.Parent.{IsParent, ParentLink}
+use Rattle.gptp_graph.specs.PathBound.{BoundsPaths}
+use Rattle.gptp_graph.specs.SettledChoice.{IsBestIdentity}
+use Rattle.gptp_graph.specs.Snapshot.{Snapshot, System, port_of}
+use Rattle.gptp_graph.proofs.LinkLemmas.{Joins-sym}
+use Rattle.gptp_graph.proofs.PathLemmas.{path_bounded}
+use Rattle.gptp_kept.specs.Calm.{IsQuietWorld, sync_paths_of}
+use Rattle.gptp_kept.specs.CalmFor.{IsCalmFor}
+use Rattle.gptp_kept.specs.Claimed.{Claimed}
+use Rattle.gptp_kept.specs.Exact.{IsAhead, IsErrorOf, IsExactInTime, IsHeardExact, exact_span}
+use Rattle.gptp_kept.specs.Followers.{bound_at, parts_of}
+use Rattle.gptp_kept.specs.SeenLaws.{IsNoChange}
+use Rattle.gptp_kept.specs.Standing.{live_systems, snapshot_of}
+use Rattle.gptp_kept.proofs.FollowPartLemmas.{bound_is, clock_shown, set_up_is}
+use Rattle.gptp_kept.proofs.WayLemmas.{way_of}
+use Rattle.gptp_links.specs.declared.bounds.Bounds.{Bounds}
+use Rattle.gptp_lists.specs.Members.{In}
+use Rattle.gptp_lists.proofs.MappedLemmas.{alike}
+use Rattle.gptp_pdelay.specs.Clock.{local_clock}
+use Rattle.gptp_plan.specs.Change.{link_after}
+use Rattle.gptp_plan.specs.Network.{pace_of, wire}
+use Rattle.gptp_plan.specs.declared.change.Act.{Act}
+use Rattle.gptp_plan.specs.declared.change.Timed.{Timed}
+use Rattle.gptp_plan.specs.declared.network.Wire.{Wire}
+use Rattle.gptp_reached.specs.Headline.{LeavesOffset}
+use Rattle.gptp_reached.specs.Reached.{Shape, shape, shape_after, wire_of}
+use Rattle.gptp_reached.proofs.CalmLemmas.{quiet_stands, set_stands}
+use Rattle.gptp_reached.proofs.KeptLemmas.{acts_stand, time_stands}
+use Rattle.gptp_reached.proofs.SyncPathLemmas.{paths_stand}
+use Rattle.gptp_roles.specs.Selection.{clock_of}
+use Rattle.gptp_scaled.specs.Counts.{AreWithin}
+use Rattle.gptp_system.specs.State.{clock, local_time}
+use Rattle.gptp_timing.specs.Tree.{IsWayTo, Parts, last_link, root_way}
+use Rattle.gptp_network_rows.specs.Pair.{IsPairSince, end_station, first, pair_network, pair_pace, pair_snapshot, params, second}
+use Rattle.gptp_network_rows.proofs.PairLemmas.{calm as is_calm, follows, led, near, pace_is, paths_are, snapshot_is, well_formed}
+
+-- ---- what holds of numbers
+
+-- clocks that show the same are not ahead of each other
+none_ahead : (x y z : ℤ) → x ≡ z → y ≡ z → pos 0 ≡ x -ℤ y
+none_ahead x y z own other = omega (arith, ints, own, other)
+
+-- the link of the pair
+abbrev pair_wire : Wire
+pair_wire = wire 0 (port_id 1 1) (port_id 2 1) 500 500 0 true
+
+only_link : (place : ℕ) (v : Wire) → slice_get pair_network.links place ≡ Some v → v ≡ pair_wire
+only_link zero v there = sym (same_Some pair_wire v there)
+only_link (suc place) v there = absurd (none-some v there)
+
+-- the way over one link that takes 500 ns, between two clocks that run exactly
+abbrev short_way : Way
+short_way = record {
+  drift = pos 0;
+  links = record { least = 500; most = 500; drift = pos 0 } ∷ [];
+  interval = 1000000000;
+  turnaround = 1000;
+  residence = 1000;
+}
+
+short_error : time_error short_way ≡ 19
+short_error = refl
+
+-- ---- an act
+
+-- what is pending is no change
+no_change : (item : Item) (act : Act) (w : WorldState) → IsActOf item w act → IsNoChange act
+no_change (Arrival link direction) act w is = subst IsNoChange (sym is) tt
+no_change (Expiry place timer) act w (station, here, is) = subst IsNoChange (sym is) tt
+
+-- behind the next act it is the same pair
+pub goes_on : {F : Type 0} (answers : Bounds → ℕ → F → Option ℕ → F → Type 0) (time : ℕ) (timed : Timed)
+    (fate fate_after : F) (w w' : WorldState) (done : Done) → IsPairSince time w → IsSound w → IsNextAct w timed
+    → WasDone answers timed fate fate_after w w' done → IsPairSince time w'
+goes_on answers time timed fate fate_after w w' done k sound next was =
+    let timely = was.ready.timely in
+    let now : IsSound (at timed.at w) = later_sound w timed.at w.last_change sound timely.first in
+    let left = leaves_less next.item timed.at timed.act w was.draws done w' now next.act was.acts in
+    let then : w'.time ≡ timed.at = left.is_time in
+    let passed : w.time ≤ timed.at = timely.now in
+    let late : time ≤ w.time = k.late in
+    record {
+      network = k.network;
+      stands = acts_stand pair_network [] timed.act (at timed.at w) was.draws done w'
+          (no_change next.item timed.act w next.act) was.acts (time_stands pair_network [] w timed.at k.stands);
+      late = omega (arith, then, passed, late);
+    }
+
+-- ---- the pair once all has settled
+
+module _ (w : WorldState) (time : ℕ) (k : IsPairSince 27000000000 w) (sound : IsSound w) (claimed : Claimed w)
+    (passed : w.time ≤ time) where
+  abbrev x : Parts
+  x = parts_of params w
+
+  abbrev there : ParentLink
+  there = record { own_port = 1; clock = 1; port = 1 }
+
+  snapshot : snapshot_of w ≡ pair_snapshot
+  snapshot = snapshot_is w k.stands sound
+
+  of_pair : (P : Snapshot → Type 0) → P pair_snapshot → P (snapshot_of w)
+  of_pair P = subst P (sym snapshot)
+
+  quiet : IsQuietWorld params w
+  quiet = quiet_stands pair_network [] w k.network k.stands sound is_calm
+
+  late : w.last_change + exact_span 2 1 pair_pace (sync_paths_of w) (length (snapshot_of w).systems) ≤ time
+  late =
+      let since : 27000000000 ≤ w.time = k.late in
+      subst (λ paths. w.last_change + exact_span 2 1 pair_pace paths (length (snapshot_of w).systems) ≤ time)
+      (sym paths_are ∙ paths_stand pair_network [] w k.network k.stands sound)
+      (rw k.stands.last (omega (arith, since, passed)))
+
+  have_pace : HavePace (pace_of pair_network) w
+  have_pace place station here = (set_stands pair_network [] w k.stands claimed place station here).starts
+
+  abbrev calm : IsCalmFor (exact_span 2 1) (at time w)
+  calm = record {
+    pace = pair_pace;
+    set = subst (λ p. HavePace p w) pace_is have_pace;
+    quiet = record { links = quiet.links; lapses = quiet.lapses };
+    late = late;
+  }
+
+  bounded : BoundsPaths (snapshot_of w) 2
+  bounded = of_pair (λ g. BoundsPaths g 2) (λ v u us way. path_bounded pair_snapshot v u us well_formed way)
+
+  parent : IsParent (snapshot_of w) 2 there
+  parent = of_pair (λ g. IsParent g 2 there) (follows.parent refl)
+
+  -- ---- its numbers
+
+  module _ (place number identity : ℕ) (stands : slice_get pair_network.systems place ≡ Some (end_station identity))
+      (is : clock_of identity ≡ number) where
+    found : (station : Station) × (slice_get w.stations place ≡ Some station)
+        × (shape station ≡ shape_after (pace_of pair_network) [] (end_station identity))
+    found = alike shape (shape_after (pace_of pair_network) []) w.stations pair_network.systems k.stands.systems place
+        (end_station identity) stands
+
+    named : clock found.0.system ≡ number
+    named =
+        sym (sound.wired.setups place found.0 found.1).named
+        ∙ ap (λ (s : Shape). clock_of s.setup.identity) found.2 ∙ is
+
+    shows : ShowsLive number w found.0.system
+    shows = record {
+      place = place;
+      station = found.0;
+      is = record { here = found.1; named = named };
+      live = ap (λ (s : Shape). s.live) found.2;
+      state = refl;
+    }
+
+    drift_is : x.drift number ≡ pos 0
+    drift_is =
+        ap x.drift (sym named)
+        ∙ set_up_is (λ setup. setup.drift) (pos 0) w sound.wired.clocks place found.0 found.1
+        ∙ ap (λ (s : Shape). s.setup.drift) found.2
+
+    phase_is : x.phase number ≡ 0
+    phase_is =
+        ap x.phase (sym named)
+        ∙ set_up_is (λ setup. setup.phase) 0 w sound.wired.clocks place found.0 found.1
+        ∙ ap (λ (s : Shape). s.setup.phase) found.2
+
+    time_is : local_time found.0.system time ≡ local_clock 0 (pos 0) time
+    time_is =
+        clock_shown params w sound claimed.is.measured place found.0 found.1 time
+        ∙ ap (λ c. local_clock (x.phase c) (x.drift c) time) named
+        ∙ (λ i. local_clock (phase_is i) (drift_is i) time)
+
+  bound_there : (f : Bounds → ℕ)
+      → bound_at f (live_systems w.stations) w.net.channels (port_of 2 1) ≡ f pair_wire.bounds
+  bound_there f =
+      let way = way_of w (port_of 1 1) (port_of 2 1)
+      (Joins-sym (snapshot_of w) (port_of 2 1) (port_of 1 1) parent.nearer.joins) in
+      let (v, at_place, same) = alike (link_after []) wire_of pair_network.links w.net.channels (sym k.stands.links)
+      way.link way.channel way.here in
+      ap (bound_at f (live_systems w.stations) w.net.channels) (sym way.to)
+      ∙ bound_is f w sound claimed.is.world.legible way.link way.direction way.channel way.here way.used
+      ∙ ap (λ (l : Wire). f l.bounds) (sym same) ∙ ap (λ (l : Wire). f l.bounds) (only_link way.link v at_place)
+
+  -- ---- its way
+
+  abbrev way : Way
+  way = longer (root_way x 1) (last_link x 2 there)
+
+  phases : ℕ → ℕ
+  phases zero = x.phase 1
+  phases (suc i) = x.phase 2
+
+  leads : IsWayTo x (snapshot_of w) 1 2 way phases
+  unfolding phases
+  leads = (there, root_way x 1, parent, (of_pair (λ g. IsDistance g 1 0) led.steps, refl, refl), refl, refl)
+
+  way_is : way ≡ short_way
+  way_is =
+      let root = drift_is 0 1 first refl refl in
+      let own = drift_is 1 2 second refl refl in
+      let least = bound_there (λ b. b.min) in
+      let most = bound_there (λ b. b.max) in
+      λ i. record {
+        drift = root i;
+        links = record { least = least i; most = most i; drift = own i } ∷ [];
+        interval = 1000000000;
+        turnaround = 1000;
+        residence = 1000;
+      }
+
+  error : IsErrorOf params w 2 1 19
+  error = record { way = way; phase = phases; leads = leads; is = sym (ap time_error way_is ∙ short_error) }
+
+  -- ---- its clocks
+
+  first_is : (best : System) → In best pair_snapshot.systems → first ≡ best.identity → 1 ≡ best.clock
+  first_is best (inl same) is = sym (ap (λ (s : System). s.clock) same)
+  first_is best (inr (inl same)) is =
+      let other : first ≡ second = is ∙ ap (λ (s : System). s.identity) same in absurd (omega (arith, other))
+  first_is best (inr (inr none)) is = absurd none
+
+  ahead : IsAhead w 2 time (pos 0)
+  ahead =
+      let (best, is_best, is) : IsBestIdentity pair_snapshot 2 first = follows.root in
+      let own = found 1 2 second refl refl in
+      let root = found 0 1 first refl refl in
+      record {
+        own = own.0.system;
+        shows = shows 1 2 second refl refl;
+        best = best;
+        is_best = of_pair (λ g. IsBest g 2 best) is_best;
+        root = root.0.system;
+        shows_root = subst (λ c. ShowsLive c w root.0.system) (first_is best is_best.live is)
+            (shows 0 1 first refl refl);
+        is = none_ahead (local_time own.0.system time) (local_time root.0.system time) (local_clock 0 (pos 0) time)
+            (time_is 1 2 second refl refl) (time_is 0 1 first refl refl);
+      }
+
+  -- ---- its offset
+
+  exact : (offset : ℤ) → IsExactInTime 2 w time offset → AreWithin 19 offset (pos 0)
+  exact offset promised = promised 2 0 19 (pos 0) calm bounded (of_pair (λ g. IsNear g 2) near) error ahead
+
+pub second_is_exact : (w : WorldState) (time : ℕ) (w' : WorldState) (done : Done) (offset : ℤ)
+    → IsPairSince 27000000000 w → IsSound w → Claimed w → w.time ≤ time → IsHeardExact w time w' done
+    → LeavesOffset 2 offset w' done → AreWithin 19 offset (pos 0)
+second_is_exact w time w' Quiet offset k sound claimed passed promised left = absurd left.uses
+second_is_exact w time w' (Heard number port answer frame) offset k sound claimed passed promised left =
+    let (named, used, (message, reads)) = left.uses in
+    let shows = subst (λ n. ShowsLive n w' left.system) (sym named) left.shows in
+    exact w time k sound claimed passed offset
+    (subst (λ n. IsExactInTime n w time offset) named (promised message left.system offset reads used shows left.is))
