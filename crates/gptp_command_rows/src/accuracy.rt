@@ -123,12 +123,12 @@ fn there_may_be_no_bound(rt: HostRuntime) -> Result<(), Fail> {
 /// Systems in a line, with clocks from 1, over links of these delays, in ns. Their clocks drift by as much either way in
 /// turn.
 #[derive(Clone, Copy, Debug)]
-struct Line {
-    network: &'static str,
-    systems: u16,
-    min: u64,
-    max: u64,
-    drift: i32,
+pub struct Line {
+    pub network: &'static str,
+    pub systems: u16,
+    pub min: u64,
+    pub max: u64,
+    pub drift: i32,
 }
 
 /// Appends a system of the line.
@@ -154,7 +154,7 @@ fn write_link(text: &mut String, number: u16, next: u16, line: &Line) -> Result<
 }
 
 /// The document of a line.
-fn document_of(alloc: Global, line: &Line) -> Result<String, AllocError> {
+pub fn document_of(alloc: Global, line: &Line) -> Result<String, AllocError> {
     let network = line.network;
     let mut text = format!(in alloc; "version = 1\n[network]\n{network}")?;
     for place in 0..line.systems {
@@ -172,7 +172,7 @@ fn document_of(alloc: Global, line: &Line) -> Result<String, AllocError> {
 }
 
 /// A bridge keeps a Sync for 10 ms; the clocks are as fast and as slow as they may be, or don't drift.
-const THREE: Line = Line {
+pub const THREE: Line = Line {
     network: "residence = 10_000_000\n",
     systems: 3,
     min: 500,

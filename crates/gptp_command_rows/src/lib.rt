@@ -14,6 +14,8 @@ mod compare;
 #[cfg(test)]
 mod cut;
 #[cfg(test)]
+mod exact;
+#[cfg(test)]
 mod explain;
 #[cfg(test)]
 mod failing;
