@@ -2,38 +2,48 @@
 
 import argparse
 import os
-import re
 import sys
+from contextlib import ExitStack
+from decimal import Decimal
+from functools import partial
 from pathlib import Path
-from typing import Callable
+from typing import Callable, Iterable
 
-from . import captures, certificates, documents, drawing, faults, graphml, lines, lldp, pages, plans, plots, shapes
-from . import standing, tables, texts, timelines
+from . import asking, captures, cases, certificates, documents, drawing, faults, graphml, jobs, judging, lines, lldp
+from . import pictures, plain, plans, shapes, standing, tables, texts, timelines
+from .called import CALL, NAME
 from .documents import MOST_PORTS, MOST_SYSTEMS, RANGES, Document
-from .plans import Cable, Node
+from .happenings import KINDS
+from .naming import Names
+from .options import FAULTS_OPTIONS, delay, setting, time, whole
+from .packages import need
+from .plans import Plan
 from .program import ask
-from .refusal import MissingPackage, Refused
+from .quantities import in_seconds
+from .readable import Readable
+from .refusal import MissingPackage, NotBuilt, Refused
 
 Arguments = argparse.Namespace
 Call = Callable[[Arguments], int | None]
 
 
 def main(words: list[str]) -> int:
-    """Does what the command line says: 0 done, 1 refused, 2 usage (by argparse), 3 a package is missing."""
+    """Does what the command line says: 0 done, 1 refused, 2 usage (by argparse), 3 not built, or no package."""
     arguments = _parser().parse_args(words)
+    arguments.calls = []
     try:
         return arguments.call(arguments) or 0
     except Refused as why:
-        print(f"planner: {' '.join(str(why).splitlines())}", file=sys.stderr)
+        print(f"{NAME}: {' '.join(str(why).splitlines())}", file=sys.stderr)
         return 1
-    except MissingPackage as why:
-        print(f"planner: {why}", file=sys.stderr)
+    except (MissingPackage, NotBuilt) as why:
+        print(f"{NAME}: {why}", file=sys.stderr)
         return 3
     except BrokenPipeError:
         os.dup2(os.open(os.devnull, os.O_WRONLY), sys.stdout.fileno())  # else Python complains as it ends
         return 1
     except OSError as why:
-        print(f"planner: {why.filename or 'standard output'}: {why.strerror}", file=sys.stderr)
+        print(f"{NAME}: {why.filename or 'standard output'}: {why.strerror}", file=sys.stderr)
         return 1
 
 
@@ -47,8 +57,14 @@ def _write(arguments: Arguments, what: bytes | str) -> None:
         sys.stdout.buffer.flush()
 
 
+def _name(path: str) -> str:
+    """What the file of a document is called."""
+    return "document.toml" if path == "-" else Path(path).name
+
+
 def _asked(arguments: Arguments, octets: bytes, *words: str) -> list[texts.Line]:
-    """The lines of a command of the program for a document."""
+    """The lines of a command of the program for a document; the call is noted."""
+    arguments.calls.append(" ".join(["gptp_sim", *words]))
     return list(texts.read_lines(ask(list(words), octets, arguments.doc), f"gptp_sim {words[0]}"))
 
 
@@ -60,10 +76,19 @@ def _options(arguments: Arguments) -> list[str]:
 
 def _draw(arguments: Arguments) -> None:
     octets = documents.read_file(arguments.doc)
-    at, stands = standing.of_run(_asked(arguments, octets, "run", *_options(arguments)))
-    document = documents.parse(octets, arguments.doc)
-    dot = drawing.graph(document, stands, document.links_up(at), f"at {standing.in_seconds(at)} s")
-    _write(arguments, drawing.svg(dot) if (arguments.o or "").endswith(".svg") else dot)
+    as_svg = (arguments.o or "").endswith(".svg")
+    if arguments.plain:
+        at, stands = standing.of_run(_asked(arguments, octets, "run", *_options(arguments)))
+        document = documents.parse(octets, arguments.doc)
+        dot = plain.graph(document, stands, document.links_up(at), f"at {in_seconds(at)} s")
+        _write(arguments, pictures.draw(["dot", "-Tsvg"], dot) if as_svg else dot)
+        return
+    stretches, document = _timeline(arguments, octets)
+    last = stretches[-1]
+    drawn = drawing.Drawing(document, arguments.fold)
+    seen = drawing.Seen(_bounds(arguments, octets), last.errors())
+    view = drawing.View(last.ended, document.links_up(last.end), f"at {in_seconds(last.end)} s", seen)
+    _write(arguments, drawn.svg(view) if as_svg else drawn.dot(view))
 
 
 def _timeline(arguments: Arguments, octets: bytes) -> tuple[list[timelines.Stretch], Document]:
@@ -72,29 +97,62 @@ def _timeline(arguments: Arguments, octets: bytes) -> tuple[list[timelines.Stret
     return timelines.read(told), documents.parse(octets, arguments.doc)
 
 
+def _bounds(arguments: Arguments, octets: bytes) -> dict[str, Decimal]:
+    """The bound of each system's error in ns, where it has one, after the events up to --until."""
+    until = [] if arguments.until is None else ["--until", str(arguments.until)]
+    return {line["clock"]: line["error"] for line in _asked(arguments, octets, "accuracy", *until)
+            if line.kind == "system bound" and line["error"] is not None}
+
+
 def _report(arguments: Arguments) -> None:
+    need("report", {"jinja2": "python3-jinja2", "matplotlib": "python3-matplotlib"})
+    from . import pages
     octets = documents.read_file(arguments.doc)
     stretches, document = _timeline(arguments, octets)
-    table = faults.read(_asked(arguments, octets, "faults"), "gptp_sim faults") if arguments.faults else None
-    _write(arguments, pages.page(document, Path(arguments.doc).name, stretches, table))
+    bounds = _bounds(arguments, octets)
+    judgement = _judged(arguments, octets, document) if arguments.require else None
+    table = judgement.faults if judgement else None
+    if arguments.faults and table is None:
+        table = faults.in_parts(partial(_asked, arguments, octets), ["faults"], arguments.jobs)
+    shown = [_shown(arguments, octets, table, *it) for it in cases.worst(document, table)] if table else []
+    told = pages.Told(_name(arguments.doc), document, stretches, bounds, table, judgement, shown, arguments.calls,
+                      1 if arguments.seed is None else arguments.seed)
+    _write(arguments, pages.page(told))
+
+
+def _shown(arguments: Arguments, octets: bytes, table: faults.Faults, case: faults.Case, alike: int) -> cases.Shown:
+    """A fault with what happens in its first run."""
+    at = int(table.head["from"])
+    text = octets + b"\n" + "\n".join(event.text() for event in cases.events(case, at)).encode()
+    told = _asked(arguments, text, "timeline", "--until", str(cases.end(case, at)))
+    return cases.Shown(case, alike, at, documents.parse(text, arguments.doc), timelines.read(told))
+
+
+def _judge(arguments: Arguments) -> int:
+    octets = documents.read_file(arguments.doc)
+    judgement = _judged(arguments, octets, documents.parse(octets, arguments.doc))
+    _write(arguments, judgement.text())
+    return 0 if judgement.kept else 1
+
+
+def _judged(arguments: Arguments, octets: bytes, document: Document) -> judging.Judgement:
+    return judging.judge(arguments.require, document, partial(_asked, arguments, octets), arguments.jobs)
 
 
 def _plot(arguments: Arguments) -> None:
-    stretches, document = _timeline(arguments, documents.read_file(arguments.doc))
-    wanted = {_clock(document, word, arguments.doc) for word in arguments.clock}
-    samples = [sample for stretch in stretches for sample in stretch.samples if not wanted or sample.clock in wanted]
-    svg = plots.errors(document, samples)
+    need("plot", {"matplotlib": "python3-matplotlib"})
+    from . import plots
+    octets = documents.read_file(arguments.doc)
+    names = Names(documents.parse(octets, arguments.doc))
+    clocks = [names.clock(word) for word in arguments.system]
+    stretches, document = _timeline(arguments, octets)
+    if arguments.over == "steps":
+        svg = plots.over_steps(document, stretches, clocks, _bounds(arguments, octets))
+    else:
+        svg = plots.over_time(document, stretches, clocks, document.sync)
     if svg is None:
         raise Refused(f"{arguments.doc}: no system has an error to plot")
     _write(arguments, svg)
-
-
-def _clock(document: Document, word: str, source: str) -> str:
-    """The clock of a system that is called by its clock or its name."""
-    clock = document.named(word)
-    if clock is None:
-        raise Refused(f"{source}: there is no system {word}")
-    return clock
 
 
 def _capture(arguments: Arguments) -> None:
@@ -104,28 +162,63 @@ def _capture(arguments: Arguments) -> None:
 
 def _shape(arguments: Arguments) -> None:
     nodes, cables = arguments.shape(*(getattr(arguments, name) for name in arguments.sizes))
-    _document(arguments, nodes, cables, plans.DEFAULT_DELAY)
+    _document(arguments, Plan(nodes, cables), plans.DEFAULT_DELAY)
 
 
 def _csv(arguments: Arguments) -> None:
-    _document(arguments, *tables.read(arguments.links, arguments.systems), None)
+    _document(arguments, tables.read(arguments.links, arguments.systems, arguments.events, arguments.jitter), None)
 
 
 def _graphml(arguments: Arguments) -> None:
-    _document(arguments, *graphml.read(arguments.file), plans.DEFAULT_DELAY)
+    _document(arguments, graphml.read(arguments.file, arguments.jitter), plans.DEFAULT_DELAY)
 
 
 def _lldp(arguments: Arguments) -> None:
-    _document(arguments, *lldp.read(arguments.files), plans.DEFAULT_DELAY)
+    _document(arguments, lldp.read(arguments.files), plans.DEFAULT_DELAY)
 
 
-def _document(arguments: Arguments, nodes: list[Node], cables: list[Cable], delay: tuple[int, int] | None) -> None:
+def _document(arguments: Arguments, plan: Plan, delay: tuple[int, int] | None) -> None:
     """Writes the document of a network; the delay is that of links where none is given."""
     given: dict[str, dict[str, int]] = {section: {} for section in RANGES}
     for section, key, value in arguments.set:
         given[section][key] = value
-    settings = plans.Settings(arguments.delay or delay, given["network"], given["system"], given["link"])
-    _write(arguments, plans.document(nodes, cables, settings, f"Made by tools/planner network {arguments.name}").text())
+    settings = plans.Settings(arguments.delay or delay, given["network"], given["system"], given["link"],
+                              arguments.boot, arguments.draw)
+    _write(arguments, plans.document(plan, settings, f"Made by {CALL} network {arguments.name}").text())
+    if plan.told:
+        print(f"{NAME}: {plan.told}", file=sys.stderr)
+
+
+def _names(arguments: Arguments) -> None:
+    document = documents.parse(documents.read_file(arguments.doc), arguments.doc)
+    with documents.reading(arguments.file) as lines:
+        _pass_on(arguments, lines, Readable(document, arguments.units))
+
+
+def _ask(arguments: Arguments) -> int:
+    octets = documents.read_file(arguments.doc)
+    raw = arguments.raw or "--raw" in arguments.words
+    try:
+        document = documents.parse(octets, arguments.doc)
+    except Refused:
+        document = Document((), ())  # the program says what is wrong with it; it has no names
+    words = asking.words_for(document, [word for word in arguments.words if word != "--raw"])
+    answer = asking.Answer(words, octets)
+    _pass_on(arguments, answer, None if raw else Readable(document, True))
+    return answer.status
+
+
+def _pass_on(arguments: Arguments, lines: Iterable[bytes], readable: Readable | None) -> None:
+    """Writes lines as they come, made readable where that is asked for; each is written before the next is read."""
+    with ExitStack() as stack:
+        file = stack.enter_context(open(arguments.o, "wb")) if arguments.o else sys.stdout.buffer
+        for line in lines:
+            if readable:
+                text = line.decode(errors="surrogateescape").removesuffix("\n")
+                end = b"\n" if line.endswith(b"\n") else b""
+                line = readable.line(text).encode(errors="surrogateescape") + end
+            file.write(line)
+            file.flush()
 
 
 def _certificate(arguments: Arguments) -> None:
@@ -137,49 +230,28 @@ def _json(arguments: Arguments) -> None:
     _write(arguments, "".join(lines.json_lines(texts.read_lines(told, arguments.file))))
 
 
+def _jobs(arguments: Arguments) -> None:
+    octets = documents.read_file(arguments.doc)
+    documents.parse(octets, arguments.doc)
+    name = _name(arguments.doc)
+    folder = Path(arguments.o or f"{'document' if arguments.doc == '-' else arguments.doc}.parts")
+    copy = jobs.folder(folder, name, octets, arguments.parts)
+    given = [(option, getattr(arguments, option[2:].replace("-", "_"))) for option in FAULTS_OPTIONS]
+    words = [word for option, value in given if value is not None for word in (option, str(value))]
+    script = jobs.parallel if arguments.for_ == "parallel" else jobs.slurm
+    sys.stdout.write(script(asking.shell_word(), copy, arguments.parts, words))
+
+
 def _merge(arguments: Arguments) -> int:
     parts = []
     for path in arguments.files:
         told = list(texts.read_lines(documents.read_text(path).splitlines(), path))
         if told and told[0].kind == "refused":
             raise Refused(f"{path}: {told[0].text}")
-        parts.append(faults.read(told, path))
-    whole = faults.merge(parts)
-    _write(arguments, whole.text())
-    return 0 if whole.verdict.kind == "within" else 1
-
-
-def _delay(text: str) -> tuple[int, int]:
-    """MIN-MAX, or one number for both."""
-    found = re.fullmatch(r"(\d+)(?:-(\d+))?", text)
-    least, most = (int(found[1]), int(found[2] or found[1])) if found else (0, 0)
-    if not 1 <= least <= most <= RANGES["link"]["max"][1]:
-        raise argparse.ArgumentTypeError(f"'{text}' isn't MIN-MAX in ns, such as 100-110")
-    return least, most
-
-
-def _setting(text: str) -> tuple[str, str, int]:
-    """KEY=VALUE of [network], or system.KEY=VALUE, link.KEY=VALUE of each system, each link."""
-    name, _, value = text.partition("=")
-    section, _, key = name.rpartition(".")
-    section = section or "network"
-    if key not in RANGES.get(section, {}) or not re.fullmatch(r"-?[0-9]+", value):
-        raise argparse.ArgumentTypeError(f"'{text}' isn't KEY=VALUE, with a key of docs/FORMATS.md and a whole number")
-    try:
-        return section, key, plans.in_range(section, key, int(value))
-    except Refused as why:
-        raise argparse.ArgumentTypeError(str(why)) from why
-
-
-def _from_to(least: int, most: int) -> Callable[[str], int]:
-    """A whole number of a range."""
-
-    def whole(text: str) -> int:
-        if not re.fullmatch(r"\d+", text) or not least <= int(text) <= most:
-            raise argparse.ArgumentTypeError(f"'{text}' isn't a whole number of {least} to {most}")
-        return int(text)
-
-    return whole
+        parts.append((path, faults.read(told, path)))
+    merged = faults.merge(parts, jobs.counts(arguments.files))
+    _write(arguments, merged.text())
+    return 0 if merged.verdict.kind == "within" else 1
 
 
 class _Command:
@@ -188,22 +260,24 @@ class _Command:
     def __init__(self, parser: argparse.ArgumentParser) -> None:
         self._commands = parser.add_subparsers(required=True, metavar="COMMAND")
 
-    def add(self, name: str, what: str, example: str, call: Call | None = None) -> argparse.ArgumentParser:
-        """A command; its output goes to standard output, or to the file of -o."""
+    def add(self, name: str, what: str, example: str, call: Call | None = None, place: str = "FILE",
+            written: str = "write there in place of standard output") -> argparse.ArgumentParser:
+        """A command; its output goes to standard output, or to the file of -o, or to another place."""
         parser = self._commands.add_parser(name, help=what, description=what[0].upper() + what[1:] + ".",
-                                           epilog=f"Example: tools/planner {example}")
+                                           epilog=f"Example: {CALL} {example}")
         if call:
             parser.set_defaults(call=call, name=name)
-            parser.add_argument("-o", metavar="FILE", help="write there in place of standard output")
+            parser.add_argument("-o", metavar=place, help=written)
         return parser
 
 
 def _parser() -> argparse.ArgumentParser:
     """All commands."""
     parser = argparse.ArgumentParser(
-        prog="planner", description="Pictures, reports, captures and documents over gptp_sim.",
-        epilog="The program is ./gptp_sim at the top of the repository, or what GPTP_SIM names. "
-               "Exit status: 0 done, 1 refused (or exceeded), 2 usage, 3 a Debian package is missing.")
+        prog=NAME, description="Documents, answers, verdicts, pictures and captures over gptp_sim.",
+        epilog="The program is the gptp_sim of the same repository or package, or what GPTP_SIM names. "
+               "Exit status: 0 done, 1 refused (or exceeded, broken), 2 usage, 3 the program isn't built, or a Debian "
+               "package is missing.")
     commands = _Command(parser)
     _add_pictures(commands)
     _add_networks(_Command(commands.add("network", "make a document", "network ring 6")))
@@ -218,26 +292,37 @@ def _add_pictures(commands: _Command) -> None:
                         "draw examples/ring.toml -o ring.svg", _draw)
     report = commands.add("report", "write one HTML page of a document's timeline",
                           "report --faults examples/vehicle.toml -o vehicle.html", _report)
-    plot = commands.add("plot", "draw the errors over time as SVG",
+    plot = commands.add("plot", "draw the errors over steps or over time as SVG",
                         "plot examples/ring.toml 0080e1fffe00000b -o errors.svg", _plot)
     capture = commands.add("capture", "write the frames of a run as pcapng",
-                           "capture --until 2000000000 examples/ring.toml -o ring.pcapng", _capture)
-    for parser in (draw, report, plot, capture):
+                           "capture --until 2s examples/ring.toml -o ring.pcapng", _capture)
+    judge = commands.add("judge", "say whether a document keeps what is asked of it", "judge require.toml plan.toml",
+                         _judge)
+    judge.add_argument("require", metavar="REQUIREMENTS", help="a table [require] in TOML")
+    for parser in (draw, report, plot, capture, judge):
         parser.add_argument("doc", metavar="DOC", help="a document; - is standard input")
-        parser.add_argument("--until", type=_from_to(0, 10**15), metavar="NS", help="when the run ends")
-        parser.add_argument("--seed", type=_from_to(0, 2**32 - 1), metavar="N", help="the seed of delays and losses")
+    for parser in (draw, report, plot, capture):
+        parser.add_argument("--until", type=time(0, 10**15), metavar="TIME", help="when the run ends")
+        parser.add_argument("--seed", type=whole(0, 2**32 - 1), metavar="N", help="the seed of delays and losses")
+    for parser in (report, judge):
+        parser.add_argument("--jobs", type=whole(1, 512), default=1, metavar="N", help="so many runs at a time")
+    draw.add_argument("--fold", action="store_true",
+                      help="leaves of one bridge that are alike as one box, as where there are more than 40 systems")
+    draw.add_argument("--plain", action="store_true", help="boxes with offsets, laid out as the network stands")
+    report.add_argument("--require", metavar="REQUIREMENTS", help="what is asked: the verdict comes first")
     report.add_argument("--faults", action="store_true", help="with each link and each system failing and coming back")
-    plot.add_argument("clock", nargs="*", metavar="CLOCK", help="the systems, by clock or name; by default all")
+    plot.add_argument("system", nargs="*", metavar="NAME", help="systems whose errors are points; by default all")
+    plot.add_argument("--over", choices=("steps", "time"), default="time", help="by default time")
 
 
 def _add_networks(commands: _Command) -> None:
     """The commands that make documents."""
-    some, made = _from_to(2, MOST_SYSTEMS), []
-    branches = {"K": _from_to(1, MOST_PORTS - 1), "DEPTH": _from_to(1, 9)}
+    some, made = whole(2, MOST_SYSTEMS), []
+    branches = {"K": whole(1, MOST_PORTS - 1), "DEPTH": whole(1, 9)}
     for name, shape, what, sizes in (
         ("line", shapes.line, "N systems in a row", {"N": some}),
-        ("ring", shapes.ring, "N systems in a ring", {"N": _from_to(3, MOST_SYSTEMS)}),
-        ("star", shapes.star, "a bridge with N stations", {"N": _from_to(1, MOST_PORTS)}),
+        ("ring", shapes.ring, "N systems in a ring", {"N": whole(3, MOST_SYSTEMS)}),
+        ("star", shapes.star, "a bridge with N stations", {"N": whole(1, MOST_PORTS)}),
         ("tree", shapes.tree, "bridges with K below each, DEPTH levels below the first", branches),
         ("grid", shapes.grid, "bridges in H rows of W", {"W": some, "H": some}),
     ):
@@ -249,8 +334,11 @@ def _add_networks(commands: _Command) -> None:
         made.append(parser)
     made += [_add_csv(commands), _add_file(commands), _add_lldp(commands)]
     for parser in made:
-        parser.add_argument("--delay", type=_delay, metavar="MIN-MAX", help="ns, of links without a delay of their own")
-        parser.add_argument("--set", type=_setting, action="append", default=[], metavar="KEY=VALUE",
+        parser.add_argument("--delay", type=delay, metavar="MIN-MAX", help="of links without a delay of their own")
+        parser.add_argument("--boot", type=time(1, 10**12), metavar="TIME",
+                            help="let systems without a start boot within it, each at a time of its own")
+        parser.add_argument("--draw", type=whole(0, 2**32 - 1), default=0, metavar="N", help="with --boot: the pattern")
+        parser.add_argument("--set", type=setting, action="append", default=[], metavar="KEY=VALUE",
                             help="a key of [network]; system.KEY and link.KEY: of each system, each link without it")
 
 
@@ -258,13 +346,22 @@ def _add_csv(commands: _Command) -> argparse.ArgumentParser:
     parser = commands.add("csv", "make a document of a table of links", "network csv links.csv systems.csv", _csv)
     parser.add_argument("links", metavar="LINKS", help=f"columns {', '.join(tables.LINK_COLUMNS)}; a metre is 5 ns")
     parser.add_argument("systems", nargs="?", metavar="SYSTEMS", help=f"columns {', '.join(tables.SYSTEM_COLUMNS)}")
+    parser.add_argument("--events", metavar="EVENTS", help=f"columns {', '.join(tables.EVENT_COLUMNS)}; "
+                                                           f"kinds {', '.join(KINDS)}")
+    _add_jitter(parser)
     return parser
+
+
+def _add_jitter(parser: argparse.ArgumentParser) -> None:
+    parser.add_argument("--jitter", type=time(0, 10**9), metavar="TIME",
+                        help=f"of links with metres or min alone; by default {plans.DEFAULT_JITTER} ns, which is told")
 
 
 def _add_file(commands: _Command) -> argparse.ArgumentParser:
     parser = commands.add("graphml", "make a document of a graph by NetworkX or yEd", "network graphml plant.graphml",
                           _graphml)
     parser.add_argument("file", metavar="FILE", help="attributes are called as the columns of `network csv`")
+    _add_jitter(parser)
     return parser
 
 
@@ -281,8 +378,32 @@ def _add_texts(commands: _Command, certificate: _Command) -> None:
     pmc = certificate.add("pmc", "make a certificate of what linuxptp's pmc says of each device, for check --where",
                           "certificate pmc *.pmc -o live.certificate", _certificate)
     pmc.add_argument("files", nargs="+", metavar="FILE", help=f"responses to GET {', '.join(certificates.DATA_SETS)}")
+    names = commands.add("names", "write lines of a command with names in place of clocks",
+                         "names plan.toml faults.txt --units", _names)
+    names.add_argument("doc", metavar="DOC", help="the document whose names they are")
+    names.add_argument("file", nargs="?", default="-", metavar="FILE", help="by default standard input")
+    names.add_argument("--units", action="store_true", help="times with ns, us, ms or s")
+    question = commands.add("ask", "ask the program about a document, with names and units both ways",
+                            "ask plan.toml explain hpc --until '20 s'", _ask)
+    question.add_argument("--raw", action="store_true", help="write what the program says as it is")
+    question.add_argument("doc", metavar="DOC", help="a document; - is standard input")
+    question.add_argument("words", nargs=argparse.REMAINDER, metavar="COMMAND ..",
+                          help="a command of the program and its words: names of systems, times with units")
     made = commands.add("json", "write lines of a command as JSON lines", "json report.txt", _json)
     made.add_argument("file", nargs="?", default="-", metavar="FILE", help="by default standard input")
+    _add_jobs(commands)
     merge = commands.add("merge", "write the parts of `faults` as one text; status 1 where it says `exceeded`",
                          "merge part.*", _merge)
     merge.add_argument("files", nargs="+", metavar="FILE", help="what `gptp_sim faults --parts N --part K` wrote")
+
+
+def _add_jobs(commands: _Command) -> None:
+    """The command that makes a script for a run of `faults` in parts."""
+    parser = commands.add("jobs", "write a script that runs `faults` in parts", "jobs plan.toml --parts 64 > plan.sh",
+                          _jobs, "DIR", "where the parts come, by default DOC.parts")
+    parser.add_argument("doc", metavar="DOC", help="a document; - is standard input")
+    parser.add_argument("--parts", type=whole(1, jobs.MOST_PARTS), default=64, metavar="N", help="by default 64")
+    parser.add_argument("--for", dest="for_", choices=("parallel", "slurm"), default="parallel",
+                        help="GNU parallel (by default) or Slurm's sbatch")
+    for option, kind in FAULTS_OPTIONS.items():
+        parser.add_argument(option, type=kind, metavar=option.rpartition("-")[2].upper(), help="as of `faults`")

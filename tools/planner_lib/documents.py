@@ -4,10 +4,12 @@ import json
 import re
 import sys
 import tomllib
+from contextlib import contextmanager
 from dataclasses import dataclass, field
 from functools import cached_property
+from itertools import takewhile
 from pathlib import Path
-from typing import Any
+from typing import Any, BinaryIO, Iterator
 
 from .refusal import Refused
 
@@ -36,7 +38,10 @@ RANGES: dict[str, dict[str, tuple[int, int]]] = {
     },
     "link": {"min": (1, 16 * 10**9), "max": (1, 16 * 10**9), "loss": (0, 1000)},
 }
-MOST_SYSTEMS, MOST_LINKS, MOST_PORTS = 512, 2048, 16
+MOST_SYSTEMS, MOST_LINKS, MOST_PORTS, MOST_EVENTS = 512, 2048, 16, 4096
+LAST_EVENT = 8 * 10**14  # ns
+# the keys that are times in ns
+TIMES = ("threshold", "turnaround", "residence", "phase", "min", "max")
 
 
 @dataclass(frozen=True, order=True)
@@ -59,7 +64,7 @@ class System:
 
 @dataclass(frozen=True)
 class Link:
-    """A link: its two ends and its other keys."""
+    """A link: its two ends, its other keys, and whether it is up before all events."""
 
     a: End
     b: End
@@ -69,11 +74,19 @@ class Link:
 
 @dataclass(frozen=True)
 class Event:
-    """An event that changes a link's being up: when, its kind, and the port that names the link."""
+    """An event: when, in ns, its kind, whose system, at which port where it is one of a link, and its other keys."""
 
     at: int
-    up: bool
-    end: End
+    kind: str
+    clock: str
+    port: int | None = None
+    keys: dict[str, int] = field(default_factory=dict)
+
+    def text(self) -> str:
+        """The event as a section of a document."""
+        port = "" if self.port is None else f"port = {self.port}\n"
+        keys = "".join(f"{key} = {value}\n" for key, value in self.keys.items())
+        return f'[[event]]\nat = {self.at}\nkind = "{self.kind}"\nclock = "{self.clock}"\n{port}{keys}'
 
 
 @dataclass(frozen=True)
@@ -99,13 +112,22 @@ class Document:
         clocks = [system.clock for system in self.systems if word.lower() == system.clock or word == system.name]
         return clocks[0] if clocks else None
 
+    @cached_property
+    def sync(self) -> int:
+        """The Sync interval in ns."""
+        return interval(self.network.get("sync", -3))
+
+    @cached_property
+    def link_at(self) -> dict[End, int]:
+        """The number of the link at each port that has one."""
+        return {end: number for number, link in enumerate(self.links) for end in (link.a, link.b)}
+
     def links_up(self, until: int) -> list[bool]:
-        """Of each link whether it is up after all events up to a time."""
-        place = {end: number for number, link in enumerate(self.links) for end in (link.a, link.b)}
+        """Of each link whether it is up after all events up to a time, in ns."""
         up = [link.up for link in self.links]
         for event in self.events:
-            if event.at <= until:
-                up[place[event.end]] = event.up
+            if event.at <= until and event.kind in ("link_up", "link_down") and event.port is not None:
+                up[self.link_at[End(event.clock, event.port)]] = event.kind == "link_up"
         return up
 
     def text(self) -> str:
@@ -115,7 +137,13 @@ class Document:
             parts.append("[network]\n" + _keys("network", self.network))
         parts += [_system_text(system) for system in self.systems]
         parts += [_link_text(link) for link in self.links]
+        parts += [event.text() for event in self.events]
         return "\n".join(parts)
+
+
+def interval(logarithm: int) -> int:
+    """The interval of a logarithm to base 2 of seconds, in ns."""
+    return 10**9 << logarithm if logarithm >= 0 else 10**9 >> -logarithm
 
 
 def _quoted(text: str) -> str:
@@ -152,6 +180,19 @@ def read_file(path: str) -> bytes:
         raise Refused(f"{path}: {why.strerror}") from why
 
 
+@contextmanager
+def reading(path: str) -> Iterator[BinaryIO]:
+    """A file whose lines are read as they come; `-` is standard input."""
+    if path == "-":
+        yield sys.stdin.buffer
+        return
+    try:
+        with open(path, "rb") as file:
+            yield file
+    except OSError as why:
+        raise Refused(f"{path}: {why.strerror}") from why
+
+
 def read_text(path: str) -> str:
     """A file as UTF-8 text, without a byte order mark."""
     try:
@@ -163,28 +204,59 @@ def read_text(path: str) -> str:
 def parse(octets: bytes, path: str) -> Document:
     """What the tools need of a document that the program reads."""
     try:
-        top = tomllib.loads(octets.decode())
+        text = octets.decode()
+        top = tomllib.loads(text)
     except ValueError as why:
         raise Refused(f"{path}: Python reads TOML 1.0: {why}") from why
+    comments = _port_comments(text)
     try:
+        if len(comments) != len(top["system"]):
+            comments = [""] * len(top["system"])
         return Document(
-            tuple(_system(keys) for keys in top["system"]),
+            tuple(_system(keys, comment) for keys, comment in zip(top["system"], comments)),
             tuple(_link(keys) for keys in top.get("link", [])),
-            tuple(_event(keys) for keys in top.get("event", []) if keys["kind"] in ("link_up", "link_down")),
+            tuple(_event(keys) for keys in top.get("event", [])),
+            _whole("network", top.get("network", {})),
+            _first_comment(text),
         )
     except (KeyError, TypeError, AttributeError) as why:
         raise Refused(f"{path}: isn't a document: {why}") from why
 
 
-def _system(keys: dict[str, Any]) -> System:
+def _first_comment(text: str) -> str:
+    """The lines of comment that a document begins with."""
+    lines = takewhile(lambda line: line.startswith("#"), text.removeprefix("\ufeff").splitlines())
+    return "\n".join(line[1:].strip() for line in lines)
+
+
+def _port_comments(text: str) -> list[str]:
+    """Of each system in the text the comment that names its ports, empty where there is none."""
+    comments: list[str] = []
+    section = ""
+    for line in text.splitlines():
+        if found := re.match(r"\s*\[+\s*([^\]\s]+)", line):
+            section = found[1].strip("\"'")
+            comments += [""] if section == "system" else []
+        elif section == "system" and (named := re.fullmatch(r"\s*# (ports: .*)", line)):
+            comments[-1] = named[1]
+    return comments
+
+
+def _whole(section: str, keys: dict[str, Any]) -> dict[str, int]:
+    """The keys of whole numbers of a section."""
+    return {key: keys[key] for key in RANGES[section] if isinstance(keys.get(key), int)}
+
+
+def _system(keys: dict[str, Any], comment: str) -> System:
     name = keys.get("name")
-    return System(keys["clock"].lower(), name if isinstance(name, str) else "")
+    return System(keys["clock"].lower(), name if isinstance(name, str) else "", _whole("system", keys), comment)
 
 
 def _link(keys: dict[str, Any]) -> Link:
     a, b = (End(keys[end].lower(), keys[end + "_port"]) for end in "ab")
-    return Link(a, b, up=keys.get("up", True))
+    return Link(a, b, _whole("link", keys), keys.get("up", True))
 
 
 def _event(keys: dict[str, Any]) -> Event:
-    return Event(keys["at"], keys["kind"] == "link_up", End(keys["clock"].lower(), keys["port"]))
+    others = {key: keys[key] for key in ("value", "min", "max", "loss") if key in keys}
+    return Event(keys["at"], keys["kind"], keys["clock"].lower(), keys.get("port"), others)

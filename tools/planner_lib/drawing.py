@@ -1,79 +1,158 @@
-"""The network as it stands, as a graph in DOT, and what Graphviz makes of it."""
+"""Pictures of a network: laid out once, of all links, and drawn as it stands at some time."""
 
-from .documents import Document, End, Link
+import json
+from dataclasses import dataclass, field
+from decimal import Decimal
+from typing import Mapping
+
+from . import folding
+from .documents import Document
+from .folding import Box, Edge
+from .naming import Names, runs
+from .parting import Parting
 from .pictures import draw
+from .plain import place, quoted
+from .quantities import short
 from .refusal import Refused
 from .standing import PortStanding, Standing, SystemStanding
 
 _DOWN = "style=dotted, color=red, fontcolor=red"
+_POINTS = 72  # an inch
+_LETTER, _LINE = 7.0, 13.5  # points at the size of 11
 
 
-def graph(document: Document, standing: Standing, up: list[bool], title: str) -> str:
-    """The network in DOT: a box a system, by rising clock, and an edge a link, in the order of the document."""
-    if standing.keys() != {system.clock for system in document.systems}:
-        raise Refused("the program tells of other systems than the document")
-    lines = [
+@dataclass(frozen=True)
+class Seen:
+    """Of each system the bound of its error and the greatest error seen, in ns, where they are known."""
+
+    bounds: Mapping[str, Decimal] = field(default_factory=dict)
+    errors: Mapping[str, Decimal] = field(default_factory=dict)
+
+
+@dataclass(frozen=True)
+class View:
+    """How a network stands: its systems, which links are up, a title, and the colours of roots where there are any."""
+
+    standing: Standing
+    up: list[bool]
+    title: str
+    seen: Seen = field(default_factory=Seen)
+    colour: Mapping[str, str] = field(default_factory=dict)
+
+
+class Drawing:
+    """A network whose boxes keep their places in each picture. Leaves that are alike are one box where it is folded."""
+
+    def __init__(self, document: Document, fold: bool) -> None:
+        self._document = document
+        self._names = Names(document)
+        self._boxes = folding.boxes(document, fold or len(document.systems) > folding.MOST_UNFOLDED)
+        self._edges = folding.edges(document, self._boxes)
+        self._places: dict[str, str] = {}
+
+    def dot(self, view: View) -> str:
+        """The network in DOT as it stands; a root's colour fills the boxes that follow it."""
+        if view.standing.keys() != {system.clock for system in self._document.systems}:
+            raise Refused("the program tells of other systems than the document")
+        lines = [f"  label={quoted(view.title)}; labelloc=t; fontname=Helvetica; splines=true;"]
+        for box in self._boxes:
+            lines.append(f"  {quoted(box.identity)} [{self._box(box, view)}{self._at(box)}];")
+        lines += [f"  {self._edge(edge, view)};" for edge in self._edges]
+        return _graph(lines)
+
+    def svg(self, view: View) -> bytes:
+        """The same as SVG, each box in its place."""
+        if not self._places:
+            self._places = self._laid_out()
+        return draw(["neato", "-n", "-Tsvg"], self.dot(view))
+
+    def _laid_out(self) -> dict[str, str]:
+        """The places of the boxes: from the best system down over all links, of two at one level the better above."""
+        identity = Parting(self._document).identity
+        depth = self._depths(identity)
+        lines = [f"  {quoted(box.identity)} [{self._size(box)}];" for box in self._boxes]
+        for edge in self._edges:
+            above, below = sorted((edge.a, edge.b), key=lambda box: (depth[box.identity], identity[box.identity]))
+            lines.append(f"  {quoted(above.identity)} -> {quoted(below.identity)} [{_ends('16', '16')}];")
+        made = json.loads(draw(["dot", "-Tjson"], _graph(["  nodesep=0.4; ranksep=0.7;", *lines])))
+        return {member["name"]: member["pos"] for member in made["objects"] if "pos" in member}
+
+    def _depths(self, identity: Mapping[str, tuple[int | str, ...]]) -> dict[str, int]:
+        """How many links each box is away from the best system of its component, over all links."""
+        beside: dict[str, list[str]] = {box.identity: [] for box in self._boxes}
+        for edge in self._edges:
+            beside[edge.a.identity].append(edge.b.identity)
+            beside[edge.b.identity].append(edge.a.identity)
+        depth: dict[str, int] = {}
+        for first in sorted(beside, key=lambda clock: identity[clock]):
+            if first in depth:
+                continue
+            depth[first], row = 0, [first]
+            while row:
+                row = [other for here in row for other in beside[here]
+                       if other not in depth and depth.setdefault(other, depth[here] + 1)]
+        return depth
+
+    def _called(self, box: Box) -> str:
+        """What a box is called: its system, or how many stations it stands for."""
+        return self._document.name(box.identity) if len(box.clocks) == 1 else f"{len(box.clocks)} stations"
+
+    def _size(self, box: Box) -> str:
+        """The size of a box, which has room for four lines."""
+        width = max(14, len(self._called(box)) + 2) * _LETTER / _POINTS
+        return f"width={width:.2f}, height={4.4 * _LINE / _POINTS:.2f}, fixedsize=true"
+
+    def _at(self, box: Box) -> str:
+        """The place of a box, where they are laid out."""
+        return f", {self._size(box)}, pos={quoted(self._places[box.identity])}" if self._places else ""
+
+    def _box(self, box: Box, view: View) -> str:
+        """The attributes of a box: what it is called, its steps, the bound of its error and the greatest seen."""
+        systems = [view.standing[clock] for clock in box.clocks]
+        if systems[0].failed:
+            return f"label={quoted(self._called(box), 'failed')}, {_DOWN}"
+        alone = len(systems) > 1 and systems[0].slave is None
+        words = [self._called(box), "each its own root" if alone else place(systems[0])]
+        for sign, values in (("+-", view.seen.bounds), ("seen ", view.seen.errors)):
+            known = [values[clock] for clock in box.clocks if clock in values]
+            if known and any(system.slave is not None for system in systems):
+                words.append(f"{sign}{short(max(known))} ns")
+        leads = systems[0].slave is None and systems[0].grandmaster and not alone
+        fill = view.colour.get(systems[0].root)
+        style = f", style=filled, fillcolor={quoted(fill + '55')}" if fill else ""
+        return f"label={quoted(*words)}{style}{', penwidth=2.5' if leads else ''}"
+
+    def _edge(self, edge: Edge, view: View) -> str:
+        """The attributes of an edge: from parent to child where it is one's way to its root."""
+        ports = _ends(self._ports(edge.a, edge.a_ends), self._ports(edge.b, edge.b_ends))
+        between = f"{quoted(edge.a.identity)} -> {quoted(edge.b.identity)}"
+        ends = [view.standing[end.clock] for end in (edge.a_ends[0], edge.b_ends[0])]
+        if not view.up[edge.links[0]] or any(system.failed for system in ends):
+            return f"{between} [dir=none, {_DOWN}, {ports}]"
+        for direction, child in (("forward", edge.b_ends[0]), ("back", edge.a_ends[0])):
+            if view.standing[child.clock].slave == child.port:
+                return f"{between} [dir={direction}, penwidth=2.5, {ports}]"
+        passive = "passive" in (_role(ends[0], edge.a_ends[0].port), _role(ends[1], edge.b_ends[0].port))
+        return f"{between} [dir=none, {'style=dashed' if passive else 'color=gray60'}, {ports}]"
+
+    def _ports(self, box: Box, ends: tuple) -> str:
+        """What stands at an end of an edge: its ports; of several stations nothing."""
+        return "" if len(box.clocks) > 1 else ", ".join(runs([self._names.port(end.clock, end.port) for end in ends]))
+
+
+def _role(system: SystemStanding, port: int) -> str:
+    """The role of a port; one that the program doesn't tell is disabled."""
+    return system.ports.get(port, PortStanding("disabled", False)).role
+
+
+def _graph(lines: list[str]) -> str:
+    """A graph in DOT."""
+    return "\n".join([
         "digraph network {",
-        f"  label={_quoted(title)}; labelloc=t; fontname=Helvetica;",
         "  node [shape=box, fontname=Helvetica, fontsize=11];",
         "  edge [fontname=Helvetica, fontsize=9, labeldistance=1.6];",
-    ]
-    for clock, system in sorted(standing.items()):
-        lines.append(f"  {_quoted(clock)} [{_box(document.name(clock), system)}];")
-    for link, link_up in zip(document.links, up):
-        lines.append(f"  {_edge(link, link_up, standing)};")
-    return "\n".join([*lines, "}", ""])
+        *lines, "}", ""])
 
 
-def svg(dot: str) -> bytes:
-    """The graph as Graphviz draws it."""
-    return draw(["dot", "-Tsvg"], dot)
-
-
-def _quoted(*lines: str) -> str:
-    """Lines of text as one string of DOT."""
-    escaped = (line.replace("\\", "\\\\").replace('"', '\\"').replace("\n", " ") for line in lines)
-    return '"' + "\\n".join(escaped) + '"'
-
-
-def _box(name: str, system: SystemStanding) -> str:
-    """The attributes of a system's box."""
-    if system.failed:
-        return f"label={_quoted(name, 'failed')}, {_DOWN}"
-    words = [name, _place(system)]
-    if system.offset is not None:
-        words.append(f"offset {system.offset} ns")
-    elif system.slave is not None:
-        words.append("offset known" if system.known else "no offset")
-    style = ", style=filled, fillcolor=lightyellow, penwidth=2" if system.slave is None and system.grandmaster else ""
-    return f"label={_quoted(*words)}{style}"
-
-
-def _place(system: SystemStanding) -> str:
-    """Where a system stands in its tree."""
-    if system.slave is None and system.steps == 0:
-        return "grandmaster" if system.grandmaster else "own root, never grandmaster"
-    steps = "1 step" if system.steps == 1 else f"{system.steps} steps"
-    return steps if system.grandmaster else f"{steps}, no grandmaster"
-
-
-def _edge(link: Link, up: bool, standing: Standing) -> str:
-    """The edge of a link: from parent to child where it is one's way to its root."""
-    if not up or standing[link.a.clock].failed or standing[link.b.clock].failed:
-        return _line(link.a, link.b, f"dir=none, constraint=false, {_DOWN}")
-    for parent, child in ((link.a, link.b), (link.b, link.a)):
-        if standing[child.clock].slave == child.port:
-            return _line(parent, child, "penwidth=2.5")
-    roles = [_role(standing, end) for end in (link.a, link.b)]
-    style = "style=dashed" if "passive" in roles else "color=gray60, fontcolor=gray40"
-    return _line(link.a, link.b, f"dir=none, constraint=false, {style}, label={_quoted(' / '.join(roles))}")
-
-
-def _role(standing: Standing, end: End) -> str:
-    """The role of a port; one that the program doesn't tell is disabled."""
-    return standing[end.clock].ports.get(end.port, PortStanding("disabled", False)).role
-
-
-def _line(tail: End, head: End, attributes: str) -> str:
-    ports = f"taillabel={_quoted(str(tail.port))}, headlabel={_quoted(str(head.port))}"
-    return f"{_quoted(tail.clock)} -> {_quoted(head.clock)} [{attributes}, {ports}]"
+def _ends(tail: str, head: str) -> str:
+    return f"taillabel={quoted(tail)}, headlabel={quoted(head)}"

@@ -1,12 +1,15 @@
 """What `faults` tells: its cases, and parts of it as one."""
 
+from concurrent.futures import ThreadPoolExecutor
 from dataclasses import dataclass
 from decimal import Decimal
 from itertools import groupby
-from typing import Any, Iterable, Sequence
+from math import gcd
+from typing import Any, Callable, Iterable, Sequence
 
+from . import jobs
 from .refusal import Refused
-from .texts import Line, Value
+from .texts import Line, Value, read_line
 
 _WORDS = ("choice", "holdover", "error", "without", "roots", "alone")
 _ORDER = ("without", "roots", "holdover", "choice", "alone")
@@ -24,6 +27,12 @@ class Case:
     def number(self) -> int:
         """Its number among all cases of the document."""
         return int(self.lines[0]["case"])
+
+    def followed(self, line: Line) -> list[Line]:
+        """The `follow` lines of down or of back."""
+        place = self.lines.index(self.back)
+        part = self.lines[:place] if line is self.down else self.lines[place:]
+        return [told for told in part if told.kind == "follow"]
 
     def rank(self) -> tuple[Any, ...]:
         """What cases are sorted by: the worst first, of equals by number."""
@@ -77,20 +86,32 @@ def _case(lines: list[Line], source: str) -> Case:
     return Case(tuple(lines), down, back)
 
 
-def merge(parts: Sequence[Faults]) -> Faults:
-    """The parts of one run as the whole: sorted anew, the worst of all, and the verdict."""
-    heads = {_settings(part.head) for part in parts}
+def in_parts(ask: Callable[..., list[Line]], words: list[str], jobs: int) -> Faults:
+    """What `faults` says, asked in so many parts at a time."""
+    numbers = range(1, jobs + 1)
+    with ThreadPoolExecutor(jobs) as pool:
+        told = pool.map(lambda part: ask(*words, "--parts", str(jobs), "--part", str(part)), numbers)
+        parts = [(f"part.{part}", read(lines, "gptp_sim faults")) for part, lines in zip(numbers, told)]
+    return merge(parts, range(jobs, jobs + 1))
+
+
+def merge(parts: Sequence[tuple[str, Faults]], counts: range) -> Faults:
+    """The parts of one run, by their files, as the whole: sorted anew, the worst of all, and the verdict.
+
+    The counts are how many parts there may be.
+    """
+    heads = {_settings(part.head) for _, part in parts}
     if len(heads) != 1:
         raise Refused("the parts differ in moments, seeds or where they begin: " + "; ".join(sorted(heads)))
-    cases = tuple(sorted((case for part in parts for case in part.cases), key=Case.rank))
-    _whole(sorted(case.number for case in cases))
+    cases = tuple(sorted((case for _, part in parts for case in part.cases), key=Case.rank))
+    _whole(sorted(case.number for case in cases), parts, counts)
     head = _line("cases", f"cases {len(cases)} {heads.pop()}")
-    worst = " ".join(f"{word} {_worst(parts, word)}" for word in _WORDS)
-    return Faults(head, cases, _line("worst", f"worst {worst}"), _verdict(parts))
+    worst = " ".join(f"{word} {_worst([part for _, part in parts], word)}" for word in _WORDS)
+    return Faults(head, cases, _line("worst", f"worst {worst}"), _verdict([part for _, part in parts]))
 
 
 def _line(kind: str, text: str) -> Line:
-    return Line(kind, {}, text)
+    return read_line(text) or Line(kind, {}, text)
 
 
 def _settings(head: Line) -> str:
@@ -98,11 +119,29 @@ def _settings(head: Line) -> str:
     return head.text.split(" ", 2)[2]
 
 
-def _whole(numbers: Iterable[int]) -> None:
-    """Refuses numbers that aren't 0, 1, .. each once."""
+def _whole(numbers: Sequence[int], parts: Sequence[tuple[str, Faults]], counts: range) -> None:
+    """Refuses cases that aren't 0, 1, .. each once, and a part that isn't there."""
     for wanted, number in enumerate(numbers):
-        if number != wanted:
-            raise Refused(f"case {wanted} is missing" if number > wanted else f"case {number} is there twice")
+        if number < wanted:
+            raise Refused(f"case {number} is there twice")
+        if number > wanted:
+            where = [f"part.{part}" for part in _could_have(wanted, parts, counts)]
+            raise Refused(f"case {wanted} is missing" + (f" ({', '.join(where)})" if where else ""))
+    there = {jobs.number(path) for path, _ in parts}
+    for part in range(1, counts.start + 1) if counts else ():
+        if part not in there:
+            raise Refused(f"case {len(numbers)} may be missing (part.{part})")
+
+
+def _could_have(case: int, parts: Sequence[tuple[str, Faults]], counts: range) -> list[int]:
+    """The numbers of the parts that aren't there and could have a case.
+
+    Case c is in part c mod N + 1 of N. Where N isn't known it is any that fits the cases of all parts by number.
+    """
+    there = {jobs.number(path): part for path, part in parts}
+    apart = gcd(*(known.number + 1 - number for number, part in there.items() if number for known in part.cases))
+    could = {case % count + 1 for count in counts if apart % count == 0}
+    return sorted(could - there.keys())
 
 
 def _worst(parts: Iterable[Faults], word: str) -> Value:
@@ -111,7 +150,7 @@ def _worst(parts: Iterable[Faults], word: str) -> Value:
     return "none" if value is None else value
 
 
-def _verdict(parts: Sequence[Faults]) -> Line:
+def _verdict(parts: Iterable[Faults]) -> Line:
     """The first word that is exceeded in any part: each part names its first."""
     exceeded = [part.verdict["word"] for part in parts if part.verdict.kind == "exceeded"]
     return _line("exceeded", f"exceeded {min(exceeded, key=_WORDS.index)}") if exceeded else _line("within", "within")

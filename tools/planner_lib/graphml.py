@@ -4,15 +4,16 @@ import xml.etree.ElementTree as xml
 from typing import Iterator
 
 from .documents import read_file
-from .plans import Cable, Node
+from .plans import Cable, Node, Plan
 from .refusal import Refused, told_at
-from .tables import cable, node
+from .tables import cable, node, told_of_jitter
 
 
-def read(path: str) -> tuple[list[Node], list[Cable]]:
+def read(path: str, jitter: int | None) -> Plan:
     """The network of a file. Attributes that are called as the columns of tables are read, others passed over.
 
     A system is called by its attribute `name`, else by its label (yEd), else by its id. Groups of yEd aren't systems.
+    The jitter, in ns, is as for tables.
     """
     try:
         top = xml.fromstring(read_file(path))
@@ -26,12 +27,12 @@ def read(path: str) -> tuple[list[Node], list[Cable]]:
         if next(_all(element, "graph"), None) is None:
             data, identity = _data(element, attributes), element.get("id", "")
             names[identity] = data.get("name") or _label(element) or identity
-            with told_at(f"{path}: {names[identity]}"):
-                nodes.append(node(names[identity], data))
+            with told_at(where := f"{path}: {names[identity]}"):
+                nodes.append(node(data | {"name": names[identity]}, where))
     for element in _all(top, "edge"):
-        with told_at(f"{path}: an edge"):
-            cables.append(_cable(element, names, attributes))
-    return nodes, cables
+        with told_at(where := f"{path}: an edge"):
+            cables.append(cable(_row(element, names, attributes), where, jitter))
+    return Plan(nodes, cables, told=told_of_jitter(cables))
 
 
 def _all(element: xml.Element, tag: str) -> Iterator[xml.Element]:
@@ -50,12 +51,12 @@ def _label(element: xml.Element) -> str:
     return next((" ".join((label.text or "").split()) for label in _all(element, "NodeLabel")), "")
 
 
-def _cable(element: xml.Element, names: dict[str, str], attributes: dict[str, str]) -> Cable:
-    """A link of an edge; its ports are attributes, or those of GraphML."""
+def _row(element: xml.Element, names: dict[str, str], attributes: dict[str, str]) -> dict[str, str]:
+    """The columns of an edge; its ports are attributes, or those of GraphML."""
     ends: dict[str, str] = {}
     for end, tag, port in (("a", "source", "sourceport"), ("b", "target", "targetport")):
         identity = element.get(tag, "")
         if identity not in names:
             raise Refused(f"its {tag} {identity} is no node")
         ends |= {end: names[identity], f"{end}_port": element.get(port, "")}
-    return cable(ends | {key: word for key, word in _data(element, attributes).items() if key not in ("a", "b")})
+    return ends | {key: word for key, word in _data(element, attributes).items() if key not in ("a", "b")}

@@ -5,13 +5,13 @@ from pathlib import Path
 from typing import Any, Iterator
 
 from .documents import read_text
-from .plans import Cable, Node, clock_of
+from .plans import Cable, Node, Plan, clock_of
 from .refusal import Refused
 
 End = tuple[str, str]
 
 
-def read(paths: list[str]) -> tuple[list[Node], list[Cable]]:
+def read(paths: list[str]) -> Plan:
     """The network of the devices' files. A link that both ends tell is one; a chassis' MAC address is its clock."""
     clocks: dict[str, str | None] = {Path(path).stem: None for path in paths}
     ends: dict[frozenset[End], tuple[End, End]] = {}
@@ -22,7 +22,7 @@ def read(paths: list[str]) -> tuple[list[Node], list[Cable]]:
             pair = ((Path(path).stem, port), (name, peer_port))
             ends.setdefault(frozenset(pair), pair)
     nodes = [Node(name, clock=clock) for name, clock in clocks.items()]
-    return nodes, [Cable(a, b, a_port, b_port) for (a, a_port), (b, b_port) in ends.values()]
+    return Plan(nodes, [Cable(a, b, a_port, b_port) for (a, a_port), (b, b_port) in ends.values()])
 
 
 def _neighbours(path: str) -> Iterator[tuple[str, dict[str, Any]]]:

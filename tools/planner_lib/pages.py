@@ -1,157 +1,289 @@
 """The report: one HTML page without a script that loads nothing."""
 
+from dataclasses import dataclass, field
 from decimal import Decimal
-from html import escape
-from typing import Iterable, Sequence
+from pathlib import Path
+from typing import Iterable, Iterator, Mapping, NamedTuple, Sequence
 
-from . import drawing, plots, strips
-from .documents import Document
-from .faults import Faults
-from .pictures import inline
-from .standing import in_seconds
+from jinja2 import Environment, FileSystemLoader
+from markupsafe import Markup
+
+from . import plots
+from .cases import Shown
+from .documents import Document, interval
+from .drawing import Drawing, Seen, View
+from .faults import Case, Faults
+from .judging import Judgement
+from .naming import Names
+from .pictures import inline, width
+from .quantities import in_seconds, in_units
+from .readable import Readable
+from .strips import Colours, strips
 from .texts import Line
 from .timelines import Stretch
 
-_STYLE = """
-body { font: 14px sans-serif; margin: 2em; }
-table { border-collapse: collapse; margin: 1em 0; }
-th, td { border: 1px solid #bbb; padding: 2px 8px; text-align: right; }
-th, td.text { text-align: left; }
-svg.strips { font-size: 11px; display: block; }
-.root { margin-right: 1em; }
-.root i { display: inline-block; width: 1em; height: 1em; margin-right: .4em; vertical-align: -2px; }
-"""
-_NONE = "&ndash;"
+_NONE = "\u2013"
+_DEFAULTS = {"announce": 0, "sync": -3, "pdelay": 0, "timeout": 3, "lost": 9, "threshold": 800, "turnaround": 1000,
+             "residence": 1000, "sync_timeout": 0}
 
 
-def page(document: Document, title: str, stretches: Sequence[Stretch], faults: Faults | None) -> str:
-    """The page: the stretches as a table, each with its tree and strips, errors over time, and the faults."""
-    colour = strips.colours(stretches)
-    parts = [
-        "<h2>Stretches</h2>",
-        _stretches(document, stretches),
-        f"<p>{strips.legend(document, colour)}</p>",
-        *(_stretch(document, stretch, colour) for stretch in stretches),
-        "<h2>Errors</h2>",
-        _errors(document, stretches),
-    ]
-    if faults:
-        parts += ["<h2>Faults</h2>", _faults(document, faults)]
-    head = f'<meta charset="utf-8"><title>{escape(title)}</title><style>{_STYLE}</style>'
-    body = "\n".join([f"<h1>{escape(title)}</h1>", *parts])
-    return f'<!DOCTYPE html>\n<html lang="en"><head>{head}</head>\n<body>\n{body}\n</body></html>\n'
+class Cell(NamedTuple):
+    """A cell of a table: what it says, and its class; one without is a number."""
+
+    word: str
+    text: str = ""
 
 
-def _table(head: Iterable[str], rows: Iterable[Iterable[str]]) -> str:
-    """A table: cells are HTML already."""
-    lines = ["<table><tr>" + "".join(f"<th>{escape(cell)}</th>" for cell in head) + "</tr>"]
-    lines += ["<tr>" + "".join(cells) + "</tr>" for cells in rows]
-    return "\n".join([*lines, "</table>"])
+class Table(NamedTuple):
+    """A table: the words of its head, and its rows."""
+
+    head: Sequence[str]
+    rows: Sequence[Sequence[Cell]]
 
 
-def _number(text: str) -> str:
-    return f"<td>{text}</td>"
+@dataclass(frozen=True)
+class Told:
+    """What a page tells: a document and what the program says of it, and the calls that were made for that."""
+
+    title: str
+    document: Document
+    stretches: Sequence[Stretch]
+    bounds: Mapping[str, Decimal]
+    faults: Faults | None = None
+    judgement: Judgement | None = None
+    cases: Sequence[Shown] = ()
+    calls: Sequence[str] = field(default_factory=list)
+    seed: int = 1
 
 
-def _text(text: str) -> str:
-    return f'<td class="text">{escape(text)}</td>'
+def page(told: Told) -> str:
+    """The page as HTML."""
+    environment = Environment(loader=FileSystemLoader(Path(__file__).parent), autoescape=True, trim_blocks=True)
+    return environment.get_template("page.html").render(_Page(told).parts())
 
 
-def _scaled(value: int | Decimal | None, unit: int) -> str:
-    """A number of ns in a unit of so many ns, with three decimals."""
-    return _NONE if value is None else f"{value / unit:,.3f}"
+class _Page:
+    """The parts of a page."""
+
+    def __init__(self, told: Told) -> None:
+        self._told = told
+        self._document = told.document
+        self._names = Names(told.document)
+        self._readable = Readable(told.document, True)
+        shown = [*told.stretches, *(stretch for case in told.cases for stretch in case.stretches)]
+        self._colours = Colours(shown)
+        self._drawing = Drawing(told.document, fold=False)
+
+    def parts(self) -> dict[str, object]:
+        """What the template asks for."""
+        told = self._told
+        judgement = told.judgement
+        over = plots.over_steps(self._document, told.stretches, (), told.bounds,
+                                judgement.asked_error if judgement else None)
+        time = plots.over_time(self._document, told.stretches, (), self._document.sync)
+        return {
+            "title": told.title,
+            "comment": self._document.comment.splitlines(),
+            "verdict": self._judged(judgement) if judgement else self._measured(),
+            "word": ("kept" if judgement.kept else "broken") if judgement else "",
+            "word_told": judgement.last_line if judgement else "",
+            "settings": self._settings(),
+            "calls": told.calls,
+            "network": self._network(told.stretches[0]),
+            "stretches": self._stretches(),
+            "roots": [{"fill": _fill(look.colour, look.hatched), "name": self._root(root)}
+                      for root, look in self._colours.roots.items()],
+            "strips": list(self._strips(told.stretches[1:])),
+            "worst": [self._case(case) for case in told.cases],
+            "worst_told": "Faults that cut off one leaf alone aren't among them.",
+            "over_steps": _picture(over),
+            "over_time": _picture(time),
+            "details": list(self._details()),
+        }
+
+    def _judged(self, judgement: Judgement) -> Table:
+        """What is asked, what was got, and whether that is kept."""
+        return Table(("", "", "got", "asked", "who", "where"),
+                     [[Cell("kept" if line.met else "broken", "kept" if line.met else "broken"),
+                       *(Cell(word, "text") for word in (line.key, line.got, line.asked, line.who, line.where))]
+                      for line in judgement.lines])
+
+    def _measured(self) -> Table:
+        """Without requirements: when all have time, the worst wait for it, the worst error, and the worst bound."""
+        first, later = self._told.stretches[0], self._told.stretches[1:]
+        rows = [("all have time", _units(first.measures["offsets"]), "after the start")]
+        waits = [(stretch.measures, f"after {self._events(stretch)}") for stretch in later]
+        tried = self._told.faults.cases if self._told.faults else ()
+        waits += [(line, f"fault {self._what(case)}") for case in tried for line in (case.down, case.back)]
+        errors = [(first.measures, "after the start"), *waits]
+        rows.append(("longest wait for time", *self._greatest(waits, "holdover")))
+        rows.append(("greatest error", *self._greatest(errors, "error")))
+        bound = max(self._told.bounds.items(), key=lambda it: it[1], default=("", None))
+        rows.append(("greatest bound of an error as it comes", _units(bound[1]), self._whose(bound[0] or None)))
+        return Table((), [[Cell(what, "text"), Cell(value), Cell(where, "text")] for what, value, where in rows])
+
+    def _greatest(self, lines: Sequence[tuple[Line, str]], name: str) -> tuple[str, str]:
+        """The greatest of a measure, and whose and where it is."""
+        if not lines:
+            return _NONE, ""
+        line, where = max(lines, key=lambda it: it[0][name])
+        return _units(line[name]), f"{self._whose(line[f'{name}_clock'])} {where}".strip()
+
+    def _settings(self) -> Table:
+        """The intervals and timeouts, and what the network is made of."""
+        document = self._document
+        jitters = [link.keys["max"] - link.keys["min"] for link in document.links]
+        keys = _DEFAULTS | document.network
+        rows = [(key, in_units(interval(keys[key]))) for key in ("announce", "sync", "pdelay")]
+        rows += [(key, str(keys[key])) for key in ("timeout", "lost", "sync_timeout")]
+        rows += [(key, in_units(keys[key])) for key in ("threshold", "turnaround", "residence")]
+        rows += [("seed", str(self._told.seed))]
+        rows += [("systems", str(len(document.systems))), ("links", str(len(document.links)))]
+        if jitters:
+            rows.append(("jitter", f"{in_units(min(jitters))} to {in_units(max(jitters))}"))
+        if self._told.faults:
+            head = self._told.faults.head
+            rows += [("moments", str(head["moments"])), ("seeds", str(head["seeds"])),
+                     ("faults from", f"{in_seconds(head['from'])}s")]
+        half = (len(rows) + 1) // 2
+        pairs = zip(rows[:half], [*rows[half:], ("", "")])
+        return Table((), [[Cell(a, "text"), Cell(b), Cell(c, "text"), Cell(d)] for (a, b), (c, d) in pairs])
+
+    def _network(self, stretch: Stretch) -> Markup:
+        """The network at the end of a stretch."""
+        up = self._document.links_up(stretch.begin)
+        title = f"at {in_seconds(stretch.end)} s"
+        seen = Seen(self._told.bounds, stretch.errors())
+        return Markup(inline(self._drawing.svg(View(stretch.ended, up, title, seen, self._colours.of_boxes()))))
+
+    def _stretches(self) -> Table:
+        head = ("from", "to", "events", "choice", "roles", "offsets", "bound", "longest wait", "greatest error",
+                "without time", "roots", "alone")
+        return Table(head, [self._stretch_row(stretch) for stretch in self._told.stretches])
+
+    def _stretch_row(self, stretch: Stretch) -> list[Cell]:
+        line = stretch.measures
+        return [
+            Cell(f"{in_seconds(stretch.begin)}s"),
+            Cell(f"{in_seconds(stretch.end)}s"),
+            Cell(self._events(stretch), "text"),
+            *(Cell(_units(line[name])) for name in ("choice", "roles", "offsets", "bound")),
+            *self._measures(line),
+        ]
+
+    def _measures(self, line: Line) -> Iterator[Cell]:
+        """The words of a line that have a system, and its counts."""
+        for name in ("holdover", "error"):
+            yield Cell(f"{_units(line[name])} {self._whose(line[f'{name}_clock'])}".strip())
+        for name in ("without", "roots", "alone"):
+            yield Cell(str(line[name]))
+
+    def _events(self, stretch: Stretch) -> str:
+        """The events that begin a stretch."""
+        return "; ".join(self._event(event["kind"], event["words"]) for event in stretch.events) or "start"
+
+    def _event(self, kind: str, words: Sequence[str]) -> str:
+        """An event with names; long words, such as frames, are cut."""
+        has_port = kind.startswith("link_") or kind == "inject"
+        what = self._names.number(words[0], int(words[1])) if has_port else self._document.name(words[0])
+        return " ".join([kind, what, *(word[:40] for word in words[2 if has_port else 1:])])
+
+    def _strips(self, stretches: Iterable[Stretch]) -> Iterator[dict[str, object]]:
+        """The strips of stretches in which something changes."""
+        for stretch in stretches:
+            if picture := strips(self._document, stretch, self._colours, self._document.sync):
+                yield {"title": f"{in_seconds(stretch.begin)} s: {self._events(stretch)}",
+                       "picture": _picture(picture)}
+
+    def _case(self, shown: Shown) -> dict[str, object]:
+        """One of the worst faults: its line in words, its strips, and the network before and while it is down."""
+        down = next((stretch for stretch in shown.stretches if stretch.begin == shown.at), None)
+        before = next((stretch for stretch in shown.stretches if stretch.end == shown.at), None)
+        like = f" ({shown.alike} alike)" if shown.alike > 1 else ""
+        return {
+            "title": f"{self._what(shown.case)}{like}",
+            "told": self._in_words(shown.case),
+            "strips": _picture(strips(self._document, down, self._colours, self._document.sync)) if down else None,
+            "caption": f"Shown is moment 0, at {in_seconds(shown.at)} s, of those that were tried.",
+            "pictures": [self._case_picture(stretch, shown) for stretch in (before, down) if stretch],
+        }
+
+    def _case_picture(self, stretch: Stretch, shown: Shown) -> dict[str, object]:
+        """The network at the end of a stretch of a case, and how wide it is."""
+        up = shown.document.links_up(stretch.begin)
+        title = "before" if stretch.end == shown.at else "while it is down"
+        svg = self._drawing.svg(View(stretch.ended, up, title, colour=self._colours.of_boxes()))
+        return {"svg": Markup(inline(svg)), "width": width(svg)}
+
+    def _in_words(self, case: Case) -> str:
+        """What a fault does, in a sentence for each of down and back."""
+        told = []
+        for what, line in (("While it is down", case.down), ("When it is back", case.back)):
+            choice, clock = line["choice"], line["holdover_clock"]
+            stands = "no choice changes" if choice is None else f"the choice is made after {_units(choice)}"
+            wait = f"{self._whose(clock)} waits {_units(line['holdover'])}" if clock else "nobody waits"
+            none = f"; at its end {line['without']} have no time" if line["without"] else ""
+            told.append(f"{what} {stands}, and {wait} for time at most{none}.")
+        return " ".join(told)
+
+    def _details(self) -> Iterator[dict[str, object]]:
+        """What is folded away: all faults, all accuracy lines, and the network at the end of each stretch."""
+        if self._told.faults:
+            faults = self._told.faults
+            yield {"title": f"All {len(faults.cases)} faults", "table": self._faults(faults),
+                   "told": f"{self._readable.line(faults.worst.text)}: {faults.verdict.text}"}
+        lines = [(stretch, line) for stretch in self._told.stretches for line in stretch.accuracy]
+        if lines:
+            yield {"title": f"All {len(lines)} bounds of errors as they come", "table": self._accuracy(lines)}
+        for stretch in self._told.stretches:
+            yield {"title": f"The network at {in_seconds(stretch.end)} s", "picture": self._network(stretch)}
+
+    def _accuracy(self, lines: Iterable[tuple[Stretch, Line]]) -> Table:
+        return Table(("after", "system", "greatest error", "bound", "from"),
+                     [[Cell(self._events(stretch), "text"), Cell(self._document.name(line["clock"]), "text"),
+                       Cell(_units(line["error"])), Cell(_units(line["bound"])), Cell(f"{in_seconds(line['from'])}s")]
+                      for stretch, line in lines])
+
+    def _faults(self, faults: Faults) -> Table:
+        """The cases in the order of the program, two rows each."""
+        head = ("case", "what fails", "", "choice", "bound", "longest wait", "greatest error", "without time", "roots",
+                "alone", "who is followed")
+        rows = []
+        for case in faults.cases:
+            for line in (case.down, case.back):
+                followed = ", ".join(f"{self._root_name(told['root_id'])} by {told['systems']}"
+                                     for told in case.followed(line))
+                rows.append([Cell(str(case.number)), Cell(self._what(case), "text"), Cell(line.kind, "text"),
+                             Cell(_units(line["choice"])), Cell(_units(line["bound"])), *self._measures(line),
+                             Cell(followed, "text")])
+        return Table(head, rows)
+
+    def _what(self, case: Case) -> str:
+        """The link or the system that fails."""
+        line = case.lines[0]
+        if line.kind == "case system":
+            return f"{self._document.name(line['clock'])} hangs"
+        ends = ((line["a_clock"], line["a_port"]), (line["b_clock"], line["b_port"]))
+        return f"link {' '.join(self._names.number(clock, port) for clock, port in ends)}"
+
+    def _whose(self, clock: str | None) -> str:
+        return "" if clock is None else self._document.name(clock)
+
+    def _root(self, root: str) -> str:
+        return f"{self._root_name(root)}, priority1 {int(root[:2], 16)}"
+
+    def _root_name(self, root: str) -> str:
+        return self._document.name(root[12:])
 
 
-def _ms(value: int | None) -> str:
-    return _number(_scaled(value, 10**6))
+def _units(value: int | Decimal | None) -> str:
+    return _NONE if value is None else in_units(value)
 
 
-def _measure(document: Document, line: Line, name: str, unit: int) -> str:
-    """A measure and whose it is."""
-    clock = line[f"{name}_clock"]
-    whose = "" if clock is None else f" {escape(document.name(clock))}"
-    return _number(_scaled(line[name], unit) + whose)
+def _picture(svg: bytes | None) -> Markup | None:
+    return Markup(inline(svg)) if svg else None
 
 
-def _counts(line: Line) -> list[str]:
-    return [_number(str(line[name])) for name in ("without", "roots", "alone")]
-
-
-def _words(document: Document, events: Iterable[Line]) -> str:
-    """The events that begin a stretch; long words, such as frames, are cut."""
-    told = ([event["kind"], *(document.name(word)[:40] for word in event["words"])] for event in events)
-    return "; ".join(" ".join(words) for words in told)
-
-
-def _stretches(document: Document, stretches: Iterable[Stretch]) -> str:
-    head = ("from s", "to s", "events", "choice ms", "roles ms", "offsets ms", "bound ms", "longest without Sync ms",
-            "greatest error us", "without time", "roots", "alone")
-    return _table(head, (_stretch_row(document, stretch) for stretch in stretches))
-
-
-def _stretch_row(document: Document, stretch: Stretch) -> list[str]:
-    line = stretch.measures
-    return [
-        _number(in_seconds(stretch.begin)),
-        _number(in_seconds(stretch.end)),
-        _text(_words(document, stretch.events)),
-        *(_ms(line[name]) for name in ("choice", "roles", "offsets", "bound")),
-        _measure(document, line, "holdover", 10**6),
-        _measure(document, line, "error", 10**3),
-        *_counts(line),
-    ]
-
-
-def _stretch(document: Document, stretch: Stretch, colour: dict[str, str]) -> str:
-    """A stretch: the strips, what accuracy is promised, and the tree at its end."""
-    title = f"From {in_seconds(stretch.begin)} s: {_words(document, stretch.events) or 'the start'}"
-    tree = drawing.graph(document, stretch.ended, document.links_up(stretch.begin), f"at {in_seconds(stretch.end)} s")
-    parts = [f"<h3>{escape(title)}</h3>", strips.strips(document, stretch, colour)]
-    if stretch.accuracy:
-        head = ("system", "greatest error ns", "bound ns", "from s")
-        parts.append(_table(head, (_accuracy_row(document, line) for line in stretch.accuracy)))
-    return "\n".join([*parts, f"<div>{inline(drawing.svg(tree))}</div>"])
-
-
-def _accuracy_row(document: Document, line: Line) -> list[str]:
-    error = _NONE if line["error"] is None else str(line["error"])
-    return [_text(document.name(line["clock"])), _number(error), _number(str(line["bound"])),
-            _number(in_seconds(line["from"]))]
-
-
-def _errors(document: Document, stretches: Iterable[Stretch]) -> str:
-    svg = plots.errors(document, [sample for stretch in stretches for sample in stretch.samples])
-    return f"<div>{inline(svg)}</div>" if svg else "<p>No error was told.</p>"
-
-
-def _faults(document: Document, faults: Faults) -> str:
-    """The cases, the worst first, and the worst of all."""
-    head = ("case", "what fails", "", "choice ms", "bound ms", "longest without Sync ms", "greatest error us",
-            "without time", "roots", "alone", "who is followed")
-    rows = [row for case in faults.cases for row in _case_rows(document, case.lines)]
-    verdict = f"<p>{escape(faults.worst.text)}: {escape(faults.verdict.text)}</p>"
-    return f"<p>{escape(faults.head.text)}</p>\n{_table(head, rows)}\n{verdict}"
-
-
-def _case_rows(document: Document, lines: Sequence[Line]) -> list[list[str]]:
-    """Two rows of a case: while it is down, and when it is back."""
-    case = lines[0]
-    rows: list[list[str]] = []
-    followed: list[list[str]] = []
-    for line in lines[1:]:
-        if line.kind == "follow":
-            followed[-1].append(f"{document.name(line['root_id'][12:])} by {line['systems']}")
-        else:
-            followed.append([])
-            rows.append([_number(str(case["case"])), _text(_what(document, case)), _text(line.kind),
-                         *(_ms(line[name]) for name in ("choice", "bound")),
-                         _measure(document, line, "holdover", 10**6), _measure(document, line, "error", 10**3),
-                         *_counts(line)])
-    return [[*row, _text(", ".join(words))] for row, words in zip(rows, followed)]
-
-
-def _what(document: Document, case: Line) -> str:
-    """The link or the system that fails."""
-    if case.kind == "case system":
-        return document.name(case["clock"])
-    return f"{document.name(case['a_clock'])} {case['a_port']} to {document.name(case['b_clock'])} {case['b_port']}"
+def _fill(colour: str, hatched: bool) -> str:
+    """How a root's colour is filled in a legend."""
+    return f"repeating-linear-gradient(45deg, {colour} 0 3px, white 3px 5px)" if hatched else colour

@@ -6,7 +6,7 @@ import subprocess
 
 from .refusal import MissingPackage, Refused
 
-_PACKAGES = {"dot": "graphviz", "gnuplot": "gnuplot-nox"}
+_PACKAGES = {"dot": "graphviz", "neato": "graphviz"}
 
 
 def draw(command: list[str], text: str) -> bytes:
@@ -21,7 +21,18 @@ def draw(command: list[str], text: str) -> bytes:
 
 
 def inline(svg: bytes) -> str:
-    """An SVG file as an element of an HTML page: without its head, and without the names of namespaces."""
+    """An SVG file as an element of an HTML page: as wide as there is room, at most as wide as it was made.
+
+    Its head and the names of namespaces are left out.
+    """
     text = svg.decode()
-    element = text[text.index("<svg"):]
-    return re.sub(r"""\s+xmlns(:\w+)?=(?:"[^"]*"|'[^']*')""", "", element)
+    element = re.sub(r"""\s+xmlns(:\w+)?=(?:"[^"]*"|'[^']*')""", "", text[text.index("<svg"):])
+    head, _, rest = element.partition(">")
+    head = re.sub(r' (width|height)="[0-9.]+pt"', "", head)
+    return f'{head} width="100%" style="max-width: {width(svg)}px">{rest}'
+
+
+def width(svg: bytes) -> int:
+    """How wide an SVG file was made, in pixels: four of them are three points."""
+    found = re.search(rb'<svg[^>]*? width="([0-9.]+)pt"', svg)
+    return round(float(found[1]) * 4 / 3) if found else 0

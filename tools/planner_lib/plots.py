@@ -1,41 +1,126 @@
-"""The errors of receipts over time, as gnuplot draws them."""
+"""The errors of receipts: over steps, and over time."""
 
-from typing import Iterable, Sequence
+from decimal import Decimal
+from math import ceil, nan
+from typing import Iterable, Mapping, Sequence
 
+from matplotlib.axes import Axes
+from matplotlib.figure import Figure
+
+from .charts import POINTS, as_svg
 from .documents import Document
-from .pictures import draw
-from .standing import in_seconds
-from .timelines import Sample
+from .timelines import Sample, Stretch
 
-_HEAD = """\
-set encoding utf8
-set terminal svg size 900,420 dynamic noenhanced font "Helvetica,11" name "errors"
-set xlabel "time in s"
-set ylabel "error in ns"
-set grid
-set key outside right top
-"""
+_SIZE = (10.5, 3.6)
 
 
-def errors(document: Document, samples: Sequence[Sample]) -> bytes | None:
-    """An SVG file with a line for each system, by rising clock; nothing where there is no error."""
-    of_clock: dict[str, list[Sample]] = {}
-    for sample in samples:
-        of_clock.setdefault(sample.clock, []).append(sample)
-    if not of_clock:
+def over_steps(document: Document, stretches: Sequence[Stretch], clocks: Sequence[str],
+               bounds: Mapping[str, Decimal], limit: Decimal | None = None) -> bytes | None:
+    """Absolute errors in ns by steps from the root, of receipts after the last change of their stretch, as SVG.
+
+    Of all systems median, 99.9 % and greatest; of systems that are named each error as a point. None without any.
+    """
+    of_steps: dict[int, list[float]] = {}
+    for stretch in stretches:
+        last = max((change.at for change in stretch.changes), default=stretch.begin)
+        for sample in stretch.samples:
+            standing = stretch.ended.get(sample.clock)
+            if sample.at > last and standing and not standing.failed and (not clocks or sample.clock in clocks):
+                of_steps.setdefault(standing.steps, []).append(abs(float(sample.error)))
+    if not of_steps:
         return None
-    blocks = [_block(place, of_clock[clock]) for place, clock in enumerate(sorted(of_clock))]
-    titles = (_quoted(document.name(clock)) for clock in sorted(of_clock))
-    curves = [f"$c{place} with linespoints pt 7 ps 0.3 title {title}" for place, title in enumerate(titles)]
-    return draw(["gnuplot"], _HEAD + "".join(blocks) + "plot " + ", \\\n  ".join(curves) + "\n")
+    figure = Figure(figsize=_SIZE, layout="constrained")
+    axes = figure.add_subplot()
+    steps = sorted(of_steps)
+    if clocks:
+        points = [(step, error) for step in steps for error in of_steps[step]]
+        axes.plot(*zip(*points), ".", label=_names(document, clocks), rasterized=len(points) > POINTS)
+    else:
+        for part, label in ((0.5, "median"), (0.999, "99.9 %"), (1.0, "greatest")):
+            axes.plot(steps, [_least_above(of_steps[step], part) for step in steps], ".-", label=label)
+    _bounds(axes, stretches[-1], bounds, limit)
+    axes.set_xlabel("steps from the root")
+    axes.set_ylabel("error in ns")
+    axes.set_xlim(0, steps[-1] + 1)
+    axes.set_ylim(bottom=0)
+    axes.xaxis.get_major_locator().set_params(integer=True)
+    axes.legend(loc="upper left")
+    return as_svg(figure)
 
 
-def _block(place: int, samples: Iterable[Sample]) -> str:
-    """A system's errors as a block of data: seconds and ns."""
-    points = [f"{in_seconds(sample.at)} {sample.error}\n" for sample in samples]
-    return f"$c{place} << END\n{''.join(points)}END\n"
+def _least_above(errors: list[float], part: float) -> float:
+    """The least error that so large a part of all isn't above."""
+    return sorted(errors)[max(ceil(part * len(errors)), 1) - 1]
 
 
-def _quoted(text: str) -> str:
-    """A text as a string of gnuplot."""
-    return "'" + text.replace("'", "''").replace("\n", " ") + "'"
+def _bounds(axes: Axes, stretch: Stretch, bounds: Mapping[str, Decimal], limit: Decimal | None) -> None:
+    """The bound at each number of steps, and what is asked, as lines."""
+    of_steps: dict[int, float] = {}
+    for clock, bound in bounds.items():
+        standing = stretch.ended.get(clock)
+        if standing and not standing.failed and standing.slave is not None:
+            of_steps[standing.steps] = max(of_steps.get(standing.steps, 0.0), float(bound))
+    if of_steps:
+        axes.plot(sorted(of_steps), [of_steps[step] for step in sorted(of_steps)], "k_--", label="bound")
+    if limit is not None:
+        axes.axhline(float(limit), color="red", linestyle="dotted", label="asked")
+
+
+def over_time(document: Document, stretches: Sequence[Stretch], clocks: Sequence[str], sync: int) -> bytes | None:
+    """Errors in ns over time, as SVG, with events as upright lines. None without any.
+
+    Of all systems the envelope, greatest and least; of systems that are named each error as a point. Over more than two
+    Sync intervals (in ns) without an error nothing is drawn.
+    """
+    samples = [sample for stretch in stretches for sample in stretch.samples
+               if not clocks or sample.clock in clocks]
+    if not samples:
+        return None
+    figure = Figure(figsize=_SIZE, layout="constrained")
+    axes = figure.add_subplot()
+    if clocks:
+        for clock in clocks:
+            own = [sample for sample in samples if sample.clock == clock]
+            axes.plot([sample.at / 1e9 for sample in own], [float(sample.error) for sample in own], ".",
+                      label=document.name(clock), rasterized=len(samples) > POINTS)
+        axes.legend(loc="upper left")
+    else:
+        times, least, most = envelope(samples, sync)
+        axes.fill_between(times, least, most, color="#56B4E9", edgecolor="#0072B2", linewidth=0.8)
+    for stretch in stretches:
+        if stretch.events:
+            axes.axvline(stretch.begin / 1e9, color="red", linewidth=0.8)
+    axes.set_xlabel("time in s")
+    axes.set_ylabel("error in ns")
+    return as_svg(figure)
+
+
+def envelope(samples: Sequence[Sample], sync: int) -> tuple[list[float], list[float], list[float]]:
+    """The least and the greatest error of each of 1,000 columns of time; NaN ends what would lead over a gap."""
+    begin, end = samples[0].at, samples[-1].at
+    width = max((end - begin) / POINTS, 1)
+    columns: dict[int, list[Sample]] = {}
+    for sample in samples:
+        columns.setdefault(int((sample.at - begin) / width), []).append(sample)
+    times: list[float] = []
+    least: list[float] = []
+    most: list[float] = []
+    before = begin
+    for place in sorted(columns):
+        own = columns[place]
+        if own[0].at - before > 2 * sync:
+            _put(times, least, most, before / 1e9, nan, nan)
+        errors = [float(sample.error) for sample in own]
+        _put(times, least, most, own[0].at / 1e9, min(errors), max(errors))
+        before = own[-1].at
+    return times, least, most
+
+
+def _put(times: list[float], least: list[float], most: list[float], time: float, low: float, high: float) -> None:
+    times.append(time)
+    least.append(low)
+    most.append(high)
+
+
+def _names(document: Document, clocks: Iterable[str]) -> str:
+    return ", ".join(document.name(clock) for clock in clocks)

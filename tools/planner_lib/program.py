@@ -5,26 +5,36 @@ import subprocess
 from functools import cache
 from pathlib import Path
 
-from .refusal import Refused
+from .refusal import NotBuilt, Refused
 
 _TOP = Path(__file__).resolve().parents[2]
+NOT_BUILT = 69  # of the launcher, which then neither builds nor runs the program
 
 
 @cache
 def _built() -> str:
-    """The repository's program. The launcher proves and builds it first where that is to be done, and says so."""
+    """The repository's program, where the launcher finds that it is built from its sources."""
     launcher = _TOP / "gptp_sim"
-    ended = subprocess.run([launcher, "compare"], stdin=subprocess.DEVNULL, stdout=subprocess.DEVNULL, check=False)
+    ended = _call([str(launcher), "compare"], b"")
     if ended.returncode != 0:
         raise Refused(f"{launcher}: ends with {ended.returncode}")
     return str(_TOP / "crates/gptp_sim/out/gptp_sim")
+
+
+def _call(command: list[str], octets: bytes) -> subprocess.CompletedProcess[bytes]:
+    """How a program ends for an input. A launcher builds nothing, and runs nothing that isn't built."""
+    environment = os.environ | {"GPTP_SIM_BUILD": "no"}
+    ended = subprocess.run(command, input=octets, capture_output=True, check=False, env=environment)
+    if ended.returncode == NOT_BUILT:
+        raise NotBuilt
+    return ended
 
 
 def ask(words: list[str], document: bytes, source: str) -> list[str]:
     """The lines that the program writes for a document. A refusal is told with the name of the document's file."""
     program = os.environ.get("GPTP_SIM") or _built()
     try:
-        ended = subprocess.run([program, *words], input=document, capture_output=True, check=False)
+        ended = _call([program, *words], document)
     except OSError as why:
         raise Refused(f"{program}: {why.strerror}") from why
     told = ended.stderr.decode(errors="replace").strip().partition("\n")[0]

@@ -56,11 +56,6 @@ def in_nanoseconds(scaled: int) -> str:
     return str(abs(rounded) if rounded == 0 else rounded)
 
 
-def in_seconds(at: int) -> str:
-    """A time of whole ns in s, exactly."""
-    return f"{at // 10**9}.{at % 10**9:09}".rstrip("0").rstrip(".")
-
-
 def of_run(lines: Iterable[Line]) -> tuple[int, Standing]:
     """When a run ended, and how the network stood then."""
     at, standing = 0, {}

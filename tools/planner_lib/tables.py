@@ -4,68 +4,149 @@ import csv
 import io
 import math
 from fractions import Fraction
+from functools import partial
 from typing import Callable, Iterator, Mapping, TypeVar
 
-from .documents import RANGES, read_text
-from .plans import Cable, Node, clock_of, in_range
+from .documents import LAST_EVENT, RANGES, TIMES, read_text
+from .happenings import CELLS, KINDS, Happening
+from .plans import DEFAULT_JITTER, Cable, Node, Plan, clock_of, in_range
+from .quantities import in_units, nanoseconds
 from .refusal import Refused, told_at
 
 # what light and signals take for a metre, in ns: in fibre 4.9, in twisted pairs 4.8 to 5.6
 NS_A_METRE = {"copper": 5, "fibre": 5}
 
 _ENDS = ("a", "a_port", "b", "b_port")
-LINK_COLUMNS = (*_ENDS, "min", "max", "metres", "medium", "loss")
-SYSTEM_COLUMNS = ("name", "clock", "ppm", *RANGES["system"])
+LINK_COLUMNS = (*_ENDS, "min", "max", "jitter", "metres", "medium", "loss")
+# `continues` of a system stands here when the program has that key
+SYSTEM_COLUMNS = ("name", "clock", "ppm", *RANGES["system"], "relay", "start")
+EVENT_COLUMNS = ("at", "kind", "what", *CELLS)
 
 Row = Mapping[str, str]
 T = TypeVar("T")
 
 
-def read(links: str, systems: str | None) -> tuple[list[Node], list[Cable]]:
-    """The network of a table of links and, where there is one, a table of systems."""
-    cables = _each(links, LINK_COLUMNS, ("a", "b"), cable)
-    nodes = _each(systems, SYSTEM_COLUMNS, ("name",), lambda row: node(row["name"], row)) if systems else []
-    return nodes, cables
+def read(links: str, systems: str | None, events: str | None, jitter: int | None) -> Plan:
+    """The network of a table of links and, where there are ones, of systems and of events.
+
+    The jitter, in ns, is that of links that tell a length or a least delay alone; None is the default, and told.
+    """
+    cables = _each(links, LINK_COLUMNS, ("a", "b"), partial(cable, jitter=jitter))
+    nodes = _each(systems, SYSTEM_COLUMNS, ("name",), node) if systems else []
+    rows = _each(events, EVENT_COLUMNS, ("at", "kind", "what"), happening) if events else []
+    return Plan(nodes, cables, rows, told_of_jitter(cables))
 
 
-def cable(row: Row) -> Cable:
-    """A link of its columns."""
+def told_of_jitter(cables: list[Cable]) -> str:
+    """What is told of links whose jitter isn't given; empty where there is none."""
+    count = sum(cable.assumed for cable in cables)
+    links = "1 link" if count == 1 else f"{count} links"
+    return f"{links} without jitter: {DEFAULT_JITTER} ns taken (--jitter)" if count else ""
+
+
+def cable(row: Row, where: str = "", jitter: int | None = None) -> Cable:
+    """A link of its columns. The jitter, in ns, is taken where a length or a least delay stands alone."""
     if not row["a"] or not row["b"]:
         raise Refused("a or b is empty")
-    keys = {key: in_range("link", key, _whole(row, key)) for key in RANGES["link"] if row.get(key)}
-    if ("min" in keys) != ("max" in keys):
+    keys = {key: _key("link", row, key) for key in RANGES["link"] if row.get(key)}
+    if "max" in keys and "min" not in keys:
         raise Refused("of min and max one is empty")
     if row.get("metres"):
         if "min" in keys:
-            raise Refused("there are min and max, and metres too")
-        keys = _delay(row) | keys
-    return Cable(row["a"], row["b"], row.get("a_port", ""), row.get("b_port", ""), keys)
+            raise Refused(f"there {'are min and max' if 'max' in keys else 'is min'}, and metres too")
+        keys |= _delay(row)
+    assumed = False
+    if row.get("jitter"):
+        if row.get("max"):
+            raise Refused("there are max, and jitter too")
+        if "min" not in keys:
+            raise Refused("there is jitter, and neither metres nor min")
+        keys["max"] = keys.get("max", keys["min"]) + nanoseconds(row["jitter"])
+    elif "min" in keys and not row.get("max"):
+        assumed = jitter is None
+        keys["max"] = keys.get("max", keys["min"]) + (DEFAULT_JITTER if jitter is None else jitter)
+    if "max" in keys:
+        in_range("link", "max", keys["max"])
+    return Cable(row["a"], row["b"], row.get("a_port", ""), row.get("b_port", ""), keys, assumed, where)
 
 
-def node(name: str, row: Row) -> Node:
+def node(row: Row, where: str = "") -> Node:
     """A system of its columns."""
-    if not name:
+    if not row["name"]:
         raise Refused("name is empty")
     clock = None
     if row.get("clock"):
         clock = clock_of(row["clock"])
         if clock is None:
             raise Refused(f"clock {row['clock']} isn't sixteen hexadecimal digits, nor a MAC address")
-    keys = {key: in_range("system", key, _whole(row, key)) for key in RANGES["system"] if row.get(key)}
+    keys = {key: _key("system", row, key) for key in RANGES["system"] if row.get(key)}
     if row.get("ppm"):
         if "drift" in keys:
             raise Refused("there is drift, and ppm too")
         keys["drift"] = in_range("system", "drift", _drift(row))
-    return Node(name, keys, clock)
+    start = _moment(row, "start") if row.get("start") else None
+    return Node(row["name"], keys, clock, start, _relays(row), where=where)
+
+
+def happening(row: Row, where: str = "") -> Happening:
+    """An event of its columns."""
+    for name in ("at", "kind", "what"):
+        if not row[name]:
+            raise Refused(f"{name} is empty")
+    kind = row["kind"]
+    if kind not in KINDS:
+        raise Refused(f"kind {kind} isn't one of {', '.join(KINDS)}")
+    given = [name for name in CELLS if row.get(name)]
+    for name in given:
+        if name not in KINDS[kind]:
+            raise Refused(f"{kind} takes no {name}")
+    if kind in ("link_set", "priority1") and not given:
+        raise Refused(f"{kind} has no {' or '.join(KINDS[kind])}")
+    if "max" in given and "jitter" in given:
+        raise Refused("there are max, and jitter too")
+    return Happening(_moment(row, "at"), kind, row["what"], {name: _cell(row, name) for name in given}, where)
+
+
+def _cell(row: Row, name: str) -> int:
+    """A cell of an event that is a number."""
+    if name == "value":
+        return in_range("system", "priority1", _whole(row, name), name)
+    if name in RANGES["link"]:
+        return _key("link", row, name)
+    time = nanoseconds(row[name])
+    if name == "detect" and time == 0:
+        raise Refused("detect 0 isn't 1 or more")
+    return time
+
+
+def _moment(row: Row, name: str) -> int:
+    """A time of an event, in ns."""
+    at = nanoseconds(row[name])
+    if at > LAST_EVENT:
+        raise Refused(f"{name} {row[name]} isn't 0 to {in_units(LAST_EVENT)}")
+    return at
+
+
+def _relays(row: Row) -> bool:
+    """Whether a device passes on what it hears."""
+    relay = row.get("relay") or "yes"
+    if relay not in ("yes", "no"):
+        raise Refused(f"relay {relay} isn't yes or no")
+    return relay == "yes"
 
 
 def _delay(row: Row) -> dict[str, int]:
-    """What a cable of so many metres takes, rounded down and up."""
+    """What a cable of so many metres takes, in ns, rounded down and up."""
     medium = row.get("medium") or "copper"
     if medium not in NS_A_METRE:
         raise Refused(f"medium {medium} isn't {' or '.join(NS_A_METRE)}")
     delay = _number(row, "metres", Fraction) * NS_A_METRE[medium]
     return {"min": in_range("link", "min", max(1, math.floor(delay))), "max": in_range("link", "max", math.ceil(delay))}
+
+
+def _key(section: str, row: Row, key: str) -> int:
+    """The value of a key of a section of whole numbers; times may have units."""
+    return in_range(section, key, nanoseconds(row[key]) if key in TIMES else _whole(row, key))
 
 
 def _drift(row: Row) -> int:
@@ -84,17 +165,21 @@ def _number(row: Row, key: str, kind: Callable[[str], T]) -> T:
         raise Refused(f"{key} {row[key]} isn't a {'whole ' if kind is int else ''}number") from None
 
 
-def _each(path: str, columns: tuple[str, ...], required: tuple[str, ...], member: Callable[[Row], T]) -> list[T]:
-    """The members of a table, each of its row; what is refused is told with the line."""
+def _each(path: str, columns: tuple[str, ...], required: tuple[str, ...], member: Callable[[Row, str], T]) -> list[T]:
+    """The members of a table, each of its row and its place; what is refused is told with that."""
     members = []
     for number, row in _rows(path, columns, required):
-        with told_at(f"{path}: line {number}"):
-            members.append(member(row))
+        where = f"{path}: line {number}"
+        with told_at(where):
+            members.append(member(row, where))
     return members
 
 
 def _rows(path: str, columns: tuple[str, ...], required: tuple[str, ...]) -> Iterator[tuple[int, Row]]:
-    """The rows of a table by column, with their lines. Columns that begin with # are passed over, and empty rows."""
+    """The rows of a table by column, with their lines. Columns that begin with # are passed over, and empty rows.
+
+    Cells are parted by commas, semicolons or tabs: what the first line has most of.
+    """
     text = read_text(path)
     head = text.partition("\n")[0]
     reader = csv.DictReader(io.StringIO(text, newline=""), delimiter=max(",;\t", key=head.count), strict=True)
@@ -115,7 +200,7 @@ def _columns(path: str, found: list[str], columns: tuple[str, ...], required: tu
     """Refuses a head that lacks a column, or has one that isn't known."""
     for name in required:
         if name not in found:
-            raise Refused(f"{path}: the first line has no column `{name}`")
+            raise Refused(f"{path}: line 1: there is no column `{name}`")
     for name in found:
         if name not in columns and not name.startswith("#"):
-            raise Refused(f"{path}: the column `{name}` isn't one of {', '.join(columns)}")
+            raise Refused(f"{path}: line 1: the column `{name}` isn't one of {', '.join(columns)}")

@@ -156,6 +156,23 @@ def read_line(text: str) -> Line | None:
     return None
 
 
+@dataclass(frozen=True)
+class Span:
+    """A field of a line: the name that the template gives it, and where it begins and ends."""
+
+    name: str
+    begin: int
+    end: int
+
+
+def spans(text: str) -> list[Span]:
+    """The fields of a line in their order; none where it is no line of a command."""
+    for _, pattern in _PATTERNS.get(text.partition(" ")[0], []):
+        if found := pattern.fullmatch(text):
+            return [Span(name, *found.span(name)) for name, word in found.groupdict().items() if word]
+    return []
+
+
 def read_lines(lines: Iterable[str], source: str) -> Iterator[Line]:
     """Each line read; the first that is none is refused."""
     for number, text in enumerate(lines, 1):

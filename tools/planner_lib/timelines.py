@@ -2,6 +2,7 @@
 
 from dataclasses import dataclass, field
 from decimal import Decimal
+from functools import cached_property
 from typing import Iterable
 
 from .standing import Standing, SystemStanding, apply
@@ -38,6 +39,14 @@ class Stretch:
     ended: Standing = field(default_factory=dict)
     accuracy: list[Line] = field(default_factory=list)
 
+    @cached_property
+    def changes_of(self) -> dict[str, list[Change]]:
+        """The changes of each system; asked once all are read."""
+        changes: dict[str, list[Change]] = {}
+        for change in self.changes:
+            changes.setdefault(change.clock, []).append(change)
+        return changes
+
     @property
     def begin(self) -> int:
         """When it begins, in ns."""
@@ -47,6 +56,13 @@ class Stretch:
     def end(self) -> int:
         """When it ends, in ns."""
         return int(self.measures["to"])
+
+    def errors(self) -> dict[str, Decimal]:
+        """The greatest absolute error of each system in ns: since its bound holds where that is known, else of all."""
+        greatest: dict[str, Decimal] = {}
+        for sample in self.samples:
+            greatest[sample.clock] = max(greatest.get(sample.clock, Decimal(0)), abs(sample.error))
+        return greatest | {line["clock"]: line["error"] for line in self.accuracy if line["error"] is not None}
 
 
 def read(lines: Iterable[Line]) -> list[Stretch]:

@@ -1,0 +1,306 @@
+"""Whether a document keeps what is asked of it: a file of requirements, and what the program says."""
+
+import re
+import tomllib
+from dataclasses import dataclass
+from decimal import Decimal
+from typing import Any, Callable, Iterable, Iterator, Sequence
+
+from . import faults, parting
+from .documents import Document, Event, read_text
+from .faults import Case, Faults
+from .naming import Names, nearest
+from .quantities import in_seconds, in_units, nanoseconds
+from .refusal import Refused
+from .texts import Line
+
+# the keys in the order in which they are answered
+_ANSWERED = ("after_fault", "settle", "shared", "cut", "grandmaster")
+_HOW = ("kept_by", "moments", "seeds", "hold", "at")
+# the keys that are decided by what the program doesn't tell yet; each is decided where the others are once it does
+_LATER = {
+    "first": "timeline --times",
+    "time": "timeline --times",
+    "apart": "timeline --times",
+    "step": "timeline --times",
+    "accuracy": "accuracy --always",
+    "bound": "timeline --max-bound",
+    "detect": "faults --detect",
+}
+_KINDS = ("links", "systems")
+_TIMES = ("after_fault", "settle", "hold", "at")
+_COUNTS = {"cut": (0, 10**15), "moments": (1, 1000), "seeds": (1, 1000)}
+_AT = 60 * 10**9  # ns: by then timers that start in step have drifted apart
+
+Ask = Callable[..., list[Line]]
+
+
+@dataclass(frozen=True)
+class Verdict:
+    """Of one requirement: whether it is met, what was got and asked, and whose and where that was."""
+
+    key: str
+    met: bool
+    got: str
+    asked: str
+    where: str
+    who: str = ""
+
+    @property
+    def text(self) -> str:
+        """The verdict as a line."""
+        words = ["met" if self.met else "broken", self.key, self.got, "of", self.asked, self.who, self.where]
+        return " ".join(word for word in words if word)
+
+
+@dataclass(frozen=True)
+class Judgement:
+    """All verdicts, and the faults that were tried, where any were."""
+
+    lines: Sequence[Verdict]
+    faults: Faults | None = None
+    asked_error: Decimal | None = None
+
+    @property
+    def kept(self) -> bool:
+        """Whether all requirements are met."""
+        return all(line.met for line in self.lines)
+
+    @property
+    def last_line(self) -> str:
+        """The line after all verdicts."""
+        broken = sum(not line.met for line in self.lines)
+        return f"broken {broken} of {len(self.lines)}" if broken else "kept"
+
+    def text(self) -> str:
+        """The lines of the judgement."""
+        return "".join(f"{line}\n" for line in [*(verdict.text for verdict in self.lines), self.last_line])
+
+
+class Requirements:
+    """What a file asks: times in ns, numbers, and who is to lead, by clock, in order."""
+
+    def __init__(self, path: str, document: Document) -> None:
+        self._path = path
+        self._text = read_text(path)
+        try:
+            top = tomllib.loads(self._text)
+        except ValueError as why:
+            raise Refused(f"{path}: {why}") from why
+        for name in top:
+            if name != "require":
+                raise self._at(name, f"{name} isn't the table [require]")
+        table = top.get("require")
+        if not isinstance(table, dict):
+            raise Refused(f"{path}: line 1: there is no table [require]")
+        self.asked: dict[str, Any] = {"kept_by": [*_KINDS, "power"]}
+        self.asked |= {key: self._read(key, value, document) for key, value in table.items()}
+        if "power" in self.asked["kept_by"]:
+            raise self._at("kept_by", 'kept_by "power" takes faults --power, which the program doesn\'t have: give '
+                                      'kept_by = ["links", "systems"]')
+
+    def _at(self, key: str, why: str) -> Refused:
+        """A refusal at the line of a key."""
+        lines = self._text.splitlines()
+        here = rf"""\s*\[?\s*["']?{re.escape(key)}["']?\s*[=\]]"""
+        line = next((number for number, line in enumerate(lines, 1) if re.match(here, line)), 1)
+        return Refused(f"{self._path}: line {line}: {why}")
+
+    def _read(self, key: str, value: object, document: Document) -> object:
+        """The value of a key."""
+        if key in _LATER:
+            raise self._at(key, f"{key} takes {_LATER[key]}, which the program doesn't have")
+        if key not in (*_ANSWERED, *_HOW):
+            near = nearest(key, (*_ANSWERED, *_HOW, *_LATER))
+            raise self._at(key, f"no key {key}" + (f": {near} is near" if near else ""))
+        try:
+            if key in _TIMES and isinstance(value, str | int) and not isinstance(value, bool):
+                return nanoseconds(str(value))
+            if key in _COUNTS and isinstance(value, int) and not isinstance(value, bool):
+                return self._count(key, value)
+            if key == "shared" and isinstance(value, bool):
+                return value
+            if key in ("grandmaster", "kept_by") and isinstance(value, list) and all(
+                    isinstance(word, str) for word in value):
+                return self._leaders(value, document) if key == "grandmaster" else self._kept_by(value)
+        except Refused as why:
+            raise self._at(key, str(why)) from why
+        kind = ("a time" if key in _TIMES else "a whole number" if key in _COUNTS
+                else "true or false" if key == "shared" else "a list of texts")
+        raise self._at(key, f"{key} isn't {kind}")
+
+    @staticmethod
+    def _count(key: str, value: int) -> int:
+        least, most = _COUNTS[key]
+        if not least <= value <= most:
+            raise Refused(f"{key} {value} isn't {least} to {most}")
+        return value
+
+    @staticmethod
+    def _leaders(names: list[str], document: Document) -> list[str]:
+        """The clocks of those who are to lead."""
+        known, identity = Names(document), parting.Parting(document).identity
+        clocks = [known.clock(name) for name in names]
+        for name, clock in zip(names, clocks):
+            if identity[clock][0] == parting.NEVER:
+                raise Refused(f"{name} can't be grandmaster: its priority1 is 255")
+        if not clocks:
+            raise Refused("grandmaster is empty")
+        return clocks
+
+    @staticmethod
+    def _kept_by(kinds: list[str]) -> list[str]:
+        for kind in kinds:
+            if kind not in (*_KINDS, "power"):
+                raise Refused(f"kept_by {kind} isn't one of {', '.join((*_KINDS, 'power'))}")
+        return kinds
+
+
+class _Judge:
+    """The program's words against what is asked."""
+
+    def __init__(self, document: Document, asked: dict[str, Any]) -> None:
+        self._document = document
+        self._names = Names(document)
+        self._parting = parting.Parting(document)
+        self._asked = asked
+        self._last = max((event.at for event in document.events), default=0)
+
+    def judge(self, ask: Ask, jobs: int) -> Judgement:
+        """Makes the calls, each once, and compares."""
+        limits = [word for key, option in (("settle", "--max-choice"), ("after_fault", "--max-holdover"))
+                  if key in self._asked for word in (option, str(self._asked[key]))]
+        self._timeline = ask("timeline", "--summary", *limits)
+        self._choice = ask("choice")
+        self._faults = self._tried(ask, jobs, limits) if self._asked["kept_by"] else None
+        lines = []
+        for key in _ANSWERED:
+            if self._asked.get("shared", True) if key == "shared" else key in self._asked:
+                lines.append(getattr(self, f"_{key}")())
+        return Judgement(lines, self._faults)
+
+    def _tried(self, ask: Ask, jobs: int, limits: list[str]) -> Faults:
+        """What `faults` says, so many parts at a time."""
+        kinds = self._asked["kept_by"]
+        words = ["faults", "--at", str(self._last + self._asked.get("at", _AT)), *limits]
+        words += [word for key in ("moments", "seeds", "hold") if key in self._asked
+                  for word in (f"--{key}", str(self._asked[key]))]
+        words += ["--only", kinds[0]] if len(set(kinds)) == 1 else []
+        return faults.in_parts(ask, words, jobs)
+
+    def _exceeded(self, word: str) -> bool:
+        """Whether the program itself says that a limit is exceeded."""
+        verdicts = [self._timeline[-1], *([self._faults.verdict] if self._faults else [])]
+        return any(line.kind == "exceeded" and line["word"] == word for line in verdicts)
+
+    def _measured(self) -> Iterator[tuple[Line, str]]:
+        """The lines that tell of a fault, with where it is: the document's own events, and the single faults."""
+        for line in self._timeline:
+            if line.kind == "after" and line["from"] > 0:
+                told = ", ".join(self._event(event) for event in self._document.events if event.at == line["from"])
+                yield line, f"after {in_seconds(line['from'])}s {told}"
+        for case in self._cases():
+            for line in (case.down, case.back):
+                yield line, self._fault(case)
+
+    def _cases(self) -> Iterable[Case]:
+        return self._faults.cases if self._faults else ()
+
+    def _worst(self, key: str, word: str) -> Verdict:
+        """The greatest of a measure in ns after faults."""
+        line, where = max(self._measured(), key=lambda it: -1 if it[0][word] is None else it[0][word],
+                          default=(None, "always"))
+        got = None if line is None else line[word]
+        clock = None if line is None else line.fields.get(f"{word}_clock")
+        met = (got is None or got <= self._asked[key]) and not self._exceeded(word)
+        return Verdict(key, met, "none" if got is None else in_units(got), in_units(self._asked[key]), where,
+                       self._name(clock) if isinstance(clock, str) else "")
+
+    def _after_fault(self) -> Verdict:
+        return self._worst("after_fault", "holdover")
+
+    def _settle(self) -> Verdict:
+        return self._worst("settle", "choice")
+
+    def _shared(self) -> Verdict:
+        """Everybody who isn't cut off has time from one root, component by component."""
+        broken = next((found for found in self._unshared() if found[0] > 0), None)
+        count, where = broken or (0, "always")
+        return Verdict("shared", broken is None, f"{count} astray", "0", where)
+
+    def _unshared(self) -> Iterator[tuple[int, str]]:
+        """At least how many systems are astray, where each stretch, down and back ends.
+
+        Without a word of the program for it: those without time beyond those who are cut off from all that can be
+        grandmaster, and roots beyond one a component. With a hold of one's own somebody who is cut off may still have
+        time then, so nobody is left out.
+        """
+        for line in self._timeline:
+            if line.kind == "after":
+                components = len(parting.Parting(self._document, line["from"]).components)
+                told = ", ".join(self._event(event) for event in self._document.events if event.at == line["from"])
+                where = f"after {in_seconds(line['from'])}s {told}" if line["from"] else "start"
+                yield max(line["without"], line["roots"] + line["alone"] - components), where
+        for case in self._cases():
+            cut = self._parting.cut(case)
+            spared = 0 if "hold" in self._asked else cut.without
+            down, back = case.down, case.back
+            yield max(down["without"] - spared, down["roots"] + down["alone"] - cut.components,
+                      back["without"], back["roots"] + back["alone"] - len(self._parting.components)), self._fault(case)
+
+    def _cut(self) -> Verdict:
+        """How many systems a fault cuts off at most, by the document alone."""
+        cuts = ((self._parting.cut(case).cut_off, self._fault(case)) for case in self._cases())
+        count, where = max([(0, "always"), *cuts], key=lambda it: it[0])
+        return Verdict("cut", count <= self._asked["cut"], str(count), str(self._asked["cut"]), where)
+
+    def _grandmaster(self) -> Verdict:
+        """Who leads: the first of the list that lives."""
+        leaders = self._asked["grandmaster"]
+        broken = next((found for found in self._led() if found[0] != found[1]), None)
+        name = self._name
+        asked = ",".join(name(clock) for clock in leaders)
+        if broken is None:
+            return Verdict("grandmaster", True, name(leaders[0]), asked, "always")
+        return Verdict("grandmaster", False, name(broken[0]) if broken[0] else "none", asked, broken[2])
+
+    def _led(self) -> Iterator[tuple[str | None, str | None, str]]:
+        """Who leads, who ought to, and where: in the end, in each down, and in each back that tells who is followed."""
+        leaders = [clock for clock in self._asked["grandmaster"] if clock in self._parting.live]
+        first = next(iter(leaders), None)
+        root = next((line["root_id"][12:] for line in self._choice
+                     if line.kind == "choice" and line["clock"] == self._asked["grandmaster"][0]), None)
+        yield root, self._asked["grandmaster"][0], "always"
+        for case in self._cases():
+            failed = case.lines[0]["clock"] if case.lines[0].kind == "case system" else None
+            second = next((clock for clock in leaders if clock != failed), None)
+            for line, wanted in ((case.down, second), (case.back, first)):
+                followed = case.followed(line)
+                if followed or line is case.down:
+                    most = max(followed, key=lambda told: told["systems"], default=None)
+                    yield most["root_id"][12:] if most else None, wanted, self._fault(case)
+
+    def _fault(self, case: Case) -> str:
+        """Where a fault is."""
+        line = case.lines[0]
+        if line.kind == "case system":
+            return f"fault system {self._name(line['clock'])}"
+        return f"fault link {self._port(line['a_clock'], line['a_port'])} {self._port(line['b_clock'], line['b_port'])}"
+
+    def _event(self, event: Event) -> str:
+        """An event in words."""
+        what = self._name(event.clock) if event.port is None else self._port(event.clock, event.port)
+        return f"{event.kind} {what}"
+
+    def _name(self, clock: str) -> str:
+        """What a system is called, as one word."""
+        return self._document.name(clock).replace(" ", "_")
+
+    def _port(self, clock: str, number: int) -> str:
+        """What a port is called, as one word."""
+        return self._names.number(clock, number).replace(" ", "_")
+
+
+def judge(path: str, document: Document, ask: Ask, jobs: int) -> Judgement:
+    """What the program says against the requirements of a file; `ask` gives the lines of a call of the program."""
+    return _Judge(document, Requirements(path, document).asked).judge(ask, jobs)
