@@ -1,57 +1,62 @@
 //! The settled choice of a snapshot.
 
-ghost use Rattle.std.specs.Prelude.{◌≡◌, IfErr, IfOk, string_bytes};
+ghost use Rattle.std.specs.Prelude.{◌<◌, IfOk, OnOk, length, suc};
 ghost use Rattle.gptp_certificate_text.specs.Certificate.{lines_of};
-ghost use Rattle.gptp_certificate_text.specs.CertificateText.{certificate_text};
-ghost use Rattle.gptp_choice.specs.Choice.{Found, IsRefused};
+ghost use Rattle.gptp_components.specs.Distances.{AreDistances};
+ghost use Rattle.gptp_choice.specs.Choice.{Found};
+ghost use Rattle.gptp_choice.specs.Lines.{AreFirstLines};
 
-use crate::fault::ChoiceFault;
-use crate::lines::found_lines;
-use gptp_certificate_text::{Certificate, CertificateFault, SystemLine, parse, print_lines};
-use gptp_checker::accepts;
+use crate::line::line_of;
+use gptp_certificate_text::{Certificate, SystemLine};
+use gptp_components::{Distance, distances};
 use gptp_network::Snapshot;
 use std::alloc::{AllocError, Global};
 
-/// The text of a certificate of version 2 with these lines.
-fn spell(alloc: Global, lines: &[SystemLine]) -> Result<String, AllocError>
-    ensures { IfOk result (λ text. string_bytes text ≡ certificate_text 2 (lines_of lines.now)) }
+/// Puts the line of the system at a place behind those of the places before.
+fn push_line(
+    alloc: Global,
+    lines: &mut Vec<SystemLine>,
+    snapshot: &Snapshot,
+    distances: &[Distance],
+    place: usize,
+) -> Result<(), AllocError>
+    requires distances { AreDistances snapshot.now distances.now }
+    requires place { place < length snapshot.now.systems }
+    requires before { AreFirstLines snapshot.now place (lines_of lines.old.items) }
+    ensures { OnOk result (AreFirstLines snapshot.now (suc place) (lines_of lines.new.items)) }
 {
-    let mut text = String::new(alloc);
-    print_lines(&mut text, 2, lines)?;
-    Ok(text)
+    snapshot.well_formed();
+    let Some(system) = snapshot.system_at(place) else {
+        return Ok(());
+    };
+    let (identity, ports) = system;
+    let own = distances[place];
+    let line = line_of(alloc, snapshot, distances, identity.clock(), ports, &own)?;
+    lines.push(line)?;
+    Ok(())
 }
 
-/// The certificate that the search finds, read from its text.
-fn found(alloc: Global, snapshot: &Snapshot) -> Result<Certificate, ChoiceFault>
-    ensures version { IfOk result (λ c. c.version ≡ 2) }
-    ensures refused { IfErr result (IsRefused snapshot.now) }
+/// The lines of all live systems, by rising clock.
+fn settled_lines(alloc: Global, snapshot: &Snapshot) -> Result<Vec<SystemLine>, AllocError>
+    ensures { IfOk result (λ lines. AreFirstLines snapshot.now (length snapshot.now.systems) (lines_of lines.items)) }
 {
-    let lines = found_lines(alloc, snapshot)?;
-    let text = spell(alloc, &lines)?;
-    match parse(alloc, text.as_bytes()) {
-        Ok(certificate) => {
-            certificate.well_formed();
-            Ok(certificate)
-        }
-        Err(CertificateFault::OutOfMemory) => Err(ChoiceFault::OutOfMemory),
-        Err(fault) => Err(ChoiceFault::Unread(fault)),
+    let distances = distances(alloc, snapshot)?;
+    let mut lines = Vec::new(alloc);
+    for place in 0..snapshot.systems() {
+        push_line(alloc, &mut lines, snapshot, &distances, place)?;
     }
+    Ok(lines)
 }
 
 /// The choice that the network of a snapshot settles at, as a certificate of version 2: which root each live system
 /// follows, over how many steps and which port, and the role of each port; or that a system is too far from the best of
 /// its component, by how many links, and which that is.
 ///
-/// It is found by a plain search, in a time about linear in systems and links, and the checker has accepted it. Errors:
-/// [`ChoiceFault::OutOfMemory`]; the others don't come where the search is right.
-pub fn settled_choice(alloc: Global, snapshot: &Snapshot) -> Result<Certificate, ChoiceFault>
-    ensures choice { IfOk result (λ c. Found snapshot.now c) }
-    ensures refused { IfErr result (IsRefused snapshot.now) }
+/// It takes a time about linear in systems and links. The only error is that memory ran out.
+pub fn settled_choice(alloc: Global, snapshot: &Snapshot) -> Result<Certificate, AllocError>
+    ensures { IfOk result (λ c. Found snapshot.now c) }
 {
-    let certificate = found(alloc, snapshot)?;
-    certificate.well_formed();
-    match accepts(snapshot, &certificate) {
-        Ok(()) => Ok(certificate),
-        Err(fault) => Err(ChoiceFault::NotAccepted(fault)),
-    }
+    snapshot.well_formed();
+    let lines = settled_lines(alloc, snapshot)?;
+    Ok(Certificate::of_lines(2, lines))
 }

@@ -1,15 +1,14 @@
 //! The choice that a network settles at, found from its snapshot and without a run (IEEE 802.1AS-2020, 10.3).
 //!
-//! [`settled_choice`] searches: the best system of each component, how many links each system is from it, over which of
-//! them it follows, and the role of each port. The search is plain and isn't trusted: what it finds is spelled as a
-//! certificate, read back, and judged by the checker's [`accepts`](gptp_checker::accepts). Only what that accepts is
-//! answered, and so each answer is the settled choice.
+//! [`settled_choice`] takes of each live system the best of its component and how many links it is from that
+//! ([`gptp_components::distances`]), looks over which of its links it follows, and gives each port its role. That the
+//! lines are the settled choice of gptp_graph is proved: each network has one, and so the only error is that memory ran
+//! out.
 #![tactic(auto)]
 
 mod choice;
-mod fault;
-mod lines;
-mod search;
+mod line;
+mod parent;
+mod role;
 
 pub use choice::settled_choice;
-pub use fault::ChoiceFault;

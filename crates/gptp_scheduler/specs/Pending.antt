@@ -10,12 +10,13 @@ pub record Entry (T : Type 0) : Type 0 where
   pub number : ℕ
   pub item : T
 
--- an agenda: the number of the next entry, the entries in order of putting, and how many more can be
--- put without being refused
+-- an agenda: the number of the next entry, the entries in order of putting, how many more can be put without being
+-- refused, and the greatest time taken so far, at first 0
 pub record Pending (T : Type 0) : Type 0 where
   pub next : ℕ
   pub entries : List (Entry T)
   pub room : ℕ
+  pub base : ℕ
 
 abbrev pub entry_code : {T : Type 0} → Coded T → Coded (Entry T)
 entry_code {T} code =
@@ -24,9 +25,10 @@ entry_code {T} code =
 
 abbrev pub pending_code : {T : Type 0} → Coded T → Coded (Pending T)
 pending_code {T} code =
-    code_by (ℕ × (List (Entry T) × ℕ)) (coded× coded_ℕ (coded× (coded_list (entry_code code)) coded_ℕ))
-    (λ a. (a.next, (a.entries, a.room)))
-    (λ p. record { next = p.0; entries = p.1.0; room = p.1.1 }) (λ _. refl)
+    code_by (ℕ × (List (Entry T) × (ℕ × ℕ)))
+    (coded× coded_ℕ (coded× (coded_list (entry_code code)) (coded× coded_ℕ coded_ℕ)))
+    (λ a. (a.next, (a.entries, (a.room, a.base))))
+    (λ p. record { next = p.0; entries = p.1.0; room = p.1.1.0; base = p.1.1.1 }) (λ _. refl)
 
 module _ {T : Type 0} where
   abbrev pub entry : ℕ → ℕ → T → Entry T

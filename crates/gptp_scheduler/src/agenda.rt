@@ -1,6 +1,6 @@
 //! An agenda of what is to be done.
 
-ghost use Rattle.std.specs.Prelude.{◌≡◌, ℕ, ◌+◌, ◌^◌, ◌<◌, ◌≤◌, [], ◌∷◌, ◌++◌, IsOk, OnOk, OnErr, IfOk, IfSome, IfNone, option_copied, Some, is_some};
+ghost use Rattle.std.specs.Prelude.{◌≡◌, ℕ, ◌+◌, ◌^◌, ◌<◌, ◌≤◌, [], ◌∷◌, ◌++◌, IsOk, OnOk, OnErr, IfOk, IfSome, IfNone, option_copied, Some, is_some, max};
 ghost use Rattle.std.specs.Option.{option_map};
 ghost use Rattle.slab.specs.Slab.{get};
 ghost use Rattle.gptp_scheduler.specs.Pending.{entry, entry_at, Entry, without, IsFirst, NothingDue, RiseFrom};
@@ -18,13 +18,14 @@ use std::marker::Model;
 /// What is to be done, each entry at a time of its own, in ns. An entry gets a number when it is put,
 /// rising from 0. The least entry is the first of least time.
 ///
-/// It is seen as the number of the next entry, the list of the entries in order of putting, and how many
-/// more can be put without being refused.
+/// It is seen as the number of the next entry, the list of the entries in order of putting, how many more can be put
+/// without being refused, and its base, in ns: the greatest time that [`take_due`](Self::take_due) has taken, at first 0.
 ///
-/// It is a timing wheel: eight levels of 256 slots, one octet of the time each, hold the entries as chains.
+/// It is a timing wheel: eight levels of 256 slots, one octet of the time each, hold the entries as chains. Where an entry
+/// stands depends on its time and on the base alone, and is told by [`place`](crate::place).
 #[derive(Drop)]
 pub struct Agenda<T> {
-    // The greatest time taken so far.
+    // The greatest time taken so far, at first 0.
     base: u64,
     // The number of the next entry.
     next: u64,
@@ -50,7 +51,12 @@ impl<T> Model for Agenda<T> {
     ghost use Rattle.slab.specs.Slab.{get};
     ghost use Rattle.gptp_scheduler.specs.Filed.{listed, HasSpare, IsAgenda};
 
-    ghost view = { λ a. record { next = a.next; entries = listed (get a.nodes) a.filed.items; room = a.spare } };
+    ghost view = { λ a. record {
+      next = a.next;
+      entries = listed (get a.nodes) a.filed.items;
+      room = a.spare;
+      base = a.base;
+    } };
 
     ghost invariant = { λ a.
         IsAgenda (get a.nodes) a.base a.next a.slots a.filed.items a.first
@@ -58,10 +64,11 @@ impl<T> Model for Agenda<T> {
 }
 
 impl<T: Drop> Agenda<T> {
-    /// An agenda with no entry, whose first number is 0. Takes no memory.
+    /// An agenda with no entry, whose first number and whose base are 0. Takes no memory.
     pub fn new(alloc: Global) -> Self
         ensures next { result.next ≡ 0 }
         ensures entries { result.entries ≡ [] }
+        ensures base { result.base ≡ 0 }
     {
         Agenda {
             base: 0,
@@ -76,7 +83,7 @@ impl<T: Drop> Agenda<T> {
 
     /// Makes room for so many more entries: after `Ok` the next so many calls of [`put`](Self::put)
     /// aren't refused. Refused where there is no memory for them, or where the numbers below 2^64 - 1
-    /// don't suffice. No entry changes.
+    /// don't suffice. Neither entries nor the base change.
     pub fn reserve(&mut self, additional: usize) -> Result<(), AllocError>
         ensures kept { self.new ≡ record self.old { room = self.new.room } }
         ensures room { self.old.room ≤ self.new.room }
@@ -105,6 +112,7 @@ impl<T: Drop> Agenda<T> {
         ensures number { IfOk result (λ number. number ≡ self.old.next) }
         ensures numbers { OnOk result (self.new.next < 2 ^ 64) }
         ensures next { OnOk result (self.new.next ≡ self.old.next + 1) }
+        ensures base { self.new.base ≡ self.old.base }
         ensures entries { OnOk result (self.new.entries ≡ self.old.entries ++ entry time self.old.next item ∷ []) }
         ensures room { self.old.room ≤ self.new.room + 1 }
         ensures refused { OnErr result (self.new ≡ record self.old { room = self.new.room }) }
@@ -159,10 +167,12 @@ impl<T: Drop> Agenda<T> {
         }
     }
 
-    /// Takes the least entry out, where it is due: its time, its number and its item.
+    /// Takes the least entry out, where it is due: its time, its number and its item. The base is then the greater of its
+    /// time and the base before. Where nothing is due nothing changes.
     pub fn take_due(&mut self, now: u64) -> Option<(u64, u64, T)>
         ensures first { IfSome result (λ due. IsFirst self.old.entries due.0 due.1) }
         ensures due { IfSome result (λ due. due.0 ≤ now) }
+        ensures base { IfSome result (λ due. self.new.base ≡ max self.old.base due.0) }
         ensures item { IfSome result (λ due. entry_at self.old.entries due.1 ≡ Some (entry due.0 due.1 due.2)) }
         ensures taken { IfSome result (λ due. self.new.entries ≡ without due.1 self.old.entries) }
         ensures nothing { IfNone result (NothingDue self.old.entries now) }
@@ -179,10 +189,11 @@ impl<T: Drop> Agenda<T> {
         Some((node.time, node.number, node.item))
     }
 
-    /// Takes the entry of a number out, wherever it stands, and answers its item, if it is there.
+    /// Takes the entry of a number out, wherever it stands, and answers its item, if it is there. The base stays.
     pub fn cancel(&mut self, number: u64) -> Option<T>
         ensures item { result ≡ option_map (λ e. e.item) (entry_at self.old.entries number) }
         ensures taken { self.new.entries ≡ without number self.old.entries }
+        ensures base { self.new.base ≡ self.old.base }
         ensures next { self.new.next ≡ self.old.next }
         ensures room { self.old.room ≤ self.new.room }
     {
@@ -205,9 +216,9 @@ impl<T: Drop> Agenda<T> {
     /// The slot at which the entry of a number stands.
     pub(crate) fn slot(&self, number: u64) -> Option<usize>
         ensures there { is_some result ≡ is_some (entry_at self.now.entries number) }
+        ensures within { IfSome result (λ slot. slot ≤ 2048) }
         ensures stands { IfSome result
-            (λ slot. (e : Entry T) → entry_at self.now.entries number ≡ Some e → (base : ℕ)
-            × IsPlace base e.time slot) }
+            (λ slot. (e : Entry T) → entry_at self.now.entries number ≡ Some e → IsPlace self.now.base e.time slot) }
     {
         let key = find(&self.filed, number)?;
         let node = self.nodes.get(key.place)?;

@@ -2,8 +2,9 @@
 //! it got when it was put.
 //!
 //! An agenda is seen as a plain list of its entries in order of putting, beside the number that the
-//! next one gets and how many more can be put without being refused. The least of it is the first of
-//! least time: no entry has an earlier time, and none of the same time a lower number.
+//! next one gets, how many more can be put without being refused, and the greatest time taken so far.
+//! The least of it is the first of least time: no entry has an earlier time, and none of the same time
+//! a lower number.
 #![tactic(auto)]
 
 mod agenda;

@@ -1,6 +1,6 @@
 //! The wheel: entries in chains by slot, and the least of them.
 
-ghost use Rattle.std.specs.Prelude.{◌≡◌, ℕ, ◌+◌, ◌≤◌, ◌<◌, false, length};
+ghost use Rattle.std.specs.Prelude.{◌≡◌, ℕ, ◌+◌, ◌≤◌, ◌<◌, false, length, max};
 ghost use Rattle.slab.specs.Slab.{get, slab_len, HasRoomFor};
 ghost use Rattle.gptp_scheduler.specs.Pending.{entry};
 ghost use Rattle.gptp_scheduler.specs.Chain.{leads, AreChained, LeastIn, SameRoom, StandsIn};
@@ -69,6 +69,7 @@ pub(crate) fn take_earliest<T>(
     requires earliest { IsEarliest (get nodes.old) key.place }
     ensures wheel { IsWheel (get nodes.new) base.new slots.new }
     ensures takes { Takes (get nodes.old) (get nodes.new) key.place (entry result.time result.number result.item) }
+    ensures base { base.new ≡ max base.old result.time }
     ensures len { slab_len nodes.new + 1 ≡ slab_len nodes.old }
     ensures capacity { nodes.new.capacity ≡ nodes.old.capacity }
     ensures chains { length slots.new ≡ length slots.old }
@@ -90,6 +91,7 @@ fn move_base<T>(
 ) -> u64
     requires left { IsLeft (get nodes.old) base time slot slots.old }
     ensures wheel { IsWheel (get nodes.new) result slots.new }
+    ensures base { result ≡ max base time }
     ensures same { SameEntries (get nodes.old) (get nodes.new) }
     ensures room { SameRoom nodes.old nodes.new }
     ensures chains { length slots.new ≡ length slots.old }

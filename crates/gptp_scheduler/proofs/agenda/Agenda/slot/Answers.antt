@@ -1,4 +1,4 @@
-use Rattle.std.proofs.Common.{◌≡◌, None, Some, refl, sym, ap, subst, ◌∙◌}
+use Rattle.std.proofs.Common.{◌≡◌, None, Some, refl, sym, ap, subst, ◌∙◌, inl, inr, arith}
 use Rattle.std.proofs.lemmas.Option.{same_Some}
 use Rattle.slab.specs.Slab.{get}
 use Rattle.gptp_scheduler.specs.Chain.{entry_of, placed}
@@ -42,12 +42,11 @@ returns-then-node-number-clause-stands g c e is =
     c.self.inside.first c.self.invariant.0 c.args.number c.in_ok-key.key.place c.in_ok-node.node.now found there
     c.if-node-number.true in
     let entries = rw (← c.self.view_is) at is in
-    let time = ap (λ x. x.time) (same_Some (entry_of (placed c.in_ok-node.node.now)) e (sym one ∙ entries)) in (
-      c.self.inside.base,
-      subst (λ t. IsPlace c.self.inside.base t c.in_ok-node.node.now.slot) time
-          (c.self.invariant.0.wheel.places c.in_ok-key.key.place (placed c.in_ok-node.node.now)
-          (held-node (get c.self.inside.nodes) c.in_ok-key.key.place c.in_ok-node.node.now there)),
-    )
+    let time = ap (λ x. x.time) (same_Some (entry_of (placed c.in_ok-node.node.now)) e (sym one ∙ entries)) in
+    rw (← c.self.view_is)
+    (subst (λ t. IsPlace c.self.inside.base t c.in_ok-node.node.now.slot) time
+    (c.self.invariant.0.wheel.places c.in_ok-key.key.place (placed c.in_ok-node.node.now)
+    (held-node (get c.self.inside.nodes) c.in_ok-key.key.place c.in_ok-node.node.now there)))
 
 pub returns-else-node-number-clause-there : goal.returns-else-node-number-clause-there
 returns-else-node-number-clause-there g c =
@@ -58,3 +57,12 @@ returns-else-node-number-clause-there g c =
     c.self.inside.first c.self.invariant.0 c.args.number c.in_ok-key.key.place c.in_ok-node.node.now found there
     c.if-node-number.false in
     rw (← c.self.view_is, none) refl
+
+pub returns-then-node-number-clause-within : goal.returns-then-node-number-clause-within
+returns-then-node-number-clause-within g c =
+    let there : get c.self.inside.nodes c.in_ok-key.key.place ≡ Some c.in_ok-node.node.now = sym c.in_ok-node.ensures in
+    elim (c.self.invariant.0.wheel.places c.in_ok-key.key.place (placed c.in_ok-node.node.now)
+    (held-node (get c.self.inside.nodes) c.in_ok-key.key.place c.in_ok-node.node.now there)) [
+      | inl levels ↦ let below = levels.within in omega (arith, below)
+      | inr out ↦ let is = out.0 in omega (arith, is)
+    ]

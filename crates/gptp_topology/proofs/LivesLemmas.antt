@@ -1,0 +1,76 @@
+-- Whether the systems at the ends of a link live after events.
+use Rattle.std.proofs.Common.{◌≡◌, ℕ, Bool, true, false, ◌==◌, cond, List, [], ◌∷◌, refl, sym, ap, ◌∙◌}
+use Rattle.gptp_roles.specs.Selection.{clock_of}
+use Rattle.gptp_vector.specs.declared.port.PortId.{PortId}
+use Rattle.gptp_plan.specs.Calm.{IsLive}
+use Rattle.gptp_plan.specs.Change.{standing, system_acted, system_after, system_changed, system_stands, with_live, with_priority1}
+use Rattle.gptp_plan.specs.Network.{IsPort}
+use Rattle.gptp_plan.specs.declared.change.Act.{Act}
+use Rattle.gptp_plan.specs.declared.change.Act.TheVariants as acts
+use Rattle.gptp_plan.specs.declared.change.Change.{Change}
+use Rattle.gptp_plan.specs.declared.change.Change.TheVariants as changes
+use Rattle.gptp_plan.specs.declared.change.Timed.{Timed}
+use Rattle.gptp_plan.specs.declared.network.Member.{Member}
+use Rattle.gptp_topology.specs.Course.{lives_acted}
+
+-- whether a system lives after a change stands by whether it lived before, whatever its identity
+set_alike : (test live : Bool) (s : _)
+    → (cond test (with_live live s) s).live
+    ≡ (cond test (with_live live (record { identity = 0; live = s.live }))
+    (record { identity = 0; live = s.live })).live
+set_alike true live s = refl
+set_alike false live s = refl
+
+valued_alike : (test : Bool) (value : ℕ) (s : _)
+    → (cond test (with_priority1 value s) s).live
+    ≡ (cond test (with_priority1 value (record { identity = 0; live = s.live }))
+    (record { identity = 0; live = s.live })).live
+valued_alike true value s = refl
+valued_alike false value s = refl
+
+changed_alike : (change : Change) (own : ℕ) (s : _)
+    → (system_changed change own s).live
+    ≡ (system_changed change own (record { identity = 0; live = s.live })).live
+changed_alike (changes.LinkDown clock port) own s = refl
+changed_alike (changes.LinkUp clock port) own s = refl
+changed_alike (changes.LinkSet clock port least greatest loss) own s = refl
+changed_alike (changes.Fail clock) own s = set_alike (clock == own) false s
+changed_alike (changes.Recover clock) own s = set_alike (clock == own) true s
+changed_alike (changes.Priority1 clock value) own s = valued_alike (clock == own) value s
+changed_alike (changes.Inject clock port octets) own s = refl
+
+acted_alike : (act : Act) (own : ℕ) (s : _) → (system_acted act own s).live ≡ lives_acted act own s.live
+acted_alike (acts.Deliver link direction) own s = refl
+acted_alike (acts.Expire clock timer) own s = refl
+acted_alike (acts.Change change) own s = changed_alike change own s
+
+-- whether a system lives after events, by whether it did before
+abbrev pub lives_after : List Timed → ℕ → Bool → Bool
+lives_after [] own lives = lives
+lives_after (t ∷ ts) own lives = lives_after ts own (lives_acted t.act own lives)
+
+stands_lives : (events : List Timed) (own : ℕ) (s : _)
+    → (system_stands events own s).live ≡ lives_after events own s.live
+stands_lives [] own s = refl
+stands_lives (t ∷ ts) own s =
+    stands_lives ts own (system_acted t.act own s) ∙ ap (lives_after ts own) (acted_alike t.act own s)
+
+pub member_lives : (events : List Timed) (m : Member)
+    → lives_after events (clock_of m.identity) true ≡ (system_after events m).live
+member_lives events m = sym (stands_lives events (clock_of m.identity) (standing m))
+
+-- the system at a port of the network lives exactly where it does by its clock
+pub live_from : (members : List Member) (events : List Timed) (p : PortId) → IsPort members p
+    → lives_after events p.clock true ≡ true → IsLive members events p.clock
+live_from members events p port lives = record {
+  place = port.place;
+  system = port.system;
+  there = port.there;
+  clock = port.clock;
+  live = sym (member_lives events port.system) ∙ ap (λ own. lives_after events own true) port.clock ∙ lives;
+}
+
+pub live_to : (members : List Member) (events : List Timed) (own : ℕ) → IsLive members events own
+    → lives_after events own true ≡ true
+live_to members events own live =
+    ap (λ own. lives_after events own true) (sym live.clock) ∙ member_lives events live.system ∙ live.live

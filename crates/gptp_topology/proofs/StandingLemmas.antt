@@ -1,0 +1,282 @@
+-- The tables of a network stand as its events leave its systems and links: an act meets the links at the system that it
+-- names, and no other.
+use Rattle.std.proofs.Common.{◌≡◌, ◌≢◌, ◌≤◌, ◌+◌, ◌⊎◌, ℕ, zero, suc, Bool, true, false, ◌==◌, cond, List, [], ◌∷◌, ◌++◌, length, map, Some, slice_get, slice_set, append_assoc, refl, sym, ap, ap₂, subst, ◌∙◌, inl, inr, arith}
+use Rattle.std.proofs.lemmas.Bool.{eqb-true, eqb-false, ne_eqb}
+use Rattle.std.proofs.lemmas.List.{length-map}
+use Rattle.std.proofs.lemmas.Option.{same_Some}
+use Rattle.gptp_lists.specs.Members.{In}
+use Rattle.gptp_lists.proofs.MemberLemmas.{In-map, In-slice_get, slice_get-In}
+use Rattle.gptp_vector.specs.declared.port.PortId.{PortId}
+use Rattle.gptp_roles.specs.Selection.{clock_of}
+use Rattle.gptp_plan.specs.Network.{IsNetwork, IsPort, NetworkState}
+use Rattle.gptp_plan.specs.declared.change.Act.{Act}
+use Rattle.gptp_plan.specs.declared.change.Timed.{Timed}
+use Rattle.gptp_plan.specs.declared.network.Member.{Member}
+use Rattle.gptp_plan.specs.declared.network.Wire.{Wire}
+use Rattle.gptp_topology.specs.Course.{acted, cable_of, first, lives_acted, named, wire_of}
+use Rattle.gptp_topology.specs.Tables.{Acted, AreFirst, AreMarked, NodeState, acted_along, acted_at, cables_of, clocks_of, led, neighbours_at, neighbours_of, node_acted, seen}
+use Rattle.gptp_topology.specs.declared.course.Cable.{Cable}
+use Rattle.gptp_topology.specs.declared.course.Standing.{Standing}
+use Rattle.gptp_topology.specs.declared.nodes.Node.{Node}
+use Rattle.gptp_topology.specs.declared.tables.Tables.{Tables}
+use Rattle.gptp_topology.proofs.CourseLemmas.{after, cable_after, one_more, same_a, same_b}
+use Rattle.gptp_topology.proofs.LivesLemmas.{lives_after}
+use Rattle.gptp_topology.proofs.NamedLemmas.{untouched}
+
+-- ---- an act meets the links at a system
+
+-- the links stand at their places from here on
+abbrev AreNumbered : ℕ → List Wire → Type 0
+AreNumbered k [] = Unit {0}
+AreNumbered k (w ∷ ws) = (w.bounds.link ≡ k) × AreNumbered (suc k) ws
+
+numbered_from : (ws : List Wire) (k : ℕ) → ((i : ℕ) (w : Wire) → slice_get ws i ≡ Some w → w.bounds.link ≡ k + i)
+    → AreNumbered k ws
+numbered_from [] k at = tt
+numbered_from (w ∷ ws) k at = (
+  (let here = at zero w refl in omega (arith, here)),
+  numbered_from ws (suc k) (λ i v there. let one = at (suc i) v there in omega (arith, one)),
+)
+
+at_front : (act : Act) (front : List Standing) (s : Standing) (ss : List Standing) (place : ℕ) → length front ≡ place
+    → acted_at act place (front ++ s ∷ ss) ≡ front ++ acted act s ∷ ss
+at_front act [] s ss zero is = refl
+at_front act [] s ss (suc place) is = absurd (omega (arith, is))
+at_front act (r ∷ front) s ss zero is = absurd (omega (arith, is))
+at_front act (r ∷ front) s ss (suc place) is = ap (λ rs. r ∷ rs) (at_front act front s ss place (omega (arith, is)))
+
+one_longer : (front : List Standing) (s : Standing) → length (front ++ s ∷ []) ≡ length front + 1
+one_longer [] s = refl
+one_longer (r ∷ front) s = let rest = one_longer front s in omega (arith, rest)
+
+module _ (act : Act) (f : Wire → Standing)
+    (a : (w : Wire) → (f w).cable.a ≡ w.a) (b : (w : Wire) → (f w).cable.b ≡ w.b) where
+  -- so those that it meets and those that it doesn't stand as it leaves them
+  abbrev All : List Wire → Type 0
+  All ws = (front : List Standing) (k : ℕ) → length front ≡ k → AreNumbered k ws
+      → acted_along act (neighbours_of (named act) (map cable_of ws)) (front ++ map f ws)
+      ≡ front ++ map (λ w. acted act (f w)) ws
+
+  met : (w : Wire) (ws : List Wire) → All ws → (front : List Standing) (k : ℕ) → length front ≡ k
+      → (w.bounds.link ≡ k) → AreNumbered (suc k) ws
+      → acted_along act (neighbours_of (named act) (map cable_of ws))
+      (acted_at act w.bounds.link (front ++ f w ∷ map f ws))
+      ≡ front ++ acted act (f w) ∷ map (λ w. acted act (f w)) ws
+  met w ws rest front k is here numbered =
+      let others = neighbours_of (named act) (map cable_of ws) in
+      let longer : length (front ++ acted act (f w) ∷ []) ≡ suc k =
+      omega (arith, is, one_longer front (acted act (f w))) in
+      ap (acted_along act others) (at_front act front (f w) (map f ws) w.bounds.link (is ∙ sym here))
+      ∙ ap (acted_along act others) (sym (append_assoc front (acted act (f w) ∷ []) (map f ws)))
+      ∙ rest (front ++ acted act (f w) ∷ []) (suc k) longer numbered
+      ∙ append_assoc front (acted act (f w) ∷ []) (map (λ w. acted act (f w)) ws)
+
+  passed : (w : Wire) (ws : List Wire) → All ws → (front : List Standing) (k : ℕ) → length front ≡ k
+      → AreNumbered (suc k) ws → (named act ≢ w.a.clock) → (named act ≢ w.b.clock)
+      → acted_along act (neighbours_of (named act) (map cable_of ws)) (front ++ f w ∷ map f ws)
+      ≡ front ++ acted act (f w) ∷ map (λ w. acted act (f w)) ws
+  passed w ws rest front k is numbered not_a not_b =
+      let others = neighbours_of (named act) (map cable_of ws) in
+      let same : acted act (f w) ≡ f w =
+      untouched act (f w) (λ same. not_a (same ∙ ap (λ (p : PortId). p.clock) (a w)))
+      (λ same. not_b (same ∙ ap (λ (p : PortId). p.clock) (b w))) in
+      let longer : length (front ++ f w ∷ []) ≡ suc k = omega (arith, is, one_longer front (f w)) in
+      ap (acted_along act others) (sym (append_assoc front (f w ∷ []) (map f ws)))
+      ∙ rest (front ++ f w ∷ []) (suc k) longer numbered
+      ∙ append_assoc front (f w ∷ []) (map (λ w. acted act (f w)) ws)
+      ∙ ap (λ s. front ++ s ∷ map (λ w. acted act (f w)) ws) (sym same)
+
+  all : (ws : List Wire) → All ws
+  all [] front k is numbered = refl
+  all (w ∷ ws) front k is (here, numbered) =
+      by (all ws) (w.a.clock == named act) refl (w.b.clock == named act) refl
+    where
+      by : All ws → (first : Bool) → (w.a.clock == named act) ≡ first
+          → (second : Bool) → (w.b.clock == named act) ≡ second
+          → acted_along act (led (named act) (cable_of w) ++ neighbours_of (named act) (map cable_of ws))
+          (front ++ f w ∷ map f ws)
+          ≡ front ++ acted act (f w) ∷ map (λ w. acted act (f w)) ws
+      by rest true one second two = rw one (met w ws rest front k is here numbered)
+      by rest false one true two = rw (one, two) (met w ws rest front k is here numbered)
+      by rest false one false two =
+          rw (one, two) (passed w ws rest front k is numbered
+          (λ same. eqb-false w.a.clock (named act) one (sym same))
+          (λ same. eqb-false w.b.clock (named act) two (sym same)))
+
+-- ---- one link is met
+
+-- the link at the place is replaced by what the act makes of it
+pub set_is : (act : Act) (ss : List Standing) (place : ℕ) (s now : Standing) → slice_get ss place ≡ Some s
+    → now ≡ acted act s → slice_set ss place now ≡ acted_at act place ss
+set_is act [] place s now there is = absurd cc
+set_is act (r ∷ ss) zero s now there is =
+    ap (λ v. v ∷ ss) (is ∙ ap (acted act) (sym (same_Some r s there)))
+set_is act (r ∷ ss) (suc place) s now there is = ap (λ rs. r ∷ rs) (set_is act ss place s now there is)
+
+pub beyond : (act : Act) (ss : List Standing) (place : ℕ) → length ss ≤ place → acted_at act place ss ≡ ss
+beyond act [] place past = refl
+beyond act (s ∷ ss) zero past = absurd (omega (arith, past))
+beyond act (s ∷ ss) (suc place) past = ap (λ rs. s ∷ rs) (beyond act ss place (omega (arith, past)))
+
+-- ---- how the tables stand
+
+-- the system with this clock
+abbrev pub node_after : List Timed → List Cable → ℕ → NodeState
+node_after events cables own =
+    record { clock = own; lives = lives_after events own true; neighbours = neighbours_of own cables }
+
+-- after these events
+pub record Stand (n : NetworkState) (events : List Timed) (t : Tables) : Type 0 where
+  pub params : t.params ≡ n.params
+  pub nodes : map seen t.nodes.items ≡ map (node_after events (cables_of n)) (clocks_of n)
+  pub standings : t.standings.items ≡ map (λ w. after events (first w)) n.links
+  pub marks : AreMarked t
+
+pub starts : (ws : List Wire) → map (λ c. first (wire_of c)) (map cable_of ws) ≡ map first ws
+starts [] = refl
+starts (w ∷ ws) = ap (λ ss. first w ∷ ss) (starts ws)
+
+pub stand_first : (n : NetworkState) (t : Tables) → AreFirst n t → Stand n [] t
+stand_first n t are =
+    record { params = are.params; nodes = are.nodes; standings = are.standings; marks = are.marks }
+
+-- ---- the links at the system with a clock
+
+same_heads : {X : Type 0} (x y : X) (xs ys : List X) → x ∷ xs ≡ y ∷ ys → x ≡ y
+same_heads x y xs ys e = cc
+
+same_tails : {X : Type 0} (x y : X) (xs ys : List X) → x ∷ xs ≡ y ∷ ys → xs ≡ ys
+same_tails x y xs ys e = cc
+
+maps_alike : {X Y : Type 0} (f g : X → Y) (xs : List X) → ((x : X) → f x ≡ g x) → map f xs ≡ map g xs
+maps_alike f g [] same = refl
+maps_alike f g (x ∷ xs) same = ap₂ (λ y ys. y ∷ ys) (same x) (maps_alike f g xs same)
+
+module _ (events : List Timed) (cables : List Cable) (clock : ℕ) where
+  -- those of the first system with the clock, or there is none
+  abbrev Looked : List Node → List ℕ → Type 0
+  Looked os owns =
+      (neighbours_at clock os ≡ neighbours_of clock cables)
+      ⊎ ((neighbours_at clock os ≡ []) × (In clock owns → ⊥))
+
+  looked : (os : List Node) (owns : List ℕ) → map seen os ≡ map (node_after events cables) owns → Looked os owns
+  looked [] [] are = inr (refl, λ none. absurd none)
+  looked [] (own ∷ owns) are = absurd cc
+  looked (o ∷ os) [] are = absurd cc
+  looked (o ∷ os) (own ∷ owns) are =
+      by (o.clock == clock) refl
+      (looked os owns (same_tails (seen o) (node_after events cables own) (map seen os)
+      (map (node_after events cables) owns) are))
+    where
+      head : seen o ≡ node_after events cables own
+      head =
+          same_heads (seen o) (node_after events cables own) (map seen os) (map (node_after events cables) owns) are
+
+      by : (test : Bool) → (o.clock == clock) ≡ test → Looked os owns
+          → (cond test o.neighbours.items (neighbours_at clock os) ≡ neighbours_of clock cables)
+          ⊎ ((cond test o.neighbours.items (neighbours_at clock os) ≡ []) × (In clock (own ∷ owns) → ⊥))
+      by true is rest =
+          inl (ap (λ (s : NodeState). s.neighbours) head
+          ∙ ap (λ c. neighbours_of c cables) (sym (ap (λ (s : NodeState). s.clock) head) ∙ eqb-true o.clock clock is))
+      by false is (inl same) = inl same
+      by false is (inr (none, nowhere)) = inr (
+        none,
+        λ member. elim member [
+          | inl here ↦ eqb-false o.clock clock is (ap (λ (s : NodeState). s.clock) head ∙ sym here)
+          | inr there ↦ nowhere there
+        ],
+      )
+
+-- where no system has the clock no link is at it
+no_link : (clock : ℕ) (owns : List ℕ) (ws : List Wire) → (In clock owns → ⊥)
+    → ((w : Wire) → In w ws → In w.a.clock owns × In w.b.clock owns) → neighbours_of clock (map cable_of ws) ≡ []
+no_link clock owns [] nowhere ends = refl
+no_link clock owns (w ∷ ws) nowhere ends =
+    let (a, b) = ends w (inl refl) in
+    let not_a : (w.a.clock == clock) ≡ false =
+    ne_eqb w.a.clock clock (λ same. nowhere (subst (λ c. In c owns) same a)) in
+    let not_b : (w.b.clock == clock) ≡ false =
+    ne_eqb w.b.clock clock (λ same. nowhere (subst (λ c. In c owns) same b)) in
+    rw (not_a, not_b) (no_link clock owns ws nowhere (λ v member. ends v (inr member)))
+
+module _ (n : NetworkState) (network : IsNetwork n) where
+  end_known : (p : PortId) → IsPort n.systems p → In p.clock (clocks_of n)
+  end_known p port =
+      subst (λ c. In c (clocks_of n)) port.clock
+      (In-map (λ (m : Member). clock_of m.identity) port.system n.systems
+      (In-slice_get port.system n.systems port.place port.there))
+
+  ends_known : (w : Wire) → In w n.links → In w.a.clock (clocks_of n) × In w.b.clock (clocks_of n)
+  ends_known w member =
+      let (place, there) = slice_get-In w n.links member in
+      let wire = network.links place w there in
+      (end_known w.a wire.a, end_known w.b wire.b)
+
+  pub neighbours_are : (events : List Timed) (t : Tables) (clock : ℕ) → Stand n events t
+      → neighbours_at clock t.nodes.items ≡ neighbours_of clock (cables_of n)
+  neighbours_are events t clock stand =
+      by (looked events (cables_of n) clock t.nodes.items (clocks_of n) stand.nodes)
+    where
+      by : Looked events (cables_of n) clock t.nodes.items (clocks_of n)
+          → neighbours_at clock t.nodes.items ≡ neighbours_of clock (cables_of n)
+      by (inl same) = same
+      by (inr (none, nowhere)) = none ∙ sym (no_link clock (clocks_of n) n.links nowhere ends_known)
+
+-- ---- one event more
+
+lives_more : (done : List Timed) (t : Timed) (own : ℕ) (lives : Bool)
+    → lives_acted t.act own (lives_after done own lives) ≡ lives_after (done ++ t ∷ []) own lives
+lives_more [] t own lives = refl
+lives_more (u ∷ done) t own lives = lives_more done t own (lives_acted u.act own lives)
+
+nodes_more : (done : List Timed) (t : Timed) (cables : List Cable) (os : List Node) (owns : List ℕ)
+    → map seen os ≡ map (node_after done cables) owns
+    → map seen (map (node_acted t.act) os) ≡ map (node_after (done ++ t ∷ []) cables) owns
+nodes_more done t cables [] [] are = refl
+nodes_more done t cables [] (own ∷ owns) are = absurd cc
+nodes_more done t cables (o ∷ os) [] are = absurd cc
+nodes_more done t cables (o ∷ os) (own ∷ owns) are =
+    let head =
+    same_heads (seen o) (node_after done cables own) (map seen os) (map (node_after done cables) owns) are in
+    let tail =
+    same_tails (seen o) (node_after done cables own) (map seen os) (map (node_after done cables) owns) are in
+    ap₂ (λ x xs. x ∷ xs)
+    (ap
+    (λ (s : NodeState).
+    record { clock = s.clock; lives = lives_acted t.act s.clock s.lives; neighbours = s.neighbours }) head
+    ∙ ap (λ lives. record { clock = own; lives = lives; neighbours = neighbours_of own cables })
+    (lives_more done t own true))
+    (nodes_more done t cables os owns tail)
+
+ends_a : (events : List Timed) (w : Wire) → (after events (first w)).cable.a ≡ w.a
+ends_a events w = ap (λ (c : Cable). c.a) (cable_after events (first w)) ∙ same_a events w
+
+ends_b : (events : List Timed) (w : Wire) → (after events (first w)).cable.b ≡ w.b
+ends_b events w = ap (λ (c : Cable). c.b) (cable_after events (first w)) ∙ same_b events w
+
+pub stand_more : (n : NetworkState) → IsNetwork n → (done : List Timed) (t : Timed) (old new : Tables)
+    → Stand n done old → Acted t.act old new → Stand n (done ++ t ∷ []) new
+stand_more n network done t old new stand acts = record {
+  params = acts.params ∙ stand.params;
+  nodes =
+      ap (map seen) acts.nodes
+      ∙ nodes_more done t (cables_of n) old.nodes.items (clocks_of n) stand.nodes;
+  standings =
+      acts.standings
+      ∙ ap₂ (acted_along t.act) (neighbours_are n network done old (named t.act) stand) stand.standings
+      ∙ all t.act (λ w. after done (first w)) (ends_a done) (ends_b done) n.links [] 0 refl
+      (numbered_from n.links 0 (λ i w there. let is = (network.links i w there).number in omega (arith, is)))
+      ∙ maps_alike (λ w. acted t.act (after done (first w))) (λ w. after (done ++ t ∷ []) (first w)) n.links
+      (λ w. one_more done t (first w));
+  marks = acts.marks;
+}
+
+pub few_nodes : (n : NetworkState) → IsNetwork n → (events : List Timed) (t : Tables) → Stand n events t
+    → length t.nodes.items ≤ 512
+few_nodes n network events t stand =
+    let limit = network.few_systems in
+    let nodes = length-map t.nodes.items seen in
+    let clocks = length-map n.systems (λ (m : Member). clock_of m.identity) in
+    let both = length-map (clocks_of n) (node_after events (cables_of n)) in
+    let same = ap length stand.nodes in
+    omega (arith, limit, nodes, clocks, both, same)

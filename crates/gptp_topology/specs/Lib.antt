@@ -1,0 +1,4 @@
+pub mod Course
+pub mod Trouble
+pub mod Tables
+pub mod Times

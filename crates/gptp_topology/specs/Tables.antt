@@ -1,0 +1,170 @@
+-- How the systems and the links of a document stand, by place, and what bounds its settling then (profile).
+use Rattle.std.specs.Prelude.{◌≡◌, ℕ, zero, suc, ◌+◌, ◌==◌, ◌&&◌, ◌||◌, max, min, nat_le, not, Bool, true, false, if◌then◌else◌, List, [], ◌∷◌, ◌++◌, map, Option, Some, None, slice_get}
+use Rattle.std.specs.List.{count_by, flat_map, list_any}
+use Rattle.std.specs.Option.{is_some}
+use Rattle.gptp_roles.specs.Selection.{clock_of}
+use Rattle.gptp_setup.specs.Pace.{lapse_span}
+use Rattle.gptp_setup.specs.declared.setup.Params.{Params}
+use Rattle.gptp_plan.specs.Network.{NetworkState, pace_of}
+use Rattle.gptp_plan.specs.SettlingTime.{settling_span_with}
+use Rattle.gptp_plan.specs.SyncWait.{sync_wait}
+use Rattle.gptp_plan.specs.declared.change.Act.{Act}
+use Rattle.gptp_plan.specs.declared.network.Member.{Member}
+use Rattle.gptp_plan.specs.declared.sync_wait.SyncPaths.{SyncPaths}
+use Rattle.gptp_topology.specs.Course.{acted, cable_of, first, is_used, lives_acted, named}
+use Rattle.gptp_topology.specs.Trouble.{is_long, loss_in_use}
+use Rattle.gptp_topology.specs.declared.course.Cable.{Cable}
+use Rattle.gptp_topology.specs.declared.course.Standing.{Standing}
+use Rattle.gptp_topology.specs.declared.times.CalmTime.{CalmTime}
+use Rattle.gptp_topology.specs.declared.nodes.Neighbour.{Neighbour}
+use Rattle.gptp_topology.specs.declared.nodes.Node.{Node}
+use Rattle.gptp_topology.specs.declared.tables.Mark.{Mark}
+use Rattle.gptp_topology.specs.declared.tables.Tables.{Tables}
+
+-- the links of a network
+abbrev pub cables_of : NetworkState → List Cable
+cables_of n = map cable_of n.links
+
+-- the link, as one at the system with this clock, if it is
+abbrev pub led : ℕ → Cable → List Neighbour
+led clock c =
+    if c.a.clock == clock then record { link = c.bounds.link; clock = c.b.clock } ∷ []
+    else if c.b.clock == clock then record { link = c.bounds.link; clock = c.a.clock } ∷ [] else []
+
+abbrev pub neighbours_of : ℕ → List Cable → List Neighbour
+neighbours_of clock = flat_map (led clock)
+
+-- a system: its clock, whether it lives, and the links at it
+pub record NodeState : Type 0 where
+  pub clock : ℕ
+  pub lives : Bool
+  pub neighbours : List Neighbour
+
+abbrev pub seen : Node → NodeState
+seen o = record { clock = o.clock; lives = o.lives; neighbours = o.neighbours.items }
+
+abbrev pub node_of : List Cable → ℕ → NodeState
+node_of cables clock = record { clock = clock; lives = true; neighbours = neighbours_of clock cables }
+
+abbrev pub clocks_of : NetworkState → List ℕ
+clocks_of n = map (λ (m : Member). clock_of m.identity) n.systems
+
+-- what an act makes of a system
+abbrev pub node_acted : Act → Node → Node
+node_acted act o =
+    record { clock = o.clock; lives = lives_acted act o.clock o.lives; neighbours = o.neighbours }
+
+-- the links at the system with a clock
+abbrev pub neighbours_at : ℕ → List Node → List Neighbour
+neighbours_at clock [] = []
+neighbours_at clock (o ∷ os) = if o.clock == clock then o.neighbours.items else neighbours_at clock os
+
+-- links stand so, of which an act meets the one at a place, or these one after another
+abbrev pub acted_at : Act → ℕ → List Standing → List Standing
+acted_at act place [] = []
+acted_at act zero (s ∷ ss) = acted act s ∷ ss
+acted_at act (suc place) (s ∷ ss) = s ∷ acted_at act place ss
+
+abbrev pub acted_along : Act → List Neighbour → List Standing → List Standing
+acted_along act [] ss = ss
+acted_along act (o ∷ os) ss = acted_along act os (acted_at act o.link ss)
+
+-- the greatest delay of a link in use, or 0
+abbrev pub delay_in_use : Standing → ℕ
+delay_in_use s = if is_used s then s.cable.bounds.max else 0
+
+-- whether a link is in use, and then isn't good or loses frames, and its greatest delay
+abbrev pub mark_of : Params → Standing → Mark
+mark_of p s = record {
+  used = is_used s;
+  troubled = is_long p s || not (loss_in_use s == 0);
+  delay = delay_in_use s;
+}
+
+-- the greatest of these delays
+abbrev pub greatest_used : List Mark → ℕ
+greatest_used [] = 0
+greatest_used (m ∷ ms) = max m.delay (greatest_used ms)
+
+abbrev pub is_marked : Option Mark → Bool
+is_marked None = false
+is_marked (Some m) = m.used
+
+abbrev pub used_at : List Mark → ℕ → Bool
+used_at marks link = is_marked (slice_get marks link)
+
+-- the system that the first link in use leads to
+abbrev pub first_used : List Mark → List Neighbour → Option ℕ
+first_used marks [] = None
+first_used marks (o ∷ os) = if used_at marks o.link then Some o.clock else first_used marks os
+
+-- a link in use leads to another than this one
+abbrev pub leads_elsewhere : List Mark → ℕ → List Neighbour → Bool
+leads_elsewhere marks clock = list_any (λ (o : Neighbour). not (o.clock == clock) && used_at marks o.link)
+
+abbrev pub elsewhere : List Mark → List Neighbour → Option ℕ → Bool
+elsewhere marks os None = false
+elsewhere marks os (Some clock) = leads_elsewhere marks clock os
+
+-- links in use lead to two different systems
+abbrev pub leads_to_two : List Mark → List Neighbour → Bool
+leads_to_two marks os = elsewhere marks os (first_used marks os)
+
+abbrev pub lives_between : List Mark → Node → Bool
+lives_between marks o = o.lives && leads_to_two marks o.neighbours.items
+
+-- how many systems a path has at most
+abbrev pub path_bound : List Mark → List Node → ℕ
+path_bound marks os = min (count_by (lives_between marks) os + 2) (count_by (λ (o : Node). o.lives) os)
+
+-- something may lapse for want of Sync
+abbrev pub may_lapse : Params → Bool
+may_lapse p = not (p.sync_timeout == 0)
+
+-- what Sync has to cross; where nothing may lapse for want of it delays don't count
+abbrev pub delay_of : Params → List Mark → ℕ
+delay_of p marks = if may_lapse p then greatest_used marks else 0
+
+abbrev pub paths_of : Params → List Mark → List Node → SyncPaths
+paths_of p marks os = record { systems = path_bound marks os; delay = delay_of p marks }
+
+-- for how long at most a settled system waits for Sync, where that isn't below the timeout
+abbrev pub late_of : Params → SyncPaths → Option ℕ
+late_of p paths =
+    if may_lapse p && nat_le (lapse_span p) (sync_wait p paths) then Some (sync_wait p paths) else None
+
+-- the span, where Sync isn't late and no link in use is too long or loses frames
+abbrev pub bound_of : NetworkState → SyncPaths → List Mark → Option ℕ
+bound_of n paths marks =
+    if is_some (late_of n.params paths) || list_any (λ (m : Mark). m.troubled) marks then None
+    else Some (settling_span_with (pace_of n) paths paths.systems)
+
+-- what is told of a time
+abbrev pub time_of : NetworkState → List Mark → List Node → ℕ → CalmTime
+time_of n marks os at = record {
+  at = at;
+  bound = bound_of n (paths_of n.params marks os) marks;
+  needs = late_of n.params (paths_of n.params marks os);
+}
+
+-- it is told where the next time is another
+abbrev pub told : ℕ → CalmTime → List CalmTime → List CalmTime
+told next time times = if next == time.at then times else times ++ time ∷ []
+
+-- what is kept of the links agrees with how they stand
+abbrev pub AreMarked : Tables → Type 0
+AreMarked t = t.marks.items ≡ map (mark_of t.params) t.standings.items
+
+-- what an act makes of the tables
+pub record Acted (act : Act) (old new : Tables) : Type 0 where
+  pub params : new.params ≡ old.params
+  pub nodes : new.nodes.items ≡ map (node_acted act) old.nodes.items
+  pub standings : new.standings.items ≡ acted_along act (neighbours_at (named act) old.nodes.items) old.standings.items
+  pub marks : AreMarked new
+
+-- the tables of a network at first
+pub record AreFirst (n : NetworkState) (t : Tables) : Type 0 where
+  pub params : t.params ≡ n.params
+  pub nodes : map seen t.nodes.items ≡ map (node_of (cables_of n)) (clocks_of n)
+  pub standings : t.standings.items ≡ map first n.links
+  pub marks : AreMarked t

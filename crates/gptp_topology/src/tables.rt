@@ -1,0 +1,299 @@
+//! How the systems and the links of a network stand, by place, as its events come, and what bounds its settling then.
+
+ghost use Rattle.std.specs.Prelude.{◌≡◌, ◌≤◌, ◌+◌, map, length, IfOk, OnOk};
+ghost use Rattle.std.specs.List.{count_by, list_any};
+ghost use Rattle.gptp_plan.specs.Network.{NetworkState};
+ghost use Rattle.gptp_topology.specs.Course.{first, wire_of};
+ghost use Rattle.gptp_topology.specs.Tables.{Acted, AreFirst, AreMarked, acted_along, acted_at, bound_of, cables_of, delay_in_use, delay_of, first_used, greatest_used, late_of, leads_elsewhere, leads_to_two, lives_between, mark_of, may_lapse, path_bound, paths_of, used_at};
+
+use crate::course::{Cable, Standing, act, first, is_used, named};
+use crate::nodes::{Neighbour, Node, act_on_nodes, live_nodes, neighbours_at, nodes_of};
+use crate::trouble::{is_long, loss_in_use};
+use gptp_plan::{Act, Network, Params, SyncPaths};
+use gptp_setup::lapse_span;
+use gptp_vector::ClockId;
+use std::alloc::{AllocError, Global};
+
+/// Whether a link is in use, whether it then isn't good or loses frames, and its greatest delay then, in ns.
+#[derive(Clone, Copy)]
+pub(crate) struct Mark {
+    pub used: bool,
+    pub troubled: bool,
+    pub delay: u64,
+}
+
+/// How the systems and the links of a network stand, by place.
+#[derive(Drop)]
+pub(crate) struct Tables {
+    pub params: Params,
+    pub nodes: Vec<Node>,
+    pub standings: Vec<Standing>,
+    // What is asked of the links at each time.
+    pub marks: Vec<Mark>,
+}
+
+/// The greatest delay of a link in use, in ns, or 0.
+fn delay_in_use(standing: &Standing) -> u64
+    ensures { result ≡ delay_in_use standing.now }
+{
+    if is_used(standing) {
+        standing.cable.bounds.max
+    } else {
+        0
+    }
+}
+
+/// What is asked of a link at each time.
+fn mark_of(params: &Params, standing: &Standing) -> Mark
+    ensures { result ≡ mark_of params.now standing.now }
+{
+    Mark {
+        used: is_used(standing),
+        troubled: is_long(params, standing) || loss_in_use(standing) != 0,
+        delay: delay_in_use(standing),
+    }
+}
+
+/// How links stand at first.
+fn first_standings(alloc: Global, cables: &[Cable]) -> Result<Vec<Standing>, AllocError>
+    ensures { IfOk result (λ standings. standings.items ≡ map (λ c. first (wire_of c)) cables.now) }
+{
+    let mut standings = Vec::new(alloc);
+    for cable in cables {
+        standings.push(first(cable))?;
+    }
+    Ok(standings)
+}
+
+/// What is asked of each link.
+fn marks_of(alloc: Global, params: &Params, standings: &[Standing]) -> Result<Vec<Mark>, AllocError>
+    ensures { IfOk result (λ marks. marks.items ≡ map (mark_of params.now) standings.now) }
+{
+    let mut marks = Vec::new(alloc);
+    for standing in standings {
+        marks.push(mark_of(params, standing))?;
+    }
+    Ok(marks)
+}
+
+/// Whether the link at a place is in use.
+fn used_at(marks: &[Mark], link: usize) -> bool
+    ensures { result ≡ used_at marks.now link }
+{
+    match marks.get(link) {
+        Some(mark) => mark.used,
+        None => false,
+    }
+}
+
+/// The system that the first of these links that is in use leads to.
+fn first_used(marks: &[Mark], neighbours: &[Neighbour]) -> Option<ClockId>
+    ensures { result ≡ first_used marks.now neighbours.now }
+{
+    for neighbour in neighbours {
+        if used_at(marks, neighbour.link) {
+            return Some(neighbour.clock);
+        }
+    }
+    None
+}
+
+/// Whether one of these links in use leads to another system than this one.
+fn leads_elsewhere(marks: &[Mark], clock: ClockId, neighbours: &[Neighbour]) -> bool
+    ensures { result ≡ leads_elsewhere marks.now clock neighbours.now }
+{
+    neighbours.iter().any(|neighbour| neighbour.clock != clock && used_at(marks, neighbour.link))
+}
+
+/// Whether these links, where they are in use, lead to two different systems.
+fn leads_to_two(marks: &[Mark], neighbours: &[Neighbour]) -> bool
+    ensures { result ≡ leads_to_two marks.now neighbours.now }
+{
+    match first_used(marks, neighbours) {
+        Some(clock) => leads_elsewhere(marks, clock, neighbours),
+        None => false,
+    }
+}
+
+/// Whether a system lives and links in use join it to two different ones.
+fn lives_between(marks: &[Mark], node: &Node) -> bool
+    ensures { result ≡ lives_between marks.now node.now }
+{
+    node.lives && leads_to_two(marks, &node.neighbours)
+}
+
+/// How many systems do.
+fn live_between(marks: &[Mark], nodes: &[Node]) -> usize
+    ensures count { result ≡ count_by (lives_between marks.now) nodes.now }
+    ensures bound { result ≤ length nodes.now }
+{
+    let mut count = 0;
+    for node in nodes {
+        count += usize::from(lives_between(marks, node));
+    }
+    count
+}
+
+/// How many systems a path over live systems and links in use has at most.
+fn path_bound(marks: &[Mark], nodes: &[Node]) -> usize
+    requires { length nodes.now ≤ 512 }
+    ensures is { result ≡ path_bound marks.now nodes.now }
+    ensures few { result ≤ 512 }
+{
+    (live_between(marks, nodes) + 2).min(live_nodes(nodes))
+}
+
+/// The greatest delay of the links in use, in ns, or 0.
+#[tactic(auto, using(crate::proofs::BoundLemmas::delay_moves))]
+fn greatest_used(marks: &[Mark]) -> u64
+    ensures { result ≡ greatest_used marks.now }
+{
+    let mut greatest = 0;
+    for mark in marks {
+        greatest = mark.delay.max(greatest);
+    }
+    greatest
+}
+
+/// What counts of it: nothing where nothing may lapse for want of Sync.
+fn delay_of(params: &Params, marks: &[Mark]) -> u64
+    ensures { result ≡ delay_of params.now marks.now }
+{
+    if may_lapse(params) {
+        greatest_used(marks)
+    } else {
+        0
+    }
+}
+
+/// Whether some link in use isn't good, or loses frames.
+fn is_troubled(marks: &[Mark]) -> bool
+    ensures { result ≡ list_any (λ (m : Mark). m.troubled) marks.now }
+{
+    marks.iter().any(|mark| mark.troubled)
+}
+
+/// Whether something may lapse for want of Sync.
+fn may_lapse(params: &Params) -> bool
+    ensures { result ≡ may_lapse params.now }
+{
+    params.sync_timeout != 0
+}
+
+/// For how long at most a settled system waits for Sync, in ns, where it has these paths to cross and that isn't below
+/// the timeout.
+pub(crate) fn late_of(network: &Network, paths: SyncPaths) -> Option<u64>
+    requires few { paths.systems ≤ 512 }
+    requires short { paths.delay ≤ 16000000000 }
+    ensures { result ≡ late_of network.now.params paths }
+{
+    network.well_formed();
+    let params = network.params();
+    let needs = network.sync_wait(paths);
+    if may_lapse(&params) && lapse_span(&params) <= needs {
+        Some(needs)
+    } else {
+        None
+    }
+}
+
+/// Does to the link at a place what an act does.
+fn act_at(
+    params: &Params,
+    standings: &mut Vec<Standing>,
+    marks: &mut Vec<Mark>,
+    link: usize,
+    done: &Act,
+)
+    requires { marks.old.items ≡ map (mark_of params.now) standings.old.items }
+    ensures standings { standings.new.items ≡ acted_at done.now link standings.old.items }
+    ensures marks { marks.new.items ≡ map (mark_of params.now) standings.new.items }
+{
+    if link < standings.len() && link < marks.len() {
+        let mut standing = standings[link];
+        act(done, &mut standing);
+        standings[link] = standing;
+        marks[link] = mark_of(params, &standing);
+    }
+}
+
+/// Does to these links what an act does.
+fn act_along(
+    params: &Params,
+    standings: &mut Vec<Standing>,
+    marks: &mut Vec<Mark>,
+    neighbours: &[Neighbour],
+    done: &Act,
+)
+    requires { marks.old.items ≡ map (mark_of params.now) standings.old.items }
+    ensures standings { standings.new.items ≡ acted_along done.now neighbours.now standings.old.items }
+    ensures marks { marks.new.items ≡ map (mark_of params.now) standings.new.items }
+{
+    for neighbour in neighbours {
+        act_at(params, standings, marks, neighbour.link, done);
+    }
+}
+
+impl Tables {
+    /// The tables of a network with these links.
+    pub(crate) fn first(
+        alloc: Global,
+        network: &Network,
+        cables: &[Cable],
+    ) -> Result<Self, AllocError>
+        requires { cables.now ≡ cables_of network.now }
+        ensures { IfOk result (AreFirst network.now) }
+    {
+        let params = network.params();
+        let nodes = nodes_of(alloc, network, cables)?;
+        let standings = first_standings(alloc, cables)?;
+        let marks = marks_of(alloc, &params, &standings)?;
+        Ok(Tables {
+            params,
+            nodes,
+            standings,
+            marks,
+        })
+    }
+
+    /// Does what an act does.
+    pub(crate) fn act(&mut self, done: &Act)
+        requires { AreMarked self.old }
+        ensures { Acted done.now self.old self.new }
+    {
+        act_along(
+            &self.params,
+            &mut self.standings,
+            &mut self.marks,
+            neighbours_at(named(done), &self.nodes),
+            done,
+        );
+        act_on_nodes(self.nodes.as_mut_slice(), done);
+    }
+
+    /// What Sync has to cross; where nothing may lapse for want of it delays don't count.
+    pub(crate) fn paths(&self, params: &Params) -> SyncPaths
+        requires { length self.now.nodes.items ≤ 512 }
+        ensures is { result ≡ paths_of params.now self.now.marks.items self.now.nodes.items }
+        ensures few { result.systems ≤ 512 }
+    {
+        SyncPaths {
+            systems: path_bound(&self.marks, &self.nodes),
+            delay: delay_of(params, &self.marks),
+        }
+    }
+
+    /// How long the network takes at most to settle where Sync has these paths to cross, in ns, where it isn't late and
+    /// no link in use is too long or loses frames.
+    pub(crate) fn bound(&self, network: &Network, paths: SyncPaths) -> Option<u64>
+        requires few { paths.systems ≤ 512 }
+        requires short { paths.delay ≤ 16000000000 }
+        ensures { result ≡ bound_of network.now paths self.now.marks.items }
+    {
+        if late_of(network, paths).is_some() || is_troubled(&self.marks) {
+            None
+        } else {
+            Some(network.settling_span_with(paths))
+        }
+    }
+}
