@@ -50,7 +50,8 @@ sound_answers w sound legible = record {
   legible = legible;
 }
 
-calls_answering : (place : ℕ) (input : Input) (w : WorldState) (draws : List Draw) (answer : Answer) (w' : WorldState)
+pub calls_answering : (place : ℕ) (input : Input) (w : WorldState) (draws : List Draw) (answer : Answer)
+    (w' : WorldState)
     → IsAnswering w → (k : Calls place input w draws answer w') → IsTimely k.station.system w.time input
     → InputFits input → IsAnswering w'
 calls_answering place input w draws answer w' is k timely fits =

@@ -24,7 +24,7 @@ use Rattle.gptp_kept.specs.UnansweredLaws.{NoneStandsAnew}
 use Rattle.gptp_kept.specs.Unanswered.{StandsUnanswered}
 
 -- the station at a place was as live as it is, under the same clock
-record StoodBefore (stations : List Station) (place : ℕ) (new : Station) : Type 0 where
+pub record StoodBefore (stations : List Station) (place : ℕ) (new : Station) : Type 0 where
   old : Station
   here : slice_get stations place ≡ Some old
   live : new.live ≡ old.live
@@ -32,15 +32,15 @@ record StoodBefore (stations : List Station) (place : ℕ) (new : Station) : Typ
 
 -- so was each station, each link carries what it carried, and the last change is the same
 pub record IsAsBefore (w w' : WorldState) : Type 0 where
-  stations : (place : ℕ) (new : Station) → slice_get w'.stations place ≡ Some new → StoodBefore w.stations place new
-  links : CarryTheSame w.net.channels w'.net.channels
+  pub stations : (place : ℕ) (new : Station) → slice_get w'.stations place ≡ Some new → StoodBefore w.stations place new
+  pub links : CarryTheSame w.net.channels w'.net.channels
   pub change : w'.last_change ≡ w.last_change
 
-as_was : (stations : List Station) (place : ℕ) (station : Station) → slice_get stations place ≡ Some station
+pub as_was : (stations : List Station) (place : ℕ) (station : Station) → slice_get stations place ≡ Some station
     → StoodBefore stations place station
 as_was stations place station here = record { old = station; here = here; live = refl; named = refl }
 
-calls_before : (place : ℕ) (input : Input) (w : WorldState) (draws : List Draw) (answer : Answer) (w' : WorldState)
+pub calls_before : (place : ℕ) (input : Input) (w : WorldState) (draws : List Draw) (answer : Answer) (w' : WorldState)
     → Calls place input w draws answer w' → IsAsBefore w w'
 calls_before place input w draws answer w' k = record {
   stations = λ other new there.
@@ -91,7 +91,7 @@ acts_before (Expire number timer) w w' draws done calm k =
 acts_before (Changing change) w w' draws done calm k = absurd (calm change refl)
 
 -- where all stands so it did
-stood : (at : LinkPlace) (w w' : WorldState) → IsAsBefore w w' → StandsUnanswered at w' → StandsUnanswered at w
+pub stood : (at : LinkPlace) (w w' : WorldState) → IsAsBefore w w' → StandsUnanswered at w' → StandsUnanswered at w
 stood at w w' before s =
     let carries = before.links at.link s.channel s.here in
     let joins = carries.joins in

@@ -1,5 +1,5 @@
 -- What the live systems of a settled world state of themselves is bounded.
-use Rattle.std.proofs.Common.{◌≡◌, ◌≤◌, ◌<◌, ◌+◌, ℕ, zero, suc, Bool, true, false, List, [], ◌∷◌, length, Some, slice_get, refl, sym, ap, subst, ◌∙◌, inl, inr, arith}
+use Rattle.std.proofs.Common.{◌≡◌, ◌≤◌, ◌<◌, ℕ, zero, suc, Bool, true, false, List, [], ◌∷◌, length, Some, slice_get, refl, sym, ap, subst, ◌∙◌, inl, inr, arith}
 use Rattle.std.specs.Prelude.{if◌then◌else◌}
 use Rattle.std.proofs.lemmas.Option.{none-some, same_Some}
 use Rattle.gptp_setup.specs.Pace.{Pace}
@@ -13,23 +13,28 @@ use Rattle.gptp_graph.specs.PathBound.{BoundsPaths}
 use Rattle.gptp_graph.specs.Snapshot.{IsWellFormed, System, clocks}
 use Rattle.gptp_graph.proofs.BestLemmas.{IsBest-unique}
 use Rattle.gptp_graph.proofs.DistanceLemmas.{IsDistance-unique}
+use Rattle.gptp_plan.specs.Calm.{NothingLapses}
 use Rattle.gptp_plan.specs.SettlingTime.{settling_span_with}
 use Rattle.gptp_system.specs.State.{clock}
 use Rattle.gptp_acts.specs.declared.station.Station.{Station}
 use Rattle.gptp_acts.specs.World.{WorldState}
+use Rattle.gptp_settling.specs.Calm.{Calm}
+use Rattle.gptp_settling.specs.Levels.{Invariant}
+use Rattle.gptp_settling.specs.Network.{IsNetwork}
 use Rattle.gptp_settling.proofs.SettledLemmas.{systems_bounded}
 use Rattle.gptp_kept.specs.Bounded.{IsBoundedWorld, statement_of, statements, statements_of}
-use Rattle.gptp_kept.specs.Calm.{IsQuietWith, paths_with}
-use Rattle.gptp_kept.specs.CalmFor.{IsCalmFor, span_over}
+use Rattle.gptp_kept.specs.Calm.{SettlingTimes, at_once, in_turn, network_with, paths_with, sound_from}
+use Rattle.gptp_kept.specs.CalmFor.{IsCalmFor, at_once_span, span_over}
 use Rattle.gptp_kept.specs.Claimed.{Claimed}
-use Rattle.gptp_kept.specs.Holds.{BecomeCapable, Holds, IsWorld, settling_network}
+use Rattle.gptp_kept.specs.Holds.{IsWorld, start_of}
+use Rattle.gptp_kept.specs.Settled.{Settled}
 use Rattle.gptp_kept.specs.Standing.{live_systems, snapshot_of, standing}
 use Rattle.gptp_kept.specs.View.{says, station_view, view}
 use Rattle.gptp_kept.proofs.ClaimLemmas.{claim_capable}
-use Rattle.gptp_kept.proofs.ClaimedLemmas.{reach_of, set_alike, span_within}
-use Rattle.gptp_kept.proofs.HoldsLemmas.{is_calm, is_network, systems_bound}
+use Rattle.gptp_kept.proofs.ClaimedLemmas.{reach_of, set_alike, settled_at_once, settled_by_paths, span_within}
+use Rattle.gptp_kept.proofs.HoldsLemmas.{is_calm, is_network, is_quick_calm, is_quick_network, systems_bound}
 use Rattle.gptp_kept.proofs.PlaceLemmas.{station_there}
-use Rattle.gptp_kept.proofs.SettledLemmas.{settles_by_paths, span_ends}
+use Rattle.gptp_kept.proofs.SettledLemmas.{span_ends}
 use Rattle.gptp_kept.proofs.StandsLemmas.{stands_well}
 use Rattle.gptp_kept.proofs.SystemLemmas.{clock_in, live_from, live_there}
 
@@ -97,35 +102,40 @@ stated_lives w one member =
 
 -- ---- what is stated is bounded
 
-module _ (p : Pace) (w : WorldState) (is : IsWorld p w) (capable : BecomeCapable p w) (holds : Holds p w) (m : ℕ)
-    (bounded : BoundsPaths (snapshot_of w) m) (quiet : IsQuietWith p.params (paths_with m w) w) (n : ℕ) (more : m ≤ n)
-    (late : w.last_change + settling_span_with p (paths_with m w) n ≤ w.time) (place : ℕ) (station : Station)
-    (here : slice_get w.stations place ≡ Some station) (live : station.live ≡ true) where
-  graph_wf : IsWellFormed (snapshot_of w)
-  graph_wf = stands_well w is.sound is.between is.legible
+-- a system has no root below its best's, nor that root over fewer steps than its distance
+abbrev pub IsAbove : WorldState → Station → Type 0
+IsAbove w station = (best : System) → IsBest (snapshot_of w) (clock station.system) best
+    → (best.identity ≤ station.system.root)
+    × ((d : ℕ) → IsDistance (snapshot_of w) (clock station.system) d → station.system.root ≡ best.identity
+    → d ≤ station.system.steps)
 
-  -- as the machine sees it, all that is held has been wholly clean for long
-  is_above : (best : System) → IsBest (snapshot_of w) (clock station.system) best
-      → (best.identity ≤ station.system.root)
-      × ((d : ℕ) → IsDistance (snapshot_of w) (clock station.system) d → station.system.root ≡ best.identity
-      → d ≤ station.system.steps)
-  is_above best is_best =
-      let ends = span_ends p w is capable holds m bounded quiet n more late in
-      systems_bounded says (settling_network p m w) (view w) place (station_view station) best
-      (is_network p m w is bounded) (is_calm p m w is quiet.links capable) (holds m bounded quiet).invariant
-      (station_there w.stations place station here) live is_best (omega (arith, ends))
+-- so is each live system
+abbrev pub AreAbove : WorldState → Type 0
+AreAbove w = (place : ℕ) (station : Station) → slice_get w.stations place ≡ Some station → station.live ≡ true
+    → IsAbove w station
 
+-- they are where the world, as the machine sees it, holds what is sound
+pub are_above : (p : Pace) (m start : ℕ) (times : SettlingTimes) (w : WorldState)
+    → IsNetwork (network_with p m start times w) → Calm (network_with p m start times w) (view w)
+    → Invariant says (network_with p m start times w) (view w) → sound_from p m start times w ≤ w.time
+    → AreAbove w
+are_above p m start times w network calm invariant late place station here live best is_best =
+    systems_bounded says (network_with p m start times w) (view w) place (station_view station) best network calm
+    invariant (station_there w.stations place station here) live is_best late
+
+-- so what a system of a settled world states is bounded
+module _ (w : WorldState) (wf : IsWellFormed (snapshot_of w)) (settled : Settled w) (place : ℕ) (station : Station)
+    (here : slice_get w.stations place ≡ Some station) (live : station.live ≡ true) (is_above : IsAbove w station) where
   is_near : (best : System) (d : ℕ) → IsBest (snapshot_of w) (clock station.system) best
       → IsDistance (snapshot_of w) (clock station.system) d → d < 255
       → (station.system.root ≡ best.identity) × (station.system.steps ≡ d)
   is_near best d is_best there near =
-      let settled = settles_by_paths p w is capable holds m bounded quiet n more late place station here live
-      (d, there, near) in
-      let (own, is_own, root) = settled.root in (
+      let is = settled place station here live (d, there, near) in
+      let (own, is_own, root) = is.root in (
         root
             ∙ ap (λ (s : System). s.identity)
-            (IsBest-unique (snapshot_of w) (clock station.system) own best graph_wf is_own is_best),
-        IsDistance-unique (snapshot_of w) (clock station.system) station.system.steps d graph_wf settled.steps there,
+            (IsBest-unique (snapshot_of w) (clock station.system) own best wf is_own is_best),
+        IsDistance-unique (snapshot_of w) (clock station.system) station.system.steps d wf is.steps there,
       )
 
   is_bounded : IsBounded (snapshot_of w) (statement_of station)
@@ -137,19 +147,42 @@ module _ (p : Pace) (w : WorldState) (is : IsWorld p w) (capable : BecomeCapable
 
 -- ---- the world
 
-pub bounded_by_paths : (m : ℕ) (w : WorldState) → Claimed w → BoundsPaths (snapshot_of w) m
-    → IsCalmFor (span_over m) w → IsBoundedWorld w
-bounded_by_paths m w claimed bounded calm = record {
+-- it is bounded where it has settled, and nobody has a root below the best's
+pub bounded_by : (p : Pace) (w : WorldState) → IsWorld p w → Settled w → AreAbove w → IsBoundedWorld w
+bounded_by p w is settled above = record {
   stated = stated w;
   no_other = stated_lives w;
   bounded = λ one member.
       let at = statement_from w.stations one member in
-      let is = set_alike w claimed calm.pace calm.set at.place at.station at.here in
-      let r = reach_of calm.pace m w is.world bounded calm.quiet in
       subst (IsBounded (snapshot_of w)) (sym at.is)
-      (is_bounded calm.pace w is.world (claim_capable calm.pace w is) is.settling r.reach r.bounded r.quiet m r.within
-      (span_within calm.pace m w calm.late r) at.place at.station at.here at.live);
+      (is_bounded w (stands_well w is.sound is.between is.legible) settled at.place at.station at.here at.live
+      (above at.place at.station at.here at.live));
 }
+
+pub bounded_by_paths : (m : ℕ) (w : WorldState) → Claimed w → BoundsPaths (snapshot_of w) m
+    → IsCalmFor (span_over m) w → IsBoundedWorld w
+bounded_by_paths m w claimed bounded calm = bounded_by claimed.pace w claimed.is.world
+    (settled_by_paths m w claimed bounded calm) (λ place station here live.
+    let is = set_alike w claimed calm.pace calm.set place station here in
+    let r = reach_of calm.pace m w is.world bounded calm.quiet in
+    let capable = claim_capable calm.pace w is in
+    let late = span_within calm.pace m w calm.late r in
+    let ends = span_ends calm.pace w is.world capable is.settling r.reach r.bounded r.quiet m r.within late in
+    are_above calm.pace r.reach (start_of calm.pace w) (in_turn calm.pace (paths_with r.reach w)) w
+    (is_network calm.pace r.reach w is.world r.bounded) (is_calm calm.pace r.reach w is.world r.quiet.links capable)
+    (is.settling r.reach r.bounded r.quiet).invariant (omega (arith, ends)) place station here live)
+
+pub bounded_at_once : (m : ℕ) (w : WorldState) → Claimed w → BoundsPaths (snapshot_of w) m
+    → (calm : IsCalmFor (at_once_span m) w) → NothingLapses calm.pace.params → IsBoundedWorld w
+bounded_at_once m w claimed bounded calm off = bounded_by claimed.pace w claimed.is.world
+    (settled_at_once m w claimed bounded calm off) (λ place station here live.
+    let is = set_alike w claimed calm.pace calm.set place station here in
+    let late = calm.late in
+    are_above calm.pace m (start_of calm.pace w) (at_once calm.pace w) w
+    (is_quick_network calm.pace m w is.world bounded)
+    (is_quick_calm calm.pace m w is.world calm.quiet.links (claim_capable calm.pace w is))
+    ((is.settling m bounded (record { links = calm.quiet.links; lapses = inl off })).at_once off)
+    (omega (arith, late)) place station here live)
 
 -- so it is by the number of live systems
 pub claimed_bounded : (w : WorldState) → Claimed w → IsCalmFor settling_span_with w → IsBoundedWorld w

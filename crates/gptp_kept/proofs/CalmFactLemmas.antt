@@ -1,5 +1,6 @@
 -- The view of a sound, legible and known world has the facts of which the laws of settling speak.
-use Rattle.std.proofs.Common.{◌≡◌, ◌⊎◌, ◌≤◌, ◌+◌, ℕ, true, List, Some, slice_get, sym, ap, subst, ◌∙◌, inl, inr, arith}
+use Rattle.std.proofs.Common.{◌≡◌, ◌⊎◌, ◌<◌, ◌≤◌, ◌+◌, ◌*◌, ℕ, Bool, true, false, List, Some, slice_get, sym, ap, subst, ◌∙◌, inl, inr, arith}
+use Rattle.std.specs.Prelude.{if◌then◌else◌}
 use Rattle.std.proofs.lemmas.Bool.{and_from}
 use Rattle.gptp_lists.specs.Members.{In}
 use Rattle.gptp_graph.specs.Snapshot.{Joins, System, clocks}
@@ -20,19 +21,22 @@ use Rattle.gptp_settling.specs.Facts.{Facts, FollowsItself as SeenItself, Follow
 use Rattle.gptp_settling.specs.Frame.{Frame as SeenFrame, Lane}
 use Rattle.gptp_settling.specs.Network.{setting}
 use Rattle.gptp_settling.specs.Station.{Reception as SeenReception, Station as SeenStation, HoldsAt}
+use native.Mathlib.Decide.{dec_le}
 use Rattle.gptp_kept.specs.Known.{IsKnown}
+use Rattle.gptp_kept.specs.Legible.{IsLegible}
+use Rattle.gptp_kept.proofs.DelayLemmas.{delay_of_used}
 use Rattle.gptp_kept.proofs.KnownAtRestLemmas.{systems_follow}
 use Rattle.gptp_kept.proofs.DueLemmas.{frames_on_links, ports_known}
 use Rattle.gptp_kept.specs.View.{frame_view, lane_view, lanes_view, reception_view, span_at, station_view, view}
 use Rattle.gptp_kept.proofs.SeenLaneLemmas.{lane_from}
 use Rattle.gptp_kept.proofs.OrderLemmas.{in_contains}
 use Rattle.gptp_kept.proofs.PlaceLemmas.{station_from}
-use Rattle.gptp_kept.specs.Calm.{network_of}
+use Rattle.gptp_kept.specs.Calm.{SettlingTimes, delay_in, network_of, network_with}
 use Rattle.gptp_kept.specs.Standing.{has_clock, is_used, live_systems, snapshot_of}
 use Rattle.gptp_kept.proofs.PortLemmas.{held_from, holds_there, same_standing}
 use Rattle.gptp_kept.proofs.SetLemmas.{span_is}
 use Rattle.gptp_kept.proofs.SystemLemmas.{clock_there, live_there}
-use Rattle.gptp_kept.proofs.WayLemmas.{used_joins}
+use Rattle.gptp_kept.proofs.WayLemmas.{one_way, used_joins, way_of}
 
 -- ---- frames
 
@@ -91,7 +95,7 @@ linked w sound j lane seen there member from to =
 -- ---- systems
 
 -- it follows itself, or what one of its ports is seen to hold
-follows_seen : (station : Station) → IsSteady station.system
+pub follows_seen : (station : Station) → IsSteady station.system
     → FollowsItself station.system ⊎ FollowsPort station.system
     → SeenItself (station_view station) ⊎ SeenFollows (station_view station)
 follows_seen station steady (inl k) = inl (record { root = k.root; steps = k.steps; trace = k.path })
@@ -107,52 +111,101 @@ follows_seen station steady (inr k) =
       trace = k.path;
     })
 
-module _ (p : Pace) (m start : ℕ) (w : WorldState) (sound : IsSound w) (known : IsKnown p w) where
-  abbrev k : Setting
-  k = setting (network_of p m start w)
+module _ (p : Pace) (m start : ℕ) (w : WorldState) (sound : IsSound w) (legible : IsLegible w) (known : IsKnown p w)
+  where
+    abbrev k : Setting
+    k = setting (network_of p m start w)
 
-  -- what a port received is in time
-  in_time : (place : ℕ) (station : Station) → slice_get w.stations place ≡ Some station → station.live ≡ true
-      → (i : ℕ) (seen : SeenReception) → HoldsAt (station_view station) i seen
-      → IsInTime k w.time (clock station.system) seen
-  in_time place station here live i seen holds =
-      let s = station.system in
-      let steady = (sound.on_time.stations place station here).steady in
-      let at = held_from station.live s i seen holds in
-      let set = known.set place station here in
-      let span = span_is p station set at.reception.interval in
-      let within = (ports_known p w sound known place station here live i at.held at.port at.stands at.there).came
-      at.reception at.got in
-      subst (IsInTime k w.time (clock s)) (sym at.is)
-      (record {
-        came = within.least;
-        stays = subst (λ n. w.time ≤ at.reception.at + n) (sym span) within.most;
-        short = subst (λ n. n ≤ longest_span p) (sym span)
-            (span_longest p at.reception.interval (subst IsLog set.largest steady.largest));
-        no_loop = λ member.
-            (steady.held i at.held at.stands at.reception at.got).no_loop (in_contains (clock s) _ member);
-      })
+    -- what a port received is in time
+    in_time : (place : ℕ) (station : Station) → slice_get w.stations place ≡ Some station → station.live ≡ true
+        → (i : ℕ) (seen : SeenReception) → HoldsAt (station_view station) i seen
+        → IsInTime k w.time (clock station.system) seen
+    in_time place station here live i seen holds =
+        let s = station.system in
+        let steady = (sound.on_time.stations place station here).steady in
+        let at = held_from station.live s i seen holds in
+        let set = known.set place station here in
+        let span = span_is p station set at.reception.interval in
+        let within = (ports_known p w sound known place station here live i at.held at.port at.stands at.there).came
+        at.reception at.got in
+        subst (IsInTime k w.time (clock s)) (sym at.is)
+        (record {
+          came = within.least;
+          stays = subst (λ n. w.time ≤ at.reception.at + n) (sym span) within.most;
+          short = subst (λ n. n ≤ longest_span p) (sym span)
+              (span_longest p at.reception.interval (subst IsLog set.largest steady.largest));
+          no_loop = λ member.
+              (steady.held i at.held at.stands at.reception at.got).no_loop (in_contains (clock s) _ member);
+        })
 
-  station_seen : (place : ℕ) (station : Station) → slice_get w.stations place ≡ Some station → station.live ≡ true
-      → IsStation k w.time (station_view station)
-  station_seen place station here live =
-      let steady = (sound.on_time.stations place station here).steady in
+    station_seen : (place : ℕ) (station : Station) → slice_get w.stations place ≡ Some station → station.live ≡ true
+        → IsStation k w.time (station_view station)
+    station_seen place station here live =
+        let steady = (sound.on_time.stations place station here).steady in
+        record {
+          known = subst (λ x. In x (live_systems w.stations)) (same_standing station steady.shown)
+              (live_there w.stations place station here live);
+          follows = follows_seen station steady (systems_follow w sound place station here live);
+          held = in_time place station here live;
+        }
+
+    -- a frame on a link of the snapshot is due within the greatest delay, or before the start
+    due_soon : (j : ℕ) (l : Lane) (f : SeenFrame) → slice_get (lanes_view w.net.channels) j ≡ Some l → In f l.frames
+        → Joins (snapshot_of w) l.from l.to
+        → (f.due ≤ w.time + delay_in w) ⊎ (f.due < w.last_change + 2 * largest_interval p)
+    due_soon j l f there member joins =
+        let at = frame_from w j l f there member in
+        let way = way_of w l.from l.to joins in
+        let one = one_way w sound legible way.link at.link way.direction at.direction way.channel at.channel way.here
+        at.here (way.from ∙ ap (λ (z : Lane). z.from) at.lane_is) in
+        let short = subst (λ (c : Channel). c.bounds.max ≤ delay_in w) one.same_channel
+        (delay_of_used (live_systems w.stations) w.net.channels way.link way.channel way.here way.used) in
+        let soon = known.fresh.frames at.link at.direction at.channel at.frame at.here at.among in
+        subst (λ (x : SeenFrame). (x.due ≤ w.time + delay_in w) ⊎ (x.due < w.last_change + 2 * largest_interval p))
+        (sym at.is)
+        (elim (dec_le at.frame.due (w.time + delay_in w)) [
+          | yes within ↦ inl within
+          | no more ↦ inr (let since : w.last_change ≤ w.time = known.fresh.change in omega (arith, soon, short))
+        ])
+
+    pub facts : Facts k (view w)
+    facts = record {
+      stations = λ i seen there lives.
+          let at = station_from w.stations i seen there in
+          let live = ap (λ (x : SeenStation). x.live) (sym at.is) ∙ lives in
+          subst (IsStation k w.time) (sym at.is) (station_seen i at.station at.here live);
+      near = λ j lane seen there member.
+          let at = frame_from w j lane seen there member in
+          subst (λ (f : SeenFrame). f.due ≤ w.time + largest_interval p) (sym at.is)
+          ((known.near at.link at.channel at.here).dues at.direction at.frame at.among);
+      fresh = due_soon;
+      linked = linked w sound;
+    }
+
+-- so it is at every pace, where frames of before the change are gone by the start
+pub facts_with : (p : Pace) (m start : ℕ) (times : SettlingTimes) (w : WorldState) → IsSound w → IsLegible w
+    → IsKnown p w
+    → w.last_change + 2 * largest_interval p ≤ start → Facts (setting (network_with p m start times w)) (view w)
+facts_with p m start times w sound legible known old = record {
+  stations = λ i s there lives.
+      let x = are.stations i s there lives in
       record {
-        known = subst (λ x. In x (live_systems w.stations)) (same_standing station steady.shown)
-            (live_there w.stations place station here live);
-        follows = follows_seen station steady (systems_follow w sound place station here live);
-        held = in_time place station here live;
-      }
+        known = x.known;
+        follows = x.follows;
+        held = λ place r holds.
+            let y = x.held place r holds in
+            record { came = y.came; stays = y.stays; short = y.short; no_loop = y.no_loop };
+      };
+  near = are.near;
+  fresh = λ j l f there member joins. by times.past f.due (are.fresh j l f there member joins);
+  linked = are.linked;
+}
+  where
+    are : Facts (setting (network_of p m start w)) (view w)
+    are = facts p m start w sound legible known
 
-  pub facts : Facts k (view w)
-  facts = record {
-    stations = λ i seen there lives.
-        let at = station_from w.stations i seen there in
-        let live = ap (λ (x : SeenStation). x.live) (sym at.is) ∙ lives in
-        subst (IsStation k w.time) (sym at.is) (station_seen i at.station at.here live);
-    near = λ j lane seen there member.
-        let at = frame_from w j lane seen there member in
-        subst (λ (f : SeenFrame). f.due ≤ w.time + largest_interval p) (sym at.is)
-        ((known.near at.link at.channel at.here).dues at.direction at.frame at.among);
-    linked = linked w sound;
-  }
+    by : (past : Bool) (due : ℕ) → (due ≤ w.time + delay_in w) ⊎ (due < w.last_change + 2 * largest_interval p)
+        → (due ≤ w.time + delay_in w) ⊎ (due < (if past then w.last_change + 2 * largest_interval p else start))
+    by true due soon = soon
+    by false due (inl near) = inl near
+    by false due (inr early) = inr (omega (arith, early, old))

@@ -1,5 +1,5 @@
 -- What a delivery and an expiry leave of the network that a world has.
-use Rattle.std.proofs.Common.{◌≡◌, ◌≢◌, ℕ, zero, suc, pos, true, List, [], ◌∷◌, map, Option, Some, None, slice_get, slice_set, refl, sym, ap, subst, ◌∙◌}
+use Rattle.std.proofs.Common.{◌+◌, ◌*◌, ◌≡◌, ◌≢◌, ℕ, zero, suc, pos, true, List, [], ◌∷◌, map, Option, Some, None, slice_get, slice_set, refl, sym, ap, subst, ◌∙◌}
 use Rattle.std.specs.Prelude.{if◌then◌else◌, ◌==◌, max}
 use Rattle.std.specs.Option.{option_map_or}
 use Rattle.std.proofs.lemmas.Option.{same_Some}
@@ -34,13 +34,13 @@ use Rattle.gptp_acts.proofs.SteadyLemmas.{same_clock, same_ports}
 use Rattle.gptp_settling.specs.Network.{Network}
 use Rattle.gptp_kept.specs.SeenLaws.{IsNoChange}
 use Rattle.gptp_kept.specs.View.{lane_place}
-use Rattle.gptp_kept.specs.Calm.{HaveQuietLinks, IsQuietWith, IsQuietWorld, delay_in, greatest_delay, is_port, lane_of, log_at, log_of, network_of, network_with, paths_with, place_of, setups_of, step_with, sync_paths_of, wait_with}
+use Rattle.gptp_kept.specs.Calm.{HaveQuietLinks, IsQuietWith, IsQuietWorld, delay_in, greatest_delay, is_port, lane_of, log_at, log_of, network_of, SettlingTimes, network_with, paths_with, place_of, setups_of, sync_paths_of, in_turn, at_once, network_at_once, sound_from}
 use Rattle.gptp_kept.specs.Standing.{is_used, joined, live_systems, snapshot_of, standing, used_links}
 
 -- ---- systems
 
 -- one system becomes another that stands as it stood
-systems_kept : (stations : List Station) (place : ℕ) (old new : Station) → slice_get stations place ≡ Some old
+pub systems_kept : (stations : List Station) (place : ℕ) (old new : Station) → slice_get stations place ≡ Some old
     → new.live ≡ old.live → standing new ≡ standing old
     → live_systems (slice_set stations place new) ≡ live_systems stations
 systems_kept [] place old new here live same = refl
@@ -126,7 +126,7 @@ net_keeps w net links = record {
 
 -- a network by what Sync has to cross
 abbrev network_by : Pace → ℕ → ℕ → SyncPaths → WorldState → Network
-network_by p m start paths w = network_with p m start (wait_with p.params paths) (step_with p paths) w
+network_by p m start paths w = network_with p m start (in_turn p paths) w
 
 module _ (w w' : WorldState) (k : KeepsNetwork w w') where
   links_kept : used_links (live_systems w'.stations) w'.net.channels
@@ -136,7 +136,7 @@ module _ (w w' : WorldState) (k : KeepsNetwork w w') where
       ap (λ s. used_links s w'.net.channels) k.systems
       ∙ of_kept (used_links systems) (used_bare systems) w.net.channels w'.net.channels k.links
 
-  delay_kept : delay_in w' ≡ delay_in w
+  pub delay_kept : delay_in w' ≡ delay_in w
   delay_kept =
       let systems = live_systems w.stations in
       ap (λ s. greatest_delay s w'.net.channels) k.systems
@@ -158,9 +158,9 @@ module _ (w w' : WorldState) (k : KeepsNetwork w w') where
   pub same_paths : sync_paths_of w' ≡ sync_paths_of w
   same_paths = λ i. record { systems = path_bound (same_snapshot i); delay = delay_kept i }
 
-  pub same_network_with : (p : Pace) (m start wait step : ℕ)
-      → network_with p m start wait step w' ≡ network_with p m start wait step w
-  same_network_with p m start wait step = λ i. record {
+  pub same_network_with : (p : Pace) (m start : ℕ) (times : SettlingTimes)
+      → network_with p m start times w' ≡ network_with p m start times w
+  same_network_with p m start times = λ i. record {
     graph = same_snapshot i;
     reach = m;
     place = λ number. k.places number i;
@@ -170,20 +170,38 @@ module _ (w w' : WorldState) (k : KeepsNetwork w w') where
     interval = largest_interval p;
     most = delay_kept i;
     timeout = p.params.timeout;
-    start = start;
+    gone = k.change i + 2 * largest_interval p;
+    start = if times.past then k.change i + 2 * largest_interval p else start;
+    bare = start;
+    off = start;
+    ready = λ port. start;
+    sound = sound_kept i;
     syncs = record {
       interval = interval_of p.params.sync;
       residence = p.params.residence;
       span = lapse_span p.params;
     };
-    sync_wait = wait;
-    step = step;
+    sync_wait = times.wait;
+    slack = times.slack;
+    step = times.step;
+    claimed = λ d port. sound_kept i + times.wait + d * times.lag;
+    until = λ d port. sound_kept i + times.wait + d * times.lag + largest_interval p;
   }
+    where
+      sound_kept : sound_from p m start times w' ≡ sound_from p m start times w
+      sound_kept = λ i. max (if times.past then k.change i + 2 * largest_interval p
+          + m * (p.params.timeout * largest_interval p + delay_kept i) else 0) start
+
+  pub same_at_once : (p : Pace) (m start : ℕ) → network_at_once p m start w' ≡ network_at_once p m start w
+  same_at_once p m start =
+      ap (λ delay. network_with p m start
+      (record { slack = largest_interval p; step = delay; wait = 0; lag = 0; past = true }) w') delay_kept
+      ∙ same_network_with p m start (at_once p w)
 
   pub same_network : (p : Pace) (m start : ℕ) → network_of p m start w' ≡ network_of p m start w
   same_network p m start =
       ap (λ delay. network_by p m start (record { systems = m; delay = delay }) w') delay_kept
-      ∙ same_network_with p m start (wait_with p.params (paths_with m w)) (step_with p (paths_with m w))
+      ∙ same_network_with p m start (in_turn p (paths_with m w))
 
   -- links that are quiet stay so
   pub links_quiet : (p : Params) → HaveQuietLinks p w → HaveQuietLinks p w'

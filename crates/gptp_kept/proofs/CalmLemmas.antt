@@ -1,7 +1,8 @@
 -- A calm world is seen as a calm state of the machine.
-use Rattle.std.proofs.Common.{◌≡◌, ◌≤◌, ◌<◌, ◌+◌, ℕ, suc, ℤ, true, Some, None, slice_get, refl, sym, ap, subst, ◌∙◌, arith}
+use Rattle.std.proofs.Common.{◌≡◌, ◌≤◌, ◌<◌, ◌+◌, ◌*◌, ℕ, suc, ℤ, true, Some, None, slice_get, refl, sym, ap, subst, ◌∙◌, inl, inr, arith}
+use native.Mathlib.Nat.{mul-zero}
 use Rattle.gptp_lists.specs.Members.{In}
-use Rattle.gptp_graph.specs.Snapshot.{Joins, PortIdentity, System, port_of}
+use Rattle.gptp_graph.specs.Snapshot.{IsLinked, Joins, PortIdentity, System, port_of}
 use Rattle.gptp_graph.specs.PathBound.{BoundsPaths}
 use Rattle.gptp_links.specs.declared.link.Direction.{Direction}
 use Rattle.gptp_links.specs.declared.link.Direction.TheVariants.{FromA, FromB}
@@ -17,23 +18,25 @@ use Rattle.gptp_settling.specs.Calm.{Calm, HasLane, HasStation, IsCalmPort, IsCa
 use Rattle.gptp_settling.specs.Frame.{Frame as SeenFrame, Lane}
 use Rattle.gptp_plan.specs.Calm.{NothingLapses as IsOff}
 use Rattle.gptp_settling.specs.Lapsing.{NothingLapses}
-use Rattle.gptp_settling.specs.Network.{IsNetwork, Network}
+use Rattle.gptp_settling.specs.Network.{IsNetwork, Network, setting}
 use Rattle.gptp_settling.specs.Station.{Reception as SeenReception, Received, Station as SeenStation}
 use Rattle.gptp_settling.specs.Syncs.{SyncsAreExpected}
+use Rattle.gptp_settling.proofs.TimesLemmas.{times_fit}
 use Rattle.gptp_settling.proofs.SyncLemmas.{none_lapses}
 use Rattle.gptp_kept.specs.Known.{IsKnown, IsSetTo}
-use Rattle.gptp_kept.proofs.DueLemmas.{frames_fresh, frames_not_late, ports_known}
+use Rattle.gptp_kept.proofs.DueLemmas.{frames_not_late, ports_known}
 use Rattle.gptp_kept.specs.Legible.{IsLegible}
 use Rattle.gptp_kept.specs.View.{held_view, identity_of, lane_place, lane_view, lanes_view, port_view, says_sync, span_at, station_view, view}
 use Rattle.gptp_kept.proofs.SeenLaneLemmas.{lane_from, lane_there}
 use Rattle.gptp_kept.proofs.MidLemmas.{seen_on}
 use Rattle.gptp_kept.proofs.PlaceLemmas.{port_from, station_from, station_there}
 use Rattle.gptp_kept.proofs.ReactLemmas.{received_back}
-use Rattle.gptp_kept.specs.Calm.{AreCapableFrom, HaveQuietLinks, delay_in, lane_of, log_of, network_of, network_with, paths_with, place_of, step_with, wait_with}
+use Rattle.gptp_kept.specs.Calm.{AreCapableFrom, HaveQuietLinks, lane_of, log_of, network_of, SettlingTimes, network_with, paths_with, place_of, network_at_once}
 use Rattle.gptp_kept.specs.Standing.{AreBetween, live_systems, snapshot_of}
 use Rattle.gptp_kept.proofs.CalmAtRestLemmas.{rest_seen}
-use Rattle.gptp_kept.proofs.DelayLemmas.{delay_of_used, delay_short, receipts_stay}
-use Rattle.gptp_kept.proofs.CalmFactLemmas.{facts, frame_from}
+use Rattle.gptp_kept.proofs.DelayLemmas.{delay_short, receipts_stay}
+use Rattle.gptp_settling.specs.Facts.{Facts}
+use Rattle.gptp_kept.proofs.CalmFactLemmas.{frame_from}
 use Rattle.gptp_kept.proofs.FoundLemmas.{lane_is, place_is}
 use Rattle.gptp_kept.proofs.LogLemmas.{linked_log, log_is}
 use Rattle.gptp_kept.proofs.PortLemmas.{mine_back, same_standing}
@@ -45,25 +48,44 @@ use Rattle.gptp_kept.proofs.WayLemmas.{IsWay, one_way, way_of}
 
 -- ---- the network
 
--- a step of distance takes long enough for the wait for a Sync, the largest announce interval and the greatest delay
-pub network_so : (p : Pace) (m start wait step : ℕ) (w : WorldState) → IsSound w → AreBetween w → IsLegible w
-    → IsKnown p w → BoundsPaths (snapshot_of w) m
-    → wait + largest_interval p + delay_in w ≤ step
-    → IsNetwork (network_with p m start wait step w)
-network_so p m start wait step w sound between legible known bounded long = record {
-  graph = stands_well w sound between legible;
-  paths = bounded;
-  round = λ port linked.
-      let log = log_shorter p w known.set (log_of w.stations port) (linked_log p w sound known.set port linked) in
-      omega arith;
-}
+-- the interval of a port at a link is no longer than the largest
+pub linked_interval : (p : Pace) (w : WorldState) → IsSound w → IsKnown p w → (port : PortIdentity)
+    → IsLinked (snapshot_of w) port → interval_of (log_of w.stations port) ≤ largest_interval p
+linked_interval p w sound known port linked =
+    log_shorter p w known.set (log_of w.stations port) (linked_log p w sound known.set port linked)
 
-pub network : (p : Pace) (m start : ℕ) (w : WorldState) → IsSound w → AreBetween w → IsLegible w → IsKnown p w
-    → BoundsPaths (snapshot_of w) m → IsNetwork (network_of p m start w)
-network p m start w sound between legible known bounded =
-    let paths = paths_with m w in
-    network_so p m start (wait_with p.params paths) (step_with p paths) w sound between legible known bounded
-    (step_long p paths (delay_short p w known))
+module _ (p : Pace) (m start : ℕ) (w : WorldState) (sound : IsSound w) (between : AreBetween w) (legible : IsLegible w)
+    (known : IsKnown p w) (bounded : BoundsPaths (snapshot_of w) m) where
+  -- a step of distance takes long enough for the wait for a Sync, the largest announce interval and the greatest delay
+  pub network : w.last_change + 2 * largest_interval p ≤ start → IsNetwork (network_of p m start w)
+  network old =
+      let paths = paths_with m w in
+      let long = step_long p paths (delay_short p w known) in
+      times_fit (network_of p m start w) (stands_well w sound between legible) bounded (omega arith) (inl (record {
+        begun = omega (arith, old);
+        ready = λ port linked. omega arith;
+        largest = linked_interval p w sound known;
+        times = inr (record {
+          claimed = λ d port. refl;
+          until = λ d port. refl;
+          step = omega (arith, long);
+        });
+      }))
+
+  -- and it settles at once
+  pub network_quick : w.last_change + 2 * largest_interval p ≤ start → IsNetwork (network_at_once p m start w)
+  network_quick old =
+      times_fit (network_at_once p m start w) (stands_well w sound between legible) bounded (omega arith) (inl (record {
+        begun = omega (arith, old);
+        ready = λ port linked. omega arith;
+        largest = linked_interval p w sound known;
+        times = inl (record {
+          claimed = λ d port. let none : d * 0 ≡ 0 = mul-zero d in omega (arith, none);
+          until = λ d port. let none : d * 0 ≡ 0 = mul-zero d in omega (arith, none);
+          slack = omega arith;
+          step = omega arith;
+        });
+      }))
 
 -- ---- directions
 
@@ -85,11 +107,12 @@ same_direction FromB FromA same = sym same
 
 -- ---- the state
 
-module _ (p : Pace) (m start wait step : ℕ) (w : WorldState) (sound : IsSound w) (legible : IsLegible w)
-    (known : IsKnown p w) (quiet : HaveQuietLinks p.params w) (old : w.last_change + largest_interval p ≤ start)
+module _ (p : Pace) (m start : ℕ) (times : SettlingTimes) (w : WorldState) (sound : IsSound w) (legible : IsLegible w)
+    (known : IsKnown p w) (quiet : HaveQuietLinks p.params w)
+    (facts_are : Facts (setting (network_with p m start times w)) (view w))
     (capable : AreCapableFrom start w) where
   abbrev n : Network
-  n = network_with p m start wait step w
+  n = network_with p m start times w
 
   -- ---- systems
 
@@ -137,6 +160,9 @@ module _ (p : Pace) (m start wait step : ℕ) (w : WorldState) (sound : IsSound 
           (within.least, subst (λ log. q.announce ≤ w.time + interval_of log) log_seen within.most);
       capable = λ begun linked.
           seen_on keep h ((capable begun place station here live i h q stands there).capable linked);
+      bare = λ begun none r holds.
+          let off = ap (held_view keep) ((capable begun place station here live i h q stands there).unlinked none) in
+          absurd (let same = sym off ∙ holds in cc);
       unlinked = λ begun none.
           ap (held_view keep) ((capable begun place station here live i h q stands there).unlinked none);
       long = λ r from holds joins source named. stays r from holds joins named;
@@ -213,25 +239,11 @@ module _ (p : Pace) (m start wait step : ℕ) (w : WorldState) (sound : IsSound 
       subst (λ (x : SeenFrame). w.time ≤ x.due) (sym at.is)
       (frames_not_late w sound at.link at.direction at.channel at.frame at.here at.among)
 
-  -- from the start a frame on a link of the snapshot is due within the greatest delay
-  due_soon : (j : ℕ) (l : Lane) (f : SeenFrame) → slice_get (lanes_view w.net.channels) j ≡ Some l → In f l.frames
-      → start ≤ w.time → Joins (snapshot_of w) l.from l.to → f.due ≤ w.time + n.most
-  due_soon j l f there member begun joins =
-      let at = frame_from w j l f there member in
-      let way = way_of w l.from l.to joins in
-      let one = one_way w sound legible way.link at.link way.direction at.direction way.channel at.channel way.here
-      at.here (way.from ∙ ap (λ (z : Lane). z.from) at.lane_is) in
-      let short = subst (λ (c : Channel). c.bounds.max ≤ n.most) one.same_channel
-      (delay_of_used (live_systems w.stations) w.net.channels way.link way.channel way.here way.used) in
-      let passed : w.last_change + largest_interval p ≤ w.time = omega arith in
-      let soon = (frames_fresh p w sound known passed at.link at.direction at.channel at.frame at.here at.among).most in
-      subst (λ (x : SeenFrame). x.due ≤ w.time + n.most) (sym at.is) (omega arith)
-
   -- ---- the whole state
 
   pub calm : Calm n (view w)
   calm = record {
-    facts = facts p m start w sound known;
+    facts = facts_are;
     stations = λ i seen there lives.
         let at = station_from w.stations i seen there in
         let live = ap (λ (x : SeenStation). x.live) (sym at.is) ∙ lives in
@@ -244,7 +256,6 @@ module _ (p : Pace) (m start wait step : ℕ) (w : WorldState) (sound : IsSound 
     lanes = λ from to joins. lane_of_link from to (way_of w from to joins);
     apart = lead_apart;
     left = not_late;
-    due = due_soon;
   }
 
 -- where there is no syncReceiptTimeout

@@ -14,13 +14,14 @@ use Rattle.gptp_plan.specs.declared.change.Act.TheVariants.{Deliver, Expire, Cha
 use Rattle.gptp_plan.specs.declared.change.Change.{Change}
 use Rattle.gptp_plan.specs.declared.change.Timed.{Timed}
 use Rattle.gptp_acts.specs.declared.done.Done.{Done}
+use Rattle.gptp_acts.specs.declared.station.Station.{Station}
 use Rattle.gptp_acts.specs.Acts.{Acts, at as at_time}
 use Rattle.gptp_plan.specs.Allowed.{IsFitAct}
 use Rattle.gptp_acts.specs.Course.{WasDone}
 use Rattle.gptp_plan.specs.Params.{KeepPace}
 use Rattle.gptp_acts.specs.Pending.{NothingBefore}
 use Rattle.gptp_acts.specs.Prompt.{IsPromptIn}
-use Rattle.gptp_acts.specs.Sound.{IsSound}
+use Rattle.gptp_acts.specs.Sound.{HaveOwnClocks, IsSound}
 use Rattle.gptp_acts.specs.World.{Channel, WorldState, receiver, sender}
 use Rattle.gptp_acts.proofs.BareLemmas.{bare}
 use Rattle.gptp_lists.proofs.MappedLemmas.{alike}
@@ -38,6 +39,7 @@ use Rattle.gptp_kept.proofs.FoundLemmas.{place_is}
 use Rattle.gptp_kept.proofs.CalmKeptLemmas.{KeepsNetwork, acts_keep}
 use Rattle.gptp_kept.proofs.SystemLemmas.{live_from, live_there}
 use Rattle.gptp_kept.specs.Holds.{IsWorld}
+use Rattle.gptp_kept.specs.Known.{AreSet}
 use Rattle.gptp_kept.proofs.SettledWorldLemmas.{done_stays, ready_stays, still_acts_stay}
 use Rattle.gptp_kept.specs.Watch.{Watches}
 use Rattle.gptp_kept.proofs.BeginLemmas.{changes_begin}
@@ -45,16 +47,25 @@ use Rattle.gptp_kept.proofs.BeginLemmas.{changes_begin}
 -- ---- where all stood
 
 -- its ends
-same_sender : (direction : Direction) (x y : Channel) → bare x ≡ bare y → sender direction x ≡ sender direction y
+pub same_sender : (direction : Direction) (x y : Channel) → bare x ≡ bare y → sender direction x ≡ sender direction y
 same_sender FromA x y same = ap (λ (c : Channel). c.a) same
 same_sender FromB x y same = ap (λ (c : Channel). c.b) same
 
-same_receiver : (direction : Direction) (x y : Channel) → bare x ≡ bare y
+pub same_receiver : (direction : Direction) (x y : Channel) → bare x ≡ bare y
     → receiver direction x ≡ receiver direction y
 same_receiver FromA x y same = ap (λ (c : Channel). c.b) same
 same_receiver FromB x y same = ap (λ (c : Channel). c.a) same
 
-module _ (p : Pace) (w w' : WorldState) (is : IsWorld p w) (is' : IsWorld p w') (k : KeepsNetwork w w') where
+-- all stations start with the parameters of their network
+abbrev pub HaveParams : Pace → WorldState → Type 0
+HaveParams p w = (place : ℕ) (station : Station) → slice_get w.stations place ≡ Some station
+    → station.setup.params ≡ p.params
+
+pub known_params : (p : Pace) (w : WorldState) → AreSet p w → HaveParams p w
+known_params p w set place station there = (set place station there).starts.params
+
+module _ (p : Pace) (w w' : WorldState) (clocks : HaveOwnClocks w) (set : HaveParams p w) (clocks' : HaveOwnClocks w')
+    (set' : HaveParams p w') (k : KeepsNetwork w w') where
   -- a link stood there, with the same ends and bounds
   link_stood : (link : ℕ) (channel : Channel) → slice_get w'.net.channels link ≡ Some channel
       → (old : Channel) × (slice_get w.net.channels link ≡ Some old) × (bare old ≡ bare channel)
@@ -68,10 +79,10 @@ module _ (p : Pace) (w w' : WorldState) (is : IsWorld p w) (is' : IsWorld p w') 
       let old = live_from w.stations (standing at.station) member in
       let same = ap (λ (s : System). s.clock) (sym old.is) in
       let same_place : old.place ≡ place =
-      place_is w is.sound.wired.clocks old.place old.station old.here
+      place_is w clocks old.place old.station old.here
       ∙ ap (place_of w.stations) same
       ∙ sym (k.places (clock at.station.system))
-      ∙ sym (place_is w' is'.sound.wired.clocks place at.station at.here) in
+      ∙ sym (place_is w' clocks' place at.station at.here) in
       record {
         station = old.station;
         here = subst (λ i. slice_get w.stations i ≡ Some old.station) same_place old.here;
@@ -83,12 +94,12 @@ module _ (p : Pace) (w w' : WorldState) (is : IsWorld p w) (is' : IsWorld p w') 
   same_params : (place number was : ℕ) (now : IsLiveAt place number w') (then : IsLiveAt place was w)
       → then.station.setup.params ≡ now.station.setup.params
   same_params place number was now then =
-      (is.known.set place then.station then.here).starts.params
-      ∙ sym (is'.known.set place now.station now.here).starts.params
+      set place then.station then.here
+      ∙ sym (set' place now.station now.here)
 
   -- so a good link in use was one
-  stood : (at : LinkPlace) → StandsAt at w' → StandsAt at w
-  stood at stands =
+  pub stood_among : (at : LinkPlace) → StandsAt at w' → StandsAt at w
+  stood_among at stands =
       let (old, here, same) = link_stood at.link stands.channel stands.here in
       let begins = ap (λ (q : PortId). q.clock) (same_sender at.direction old stands.channel same) in
       let ends = ap (λ (q : PortId). q.clock) (same_receiver at.direction old stands.channel same) in
@@ -108,10 +119,16 @@ module _ (p : Pace) (w w' : WorldState) (is : IsWorld p w) (is' : IsWorld p w') 
         good = rw (bounds, answers, asks) stands.good;
       }
 
+pub stood : (p : Pace) (w w' : WorldState) → IsWorld p w → IsWorld p w' → KeepsNetwork w w' → (at : LinkPlace)
+    → StandsAt at w' → StandsAt at w
+stood p w w' is is' =
+    stood_among p w w' is.sound.wired.clocks (known_params p w is.known.set) is'.sound.wired.clocks
+    (known_params p w' is'.known.set)
+
 -- ---- the claim is kept
 
 -- such an act is no change
-no_change : (act : Act) → IsNoChange act → (change : Change) → act ≢ Changing change
+pub no_change : (act : Act) → IsNoChange act → (change : Change) → act ≢ Changing change
 no_change (Deliver link direction) none change same = absurd cc
 no_change (Expire number timer) none change same = absurd cc
 no_change (Changing other) none change same = absurd none

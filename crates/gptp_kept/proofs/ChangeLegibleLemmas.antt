@@ -22,7 +22,7 @@ use Rattle.gptp_kept.proofs.AnsweringLemmas.{CanAnswer, IsAnswering, calls_if_li
 -- ---- changes of a system
 
 -- one system becomes another
-station_legible : (place : ℕ) (old new : Station) (w : WorldState) → slice_get w.stations place ≡ Some old
+pub station_legible : (place : ℕ) (old new : Station) (w : WorldState) → slice_get w.stations place ≡ Some old
     → StationFits new → IsLegible w → IsLegible (with_station place new w)
 station_legible place old new w here fits legible = record {
   stations = get-set_all StationFits w.stations place old new here fits legible.stations;
@@ -77,7 +77,7 @@ prioritized_answering value place station w draws w' octet here is k =
 -- ---- changes of a link
 
 -- one link becomes another
-link_legible : (place : ℕ) (old new : Channel) (w : WorldState) (net : Net)
+pub link_legible : (place : ℕ) (old new : Channel) (w : WorldState) (net : Net)
     → net.channels ≡ slice_set w.net.channels place new → slice_get w.net.channels place ≡ Some old → ChannelFits new
     → IsLegible w → IsLegible (record w { net = net })
 link_legible place old new w net is here fits legible = record {
@@ -92,7 +92,7 @@ lost_fits channel fits = record { ends = fits.ends; frames = by }
     by FromA f member = absurd member
     by FromB f member = absurd member
 
-up_fits : (channel : Channel) → ChannelFits channel → ChannelFits (record channel { up = true })
+pub up_fits : (channel : Channel) → ChannelFits channel → ChannelFits (record channel { up = true })
 up_fits channel fits = record { ends = fits.ends; frames = by }
   where
     by : (direction : Direction) (f : Frame) → In f (queue direction (record channel { up = true }))
@@ -100,7 +100,7 @@ up_fits channel fits = record { ends = fits.ends; frames = by }
     by FromA = fits.frames FromA
     by FromB = fits.frames FromB
 
-bounds_fits : (bounds : Bounds) (channel : Channel) → ChannelFits channel
+pub bounds_fits : (bounds : Bounds) (channel : Channel) → ChannelFits channel
     → ChannelFits (record channel { bounds = bounds })
 bounds_fits bounds channel fits = record { ends = fits.ends; frames = by }
   where

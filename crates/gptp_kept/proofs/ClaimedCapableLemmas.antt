@@ -39,7 +39,7 @@ leads_to stations FromA channel between = between.b
 leads_to stations FromB channel between = between.a
 
 -- a live system has its clock
-clock_has : (stations : List Station) (place : ℕ) (station : Station) (number : ℕ)
+pub clock_has : (stations : List Station) (place : ℕ) (station : Station) (number : ℕ)
     → slice_get stations place ≡ Some station → station.live ≡ true → clock station.system ≡ number
     → has_clock (live_systems stations) number ≡ true
 clock_has stations place station number here live named =
@@ -48,7 +48,7 @@ clock_has stations place station number here live named =
     (In-map clock_in (standing station) (live_systems stations) (live_there stations place station here live)))
 
 -- a link that is up between two live systems is used
-used_if : (stations : List Station) (direction : Direction) (channel : Channel) → channel.up ≡ true
+pub used_if : (stations : List Station) (direction : Direction) (channel : Channel) → channel.up ≡ true
     → has_clock (live_systems stations) (sender direction channel).clock ≡ true
     → has_clock (live_systems stations) (receiver direction channel).clock ≡ true
     → is_used (live_systems stations) channel ≡ true
@@ -57,14 +57,16 @@ used_if stations FromB channel up from to = rw (up, from, to) refl
 
 -- ---- one port
 
-module _ (p : Pace) (w : WorldState) (pace : KeepPace p) (is : IsWorld p w) (silent : AreSilent p w)
-    (late : start_of p w ≤ w.time) (place : ℕ) (station : Station) (here : slice_get w.stations place ≡ Some station)
+module _ (p : Pace) (w : WorldState) (is : IsWorld p w)
+    (incapable : (at : LinkPlace) (s : StandsUnanswered at w) (q : Port)
+    → number s.asking.station.system.ports (sender at.direction s.channel).port ≡ Some q → is_capable q.peer ≡ false)
+    (place : ℕ) (station : Station) (here : slice_get w.stations place ≡ Some station)
     (live : station.live ≡ true) (i : ℕ) (q : Port) (there : slice_get station.system.ports i ≡ Some q) where
   abbrev itself : PortId
   itself = own station.system (suc i)
 
   -- a link of the snapshot is at the port, or it isn't capable
-  abbrev LinkedOrOff : Type 0
+  abbrev pub LinkedOrOff : Type 0
   LinkedOrOff = IsLinked (snapshot_of w) (identity_of itself) ⊎ (is_capable q.peer ≡ false)
 
   module _ (begins : BeginsLink w.net.channels itself) where
@@ -92,7 +94,7 @@ module _ (p : Pace) (w : WorldState) (pace : KeepPace p) (is : IsWorld p w) (sil
     -- one that has failed: nothing has answered for long enough
     by_failed : other.station.live ≡ false → LinkedOrOff
     by_failed failed =
-        inr (silent_incapable p w is.sound is.known pace.requests silent late at stands q
+        inr (incapable at stands q
         (ap (λ (x : PortId). number station.system.ports x.port) begins.begins ∙ there))
       where
         at : LinkPlace
@@ -125,7 +127,7 @@ module _ (p : Pace) (w : WorldState) (pace : KeepPace p) (is : IsWorld p w) (sil
         by false failed = by_failed failed
 
   -- where its Pdelay timer doesn't run it measured nothing
-  linked_or_off : LinkedOrOff
+  pub linked_or_off : LinkedOrOff
   linked_or_off = by q.pdelay refl
     where
       by : (due : Option ℕ) → q.pdelay ≡ due → LinkedOrOff
@@ -165,7 +167,10 @@ pub ports_settled : (p : Pace) (w : WorldState) → KeepPace p → IsWorld p w �
 ports_settled p w pace is watched silent quiet late place station here live i h q stands there =
     port_settled (snapshot_of w) (own station.system (suc i)) h q
     ((is.sound.on_time.stations place station here).steady.shown.each i h q stands there)
-    (λ linked. (used linked).capable) (linked_or_off p w pace is silent late place station here live i q there)
+    (λ linked. (used linked).capable)
+    (linked_or_off p w is (silent_incapable p w is.sound is.known pace.requests silent late) place station here
+    live i q
+    there)
   where
     used : IsLinked (snapshot_of w) (identity_of (own station.system (suc i))) → IsCapablePort h q
     used = used_capable p w pace is quiet watched late place station here live i h q stands there

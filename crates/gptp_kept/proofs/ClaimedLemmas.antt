@@ -37,10 +37,10 @@ use Rattle.gptp_kept.specs.Settled.{Settled, role_of}
 use Rattle.gptp_kept.specs.Shown.{distance_span}
 use Rattle.gptp_kept.specs.Traces.{turn_of}
 use Rattle.gptp_kept.specs.View.{station_view}
-use Rattle.gptp_kept.proofs.SettledLemmas.{follows_by_distance, roles_by_distance, settles, settles_by_paths}
-use Rattle.gptp_kept.proofs.HoldsLemmas.{paths_bound}
+use Rattle.gptp_kept.proofs.SettledLemmas.{follows_by_distance, roles_by_distance, settles, settles_at_once, settles_by_paths}
+use Rattle.gptp_kept.proofs.HoldsLemmas.{paths_bound, turns_less}
 use Rattle.gptp_kept.proofs.WaitLemmas.{in_time_less, more_less}
-use Rattle.gptp_kept.specs.CalmFor.{ArePortsSettled, IsCalmFor, capable_span, span_over}
+use Rattle.gptp_kept.specs.CalmFor.{ArePortsSettled, IsCalmFor, at_once_span, capable_span, span_over}
 use Rattle.gptp_kept.specs.Claimed.{Claimed, IsClaimed}
 use Rattle.gptp_kept.proofs.ClaimedCapableLemmas.{ports_settled}
 use Rattle.gptp_kept.proofs.ClaimLemmas.{claim_begins, claim_capable, claim_kept, claim_later}
@@ -135,15 +135,16 @@ span_within p m w late r =
     mul-le-mul_left m r.more in
     omega (arith, late, steps)
 
-since_within : (p : Pace) (m : ℕ) (w : WorldState) (d : ℕ)
+since_within : (p : Pace) (m : ℕ) (w : WorldState) (d : ℕ) → IsWorld p w
     → w.last_change + distance_span m d p (sync_paths_of w) (length (snapshot_of w).systems) ≤ w.time
     → (r : IsReach p m w)
     → since (settling_network p r.reach w) d ≤ w.time
-since_within p m w d late r =
+since_within p m w d is late r =
+    let shorter = turns_less p w is.known r.reach in
     let turns : r.reach * turn_of p ≤ m * turn_of p = mul-le-mul_right (turn_of p) r.within in
     let steps : d * step_more p (paths_with r.reach w) ≤ d * step_more p (sync_paths_of w) =
     mul-le-mul_left d r.more in
-    omega (arith, late, turns, steps)
+    omega (arith, late, turns, steps, shorter)
 
 -- and where no path of the snapshot has more than m systems, for the settling span of m
 pub settled_by_paths : (m : ℕ) (w : WorldState) → Claimed w → BoundsPaths (snapshot_of w) m
@@ -153,6 +154,15 @@ settled_by_paths m w claimed bounded calm place station here =
     let r = reach_of calm.pace m w is.world bounded calm.quiet in
     settles_by_paths calm.pace w is.world (claim_capable calm.pace w is) is.settling r.reach r.bounded r.quiet m
     r.within (span_within calm.pace m w calm.late r) place station here
+
+-- and sooner where nothing lapses
+pub settled_at_once : (m : ℕ) (w : WorldState) → Claimed w → BoundsPaths (snapshot_of w) m
+    → (calm : IsCalmFor (at_once_span m) w) → NothingLapses calm.pace.params → Settled w
+settled_at_once m w claimed bounded calm off place station here =
+    let is = set_alike w claimed calm.pace calm.set place station here in
+    let late = calm.late in
+    settles_at_once calm.pace w is.world (claim_capable calm.pace w is) is.settling m bounded
+    (record { links = calm.quiet.links; lapses = inl off }) off (omega (arith, late)) place station here
 
 -- ---- by distance
 
@@ -165,7 +175,7 @@ module _ (m d : ℕ) (w : WorldState) (claimed : Claimed w) (bounded : BoundsPat
       let is = set_alike w claimed calm.pace calm.set place station here in
       let r = reach_of calm.pace m w is.world bounded calm.quiet in
       follows_by_distance calm.pace w is.world (claim_capable calm.pace w is) is.settling r.reach r.bounded r.quiet
-      place station here live d distance near (since_within calm.pace m w d calm.late r)
+      place station here live d distance near (since_within calm.pace m w d is.world calm.late r)
 
   pub distance_plays : IsCalmFor (distance_span m (suc d)) w → (port : ℕ) → IsPortOf station.system port
       → IsSettledRole (snapshot_of w) (port_of (clock station.system) port) (role_of (role_at station.system port))
@@ -173,7 +183,7 @@ module _ (m d : ℕ) (w : WorldState) (claimed : Claimed w) (bounded : BoundsPat
       let is = set_alike w claimed calm.pace calm.set place station here in
       let r = reach_of calm.pace m w is.world bounded calm.quiet in
       roles_by_distance calm.pace w is.world (claim_capable calm.pace w is) is.settling r.reach r.bounded r.quiet
-      place station here live d distance near (since_within calm.pace m w (suc d) calm.late r)
+      place station here live d distance near (since_within calm.pace m w (suc d) is.world calm.late r)
 
 -- ---- by neighbours
 

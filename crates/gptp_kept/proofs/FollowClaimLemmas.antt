@@ -109,7 +109,7 @@ carries_later p w time later first claimed before m settled calm late shown =
 -- ---- from act to act
 
 -- an act that changes nothing happens at the time of the world
-acts_time : (act : Act) (w : WorldState) (draws : List Draw) (done : Done) (w' : WorldState) → IsNoChange act
+pub acts_time : (act : Act) (w : WorldState) (draws : List Draw) (done : Done) (w' : WorldState) → IsNoChange act
     → Acts act w draws done w' → w'.time ≡ w.time
 acts_time (Deliver link direction) w draws done w' none k =
     by k.answer k.delivers.hears

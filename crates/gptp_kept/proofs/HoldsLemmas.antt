@@ -1,5 +1,5 @@
 -- The claim begins by itself, and is kept.
-use Rattle.std.proofs.Common.{◌≡◌, ◌<◌, ◌≤◌, ◌+◌, ℕ, List, Option, length, refl, sym, ap, subst, ◌∙◌, inl, inr, arith}
+use Rattle.std.proofs.Common.{◌≡◌, ◌<◌, ◌≤◌, ◌+◌, ◌*◌, ℕ, List, Option, length, refl, sym, ap, subst, ◌∙◌, inl, inr, arith}
 use Rattle.std.specs.List.{range_with_len}
 use Rattle.gptp_graph.specs.PathBound.{BoundsPaths, path_bound}
 use Rattle.gptp_graph.specs.Snapshot.{Snapshot}
@@ -8,7 +8,7 @@ use Rattle.gptp_graph.proofs.PathLemmas.{path_bounded}
 use Rattle.gptp_links.specs.declared.bounds.Bounds.{Bounds}
 use Rattle.gptp_links.specs.Fate.{Draw}
 use Rattle.gptp_setup.specs.Intervals.{IsLog}
-use Rattle.gptp_setup.specs.Pace.{Pace, lapse_span, largest_interval}
+use Rattle.gptp_setup.specs.Pace.{Pace, lapse_span, largest_interval, longest_span}
 use Rattle.gptp_setup.proofs.IntervalLemmas.{interval_positive}
 use Rattle.gptp_plan.specs.Calm.{NothingLapses as IsOff, SyncsComeInTime}
 use Rattle.gptp_plan.specs.SyncWait.{sync_wait}
@@ -30,23 +30,30 @@ use Rattle.gptp_settling.specs.Acts.{Steps, Waits}
 use Rattle.gptp_settling.specs.Calm.{Calm}
 use Rattle.gptp_settling.specs.Lapsing.{NothingLapses}
 use Rattle.gptp_settling.specs.Levels.{Invariant}
-use Rattle.gptp_settling.specs.Network.{IsNetwork, Network}
+use Rattle.gptp_settling.specs.EarlyPorts.{ClaimsWhenReady}
+use Rattle.gptp_settling.specs.CleanInvariant.{TracesAreClean}
+use Rattle.gptp_settling.specs.Network.{BecomesClean, IsNetwork, Network, setting}
 use Rattle.gptp_settling.specs.SyncActs.{SyncSteps}
 use Rattle.gptp_settling.specs.Syncs.{HaveSyncTimers, IsPrompt}
-use Rattle.gptp_settling.proofs.LevelLemmas.{invariant_begins, invariant_kept, whole_from}
+use Rattle.gptp_settling.proofs.CleanLemmas.{clean_begins, clean_kept}
+use Rattle.gptp_settling.proofs.LevelLemmas.{clean_sound, invariant_begins, invariant_kept, no_early_ports}
 use Rattle.gptp_settling.proofs.SyncActLemmas.{expected_kept}
-use Rattle.gptp_settling.proofs.SyncLemmas.{expected_begins, nothing_lapses as lapses_in_time}
-use Rattle.gptp_settling.proofs.SyncRunLemmas.{prompt}
+use Rattle.gptp_settling.proofs.SyncLemmas.{expected_begins}
+use Rattle.gptp_settling.proofs.SyncRunLemmas.{in_time as lapses_in_time, prompt}
+use Rattle.std.proofs.Math.Nat.{mul-le-mul_left}
+use Rattle.gptp_kept.specs.Known.{IsKnown}
+use Rattle.gptp_kept.proofs.DelayLemmas.{delay_short}
 use Rattle.gptp_kept.specs.LegibleLaws.{SetsAnOctet}
 use Rattle.gptp_kept.specs.SeenLaws.{IsNoChange}
 use Rattle.gptp_kept.specs.View.{says, says_sync, view}
 use Rattle.gptp_kept.proofs.SeenActLemmas.{acts_seen}
-use Rattle.gptp_kept.specs.Calm.{HaveQuietLinks, IsQuietWith, network_of, paths_with, step_with, wait_with}
-use Rattle.gptp_kept.proofs.CalmLemmas.{calm, network, none_expected, nothing_lapses}
-use Rattle.gptp_kept.proofs.CalmKeptLemmas.{KeepsNetwork, acts_keep, earlier_quiet, same_network, stays_quiet_with}
+use Rattle.gptp_kept.specs.Calm.{HaveQuietLinks, IsQuietWith, delay_in, SettlingTimes, network_with, at_once, in_turn, network_at_once, network_of, paths_with}
+use Rattle.gptp_kept.proofs.CalmFactLemmas.{facts}
+use Rattle.gptp_kept.proofs.CalmLemmas.{calm, network, network_quick, none_expected, nothing_lapses}
+use Rattle.gptp_kept.proofs.CalmKeptLemmas.{KeepsNetwork, acts_keep, earlier_quiet, same_at_once, same_network, stays_quiet_with}
 use Rattle.gptp_kept.specs.Standing.{snapshot_of}
 use Rattle.gptp_kept.proofs.StandsLemmas.{stands_well}
-use Rattle.gptp_kept.specs.Holds.{BecomeCapable, Holds, IsSettling, IsWorld, settling_network, start_of}
+use Rattle.gptp_kept.specs.Holds.{BecomeCapable, Holds, IsSettling, IsWorld, quick_network, settling_network, start_of}
 use Rattle.gptp_kept.proofs.OutlineLemmas.{change_is_last, starts_are_last}
 use Rattle.gptp_kept.proofs.SettledWorldLemmas.{done_stays, ready_stays, still_acts_stay}
 use Rattle.gptp_kept.proofs.SyncActLemmas.{acts_tell, timers_seen}
@@ -54,10 +61,17 @@ use Rattle.gptp_kept.proofs.WaitLemmas.{has_timeout, wait_is}
 
 -- ---- one world
 
+-- so is that at which it settles at once
+pub is_quick_network : (p : Pace) (m : ℕ) (w : WorldState) → IsWorld p w → BoundsPaths (snapshot_of w) m
+    → IsNetwork (quick_network p m w)
+is_quick_network p m w is bounded =
+    network_quick p m (start_of p w) w is.sound is.between is.legible is.known bounded (omega arith)
+
 -- its network is one of the machine
 pub is_network : (p : Pace) (m : ℕ) (w : WorldState) → IsWorld p w → BoundsPaths (snapshot_of w) m
     → IsNetwork (settling_network p m w)
-is_network p m w is = network p m (start_of p w) w is.sound is.between is.legible is.known
+is_network p m w is bounded =
+    network p m (start_of p w) w is.sound is.between is.legible is.known bounded (omega arith)
 
 -- of which no path has more systems than live
 pub systems_bound : (p : Pace) (w : WorldState) → IsWorld p w
@@ -72,24 +86,45 @@ paths_bound p w is = paths_within (snapshot_of w) (stands_well w is.sound is.bet
 pub paths_fewer : (g : Snapshot) → path_bound g ≤ length g.systems
 paths_fewer g = omega arith
 
+pub is_quick_calm : (p : Pace) (m : ℕ) (w : WorldState) → IsWorld p w → HaveQuietLinks p.params w → BecomeCapable p w
+    → Calm (quick_network p m w) (view w)
+is_quick_calm p m w is quiet capable =
+    calm p m (start_of p w) (at_once p w) w is.sound is.legible is.known quiet
+    (facts p m (start_of p w) w is.sound is.legible is.known) (capable quiet)
+
 -- and one with quiet links is a calm state
 pub is_calm : (p : Pace) (m : ℕ) (w : WorldState) → IsWorld p w → HaveQuietLinks p.params w → BecomeCapable p w
     → Calm (settling_network p m w) (view w)
 is_calm p m w is quiet capable =
-    let passed : w.last_change + largest_interval p ≤ start_of p w = omega arith in
-    calm p m (start_of p w) (wait_with p.params (paths_with m w)) (step_with p (paths_with m w)) w is.sound is.legible
-    is.known quiet passed (capable quiet)
+    calm p m (start_of p w) (in_turn p (paths_with m w)) w is.sound is.legible
+    is.known quiet (facts p m (start_of p w) w is.sound is.legible is.known)
+    (capable quiet)
 
--- before the start nothing is claimed
-pub begins : (p : Pace) (w : WorldState) → IsWorld p w → w.time < start_of p w → Holds p w
+-- claims on traces begin later than the change, and what is held is sound from when it is wholly clean
+pub becomes_clean : (p : Pace) (m : ℕ) (w : WorldState) → BecomesClean (settling_network p m w)
+becomes_clean p m w = record { after = omega arith; begins = omega arith; late = omega arith }
+
+-- claims are made only once ports are capable
+pub claims_when_ready : (p : Pace) (m start : ℕ) (w : WorldState) (times : SettlingTimes)
+    → ClaimsWhenReady (network_with p m start times w)
+claims_when_ready p m start w times d from to joins = omega arith
+
+-- until the largest interval has passed since the last change nothing is claimed
+pub begins : (p : Pace) (w : WorldState) → IsWorld p w → w.time < w.last_change + largest_interval p → Holds p w
 begins p w is early m bounded quiet =
     let state = is_calm p m w is quiet.links (λ still begun. absurd (omega arith)) in
+    let before : w.time < (settling_network p m w).sound = omega arith in
     record {
-      invariant = invariant_begins says (settling_network p m w) (view w) state early;
-      expected = expected_begins says_sync (settling_network p m w) (view w) early;
+      traces = clean_begins says (setting (settling_network p m w)) (view w) state.facts
+          (λ j l f at flies late. let near =
+          state.facts.near j l f at flies in absurd (omega (arith, early, near, late)))
+          (omega arith);
+      invariant = invariant_begins says (settling_network p m w) (is_network p m w is bounded) (view w) before;
+      at_once = λ off. invariant_begins says (quick_network p m w) (is_quick_network p m w is bounded) (view w) before;
+      expected = expected_begins says_sync (settling_network p m w) (view w) before;
     }
 
--- nor where no time has passed since the last change
+-- so where no time has passed
 fresh_begins : (p : Pace) (w : WorldState) → IsLog p.largest → w.last_change ≡ w.time → IsWorld p w → Holds p w
 fresh_begins p w largest now is =
     let positive = interval_positive p.largest largest in begins p w is (omega arith)
@@ -105,19 +140,30 @@ first_begins answers n fate fate_after w network k =
     fresh_begins (pace_of n) w (largest_log n network)
     (starts_are_last (range_with_len 0 (length n.systems)) (initial n) k.draws w refl k.starts)
 
+-- a turn takes no longer than one with the largest interval in place of the greatest delay
+pub turns_less : (p : Pace) (w : WorldState) → IsKnown p w → (c : ℕ)
+    → c * (longest_span p + delay_in w) ≤ c * (longest_span p + largest_interval p)
+turns_less p w known c =
+    let short : delay_in w ≤ largest_interval p = delay_short p w known in mul-le-mul_left c (omega (arith, short))
+
 -- ---- from one world to the next
 
 -- a step of the machine keeps the claim, where the network and its links stay as they are
 module _ (p : Pace) (w w' : WorldState) (is : IsWorld p w) (is' : IsWorld p w') (capable : BecomeCapable p w)
     (capable' : BecomeCapable p w') (same : (m : ℕ) → settling_network p m w' ≡ settling_network p m w)
+    (same_quick : (m : ℕ) → quick_network p m w' ≡ quick_network p m w)
     (back : (m : ℕ) → IsQuietWith p.params (paths_with m w') w' → IsQuietWith p.params (paths_with m w) w)
     (step : Steps says (view w) (view w'))
     (told : (m : ℕ) → 0 < p.params.sync_timeout
     → SyncSteps says says_sync (settling_network p m w) (view w) (view w')) where
   module _ (m : ℕ) (bounded : BoundsPaths (snapshot_of w) m) (quiet : IsQuietWith p.params (paths_with m w) w)
-      (quiet' : HaveQuietLinks p.params w') (settling : IsSettling (settling_network p m w) (view w)) where
+      (quiet' : HaveQuietLinks p.params w')
+      (settling : IsSettling p (settling_network p m w) (quick_network p m w) (view w)) where
     abbrev n : Network
     n = settling_network p m w
+
+    abbrev quick : Network
+    quick = quick_network p m w
 
     net : IsNetwork n
     net = is_network p m w is bounded
@@ -130,36 +176,62 @@ module _ (p : Pace) (w w' : WorldState) (is : IsWorld p w) (is' : IsWorld p w') 
 
     timers_of : (x : WorldState) → IsWorld p x → HaveSyncTimers (settling_network p m x) (view x)
     timers_of x of =
-        timers_seen p m (start_of p x) (wait_with p.params (paths_with m x)) (step_with p (paths_with m x)) x of.sound
+        timers_seen p m (start_of p x) (in_turn p (paths_with m x)) x of.sound
         of.known
 
+    cleans : BecomesClean n
+    cleans = becomes_clean p m w
+
+    -- traces are as clean as they must be, so that what is held is sound once it is wholly clean
+    traces' : TracesAreClean says (setting n) (view w')
+    traces' = clean_kept says (setting n) cleans.begins (view w) (view w') before.facts after.facts step settling.traces
+
+    kept : NothingLapses n (view w) → Invariant says n (view w')
+    kept nothing =
+        invariant_kept says n net (view w) (view w') before after nothing
+        (no_early_ports says n (view w) (view w')
+        (claims_when_ready p m (start_of p w) w (in_turn p (paths_with m w)))) step
+        (clean_sound says n net (view w') after traces' cleans.late) settling.invariant
+
+    kept_at_once : IsOff p.params → Invariant says quick (view w')
+    kept_at_once off =
+        invariant_kept says quick (is_quick_network p m w is bounded) (view w) (view w')
+        (is_quick_calm p m w is quiet.links capable)
+        (subst (λ x. Calm x (view w')) (same_quick m) (is_quick_calm p m w' is' quiet' capable'))
+        (nothing_lapses p quick w is.known off)
+        (no_early_ports says quick (view w) (view w') (claims_when_ready p m (start_of p w) w (at_once p w))) step
+        (clean_sound says n net (view w') after traces' cleans.late)
+        (settling.at_once off)
+
     -- nothing lapses without a syncReceiptTimeout
-    settling_off : IsOff p.params → IsSettling n (view w')
+    settling_off : IsOff p.params → IsSettling p n quick (view w')
     settling_off off = record {
-      invariant = invariant_kept says n net (view w) (view w') before after (nothing_lapses p n w is.known off) step
-          settling.invariant;
+      traces = traces';
+      invariant = kept (nothing_lapses p n w is.known off);
+      at_once = kept_at_once;
       expected = none_expected p n w' is'.known off;
     }
 
     -- nor where Syncs come in time
-    settling_on : sync_wait p.params (paths_with m w) < lapse_span p.params → IsSettling n (view w')
+    settling_on : sync_wait p.params (paths_with m w) < lapse_span p.params → IsSettling p n quick (view w')
     settling_on short =
         let waits : n.sync_wait ≡ sync_wait p.params (paths_with m w) = wait_is p.params (paths_with m w) short in
-        let timely : IsPrompt n = prompt n (omega (arith, waits)) (omega (arith, waits, short)) in
+        let timely : IsPrompt n = prompt n (omega (arith, waits)) (omega (arith, waits, short)) (omega arith)
+        (λ d port. omega arith) in
         let timers = timers_of w is in
         let timers' = subst (λ x. HaveSyncTimers x (view w')) (same m) (timers_of w' is') in
         let nothing : NothingLapses n (view w) =
-        lapses_in_time says_sync n net (view w) before
-        (whole_from says n net (view w) before settling.invariant) timers timely settling.expected in
-        let invariant : Invariant says n (view w') =
-        invariant_kept says n net (view w) (view w') before after nothing step settling.invariant in
+        lapses_in_time says says_sync n net (view w) before settling.invariant timers timely settling.expected in
+        let invariant : Invariant says n (view w') = kept nothing in
         record {
+          traces = traces';
           invariant = invariant;
-          expected = expected_kept says says_sync n net (view w) (view w') before after timers timers'
+          at_once = kept_at_once;
+          expected = expected_kept says says_sync n net timely.bare (view w) (view w') before after timers timers'
               (told m (has_timeout p.params (paths_with m w) short)) settling.invariant invariant settling.expected;
         }
 
-    settling_after : SyncsComeInTime p.params (paths_with m w) → IsSettling n (view w')
+    settling_after : SyncsComeInTime p.params (paths_with m w) → IsSettling p n quick (view w')
     settling_after (inl off) = settling_off off
     settling_after (inr short) = settling_on short
 
@@ -168,11 +240,12 @@ module _ (p : Pace) (w w' : WorldState) (is : IsWorld p w) (is' : IsWorld p w') 
       let bounds : BoundsPaths (snapshot_of w) m =
       subst (λ (n : Network). BoundsPaths n.graph m) (same m) bounded in
       let was = back m quiet in
-      subst (λ n. IsSettling n (view w')) (sym (same m))
-      (settling_after m bounds was quiet.links (holds m bounds was) was.lapses)
+      subst (λ x. IsSettling p (settling_network p m w') x (view w')) (sym (same_quick m))
+      (subst (λ x. IsSettling p x (quick_network p m w) (view w')) (sym (same m))
+      (settling_after m bounds was quiet.links (holds m bounds was) was.lapses))
 
 -- what keeps a network is kept by the way back
-kept_back : (w w' : WorldState) → KeepsNetwork w w' → KeepsNetwork w' w
+pub kept_back : (w w' : WorldState) → KeepsNetwork w w' → KeepsNetwork w' w
 kept_back w w' k = record {
   systems = sym k.systems;
   places = λ number. sym (k.places number);
@@ -188,23 +261,31 @@ same_settling p w w' k m =
     ap (λ change. network_of p m (change + capability_span p) w') k.change
     ∙ same_network w w' k p m (start_of p w)
 
+same_quick_settling : (p : Pace) (w w' : WorldState) → KeepsNetwork w w' → (m : ℕ)
+    → quick_network p m w' ≡ quick_network p m w
+same_quick_settling p w w' k m =
+    ap (λ change. network_at_once p m (change + capability_span p) w') k.change
+    ∙ same_at_once w w' k p m (start_of p w)
+
 pub acts_hold : (p : Pace) (act : Act) (w : WorldState) (draws : List Draw) (done : Done) (w' : WorldState)
     → IsNoChange act → Acts act w draws done w' → IsWorld p w → BecomeCapable p w → BecomeCapable p w' → Holds p w
     → Holds p w'
 acts_hold p act w draws done w' none k is capable capable' =
     let keeps = acts_keep act w draws done w' none k in
     step_keeps p w w' is (still_acts_stay p act w draws done w' none k is) capable capable'
-    (same_settling p w w' keeps) (stays_quiet_with w' w (kept_back w w' keeps) p.params)
+    (same_settling p w w' keeps) (same_quick_settling p w w' keeps)
+    (stays_quiet_with w' w (kept_back w w' keeps) p.params)
     (inr (acts_seen act w draws done w' none is.sound is.legible k))
     (λ m on.
-    inr (acts_tell p m (start_of p w) (wait_with p.params (paths_with m w)) (step_with p (paths_with m w)) w is.sound
+    inr (acts_tell p m (start_of p w) (in_turn p (paths_with m w)) w is.sound
     is.legible is.known.set is.known.time on act draws done w' none k))
 
 pub later_holds : (p : Pace) (w : WorldState) (time : ℕ) → w.time ≤ time → IsWorld p w → IsWorld p (at time w)
     → BecomeCapable p w → BecomeCapable p (at time w) → Holds p w → Holds p (at time w)
 later_holds p w time later is is' capable capable' =
     let waits : Waits (view w) (view (at time w)) = record { time = time; later = later; is = refl } in
-    step_keeps p w (at time w) is is' capable capable' (λ m. refl) (λ m. earlier_quiet p.params m w time) (inl waits)
+    step_keeps p w (at time w) is is' capable capable' (λ m. refl) (λ m. refl) (λ m. earlier_quiet p.params m w time)
+    (inl waits)
     (λ m on. inl waits)
 
 -- so the claim is kept from act to act

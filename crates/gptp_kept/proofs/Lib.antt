@@ -58,6 +58,16 @@ pub mod SyncLaneLemmas
 pub mod SyncCallLemmas
 pub mod SyncActLemmas
 pub mod HoldsLemmas
+pub mod SoundCallLemmas
+pub mod SoundWorldLemmas
+pub mod StartFirstLemmas
+pub mod NewsWorldLemmas
+pub mod SilentElsewhereLemmas
+pub mod LinkUpNewsLemmas
+pub mod StartNewsLemmas
+pub mod NewsActLemmas
+pub mod NewsCourseLemmas
+pub mod RestSoundLemmas
 pub mod ParentLemmas
 pub mod SettledLemmas
 pub mod LinkLaneLemmas
@@ -78,6 +88,9 @@ pub mod LinkStandLemmas
 pub mod LinkFactLemmas
 pub mod ShortLemmas
 pub mod WatchLemmas
+pub mod ElsewhereLemmas
+pub mod FirstAtLemmas
+pub mod FirstUpLemmas
 pub mod UnansweredStandLemmas
 pub mod UnansweredLaneLemmas
 pub mod UnansweredCallLemmas

@@ -33,7 +33,7 @@ use Rattle.gptp_kept.proofs.SentLemmas.{asks_nothing, octets_of, replies_nothing
 -- ---- parts
 
 -- what happens at this port, or at another one
-at_own : (p n : ℕ) (f : Part → Part) (x x' : Part) → x' ≡ only_at p f n x
+pub at_own : (p n : ℕ) (f : Part → Part) (x x' : Part) → x' ≡ only_at p f n x
     → ((n ≡ p) × (x' ≡ f x)) ⊎ ((n ≢ p) × (x' ≡ x))
 at_own p n f x x' is = go (n == p) refl is
   where
@@ -196,11 +196,12 @@ module _ {at : LinkPlace} {place : ℕ} {input : Input} {w w' : WorldState} {l :
 
   -- what is sent to the port that answers asks nothing, unless the other's Pdelay timer expires
   pub out_mute : (at.asking ≡ place → input ≢ Expires (timers.Pdelay (sender at.direction l.channel).port))
-      → ((p : ℕ) → input ≢ PortUp p) → AreMute asks (map frame_view (news at.direction))
+      → (at.asking ≡ place → input ≢ PortUp (sender at.direction l.channel).port)
+      → AreMute asks (map frame_view (news at.direction))
   out_mute timer up = elim (same_place at.asking place) [
     | inl same ↦
         asks_nothing s s' w.time input sends step.sent (sender at.direction l.channel) (news at.direction)
-        (step.grows.said at.direction) (timer same) (up (sender at.direction l.channel).port)
+        (step.grows.said at.direction) (timer same) (up same)
     | inr apart ↦ none_mute asks (news at.direction) (asking_quiet apart)
   ]
 

@@ -40,7 +40,7 @@ calls_if_live_kept place input w draws w' timely given is (inl (answer, k)) =
 calls_if_live_kept place input w draws w' timely given is (inr (failed, none, same)) = subst IsKept (sym same) is
 
 -- a port stays one of its system
-among_stays : (w w' : WorldState) (port : PortId) → Stays w w' → IsPortAmong port w.stations
+pub among_stays : (w w' : WorldState) (port : PortId) → Stays w w' → IsPortAmong port w.stations
     → IsPortAmong port w'.stations
 among_stays w w' port stays among place station there named =
     let near = stays.stations place station there in
@@ -81,11 +81,11 @@ tells_kept input channel w draws w' of port_a port_b is k =
     (of.fits channel.b.port) first k.at_b
 
 -- the system at a place has these ports
-abbrev HasAll : ℕ → List ℕ → WorldState → Type 0
+abbrev pub HasAll : ℕ → List ℕ → WorldState → Type 0
 HasAll place ps w = (p : ℕ) → In p ps → (station : Station) → slice_get w.stations place ≡ Some station
     → IsPortOf station.system p
 
-all_stay : (place : ℕ) (ps : List ℕ) (w w' : WorldState) → Stays w w' → HasAll place ps w → HasAll place ps w'
+pub all_stay : (place : ℕ) (ps : List ℕ) (w w' : WorldState) → Stays w w' → HasAll place ps w → HasAll place ps w'
 all_stay place ps w w' stays has p member station there =
     let near = stays.stations place station there in
     let old = has p member near.old near.here in

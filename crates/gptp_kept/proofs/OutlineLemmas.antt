@@ -158,3 +158,8 @@ pub change_is_last : (change : Change) (w : WorldState) (draws : List Draw) (don
 change_is_last change w draws done w' (told, k) =
     let now : WorldState = record w { last_change = w.time } in
     at_once now w' (changes_outline change now draws w' k) refl
+
+pub change_time : (change : Change) (w : WorldState) (draws : List Draw) (done : Done) (w' : WorldState)
+    → Acts (Changing change) w draws done w' → w'.time ≡ w.time
+change_time change w draws done w' (told, k) =
+    ap (λ (o : Outline). o.time) (changes_outline change (record w { last_change = w.time }) draws w' k)

@@ -11,7 +11,7 @@ use Rattle.gptp_receipt.specs.Held.{received}
 use Rattle.gptp_system.specs.State.{SystemState, clock, parent}
 use Rattle.gptp_acts.specs.declared.station.Station.{Station}
 use Rattle.gptp_settling.specs.AtRest.{ChoosesItself, ChoosesPort}
-use Rattle.gptp_settling.specs.Clean.{CameWhole}
+use Rattle.gptp_settling.specs.Clean.{CameFits}
 use Rattle.gptp_settling.specs.Settled.{IsSlaveOf}
 use Rattle.gptp_settling.specs.Station.{Reception as SeenReception, HoldsAt}
 use Rattle.gptp_kept.specs.View.{identity_of, station_view}
@@ -29,11 +29,12 @@ module _ (g : Snapshot) (station : Station) (wf : IsWellFormed g) where
 
   -- what its slave port received came from the port at the other end of that link, which is the parent's
   follows_there : (i : ℕ) (seen : SeenReception) → HoldsAt (station_view station) i seen
-      → CameWhole g (clock s) (suc i) seen → s.slave ≡ Some (suc i) → (l : ParentLink) → IsParent g (clock s) l
+      → CameFits g (clock s) (suc i) seen → s.slave ≡ Some (suc i) → (l : ParentLink) → IsParent g (clock s) l
       → l.own_port ≡ suc i → option_map link_of (parent s) ≡ Some l
-  follows_there i seen holds came slave l follows own =
+  follows_there i seen holds fits slave l follows own =
       let at = held_from station.live s i seen holds in
       let joins = subst (λ n. Joins g (port_of (clock s) n) (port_of l.clock l.port)) own follows.nearer.joins in
+      let came = fits.over (port_of l.clock l.port, joins) in
       let back = Joins-sym g came.from (port_of (clock s) (suc i)) came.joins in
       let ends : identity_of at.reception.vector.source ≡ port_of l.clock l.port =
       ap (λ (r : SeenReception). r.said.source) (sym at.is) ∙ came.source
@@ -45,7 +46,7 @@ module _ (g : Snapshot) (station : Station) (wf : IsWellFormed g) where
   -- so the system follows its parent, where all that it holds came over its links
   pub parent_settled : (vector : List ℕ)
       → ChoosesItself (station_view station) vector ⊎ ChoosesPort (station_view station) vector
-      → ((i : ℕ) (r : SeenReception) → HoldsAt (station_view station) i r → CameWhole g (clock s) (suc i) r)
+      → ((i : ℕ) (r : SeenReception) → HoldsAt (station_view station) i r → CameFits g (clock s) (suc i) r)
       → IsSlaveOf g (clock s) s.slave → IsParentIfAny g (clock s) (option_map link_of (parent s))
   parent_settled vector (inl (own, none)) came slave =
       let shown : option_map link_of (parent s) ≡ None = rw none refl in

@@ -45,7 +45,7 @@ asked_now : (now period : ℕ) → asked_at period (Some (now + period)) ≡ now
 asked_now now period = omega arith
 
 -- what is seen of a port that asks, whatever it did before
-asking_seen : (now period : ℕ) (t1 : ℤ) (peer : PeerState) (x : Part)
+pub asking_seen : (now period : ℕ) (t1 : ℤ) (peer : PeerState) (x : Part)
     → asker_view period (record x { peer = requested t1 peer; pdelay = Some (now + period) })
     ≡ asks_now now peer.next t1 (asker_view period (record x { peer = peer }))
 asking_seen now period t1 peer x =

@@ -27,7 +27,7 @@ pub same_identity : (p q : PortId) → identity_of p ≡ identity_of q → p ≡
 same_identity p q e = λ i. record { clock = (e i).clock; port = (e i).port }
 
 -- a port has one link at most, and a link two ports: so no two lanes begin at one port
-lanes_apart : (w : WorldState) → AreApart w
+pub lanes_apart : (w : WorldState) → AreApart w
     → ((link : ℕ) (channel : Channel) → slice_get w.net.channels link ≡ Some channel → channel.a ≢ channel.b)
     → BeginApart (lanes_view w.net.channels)
 lanes_apart w apart ends i j l m at also same =

@@ -1,7 +1,8 @@
 -- A world of which the claim has held for long enough has settled.
-use Rattle.std.proofs.Common.{◌≡◌, ◌≢◌, ◌≤◌, ◌<◌, ◌+◌, ℕ, zero, suc, Bool, true, false, Option, Some, None, length, slice_get, refl, ap, arith, ℤ}
+use Rattle.std.proofs.Common.{◌≡◌, ◌≢◌, ◌≤◌, ◌<◌, ◌+◌, ◌*◌, ℕ, zero, suc, pred, Bool, true, false, Option, Some, None, length, slice_get, refl, ap, arith, ℤ}
 use Rattle.std.specs.Option.{option_map_or}
-use Rattle.std.specs.Prelude.{◌==◌}
+use Rattle.std.proofs.Math.Nat.{mul-le-mul_right}
+use Rattle.std.specs.Prelude.{◌==◌, max}
 use Rattle.std.proofs.lemmas.Bool.{eq-eqb, eqb-true}
 use Rattle.std.proofs.lemmas.Option.{none-some, same_Some}
 use Rattle.gptp_setup.specs.Pace.{Pace, largest_interval}
@@ -17,24 +18,24 @@ use Rattle.gptp_system.specs.Start.{role_at, role_by}
 use Rattle.gptp_system.specs.State.{SystemState, clock}
 use Rattle.gptp_system.specs.Steps.{IsPortOf}
 use Rattle.gptp_acts.specs.declared.station.Station.{Station}
+use Rattle.gptp_plan.specs.Calm.{NothingLapses}
 use Rattle.gptp_plan.specs.SettlingTime.{settling_span_with}
 use Rattle.gptp_plan.specs.SyncWait.{step_more}
 use Rattle.gptp_acts.specs.World.{WorldState}
 use Rattle.gptp_lists.proofs.PlaceLemmas.{member_there}
 use Rattle.gptp_settling.specs.Calm.{Calm}
-use Rattle.gptp_settling.specs.CleanLaws.{HeldIsWhole}
+use Rattle.gptp_settling.specs.Sound.{ReceivedFits}
 use Rattle.gptp_settling.specs.Levels.{Invariant}
-use Rattle.gptp_settling.specs.Network.{IsNetwork, Network, setting, settled_from, since}
+use Rattle.gptp_settling.specs.Network.{IsNetwork, Network, settled_from, since}
 use Rattle.gptp_settling.specs.Settled.{FollowsBest, HasSettledRoles, Plays}
-use Rattle.gptp_settling.proofs.CleanLemmas.{held_whole}
 use Rattle.gptp_settling.proofs.SettledLemmas.{follows_best, network_settles, settled_roles}
 use Rattle.gptp_kept.specs.View.{held_view, port_view, says, span_at, station_view, view}
 use Rattle.gptp_kept.proofs.PlaceLemmas.{port_there, station_there}
-use Rattle.gptp_kept.specs.Calm.{IsQuietWith, IsQuietWorld, network_with, paths_with, step_with, sync_paths_of, wait_with}
+use Rattle.gptp_kept.specs.Calm.{IsQuietWith, IsQuietWorld, SettlingTimes, network_with, paths_with, step_with, sync_paths_of, at_once, clean_from, delay_in, in_turn}
 use Rattle.gptp_kept.specs.Standing.{snapshot_of}
-use Rattle.gptp_kept.specs.Holds.{BecomeCapable, Holds, IsSettling, IsWorld, settling_network, start_of}
+use Rattle.gptp_kept.specs.Holds.{BecomeCapable, Holds, IsSettling, IsWorld, quick_network, settling_network, start_of}
 use Rattle.gptp_kept.specs.Settled.{Settled, role_of}
-use Rattle.gptp_kept.proofs.HoldsLemmas.{is_calm, is_network, paths_bound, paths_fewer}
+use Rattle.gptp_kept.proofs.HoldsLemmas.{is_calm, is_network, is_quick_calm, is_quick_network, paths_bound, paths_fewer, turns_less}
 use Rattle.gptp_kept.proofs.ParentLemmas.{parent_settled}
 use Rattle.gptp_kept.proofs.WaitLemmas.{spans_grow}
 
@@ -104,11 +105,11 @@ module _ (g : Snapshot) (station : Station) (shown : AreShown station.system)
 -- ---- the world
 
 -- for any wait for Syncs and time of a step
-module _ (p : Pace) (m start wait step : ℕ) (w : WorldState) (is : IsWorld p w)
-    (net : IsNetwork (network_with p m start wait step w)) (state : Calm (network_with p m start wait step w) (view w))
-    (invariant : Invariant says (network_with p m start wait step w) (view w)) where
+module _ (p : Pace) (m start : ℕ) (times : SettlingTimes) (w : WorldState) (is : IsWorld p w)
+    (net : IsNetwork (network_with p m start times w)) (state : Calm (network_with p m start times w) (view w))
+    (invariant : Invariant says (network_with p m start times w) (view w)) where
   abbrev n : Network
-  n = network_with p m start wait step w
+  n = network_with p m start times w
 
   -- ---- one live system
 
@@ -125,8 +126,9 @@ module _ (p : Pace) (m start wait step : ℕ) (w : WorldState) (is : IsWorld p w
     module _ (d : ℕ) (distance : IsDistance (snapshot_of w) (clock station.system) d) (near : d < 255) where
       -- it follows its best a step's time for each link after all that is held is wholly clean
       follows_so : since n d ≤ w.time → FollowsBest (snapshot_of w) (station_view station)
-      follows_so =
-          follows_best says n net (view w) state invariant place (station_view station) there live d distance near
+      follows_so late =
+          follows_best says n net (view w) state invariant place (station_view station) there live d distance near late
+          (omega (arith, late))
 
       -- a step's time later its ports have settled
       roles_so : since n (suc d) ≤ w.time → (port : ℕ) → IsPortOf station.system port
@@ -134,47 +136,41 @@ module _ (p : Pace) (m start wait step : ℕ) (w : WorldState) (is : IsWorld p w
       roles_so late =
           roles_are
           (settled_roles says n net (view w) state invariant place (station_view station) there live d distance near
-          late)
+          (omega (arith, late)) (λ u joined far lower. late) (omega (arith, late)))
 
   -- ---- all of them
 
   module _ (late : settled_from n ≤ w.time) where
     -- before that all that is held has come over the links of the snapshot
-    held_is_whole : HeldIsWhole (setting n) (view w)
-    held_is_whole =
-        held_whole says (setting n) m (view w) net.paths state.facts invariant.traces (omega (arith, late))
+    held_fits : ReceivedFits (snapshot_of w) (view w)
+    held_fits = invariant.sound (omega (arith, late))
 
     pub settles_so : Settled w
     settles_so place station here live near =
-        let (follows, roles) = network_settles says n (view w) place (station_view station)
+        let (has, follow, roles) = network_settles says n (view w) place (station_view station)
         net state invariant (there place station here live) live near late in
+        let follows = follow (omega (arith, late)) in
         let rest = (state.stations place (station_view station) (there place station here live) live).at_rest in
         record {
           root = follows.root;
           steps = follows.steps;
           slave = follows.slave;
           parent = parent_settled (snapshot_of w) station net.graph rest.vector rest.chosen
-              (λ i r. held_is_whole place (station_view station) i r (there place station here live) live)
+              (λ i r. held_fits place (station_view station) i r (there place station here live) live)
               follows.slave;
-          roles = roles_are place station here live roles;
+          roles = roles_are place station here live (roles (omega (arith, late)));
         }
 
 -- by a number of systems that bounds its paths
 module _ (p : Pace) (w : WorldState) (is : IsWorld p w) (capable : BecomeCapable p w) (holds : Holds p w) (m : ℕ)
     (bounded : BoundsPaths (snapshot_of w) m) (quiet : IsQuietWith p.params (paths_with m w) w) where
-  abbrev wait : ℕ
-  wait = wait_with p.params (paths_with m w)
-
-  abbrev step : ℕ
-  step = step_with p (paths_with m w)
-
   abbrev seen : Network
   seen = settling_network p m w
 
   state : Calm seen (view w)
   state = is_calm p m w is quiet.links capable
 
-  settling : IsSettling seen (view w)
+  settling : IsSettling p seen (quick_network p m w) (view w)
   settling = holds m bounded quiet
 
   module _ (place : ℕ) (station : Station) (here : slice_get w.stations place ≡ Some station)
@@ -183,14 +179,16 @@ module _ (p : Pace) (w : WorldState) (is : IsWorld p w) (capable : BecomeCapable
     -- a step's time for each link after all that is held is wholly clean
     pub follows_by_distance : since seen d ≤ w.time → FollowsBest (snapshot_of w) (station_view station)
     follows_by_distance =
-        follows_so p m (start_of p w) wait step w is (is_network p m w is bounded) state settling.invariant place
+        follows_so p m (start_of p w) (in_turn p (paths_with m w)) w is (is_network p m w is bounded) state
+        settling.invariant place
         station here live d distance near
 
     -- a step's time later its ports have settled
     pub roles_by_distance : since seen (suc d) ≤ w.time → (port : ℕ) → IsPortOf station.system port
         → IsSettledRole (snapshot_of w) (port_of (clock station.system) port) (role_of (role_at station.system port))
     roles_by_distance =
-        roles_so p m (start_of p w) wait step w is (is_network p m w is bounded) state settling.invariant place
+        roles_so p m (start_of p w) (in_turn p (paths_with m w)) w is (is_network p m w is bounded) state
+        settling.invariant place
         station here live d distance near
 
   -- the span of as many systems or more ends when all have settled
@@ -199,13 +197,27 @@ module _ (p : Pace) (w : WorldState) (is : IsWorld p w) (capable : BecomeCapable
   span_ends n more late =
       let grown = spans_grow (p.params.timeout + 3) (p.params.lost + 5) (largest_interval p) m n
       (step_more p (paths_with m w)) (step_more p (paths_with m w)) more (omega arith) in
-      omega (arith, late, grown)
+      let turns = turns_less p w is.known m in
+      let fewer = mul-le-mul_right (step_with p (paths_with m w)) (pred_less m) in
+      omega (arith, late, grown, turns, fewer)
+    where
+      pred_less : (a : ℕ) → pred a ≤ a
+      pred_less zero = omega arith
+      pred_less (suc a) = omega arith
 
   pub settles_by_paths : (n : ℕ) → m ≤ n → w.last_change + settling_span_with p (paths_with m w) n ≤ w.time
       → Settled w
   settles_by_paths n more late =
-      settles_so p m (start_of p w) wait step w is (is_network p m w is bounded) state settling.invariant
+      settles_so p m (start_of p w) (in_turn p (paths_with m w)) w is (is_network p m w is bounded) state
+      settling.invariant
       (span_ends n more late)
+
+  -- where nothing lapses, at once: once ports are capable and traces clean, an interval, and a delay for each step
+  pub settles_at_once : NothingLapses p.params
+      → max (clean_from p m w) (start_of p w) + largest_interval p + pred m * delay_in w ≤ w.time → Settled w
+  settles_at_once off late =
+      settles_so p m (start_of p w) (at_once p w) w is (is_quick_network p m w is bounded)
+      (is_quick_calm p m w is quiet.links capable) (settling.at_once off) (omega (arith, late))
 
 -- so it settles by its own paths and the number of live systems
 pub settles : (p : Pace) (w : WorldState) → IsWorld p w → IsQuietWorld p.params w → BecomeCapable p w → Holds p w

@@ -21,8 +21,8 @@ use Rattle.gptp_kept.specs.Standing.{snapshot_of}
 use Rattle.gptp_kept.specs.Settled.{IsSettledSystem, Settled, role_of}
 use Rattle.gptp_kept.specs.CalmFor.{IsCalmFor, IsPortSettled, capable_span}
 use Rattle.gptp_kept.specs.Claimed.{Claimed}
-use Rattle.gptp_kept.specs.Shown.{AreCapable, FollowsByDistance, FollowsByPaths, FollowsInTime, IsCapableInTime, IsEnabledInTime, IsSettledFor, PlaysByDistance, PlaysByPaths, PlaysInTime}
-use Rattle.gptp_kept.proofs.ClaimedLemmas.{claimed_capable, claimed_settled, distance_follows, distance_plays, settled_by_paths}
+use Rattle.gptp_kept.specs.Shown.{AreCapable, FollowsAtOnce, FollowsByDistance, FollowsByPaths, FollowsInTime, IsCapableInTime, IsEnabledInTime, IsSettledFor, PlaysAtOnce, PlaysByDistance, PlaysByPaths, PlaysInTime}
+use Rattle.gptp_kept.proofs.ClaimedLemmas.{claimed_capable, claimed_settled, distance_follows, distance_plays, settled_at_once, settled_by_paths}
 
 -- ---- capability
 
@@ -147,6 +147,17 @@ pub role_by_paths : (number port : ℕ) (w : WorldState) (role : Role) → Claim
     → AtSystem number w (HasRole port role) → PlaysByPaths number port w role
 role_by_paths number port w role claimed at m bounded calm near =
     settled_role number w (settled_by_paths m w claimed bounded calm) near port role at
+
+-- by that where nothing lapses
+pub choice_at_once : (number root steps : ℕ) (slave : Option ℕ) (w : WorldState) → Claimed w
+    → AtSystem number w (Follows root steps slave) → FollowsAtOnce number w root steps slave
+choice_at_once number root steps slave w claimed at m bounded calm nothing near =
+    settled_choice number w (settled_at_once m w claimed bounded calm nothing) near root steps slave at
+
+pub role_at_once : (number port : ℕ) (w : WorldState) (role : Role) → Claimed w → AtSystem number w (HasRole port role)
+    → PlaysAtOnce number port w role
+role_at_once number port w role claimed at m bounded calm nothing near =
+    settled_role number w (settled_at_once m w claimed bounded calm nothing) near port role at
 
 -- by the distance
 pub choice_by_distance : (number root steps : ℕ) (slave : Option ℕ) (w : WorldState) → Claimed w

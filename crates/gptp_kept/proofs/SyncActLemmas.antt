@@ -29,7 +29,7 @@ use Rattle.gptp_settling.specs.Frame.{Sync, SyncId}
 use Rattle.gptp_settling.specs.Network.{Network}
 use Rattle.gptp_settling.specs.Station.{State, Station as SeenStation}
 use Rattle.gptp_settling.specs.SyncActs.{FollowsOn, HearsSync, IsFollowed, SyncActs, SyncArrives, SyncDrops, SyncRuns, TimerStep}
-use Rattle.gptp_kept.specs.Calm.{network_with}
+use Rattle.gptp_kept.specs.Calm.{SettlingTimes, network_with}
 use Rattle.gptp_kept.specs.Known.{AreSet, IsKnown}
 use Rattle.gptp_kept.specs.Legible.{IsLegible}
 use Rattle.gptp_kept.specs.SeenLaws.{IsNoChange}
@@ -44,10 +44,10 @@ use Rattle.gptp_kept.proofs.SyncCallLemmas.{TakesSyncs, kept_stays, slave_takes,
 use Rattle.gptp_kept.proofs.SyncHeardLemmas.{follow_ups_are_used, followed_here, syncs_are_kept}
 use Rattle.gptp_kept.proofs.TimeStepLemmas.{KeepsSync}
 
-module _ (p : Pace) (m start wait step : ℕ) (w : WorldState) (sound : IsSound w) (legible : IsLegible w)
+module _ (p : Pace) (m start : ℕ) (times : SettlingTimes) (w : WorldState) (sound : IsSound w) (legible : IsLegible w)
     (set : AreSet p w) (knows : KnowTime w) (above : 0 < p.params.sync_timeout) where
   abbrev n : Network
-  n = network_with p m start wait step w
+  n = network_with p m start times w
 
   on : (place : ℕ) (station : Station) → slice_get w.stations place ≡ Some station
       → 0 < station.system.params.sync_timeout
@@ -232,16 +232,16 @@ may_lead : (identity : ℕ) → can_lead identity ≡ true → MayLead identity
 may_lead identity can =
     let low : identity / 2 ^ 104 < 255 = grind (arith, nat_tests) in omega arith
 
-pub timers_seen : (p : Pace) (m start wait step : ℕ) (w : WorldState) → IsSound w → IsKnown p w
-    → HaveSyncTimers (network_with p m start wait step w) (view w)
-timers_seen p m start wait step w sound known i seen there live =
+pub timers_seen : (p : Pace) (m start : ℕ) (times : SettlingTimes) (w : WorldState) → IsSound w → IsKnown p w
+    → HaveSyncTimers (network_with p m start times w) (view w)
+timers_seen p m start times w sound known i seen there live =
     let at = station_from w.stations i seen there in
     let lives = ap (λ (x : SeenStation). x.live) (sym at.is) ∙ live in
     let s = at.station.system in
     let late = (sound.on_time.stations i at.station at.here).timers lives in
     let soon = known.in_time i at.station at.here lives in
     let params = (known.set i at.station at.here).params in
-    subst (HasSyncTimers (network_with p m start wait step w) w.time) (sym at.is)
+    subst (HasSyncTimers (network_with p m start times w) w.time) (sym at.is)
     (record {
       sync = (
         late timers.Sync s.sync refl,

@@ -1,7 +1,7 @@
 -- Traces in a calm world become clean.
 use Rattle.std.proofs.Common.{◌≡◌, ◌≤◌, ◌+◌, ◌*◌, ℕ, zero, suc, true, List, ◌∷◌, map, length, Option, Some, None, slice_get, refl, sym, ap, subst, ◌∙◌, inl, arith}
 use Rattle.std.proofs.lemmas.Option.{none-some, same_Some, slice_get_within}
-use Rattle.gptp_setup.specs.Pace.{Pace}
+use Rattle.gptp_setup.specs.Pace.{Pace, largest_interval}
 use Rattle.gptp_lists.specs.Members.{In}
 use Rattle.gptp_graph.specs.Best.{IsBest}
 use Rattle.gptp_graph.specs.Distance.{IsDistance}
@@ -43,12 +43,14 @@ use Rattle.gptp_settling.proofs.NearestLemmas.{root_not_better, steps_not_fewer}
 use Rattle.gptp_kept.specs.View.{frame_view, identity_of, lane_place, lane_view, port_view, reception_view, said, says, span_at, station_view, view}
 use Rattle.gptp_kept.proofs.SeenLaneLemmas.{lane_there}
 use Rattle.gptp_kept.proofs.PlaceLemmas.{port_there, station_there}
-use Rattle.gptp_kept.specs.Calm.{IsQuietWorld}
+use Rattle.gptp_kept.specs.Calm.{IsQuietWorld, clean_from, delay_in, sync_paths_of}
+use Rattle.gptp_kept.specs.Known.{IsKnown}
+use Rattle.gptp_kept.proofs.DelayLemmas.{delay_short}
 use Rattle.gptp_kept.specs.Standing.{snapshot_of}
 use Rattle.gptp_kept.specs.Holds.{settling_network, start_of}
-use Rattle.gptp_kept.proofs.HoldsLemmas.{is_calm, paths_bound}
+use Rattle.gptp_kept.proofs.HoldsLemmas.{is_calm, paths_bound, turns_less}
 use Rattle.gptp_kept.specs.Claimed.{Claimed, IsClaimed}
-use Rattle.gptp_kept.specs.Traces.{AreHeldCleanInTime, AreHeldWholeInTime, IsCleanInTime, IsFrameClean, IsHeardClean, IsHeldClean, IsHeldWhole, IsTraceClean, announced, heard, turn_of}
+use Rattle.gptp_kept.specs.Traces.{AreHeldCleanInTime, AreHeldWholeInTime, AreHeldWholeSooner, IsCleanInTime, IsFrameClean, IsHeardClean, IsHeldClean, IsHeldWhole, IsTraceClean, announced, heard, turn_of, turns_span}
 use Rattle.gptp_kept.proofs.ClaimedLemmas.{set_alike}
 use Rattle.gptp_kept.proofs.ClaimLemmas.{claim_capable}
 
@@ -63,7 +65,7 @@ module _ (p : Pace) (w : WorldState) (is : IsClaimed p w) (quiet : IsQuietWorld 
   state = is_calm p reach w is.world quiet.links (claim_capable p w is)
 
   traces : TracesAreClean says k (view w)
-  traces = (is.settling reach (paths_bound p w is.world) quiet).invariant.traces
+  traces = (is.settling reach (paths_bound p w is.world) quiet).traces
 
   -- ---- one live system
 
@@ -87,7 +89,7 @@ module _ (p : Pace) (w : WorldState) (is : IsClaimed p w) (quiet : IsQuietWorld 
           source = refl;
           log = λ i q number there. absurd cc;
           path = refl;
-        }) late).clean
+        }) (let shorter = turns_less p w is.world.known c in omega (arith, late, shorter))).clean
 
     -- what a port holds, as the machine sees it: the port at place i has the number i + 1
     record IsSeenHeld (n : ℕ) (r : Reception) : Type 0 where
@@ -137,7 +139,7 @@ module _ (p : Pace) (w : WorldState) (is : IsClaimed p w) (quiet : IsQuietWorld 
           good = hit.good;
         })
 
-    held_whole_at : (m n : ℕ) (r : Reception) → BoundsPaths (snapshot_of w) m → start_of p w + m * turn_of p ≤ w.time
+    held_whole_at : (m n : ℕ) (r : Reception) → BoundsPaths (snapshot_of w) m → clean_from p m w ≤ w.time
         → received (held_at s n) ≡ Some r → IsHeldWhole (snapshot_of w) (clock s) n r
     held_whole_at m n r bounded late holds =
         let seen = seen_held n r holds in
@@ -155,23 +157,33 @@ module _ (p : Pace) (w : WorldState) (is : IsClaimed p w) (quiet : IsQuietWorld 
 
   frame_clean : (c link : ℕ) (direction : Direction) (channel : Channel) (time : ℕ) (octets : List ℕ)
       (rest : List Frame) (m : AnnounceView) → slice_get w.net.channels link ≡ Some channel
-      → queue direction channel ≡ frame time octets ∷ rest → Reads octets (messages.Announce m) → Late k c time
+      → queue direction channel ≡ frame time octets ∷ rest → Reads octets (messages.Announce m)
+      → w.last_change + turns_span c p (sync_paths_of w) (length (snapshot_of w).systems) + largest_interval p ≤ time
       → IsFrameClean (snapshot_of w) (suc c) (identity_of (receiver direction channel)) (said m)
   frame_clean c link direction channel time octets rest m here front reads late =
       let lane = lane_there w.net.channels link direction channel here in
       let f : SeenFrame = frame_view (frame time octets) in
       let flies : In f (map frame_view (queue direction channel)) = rw front (inl refl) in
-      let (from, good) =
-      traces.lanes (lane_place link direction) (lane_view direction channel) lane f (said m) c flies (m, reads, refl)
-      late in
+      let lane_clean = traces.lanes (lane_place link direction) (lane_view direction channel) lane in
+      let shorter = turns_less p w is.world.known c in
+      let from = lane_clean.sender f flies (omega (arith, late, shorter)) in
       record {
         from = identity_of (sender direction channel);
         live = from;
         joins = λ to. state.facts.linked (lane_place link direction) (lane_view direction channel) f lane flies from to;
-        good = good;
+        good = lane_clean.anywhere f (said m) c flies (m, reads, refl) (omega (arith, late, shorter));
       }
 
 -- ---- what is shown
+
+-- what was sent so late by the largest interval was by the greatest delay
+late_sooner : (p : Pace) (w : WorldState) → IsKnown p w → (c time : ℕ)
+    → w.last_change + turns_span c p (sync_paths_of w) (length (snapshot_of w).systems) + largest_interval p ≤ time
+    → Late (setting (settling_network p (path_bound (snapshot_of w)) w)) c time
+late_sooner p w known c time late =
+    let short : delay_in w ≤ largest_interval p = delay_short p w known in
+    let shorter = turns_less p w known c in
+    omega (arith, late, short, shorter)
 
 pub traces_become_clean : (number : ℕ) (w : WorldState) (s : SystemState) → Claimed w → ShowsLive number w s
     → IsCleanInTime w s
@@ -188,7 +200,8 @@ held_becomes_clean number w s claimed shows calm c n r holds late =
     let same = shows.state in
     subst (λ (x : SystemState). IsHeldClean (snapshot_of w) (suc c) (clock x) n r) (sym same)
     (held_clean calm.pace w is calm.quiet shows.place shows.station shows.is.here shows.live c n r
-    (subst (λ (x : SystemState). received (held_at x n) ≡ Some r) same holds) (omega (arith, late)))
+    (subst (λ (x : SystemState). received (held_at x n) ≡ Some r) same holds)
+    (late_sooner calm.pace w is.world.known c r.at late))
 
 pub held_becomes_whole : (number : ℕ) (w : WorldState) (s : SystemState) → Claimed w → ShowsLive number w s
     → AreHeldWholeInTime w s
@@ -198,7 +211,18 @@ held_becomes_whole number w s claimed shows m n r bounded calm holds =
     let same = shows.state in
     subst (λ (x : SystemState). IsHeldWhole (snapshot_of w) (clock x) n r) (sym same)
     (held_whole_at calm.pace w is calm.quiet shows.place shows.station shows.is.here shows.live m n r bounded
-    (omega arith) (subst (λ (x : SystemState). received (held_at x n) ≡ Some r) same holds))
+    (let shorter = turns_less calm.pace w is.world.known m in omega (arith, late, shorter))
+    (subst (λ (x : SystemState). received (held_at x n) ≡ Some r) same holds))
+
+pub held_becomes_whole_sooner : (number : ℕ) (w : WorldState) (s : SystemState) → Claimed w → ShowsLive number w s
+    → AreHeldWholeSooner w s
+held_becomes_whole_sooner number w s claimed shows m n r bounded calm holds =
+    let is = set_alike w claimed calm.pace calm.set shows.place shows.station shows.is.here in
+    let late = calm.late in
+    let same = shows.state in
+    subst (λ (x : SystemState). IsHeldWhole (snapshot_of w) (clock x) n r) (sym same)
+    (held_whole_at calm.pace w is calm.quiet shows.place shows.station shows.is.here shows.live m n r bounded
+    (omega (arith, late)) (subst (λ (x : SystemState). received (held_at x n) ≡ Some r) same holds))
 
 -- what is wholly clean names nothing better than the best
 pub held_is_no_better : (g : Snapshot) (number port : ℕ) (r : Reception) (best : System) → IsWellFormed g

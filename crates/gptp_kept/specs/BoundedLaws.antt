@@ -1,10 +1,11 @@
 -- Laws on what the systems of a world state of themselves.
 use Rattle.std.specs.Prelude.{ℕ}
 use Rattle.gptp_graph.specs.PathBound.{BoundsPaths}
+use Rattle.gptp_plan.specs.Calm.{NothingLapses}
 use Rattle.gptp_plan.specs.SettlingTime.{settling_span_with}
 use Rattle.gptp_acts.specs.World.{WorldState}
 use Rattle.gptp_kept.specs.Bounded.{IsBoundedWorld}
-use Rattle.gptp_kept.specs.CalmFor.{IsCalmFor, span_over}
+use Rattle.gptp_kept.specs.CalmFor.{IsCalmFor, at_once_span, span_over}
 use Rattle.gptp_kept.specs.Claimed.{Claimed}
 use Rattle.gptp_kept.specs.Standing.{snapshot_of}
 
@@ -16,4 +17,11 @@ ClaimedBounded = (w : WorldState) → Claimed w → IsCalmFor settling_span_with
 abbrev pub ClaimedBoundedByPaths : Type 0
 ClaimedBoundedByPaths = (m : ℕ) (w : WorldState)
     → Claimed w → BoundsPaths (snapshot_of w) m → IsCalmFor (span_over m) w
+    → IsBoundedWorld w
+
+-- and sooner where nothing lapses
+abbrev pub ClaimedBoundedAtOnce : Type 0
+ClaimedBoundedAtOnce = (m : ℕ) (w : WorldState)
+    → Claimed w → BoundsPaths (snapshot_of w) m → (calm : IsCalmFor (at_once_span m) w)
+    → NothingLapses calm.pace.params
     → IsBoundedWorld w

@@ -75,6 +75,29 @@ wait_with p paths = if nat_lt (sync_wait p paths) (lapse_span p) then sync_wait 
 abbrev pub step_with : Pace → SyncPaths → ℕ
 step_with p paths = 2 * largest_interval p + step_more p paths
 
+-- How long settling takes, as the machine of gptp_settling has it: anyway, for each step of distance, and for a Sync;
+-- how much later claims are made of links by each step; and whether all that is held has to become clean first.
+pub record SettlingTimes : Type 0 where
+  pub slack : ℕ
+  pub step : ℕ
+  pub wait : ℕ
+  pub lag : ℕ
+  pub past : Bool
+
+-- where something may lapse, system by system: each step of distance takes a wait for a Sync and for an Announce
+abbrev pub in_turn : Pace → SyncPaths → SettlingTimes
+in_turn p paths = record {
+  slack = 0;
+  step = step_with p paths;
+  wait = wait_with p.params paths;
+  lag = step_with p paths;
+  past = true;
+}
+
+-- where nothing does, all at once: after the largest announce interval each step takes the greatest delay
+abbrev pub at_once : Pace → WorldState → SettlingTimes
+at_once p w = record { slack = largest_interval p; step = delay_in w; wait = 0; lag = 0; past = true }
+
 -- ---- places
 
 -- where the system with this clock stands
@@ -124,11 +147,24 @@ AreCapableFrom start w = start ≤ w.time → OfEachPort (λ itself h q. IsCapab
 
 -- ---- the network
 
--- The network that a world has, no path of which has more than m systems, of which claims are made from this time on,
--- and in which a settled system waits so long for a Sync, and a step of distance takes so long. Each port has its own
--- announce interval.
-abbrev pub network_with : Pace → ℕ → ℕ → ℕ → ℕ → WorldState → Network
-network_with p m start wait step w = record {
+-- when traces are wholly clean in a world no path of which has more than m systems: frames that were in flight at the
+-- last change are gone two intervals later, and that is m turns after
+abbrev pub clean_from : Pace → ℕ → WorldState → ℕ
+clean_from p m w = w.last_change + 2 * largest_interval p + m * (p.params.timeout * largest_interval p + delay_in w)
+
+-- From any past claims on traces are made once old frames are gone, and all that is held is sound from when it is
+-- wholly clean and ports are capable. After news, where all is sound, nothing has to become clean.
+abbrev pub traces_from : Pace → ℕ → SettlingTimes → WorldState → ℕ
+traces_from p start times w = if times.past then w.last_change + 2 * largest_interval p else start
+
+abbrev pub sound_from : Pace → ℕ → ℕ → SettlingTimes → WorldState → ℕ
+sound_from p m start times w = max (if times.past then clean_from p m w else 0) start
+
+-- The network that a world has, no path of which has more than m systems, of which ports are capable from this time on,
+-- and which settles in these times. Each port has its own announce interval. All that is held is sound from when it is
+-- wholly clean and ports are capable.
+abbrev pub network_with : Pace → ℕ → ℕ → SettlingTimes → WorldState → Network
+network_with p m start times w = record {
   graph = snapshot_of w;
   reach = m;
   place = place_of w.stations;
@@ -138,18 +174,30 @@ network_with p m start wait step w = record {
   interval = largest_interval p;
   most = delay_in w;
   timeout = p.params.timeout;
-  start = start;
+  gone = w.last_change + 2 * largest_interval p;
+  start = traces_from p start times w;
+  bare = start;
+  off = start;
+  ready = λ port. start;
+  sound = sound_from p m start times w;
   syncs = record {
     interval = interval_of p.params.sync;
     residence = p.params.residence;
     span = lapse_span p.params;
   };
-  sync_wait = wait;
-  step = step;
+  sync_wait = times.wait;
+  slack = times.slack;
+  step = times.step;
+  claimed = λ d port. sound_from p m start times w + times.wait + d * times.lag;
+  until = λ d port. sound_from p m start times w + times.wait + d * times.lag + largest_interval p;
 }
 
 -- So it is with the wait and the step that such paths ask for: without a syncReceiptTimeout no Sync is waited for, and
 -- a step takes two of the largest intervals.
 abbrev pub network_of : Pace → ℕ → ℕ → WorldState → Network
 network_of p m start w =
-    network_with p m start (wait_with p.params (paths_with m w)) (step_with p (paths_with m w)) w
+    network_with p m start (in_turn p (paths_with m w)) w
+
+-- where nothing lapses it settles at once too
+abbrev pub network_at_once : Pace → ℕ → ℕ → WorldState → Network
+network_at_once p m start w = network_with p m start (at_once p w) w

@@ -7,6 +7,7 @@ use Rattle.gptp_pdelay.specs.Peer.{is_capable}
 use Rattle.gptp_receipt.specs.declared.held.Held.{Held}
 use Rattle.gptp_receipt.specs.declared.held.Held.TheVariants.{Disabled}
 use Rattle.gptp_system.specs.declared.port.Port.{Port}
+use Rattle.gptp_plan.specs.SettlingAtOnce.{settling_span_at_once}
 use Rattle.gptp_plan.specs.SettlingTime.{capability_span, settling_span_with}
 use Rattle.gptp_plan.specs.declared.sync_wait.SyncPaths.{SyncPaths}
 use Rattle.gptp_acts.specs.Prompt.{HavePace}
@@ -32,6 +33,10 @@ capable_span p paths n = capability_span p
 -- the settling span of m systems, however many live
 abbrev pub span_over : ℕ → Pace → SyncPaths → ℕ → ℕ
 span_over m p paths n = settling_span_with p paths m
+
+-- the span from any past where nothing lapses and a path has at most m systems, however many live
+abbrev pub at_once_span : ℕ → Pace → SyncPaths → ℕ → ℕ
+at_once_span m p paths n = settling_span_at_once p (record paths { systems = m })
 
 -- a port is capable exactly where a link of the snapshot is at it, and Disabled exactly where it isn't capable
 pub record IsPortSettled (g : Snapshot) (itself : PortId) (h : Held) (q : Port) : Type 0 where

@@ -1,5 +1,5 @@
 -- Laws on calm worlds: they are calm states of the machine of gptp_settling.
-use Rattle.std.specs.Prelude.{◌≡◌, ◌≤◌, ◌+◌, ℕ, List}
+use Rattle.std.specs.Prelude.{◌≡◌, ◌≤◌, ◌+◌, ◌*◌, ℕ, List}
 use Rattle.gptp_graph.specs.PathBound.{BoundsPaths}
 use Rattle.gptp_links.specs.Fate.{Draw}
 use Rattle.gptp_setup.specs.declared.setup.Params.{Params}
@@ -17,29 +17,30 @@ use Rattle.gptp_kept.specs.Legible.{IsLegible}
 use Rattle.gptp_kept.specs.SeenLaws.{IsNoChange}
 use Rattle.gptp_kept.specs.View.{view}
 use Rattle.gptp_kept.specs.Standing.{AreBetween, snapshot_of}
-use Rattle.gptp_kept.specs.Calm.{AreCapableFrom, HaveQuietLinks, IsQuietWorld, network_of, network_with}
+use Rattle.gptp_kept.specs.Calm.{AreCapableFrom, HaveQuietLinks, IsQuietWorld, network_of, SettlingTimes, network_with}
 
 -- ---- a calm state
 
 -- what the machine knows of each state is so of every sound and known world, calm or not
 abbrev pub HasFacts : Type 0
 HasFacts = (p : Pace) (m start : ℕ) (w : WorldState)
-    → IsSound w → IsKnown p w
+    → IsSound w → IsLegible w → IsKnown p w
     → Facts (setting (network_of p m start w)) (view w)
 
 -- a sound, legible and known world has a network of the machine, for each number that bounds the systems of its paths
 abbrev pub HasNetwork : Type 0
 HasNetwork = (p : Pace) (m start : ℕ) (w : WorldState)
     → IsSound w → AreBetween w → IsLegible w → IsKnown p w → BoundsPaths (snapshot_of w) m
+    → w.last_change + 2 * largest_interval p ≤ start
     → IsNetwork (network_of p m start w)
 
 -- Such a world is a calm state where its links are quiet, the largest announce interval passes from the last change to
 -- the start, and from the start its ports are disabled exactly where no link of the snapshot is at them.
 abbrev pub IsCalmState : Type 0
-IsCalmState = (p : Pace) (m start wait step : ℕ) (w : WorldState)
+IsCalmState = (p : Pace) (m start : ℕ) (times : SettlingTimes) (w : WorldState)
     → IsSound w → IsLegible w → IsKnown p w → HaveQuietLinks p.params w
-    → w.last_change + largest_interval p ≤ start → AreCapableFrom start w
-    → Calm (network_with p m start wait step w) (view w)
+    → w.last_change + 2 * largest_interval p ≤ start → AreCapableFrom start w
+    → Calm (network_with p m start times w) (view w)
 
 -- ---- it stays so
 

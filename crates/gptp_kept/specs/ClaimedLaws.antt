@@ -21,7 +21,7 @@ use Rattle.gptp_kept.specs.Calm.{HaveQuietLinks}
 use Rattle.gptp_kept.specs.Holds.{BecomeCapable}
 use Rattle.gptp_kept.specs.Settled.{Settled}
 use Rattle.gptp_kept.specs.Standing.{snapshot_of}
-use Rattle.gptp_kept.specs.CalmFor.{ArePortsSettled, IsCalmFor, capable_span, span_over}
+use Rattle.gptp_kept.specs.CalmFor.{ArePortsSettled, IsCalmFor, at_once_span, capable_span, span_over}
 use Rattle.gptp_kept.specs.Claimed.{Claimed, IsClaimed}
 
 -- ---- with the parameters of the network and its largest announce interval
@@ -85,6 +85,13 @@ ClaimedSettled = (w : WorldState) → Claimed w → IsCalmFor settling_span_with
 abbrev pub ClaimedSettledByPaths : Type 0
 ClaimedSettledByPaths = (m : ℕ) (w : WorldState)
     → Claimed w → BoundsPaths (snapshot_of w) m → IsCalmFor (span_over m) w
+    → Settled w
+
+-- and sooner where nothing lapses
+abbrev pub ClaimedSettledAtOnce : Type 0
+ClaimedSettledAtOnce = (m : ℕ) (w : WorldState)
+    → Claimed w → BoundsPaths (snapshot_of w) m → (calm : IsCalmFor (at_once_span m) w)
+    → NothingLapses calm.pace.params
     → Settled w
 
 -- which is so of the number that is read off the links: two, and those that have two neighbours

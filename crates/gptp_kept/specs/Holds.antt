@@ -2,17 +2,19 @@
 use Rattle.std.specs.Prelude.{◌+◌, ℕ}
 use Rattle.gptp_setup.specs.Pace.{Pace}
 use Rattle.gptp_graph.specs.PathBound.{BoundsPaths}
+use Rattle.gptp_plan.specs.Calm.{NothingLapses}
 use Rattle.gptp_plan.specs.SettlingTime.{capability_span}
 use Rattle.gptp_acts.specs.Sound.{IsSound}
 use Rattle.gptp_acts.specs.World.{WorldState}
 use Rattle.gptp_settling.specs.Levels.{Invariant}
-use Rattle.gptp_settling.specs.Network.{Network}
+use Rattle.gptp_settling.specs.CleanInvariant.{TracesAreClean}
+use Rattle.gptp_settling.specs.Network.{Network, setting}
 use Rattle.gptp_settling.specs.Station.{State}
 use Rattle.gptp_settling.specs.Syncs.{SyncsAreExpected}
 use Rattle.gptp_kept.specs.Known.{IsKnown}
 use Rattle.gptp_kept.specs.Legible.{IsLegible}
 use Rattle.gptp_kept.specs.View.{says, says_sync, view}
-use Rattle.gptp_kept.specs.Calm.{AreCapableFrom, HaveQuietLinks, IsQuietWith, network_of, paths_with}
+use Rattle.gptp_kept.specs.Calm.{AreCapableFrom, HaveQuietLinks, IsQuietWith, network_at_once, network_of, paths_with}
 use Rattle.gptp_kept.specs.Standing.{AreBetween, snapshot_of}
 
 -- a world of a network with these parameters and this largest announce interval, at any time
@@ -34,13 +36,20 @@ BecomeCapable p w = HaveQuietLinks p.params w → AreCapableFrom (start_of p w) 
 abbrev pub settling_network : Pace → ℕ → WorldState → Network
 settling_network p m w = network_of p m (start_of p w) w
 
--- the invariant of that machine holds of a state, and Syncs are expected in it in time
-pub record IsSettling (n : Network) (seen : State) : Type 0 where
+-- that at which it settles where nothing lapses
+abbrev pub quick_network : Pace → ℕ → WorldState → Network
+quick_network p m w = network_at_once p m (start_of p w) w
+
+-- Traces in a state are as clean as they must be, the invariant of that machine holds of it, at the one pace, and at
+-- the other where nothing lapses; and Syncs are expected in it in time.
+pub record IsSettling (p : Pace) (n quick : Network) (seen : State) : Type 0 where
+  pub traces : TracesAreClean says (setting n) seen
   pub invariant : Invariant says n seen
+  pub at_once : NothingLapses p.params → Invariant says quick seen
   pub expected : SyncsAreExpected says_sync n seen
 
 -- So it is of what that machine sees of the world, for each number that bounds how many systems a path has, where the
 -- world is quiet by that number.
 abbrev pub Holds : Pace → WorldState → Type 0
 Holds p w = (m : ℕ) → BoundsPaths (snapshot_of w) m → IsQuietWith p.params (paths_with m w) w
-    → IsSettling (settling_network p m w) (view w)
+    → IsSettling p (settling_network p m w) (quick_network p m w) (view w)

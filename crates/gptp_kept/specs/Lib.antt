@@ -13,6 +13,11 @@ pub mod StandingLaws
 pub mod Calm
 pub mod CalmLaws
 pub mod Holds
+pub mod SoundWorld
+pub mod SoundWorldLaws
+pub mod NewsWorld
+pub mod NewsWorldLaws
+pub mod NewsCourse
 pub mod Settled
 pub mod SyncLaws
 pub mod SettledLaws
@@ -23,6 +28,10 @@ pub mod SyncView
 pub mod Measured
 pub mod Short
 pub mod Watched
+pub mod Elsewhere
+pub mod ElsewhereLaws
+pub mod FirstAt
+pub mod FirstAtLaws
 pub mod LinkLaws
 pub mod WatchedLaws
 pub mod Unanswered

@@ -4,7 +4,7 @@ use Rattle.gptp_graph.specs.PathBound.{BoundsPaths}
 use Rattle.gptp_links.specs.declared.bounds.Bounds.{Bounds}
 use Rattle.gptp_links.specs.Fate.{Draw}
 use Rattle.gptp_setup.specs.Intervals.{IsLog}
-use Rattle.gptp_setup.specs.Pace.{Pace}
+use Rattle.gptp_setup.specs.Pace.{Pace, largest_interval}
 use Rattle.gptp_plan.specs.declared.change.Act.{Act}
 use Rattle.gptp_plan.specs.declared.change.Act.TheVariants.{Change as Changing}
 use Rattle.gptp_plan.specs.declared.change.Change.{Change}
@@ -22,7 +22,7 @@ use Rattle.gptp_kept.specs.LegibleLaws.{SetsAnOctet}
 use Rattle.gptp_kept.specs.SeenLaws.{IsNoChange}
 use Rattle.gptp_kept.specs.Calm.{IsQuietWith, IsQuietWorld, paths_with, sync_paths_of}
 use Rattle.gptp_kept.specs.Standing.{snapshot_of}
-use Rattle.gptp_kept.specs.Holds.{BecomeCapable, Holds, IsWorld, start_of}
+use Rattle.gptp_kept.specs.Holds.{BecomeCapable, Holds, IsWorld}
 use Rattle.gptp_kept.specs.Settled.{Settled}
 
 -- ---- worlds
@@ -48,10 +48,10 @@ DoneStaysWorld {F} answers = (p : Pace) (timed : Timed) (fate fate_after : F) (w
 
 -- ---- the claim begins
 
--- before the start it holds of every world
+-- until the largest announce interval has passed from the last change it holds of every world
 abbrev pub HoldsBegins : Type 0
 HoldsBegins = (p : Pace) (w : WorldState)
-    → IsWorld p w → w.time < start_of p w
+    → IsWorld p w → w.time < w.last_change + largest_interval p
     → Holds p w
 
 -- so it does after every change of the network

@@ -10,6 +10,7 @@ use Rattle.gptp_roles.specs.declared.role.Role.{Role}
 use Rattle.gptp_roles.specs.declared.role.Role.TheVariants.{Disabled}
 use Rattle.gptp_system.specs.State.{SystemState, clock, is_capable_at}
 use Rattle.gptp_system.specs.Steps.{IsPortOf}
+use Rattle.gptp_plan.specs.Calm.{NothingLapses}
 use Rattle.gptp_plan.specs.SettlingTime.{settling_span_with}
 use Rattle.gptp_plan.specs.SyncWait.{step_more}
 use Rattle.gptp_plan.specs.declared.sync_wait.SyncPaths.{SyncPaths}
@@ -17,7 +18,7 @@ use Rattle.gptp_acts.specs.World.{WorldState}
 use Rattle.gptp_settling.specs.Settled.{IsSlaveOf}
 use Rattle.gptp_kept.specs.Standing.{snapshot_of}
 use Rattle.gptp_kept.specs.Settled.{role_of}
-use Rattle.gptp_kept.specs.CalmFor.{IsCalmFor, capable_span, span_over}
+use Rattle.gptp_kept.specs.CalmFor.{IsCalmFor, at_once_span, capable_span, span_over}
 use Rattle.gptp_kept.specs.Traces.{turns_span}
 
 -- ---- capability
@@ -55,6 +56,14 @@ FollowsByPaths number w root steps slave = (m : ℕ)
     → BoundsPaths (snapshot_of w) m → IsCalmFor (span_over m) w → IsNear (snapshot_of w) number
     → IsSettledFor (snapshot_of w) number root steps slave
 
+-- Where nothing lapses, so it is once the world has been calm for the sharper span, where no path has more than m
+-- systems.
+abbrev pub FollowsAtOnce : ℕ → WorldState → ℕ → ℕ → Option ℕ → Type 0
+FollowsAtOnce number w root steps slave = (m : ℕ)
+    → BoundsPaths (snapshot_of w) m → (calm : IsCalmFor (at_once_span m) w) → NothingLapses calm.pace.params
+    → IsNear (snapshot_of w) number
+    → IsSettledFor (snapshot_of w) number root steps slave
+
 -- and by then each of its ports has its settled role
 abbrev pub PlaysInTime : ℕ → ℕ → WorldState → Role → Type 0
 PlaysInTime number port w role =
@@ -64,6 +73,12 @@ PlaysInTime number port w role =
 abbrev pub PlaysByPaths : ℕ → ℕ → WorldState → Role → Type 0
 PlaysByPaths number port w role = (m : ℕ)
     → BoundsPaths (snapshot_of w) m → IsCalmFor (span_over m) w → IsNear (snapshot_of w) number
+    → IsSettledRole (snapshot_of w) (port_of number port) (role_of role)
+
+abbrev pub PlaysAtOnce : ℕ → ℕ → WorldState → Role → Type 0
+PlaysAtOnce number port w role = (m : ℕ)
+    → BoundsPaths (snapshot_of w) m → (calm : IsCalmFor (at_once_span m) w) → NothingLapses calm.pace.params
+    → IsNear (snapshot_of w) number
     → IsSettledRole (snapshot_of w) (port_of number port) (role_of role)
 
 -- ---- by distance

@@ -6,7 +6,8 @@ use Rattle.gptp_acts.specs.Acts.{AtSystem}
 use Rattle.gptp_acts.specs.Views.{Follows, HasRole, ShowsLive}
 use Rattle.gptp_acts.specs.World.{WorldState}
 use Rattle.gptp_kept.specs.Claimed.{Claimed}
-use Rattle.gptp_kept.specs.Shown.{FollowsByDistance, FollowsByPaths, FollowsInTime, IsCapableInTime, IsEnabledInTime, PlaysByDistance, PlaysByPaths, PlaysInTime}
+use Rattle.gptp_kept.specs.Shown.{FollowsAtOnce, FollowsByDistance, FollowsByPaths, FollowsInTime, IsCapableInTime, IsEnabledInTime}
+use Rattle.gptp_kept.specs.Shown.{PlaysAtOnce, PlaysByDistance, PlaysByPaths, PlaysInTime}
 
 -- a live system that is shown has its ports capable in time
 abbrev pub SystemsAreCapable : Type 0
@@ -42,6 +43,17 @@ abbrev pub RolesSettleByPaths : Type 0
 RolesSettleByPaths = (number port : ℕ) (w : WorldState) (role : Role)
     → Claimed w → AtSystem number w (HasRole port role)
     → PlaysByPaths number port w role
+
+-- and sooner yet where nothing lapses
+abbrev pub SystemsSettleAtOnce : Type 0
+SystemsSettleAtOnce = (number root steps : ℕ) (slave : Option ℕ) (w : WorldState)
+    → Claimed w → AtSystem number w (Follows root steps slave)
+    → FollowsAtOnce number w root steps slave
+
+abbrev pub RolesSettleAtOnce : Type 0
+RolesSettleAtOnce = (number port : ℕ) (w : WorldState) (role : Role)
+    → Claimed w → AtSystem number w (HasRole port role)
+    → PlaysAtOnce number port w role
 
 -- and sooner still the nearer the system is to its best
 abbrev pub SystemsSettleByDistance : Type 0

@@ -12,7 +12,7 @@ use Rattle.gptp_acts.specs.Course.{WasDone}
 use Rattle.gptp_acts.specs.Views.{ShowsLive}
 use Rattle.gptp_acts.specs.World.{WorldState}
 use Rattle.gptp_kept.specs.Claimed.{Claimed}
-use Rattle.gptp_kept.specs.Traces.{AreHeldCleanInTime, AreHeldWholeInTime, IsCleanInTime, IsHeardClean, IsHeldWhole}
+use Rattle.gptp_kept.specs.Traces.{AreHeldCleanInTime, AreHeldWholeInTime, AreHeldWholeSooner, IsCleanInTime, IsHeardClean, IsHeldWhole}
 
 -- the trace of a live system that is shown becomes clean
 abbrev pub TracesBecomeClean : Type 0
@@ -31,6 +31,11 @@ abbrev pub HeldBecomesWhole : Type 0
 HeldBecomesWhole = (number : ℕ) (w : WorldState) (s : SystemState)
     → Claimed w → ShowsLive number w s
     → AreHeldWholeInTime w s
+
+abbrev pub HeldBecomesWholeSooner : Type 0
+HeldBecomesWholeSooner = (number : ℕ) (w : WorldState) (s : SystemState)
+    → Claimed w → ShowsLive number w s
+    → AreHeldWholeSooner w s
 
 -- Then it names no root better than the best of the holder's component, and for that one no fewer steps than the
 -- distance of the system that sent it.

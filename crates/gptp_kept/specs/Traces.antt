@@ -104,6 +104,16 @@ AreHeldWholeInTime w s = (m n : ℕ) (r : Reception)
     → BoundsPaths (snapshot_of w) m → IsCalmFor (turns_span m) w → received (held_at s n) ≡ Some r
     → IsHeldWhole (snapshot_of w) (clock s) n r
 
+-- Sooner: frames of before the last change are gone after two announce intervals, and then each system of a path costs
+-- the longest span for which anything stays and the greatest delay.
+abbrev pub clean_span : ℕ → Pace → SyncPaths → ℕ → ℕ
+clean_span m p paths n = 2 * largest_interval p + m * (longest_span p + paths.delay)
+
+abbrev pub AreHeldWholeSooner : WorldState → SystemState → Type 0
+AreHeldWholeSooner w s = (m n : ℕ) (r : Reception)
+    → BoundsPaths (snapshot_of w) m → IsCalmFor (clean_span m) w → received (held_at s n) ≡ Some r
+    → IsHeldWhole (snapshot_of w) (clock s) n r
+
 -- ---- what reaches a port
 
 -- an Announce came from a live system, over the link at this port where a live system has it, and is clean so

@@ -4,11 +4,12 @@ ghost use Rattle.gptp_kept.specs.ClaimedLaws.{ClaimBegins, ClaimIsCapable, Claim
 ghost use Rattle.gptp_kept.specs.ClaimedLaws.{ClaimedBegins, ClaimedKept, ClaimedLater};
 ghost use Rattle.gptp_kept.specs.ClaimedLaws.{ClaimedCapable, SettledIsCapable, SettledIsCapableByPaths};
 ghost use Rattle.gptp_kept.specs.ClaimedLaws.{CalmWithoutTimeout, ClaimedSettled, ClaimedSettledByNeighbours};
-ghost use Rattle.gptp_kept.specs.ClaimedLaws.{ClaimedSettledByPaths};
+ghost use Rattle.gptp_kept.specs.ClaimedLaws.{ClaimedSettledAtOnce, ClaimedSettledByPaths};
 ghost use Rattle.gptp_kept.specs.ShownLaws.{RolesAreEnabled, RolesSettle, SystemsAreCapable, SystemsSettle};
 ghost use Rattle.gptp_kept.specs.ShownLaws.{RolesSettleByDistance, RolesSettleByPaths};
+ghost use Rattle.gptp_kept.specs.ShownLaws.{RolesSettleAtOnce, SystemsSettleAtOnce};
 ghost use Rattle.gptp_kept.specs.ShownLaws.{SystemsSettleByDistance, SystemsSettleByPaths};
-ghost use Rattle.gptp_kept.specs.TraceLaws.{FramesBecomeClean, HeldBecomesClean, TracesBecomeClean};
+ghost use Rattle.gptp_kept.specs.TraceLaws.{FramesBecomeClean, HeldBecomesClean, HeldBecomesWholeSooner, TracesBecomeClean};
 ghost use Rattle.gptp_kept.specs.TraceLaws.{HeldBecomesWhole, HeldIsNoBetter};
 ghost use Rattle.gptp_kept.specs.TreeLaws.{SettledIsTree};
 
@@ -55,12 +56,13 @@ pub fn ports_settle()
 ///
 /// The network may have a syncReceiptTimeout: calm asks then that a settled system waits for Sync for less, and the span
 /// is longer by what a step of distance takes longer. Without one a world is calm by its links alone, and the span is
-/// that of its systems alone.
+/// that of its systems alone; and a sharper one holds too, whose steps of distance each take but the greatest delay.
 pub fn worlds_settle()
     ensures systems { ClaimedSettled }
     ensures by_paths { ClaimedSettledByPaths }
     ensures neighbours { ClaimedSettledByNeighbours }
     ensures without_timeout { CalmWithoutTimeout }
+    ensures at_once { ClaimedSettledAtOnce }
 {}
 
 /// A settled world is a tree: each near system other than its component's best hangs on one that is one step nearer, by
@@ -70,7 +72,7 @@ pub fn settled_worlds_are_trees()
 {}
 
 /// What the calls of such a world show is capable and settled in time: by how many systems live, by how many a path has
-/// at most, and of each system by its distance.
+/// at most, sooner by that where nothing lapses, and of each system by its distance.
 pub fn calls_show_it()
     ensures capable { SystemsAreCapable }
     ensures enabled { RolesAreEnabled }
@@ -78,6 +80,8 @@ pub fn calls_show_it()
     ensures roles { RolesSettle }
     ensures choice_by_paths { SystemsSettleByPaths }
     ensures roles_by_paths { RolesSettleByPaths }
+    ensures choice_at_once { SystemsSettleAtOnce }
+    ensures roles_at_once { RolesSettleAtOnce }
     ensures choice_by_distance { SystemsSettleByDistance }
     ensures roles_by_distance { RolesSettleByDistance }
 {}
@@ -89,6 +93,7 @@ pub fn traces_become_clean<F: Fate>()
     ensures traces { TracesBecomeClean }
     ensures held { HeldBecomesClean }
     ensures whole { HeldBecomesWhole }
+    ensures sooner { HeldBecomesWholeSooner }
     ensures no_better { HeldIsNoBetter }
     ensures frames { FramesBecomeClean F.answers }
 {}

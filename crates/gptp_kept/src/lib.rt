@@ -18,6 +18,10 @@
 //! - [`syncs`]: how systems tell time and hear it, as the machine of `gptp_settling` asks where something can lapse;
 //! - [`timed`]: the systems that follow a parent as the machine of `gptp_timing`, and how exact their offsets are;
 //! - [`timed_claim`]: that this is so in every world, wherever it is calm for long enough, as part of all that is claimed;
+//! - [`elsewhere`]: what a link that an act leaves alone goes on knowing of itself, whatever changes elsewhere;
+//! - [`first_at`]: a link since its port has sent its first request, at a start or where it comes up;
+//! - [`sound_worlds`]: worlds in which all that is held and in flight is sound, through acts and gains;
+//! - [`news`]: worlds since a start, a link that comes up or another gain settle sooner;
 //! - [`exact`]: how exact the offsets are that acts of a world leave.
 //!
 //! Each port announces at an interval of its own. What is counted in announce intervals is counted in the largest of
@@ -30,16 +34,20 @@ pub mod bounded;
 pub mod calm;
 pub mod capable;
 pub mod claimed;
+pub mod elsewhere;
 pub mod exact;
+pub mod first_at;
 pub mod known;
 pub mod link_acts;
 pub mod link_facts;
 pub mod link_watch;
 pub mod link_worlds;
 pub mod measured_links;
+pub mod news;
 pub mod seen;
 pub mod settled;
 pub mod silence;
+pub mod sound_worlds;
 pub mod syncs;
 pub mod timed;
 pub mod timed_claim;

@@ -23,7 +23,7 @@ use Rattle.gptp_measuring.proofs.CountLemmas.{counts_recorded, counts_completed,
 module _ (k : Setting) (least : ℕ) (asks : List ℕ → Request → Type 0) (replies : List ℕ → Reply → Type 0)
     (gone calm : ℕ) where
   -- the parts of a clean exchange are those of the state after the act
-  moved : (a a' : Asker) (w w' : Option Waiting) (o o' b b' : List Frame) → a' ≡ a → w' ≡ w → o' ≡ o → b' ≡ b
+  pub moved : (a a' : Asker) (w w' : Option Waiting) (o o' b b' : List Frame) → a' ≡ a → w' ≡ w → o' ≡ o → b' ≡ b
       → IsClean k least asks replies calm a w o b → IsClean k least asks replies calm a' w' o' b'
   moved a a' w w' o o' b b' ea ew eo eb clean = rw (ea, ew, eo, eb) clean
 
@@ -52,8 +52,8 @@ module _ (k : Setting) (least : ℕ) (asks : List ℕ → Request → Type 0) (r
       }))
 
   -- the port that asks hears the oldest frame
-  asker_heard : (a a' : Asker) (w : Option Waiting) (out : List Frame) (front : Frame) (rest : List Frame) (time : ℕ)
-      → front.due ≡ time → Takes k replies time front.octets a a'
+  pub asker_heard : (a a' : Asker) (w : Option Waiting) (out : List Frame) (front : Frame) (rest : List Frame)
+      (time : ℕ) → front.due ≡ time → Takes k replies time front.octets a a'
       → IsClean k least asks replies calm a w out (front ∷ rest) → IsClean k least asks replies calm a' w out rest
   asker_heard a a' w out front rest time now takes clean = by_phase clean.phase
     where

@@ -8,5 +8,7 @@ pub mod InvariantLemmas
 pub mod CapabilityLemmas
 pub mod MeasuredLemmas
 pub mod SilenceLemmas
+pub mod FirstLemmas
+pub mod OrderLemmas
 mod ExampleLemmas
 mod MeterExampleLemmas

@@ -26,7 +26,7 @@ use Rattle.gptp_measuring.proofs.PhaseLemmas
 
 module _ (k : Setting) (least : ℕ) (calm : ℕ) where
   -- the port and its last measurement are as they were
-  measured_still : (a a' : Asker) (last last' : Option Measurement) → a' ≡ a → last' ≡ last
+  pub measured_still : (a a' : Asker) (last last' : Option Measurement) → a' ≡ a → last' ≡ last
       → MeasuredSince k least calm a last → MeasuredSince k least calm a' last'
   measured_still a a' last last' ea el since = rw (ea, el) since
 
@@ -53,7 +53,7 @@ module _ (k : Setting) (least : ℕ) (calm : ℕ) where
       }
 
   -- The next request is sent, one period after the last. Where that one was sent at `calm` or later, it is closed.
-  measured_asked : (a : Asker) (last last' : Option Measurement) (time sequence : ℕ) (t1 : ℤ)
+  pub measured_asked : (a : Asker) (last last' : Option Measurement) (time sequence : ℕ) (t1 : ℤ)
       → a.asked + k.period ≡ time → (a.progress ≡ Closed → last' ≡ last)
       → (calm ≤ a.asked → (a.progress ≡ Closed) × MeasuredSince k least calm a last)
       → MeasuredSince k least calm (asks_now time sequence t1 (after_interval k.allowed a.progress a)) last'
@@ -160,11 +160,12 @@ module _ (k : Setting) (least : ℕ) (calm : ℕ) where
 module _ (k : Setting) (least : ℕ) (asks : List ℕ → Request → Type 0) (replies : List ℕ → Reply → Type 0)
     (gone calm : ℕ) where
   -- the port that asks hears the oldest frame
-  measured_heard : (m m' : Meter) (act : AskerHears k asks replies m.pair m'.pair) → IsGood k gone calm
+  pub measured_heard : (m m' : Meter) (act : AskerHears k asks replies m.pair m'.pair)
+      → k.most + k.turnaround + k.most < k.period
       → TakesMeasure k replies act.front.octets m.pair.asker m.last m'.last
       → Phase k least asks replies m.pair.asker m.pair.waits m.pair.out (act.front ∷ act.rest)
       → MeasuredSince k least calm m.pair.asker m.last → MeasuredSince k least calm m'.pair.asker m'.last
-  measured_heard m m' act good takes phase since = by_phase phase
+  measured_heard m m' act short takes phase since = by_phase phase
     where
       a : Asker
       a = m.pair.asker
@@ -196,7 +197,7 @@ module _ (k : Setting) (least : ℕ) (asks : List ℕ → Request → Type 0) (r
           measured_still k least calm (completed true a) m'.pair.asker m'.last m'.last
           (completes_well k least asks replies gone calm a m'.pair.asker act.front.octets m.pair.time sequence came
           heard there home progress act.asker said) refl
-          (measured_completed k least calm a m.last m'.last sequence came heard good.short there home progress
+          (measured_completed k least calm a m.last m'.last sequence came heard short there home progress
           (takes.follow_up sequence (k.asking_clock a.asked) (k.answering_clock came)
           (k.answering_clock (came + k.turnaround)) (k.asking_clock heard) progress said) since)
       by_phase (FollowUpComes sequence came heard there home progress asks_none none (inr (mute, later))) =
@@ -245,7 +246,7 @@ module _ (k : Setting) (least : ℕ) (asks : List ℕ → Request → Type 0) (r
   measured_kept m m' good facts (meter_hears act takes) inv since =
       let same = act.asker.asked in
       let before : calm ≤ m.pair.asker.asked = omega (arith, same, since) in
-      measured_heard m m' act good takes
+      measured_heard m m' act good.short takes
       (subst (λ b. Phase k least asks replies m.pair.asker m.pair.waits m.pair.out b) act.was
       (inv.phases.clean before).phase) (inv.measured before)
   measured_kept m m' good facts (meter_heard act kept) inv since = measured_rests m m' act.asker kept inv since

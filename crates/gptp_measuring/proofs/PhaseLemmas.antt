@@ -10,7 +10,7 @@ use Rattle.gptp_measuring.specs.Answerer.{Waiting, noted, Notes}
 use Rattle.gptp_measuring.specs.Acts.{SendsRequest, SendsReply, SendsAnswer}
 use Rattle.gptp_measuring.specs.Phases.{Phase, Rests, RequestGoes, AnswerWaits, ResponseComes, FollowUpComes}
 use Rattle.gptp_measuring.specs.Phases.{IsLastRequest, IsItsResponse, IsItsFollowUp, FollowUpInFlight}
-use Rattle.gptp_measuring.specs.Phases.{ResponseInFlight}
+use Rattle.gptp_measuring.specs.Phases.{RequestInFlight, ResponseInFlight}
 use Rattle.gptp_measuring.proofs.LaneLemmas.{mute_append, mute_rest, first_append, first_behind, first_map}
 use Rattle.gptp_measuring.proofs.LaneLemmas.{first_is_there}
 
@@ -192,20 +192,26 @@ module _ (k : Setting) (least : ℕ) (asks : List ℕ → Request → Type 0) (r
       absurd (replies_none f at
       (FollowUp k.answering (own_request k sequence) (k.answering_clock (came + k.turnaround))) is.0)
 
-  -- a request that is sent where nothing is pending begins an exchange
+  -- a request that is sent where none is in flight is the only one
+  pub request_is_only : (out news : List Frame) (time sequence : ℕ) → AreMute asks out
+      → ((f : Frame) → In f news → asks f.octets (own_request k sequence) → IsBetween time f.due least k.most)
+      → SendsRequest asks (own_request k sequence) news
+      → RequestInFlight k least asks replies sequence time (out ++ news)
+  request_is_only out news time sequence asks_none in_time sent =
+      first_behind asks (IsLastRequest k least asks replies sequence time)
+      (AreMute asks) out news asks_none
+      (first_map asks (λ f. asks f.octets (own_request k sequence))
+      (IsLastRequest k least asks replies sequence time) (AreMute asks)
+      (AreMute asks) news (λ f at said. (said, in_time f at said)) (λ gs same mute. mute) sent)
+
+  -- where nothing else is pending it begins an exchange
   pub request_goes : (waits : Option Waiting) (out back news : List Frame) (time sequence : ℕ) → AreMute asks out
       → waits ≡ None → AreMute replies back
       → ((f : Frame) → In f news → asks f.octets (own_request k sequence) → IsBetween time f.due least k.most)
       → SendsRequest asks (own_request k sequence) news
       → Phase k least asks replies (asks_now time sequence (k.asking_clock time) a) waits (out ++ news) back
   request_goes waits out back news time sequence asks_none none replies_none in_time sent =
-      RequestGoes sequence refl
-      (first_behind asks (IsLastRequest k least asks replies sequence time)
-      (AreMute asks) out news asks_none
-      (first_map asks (λ f. asks f.octets (own_request k sequence))
-      (IsLastRequest k least asks replies sequence time) (AreMute asks)
-      (AreMute asks) news (λ f at said. (said, in_time f at said)) (λ gs same mute. mute) sent))
-      none replies_none
+      RequestGoes sequence refl (request_is_only out news time sequence asks_none in_time sent) none replies_none
 
 -- whatever the least delay is, a phase is one where nothing is known of it
 pub phase_forgets : (k : Setting) (least : ℕ) (asks : List ℕ → Request → Type 0) (replies : List ℕ → Reply → Type 0)

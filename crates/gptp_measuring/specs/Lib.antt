@@ -20,5 +20,9 @@ pub mod Meter
 pub mod Measured
 pub mod Runs
 pub mod MeasuredLaws
+pub mod First
+pub mod FirstLaws
+pub mod Order
+pub mod OrderLaws
 pub mod Example
 pub mod MeterExample

@@ -9,3 +9,8 @@ pub trait Coding {
 
     ghost replies: { List ℕ → Reply → Type 0 };
 }
+
+/// Which octets tell something else, as an Announce does.
+pub trait Telling {
+    ghost tells: { List ℕ → Type 0 };
+}

@@ -11,7 +11,8 @@
 //! theorem about the definitions. On a link that is up, loses nothing and is good, between two live systems, the port
 //! is capable from L + 5 announce intervals after the last change on, where L is the number of requests that may be
 //! lost, and what it has measured is that of two exchanges over the link from five on; on a link whose other end has
-//! failed it isn't capable from L + 5 on. `docs/LINK_FACTS.md` lists what a network
+//! failed it isn't capable from L + 5 on. Where a request finds nothing old in flight, the port is capable sooner: one
+//! interval between requests and one exchange after that request. `docs/LINK_FACTS.md` lists what a network
 //! must show to be such a machine. Lemmas for the crates above are in the public modules of `proofs/`.
 #![tactic(auto)]
 
@@ -21,7 +22,9 @@ mod coding;
 mod examples;
 mod exchange;
 mod facts;
+mod first;
 mod measured;
+mod order;
 mod silence;
 
 pub use bounds::bounds_kept;
@@ -29,14 +32,19 @@ pub use capability::{
     capability_settles, capable_from_calm, invariant_begins, invariant_holds_later, invariant_kept,
     no_exchange_is_bad, no_request_is_lost, runs_end_capable,
 };
-pub use coding::Coding;
+pub use coding::{Coding, Telling};
 pub use examples::{two_exchanges, two_measurements};
 pub use exchange::{exchanges_are_good, exchanges_show_neighbor};
 pub use facts::{facts_hold_later, facts_kept, timing_is_enough};
+pub use first::{
+    asks_by_holds_later, asks_by_kept, capable_by, exchange_is_full, first_begins,
+    first_holds_later, first_kept, stays_capable,
+};
 pub use measured::{
     measured_from_calm, measuring_settles, meter_begins, meter_holds_later, meter_is_invariant,
     meter_kept, runs_end_measured,
 };
+pub use order::{not_capable_before, told_is_heard};
 pub use silence::{
     incapable_from_gone, runs_end_incapable, silence_begins, silence_holds_later, silence_kept,
     silence_settles,

@@ -11,3 +11,6 @@ pub mod LawLemmas
 pub mod PassLemmas
 pub mod InUseLemmas
 pub mod SpanLemmas
+pub mod GivenLemmas
+pub mod FitLemmas
+pub mod MeantLemmas

@@ -127,6 +127,11 @@ module _ (n : NetworkState) (network : IsNetwork n) (events : List Timed) (g : S
       let is = (cond_some (system_after events m).live ((system_after events m).identity, m.ports) pair lives).1 in
       (m, at, ap system_of is ∙ seen)
 
+  pub member_there : (s : System) → In s g.systems → (m : Member) × In m n.systems
+      × (system_of ((system_after events m).identity, m.ports) ≡ s)
+  unfolding after
+  member_there = member_of
+
   -- two systems of the network with one clock are one
   one_member : (l m : Member) → In l n.systems → In m n.systems → clock_of l.identity ≡ clock_of m.identity → l ≡ m
   one_member l m first second same =

@@ -1,10 +1,10 @@
 //! What documents promise beyond single calls.
 
 ghost use Rattle.std.specs.Prelude.{◌≡◌, ℕ, List};
-ghost use Rattle.gptp_graph.specs.Snapshot.{Snapshot};
+ghost use Rattle.gptp_graph.specs.Snapshot.{IsWellFormed, Snapshot};
 ghost use Rattle.gptp_plan.specs.Network.{IsNetwork};
 ghost use Rattle.gptp_network.specs.Document.{DocumentState, Fails, Means};
-ghost use Rattle.gptp_plan.specs.Network.{IsNetwork};
+ghost use Rattle.gptp_network.specs.Events.{AreEvents};
 ghost use Rattle.gptp_network.specs.Snapshot.{IsSnapshot, IsWithinLimits};
 ghost use Rattle.gptp_network.specs.declared.fault.DocumentFault.{DocumentFault};
 
@@ -23,9 +23,17 @@ pub fn a_text_fails_in_one_way()
     ensures { (text : List ℕ) (first second : DocumentFault) → Fails text first → Fails text second → first ≡ second }
 {}
 
-/// A document whose network is within its limits has a snapshot at each time.
+/// What a text means is a network within its limits, with events that can be made in it.
+pub fn a_text_means_a_network_with_events()
+    ensures { (text : List ℕ) (d : DocumentState) → Means text d → IsNetwork d.network × AreEvents d.network d.events }
+{}
+
+/// A document that a text means has a snapshot at each time, and that is well formed; each whose network is within its
+/// limits has one.
 pub fn a_document_has_a_snapshot()
-    ensures { (d : DocumentState) (at : ℕ) → IsNetwork d.network → (g : Snapshot) × IsSnapshot d at g }
+    ensures meant { (text : List ℕ) (d : DocumentState) (at : ℕ) → Means text d
+        → (g : Snapshot) × IsSnapshot d at g × IsWellFormed g }
+    ensures network { (d : DocumentState) (at : ℕ) → IsNetwork d.network → (g : Snapshot) × IsSnapshot d at g }
 {}
 
 /// A document has one snapshot at a time.

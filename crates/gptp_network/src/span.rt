@@ -11,6 +11,8 @@ impl Snapshot {
     ghost use Rattle.gptp_graph.specs.PathBound.{path_bound};
     ghost use Rattle.gptp_plan.specs.Allowed.{AreAllowed};
     ghost use Rattle.gptp_plan.specs.Network.{pace_of};
+    ghost use Rattle.gptp_plan.specs.InUse.{greatest_delay};
+    ghost use Rattle.gptp_plan.specs.SettlingAtOnce.{settling_span_at_once};
     ghost use Rattle.gptp_plan.specs.SettlingTime.{settling_span_with};
     ghost use Rattle.gptp_plan.specs.SyncWait.{sync_paths};
     ghost use Rattle.gptp_network.specs.Snapshot.{StandsAfter};
@@ -26,6 +28,22 @@ impl Snapshot {
     {
         network.well_formed();
         network.settling_span_over(self.path_bound(), events)
+    }
+
+    /// How long it takes at most where nothing lapses for want of Sync, whatever came before, in ns: by how many systems a
+    /// path has, and by the greatest delay of a link.
+    pub fn settling_span_at_once(&self, network: &Network, events: &[Timed]) -> u64
+        requires stands { StandsAfter network.now events.now self.now }
+        requires allowed { AreAllowed events.now }
+        ensures span { result ≡ settling_span_at_once (pace_of network.now)
+            (record {
+              systems = path_bound self.now;
+              delay = greatest_delay network.now.systems events.now network.now.links;
+            }) }
+        ensures bound { result ≤ 110000000000000 }
+    {
+        network.well_formed();
+        network.settling_span_at_once(self.path_bound(), events)
     }
 }
 

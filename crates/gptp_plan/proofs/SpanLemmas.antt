@@ -13,6 +13,9 @@ few_intervals intervals interval h k = mul-le-mul {n₂ = 10000} {m₂ = 1600000
 pub few_steps : (live step : ℕ) → live ≤ 512 → step ≤ 176000000000 → live * step ≤ 90112000000000
 few_steps live step h k = mul-le-mul {n₂ = 512} {m₂ = 176000000000} h k
 
+pub few_spans : (timeout interval : ℕ) → timeout ≤ 10 → interval ≤ 16000000000 → timeout * interval ≤ 160000000000
+few_spans timeout interval h k = mul-le-mul {n₂ = 10} {m₂ = 16000000000} h k
+
 -- what a step of so many systems takes longer is above an announce interval, which each of them takes anyway
 pub short_span : (rest live interval reach : ℕ) → rest ≤ 6404 → live ≤ 512 → interval ≤ 16000000000
     → reach ≤ 176000000000

@@ -6,5 +6,6 @@ pub mod InUse
 pub mod SyncWait
 pub mod Calm
 pub mod SettlingTime
+pub mod SettlingAtOnce
 pub mod Prompt
 pub mod Allowed

@@ -2,6 +2,7 @@
 
 ghost use Rattle.std.specs.Prelude.{◌≡◌, ◌≤◌, ◌+◌, ◌*◌, ℕ};
 ghost use Rattle.gptp_plan.specs.Params.{KeepParams};
+ghost use Rattle.gptp_plan.specs.SettlingAtOnce.{settling_span_at_once};
 ghost use Rattle.gptp_plan.specs.SettlingTime.{settling_span, settling_span_with};
 ghost use Rattle.gptp_setup.specs.Intervals.{IsLog};
 
@@ -48,11 +49,30 @@ fn settling_span_with(params: &Params, largest: i8, paths: SyncPaths, live: u64)
     settling_span(params, largest, live) + live * step_more(params, largest, paths)
 }
 
+/// How long it takes from any past where nothing lapses and a path has so many systems, sharply, in ns.
+#[tactic(auto, using(crate::proofs::SpanLemmas::few_spans, crate::proofs::SpanLemmas::few_steps))]
+fn settling_span_at_once(params: &Params, largest: i8, paths: SyncPaths) -> u64
+    requires params { KeepParams params.now }
+    requires largest { IsLog largest }
+    requires few { paths.systems ≤ 512 }
+    requires short { paths.delay ≤ 16000000000 }
+    ensures span { result ≡ settling_span_at_once (record { params = params.now; largest = largest }) paths }
+    ensures bound { result ≤ 110000000000000 }
+{
+    let interval = interval_of(largest);
+    let capable = (u64::from(params.lost) + 5) * interval;
+    let turn = u64::from(params.timeout) * interval + paths.delay;
+    let clean = 2 * interval + paths.systems as u64 * turn;
+    let further = paths.systems.saturating_sub(1) as u64;
+    capable.max(clean) + interval + further * paths.delay
+}
+
 impl Network {
     ghost use Rattle.std.specs.Prelude.{◌≡◌, ◌≤◌};
     ghost use Rattle.gptp_plan.specs.Allowed.{AreAllowed};
     ghost use Rattle.gptp_plan.specs.InUse.{greatest_delay, live_systems};
     ghost use Rattle.gptp_plan.specs.Network.{pace_of};
+    ghost use Rattle.gptp_plan.specs.SettlingAtOnce.{settling_span_at_once};
     ghost use Rattle.gptp_plan.specs.SettlingTime.{settling_span_with};
     ghost use Rattle.gptp_plan.specs.SyncWait.{sync_paths, sync_wait};
 
@@ -118,5 +138,21 @@ impl Network {
     {
         self.well_formed();
         settling_span_with(&self.params(), self.largest(), paths, paths.systems as u64)
+    }
+
+    /// How long the network takes at most to settle after these events, whatever came before, in ns, where nothing lapses
+    /// for want of Sync and no path over its live systems and the links in use has more than so many systems. With k, L
+    /// and the largest announce interval I as for [`Network::settling_span_over`], and M the greatest delay of a link in
+    /// use: the greater of (L + 5)·I and of 2·I and k·I + M for each system; then I, and M for each further system.
+    pub fn settling_span_at_once(&self, systems: usize, events: &[Timed]) -> u64
+        requires few { systems ≤ 512 }
+        requires allowed { AreAllowed events.now }
+        ensures span { result ≡ settling_span_at_once (pace_of self.now)
+            (record { systems = systems; delay = greatest_delay self.now.systems events.now self.now.links }) }
+        ensures bound { result ≤ 110000000000000 }
+    {
+        self.well_formed();
+        let delay = self.greatest_delay(events);
+        settling_span_at_once(&self.params(), self.largest(), SyncPaths { systems, delay })
     }
 }

@@ -126,7 +126,8 @@ quiet_stands n events w is so sound calm = record {
 
 -- ---- parameters
 
-pace_stands : (n : NetworkState) (events : List Timed) (w : WorldState) → StandsAs n events w → HavePace (pace_of n) w
+pub pace_stands : (n : NetworkState) (events : List Timed) (w : WorldState) → StandsAs n events w
+    → HavePace (pace_of n) w
 pace_stands n events w so place station here =
     let of = member_at n events w so place station here in
     record {

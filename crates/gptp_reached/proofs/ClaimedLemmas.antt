@@ -100,7 +100,7 @@ module _ {F : Type 0} (answers : Bounds → ℕ → F → Option ℕ → F → T
       (claim_kept answers p timed fate drawn w between one.done (next_fits w timed next) (next_prompt w timed next)
       (next_octet next.item timed.act w next.act) k.was_done is)
 
-  advanced_claimed : (until : ℕ) (told : List Told) (fate fate_after : F) (w w' : WorldState)
+  pub advanced_claimed : (until : ℕ) (told : List Told) (fate fate_after : F) (w w' : WorldState)
       → Advanced answers until told fate fate_after w w' → IsClaimed p w → IsClaimed p w'
   advanced_claimed until told fate fate_after w w' k is =
       let on = advances_claimed until told fate fate_after w k.between k.advances is in

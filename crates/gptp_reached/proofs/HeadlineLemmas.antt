@@ -1,5 +1,5 @@
 -- The theorem from its parts.
-use Rattle.std.proofs.Common.{ℕ, suc, List, Option, length, subst, arith}
+use Rattle.std.proofs.Common.{◌≤◌, ◌+◌, ℕ, suc, List, Option, length, subst, arith}
 use Rattle.gptp_lists.proofs.MemberLemmas.{In-slice_get}
 use Rattle.gptp_graph.specs.Labelling.{SystemLine}
 use Rattle.gptp_graph.specs.PathBound.{BoundsPaths, path_bound}
@@ -9,6 +9,8 @@ use Rattle.gptp_graph.proofs.PathBoundLemmas.{paths_within}
 use Rattle.gptp_links.specs.declared.bounds.Bounds.{Bounds}
 use Rattle.gptp_scaled.specs.Counts.{AreWithin}
 use Rattle.gptp_setup.specs.Pace.{Pace}
+use Rattle.gptp_plan.specs.Network.{pace_of}
+use Rattle.gptp_plan.specs.SettlingAtOnce.{settling_span_at_once}
 use Rattle.gptp_acts.specs.Acts.{at}
 use Rattle.gptp_acts.specs.declared.done.Done.{Done}
 use Rattle.gptp_acts.specs.declared.done.Done.TheVariants.{Quiet, Heard}
@@ -20,33 +22,34 @@ use Rattle.gptp_network.specs.Snapshot.{events_by}
 use Rattle.gptp_report.specs.Run.{Plays}
 use Rattle.gptp_kept.specs.Bounded.{IsBoundedWorld}
 use Rattle.gptp_kept.specs.Calm.{IsQuietWorld}
-use Rattle.gptp_kept.specs.CalmFor.{IsCalmFor, span_over}
+use Rattle.gptp_kept.specs.CalmFor.{IsCalmFor, at_once_span, span_over}
 use Rattle.gptp_kept.specs.Claimed.{Claimed}
 use Rattle.gptp_kept.specs.Exact.{IsHeardExact, exact_span}
 use Rattle.gptp_kept.specs.Known.{AreSet}
 use Rattle.gptp_kept.specs.Settled.{Settled}
 use Rattle.gptp_kept.specs.Standing.{snapshot_of}
-use Rattle.gptp_kept.proofs.BoundedLemmas.{bounded_by_paths}
+use Rattle.gptp_kept.proofs.BoundedLemmas.{bounded_at_once, bounded_by_paths}
 use Rattle.gptp_kept.proofs.CalmKeptLemmas.{later_quiet}
-use Rattle.gptp_kept.proofs.ClaimedLemmas.{settled_by_paths}
+use Rattle.gptp_kept.proofs.ClaimedLemmas.{settled_at_once, settled_by_paths}
 use Rattle.gptp_kept.proofs.ExactLemmas.{receipts_are_exact}
 use Rattle.gptp_kept.proofs.HoldsLemmas.{systems_bound}
 use Rattle.gptp_kept.proofs.StandsLemmas.{stands_well}
 use Rattle.gptp_kept.proofs.TreeLemmas.{settled_is_tree}
 use Rattle.gptp_certificate.specs.Stated.{States}
 use Rattle.gptp_certificate.proofs.SettledLemmas.{settled_choice}
-use Rattle.gptp_reached.specs.Headline.{HasComeDown, HasPassed, Headline, HeadlineByNeighbours, HeadlineBySystems, IsCalm, IsCertified, IsSettled, UsesFollowUp}
-use Rattle.gptp_reached.specs.HeadlineLaws.{HasSnapshotOf, WorldsAreExact}
+use Rattle.gptp_reached.specs.Headline.{HasComeDown, HasPassed, Headline, HeadlineAtOnce, HeadlineByNeighbours, HeadlineBySystems, IsCalm, IsCertified, IsSettled, UsesFollowUp}
+use Rattle.gptp_reached.specs.HeadlineLaws.{HasSnapshotOf, IsAtRestAtOnce, WorldsAreExact}
 use Rattle.gptp_reached.specs.PlayedLaws.{IsAtRest, IsPlayable}
-use Rattle.gptp_reached.proofs.CalmLemmas.{document_calm}
+use Rattle.gptp_reached.proofs.CalmLemmas.{document_calm, pace_stands, quiet_stands}
 use Rattle.gptp_reached.proofs.ClaimedLemmas.{events_made, played_claimed}
 use Rattle.gptp_reached.proofs.PlayedLemmas.{played_stands}
 use Rattle.gptp_reached.proofs.SnapshotLemmas.{snapshots_stand}
+use Rattle.gptp_reached.proofs.SyncPathLemmas.{paths_stand}
 
 -- ---- of a world
 
 -- what is asked on the page is what the laws of gptp_kept ask
-quiet_as : (p : Pace) (w : WorldState) → IsCalm p w → IsQuietWorld p.params w
+pub quiet_as : (p : Pace) (w : WorldState) → IsCalm p w → IsQuietWorld p.params w
 quiet_as p w calm = record {
   links = λ link channel here used.
       (let (lossless, good) = calm.links channel (In-slice_get channel w.net.channels link here) used in
@@ -81,7 +84,7 @@ module _ (w : WorldState) (claimed : Claimed w) (settled : Settled w) (bounded :
         only = λ other rising choice. same_choice (snapshot_of w) other lines wf choice right rising states.rising;
       }
 
-  is_settled : IsSettled w
+  pub is_settled : IsSettled w
   is_settled = record { tree = settled_is_tree w claimed settled; certified = certified }
 
 -- a calm one is such
@@ -92,6 +95,12 @@ settled_for m w claimed paths calm =
 
 pub worlds_settle : (w : WorldState) → Claimed w → Headline w
 worlds_settle w claimed p m calm paths passed = settled_for m w claimed paths (calm_for p m w calm passed)
+
+pub at_once : (w : WorldState) → Claimed w → HeadlineAtOnce w
+at_once w claimed p m calm off paths passed =
+    let sooner : IsCalmFor (at_once_span m) w =
+    record { pace = p; set = calm.of; quiet = quiet_as p w calm; late = passed } in
+    is_settled w claimed (settled_at_once m w claimed paths sooner off) (bounded_at_once m w claimed paths sooner off)
 
 pub by_systems : (w : WorldState) → Claimed w → HeadlineBySystems w
 by_systems w claimed p calm passed =
@@ -136,5 +145,32 @@ documents_lead answers d until fate told w is plays rest =
       λ g stands.
           let (systems, links) =
           snapshots_stand d.network (events_by until d.events) w g reached.stands reached.sound stands in
+          record { systems = systems; links = links },
+    )
+
+pub documents_at_once : {F : Type 0} (answers : Bounds → ℕ → F → Option ℕ → F → Type 0) (d : DocumentState)
+    (until : ℕ) (fate : F) (told : List Told) (w : WorldState) → IsPlayable d → Plays answers d until fate told w
+    → IsAtRestAtOnce d until → IsSettled w × HasSnapshotOf d until w
+documents_at_once answers d until fate told w is plays rest =
+    let reached = played_stands answers d until fate told w is.network (events_made d until is.network is.events) plays
+    in
+    let claimed = played_claimed answers d until fate told w is plays in
+    let n = d.network in
+    let events = events_by until d.events in
+    let so = reached.stands in
+    let m = path_bound (snapshot_of w) in
+    let world = claimed.is.world in
+    let bounded = paths_within (snapshot_of w) (stands_well w world.sound world.between world.legible) in
+    let calm : IsCalmFor (at_once_span m) w = record {
+      pace = pace_of n;
+      set = pace_stands n events w so;
+      quiet = quiet_stands n events w is.network so reached.sound rest.calm;
+      late = subst (λ paths. w.last_change + settling_span_at_once (pace_of n) paths ≤ w.time)
+          (paths_stand n events w is.network so reached.sound) (rw (so.last, reached.now) rest.settled);
+    } in (
+      is_settled w claimed (settled_at_once m w claimed bounded calm rest.nothing)
+          (bounded_at_once m w claimed bounded calm rest.nothing),
+      λ g stands.
+          let (systems, links) = snapshots_stand n events w g so reached.sound stands in
           record { systems = systems; links = links },
     )

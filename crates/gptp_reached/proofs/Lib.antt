@@ -13,4 +13,6 @@ pub mod ClaimedLemmas
 pub mod OctetLemmas
 pub mod RestLemmas
 pub mod HeadlineLemmas
+pub mod SoonLemmas
 pub mod RunLemmas
+pub mod CalmKeptLemmas

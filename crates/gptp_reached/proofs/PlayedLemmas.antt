@@ -32,7 +32,7 @@ use Rattle.gptp_reached.proofs.ChangeLemmas.{changes_stand}
 use Rattle.gptp_reached.proofs.KeptLemmas.{acts_stand, time_stands}
 
 -- what is pending is no change
-no_change : (item : Item) (act : Act) (w : WorldState) → IsActOf item w act → IsNoChange act
+pub no_change : (item : Item) (act : Act) (w : WorldState) → IsActOf item w act → IsNoChange act
 no_change (Arrival link direction) act w is = subst IsNoChange (sym is) tt
 no_change (Expiry place timer) act w (station, here, is) = subst IsNoChange (sym is) tt
 

@@ -1,5 +1,5 @@
 -- Each act of a run of a document leaves exact offsets.
-use Rattle.std.proofs.Common.{◌≡◌, ◌≤◌, ◌+◌, ℕ, List, [], ◌∷◌, ◌++◌, Option, sym, subst, inl, inr, arith}
+use Rattle.std.proofs.Common.{◌≡◌, ◌≤◌, ◌+◌, ◌^◌, ℕ, List, [], ◌∷◌, ◌++◌, Option, sym, subst, inl, inr, arith}
 use Rattle.std.specs.List.{AllByRecursion}
 use Rattle.gptp_lists.specs.Members.{In}
 use Rattle.gptp_lists.proofs.MemberLemmas.{In-parts}
@@ -59,7 +59,7 @@ module _ {F : Type 0} (answers : Bounds → ℕ → F → Option ℕ → F → T
     early : w'.time ≤ until
 
   passes_exact : (until : ℕ) (ts : List Transition) (fate fate_after : F) (w w' : WorldState)
-      → until ≤ 1000000000000000 → Passes answers until ts fate fate_after w w' → IsKept w → w.time ≤ until
+      → until ≤ 10 ^ 18 → Passes answers until ts fate fate_after w w' → IsKept w → w.time ≤ until
       → IsExactUntil until ts w'
   passes_exact until [] fate fate_after w w' moment (same, is) kept early = record {
     each = λ t member. absurd member;
@@ -89,7 +89,7 @@ module _ {F : Type 0} (answers : Bounds → ℕ → F → Option ℕ → F → T
       }
 
   passes_to_exact : (until : ℕ) (ts : List Transition) (fate fate_after : F) (w w' : WorldState)
-      → until ≤ 1000000000000000 → PassesTo answers until ts fate fate_after w w' → IsKept w
+      → until ≤ 10 ^ 18 → PassesTo answers until ts fate fate_after w w' → IsKept w
       → AreExact ts × IsKept w'
   passes_to_exact until ts fate fate_after w w' moment k kept =
       let on = passes_exact until ts fate fate_after w k.between moment k.passes kept k.ahead in
@@ -102,11 +102,13 @@ module _ {F : Type 0} (answers : Bounds → ℕ → F → Option ℕ → F → T
   makes_exact : (event : Timed) (ts : List Transition) (fate fate_after : F) (w w' : WorldState)
       → IsFitEvent least event → Makes answers event ts fate fate_after w w' → IsKept w → AreExact ts × IsKept w'
   makes_exact event ts fate fate_after w w' fit k kept =
-      let on = passes_to_exact event.at k.first fate k.drawn w k.between fit.moment k.passes kept in
+      let moment = fit.moment in
+      let early : event.at ≤ 10 ^ 18 = omega (arith, moment) in
+      let on = passes_to_exact event.at k.first fate k.drawn w k.between early k.passes kept in
       let made = transition event k.done k.between w' in
       let one : AreExact (made ∷ []) = λ t member. elim member [
         | inl same ↦ subst (λ (v : Transition). HeadlineOnTime v.before v.told.timed.at v.after v.told.done) (sym same)
-            (worlds_are_exact answers event k.drawn fate_after k.between w' k.done on.1.all k.made fit.moment)
+            (worlds_are_exact answers event k.drawn fate_after k.between w' k.done on.1.all k.made early)
         | inr none ↦ absurd none
       ] in (
         both_exact k.first (made ∷ []) ts k.are on.0 one,
@@ -115,7 +117,7 @@ module _ {F : Type 0} (answers : Bounds → ℕ → F → Option ℕ → F → T
       )
 
   courses_exact : (until : ℕ) (events : List Timed) (ts : List Transition) (fate fate_after : F) (w w' : WorldState)
-      → until ≤ 1000000000000000 → AllByRecursion (IsFitEvent least) events
+      → until ≤ 10 ^ 18 → AllByRecursion (IsFitEvent least) events
       → Courses answers until events ts fate fate_after w w' → IsKept w → AreExact ts
   courses_exact until [] ts fate fate_after w w' moment fit k kept =
       (passes_to_exact until ts fate fate_after w w' moment k kept).0

@@ -5,7 +5,7 @@
 -- are up between two of them; the *best* of a component has the lowest identity (IEEE 802.1AS-2020, 10.3.2), the
 -- *distance* of a system is the least number of links from it to the best, and a system is *near* where that is below
 -- 255.
-use Rattle.std.specs.Prelude.{◌≡◌, ◌≤◌, ◌+◌, ◌*◌, ℕ, ℤ, suc, true, List, Some, length}
+use Rattle.std.specs.Prelude.{◌≡◌, ◌≤◌, ◌+◌, ◌*◌, ℕ, ℤ, max, pred, suc, true, List, Some, length}
 use Rattle.gptp_lists.specs.Members.{In}
 use Rattle.gptp_graph.specs.Distance.{IsNear}
 use Rattle.gptp_graph.specs.Labelling.{SystemLine, line_clocks}
@@ -27,7 +27,7 @@ use Rattle.gptp_acts.specs.declared.done.Done.TheVariants.{Quiet, Heard}
 use Rattle.gptp_acts.specs.Prompt.{HavePace}
 use Rattle.gptp_acts.specs.Views.{ShowsLive}
 use Rattle.gptp_acts.specs.World.{Channel, WorldState}
-use Rattle.gptp_kept.specs.Calm.{sync_paths_of}
+use Rattle.gptp_kept.specs.Calm.{delay_in, sync_paths_of}
 use Rattle.gptp_kept.specs.Exact.{IsAhead, IsErrorOf}
 use Rattle.gptp_kept.specs.Standing.{is_used, live_systems, snapshot_of}
 use Rattle.gptp_kept.specs.Tree.{IsTree}
@@ -57,6 +57,19 @@ HasPassed p m w =
     + (((p.params.timeout + 3) * m + p.params.lost + 5) * largest_interval p + m * step_more p (sync_paths_of w))
     ≤ w.time
 
+-- So long it takes where syncReceiptTimeout is 0, with the greatest delay of a link of the snapshot: the longer of L +
+-- 5 intervals, in which ports become capable, and of 2 intervals, and k intervals and that delay for each of m systems,
+-- in which all that is held becomes wholly clean; then an interval, and the delay for each further system. That is
+-- never longer than what is above, where anybody lives.
+abbrev pub HasPassedAtOnce : Pace → ℕ → WorldState → Type 0
+HasPassedAtOnce p m w =
+    w.last_change
+    + (max ((p.params.lost + 5) * largest_interval p)
+    (2 * largest_interval p + m * (p.params.timeout * largest_interval p + delay_in w))
+    + largest_interval p
+    + pred m * delay_in w)
+    ≤ w.time
+
 -- ---- what is said
 
 -- the lines are the settled choice of the snapshot, and so no others in rising order of their clocks are
@@ -76,6 +89,12 @@ pub record IsSettled (w : WorldState) : Type 0 where
 abbrev pub Headline : WorldState → Type 0
 Headline w = (p : Pace) (m : ℕ)
     → IsCalm p w → BoundsPaths (snapshot_of w) m → HasPassed p m w
+    → IsSettled w
+
+-- where nothing lapses for want of Sync, so it is sooner
+abbrev pub HeadlineAtOnce : WorldState → Type 0
+HeadlineAtOnce w = (p : Pace) (m : ℕ)
+    → IsCalm p w → p.params.sync_timeout ≡ 0 → BoundsPaths (snapshot_of w) m → HasPassedAtOnce p m w
     → IsSettled w
 
 -- such an m is the number of live systems, and such is 2 more than there are systems with two neighbours or more

@@ -6,3 +6,5 @@ pub mod AlikeLaws
 pub mod SettleLaws
 pub mod Headline
 pub mod HeadlineLaws
+pub mod Soon
+pub mod CalmKept

@@ -1,18 +1,21 @@
 //! The theorem: whom every system follows, how soon, and how exactly.
 
-ghost use Rattle.gptp_reached.specs.HeadlineLaws.{DocumentsLeadToSettled, RunsAreExact, WorldsAreExact, WorldsAreOfANetwork};
-ghost use Rattle.gptp_reached.specs.HeadlineLaws.{WorldsSettle, WorldsSettleByNeighbours, WorldsSettleBySystems};
+ghost use Rattle.gptp_reached.specs.HeadlineLaws.{DocumentsLeadToSettled, DocumentsSettleAtOnce};
+ghost use Rattle.gptp_reached.specs.HeadlineLaws.{RunsAreExact, WorldsAreExact, WorldsAreOfANetwork};
+ghost use Rattle.gptp_reached.specs.HeadlineLaws.{WorldsSettle, WorldsSettleAtOnce, WorldsSettleByNeighbours, WorldsSettleBySystems};
 
 use gptp_links::Fate;
 
 /// Every world that `gptp_world` can be brought to, where it is calm, is settled once (k+3)m + L + 5 announce intervals,
 /// and what a syncReceiptTimeout adds, have passed since its last change, where no path of its snapshot has more than m
 /// systems: its near systems follow their component's best by fewest steps, slave ports form a tree to it, and what is
-/// stated of its systems is accepted, and nothing else is. So it is with m the number of its live systems, and with the
+/// stated of its systems is accepted, and nothing else is. Without a syncReceiptTimeout it is so sooner: each system of a
+/// path costs k intervals and the greatest delay, and nothing more. So it is with m the number of its live systems, and with the
 /// number that is read off the links: 2 and those that have two neighbours. That its systems have the parameters of one
 /// network is so of every world.
 pub fn worlds_settle()
     ensures theorem { WorldsSettle }
+    ensures at_once { WorldsSettleAtOnce }
     ensures systems { WorldsSettleBySystems }
     ensures neighbours { WorldsSettleByNeighbours }
     ensures parameters { WorldsAreOfANetwork }
@@ -32,4 +35,9 @@ pub fn runs_are_exact<F: Fate>()
 /// The world that a document leads to by a time at which it is at rest is settled; its snapshot is then the document's.
 pub fn documents_lead_to_settled_worlds<F: Fate>()
     ensures { DocumentsLeadToSettled F.answers }
+{}
+
+/// So it is sooner where nothing lapses in the document for want of Sync.
+pub fn documents_settle_at_once<F: Fate>()
+    ensures { DocumentsSettleAtOnce F.answers }
 {}

@@ -1,6 +1,7 @@
 //! Laws on worlds that stand as a network does after its events.
 
 ghost use Rattle.gptp_reached.specs.AlikeLaws.{SameChoice};
+ghost use Rattle.gptp_reached.specs.CalmKept.{CalmIsKept};
 ghost use Rattle.gptp_reached.specs.PlayedLaws.{CalmRests, DocumentIsCalm, DocumentsArePlayable, EventsAreMade, PlayedClaimed, PlayedStands};
 ghost use Rattle.gptp_reached.specs.ReachedLaws.{ActsStand, BegunStands, ChangesStand, TimeStands};
 ghost use Rattle.gptp_reached.specs.SettleLaws.{DocumentsSettle, PlayedSettle};
@@ -37,6 +38,12 @@ pub fn calm_stands()
     ensures paths { StandsPaths }
     ensures quiet { StandsQuiet }
     ensures set { StandsSet }
+{}
+
+/// A world that goes on by itself, as by `advance`, stays calm: it has been calm then for each span that it had been calm
+/// for before.
+pub fn calm_is_kept<F: Fate>()
+    ensures { CalmIsKept F.answers }
 {}
 
 /// The settled choice of a snapshot is that of each that differs in the order of the systems alone.

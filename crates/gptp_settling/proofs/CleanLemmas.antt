@@ -14,7 +14,7 @@ use Rattle.gptp_settling.specs.Touch.{Touch, Hear}
 use Rattle.gptp_settling.specs.Reacts.{IsOwn, Reacts}
 use Rattle.gptp_settling.specs.Acts.{LaneStep, Calls, Pops, Arrives, Acts, Waits, Steps}
 use Rattle.gptp_settling.specs.Clean.{Clean, Whole, Good, Came, CameWhole}
-use Rattle.gptp_settling.specs.Facts.{Setting, turn, Late, system_of, FollowsPort, IsInTime, IsStation, Facts}
+use Rattle.gptp_settling.specs.Facts.{Setting, turn, Late, BeginsLater, SendersLive, system_of, FollowsPort, IsInTime, IsStation, Facts}
 use Rattle.gptp_settling.specs.CleanInvariant.{LaneIsClean, StationIsClean, TracesAreClean}
 use Rattle.gptp_settling.specs.CleanLaws.{HeldIsWhole}
 use Rattle.gptp_lists.proofs.ReverseLemmas.{reverse-end}
@@ -102,30 +102,50 @@ module _ (says : Says) (k : Setting) (s s' : Station) (touch : Touch) (now : ℕ
 
   -- what enters a lane is as clean as what its sender may say
   lane_sent : (l l' : Lane) → LaneIsClean says k l → LaneStep s.clock sends l l' → IsStation k now s'
-      → StationIsClean k s' → ((f : Frame) → In f l'.frames → f.due ≤ now + k.interval) → LaneIsClean says k l'
-  lane_sent l l' clean step is' clean' near f a c at said late =
-      elim (In-parts f l.frames step.news (subst (In f) step.behind at)) [
-        | inl old ↦ let (known, good) = clean f a c old said late in (
-          subst (λ (p : PortIdentity). In p.clock (clocks k.graph)) (sym step.from) known,
-          subst (λ p. Good k.graph (suc c) p a) (sym step.from) good,
-        )
-        | inr new ↦ fresh (step.sent f new)
-      ]
+      → StationIsClean k s'
+      → ((f : Frame) → In f l'.frames → Joins k.graph l'.from l'.to → (f.due ≤ now + k.most) ⊎ (f.due < k.start))
+      → ((f : Frame) → In f l'.frames → f.due ≤ now + k.interval) → LaneIsClean says k l'
+  lane_sent l l' clean step is' clean' fresh near = record { sender = sender; clean = good; anywhere = good_anywhere }
     where
-      sent_late : f.due ≤ now + k.interval → k.start + c * turn k ≤ now
-      sent_late h = omega arith
+      -- what entered came from the system's port
+      at_port : (x : Send) → l.from ≡ port_of s.clock x.port → port_of s'.clock x.port ≡ l'.from
+      at_port x from = (λ i. port_of (reacts.clock i) x.port) ∙ sym (step.from ∙ from)
 
-      fresh : ((x : Send) × In x sends × (l.from ≡ port_of s.clock x.port) × (f.octets ≡ x.octets))
-          → In l'.from.clock (clocks k.graph) × Good k.graph (suc c) l'.from a
-      fresh (x, x_in, from, octets) =
-          let own : IsOwn s' x.port a =
-          (reacts.tells x a x_in (subst (λ (o : List ℕ). says o a) octets said)).0 in
-          let at_port : port_of s'.clock x.port ≡ l'.from =
-          (λ i. port_of (reacts.clock i) x.port) ∙ sym (step.from ∙ from) in (
-            subst (λ (p : PortIdentity). In p.clock (clocks k.graph)) at_port (known_clock k now s' is'),
-            subst (λ p. Good k.graph (suc c) p a) at_port
-                (may_say k now s' is' clean' c x.port a own (sent_late (near f at))),
-          )
+      sender : (f : Frame) → In f l'.frames → k.gone ≤ f.due → In l'.from.clock (clocks k.graph)
+      sender f at late = elim (In-parts f l.frames step.news (subst (In f) step.behind at)) [
+        | inl old ↦ subst (λ (p : PortIdentity). In p.clock (clocks k.graph)) (sym step.from) (clean.sender f old late)
+        | inr new ↦
+            let (x, x_in, from, octets) = step.sent f new in
+            subst (λ (p : PortIdentity). In p.clock (clocks k.graph)) (at_port x from) (known_clock k now s' is')
+      ]
+
+      -- an Announce that entered after c turns
+      sent_good : (f : Frame) (a : Announce) (c : ℕ) → In f step.news → says f.octets a → k.start + c * turn k ≤ now
+          → Good k.graph (suc c) l'.from a
+      sent_good f a c new said late =
+          let (x, x_in, from, octets) = step.sent f new in
+          let own : IsOwn s' x.port a = (reacts.tells x a x_in (subst (λ (o : List ℕ). says o a) octets said)).0 in
+          subst (λ p. Good k.graph (suc c) p a) (at_port x from) (may_say k now s' is' clean' c x.port a own late)
+
+      good : (f : Frame) (a : Announce) (c : ℕ) → In f l'.frames → says f.octets a → Joins k.graph l'.from l'.to
+          → Late k c f.due → Good k.graph (suc c) l'.from a
+      good f a c at said joins late = elim (In-parts f l.frames step.news (subst (In f) step.behind at)) [
+        | inl old ↦ subst (λ p. Good k.graph (suc c) p a) (sym step.from)
+            (clean.clean f a c old said
+            (subst (λ p. Joins k.graph p l.to) step.from (subst (Joins k.graph l'.from) step.to joins)) late)
+        | inr new ↦ sent_good f a c new said (sent_late (fresh f at joins))
+      ]
+        where
+          sent_late : (f.due ≤ now + k.most) ⊎ (f.due < k.start) → k.start + c * turn k ≤ now
+          sent_late (inl soon) = omega arith
+          sent_late (inr early) = absurd (omega arith)
+
+      good_anywhere : (f : Frame) (a : Announce) (c : ℕ) → In f l'.frames → says f.octets a
+          → k.start + c * turn k + k.interval ≤ f.due → Good k.graph (suc c) l'.from a
+      good_anywhere f a c at said late = elim (In-parts f l.frames step.news (subst (In f) step.behind at)) [
+        | inl old ↦ subst (λ p. Good k.graph (suc c) p a) (sym step.from) (clean.anywhere f a c old said late)
+        | inr new ↦ sent_good f a c new said (let soon = near f at in omega (arith, late, soon))
+      ]
 
 module _ (says : Says) (k : Setting) where
   -- one system answers
@@ -154,7 +174,9 @@ module _ (says : Says) (k : Setting) where
       lanes j l' at =
           let (l, stood, step) = call.lanes j l' at in
           lane_sent says k call.s call.s' touch w.time call.sends call.reacts l l' (clean.lanes j l stood) step
-          is' clean' (λ f h. subst (λ t. f.due ≤ t + k.interval) call.time (facts'.near j l' f at h))
+          is' clean' (λ f h joins. subst (λ t. (f.due ≤ t + k.most) ⊎ (f.due < k.start)) call.time
+          (facts'.fresh j l' f at h joins))
+          (λ f h. subst (λ t. f.due ≤ t + k.interval) call.time (facts'.near j l' f at h))
 
   -- a frame is taken off its lane
   popped : (j : ℕ) (l : Lane) (f : Frame) (fs : List Frame) (w w' : State) → Pops j l f fs w w'
@@ -168,26 +190,34 @@ module _ (says : Says) (k : Setting) where
   }
     where
       rest : LaneIsClean says k (record l { frames = fs })
-      rest g a c at = clean.lanes j l pops.here g a c (subst (In g) (sym pops.frames) (inr at))
+      rest = record {
+        sender = λ g at. (clean.lanes j l pops.here).sender g (subst (In g) (sym pops.frames) (inr at));
+        clean = λ g a c at. (clean.lanes j l pops.here).clean g a c (subst (In g) (sym pops.frames) (inr at));
+        anywhere = λ g a c at. (clean.lanes j l pops.here).anywhere g a c (subst (In g) (sym pops.frames) (inr at));
+      }
 
   -- what arrives is as clean as its lane
-  arrived : (w w' : State) (act : Arrives says w w') → Facts k w → TracesAreClean says k w
+  arrived : BeginsLater k → (w w' : State) (act : Arrives says w w') → Facts k w → TracesAreClean says k w
       → HeardIsClean k act.call.s act.mid.time act.touch
   unfolding HeardIsClean
-  arrived w w' act facts clean n a c touched late =
+  arrived begun w w' act facts clean n a c touched late =
       let (to, said) = act.heard n a touched in
       let frame : In act.f act.l.frames = subst (In act.f) (sym act.pops.frames) (inl refl) in
       let due : act.mid.time ≡ act.f.due = act.pops.time ∙ sym act.pops.due in
-      let (from_known, good) =
-      clean.lanes act.j act.l act.pops.here act.f a c frame said (subst (Late k c) due late) in
+      let lane = clean.lanes act.j act.l act.pops.here in
+      let late_due : Late k c act.f.due = subst (Late k c) due late in
+      let from_known = lane.sender act.f frame (omega arith) in
       let is : IsStation k w.time act.call.s =
       facts.stations act.call.place act.call.s
       (act.pops.stations act.call.place act.call.s act.call.here) act.call.live in
       let to_known : In act.l.to.clock (clocks k.graph) =
       subst (λ v. In v (clocks k.graph)) act.owner (known_clock k w.time act.call.s is) in
       let joins : Joins k.graph act.l.from act.l.to =
-      facts.linked act.j act.l act.f act.pops.here frame from_known to_known in
-      (act.l.from, subst (Joins k.graph act.l.from) (λ i. port_of (sym act.owner i) (sym to i)) joins, good)
+      facts.linked act.j act.l act.f act.pops.here frame from_known to_known in (
+        act.l.from,
+        subst (Joins k.graph act.l.from) (λ i. port_of (sym act.owner i) (sym to i)) joins,
+        lane.clean act.f a c frame said joins late_due,
+      )
 
   -- nothing is heard
   heard_none : (s : Station) (now : ℕ) (touch : Touch) → ((n : ℕ) (a : Announce) → touch ≡ Hear n a → ⊥)
@@ -196,12 +226,13 @@ module _ (says : Says) (k : Setting) where
   heard_none s now touch deaf n a c touched late = absurd (deaf n a touched)
 
   -- what happens keeps how clean traces are
-  acts : (w w' : State) → Facts k w → Facts k w' → Acts says w w' → TracesAreClean says k w → TracesAreClean says k w'
-  acts w w' facts facts' (inl act) clean =
+  acts : BeginsLater k → (w w' : State) → Facts k w → Facts k w' → Acts says w w' → TracesAreClean says k w
+      → TracesAreClean says k w'
+  acts begun w w' facts facts' (inl act) clean =
       called act.touch act.mid w' act.call facts'
-      (popped act.j act.l act.f act.fs w act.mid act.pops clean) (arrived w w' act facts clean)
-  acts w w' facts facts' (inr (inl act)) clean = popped act.j act.l act.f act.fs w w' act.pops clean
-  acts w w' facts facts' (inr (inr act)) clean =
+      (popped act.j act.l act.f act.fs w act.mid act.pops clean) (arrived begun w w' act facts clean)
+  acts begun w w' facts facts' (inr (inl act)) clean = popped act.j act.l act.f act.fs w w' act.pops clean
+  acts begun w w' facts facts' (inr (inr act)) clean =
       called act.touch w w' act.call facts' clean (heard_none act.call.s w.time act.touch act.deaf)
 
   -- so does the passing of time
@@ -211,21 +242,27 @@ module _ (says : Says) (k : Setting) where
       record { lanes = clean.lanes; stations = clean.stations } in later)
 
   -- every step keeps how clean traces are
-  pub clean_kept : (w w' : State) → Facts k w → Facts k w' → Steps says w w' → TracesAreClean says k w
+  pub clean_kept : BeginsLater k → (w w' : State) → Facts k w → Facts k w' → Steps says w w' → TracesAreClean says k w
       → TracesAreClean says k w'
-  clean_kept w w' facts facts' (inl wait) clean = waits w w' wait clean
-  clean_kept w w' facts facts' (inr act) clean = acts w w' facts facts' act clean
+  clean_kept begun w w' facts facts' (inl wait) clean = waits w w' wait clean
+  clean_kept begun w w' facts facts' (inr act) clean = acts begun w w' facts facts' act clean
 
-  -- before the start nothing is claimed
-  pub clean_begins : (w : State) → Facts k w → w.time < k.start → TracesAreClean says k w
-  clean_begins w facts early = record {
-    lanes = λ j l at f a c h said late.
-        let near : f.due ≤ w.time + k.interval = facts.near j l f at h in
-        absurd (omega arith);
-    stations = λ i s at live place r c holds late.
-        let came : r.at ≤ w.time = ((facts.stations i s at live).held place r holds).came in
+  -- before the start nothing is claimed of traces
+  pub clean_begins : (w : State) → Facts k w → SendersLive k w → w.time < k.start → TracesAreClean says k w
+  clean_begins w facts live early = record {
+    lanes = λ j l at. record {
+      sender = λ f h late. live j l f at h late;
+      clean = λ f a c h said joins late. absurd (by f c (facts.fresh j l f at h joins) late);
+      anywhere = λ f a c h said late. let soon = facts.near j l f at h in absurd (omega (arith, early, late, soon));
+    };
+    stations = λ i s at alive place r c holds late.
+        let came : r.at ≤ w.time = ((facts.stations i s at alive).held place r holds).came in
         absurd (omega arith);
   }
+    where
+      by : (f : Frame) (c : ℕ) → (f.due ≤ w.time + k.most) ⊎ (f.due < k.start) → Late k c f.due → ⊥
+      by f c (inl soon) late = omega arith
+      by f c (inr before) late = omega arith
 
   -- as many turns after the start as a path may have systems, all that is held is wholly clean
   pub held_whole : (m : ℕ) (w : State) → BoundsPaths k.graph m → Facts k w → TracesAreClean says k w

@@ -1,32 +1,30 @@
--- The links of a calm network: what is known of their ends, once the system that tells has settled.
+-- The links of a calm network: what is known of their ends, once all that is held is sound.
 use Rattle.std.proofs.Common.{◌≡◌, ◌≢◌, ◌⊎◌, ◌≤◌, ◌<◌, ◌+◌, ℕ, suc, true, List, [], ◌∷◌, Some, length, slice_get, sym, ap, subst, ◌∙◌, inl, inr, arith}
 use Rattle.std.proofs.lemmas.List.{length-append}
 use Rattle.gptp_lists.proofs.MemberLemmas.{In-parts}
 use native.Mathlib.Decide.{dec_le}
 use Rattle.gptp_lists.specs.Members.{In}
 use Rattle.gptp_graph.specs.Order.{IsLower}
-use Rattle.gptp_graph.specs.Snapshot.{System, port_of, Joins, IsLinked, clocks}
+use Rattle.gptp_graph.specs.Snapshot.{System, PortIdentity, port_of, Joins, IsLinked, clocks}
 use Rattle.gptp_graph.specs.Best.{IsBest}
 use Rattle.gptp_graph.specs.Distance.{IsDistance}
 use Rattle.gptp_graph.proofs.LinkLemmas.{Joins-sym, Joins-clock}
 use Rattle.gptp_graph.proofs.SystemLemmas as systems
 use Rattle.gptp_graph.proofs.BestLemmas.{IsBest-neighbour}
-use Rattle.gptp_graph.proofs.DistanceLemmas.{IsDistance-neighbour}
-use Rattle.gptp_settling.specs.Frame.{Frame, Lane}
+use Rattle.gptp_settling.specs.Frame.{Says, Frame, Lane}
+use Rattle.gptp_settling.specs.EarlyPorts.{EarlyPortsHear}
 use Rattle.gptp_settling.specs.Station.{Reception, Disabled, Mine, Received, Port, Station, State}
 use Rattle.gptp_settling.specs.Vectors.{master}
-use Rattle.gptp_settling.specs.Clean.{CameWhole}
 use Rattle.gptp_settling.specs.Facts.{FollowsItself, FollowsPort}
-use Rattle.gptp_settling.specs.CleanLaws.{HeldIsWhole}
+use Rattle.gptp_settling.specs.Sound.{IsSound}
 use Rattle.gptp_settling.specs.Stage.{Wiring}
-use Rattle.gptp_settling.specs.Link.{final_vector, StandsAt, TellsSettled, HearsSettled, IsLaneOf, IsOnTime, Ends, LapsesLater}
-use Rattle.gptp_settling.specs.Network.{Network, IsNetwork, setting, clean_from, since, wiring}
+use Rattle.gptp_settling.specs.Link.{final_vector, StandsAt, IsReady, TellsSettled, HearsSettled, IsLaneOf, IsOnTime, Ends, LapsesLater, HearsOn, StaysOn}
+use Rattle.gptp_settling.specs.Network.{Network, IsTimed, IsNetwork, since, wiring}
 use Rattle.gptp_settling.specs.Calm.{IsCalmPort, HasLane, Calm}
-use Rattle.gptp_settling.specs.Lapsing.{FollowsNearer, NothingLapses}
+use Rattle.gptp_settling.specs.Lapsing.{FollowsFrom, NothingLapses}
 use Rattle.gptp_settling.specs.Levels.{LeadsFarther}
 use Rattle.gptp_settling.proofs.PlaceLemmas.{same_there}
-use Rattle.gptp_settling.proofs.NearestLemmas.{steps_not_fewer, on_way, path_length}
-use Rattle.gptp_settling.proofs.RestLemmas.{Chooses, IsClear, best_there, root_above, steps_above, slave_nearer, is_master}
+use Rattle.gptp_settling.proofs.RestLemmas.{Chooses, IsClear, root_above, steps_above, is_master}
 
 -- the systems at distance d have settled
 abbrev pub AllChoose : Network → State → ℕ → Type 0
@@ -44,42 +42,33 @@ module _ (n : Network) (net : IsNetwork n) (s : Station) (clear : IsClear n.grap
       elim (In-parts u port.r.said.path (s.clock ∷ []) (subst (In u) port.trace h)) [
         | inl before ↦
             let few : far ≤ port.r.said.steps =
-            steps_not_fewer n.graph net.graph came.from.clock port.r.said came.whole best
-            (best_there n.graph net.graph s clear best is_best port.place port.r port.holds) u far
-            (on_way n.graph net.graph came.from.clock port.r.said came.whole best
-            (best_there n.graph net.graph s clear best is_best port.place port.r port.holds) u before)
-            is_best' there (sym port.root ∙ chooses.root) in
+            (clear.held port.place port.r port.holds).fits.members best u far is_best (sym port.root ∙ chooses.root)
+            before is_best' there in
             let more : s.steps ≡ suc port.r.said.steps = port.steps in
             let own : s.steps ≡ d = chooses.steps in
             absurd (omega arith)
         | inr (inl e) ↦ apart (sym e)
         | inr (inr none) ↦ none
       ]
-    where
-      came : CameWhole n.graph s.clock (suc port.place) port.r
-      came = clear.held port.place port.r port.holds
 
   trace_short : FollowsItself s ⊎ FollowsPort s → length s.trace ≤ suc d
   trace_short (inl itself) = subst (λ (xs : List ℕ). length xs ≤ suc d) (sym itself.trace) (omega arith)
   trace_short (inr port) =
       subst (λ (xs : List ℕ). length xs ≤ suc d) (sym port.trace)
-      (let came = clear.held port.place port.r port.holds in
-      let path : length port.r.said.path ≡ suc port.r.said.steps =
-      path_length n.graph net.graph came.from.clock port.r.said came.whole best
-      (best_there n.graph net.graph s clear best is_best port.place port.r port.holds) in
+      (let path : length port.r.said.path ≡ suc port.r.said.steps =
+      (clear.held port.place port.r port.holds).fits.long best is_best (sym port.root ∙ chooses.root) in
       let more : s.steps ≡ suc port.r.said.steps = port.steps in
       let own : s.steps ≡ d = chooses.steps in
       omega (arith, length-append port.r.said.path (s.clock ∷ [])))
 
-module _ (n : Network) (net : IsNetwork n) (w : State) (calm : Calm n w)
-    (whole : clean_from n ≤ w.time → HeldIsWhole (setting n) w) where
-  -- a live system is at rest, and all it holds is wholly clean
-  pub clear_at : (i : ℕ) (s : Station) → slice_get w.stations i ≡ Some s → s.live ≡ true → clean_from n ≤ w.time
+module _ (n : Network) (net : IsNetwork n) (w : State) (calm : Calm n w) (sound : IsSound n w) where
+  -- a live system is at rest, and all it holds is sound
+  pub clear_at : (i : ℕ) (s : Station) → slice_get w.stations i ≡ Some s → s.live ≡ true → n.sound ≤ w.time
       → IsClear n.graph s
   clear_at i s at live late = record {
     rest = (calm.stations i s at live).at_rest;
     known = (calm.facts.stations i s at live).known;
-    held = λ place r holds. whole late i s place r at live holds;
+    held = λ place r holds. sound late i s place r at live holds;
   }
 
   -- where a system of the snapshot stands
@@ -101,7 +90,7 @@ module _ (n : Network) (net : IsNetwork n) (w : State) (calm : Calm n w)
       let same : x ≡ s = same_there w.stations (n.place v) x s there at in
       (subst (λ (y : Station). y.live ≡ true) same live, subst (λ (y : Station). y.clock ≡ v) same clock)
 
-  stands : (v : ℕ) → In v (clocks n.graph) → StandsAt w v (n.place v)
+  pub stands : (v : ℕ) → In v (clocks n.graph) → StandsAt w v (n.place v)
   stands v known i m at = (
     λ here. (is_station v m known (subst (λ j. slice_get w.stations j ≡ Some m) here at)).1,
     λ clock. calm.placed i m at ∙ ap n.place clock,
@@ -134,62 +123,65 @@ module _ (n : Network) (net : IsNetwork n) (w : State) (calm : Calm n w)
         (same_there w.lanes (n.lane (port_of v (suc p))) has_lane.lane l has_lane.there at)
         (record { from = has_lane.from; to = has_lane.to; loss = has_lane.loss; is_up = has_lane.is_up })
 
+    timed : IsTimed n d (port_of v (suc p)) (port_of u (suc q))
+    timed = net.timed d (port_of v (suc p)) (port_of u (suc q)) leads.joins
+
+    started : n.claimed d (port_of v (suc p)) ≤ w.time → n.start ≤ w.time
+    started late = let begun : n.start ≤ n.claimed d (port_of v (suc p)) = timed.begun in omega arith
+
+    by_then : n.claimed d (port_of v (suc p)) ≤ w.time → n.sound ≤ w.time
+    by_then late = let sound : n.sound ≤ n.claimed d (port_of v (suc p)) = timed.sound in omega arith
+
     on_time : (l : Lane) (f : Frame) → slice_get w.lanes (n.lane (port_of v (suc p))) ≡ Some l → In f l.frames
         → IsOnTime (wiring n d best v p u q) w.time f
     on_time l f at h = record {
       left = calm.left (n.lane (port_of v (suc p))) l f at h;
-      due = λ late. calm.due (n.lane (port_of v (suc p))) l f at h (omega arith)
+      due = λ late. within (started late) (calm.facts.fresh (n.lane (port_of v (suc p))) l f at h
           (subst (λ x. Joins n.graph x l.to) (sym (lane_is l at).from)
-          (subst (Joins n.graph (port_of v (suc p))) (sym (lane_is l at).to) leads.joins));
+          (subst (Joins n.graph (port_of v (suc p))) (sym (lane_is l at).to) leads.joins)));
     }
+      where
+        within : n.start ≤ w.time → (f.due ≤ w.time + n.most) ⊎ (f.due < n.start) → f.due ≤ w.time + n.most
+        within begun (inl soon) = soon
+        within begun (inr early) = omega arith
 
-    module _ (late : since n d ≤ w.time) where
-      cleaned : clean_from n ≤ w.time
-      cleaned = omega arith
+    -- the system that tells has settled
+    pub tells_settled : n.sound ≤ w.time → (s : Station) (pv : Port) → slice_get w.stations (n.place v) ≡ Some s
+        → slice_get s.ports p ≡ Some pv → IsReady (wiring n d best v p u q) s pv
+        → TellsSettled (wiring n d best v p u q) s pv
+    tells_settled late s pv at port (has, on) = go (is_station v s from_known at)
+      where
+        go : (s.live ≡ true) × (s.clock ≡ v) → TellsSettled (wiring n d best v p u q) s pv
+        go (live, clock) = record {
+          mine = is_master n.graph net.graph s clear best is_best d leads.far p pv (port_of u (suc q)) chooses port on
+              (subst (λ c. Joins n.graph (port_of c (suc p)) (port_of u (suc q))) (sym clock) leads.joins) leads.there
+              (subst (λ c. (d < leads.far) ⊎ ((d ≡ leads.far) × (c < u))) (sym clock) leads.farther);
+          near = near;
+          foreign = no_farther n net s clear best is_best d chooses u leads.far best_to leads.there as_far
+              apart follows;
+          short = let long : length s.trace ≤ suc d = trace_short n net s clear best is_best d chooses follows in
+              omega arith;
+        }
+          where
+            clear : IsClear n.graph s
+            clear = clear_at (n.place v) s at live late
 
-      started : n.start ≤ w.time
-      started = omega arith
+            is_best : IsBest n.graph s.clock best
+            is_best = subst (λ c. IsBest n.graph c best) (sym clock) leads.is_best
 
-      -- the system that tells has settled
-      pub tells_settled : (s : Station) (pv : Port) → slice_get w.stations (n.place v) ≡ Some s
-          → slice_get s.ports p ≡ Some pv → TellsSettled (wiring n d best v p u q) s pv
-      tells_settled s pv at port = go (is_station v s from_known at)
-        where
-          go : (s.live ≡ true) × (s.clock ≡ v) → TellsSettled (wiring n d best v p u q) s pv
-          go (live, clock) = record {
-            mine = is_master n.graph net.graph s clear best is_best d leads.far p pv (port_of u (suc q)) chooses port on
-                (subst (λ c. Joins n.graph (port_of c (suc p)) (port_of u (suc q))) (sym clock) leads.joins) leads.there
-                (subst (λ c. (d < leads.far) ⊎ ((d ≡ leads.far) × (c < u))) (sym clock) leads.farther);
-            near = near;
-            foreign = no_farther n net s clear best is_best d chooses u leads.far best_to leads.there as_far
-                apart follows;
-            short = let long : length s.trace ≤ suc d = trace_short n net s clear best is_best d chooses follows in
-                omega arith;
-          }
-            where
-              clear : IsClear n.graph s
-              clear = clear_at (n.place v) s at live cleaned
+            chooses : Chooses s best d
+            chooses = record { root = has.0; steps = has.1 }
 
-              is_best : IsBest n.graph s.clock best
-              is_best = subst (λ c. IsBest n.graph c best) (sym clock) leads.is_best
+            follows : FollowsItself s ⊎ FollowsPort s
+            follows = (calm.facts.stations (n.place v) s at live).follows
 
-              chooses : Chooses s best d
-              chooses = settled late v best s at leads.is_best leads.here
+            apart : s.clock ≢ u
+            apart e = net.graph.apart (port_of v (suc p)) (port_of u (suc q)) leads.joins (sym clock ∙ e)
 
-              follows : FollowsItself s ⊎ FollowsPort s
-              follows = (calm.facts.stations (n.place v) s at live).follows
+            as_far : d ≤ leads.far
+            as_far = elim leads.farther [ inl less ↦ omega arith | inr (same, lower) ↦ omega arith ]
 
-              on : pv.held ≢ Disabled
-              on =
-                  ((calm.stations (n.place v) s at live).ports p pv port).capable started
-                  (subst (λ c. IsLinked n.graph (port_of c (suc p))) (sym clock) (port_of u (suc q), leads.joins))
-
-              apart : s.clock ≢ u
-              apart e = net.graph.apart (port_of v (suc p)) (port_of u (suc q)) leads.joins (sym clock ∙ e)
-
-              as_far : d ≤ leads.far
-              as_far = elim leads.farther [ inl less ↦ omega arith | inr (same, lower) ↦ omega arith ]
-
+    module _ (late : n.claimed d (port_of v (suc p)) ≤ w.time) where
       -- what the system that hears would announce itself is worse
       hears_weaker : (s : Station) (pu : Port) (root steps : ℕ) → slice_get w.stations (n.place u) ≡ Some s
           → slice_get s.ports q ≡ Some pu → pu.held ≡ Mine root steps
@@ -203,7 +195,7 @@ module _ (n : Network) (net : IsNetwork n) (w : State) (calm : Calm n w)
               (subst (λ c. IsDistance n.graph c leads.far) (sym clock) leads.there)) leads.farther
             where
               clear : IsClear n.graph s
-              clear = clear_at (n.place u) s at live cleaned
+              clear = clear_at (n.place u) s at live (by_then late)
 
               is_best : IsBest n.graph s.clock best
               is_best = subst (λ c. IsBest n.graph c best) (sym clock) best_to
@@ -234,7 +226,6 @@ module _ (n : Network) (net : IsNetwork n) (w : State) (calm : Calm n w)
         where
           go : (s.live ≡ true) × (s.clock ≡ u) → HearsSettled (wiring n d best v p u q) pu
           go (live, clock) = record {
-            on = is_port.capable started (port_of v (suc p), back);
             weaker = λ root steps mine. hears_weaker s pu root steps at port mine;
             source = source;
             long = λ r e log. is_port.long r (port_of v (suc p)) e leads.joins (source r e) log;
@@ -247,19 +238,67 @@ module _ (n : Network) (net : IsNetwork n) (w : State) (calm : Calm n w)
 
               source : (r : Reception) → pu.held ≡ Received r → r.said.source ≡ port_of v (suc p)
               source r e =
-                  let came = whole cleaned (n.place u) s q r at live (pu, port, e) in
+                  let came =
+                  (sound (by_then late) (n.place u) s q r at live (pu, port, e)).over
+                  (subst (λ c. IsLinked n.graph (port_of c (suc q))) (sym clock) (port_of v (suc p), back)) in
                   came.source
                   ∙ net.graph.one_link (port_of u (suc q)) came.from (port_of v (suc p))
                   (Joins-sym n.graph came.from (port_of u (suc q))
                   (subst (λ c. Joins n.graph came.from (port_of c (suc q))) clock came.joins)) back
 
-    -- claims of the link are made once the system that tells has settled
-    settled_by : since n d + n.sync_wait ≤ w.time → since n d ≤ w.time
-    settled_by late = omega arith
+    -- a port of a live system is on once it is capable
+    pub capable_at : (c i : ℕ) (to : PortIdentity) (s : Station) (port : Port) → In c (clocks n.graph)
+        → Joins n.graph (port_of c (suc i)) to → slice_get w.stations (n.place c) ≡ Some s
+        → slice_get s.ports i ≡ Some port → n.ready (port_of c (suc i)) ≤ w.time → port.held ≢ Disabled
+    capable_at c i to s port known joins at there ready =
+        let (live, clock) = is_station c s known at in
+        ((calm.stations (n.place c) s at live).ports i port there).capable
+        (subst (λ x. n.ready (port_of x (suc i)) ≤ w.time) (sym clock) ready)
+        (subst (λ x. IsLinked n.graph (port_of x (suc i))) (sym clock) (to, joins))
+
+    -- a system that hasn't settled yet, or whose port isn't on yet, still has the time
+    early : (s : Station) (pv : Port) → slice_get w.stations (n.place v) ≡ Some s → slice_get s.ports p ≡ Some pv
+        → (IsReady (wiring n d best v p u q) s pv → ⊥) → w.time + n.most < since n (suc d)
+    early s pv at port not = elim (dec_le (since n d) w.time) [
+      | no before ↦ let delay : n.most ≤ n.step = timed.delay in omega arith
+      | yes late ↦ elim (dec_le (n.ready (port_of v (suc p))) w.time) [
+        | no before ↦ let ready : n.ready (port_of v (suc p)) + n.most ≤ since n (suc d) = timed.ready in omega arith
+        | yes ready ↦ let chooses = settled late v best s at leads.is_best leads.here in
+            absurd (not (
+              (chooses.root, chooses.steps),
+              capable_at v p (port_of u (suc q)) s pv from_known leads.joins at port ready,
+            ))
+      ]
+    ]
+
+    -- the port that hears is on where it must be
+    pub hears_on : (says : Says) (w' : State) → EarlyPortsHear says n w w' → HearsOn says (wiring n d best v p u q) w
+    hears_on says w' waking l f fs a s pu late lane_at frames due said at port =
+        elim (dec_le (n.ready (port_of u (suc q))) w.time) [
+          | yes ready ↦ capable_at u q (port_of v (suc p)) s pu to_known back at port ready
+          | no before ↦ waking.hears d (port_of v (suc p)) u q leads.joins late (omega arith) l f fs a s pu lane_at
+              frames
+              due said at port
+        ]
+
+    pub stays_on : (says : Says) (w' : State) → ((s' : Station) (pu' : Port)
+        → slice_get w'.stations (n.place u) ≡ Some s' → slice_get s'.ports q ≡ Some pu'
+        → n.ready (port_of u (suc q)) ≤ w.time → pu'.held ≢ Disabled) → EarlyPortsHear says n w w'
+        → StaysOn (wiring n d best v p u q) w w'
+    stays_on says w' after waking s s' pu pu' late at port at' port' on =
+        elim (dec_le (n.ready (port_of u (suc q))) w.time) [
+          | yes ready ↦ after s' pu' at' port' ready
+          | no before ↦ waking.stays d (port_of v (suc p)) u q leads.joins late (omega arith) s s' pu pu' at port at'
+              port'
+              on
+        ]
 
     -- what the machine keeps of a link holds of it
     pub ends : Ends (wiring n d best v p u q) w
     ends = record {
+      in_time = timed.until;
+      claimed = timed.claimed;
+      entry = timed.entry;
       apart = net.graph.apart (port_of v (suc p)) (port_of u (suc q)) leads.joins;
       teller_stands = stands v from_known;
       hearer_stands = stands u to_known;
@@ -277,9 +316,12 @@ module _ (n : Network) (net : IsNetwork n) (w : State) (calm : Calm n w)
             log = is_port.log;
             interval = is_port.interval;
             timer = is_port.timer;
-            settled = λ late. tells_settled (settled_by late) s pv at port;
+            own = λ root steps mine.
+                (calm.stations (n.place v) s at live).at_rest.mine p pv root steps port mine;
+            settled = λ late ready. tells_settled (by_then late) s pv at port ready;
+            early = early s pv at port;
           };
-      hearer = λ s pu at port late. hears_settled (settled_by late) s pu at port;
+      hearer = λ s pu at port late. hears_settled late s pu at port;
     }
 
     -- what the system that hears received over the link doesn't lapse, where nothing does
@@ -289,34 +331,11 @@ module _ (n : Network) (net : IsNetwork n) (w : State) (calm : Calm n w)
         go : (s.live ≡ true) × (s.clock ≡ u) → w.time < due
         go (live, clock) = nothing (n.place u) s d due at live near follows late lapse
           where
-            over : Joins n.graph (port_of v (suc p)) (port_of s.clock (suc q))
-            over = subst (λ c. Joins n.graph (port_of v (suc p)) (port_of c (suc q))) (sym clock) leads.joins
-
-            -- it is a step farther: its slave port wouldn't lead to a system that is as far
-            farther : leads.far ≡ suc d
-            farther = elim leads.farther [
-              | inl less ↦
-                  let most : leads.far ≤ suc d =
-                  IsDistance-neighbour n.graph v u d leads.far net.graph (suc p, suc q, leads.joins) leads.here
-                  leads.there in
-                  omega arith
-              | inr (same, lower) ↦
-                  let less : d < d =
-                  slave_nearer n.graph net.graph s (clear_at (n.place u) s at live (omega arith)) best
-                  (subst (λ c. IsBest n.graph c best) (sym clock) best_to) d d q (port_of v (suc p))
-                  (settled (settled_by late) u best s at best_to
-                  (subst (IsDistance n.graph u) (sym same) leads.there))
-                  (Joins-sym n.graph (port_of v (suc p)) (port_of s.clock (suc q)) over) leads.here slave in
-                  absurd (omega arith)
-            ]
-
-            follows : FollowsNearer n.graph s d
+            follows : FollowsFrom n.graph s d
             follows = record {
-              here = subst (IsDistance n.graph s.clock) farther
-                  (subst (λ c. IsDistance n.graph c leads.far) (sym clock) leads.there);
               port = suc q;
               slave = slave;
               from = port_of v (suc p);
-              joins = over;
+              joins = subst (λ c. Joins n.graph (port_of v (suc p)) (port_of c (suc q))) (sym clock) leads.joins;
               there = leads.here;
             }

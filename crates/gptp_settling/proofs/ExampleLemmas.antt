@@ -18,6 +18,7 @@ use Rattle.gptp_settling.specs.Network.{IsNetwork, setting}
 use Rattle.gptp_settling.specs.Calm.{IsCalmPort, IsCalmStation, HasStation, HasLane, Calm}
 use Rattle.gptp_settling.specs.Example.{lane_out, lane_back, lone, heard, first_identity, network, announce, first, alone, following, state}
 use Rattle.gptp_settling.proofs.PlaceLemmas.{same_mine, received_injective}
+use Rattle.gptp_settling.proofs.TimesLemmas.{times_fit}
 
 -- a fact of what stands in a list of one
 pub each_of_one : {X : Type 0} (P : ℕ → X → Type 0) (a : X) → P 0 a → (i : ℕ) (x : X) → slice_get (a ∷ []) i ≡ Some x
@@ -47,11 +48,19 @@ unfolding ℕ_discrete dec_le dec_lt dec_both dec_either IsLower-dec PortIdentit
 well_formed = (sure_well_formed network.graph).1 refl
 
 pub is_network : IsNetwork network
-is_network = record {
-  graph = well_formed;
-  paths = λ v w us path. path_bounded network.graph v w us well_formed path;
-  round = λ p linked. omega arith;
-}
+is_network =
+    times_fit network well_formed (λ v w us path. path_bounded network.graph v w us well_formed path) (omega arith)
+    (inl (record {
+      begun = omega arith;
+      ready = λ p linked. omega arith;
+      largest = λ p linked. omega arith;
+      times = inl (record {
+        claimed = λ d p. refl;
+        until = λ d p. refl;
+        slack = omega arith;
+        step = omega arith;
+      });
+    }))
 
 -- a master port received nothing, and isn't disabled or aged
 pub mine_received : {A : Type 0} (root steps : ℕ) (r : Reception) → Mine root steps ≡ Received r → A
@@ -107,6 +116,7 @@ module _ (now clock identity timer : ℕ) (early : now ≤ timer) (soon : timer 
           interval = refl;
           timer = λ root steps e. (early, soon);
           capable = λ started is_linked e. mine_disabled identity 0 e;
+          bare = λ started out r e. mine_received identity 0 r e;
           unlinked = λ started out. absurd (out linked);
           long = λ r from e joins source log. mine_received identity 0 r e;
         });
@@ -165,6 +175,7 @@ module _ (now at : ℕ) (came : at ≤ now) (stays : now ≤ at + 8) where
           interval = refl;
           timer = λ root steps e. mine_received root steps (heard at) (sym e);
           capable = λ started is_linked e. absurd cc;
+          bare = λ started out r e. absurd (out (port_of 1 1, inr (inl refl)));
           unlinked = λ started out. absurd (out (port_of 1 1, inr (inl refl)));
           long = λ r from e joins source log.
               subst (λ (x : Reception). 5 < x.span) (received_injective (heard at) r e) (omega arith);
@@ -201,6 +212,7 @@ module _ (now timer : ℕ) (second : Station) (frames : List Frame) (early : now
     stations = each_station (λ i s. s.live ≡ true → IsStation (setting network) now s)
         (λ live. lone_station now 1 first_identity timer early soon (inl refl) first_linked) (λ live. is_station);
     near = each_frame (λ l f. f.due ≤ now + 4) (λ f h. let (left, due) = flight f h in omega arith);
+    fresh = λ j l f at h joins. inl (each_frame (λ l f. f.due ≤ now + 1) (λ f h. (flight f h).1) j l f at h);
     linked = λ j l f at h from to.
         each_frame (λ l f. Joins network.graph l.from l.to) (λ f h. inl (inl refl)) j l f at h;
   }
@@ -267,5 +279,4 @@ module _ (now timer : ℕ) (second : Station) (frames : List Frame) (early : now
         });
     apart = apart;
     left = each_frame (λ l f. now ≤ f.due) (λ f h. (flight f h).0);
-    due = λ j l f at h started joins. each_frame (λ l f. f.due ≤ now + 1) (λ f h. (flight f h).1) j l f at h;
   }

@@ -1,7 +1,7 @@
 -- The steps of the example run.
 use Rattle.std.proofs.Common.{◌≡◌, ◌≢◌, ◌⊎◌, ◌≤◌, ◌+◌, ℕ, zero, suc, pos, true, List, [], ◌∷◌, Some, None, slice_get, append-nil, refl, sym, ap, subst, inl, inr, arith}
 use Rattle.gptp_lists.specs.Members.{In}
-use Rattle.gptp_graph.specs.Snapshot.{PortIdentity, port_of, IsLinked}
+use Rattle.gptp_graph.specs.Snapshot.{PortIdentity, clocks, port_of, IsLinked}
 use Rattle.gptp_settling.specs.Frame.{Announce, Frame, Lane, Send}
 use Rattle.gptp_settling.specs.Station.{Disabled, Mine, Received, Port, Station}
 use Rattle.gptp_settling.specs.Touch.{Hear, Tick, Qualified, Replaces}
@@ -333,5 +333,12 @@ example_settles = record {
   early = omega arith;
   end = refl;
   late = omega arith;
-  settled = run_settles says network is_network begin run example_runs (omega arith) (omega arith);
+  settled = run_settles says network is_network
+      (record { after = omega arith; begins = omega arith; late = omega arith })
+      (λ d p q joins. omega arith) begin run example_runs
+      (λ j l f at. each_of_two
+      (λ j (l : Lane). (f : Frame) → In f l.frames → 1 ≤ f.due → In l.from.clock (clocks network.graph))
+      (lane_out []) lane_back (λ f none. absurd none) (λ f none. absurd none) j l at f)
+      (omega arith)
+      (omega arith);
 }

@@ -27,6 +27,22 @@ mid_stays c n now (Disable m) held mid r deaf young on (inl (same, is)) e = absu
 mid_stays c n now (Disable m) held mid r deaf young on (inr (other, is)) e = is ∙ e
 mid_stays c n now Other held mid r deaf young on is e = is ∙ e
 
+-- no touch makes a port master
+pub mid_mine : (c n now root steps : ℕ) (touch : Touch) (held mid : Held) → Mid c n touch now held mid
+    → mid ≡ Mine root steps → held ≡ Mine root steps
+mid_mine c n now root steps (Hear m a) held mid (inl (same, up, inl takes)) e =
+    absurd (let x = sym takes.is ∙ e in cc)
+mid_mine c n now root steps (Hear m a) held mid (inl (same, up, inr refuses)) e = sym refuses.is ∙ e
+mid_mine c n now root steps (Hear m a) held mid (inr (other, is)) e = sym is ∙ e
+mid_mine c n now root steps (Tick m) held mid is e = sym is ∙ e
+mid_mine c n now root steps (Grow m) held mid (inl (same, is)) e = absurd (let x = sym is ∙ e in cc)
+mid_mine c n now root steps (Grow m) held mid (inr (other, is)) e = sym is ∙ e
+mid_mine c n now root steps (Enable m) held mid (inl (same, off, is)) e = absurd (let x = sym is ∙ e in cc)
+mid_mine c n now root steps (Enable m) held mid (inr (other, is)) e = sym is ∙ e
+mid_mine c n now root steps (Disable m) held mid (inl (same, is)) e = absurd (let x = sym is ∙ e in cc)
+mid_mine c n now root steps (Disable m) held mid (inr (other, is)) e = sym is ∙ e
+mid_mine c n now root steps Other held mid is e = sym is ∙ e
+
 module _ (k : Wiring) where
   -- the message vector of a final Announce
   message_final : (a : Announce) → IsFinal k a → message a (suc k.hearer_port) ≡ final_vector k
@@ -34,12 +50,12 @@ module _ (k : Wiring) where
       λ i. final.root i ∷ final.steps i ∷ (final.source i).clock ∷ (final.source i).port ∷ suc k.hearer_port ∷ []
 
   -- it replaces whatever the hearer holds
-  final_replaces : (a : Announce) (q : Port) → IsFinal k a → HearsSettled k q
+  final_replaces : (a : Announce) (q : Port) → IsFinal k a → q.held ≢ Disabled → HearsSettled k q
       → Replaces k.hearer (suc k.hearer_port) a q.held
-  final_replaces a q final hears = go q.held refl
+  final_replaces a q final on hears = go q.held refl
     where
       go : (held : Held) → q.held ≡ held → Replaces k.hearer (suc k.hearer_port) a held
-      go Disabled e = absurd (hears.on e)
+      go Disabled e = absurd (on e)
       go Aged e = tt
       go (Mine root steps) e =
           subst (λ v. IsLower v (master root steps k.hearer (suc k.hearer_port))) (sym (message_final a final))
@@ -52,16 +68,16 @@ module _ (k : Wiring) where
       → (span : ℕ) × (mid ≡ Received (record { said = a; at = now; span = span }))
   final_taken now a q mid final hears (inl (same, on, inl takes)) = (takes.span, takes.is)
   final_taken now a q mid final hears (inl (same, on, inr refuses)) =
-      absurd (refuses.fails final.qualified (final_replaces a q final hears))
+      absurd (refuses.fails final.qualified (final_replaces a q final on hears))
   final_taken now a q mid final hears (inr (other, is)) = absurd (other refl)
 
   module _ (says : Says) (now : ℕ) (touch : Touch) (root steps : ℕ) (q q' : Port) (sends : List Send)
       (step : PortStep says k.hearer (suc k.hearer_port) now touch root steps q q' sends)
       (hears' : HearsSettled k q') where
     -- the port isn't disabled in between
-    pub mid_on : step.mid ≢ Disabled
-    mid_on off = elim step.after [
-      | inl (kept, is_kept) ↦ hears'.on (kept ∙ off)
+    pub mid_on : q'.held ≢ Disabled → step.mid ≢ Disabled
+    mid_on on' off = elim step.after [
+      | inl (kept, is_kept) ↦ on' (kept ∙ off)
       | inr master ↦ master.on off
     ]
 

@@ -15,6 +15,15 @@ pub mod RestLemmas
 pub mod EndsLemmas
 pub mod LevelLemmas
 pub mod SettledLemmas
+pub mod TimesLemmas
+pub mod SoundLemmas
+pub mod SoundEverywhereLemmas
+pub mod StillLemmas
+pub mod FlightLemmas
+pub mod NewsLemmas
+pub mod RestingLemmas
+pub mod ReactionLemmas
+pub mod LossLemmas
 pub mod RunLemmas
 pub mod MatchingLemmas
 pub mod SyncStepLemmas

@@ -7,7 +7,7 @@ use Rattle.gptp_settling.specs.Station.{Reception, Received, Port, Station, Stat
 use Rattle.gptp_settling.specs.Touch.{Touch, Hear, Tick, Grow, Enable, Disable, Other}
 use Rattle.gptp_settling.specs.Acts.{Arrives, Drops, Runs, Acts, Steps}
 use Rattle.gptp_settling.specs.Stage.{Wiring, to_port, IsFinal, IsSaid, Stage}
-use Rattle.gptp_settling.specs.Link.{Ends, LapsesLater, Stand, LinkSettles}
+use Rattle.gptp_settling.specs.Link.{IsReady, Ends, LapsesLater, HearsOn, StaysOn, Stand, LinkSettles}
 use Rattle.gptp_settling.proofs.StageLemmas.{settled}
 use Rattle.gptp_settling.proofs.PlaceLemmas.{same_there}
 use Rattle.gptp_settling.proofs.PopLemmas.{ends_popped, stood_popped, other_lane, silent_frame}
@@ -25,10 +25,11 @@ is_hear Other = inr (λ n a e. absurd cc)
 
 module _ (says : Says) (k : Wiring) where
   -- something that is no delivery
-  runs : (w w' : State) → Ends k w → Ends k w' → LapsesLater k w → Runs says w w' → LinkSettles says k w
+  runs : (w w' : State) → Ends k w → Ends k w' → LapsesLater k w → StaysOn k w w' → Runs says w w'
+      → LinkSettles says k w
       → LinkSettles says k w'
-  runs w w' ends ends' lapses act link late =
-      called says k act.touch w w' act.call ends ends' (subst (λ t. k.since ≤ t) act.call.time late) link
+  runs w w' ends ends' lapses lasts act link late =
+      called says k act.touch w w' act.call ends ends' (subst (λ t. k.from ≤ t) act.call.time late) lasts link
       (λ a here touched. act.deaf (suc k.hearer_port) a touched) ages late
     where
       -- what the hearer holds doesn't lapse
@@ -39,7 +40,7 @@ module _ (says : Says) (k : Wiring) where
         | inr now ↦
             let fresh : w.time < w.time =
             lapses act.call.s w.time (subst (λ n. slice_get w.stations n ≡ Some act.call.s) (sym here) act.call.here)
-            (subst (λ t. k.since ≤ t) act.call.time late) now.slave now.due in
+            (subst (λ t. k.from ≤ t) act.call.time late) now.slave now.due in
             absurd (omega arith)
       ]
 
@@ -58,17 +59,22 @@ module _ (says : Says) (k : Wiring) where
   ]
 
   module _ (w w' : State) (ends : Ends k w) (ends' : Ends k w') (act : Arrives says w w')
-      (link : LinkSettles says k w) where
+      (hears_on : HearsOn says k w) (lasts : StaysOn k w w') (link : LinkSettles says k w) where
+    -- what stays on does from when the frame is taken off
+    lasts_mid : StaysOn k act.mid w'
+    lasts_mid s s' q q' late at port =
+        lasts s s' q q' (subst (λ t. k.from ≤ t) act.pops.time late) (act.pops.stations k.hearer_place s at) port
+
     ends_mid : Ends k act.mid
     ends_mid = ends_popped says k act.j act.l act.f act.fs w act.mid act.pops ends
 
-    since_mid : k.since ≤ w'.time → k.since ≤ act.mid.time
-    since_mid late = subst (λ t. k.since ≤ t) act.call.time late
+    since_mid : k.from ≤ w'.time → k.from ≤ act.mid.time
+    since_mid late = subst (λ t. k.from ≤ t) act.call.time late
 
     -- a frame of another lane is delivered, perhaps to one of the ends
     arrives_apart : k.lane ≢ act.j → LinkSettles says k w'
     arrives_apart other late =
-        called says k act.touch act.mid w' act.call ends_mid ends' (since_mid late)
+        called says k act.touch act.mid w' act.call ends_mid ends' (since_mid late) lasts_mid
         (other_lane says k act.j act.l act.f act.fs w act.mid act.pops other link) deaf
         (λ q r here grown. absurd (act.young (suc k.hearer_port) grown)) late
       where
@@ -85,7 +91,7 @@ module _ (says : Says) (k : Wiring) where
     arrives_here : k.lane ≡ act.j → LinkSettles says k w'
     arrives_here same = elim (is_hear act.touch) [
       | inl (n, a, touched) ↦ hearing n a touched
-      | inr deaf ↦ (λ late. called says k act.touch act.mid w' act.call ends_mid ends' (since_mid late)
+      | inr deaf ↦ (λ late. called says k act.touch act.mid w' act.call ends_mid ends' (since_mid late) lasts_mid
           (silent_frame says k act.j act.l act.f act.fs w act.mid act.pops same (silent deaf) link)
           (λ a here touched. deaf (suc k.hearer_port) a touched)
           (λ q r here grown. absurd (act.young (suc k.hearer_port) grown)) late)
@@ -101,7 +107,7 @@ module _ (says : Says) (k : Wiring) where
         place = (ends_mid.hearer_stands act.call.place act.call.s act.call.here).1
             (act.owner ∙ ap (λ (p : PortIdentity). p.clock) to)
 
-        silent : ((n : ℕ) (a : Announce) → act.touch ≡ Hear n a → ⊥) → k.since ≤ w.time → (pv pu : Port)
+        silent : ((n : ℕ) (a : Announce) → act.touch ≡ Hear n a → ⊥) → k.from ≤ w.time → (pv pu : Port)
             → Stand k w pv pu act.l → IsSaid says act.f → ⊥
         silent deaf since pv pu stood (a, said) =
             let s_is : stood.u ≡ act.call.s =
@@ -111,24 +117,25 @@ module _ (says : Says) (k : Wiring) where
             let (b, touched) =
             act.hears k.hearer_port pu a (ap (λ (p : PortIdentity). p.port) to)
             (subst (λ (s : Station). slice_get s.ports k.hearer_port ≡ Some pu) s_is stood.hearer_port)
-            (ends.hearer stood.u pu stood.hearer stood.hearer_port since).on said in
+            (hears_on act.l act.f act.fs a stood.u pu since lane_at act.pops.frames act.pops.due said stood.hearer
+            stood.hearer_port) said in
             deaf act.l.to.port b touched
 
         hearing : (n : ℕ) (a : Announce) → act.touch ≡ Hear n a → LinkSettles says k w'
         hearing n a touched late =
-            heard says k act.touch act.mid w' act.call ends_mid ends' (since_mid late) act.f a
+            heard says k act.touch act.mid w' act.call ends_mid ends' (since_mid late) lasts_mid act.f a
             (touched ∙ (λ i. Hear (number i) a)) (act.heard n a touched).1 (sym place) stage late
           where
             number : n ≡ suc k.hearer_port
             number = (act.heard n a touched).0 ∙ ap (λ (p : PortIdentity). p.port) to
 
-            stage : (pv pu : Port) (l : Lane) → Stand k act.mid pv pu l
+            stage : (pv pu : Port) (l : Lane) (stand : Stand k act.mid pv pu l) → IsReady k stand.v pv
                 → Stage says k pv.announce pu.held (act.f ∷ l.frames)
-            stage pv pu l stand = elim (act.pops.lanes k.lane l stand.lane) [
+            stage pv pu l stand has = elim (act.pops.lanes k.lane l stand.lane) [
               | inl (here, is) ↦ subst (λ (x : Lane). Stage says k pv.announce pu.held (act.f ∷ x.frames)) (sym is)
                   (subst (Stage says k pv.announce pu.held) act.pops.frames
-                  (link (subst (λ t. k.since ≤ t) act.pops.time (since_mid late)) pv pu act.l
-                  (stood_popped says k act.j act.l act.f act.fs w act.mid act.pops act.l lane_at pv pu l stand)))
+                  (link (subst (λ t. k.from ≤ t) act.pops.time (since_mid late)) pv pu act.l
+                  (stood_popped says k act.j act.l act.f act.fs w act.mid act.pops act.l lane_at pv pu l stand) has))
               | inr (apart, stood) ↦ absurd (apart same)
             ]
 
@@ -139,21 +146,24 @@ module _ (says : Says) (k : Wiring) where
     ]
 
   -- whatever happens keeps the link at a stage
-  acts : (w w' : State) → Ends k w → Ends k w' → LapsesLater k w → Acts says w w' → LinkSettles says k w
-      → LinkSettles says k w'
-  acts w w' ends ends' lapses (inl act) link = arrives w w' ends ends' act link
-  acts w w' ends ends' lapses (inr (inl act)) link = drops w w' ends act link
-  acts w w' ends ends' lapses (inr (inr act)) link = runs w w' ends ends' lapses act link
+  acts : (w w' : State) → Ends k w → Ends k w' → LapsesLater k w → HearsOn says k w → StaysOn k w w' → Acts says w w'
+      → LinkSettles says k w → LinkSettles says k w'
+  acts w w' ends ends' lapses on lasts (inl act) link = arrives w w' ends ends' act on lasts link
+  acts w w' ends ends' lapses on lasts (inr (inl act)) link = drops w w' ends act link
+  acts w w' ends ends' lapses on lasts (inr (inr act)) link = runs w w' ends ends' lapses lasts act link
 
-  -- a moment comes: where the teller settles by then, its timer is due within an interval of an earlier time
+  -- a moment comes: where claims are made from then on, the teller's timer is due within an interval of an earlier time
   later : (w : State) (t : ℕ) → Ends k w → Ends k (record w { time = t }) → LinkSettles says k w
       → LinkSettles says k (record w { time = t })
-  later w t ends ends' link late pv pu l stand = elim (dec_le k.since w.time) [
-    | yes since ↦ link since pv pu l stood
-    | no before ↦ inl (let soon : pv.announce ≤ w.time + k.interval =
-        ((ends.teller stand.v pv stand.teller stand.teller_port).timer k.root k.steps
-        ((ends'.teller stand.v pv stand.teller stand.teller_port).settled late).mine).1 in
-        omega arith)
+  later w t ends ends' link late pv pu l stand has = elim (dec_le k.from w.time) [
+    | yes since ↦ link since pv pu l stood has
+    | no before ↦ elim ends.entry [
+      | inl zero ↦ absurd (omega arith)
+      | inr entry ↦ inl (let soon : pv.announce ≤ w.time + k.interval =
+          ((ends.teller stand.v pv stand.teller stand.teller_port).timer k.root k.steps
+          ((ends'.teller stand.v pv stand.teller stand.teller_port).settled late has).mine).1 in
+          omega arith)
+    ]
   ]
     where
       stood : Stand k w pv pu l
@@ -168,20 +178,24 @@ module _ (says : Says) (k : Wiring) where
       }
 
   -- every step keeps the link at a stage
-  pub link_kept : (w w' : State) → Ends k w → Ends k w' → LapsesLater k w → Steps says w w' → LinkSettles says k w
-      → LinkSettles says k w'
-  link_kept w w' ends ends' lapses (inl wait) link =
+  pub link_kept : (w w' : State) → Ends k w → Ends k w' → LapsesLater k w → HearsOn says k w → StaysOn k w w'
+      → Steps says w w' → LinkSettles says k w → LinkSettles says k w'
+  link_kept w w' ends ends' lapses on lasts (inl wait) link =
       subst (LinkSettles says k) (sym wait.is)
       (later w wait.time ends (subst (Ends k) wait.is ends') link)
-  link_kept w w' ends ends' lapses (inr act) link = acts w w' ends ends' lapses act link
+  link_kept w w' ends ends' lapses on lasts (inr act) link = acts w w' ends ends' lapses on lasts act link
 
-  -- an interval and the largest delay after the teller has settled the hearer holds what it tells
-  pub link_settled : (w : State) (pv pu : Port) (l : Lane) → Ends k w → LinkSettles says k w → Stand k w pv pu l
-      → k.since + k.interval + k.most ≤ w.time → (r : Reception) × (pu.held ≡ Received r) × IsFinal k r.said
-  link_settled w pv pu l ends link stand late =
-      let since : k.since ≤ w.time = omega arith in
+  -- in the end the hearer holds what a settled teller tells
+  pub link_settled : (w : State) (pv pu : Port) (l : Lane) → Ends k w → LinkSettles says k w
+      → (stand : Stand k w pv pu l) → IsReady k stand.v pv → k.before ≤ w.time
+      → (r : Reception) × (pu.held ≡ Received r) × IsFinal k r.said
+  link_settled w pv pu l ends link stand has late =
+      let in_time : k.until + k.most ≤ k.before = ends.in_time in
+      let claimed : k.from ≤ k.before = ends.claimed in
+      let since : k.from ≤ w.time = omega arith in
       let teller = ends.teller stand.v pv stand.teller stand.teller_port in
       let stays =
-      settled says k w.time pv.announce pu.held l.frames (teller.timer k.root k.steps (teller.settled since).mine).0
-      (λ f h. (ends.frames l f stand.lane h).left) late (link since pv pu l stand) in
+      settled says k w.time pv.announce pu.held l.frames
+      (teller.timer k.root k.steps (teller.settled since has).mine).0 (λ f h. (ends.frames l f stand.lane h).left)
+      in_time late (link since pv pu l stand has) in
       (stays.what, stays.holds, stays.final)

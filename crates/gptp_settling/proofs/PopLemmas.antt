@@ -13,6 +13,9 @@ module _ (says : Says) (k : Wiring) where
   pub ends_popped : (j : ℕ) (l : Lane) (f : Frame) (fs : List Frame) (w w' : State) → Pops j l f fs w w' → Ends k w
       → Ends k w'
   ends_popped j l f fs w w' pops ends = record {
+    in_time = ends.in_time;
+    claimed = ends.claimed;
+    entry = ends.entry;
     apart = ends.apart;
     teller_stands = λ i m at. ends.teller_stands i m (pops.stations i m at);
     hearer_stands = λ i m at. ends.hearer_stands i m (pops.stations i m at);
@@ -33,7 +36,7 @@ module _ (says : Says) (k : Wiring) where
     teller = λ s q at port. subst (λ t. IsTeller k t s q) (sym pops.time)
         (ends.teller s q (pops.stations k.teller_place s at) port);
     hearer = λ s q at port since. ends.hearer s q (pops.stations k.hearer_place s at) port
-        (subst (λ t. k.since ≤ t) pops.time since);
+        (subst (λ t. k.from ≤ t) pops.time since);
   }
     where
       there : k.lane ≡ j → slice_get w.lanes k.lane ≡ Some l
@@ -43,7 +46,8 @@ module _ (says : Says) (k : Wiring) where
       rest h = record { from = h.from; to = h.to; loss = h.loss; is_up = h.is_up }
 
   -- what stands after a frame was taken off stood before, with the lane's frames behind that one
-  pub stood_popped : (j : ℕ) (l : Lane) (f : Frame) (fs : List Frame) (w w' : State) → Pops j l f fs w w' → (m : Lane)
+  abbrev pub stood_popped : (j : ℕ) (l : Lane) (f : Frame) (fs : List Frame) (w w' : State) → Pops j l f fs w w'
+      → (m : Lane)
       → slice_get w.lanes k.lane ≡ Some m → (pv pu : Port) (l' : Lane) → Stand k w' pv pu l' → Stand k w pv pu m
   stood_popped j l f fs w w' pops m at pv pu l' stand = record {
     v = stand.v;
@@ -58,27 +62,27 @@ module _ (says : Says) (k : Wiring) where
   -- a frame of another lane
   pub other_lane : (j : ℕ) (l : Lane) (f : Frame) (fs : List Frame) (w w' : State) → Pops j l f fs w w' → k.lane ≢ j
       → LinkSettles says k w → LinkSettles says k w'
-  other_lane j l f fs w w' pops other link since pv pu l' stand =
+  other_lane j l f fs w w' pops other link since pv pu l' stand settled =
       elim (pops.lanes k.lane l' stand.lane) [
         | inl (same, is) ↦ absurd (other same)
-        | inr (apart, stood) ↦ link (subst (λ t. k.since ≤ t) pops.time since) pv pu l'
-            (stood_popped j l f fs w w' pops l' stood pv pu l' stand)
+        | inr (apart, stood) ↦ link (subst (λ t. k.from ≤ t) pops.time since) pv pu l'
+            (stood_popped j l f fs w w' pops l' stood pv pu l' stand) settled
       ]
 
   -- a frame of this lane that says no Announce
   pub silent_frame : (j : ℕ) (l : Lane) (f : Frame) (fs : List Frame) (w w' : State) → Pops j l f fs w w' → k.lane ≡ j
-      → (k.since ≤ w.time → (pv pu : Port) → Stand k w pv pu l → IsSaid says f → ⊥)
+      → (k.from ≤ w.time → (pv pu : Port) → Stand k w pv pu l → IsSaid says f → ⊥)
       → LinkSettles says k w → LinkSettles says k w'
-  silent_frame j l f fs w w' pops same silent link since pv pu l' stand =
+  silent_frame j l f fs w w' pops same silent link since pv pu l' stand settled =
       elim (pops.lanes k.lane l' stand.lane) [
         | inl (here, is) ↦ subst (λ (x : Lane). Stage says k pv.announce pu.held x.frames) (sym is)
             (misses says k pv.announce pu.held f fs (silent since' pv pu stood)
-            (subst (Stage says k pv.announce pu.held) pops.frames (link since' pv pu l stood)))
+            (subst (Stage says k pv.announce pu.held) pops.frames (link since' pv pu l stood settled)))
         | inr (apart, at) ↦ absurd (apart same)
       ]
     where
-      since' : k.since ≤ w.time
-      since' = subst (λ t. k.since ≤ t) pops.time since
+      since' : k.from ≤ w.time
+      since' = subst (λ t. k.from ≤ t) pops.time since
 
       stood : Stand k w pv pu l
       stood =

@@ -1,35 +1,32 @@
--- A system at rest of which all that is held is wholly clean: what it has chosen, and which of its ports are master.
+-- A system at rest of which all that is held fits: what it has chosen, and which of its ports are master.
 use Rattle.std.proofs.Common.{◌≡◌, ◌≢◌, ◌⊎◌, ◌≤◌, ◌<◌, ℕ, zero, suc, List, [], ◌∷◌, Some, None, slice_get, refl, sym, ap, subst, ◌∙◌, inl, inr, arith}
 use native.Mathlib.Decide.{dec_le}
 use Rattle.gptp_lists.specs.Members.{In}
 use Rattle.gptp_graph.specs.Order.{IsLower}
-use Rattle.gptp_graph.specs.Snapshot.{System, PortIdentity, Snapshot, IsWellFormed, port_of, Joins, Adjacent}
+use Rattle.gptp_graph.specs.Snapshot.{System, PortIdentity, Snapshot, IsWellFormed, port_of, Joins, IsLinked}
 use Rattle.gptp_graph.specs.Best.{IsBest}
 use Rattle.gptp_graph.specs.Distance.{IsDistance}
-use Rattle.gptp_graph.proofs.LinkLemmas.{Joins-sym, Adjacent-sym, Adjacent-clock}
+use Rattle.gptp_graph.proofs.LinkLemmas.{Joins-sym}
 use Rattle.gptp_graph.proofs.SystemLemmas.{In-clocks, same_clock, same_identity}
 use Rattle.gptp_graph.proofs.PathLemmas.{Reaches-self}
-use Rattle.gptp_graph.proofs.BestLemmas.{IsBest-neighbour}
-use Rattle.gptp_graph.proofs.ExistenceLemmas.{distance_exists}
-use Rattle.gptp_graph.proofs.DistanceLemmas.{IsDistance-unique, IsDistance-neighbour, IsDistance-best, best_at_zero}
+use Rattle.gptp_graph.proofs.DistanceLemmas.{IsDistance-unique, IsDistance-best, best_at_zero}
 use Rattle.gptp_settling.specs.Station.{Reception, Held, Disabled, Aged, Mine, Received, Port, Station, HoldsAt}
 use Rattle.gptp_settling.specs.Vectors.{message, path_vector, master, system_vector}
-use Rattle.gptp_settling.specs.Clean.{CameWhole}
+use Rattle.gptp_settling.specs.Clean.{CameOver, CameFits}
 use Rattle.gptp_settling.specs.Facts.{system_of}
 use Rattle.gptp_settling.specs.AtRest.{ChoosesItself, ChoosesPort, IsAtRest}
 use Rattle.gptp_settling.proofs.PlaceLemmas.{same_place}
-use Rattle.gptp_settling.proofs.NearestLemmas.{root_not_better, steps_not_fewer}
 
 -- a system that has the best's identity as its root, and so many steps
 pub record Chooses (s : Station) (best : System) (d : ℕ) : Type 0 where
   pub root : s.root ≡ best.identity
   pub steps : s.steps ≡ d
 
--- it is at rest, the snapshot has it, and all it holds is wholly clean
+-- it is at rest, the snapshot has it, and all it holds fits
 pub record IsClear (g : Snapshot) (s : Station) : Type 0 where
   pub rest : IsAtRest s
   pub known : In (system_of s) g.systems
-  pub held : (i : ℕ) (r : Reception) → HoldsAt s i r → CameWhole g s.clock (suc i) r
+  pub held : (i : ℕ) (r : Reception) → HoldsAt s i r → CameFits g s.clock (suc i) r
 
 -- a list's first two members are those of its parts
 first_two : (a b c d : ℕ) (xs ys : List ℕ) → a ∷ b ∷ xs ≡ c ∷ d ∷ ys → (a ≡ c) × (b ≡ d)
@@ -37,30 +34,9 @@ first_two a b c d xs ys e = (cc, cc)
 
 module _ (g : Snapshot) (wf : IsWellFormed g) (s : Station) (clear : IsClear g s) (best : System)
     (is_best : IsBest g s.clock best) where
-  -- the link that a port received over, seen from the system
-  pub joined : (i : ℕ) (r : Reception) (holds : HoldsAt s i r) → Adjacent g s.clock (clear.held i r holds).from.clock
-  joined i r holds =
-      let came = clear.held i r holds in
-      (suc i, came.from.port, Joins-sym g came.from (port_of s.clock (suc i)) came.joins)
-
-  -- the system at its other end has the same best
-  pub best_there : (i : ℕ) (r : Reception) (holds : HoldsAt s i r) → IsBest g (clear.held i r holds).from.clock best
-  best_there i r holds =
-      IsBest-neighbour g s.clock (clear.held i r holds).from.clock best wf (joined i r holds) is_best
-
   -- no root that is held is better than the best
   pub held_root : (i : ℕ) (r : Reception) → HoldsAt s i r → best.identity ≤ r.said.root
-  held_root i r holds =
-      let came = clear.held i r holds in
-      root_not_better g wf came.from.clock r.said came.whole best (best_there i r holds)
-
-  -- and for the best no steps are below the distance of the sender
-  pub held_steps : (i : ℕ) (r : Reception) (holds : HoldsAt s i r) (e : ℕ)
-      → IsDistance g (clear.held i r holds).from.clock e → r.said.root ≡ best.identity → e ≤ r.said.steps
-  held_steps i r holds e there root =
-      let came = clear.held i r holds in
-      steps_not_fewer g wf came.from.clock r.said came.whole best (best_there i r holds) came.from.clock e (inl refl)
-      (best_there i r holds) there root
+  held_root i r holds = (clear.held i r holds).fits.root best is_best
 
   -- nor is its own
   pub own_root : best.identity ≤ s.identity
@@ -146,24 +122,12 @@ module _ (g : Snapshot) (wf : IsWellFormed g) (s : Station) (clear : IsClear g s
 
           best_steps : x.said.steps ≡ d
           best_steps =
-              from (distance_exists g came.from.clock wf (Adjacent-clock g s.clock came.from.clock wf adjacent))
-            where
-              came : CameWhole g s.clock (suc j) x
-              came = clear.held j x holds_x
-
-              adjacent : Adjacent g s.clock came.from.clock
-              adjacent = joined j x holds_x
-
-              from : ((e : ℕ) × IsDistance g came.from.clock e) → x.said.steps ≡ d
-              from (e, there) =
-                  let least : e ≤ x.said.steps = held_steps j x holds_x e there best_root in
-                  let near : suc d ≤ suc e =
-                  IsDistance-neighbour g came.from.clock s.clock e (suc d) wf
-                  (Adjacent-sym g s.clock came.from.clock adjacent) there here in
-                  elim (dec_le x.said.steps d) [
-                    | yes below ↦ omega arith
-                    | no above ↦ absurd (not_lower (inr (root ∙ sym best_root, inl (omega arith))))
-                  ]
+              let least : suc d ≤ suc x.said.steps =
+              (clear.held j x holds_x).fits.here best (suc d) is_best best_root here in
+              elim (dec_le x.said.steps d) [
+                | yes below ↦ omega arith
+                | no above ↦ absurd (not_lower (inr (root ∙ sym best_root, inl (omega arith))))
+              ]
 
   -- what it has chosen came from its parent's distance: a system of distance d + 1 chose what a port received
   pub chosen_port : (d : ℕ) → Chooses s best (suc d) → ChoosesPort s clear.rest.vector
@@ -207,13 +171,15 @@ module _ (g : Snapshot) (wf : IsWellFormed g) (s : Station) (clear : IsClear g s
       by_port (j, x, holds, path, slave_x) =
           let (root, steps) = chosen_said e j x chosen path in
           let same : suc j ≡ suc i = ap suc (same_place j i (sym slave_x ∙ slave)) in
-          let came = clear.held j x holds in
+          let came =
+          (clear.held j x holds).over (subst (λ n. IsLinked g (port_of s.clock n)) (sym same) (u, joins)) in
           let other : came.from ≡ u =
           wf.one_link (port_of s.clock (suc i)) came.from u
           (subst (λ n. Joins g (port_of s.clock n) came.from) same
           (Joins-sym g came.from (port_of s.clock (suc j)) came.joins)) joins in
           let more : far ≤ x.said.steps =
-          held_steps j x holds far (subst (λ (p : PortIdentity). IsDistance g p.clock far) (sym other) there) root in
+          came.sender best far is_best root
+          (subst (λ (p : PortIdentity). IsDistance g p.clock far) (sym other) there) in
           omega arith
 
   -- whatever it has chosen, its root is no better than the best, and for the best its steps are no fewer than its
@@ -240,27 +206,11 @@ module _ (g : Snapshot) (wf : IsWellFormed g) (s : Station) (clear : IsClear g s
           IsDistance-unique g s.clock far 0 wf here (own_best (sym (identity ∙ root))) in
           omega arith
       by_choice (inr (i, r, holds, path, slave)) =
-          from (distance_exists g came.from.clock wf (Adjacent-clock g s.clock came.from.clock wf adjacent))
-        where
-          came : CameWhole g s.clock (suc i) r
-          came = clear.held i r holds
-
-          adjacent : Adjacent g s.clock came.from.clock
-          adjacent = joined i r holds
-
-          chosen : (r.said.root ≡ s.root) × (suc r.said.steps ≡ s.steps)
-          chosen =
-              first_two r.said.root (suc r.said.steps) s.root s.steps
-              (r.said.source.clock ∷ r.said.source.port ∷ suc i ∷ []) clear.rest.source (sym path ∙ clear.rest.is)
-
-          from : ((e : ℕ) × IsDistance g came.from.clock e) → far ≤ s.steps
-          from (e, there) =
-              let least : e ≤ r.said.steps = held_steps i r holds e there (chosen.0 ∙ root) in
-              let near : far ≤ suc e =
-              IsDistance-neighbour g came.from.clock s.clock e far wf
-              (Adjacent-sym g s.clock came.from.clock adjacent) there here in
-              let more : suc r.said.steps ≡ s.steps = chosen.1 in
-              omega arith
+          let (root_is, steps_are) = first_two r.said.root (suc r.said.steps) s.root s.steps
+          (r.said.source.clock ∷ r.said.source.port ∷ suc i ∷ []) clear.rest.source (sym path ∙ clear.rest.is) in
+          let least : far ≤ suc r.said.steps =
+          (clear.held i r holds).fits.here best far is_best (root_is ∙ root) here in
+          omega arith
 
   -- A port towards a system that is farther, or as far with the higher clock, is master once the system has settled:
   -- what it may have received is no better than what it would announce.
@@ -283,8 +233,8 @@ module _ (g : Snapshot) (wf : IsWellFormed g) (s : Station) (clear : IsClear g s
           holds : HoldsAt s i r
           holds = (q, at, e)
 
-          came : CameWhole g s.clock (suc i) r
-          came = clear.held i r holds
+          came : CameOver g s.clock (suc i) r.said
+          came = (clear.held i r holds).over (u, joins)
 
           from_is : came.from ≡ u
           from_is =
@@ -292,7 +242,9 @@ module _ (g : Snapshot) (wf : IsWellFormed g) (s : Station) (clear : IsClear g s
               (Joins-sym g came.from (port_of s.clock (suc i)) came.joins) joins
 
           steps : r.said.root ≡ best.identity → far ≤ r.said.steps
-          steps = held_steps i r holds far (subst (λ (p : PortIdentity). IsDistance g p.clock far) (sym from_is) there)
+          steps root =
+              came.sender best far is_best root
+              (subst (λ (p : PortIdentity). IsDistance g p.clock far) (sym from_is) there)
 
           source : r.said.source ≡ u
           source = came.source ∙ from_is

@@ -48,7 +48,7 @@ module _ (says : Says) (k : Wiring) where
       → Stage says k announce held fs → Stage says k announce held (fs ++ news)
   enters announce held fs news new (inl waits) = inl waits
   enters announce held fs news new (inr (inl tail)) =
-      inr (inl (tail_on (k.since + k.interval + k.most) fs news tail new))
+      inr (inl (tail_on k.before fs news tail new))
   enters announce held fs news new (inr (inr stays)) = inr (inr (record {
     what = stays.what;
     holds = stays.holds;
@@ -60,16 +60,21 @@ module _ (says : Says) (k : Wiring) where
     ];
   }))
 
+  -- whatever was before, final frames enter the lane, one of which says an Announce and is due in time
+  pub begins : (announce : ℕ) (held : Held) (fs news : List Frame) (f : Frame) → AllFinal says k news → In f news
+      → IsSaid says f → f.due < k.before → Stage says k announce held (fs ++ news)
+  begins announce held fs news f new at said due =
+      inr (inl (tail_behind k.before fs news (tail_at k.before news f at said due new)))
+
   -- the teller tells, and its timer starts again: final frames enter the lane, one of which says an Announce
   pub tells : (now announce announce' : ℕ) (held : Held) (fs news : List Frame) (f : Frame) → AllFinal says k news
-      → In f news → IsSaid says f → f.due ≤ now + k.most → now ≤ announce
+      → In f news → IsSaid says f → f.due ≤ now + k.most → now ≤ announce → k.until + k.most ≤ k.before
       → Stage says k announce held fs → Stage says k announce' held (fs ++ news)
-  tells now announce announce' held fs news f new at said due timer (inl waits) =
-      inr (inl (tail_behind (k.since + k.interval + k.most) fs news
-      (tail_at (k.since + k.interval + k.most) news f at said (omega arith) new)))
-  tells now announce announce' held fs news f new at said due timer (inr (inl tail)) =
-      inr (inl (tail_on (k.since + k.interval + k.most) fs news tail new))
-  tells now announce announce' held fs news f new at said due timer (inr (inr stays)) = inr (inr (record {
+  tells now announce announce' held fs news f new at said due timer in_time (inl waits) =
+      begins announce' held fs news f new at said (omega arith)
+  tells now announce announce' held fs news f new at said due timer in_time (inr (inl tail)) =
+      inr (inl (tail_on k.before fs news tail new))
+  tells now announce announce' held fs news f new at said due timer in_time (inr (inr stays)) = inr (inr (record {
     what = stays.what;
     holds = stays.holds;
     final = stays.final;
@@ -146,11 +151,11 @@ module _ (says : Says) (k : Wiring) where
     | inr (f, at, said, due) ↦ let h : now ≤ f.due = left f at in omega arith
   ]
 
-  -- an interval and the largest delay after the teller has settled only the last stage is left
+  -- in the end only the last stage is left
   pub settled : (now announce : ℕ) (held : Held) (fs : List Frame) → now ≤ announce
-      → ((f : Frame) → In f fs → now ≤ f.due) → k.since + k.interval + k.most ≤ now
+      → ((f : Frame) → In f fs → now ≤ f.due) → k.until + k.most ≤ k.before → k.before ≤ now
       → Stage says k announce held fs → Stays says k announce held fs
-  settled now announce held fs timer left late (inl waits) = absurd (omega arith)
-  settled now announce held fs timer left late (inr (inl tail)) =
-      absurd (tail_over (k.since + k.interval + k.most) now fs tail late left)
-  settled now announce held fs timer left late (inr (inr stays)) = stays
+  settled now announce held fs timer left in_time late (inl waits) = absurd (omega arith)
+  settled now announce held fs timer left in_time late (inr (inl tail)) =
+      absurd (tail_over k.before now fs tail late left)
+  settled now announce held fs timer left in_time late (inr (inr stays)) = stays

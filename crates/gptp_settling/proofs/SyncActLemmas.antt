@@ -13,8 +13,8 @@ use Rattle.gptp_graph.proofs.ParentLemmas.{IsParent-unique, no_parent_at_zero}
 use Rattle.gptp_settling.specs.Frame.{Says, SaysSync}
 use Rattle.gptp_settling.specs.Station.{Reception, Mine, Station, State, HoldsAt}
 use Rattle.gptp_settling.specs.Acts.{Acts, Steps}
-use Rattle.gptp_settling.specs.CleanLaws.{HeldIsWhole}
-use Rattle.gptp_settling.specs.Network.{Network, IsNetwork, setting, clean_from, since}
+use Rattle.gptp_settling.specs.Sound.{IsSound}
+use Rattle.gptp_settling.specs.Network.{Network, IsNetwork, since}
 use Rattle.gptp_settling.specs.Calm.{Calm}
 use Rattle.gptp_settling.specs.Levels.{LeadsFarther, Invariant}
 use Rattle.gptp_settling.specs.Settled.{IsSlaveOf}
@@ -22,8 +22,8 @@ use Rattle.gptp_settling.specs.Lapsing.{FollowsNearer}
 use Rattle.gptp_settling.specs.Matching.{Matches}
 use Rattle.gptp_settling.specs.SyncActs.{FollowsOn, IsHeard, SyncActs, SyncSteps}
 use Rattle.gptp_settling.specs.Syncs.{MayLead, HaveSyncTimers, TellsBy, HearsBy, IsExpected, SyncsAreExpected}
-use Rattle.gptp_settling.proofs.EndsLemmas.{station_of, is_station, tells_settled}
-use Rattle.gptp_settling.proofs.LevelLemmas.{places_of, port_there, chooses, whole_from}
+use Rattle.gptp_settling.proofs.EndsLemmas.{station_of, is_station, capable_at, tells_settled}
+use Rattle.gptp_settling.proofs.LevelLemmas.{places_of, port_there, chooses}
 use Rattle.gptp_settling.proofs.SettledLemmas.{follows_best, systems_bounded}
 use Rattle.gptp_settling.proofs.SyncStepLemmas.{TellsTime, StationsStep, acts_steps}
 use Rattle.gptp_settling.proofs.SyncLemmas.{parent_there, known_station, flight_left, flight_soon, expected_now, expected_later}
@@ -63,19 +63,22 @@ same_root g v a b wf (best, is_best, root) (other, is_other, other_root) =
 
 module _ (says : Says) (says_sync : SaysSync) (n : Network) (net : IsNetwork n) (w w' : State) (calm : Calm n w)
     (calm' : Calm n w') (facts : HaveSyncTimers n w) (facts' : HaveSyncTimers n w') (time : w'.time ≡ w.time)
-    (steps : StationsStep says_sync n w w') (invariant : Invariant says n w) (invariant' : Invariant says n w') where
-  whole : clean_from n ≤ w.time → HeldIsWhole (setting n) w
-  whole = whole_from says n net w calm invariant
+    (steps : StationsStep says_sync n w w') (invariant : Invariant says n w) (invariant' : Invariant says n w')
+    (bare : n.bare ≤ since n 0) where
+  sound : IsSound n w
+  sound = invariant.sound
 
-  whole' : clean_from n ≤ w'.time → HeldIsWhole (setting n) w'
-  whole' = whole_from says n net w' calm' invariant'
+  sound' : IsSound n w'
+  sound' = invariant'.sound
 
   -- what a port received came from the other end of its link
   held_source : (i : ℕ) (s : Station) (place : ℕ) (from : PortIdentity) (r : Reception)
-      → slice_get w.stations i ≡ Some s → s.live ≡ true → clean_from n ≤ w.time
+      → slice_get w.stations i ≡ Some s → s.live ≡ true → n.sound ≤ w.time
       → Joins n.graph from (port_of s.clock (suc place)) → HoldsAt s place r → r.said.source ≡ from
   held_source i s place from r at live late joins holds =
-      let came = whole late i s place r at live holds in
+      let came =
+      (sound late i s place r at live holds).over
+      (from, Joins-sym n.graph from (port_of s.clock (suc place)) joins) in
       came.source
       ∙ net.graph.one_link (port_of s.clock (suc place)) came.from from
       (Joins-sym n.graph came.from (port_of s.clock (suc place)) came.joins)
@@ -88,7 +91,7 @@ module _ (says : Says) (says_sync : SaysSync) (n : Network) (net : IsNetwork n) 
       → (due : ℕ) × Matches says_sync w'.stations w'.lanes (n.lane (port_of v out)) due × (due ≤ w.time + n.most)
   on_lane d v out to s' near late here u joins there at tells =
       by_places (places_of n.graph v out u to net.graph joins)
-      (is_station n net w' calm' whole' v s' (IsDistance-clock n.graph v d net.graph here) at)
+      (is_station n net w' calm' sound' v s' (IsDistance-clock n.graph v d net.graph here) at)
     where
       by_places : ((p : ℕ) × (q : ℕ) × (out ≡ suc p) × (to ≡ suc q)) → (s'.live ≡ true) × (s'.clock ≡ v)
           → (due : ℕ) × Matches says_sync w'.stations w'.lanes (n.lane (port_of v out)) due × (due ≤ w.time + n.most)
@@ -105,18 +108,28 @@ module _ (says : Says) (says_sync : SaysSync) (n : Network) (net : IsNetwork n) 
             there = there;
             farther = inl (omega arith);
           } in
-          let (pv, pv_at) = port_there says n net w' calm' whole' v p (port_of u (suc q)) s' at over in
+          let chosen =
+          chooses says n net w' calm' sound' d (λ e less. invariant'.levels e) near late v here.best s' at here.is_best
+          here in
+          let (pv, pv_at) = port_there says n net w' calm' sound' v p (port_of u (suc q)) s' at over in
+          let ready : n.ready (port_of v (suc p)) ≤ since n 0 =
+          net.ready (port_of v (suc p)) (port_of u (suc q), over) in
+          let on =
+          capable_at n net w' calm' sound' d here.best v p u q near leads
+          (λ by. chooses says n net w' calm' sound' d (λ e less. invariant'.levels e) near by) v p (port_of u (suc q))
+          s'
+          pv (IsDistance-clock n.graph v d net.graph here) over at pv_at (omega arith) in
           let mine : pv.held ≡ Mine here.best.identity d =
-          (tells_settled n net w' calm' whole' d here.best v p u q near leads
-          (λ by. chooses says n net w' calm' whole' d (λ e less. invariant'.levels e) near by) late s' pv at
-          pv_at).mine in
+          (tells_settled n net w' calm' sound' d here.best v p u q near leads
+          (λ by. chooses says n net w' calm' sound' d (λ e less. invariant'.levels e) near by) (omega arith) s' pv at
+          pv_at ((chosen.root, chosen.steps), on)).mine in
           let has = calm'.lanes (port_of v (suc p)) (port_of u (suc q)) over in
           let (due, on) = tells p (n.lane (port_of v (suc p))) pv has.lane here.best.identity d pv_at mine has.there
           (has.from ∙ (λ i. port_of (sym clock i) (suc p)))
           (subst (λ x. Joins n.graph x has.lane.to) (sym has.from)
           (subst (Joins n.graph (port_of v (suc p))) (sym has.to) over)) has.loss has.is_up in
           let soon : due ≤ w'.time + n.most =
-          flight_soon says_sync n net w' calm' whole' facts' (port_of v (suc p)) (port_of u (suc q)) due over
+          flight_soon says_sync n net w' calm' sound' facts' (port_of v (suc p)) (port_of u (suc q)) due over
           (omega arith) on in (
             due,
             subst (λ m. Matches says_sync w'.stations w'.lanes (n.lane (port_of v m)) due) (sym is_p) on,
@@ -130,22 +143,24 @@ module _ (says : Says) (says_sync : SaysSync) (n : Network) (net : IsNetwork n) 
     known = IsDistance-clock n.graph v d net.graph here
 
     lives : s.live ≡ true
-    lives = (is_station n net w calm whole v s known at).0
+    lives = (is_station n net w calm sound v s known at).0
 
     best_before : IsBestIdentity n.graph v s.root × IsSlaveOf n.graph v s.slave
     best_before =
-        let (live, clock) = is_station n net w calm whole v s known at in
+        let (live, clock) = is_station n net w calm sound v s known at in
         let follows = follows_best says n net w calm invariant (n.place v) s at live d
-        (subst (λ c. IsDistance n.graph c d) (sym clock) here) near late in (
+        (subst (λ c. IsDistance n.graph c d) (sym clock) here) near late
+        (omega (arith, bare)) in (
           subst (λ c. IsBestIdentity n.graph c s.root) clock follows.root,
           subst (λ c. IsSlaveOf n.graph c s.slave) clock follows.slave,
         )
 
     best_after : IsBestIdentity n.graph v s'.root × IsSlaveOf n.graph v s'.slave
     best_after =
-        let (live, clock) = is_station n net w' calm' whole' v s' known at' in
+        let (live, clock) = is_station n net w' calm' sound' v s' known at' in
         let follows = follows_best says n net w' calm' invariant' (n.place v) s' at' live d
-        (subst (λ c. IsDistance n.graph c d) (sym clock) here) near (subst (λ t. since n d ≤ t) (sym time) late) in (
+        (subst (λ c. IsDistance n.graph c d) (sym clock) here) near (subst (λ t. since n d ≤ t) (sym time) late)
+        (let same : w'.time ≡ w.time = time in omega (arith, bare)) in (
           subst (λ c. IsBestIdentity n.graph c s'.root) clock follows.root,
           subst (λ c. IsSlaveOf n.graph c s'.slave) clock follows.slave,
         )
@@ -165,13 +180,13 @@ module _ (says : Says) (says_sync : SaysSync) (n : Network) (net : IsNetwork n) 
 
   -- what is in flight to the slave port of a system stays there or is heard
   heard_on : (v : ℕ) (s s' : Station) (from : PortIdentity) (port due : ℕ) → In v (clocks n.graph)
-      → clean_from n ≤ w.time → slice_get w.stations (n.place v) ≡ Some s
+      → n.sound ≤ w.time → slice_get w.stations (n.place v) ≡ Some s
       → slice_get w'.stations (n.place v) ≡ Some s' → Joins n.graph from (port_of v port) → s.slave ≡ Some port
       → FollowsOn s s' → Matches says_sync w.stations w.lanes (n.lane from) due
       → Matches says_sync w'.stations w'.lanes (n.lane from) due ⊎ IsHeard n w.time s'
   heard_on v s s' from port due known late at at' joins slave on flies =
       by_places (places_of n.graph from.clock from.port v port net.graph joins)
-      (is_station n net w calm whole v s known at)
+      (is_station n net w calm sound v s known at)
     where
       by_places : ((p : ℕ) × (q : ℕ) × (from.port ≡ suc p) × (port ≡ suc q)) → (s.live ≡ true) × (s.clock ≡ v)
           → Matches says_sync w'.stations w'.lanes (n.lane from) due ⊎ IsHeard n w.time s'
@@ -192,7 +207,7 @@ module _ (says : Says) (says_sync : SaysSync) (n : Network) (net : IsNetwork n) 
       → TellsBy says_sync n w'.stations w'.lanes d v by
       ⊎ ((due : ℕ) × Matches says_sync w'.stations w'.lanes (n.lane (port_of v out)) due × (due ≤ by + n.most))
   tells_on zero v by out u to best near late here joins there is_best leads (s, at, h) =
-      by_station (station_of n net w' calm' whole' v (IsDistance-clock n.graph v 0 net.graph here))
+      by_station (station_of n net w' calm' sound' v (IsDistance-clock n.graph v 0 net.graph here))
     where
       by_station : ((s' : Station) × (slice_get w'.stations (n.place v) ≡ Some s') × (s'.live ≡ true) × (s'.clock ≡ v))
           → TellsBy says_sync n w'.stations w'.lanes 0 v by
@@ -207,11 +222,11 @@ module _ (says : Says) (says_sync : SaysSync) (n : Network) (net : IsNetwork n) 
             | inr told ↦
                 let (due, flies, soon) =
                 on_lane 0 v out to s' near (subst (λ t. since n 0 ≤ t) (sym time) late) here u joins there at' told in
-                let left : w.time ≤ s.sync = (known_station says_sync n net w calm whole facts v s 0 here at).sync.0 in
+                let left : w.time ≤ s.sync = (known_station says_sync n net w calm sound facts v s 0 here at).sync.0 in
                 inr (due, flies, omega arith)
           ]
   tells_on (suc d) v by out u to best near late here joins there is_best leads (inl (s, at, (due, runs, h))) =
-      by_station (station_of n net w' calm' whole' v (IsDistance-clock n.graph v (suc d) net.graph here))
+      by_station (station_of n net w' calm' sound' v (IsDistance-clock n.graph v (suc d) net.graph here))
     where
       by_station : ((s' : Station) × (slice_get w'.stations (n.place v) ≡ Some s') × (s'.live ≡ true) × (s'.clock ≡ v))
           → TellsBy says_sync n w'.stations w'.lanes (suc d) v by
@@ -225,12 +240,12 @@ module _ (says : Says) (says_sync : SaysSync) (n : Network) (net : IsNetwork n) 
                 on_lane (suc d) v out to s' near (subst (λ t. since n (suc d) ≤ t) (sym time) late) here u joins there
                 at' told in
                 let left : w.time ≤ due =
-                ((known_station says_sync n net w calm whole facts v s (suc d) here at).relay due runs).0 in
+                ((known_station says_sync n net w calm sound facts v s (suc d) here at).relay due runs).0 in
                 inr (next, flies, omega arith)
           ]
   tells_on (suc d) v by out u to best near late here joins there is_best leads
       (inr (l, parent, (come, inl (due, flies, h), relayed))) =
-      by_station (station_of n net w calm whole v known_v) (station_of n net w' calm' whole' v known_v)
+      by_station (station_of n net w calm sound v known_v) (station_of n net w' calm' sound' v known_v)
     where
       known_v : In v (clocks n.graph)
       known_v = IsDistance-clock n.graph v (suc d) net.graph here
@@ -250,9 +265,9 @@ module _ (says : Says) (says_sync : SaysSync) (n : Network) (net : IsNetwork n) 
             | inr heard ↦
                 let (next, runs) = heard.relay in
                 let soon : next ≤ w'.time + n.syncs.residence =
-                ((known_station says_sync n net w' calm' whole' facts' v s' (suc d) here at').relay next runs).1 in
+                ((known_station says_sync n net w' calm' sound' facts' v s' (suc d) here at').relay next runs).1 in
                 let left : w.time ≤ due =
-                flight_left says_sync n net w calm whole facts (n.lane (port_of l.clock l.port)) due flies in
+                flight_left says_sync n net w calm sound facts (n.lane (port_of l.clock l.port)) due flies in
                 inl (inl (s', at', (next, runs, omega arith)))
           ]
   tells_on (suc d) v by out u to best near late here joins there is_best leads
@@ -270,7 +285,7 @@ module _ (says : Says) (says_sync : SaysSync) (n : Network) (net : IsNetwork n) 
   -- an act keeps by when the next Follow_Up is expected
   pub expected_on : SyncsAreExpected says_sync n w → SyncsAreExpected says_sync n w'
   expected_on expected i s' d due at' live' near follows late lapse =
-      by_station (station_of n net w calm whole s'.clock known_u)
+      by_station (station_of n net w calm sound s'.clock known_u)
     where
       known_u : In s'.clock (clocks n.graph)
       known_u = IsDistance-clock n.graph s'.clock (suc d) net.graph follows.here
@@ -279,13 +294,14 @@ module _ (says : Says) (says_sync : SaysSync) (n : Network) (net : IsNetwork n) 
       place_is = calm'.placed i s' at'
 
       -- its lapse timer has started again
-      fresh : due ≡ w.time + n.syncs.span → IsExpected says_sync n w'.stations w'.lanes d follows.from due
+      fresh : due ≡ w.time + n.syncs.span → IsExpected says_sync n w'.stations w'.lanes d follows.follows.from due
       fresh is =
-          expected_now says_sync n net w' calm' whole' facts' d due follows.from follows.there (omega arith)
+          expected_now says_sync n net w' calm' sound' facts' d due follows.follows.from follows.follows.there
+          (omega arith)
 
       by_station : ((s : Station) × (slice_get w.stations (n.place s'.clock) ≡ Some s) × (s.live ≡ true)
           × (s.clock ≡ s'.clock))
-          → IsExpected says_sync n w'.stations w'.lanes d follows.from due
+          → IsExpected says_sync n w'.stations w'.lanes d follows.follows.from due
       by_station (s, at, live, clock) =
           elim ((steps (n.place s'.clock) s s' at stands live).lapse due lapse) [
             | inl (was, on) ↦ stays was on
@@ -295,52 +311,61 @@ module _ (says : Says) (says_sync : SaysSync) (n : Network) (net : IsNetwork n) 
           stands : slice_get w'.stations (n.place s'.clock) ≡ Some s'
           stands = subst (λ j. slice_get w'.stations j ≡ Some s') place_is at'
 
-          stays : s.lapse ≡ Some due → FollowsOn s s' → IsExpected says_sync n w'.stations w'.lanes d follows.from due
+          stays : s.lapse ≡ Some due → FollowsOn s s'
+              → IsExpected says_sync n w'.stations w'.lanes d follows.follows.from due
           stays was on = go old.hears
             where
-              slave : s.slave ≡ Some follows.port
-              slave = sym on.slave ∙ follows.slave
+              slave : s.slave ≡ Some follows.follows.port
+              slave = sym on.slave ∙ follows.follows.slave
 
               before : FollowsNearer n.graph s d
               before = record {
                 here = subst (λ c. IsDistance n.graph c (suc d)) (sym clock) follows.here;
-                port = follows.port;
-                slave = slave;
-                from = follows.from;
-                joins = subst (λ c. Joins n.graph follows.from (port_of c follows.port)) (sym clock) follows.joins;
-                there = follows.there;
+                follows = record {
+                  port = follows.follows.port;
+                  slave = slave;
+                  from = follows.follows.from;
+                  joins = subst (λ c. Joins n.graph follows.follows.from (port_of c follows.follows.port)) (sym clock)
+                      follows.follows.joins;
+                  there = follows.follows.there;
+                };
               }
 
               late_before : since n d ≤ w.time
               late_before = subst (λ t. since n d ≤ t) time late
 
-              old : IsExpected says_sync n w.stations w.lanes d follows.from due
+              old : IsExpected says_sync n w.stations w.lanes d follows.follows.from due
               old = expected (n.place s'.clock) s d due at live near before late_before was
 
               -- where it follows what may be grandmaster, its best may be
-              leads : MayLead follows.there.best.identity
+              leads : MayLead follows.follows.there.best.identity
               leads =
                   let may : MayLead s'.root = (facts' i s' at' live').lapse due lapse in
-                  let back = Joins-sym n.graph follows.from (port_of s'.clock follows.port) follows.joins in
+                  let back = Joins-sym n.graph follows.follows.from (port_of s'.clock follows.follows.port)
+                  follows.follows.joins in
                   let best_here =
-                  IsBest-neighbour n.graph follows.from.clock s'.clock follows.there.best net.graph
-                  (follows.from.port, follows.port, follows.joins) follows.there.is_best in
-                  let least : follows.there.best.identity ≤ s'.root =
-                  (systems_bounded says n w' i s' follows.there.best net calm' invariant' at' live' best_here
+                  IsBest-neighbour n.graph follows.follows.from.clock s'.clock follows.follows.there.best net.graph
+                  (follows.follows.from.port, follows.follows.port, follows.follows.joins)
+                  follows.follows.there.is_best in
+                  let least : follows.follows.there.best.identity ≤ s'.root =
+                  (systems_bounded says n w' i s' follows.follows.there.best net calm' invariant' at' live' best_here
                   (omega arith)).0 in
                   le_lt least may
 
-              go : HearsBy says_sync n w.stations w.lanes d follows.from old.by
-                  → IsExpected says_sync n w'.stations w'.lanes d follows.from due
+              go : HearsBy says_sync n w.stations w.lanes d follows.follows.from old.by
+                  → IsExpected says_sync n w'.stations w'.lanes d follows.follows.from due
               go (inl (x, flies, h)) =
-                  elim (heard_on s'.clock s s' follows.from follows.port x known_u (omega arith) at stands follows.joins
+                  elim (heard_on s'.clock s s' follows.follows.from follows.follows.port x known_u (omega arith) at
+                  stands follows.follows.joins
                   slave on flies) [
                     | inl still ↦ record { by = old.by; hears = inl (x, still, h); soon = old.soon }
                     | inr heard ↦ fresh (heard.lapse due lapse)
                   ]
               go (inr (sent, tells, h)) =
-                  elim (tells_on d follows.from.clock sent follows.from.port s'.clock follows.port follows.there.best
-                  near late_before follows.there follows.joins follows.here follows.there.is_best leads tells) [
+                  elim (tells_on d follows.follows.from.clock sent follows.follows.from.port s'.clock
+                  follows.follows.port follows.follows.there.best
+                  near late_before follows.follows.there follows.follows.joins follows.here
+                  follows.follows.there.is_best leads tells) [
                     | inl still ↦ record { by = old.by; hears = inr (sent, still, h); soon = old.soon }
                     | inr (x, flies, soon) ↦ record {
                       by = old.by;
@@ -368,15 +393,15 @@ module _ (says : Says) where
     step_of w w' (inl wait) = inl wait
     step_of w w' (inr act) = inr (act_of w w' act)
 
-    module _ (net : IsNetwork n) where
+    module _ (net : IsNetwork n) (bare : n.bare ≤ since n 0) where
       -- every step keeps by when the next Follow_Up is expected
       pub expected_kept : (w w' : State) → Calm n w → Calm n w' → HaveSyncTimers n w → HaveSyncTimers n w'
           → SyncSteps says says_sync n w w' → Invariant says n w → Invariant says n w'
           → SyncsAreExpected says_sync n w → SyncsAreExpected says_sync n w'
       expected_kept w w' calm calm' facts facts' (inl wait) invariant invariant' expected =
           subst (SyncsAreExpected says_sync n) (sym wait.is)
-          (expected_later says_sync n net w calm (whole_from says n net w calm invariant) facts wait.time expected)
+          (expected_later says_sync n net w calm invariant.sound facts wait.time expected)
       expected_kept w w' calm calm' facts facts' (inr act) invariant invariant' expected =
           expected_on says says_sync n net w w' calm calm' facts facts' (act_time w w' (act_of w w' act))
-          (acts_steps says says_sync n net w w' calm calm' (whole_from says n net w' calm' invariant') act) invariant
-          invariant' expected
+          (acts_steps says says_sync n net w w' calm calm' invariant'.sound act) invariant
+          invariant' bare expected

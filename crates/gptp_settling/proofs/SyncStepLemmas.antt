@@ -1,5 +1,5 @@
 -- What an act does to Syncs, system by system and lane by lane: what will match stays in flight or is heard.
-use Rattle.std.proofs.Common.{◌≡◌, ◌≢◌, ◌⊎◌, ◌≤◌, ◌+◌, ℕ, suc, true, ◌∷◌, Option, Some, None, slice_get, refl, sym, ap, subst, ◌∙◌, inl, inr}
+use Rattle.std.proofs.Common.{◌≡◌, ◌≢◌, ◌⊎◌, ◌+◌, ℕ, suc, true, ◌∷◌, Option, Some, None, slice_get, refl, sym, ap, subst, ◌∙◌, inl, inr}
 use native.Mathlib.Decide.{ℕ_discrete}
 use Rattle.gptp_graph.specs.Snapshot.{PortIdentity, Snapshot, port_of, Joins}
 use Rattle.gptp_graph.proofs.LinkLemmas.{Joins-sym, Joins-clock}
@@ -8,8 +8,8 @@ use Rattle.gptp_settling.specs.Station.{Reception, Mine, Port, Station, State, H
 use Rattle.gptp_settling.specs.Touch.{Touch}
 use Rattle.gptp_settling.specs.AtRest.{IsAtRest}
 use Rattle.gptp_settling.specs.Acts.{LaneStep, Calls, Arrives, Drops, Runs}
-use Rattle.gptp_settling.specs.CleanLaws.{HeldIsWhole}
-use Rattle.gptp_settling.specs.Network.{Network, IsNetwork, setting, clean_from}
+use Rattle.gptp_settling.specs.Sound.{IsSound}
+use Rattle.gptp_settling.specs.Network.{Network, IsNetwork}
 use Rattle.gptp_settling.specs.Calm.{Calm}
 use Rattle.gptp_settling.specs.Matching.{WillMatch, HasPair, Matches}
 use Rattle.gptp_settling.specs.Syncs.{MayLead}
@@ -92,16 +92,16 @@ module _ (says : Says) (says_sync : SaysSync) (n : Network) (net : IsNetwork n) 
 
   -- pairs that enter the lanes of master ports will match
   tells_time : (w w' : State) (s : Station) → Calm n w'
-      → (clean_from n ≤ w'.time → HeldIsWhole (setting n) w')
+      → (IsSound n w')
       → ((j : ℕ) (l' : Lane) → slice_get w'.lanes j ≡ Some l'
       → (l : Lane) × (slice_get w.lanes j ≡ Some l) × (l'.from ≡ l.from) × (l'.loss ≡ l.loss) × (l'.is_up ≡ l.is_up))
       → SendsPairs says_sync w w' s → TellsTime says_sync n.graph w' s
-  tells_time w w' s calm' whole' before sends i j q l' root steps port mine at from joins loss up =
+  tells_time w w' s calm' sound' before sends i j q l' root steps port mine at from joins loss up =
       let (l, was, same_from, same_loss, same_up) = before j l' at in
       let (news, frames, (due, pair)) = sends i j q l l' root steps port mine was at (sym same_from ∙ from)
       (sym same_loss ∙ loss) (sym same_up ∙ up) in
       let known = Joins-clock n.graph l'.to l'.from net.graph (Joins-sym n.graph l'.from l'.to joins) in
-      let (hearer, stands, live, clock) = station_of n net w' calm' whole' l'.to.clock known in (
+      let (hearer, stands, live, clock) = station_of n net w' calm' sound' l'.to.clock known in (
         due,
         record {
           lane = l';
@@ -206,10 +206,10 @@ module _ (says : Says) (says_sync : SaysSync) (n : Network) (net : IsNetwork n) 
       (l, was, step.from, step.loss, step.is_up)
 
   -- something that is no delivery
-  runs_steps : (w w' : State) → Calm n w → Calm n w' → (clean_from n ≤ w'.time → HeldIsWhole (setting n) w')
+  runs_steps : (w w' : State) → Calm n w → Calm n w' → (IsSound n w')
       → (act : Runs says w w') → SyncRuns says says_sync n w w' act
       → StationsStep says_sync n w w'
-  runs_steps w w' calm calm' whole' act facts i s s' at at' live = elim (act.call.stations i s' at') [
+  runs_steps w w' calm calm' sound' act facts i s s' at at' live = elim (act.call.stations i s' at') [
     | inl (here, is) ↦
         let one : act.call.s ≡ s =
         same_there w.stations i act.call.s s
@@ -229,11 +229,11 @@ module _ (says : Says) (says_sync : SaysSync) (n : Network) (net : IsNetwork n) 
       answers = record {
         sync = λ none may on. elim (facts.timers.sync none may on) [
           | inl stays ↦ inl stays
-          | inr sends ↦ inr (tells_time w w' act.call.s' calm' whole' (lane_before act.touch w w' act.call) sends)
+          | inr sends ↦ inr (tells_time w w' act.call.s' calm' sound' (lane_before act.touch w w' act.call) sends)
         ];
         relay = λ due runs on. elim (facts.timers.relay due runs on) [
           | inl stays ↦ inl stays
-          | inr sends ↦ inr (tells_time w w' act.call.s' calm' whole' (lane_before act.touch w w' act.call) sends)
+          | inr sends ↦ inr (tells_time w w' act.call.s' calm' sound' (lane_before act.touch w w' act.call) sends)
         ];
         flight = λ p j due l there to joins source slave on m.
             flight_after w w' act.call.place j due act.call.s act.call.s' l calm calm' act.call.here act.call.there
@@ -244,7 +244,7 @@ module _ (says : Says) (says_sync : SaysSync) (n : Network) (net : IsNetwork n) 
       }
 
   module _ (w w' : State) (calm : Calm n w) (calm' : Calm n w')
-      (whole' : clean_from n ≤ w'.time → HeldIsWhole (setting n) w') (act : Arrives says w w')
+      (sound' : IsSound n w') (act : Arrives says w w')
       (facts : SyncArrives says says_sync n w w' act) where
     -- the system that answers stood before
     stood : slice_get w.stations act.call.place ≡ Some act.call.s
@@ -334,12 +334,12 @@ module _ (says : Says) (says_sync : SaysSync) (n : Network) (net : IsNetwork n) 
     answers_arrival = record {
       sync = λ none may on. elim (facts.timers.sync none may on) [
         | inl stays ↦ inl stays
-        | inr sends ↦ inr (tells_time act.mid w' act.call.s' calm' whole' (lane_before act.touch act.mid w' act.call)
+        | inr sends ↦ inr (tells_time act.mid w' act.call.s' calm' sound' (lane_before act.touch act.mid w' act.call)
             sends)
       ];
       relay = λ due runs on. elim (facts.timers.relay due runs on) [
         | inl stays ↦ inl stays
-        | inr sends ↦ inr (tells_time act.mid w' act.call.s' calm' whole' (lane_before act.touch act.mid w' act.call)
+        | inr sends ↦ inr (tells_time act.mid w' act.call.s' calm' sound' (lane_before act.touch act.mid w' act.call)
             sends)
       ];
       flight = λ p j due l there to joins source slave on m.
@@ -382,9 +382,9 @@ module _ (says : Says) (says_sync : SaysSync) (n : Network) (net : IsNetwork n) 
                 ap (λ (x : PortIdentity). x.clock) (sym to) ∙ ap (λ (x : Lane). x.to.clock) one
 
   -- whatever happens
-  pub acts_steps : (w w' : State) → Calm n w → Calm n w' → (clean_from n ≤ w'.time → HeldIsWhole (setting n) w')
+  pub acts_steps : (w w' : State) → Calm n w → Calm n w' → (IsSound n w')
       → SyncActs says says_sync n w w'
       → StationsStep says_sync n w w'
-  acts_steps w w' calm calm' whole' (inl (act, facts)) = arrives_steps w w' calm calm' whole' act facts
-  acts_steps w w' calm calm' whole' (inr (inl (act, silent))) = drops_steps w w' calm calm' act silent
-  acts_steps w w' calm calm' whole' (inr (inr (act, facts))) = runs_steps w w' calm calm' whole' act facts
+  acts_steps w w' calm calm' sound' (inl (act, facts)) = arrives_steps w w' calm calm' sound' act facts
+  acts_steps w w' calm calm' sound' (inr (inl (act, silent))) = drops_steps w w' calm calm' act silent
+  acts_steps w w' calm calm' sound' (inr (inr (act, facts))) = runs_steps w w' calm calm' sound' act facts

@@ -20,7 +20,7 @@ not_behind v trace xs older e out h =
     (In-reverse v (reverse trace) (subst (In v) (sym e) (In-left v xs older h))))
 
 -- a path of which a system is no member goes on to that system, where it is joined to the path's begin
-way_on : (g : Snapshot) (v u end : ℕ) (us : List ℕ) → IsPath g u end us → In v (clocks g) → Adjacent g v u
+pub way_on : (g : Snapshot) (v u end : ℕ) (us : List ℕ) → IsPath g u end us → In v (clocks g) → Adjacent g v u
     → (In v (u ∷ us) → ⊥) → IsPath g v end (u ∷ us)
 way_on g v u end us way here joined out = record {
   begins = here;

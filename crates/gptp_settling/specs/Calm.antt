@@ -10,14 +10,16 @@ use Rattle.gptp_settling.specs.AtRest.{IsAtRest}
 use Rattle.gptp_settling.specs.Network.{Network, setting}
 
 -- What is known of port p of a live system. Its interval is the one it has in the network, and its timer is due within
--- that while it is master. From the start it is disabled exactly where no link is at it. What came over its link and
--- names the other port's interval stays for longer than that and the largest delay.
+-- that while it is master. Where a link is at it it isn't disabled once it is capable; where none is, there is a time
+-- from which it holds nothing, and one from which it is disabled. What came over its link and names the other port's
+-- interval stays for longer than that and the largest delay.
 pub record IsCalmPort (n : Network) (now : ℕ) (p : PortIdentity) (q : Port) : Type 0 where
   pub log : q.log ≡ n.log_of p
   pub interval : q.interval ≡ n.interval_of p
   pub timer : (root steps : ℕ) → q.held ≡ Mine root steps → (now ≤ q.announce) × (q.announce ≤ now + n.interval_of p)
-  pub capable : n.start ≤ now → IsLinked n.graph p → q.held ≢ Disabled
-  pub unlinked : n.start ≤ now → (IsLinked n.graph p → ⊥) → q.held ≡ Disabled
+  pub capable : n.ready p ≤ now → IsLinked n.graph p → q.held ≢ Disabled
+  pub bare : n.bare ≤ now → (IsLinked n.graph p → ⊥) → (r : Reception) → q.held ≡ Received r → ⊥
+  pub unlinked : n.off ≤ now → (IsLinked n.graph p → ⊥) → q.held ≡ Disabled
   pub long : (r : Reception) (from : PortIdentity) → q.held ≡ Received r → Joins n.graph from p
       → r.said.source ≡ from → r.said.log ≡ n.log_of from → n.interval_of from + n.most < r.span
 
@@ -43,8 +45,7 @@ pub record HasLane (n : Network) (w : State) (p q : PortIdentity) : Type 0 where
   pub is_up : lane.is_up ≡ true
 
 -- Every system, live or failed, stands where its clock says, and those of the snapshot do; so do the lanes of the links
--- of the snapshot, and no two lanes lead to one port. Nothing in flight was due before now, and from the start a frame
--- between linked ports is due within the largest delay.
+-- of the snapshot, and no two lanes lead to one port. Nothing in flight was due before now.
 pub record Calm (n : Network) (w : State) : Type 0 where
   pub facts : Facts (setting n) w
   pub stations : (i : ℕ) (s : Station) → slice_get w.stations i ≡ Some s → s.live ≡ true → IsCalmStation n w.time s
@@ -54,5 +55,3 @@ pub record Calm (n : Network) (w : State) : Type 0 where
   pub apart : (i j : ℕ) (l m : Lane) → slice_get w.lanes i ≡ Some l → slice_get w.lanes j ≡ Some m
       → l.to ≡ m.to → i ≡ j
   pub left : (j : ℕ) (l : Lane) (f : Frame) → slice_get w.lanes j ≡ Some l → In f l.frames → w.time ≤ f.due
-  pub due : (j : ℕ) (l : Lane) (f : Frame) → slice_get w.lanes j ≡ Some l → In f l.frames → n.start ≤ w.time
-      → Joins n.graph l.from l.to → f.due ≤ w.time + n.most

@@ -7,19 +7,19 @@ use Rattle.gptp_settling.specs.Frame.{Says}
 use Rattle.gptp_settling.specs.Station.{Reception, Station, State, HoldsAt}
 use Rattle.gptp_settling.specs.Acts.{Steps}
 use Rattle.gptp_settling.specs.Clean.{Clean, CameWhole}
-use Rattle.gptp_settling.specs.Facts.{Setting, turn, Facts}
+use Rattle.gptp_settling.specs.Facts.{Setting, turn, BeginsLater, SendersLive, Facts}
 use Rattle.gptp_settling.specs.CleanInvariant.{TracesAreClean}
 
--- before the start nothing is claimed, whatever is held and in flight
+-- before the start nothing is claimed of traces, whatever is held and in flight
 abbrev pub CleanBegins : Says → Type 0
 CleanBegins says = (k : Setting) (w : State)
-    → Facts k w → w.time < k.start
+    → Facts k w → SendersLive k w → w.time < k.start
     → TracesAreClean says k w
 
 -- every step keeps how clean traces are
 abbrev pub CleanIsKept : Says → Type 0
 CleanIsKept says = (k : Setting) (w w' : State)
-    → Facts k w → Facts k w' → Steps says w w' → TracesAreClean says k w
+    → BeginsLater k → Facts k w → Facts k w' → Steps says w w' → TracesAreClean says k w
     → TracesAreClean says k w'
 
 -- everything that a live system of the snapshot received has come over the port's link, and is wholly clean

@@ -13,7 +13,7 @@ abbrev pub second_identity : ℕ
 second_identity = 0xf6f8fe436af80000000000000002
 
 -- The link joins port 1 of each. The announce interval is 4 everywhere, and its logarithm 2; the receipt timeout is two
--- intervals, and the link's delay 1; claims are made from time 1 on, and nothing lapses.
+-- intervals, and the link's delay 1; what comes from 1 on is theirs, claims are made from 5 on, and nothing lapses.
 abbrev pub network : Network
 network = record {
   graph = record {
@@ -31,10 +31,18 @@ network = record {
   interval = 4;
   most = 1;
   timeout = 2;
-  start = 1;
+  gone = 1;
+  start = 5;
+  bare = 5;
+  off = 5;
+  ready = λ p. 5;
+  sound = 23;
   syncs = record { interval = 1; residence = 0; span = 3 };
   sync_wait = 0;
-  step = 8;
+  slack = 4;
+  step = 1;
+  claimed = λ d p. 23;
+  until = λ d p. 27;
 }
 
 -- what the first system announces, and the octets that say so; no others say anything

@@ -1,25 +1,27 @@
 -- What is known of each state between two changes of the network, of one item each.
-use Rattle.std.specs.Prelude.{◌≡◌, ◌⊎◌, ◌≤◌, ◌+◌, ◌*◌, ℕ, suc, true, [], ◌∷◌, ◌++◌, Some, length, slice_get}
+use Rattle.std.specs.Prelude.{◌≡◌, ◌⊎◌, ◌<◌, ◌≤◌, ◌+◌, ◌*◌, ℕ, suc, true, [], ◌∷◌, ◌++◌, Some, length, slice_get}
 use Rattle.gptp_lists.specs.Members.{In}
 use Rattle.gptp_graph.specs.Snapshot.{Snapshot, System, clocks, Joins}
 use Rattle.gptp_settling.specs.Frame.{Frame, Lane}
 use Rattle.gptp_settling.specs.Station.{Reception, Station, State, HoldsAt}
 
--- The live systems and their links, a time from which on claims are made, the largest announce interval, and the
--- longest span for which anything received stays.
+-- The live systems and their links; from when on what comes was sent by them; from when on claims are made; the
+-- largest announce interval, and the largest delay of a link; and the longest span for which anything received stays.
 pub record Setting : Type 0 where
   pub graph : Snapshot
+  pub gone : ℕ
   pub start : ℕ
   pub interval : ℕ
+  pub most : ℕ
   pub span : ℕ
 
 -- the longest time from when an Announce is sent to when a system last sends what it took from it
 abbrev pub turn : Setting → ℕ
-turn k = k.span + k.interval
+turn k = k.span + k.most
 
--- after this many turns have passed from the start, and an interval
+-- after this many turns have passed from the start, and a delay
 abbrev pub Late : Setting → ℕ → ℕ → Type 0
-Late k c t = k.start + c * turn k + k.interval ≤ t
+Late k c t = k.start + c * turn k + k.most ≤ t
 
 -- the system as a snapshot has it
 abbrev pub system_of : Station → System
@@ -54,11 +56,23 @@ pub record IsStation (k : Setting) (now : ℕ) (s : Station) : Type 0 where
   pub follows : FollowsItself s ⊎ FollowsPort s
   pub held : (i : ℕ) (r : Reception) → HoldsAt s i r → IsInTime k now s.clock r
 
--- Every live system is such a one; a frame is due within an interval; and where a frame is in flight between two
--- systems of the snapshot, the snapshot has the link.
+-- what others sent is gone a delay after claims are made
+abbrev pub BeginsLater : Setting → Type 0
+BeginsLater k = k.gone ≤ k.start + k.most
+
+-- whatever comes from then on is from a live system
+abbrev pub SendersLive : Setting → State → Type 0
+SendersLive k w = (j : ℕ) (l : Lane) (f : Frame) → slice_get w.lanes j ≡ Some l → In f l.frames → k.gone ≤ f.due
+    → In l.from.clock (clocks k.graph)
+
+-- Every live system is such a one; a frame is due within an interval, and over a link of the snapshot within the
+-- largest delay, unless it comes before claims are made; and where a frame is in flight between two systems of the
+-- snapshot, the snapshot has the link.
 pub record Facts (k : Setting) (w : State) : Type 0 where
   pub stations : (i : ℕ) (s : Station) → slice_get w.stations i ≡ Some s → s.live ≡ true → IsStation k w.time s
   pub near : (j : ℕ) (l : Lane) (f : Frame) → slice_get w.lanes j ≡ Some l → In f l.frames
       → f.due ≤ w.time + k.interval
+  pub fresh : (j : ℕ) (l : Lane) (f : Frame) → slice_get w.lanes j ≡ Some l → In f l.frames
+      → Joins k.graph l.from l.to → (f.due ≤ w.time + k.most) ⊎ (f.due < k.start)
   pub linked : (j : ℕ) (l : Lane) (f : Frame) → slice_get w.lanes j ≡ Some l → In f l.frames
       → In l.from.clock (clocks k.graph) → In l.to.clock (clocks k.graph) → Joins k.graph l.from l.to

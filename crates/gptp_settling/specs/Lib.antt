@@ -13,7 +13,11 @@ pub mod Link
 pub mod LinkLaws
 pub mod AtRest
 pub mod Network
+pub mod Times
 pub mod Calm
+pub mod Sound
+pub mod EarlyPorts
+pub mod SoundEverywhere
 pub mod Lapsing
 pub mod Matching
 pub mod Syncs
@@ -22,6 +26,11 @@ pub mod Levels
 pub mod Settled
 pub mod SettlingLaws
 pub mod Run
+pub mod SoundLaws
+pub mod SoundEverywhereLaws
+pub mod RestLaws
+pub mod ReactionLaws
+pub mod LossLaws
 pub mod SyncLaws
 pub mod Example
 pub mod ExampleLaws

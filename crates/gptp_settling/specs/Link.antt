@@ -1,8 +1,8 @@
 -- One direction of a link of the machine: what is known of its two ends, and the stage that it is at.
-use Rattle.std.specs.Prelude.{◌≡◌, ◌≢◌, ◌↔◌, ◌<◌, ◌≤◌, ◌+◌, ℕ, suc, true, List, [], ◌∷◌, Some, length, slice_get}
+use Rattle.std.specs.Prelude.{◌≡◌, ◌≢◌, ◌⊎◌, ◌↔◌, ◌<◌, ◌≤◌, ◌+◌, ℕ, suc, true, List, [], ◌∷◌, Some, length, slice_get}
 use Rattle.gptp_lists.specs.Members.{In}
 use Rattle.gptp_graph.specs.Order.{IsLower}
-use Rattle.gptp_settling.specs.Frame.{Says, Frame, Lane}
+use Rattle.gptp_settling.specs.Frame.{Announce, Says, Frame, Lane}
 use Rattle.gptp_settling.specs.Station.{Reception, Disabled, Mine, Received, Port, Station, State}
 use Rattle.gptp_settling.specs.Vectors.{master}
 use Rattle.gptp_settling.specs.Stage.{Wiring, from_port, to_port, Stage}
@@ -15,25 +15,36 @@ final_vector k = k.root ∷ k.steps ∷ k.teller ∷ suc k.teller_port ∷ suc k
 abbrev pub StandsAt : State → ℕ → ℕ → Type 0
 StandsAt w clock place = (i : ℕ) (m : Station) → slice_get w.stations i ≡ Some m → (i ≡ place) ↔ (m.clock ≡ clock)
 
--- the teller has settled: its port is master with the root and steps that are told, which the hearer can use
+-- the teller has settled: it has the root and the steps that are told
+abbrev pub HasSettled : Wiring → Station → Type 0
+HasSettled k s = (s.root ≡ k.root) × (s.steps ≡ k.steps)
+
+-- and its port is on
+abbrev pub IsReady : Wiring → Station → Port → Type 0
+IsReady k s q = HasSettled k s × (q.held ≢ Disabled)
+
+-- then its port is master with these, which the hearer can use
 pub record TellsSettled (k : Wiring) (s : Station) (q : Port) : Type 0 where
   pub mine : q.held ≡ Mine k.root k.steps
   pub near : k.steps < 255
   pub foreign : In k.hearer s.trace → ⊥
   pub short : length s.trace ≤ 255
 
--- the port that tells: while it is master its timer is due within its interval
+-- The port that tells: while it is master its timer is due within its interval, and it holds the system's root and
+-- steps. Once claims are made it tells whenever the system has settled and it is on; and while that isn't so, what is
+-- sent now comes in time.
 pub record IsTeller (k : Wiring) (now : ℕ) (s : Station) (q : Port) : Type 0 where
   pub log : q.log ≡ k.log
   pub interval : q.interval ≡ k.interval
   pub timer : (root steps : ℕ) → q.held ≡ Mine root steps → (now ≤ q.announce) × (q.announce ≤ now + k.interval)
-  pub settled : k.since ≤ now → TellsSettled k s q
+  pub own : (root steps : ℕ) → q.held ≡ Mine root steps → (root ≡ s.root) × (steps ≡ s.steps)
+  pub settled : k.from ≤ now → IsReady k s q → TellsSettled k s q
+  pub early : (IsReady k s q → ⊥) → now + k.most < k.before
 
--- The port that hears, once the teller has settled: it isn't disabled, its own master vector would be worse than what
--- is told, and whatever it received came from the teller and, if it names the teller's interval, stays longer than that
--- and the delay.
+-- The port that hears, once claims are made: its own master vector would be worse than what a settled teller tells, and
+-- whatever it received came from the teller and, if it names the teller's interval, stays longer than that and the
+-- delay.
 pub record HearsSettled (k : Wiring) (q : Port) : Type 0 where
-  pub on : q.held ≢ Disabled
   pub weaker : (root steps : ℕ) → q.held ≡ Mine root steps
       → IsLower (final_vector k) (master root steps k.hearer (suc k.hearer_port))
   pub source : (r : Reception) → q.held ≡ Received r → r.said.source ≡ from_port k
@@ -46,13 +57,16 @@ pub record IsLaneOf (k : Wiring) (l : Lane) : Type 0 where
   pub loss : l.loss ≡ 0
   pub is_up : l.is_up ≡ true
 
--- its frames are due now or later, and within the largest delay once the teller has settled
+-- its frames are due now or later, and within the largest delay once claims are made
 pub record IsOnTime (k : Wiring) (now : ℕ) (f : Frame) : Type 0 where
   pub left : now ≤ f.due
-  pub due : k.since ≤ now → f.due ≤ now + k.most
+  pub due : k.from ≤ now → f.due ≤ now + k.most
 
 -- what is known of the two ends and of the lane between them
 pub record Ends (k : Wiring) (w : State) : Type 0 where
+  pub in_time : k.until + k.most ≤ k.before
+  pub claimed : k.from ≤ k.before
+  pub entry : (k.from ≡ 0) ⊎ (k.from + k.interval ≤ k.until)
   pub apart : k.teller ≢ k.hearer
   pub teller_stands : StandsAt w k.teller k.teller_place
   pub hearer_stands : StandsAt w k.hearer k.hearer_place
@@ -63,13 +77,27 @@ pub record Ends (k : Wiring) (w : State) : Type 0 where
   pub teller : (s : Station) (q : Port) → slice_get w.stations k.teller_place ≡ Some s
       → slice_get s.ports k.teller_port ≡ Some q → IsTeller k w.time s q
   pub hearer : (s : Station) (q : Port) → slice_get w.stations k.hearer_place ≡ Some s
-      → slice_get s.ports k.hearer_port ≡ Some q → k.since ≤ w.time → HearsSettled k q
+      → slice_get s.ports k.hearer_port ≡ Some q → k.from ≤ w.time → HearsSettled k q
 
--- what the hearer received over the link doesn't lapse now, once the teller has settled
+-- what the hearer received over the link doesn't lapse now, once claims are made
 abbrev pub LapsesLater : Wiring → State → Type 0
-LapsesLater k w = (s : Station) (due : ℕ) → slice_get w.stations k.hearer_place ≡ Some s → k.since ≤ w.time
+LapsesLater k w = (s : Station) (due : ℕ) → slice_get w.stations k.hearer_place ≡ Some s → k.from ≤ w.time
     → s.slave ≡ Some (suc k.hearer_port) → s.lapse ≡ Some due
     → w.time < due
+
+-- the port that hears is on where an Announce comes now
+abbrev pub HearsOn : Says → Wiring → State → Type 0
+HearsOn says k w = (l : Lane) (f : Frame) (fs : List Frame) (a : Announce) (s : Station) (q : Port) → k.from ≤ w.time
+    → slice_get w.lanes k.lane ≡ Some l → l.frames ≡ f ∷ fs → f.due ≡ w.time → says f.octets a
+    → slice_get w.stations k.hearer_place ≡ Some s → slice_get s.ports k.hearer_port ≡ Some q
+    → q.held ≢ Disabled
+
+-- and stays on where it was
+abbrev pub StaysOn : Wiring → State → State → Type 0
+StaysOn k w w' = (s s' : Station) (q q' : Port) → k.from ≤ w.time → slice_get w.stations k.hearer_place ≡ Some s
+    → slice_get s.ports k.hearer_port ≡ Some q → slice_get w'.stations k.hearer_place ≡ Some s'
+    → slice_get s'.ports k.hearer_port ≡ Some q' → q.held ≢ Disabled
+    → q'.held ≢ Disabled
 
 -- what stands at the two ends and between them
 pub record Stand (k : Wiring) (w : State) (pv pu : Port) (l : Lane) : Type 0 where
@@ -81,7 +109,7 @@ pub record Stand (k : Wiring) (w : State) (pv pu : Port) (l : Lane) : Type 0 whe
   pub hearer_port : slice_get u.ports k.hearer_port ≡ Some pu
   pub lane : slice_get w.lanes k.lane ≡ Some l
 
--- once the teller has settled the link is at one of the stages
+-- once claims are made the link is at one of the stages whenever the teller has settled and its port is on
 abbrev pub LinkSettles : Says → Wiring → State → Type 0
-LinkSettles says k w = k.since ≤ w.time → (pv pu : Port) (l : Lane) → Stand k w pv pu l
+LinkSettles says k w = k.from ≤ w.time → (pv pu : Port) (l : Lane) (stand : Stand k w pv pu l) → IsReady k stand.v pv
     → Stage says k pv.announce pu.held l.frames

@@ -20,7 +20,12 @@ abbrev pub IsSlaveOf : Snapshot → ℕ → Option ℕ → Type 0
 IsSlaveOf g v (Some n) = (l : ParentLink) × IsParent g v l × (l.own_port ≡ n)
 IsSlaveOf g v None = (l : ParentLink) → IsParent g v l → ⊥
 
--- its root is the best of its component, and its steps are its distance; its slave port leads to its parent
+-- its root is the best of its component, and its steps are its distance
+pub record HasBest (g : Snapshot) (s : Station) : Type 0 where
+  pub root : IsBestIdentity g s.clock s.root
+  pub steps : IsDistance g s.clock s.steps
+
+-- and its slave port leads to its parent
 pub record FollowsBest (g : Snapshot) (s : Station) : Type 0 where
   pub root : IsBestIdentity g s.clock s.root
   pub steps : IsDistance g s.clock s.steps

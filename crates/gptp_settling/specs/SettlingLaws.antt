@@ -1,44 +1,54 @@
 -- Laws on networks: they settle.
-use Rattle.std.specs.Prelude.{◌≡◌, ◌<◌, ◌≤◌, ℕ, suc, true, Some, slice_get}
+use Rattle.std.specs.Prelude.{◌≡◌, ◌<◌, ◌≤◌, ℕ, true, Some, slice_get}
 use Rattle.gptp_graph.specs.Snapshot.{System}
 use Rattle.gptp_graph.specs.Best.{IsBest}
 use Rattle.gptp_graph.specs.Distance.{IsDistance, IsNear}
 use Rattle.gptp_settling.specs.Frame.{Says}
 use Rattle.gptp_settling.specs.Station.{Station, State}
 use Rattle.gptp_settling.specs.Acts.{Steps}
-use Rattle.gptp_settling.specs.Network.{Network, IsNetwork, clean_from, since, settled_from}
+use Rattle.gptp_settling.specs.Network.{Network, IsNetwork, setting, clean_from, since, settled_from}
 use Rattle.gptp_settling.specs.Calm.{Calm}
+use Rattle.gptp_settling.specs.CleanInvariant.{TracesAreClean}
+use Rattle.gptp_settling.specs.Sound.{IsSound}
+use Rattle.gptp_settling.specs.EarlyPorts.{EarlyPortsHear}
 use Rattle.gptp_settling.specs.Lapsing.{NothingLapses}
-use Rattle.gptp_settling.specs.Levels.{Invariant}
-use Rattle.gptp_settling.specs.Settled.{FollowsBest, HasSettledRoles}
+use Rattle.gptp_settling.specs.Levels.{IsHeardFrom, Invariant}
+use Rattle.gptp_settling.specs.Settled.{HasBest, FollowsBest, HasSettledRoles}
 
--- before the start the invariant claims nothing
+-- before what is held must be sound the invariant claims nothing
 abbrev pub InvariantBegins : Says → Type 0
 InvariantBegins says = (n : Network) (w : State)
-    → Calm n w → w.time < n.start
+    → IsNetwork n → w.time < n.sound
     → Invariant says n w
 
--- every step from a calm state in which nothing lapses to a calm state keeps it
+-- every step from a calm state in which nothing lapses to a calm state keeps it, where what is held stays sound
 abbrev pub InvariantIsKept : Says → Type 0
 InvariantIsKept says = (n : Network) (w w' : State)
-    → IsNetwork n → Calm n w → Calm n w' → NothingLapses n w → Steps says w w' → Invariant says n w
+    → IsNetwork n → Calm n w → Calm n w' → NothingLapses n w → EarlyPortsHear says n w w' → Steps says w w'
+    → IsSound n w' → Invariant says n w
     → Invariant says n w'
 
--- a near system at distance d follows its component's best over its parent, once all that is held is wholly clean and
--- the time of each step has passed
+-- what is held is sound where it has become wholly clean
+abbrev pub CleanIsSound : Says → Type 0
+CleanIsSound says = (n : Network) (w : State)
+    → IsNetwork n → Calm n w → TracesAreClean says (setting n) w → clean_from n ≤ n.sound
+    → IsSound n w
+
+-- a near system at distance d follows its component's best over its parent, once all that is held is sound and the time
+-- of each step has passed
 abbrev pub SystemSettles : Says → Type 0
 SystemSettles says = (n : Network) (w : State) (i : ℕ) (s : Station) (d : ℕ)
     → IsNetwork n → Calm n w → Invariant says n w
     → slice_get w.stations i ≡ Some s → s.live ≡ true → IsDistance n.graph s.clock d → d < 255
     → since n d ≤ w.time
-    → FollowsBest n.graph s
+    → HasBest n.graph s × (n.bare ≤ w.time → FollowsBest n.graph s)
 
--- a step's time later all its ports have their settled roles
+-- So have all its ports their settled roles, or a step's time later where a neighbour is as far with the lower clock.
 abbrev pub PortsSettle : Says → Type 0
 PortsSettle says = (n : Network) (w : State) (i : ℕ) (s : Station) (d : ℕ)
     → IsNetwork n → Calm n w → Invariant says n w
     → slice_get w.stations i ≡ Some s → s.live ≡ true → IsDistance n.graph s.clock d → d < 255
-    → since n (suc d) ≤ w.time
+    → since n d ≤ w.time → IsHeardFrom n w s d → n.off ≤ w.time
     → HasSettledRoles n.graph s
 
 -- in the end every near system follows its component's best over its parent, and all its ports have their settled roles
@@ -47,14 +57,14 @@ NetworkSettles says = (n : Network) (w : State) (i : ℕ) (s : Station)
     → IsNetwork n → Calm n w → Invariant says n w
     → slice_get w.stations i ≡ Some s → s.live ≡ true → IsNear n.graph s.clock
     → settled_from n ≤ w.time
-    → FollowsBest n.graph s × HasSettledRoles n.graph s
+    → HasBest n.graph s × (n.bare ≤ w.time → FollowsBest n.graph s) × (n.off ≤ w.time → HasSettledRoles n.graph s)
 
--- Once all that is held is wholly clean, no system, near or far, has a root below the identity of its component's best,
+-- Once all that is held is sound, no system, near or far, has a root below the identity of its component's best,
 -- nor that identity as its root over fewer steps than its distance.
 abbrev pub SystemsAreBounded : Says → Type 0
 SystemsAreBounded says = (n : Network) (w : State) (i : ℕ) (s : Station) (best : System)
     → IsNetwork n → Calm n w → Invariant says n w
     → slice_get w.stations i ≡ Some s → s.live ≡ true → IsBest n.graph s.clock best
-    → clean_from n ≤ w.time
+    → n.sound ≤ w.time
     → (best.identity ≤ s.root)
     × ((d : ℕ) → IsDistance n.graph s.clock d → s.root ≡ best.identity → d ≤ s.steps)

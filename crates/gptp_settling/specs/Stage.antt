@@ -8,8 +8,9 @@ use Rattle.gptp_settling.specs.Touch.{Qualified}
 
 -- One direction of a link: the clock of the system that tells, its place among the systems and that of its port, which
 -- is numbered one higher; the same of the system that hears; the place of the lane; the logarithm of the announce
--- interval of the port that tells, that interval, and the largest delay of the link; the root and steps that are told,
--- and from when on they are settled.
+-- interval of the port that tells, that interval, and the largest delay of the link; the root and steps that are told
+-- once the teller has settled; from when on claims are made, before which time the teller's timer has run out then, and
+-- when the hearer holds what is told.
 pub record Wiring : Type 0 where
   pub teller : ℕ
   pub teller_place : ℕ
@@ -23,7 +24,9 @@ pub record Wiring : Type 0 where
   pub most : ℕ
   pub root : ℕ
   pub steps : ℕ
-  pub since : ℕ
+  pub from : ℕ
+  pub until : ℕ
+  pub before : ℕ
 
 -- the port that tells
 abbrev pub from_port : Wiring → PortIdentity
@@ -65,9 +68,8 @@ pub record Stays (says : Says) (k : Wiring) (announce : ℕ) (held : Held) (fs :
   pub next : (announce ≤ what.at + k.interval)
       ⊎ ((f : Frame) × In f fs × IsSaid says f × (f.due ≤ what.at + k.interval + k.most))
 
--- The teller will tell it within an interval of when it settled, by its timer; or it is on its way; or it is held, and
--- stays. By the strict bounds the first two are over once the interval and the delay have passed.
+-- The teller will tell it by its timer, which has to run out yet; or it is on its way; or it is held, and stays. By the
+-- strict bounds the first two are over in the end.
 abbrev pub Stage : Says → Wiring → ℕ → Held → List Frame → Type 0
 Stage says k announce held fs =
-    (announce < k.since + k.interval)
-    ⊎ (FinalTail says k (k.since + k.interval + k.most) fs ⊎ Stays says k announce held fs)
+    (announce < k.until) ⊎ (FinalTail says k k.before fs ⊎ Stays says k announce held fs)

@@ -1,11 +1,14 @@
 -- Laws on Syncs: they come in time, so that nothing lapses, and networks in which things may lapse settle.
-use Rattle.std.specs.Prelude.{◌<◌, ◌≤◌, ◌+◌, ◌*◌, pred, List, [], ◌∷◌}
+use Rattle.std.specs.Prelude.{ℕ, ◌<◌, ◌≤◌, ◌+◌, ◌*◌, pred, List, [], ◌∷◌}
 use Rattle.gptp_settling.specs.Frame.{Says, SaysSync}
 use Rattle.gptp_settling.specs.Station.{State}
-use Rattle.gptp_settling.specs.Network.{Network, IsNetwork, settled_from}
+use Rattle.gptp_graph.specs.Snapshot.{PortIdentity}
+use Rattle.gptp_settling.specs.Network.{Network, IsNetwork, BecomesClean, setting, since, settled_from}
+use Rattle.gptp_settling.specs.Facts.{SendersLive}
 use Rattle.gptp_settling.specs.Calm.{Calm}
 use Rattle.gptp_settling.specs.Levels.{Invariant}
 use Rattle.gptp_settling.specs.Run.{last_of, IsSettled}
+use Rattle.gptp_settling.specs.EarlyPorts.{ClaimsWhenReady}
 use Rattle.gptp_settling.specs.Lapsing.{NothingLapses}
 use Rattle.gptp_settling.specs.Syncs.{HaveSyncTimers, IsPrompt, SyncsAreExpected}
 use Rattle.gptp_settling.specs.SyncActs.{SyncSteps}
@@ -13,13 +16,13 @@ use Rattle.gptp_settling.specs.SyncActs.{SyncSteps}
 -- before the start no Sync is expected
 abbrev pub SyncsBegin : SaysSync → Type 0
 SyncsBegin says_sync = (n : Network) (w : State)
-    → w.time < n.start
+    → w.time < n.sound
     → SyncsAreExpected says_sync n w
 
 -- every step keeps by when they are expected
 abbrev pub SyncsAreKept : Says → SaysSync → Type 0
 SyncsAreKept says says_sync = (n : Network) (w w' : State)
-    → IsNetwork n → Calm n w → Calm n w' → Invariant says n w → Invariant says n w'
+    → IsNetwork n → n.bare ≤ since n 0 → Calm n w → Calm n w' → Invariant says n w → Invariant says n w'
     → HaveSyncTimers n w → HaveSyncTimers n w' → SyncSteps says says_sync n w w' → SyncsAreExpected says_sync n w
     → SyncsAreExpected says_sync n w'
 
@@ -33,6 +36,7 @@ SyncsComeInTime says says_sync = (n : Network) (w : State)
 abbrev pub WaitIsBounded : Type 0
 WaitIsBounded = (n : Network)
     → n.syncs.interval + pred n.reach * (n.syncs.residence + n.most) ≤ n.sync_wait → n.sync_wait < n.syncs.span
+    → n.bare ≤ since n 0 → ((d : ℕ) (p : PortIdentity) → since n d + n.sync_wait ≤ n.claimed d p)
     → IsPrompt n
 
 -- each state follows from the one before it by a step, and all are calm; Syncs are told as they should be
@@ -44,6 +48,7 @@ IsSyncRun says says_sync n w (w' ∷ ws) = Calm n w × HaveSyncTimers n w × Syn
 -- such a run, begun before the start, ends settled, once it is late enough
 abbrev pub SyncRunSettles : Says → SaysSync → Type 0
 SyncRunSettles says says_sync = (n : Network) (w : State) (ws : List State)
-    → IsNetwork n → IsPrompt n → IsSyncRun says says_sync n w ws → w.time < n.start
+    → IsNetwork n → IsPrompt n → BecomesClean n → ClaimsWhenReady n → IsSyncRun says says_sync n w ws
+    → SendersLive (setting n) w → w.time < n.start
     → settled_from n ≤ (last_of w ws).time
     → IsSettled n (last_of w ws)

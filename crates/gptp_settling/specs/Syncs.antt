@@ -34,11 +34,13 @@ HaveSyncTimers n w = (i : ℕ) (s : Station) → slice_get w.stations i ≡ Some
 abbrev pub wait : Network → ℕ → ℕ
 wait n d = n.syncs.interval + d * (n.syncs.residence + n.most) + n.most
 
--- for every distance that a path allows, a settled system waits no longer than is said, which is shorter than the span
--- of lapse timers
+-- For every distance that a path allows, a settled system waits no longer than is said, which is shorter than the span
+-- of lapse timers; and claims are made of its links once that wait is over.
 pub record IsPrompt (n : Network) : Type 0 where
   pub covers : (d : ℕ) → suc d < n.reach → wait n d ≤ n.sync_wait
   pub short : n.sync_wait < n.syncs.span
+  pub bare : n.bare ≤ since n 0
+  pub waits : (d : ℕ) (p : PortIdentity) → since n d + n.sync_wait ≤ n.claimed d p
 
 -- one comes over a lane by this time: it is on the lane, or will be sent early enough
 abbrev pub ComesBy : ℕ → (ℕ → Type 0) → (ℕ → Type 0) → ℕ → Type 0
@@ -75,4 +77,4 @@ pub record IsExpected (says_sync : SaysSync) (n : Network) (stations : List Stat
 abbrev pub SyncsAreExpected : SaysSync → Network → State → Type 0
 SyncsAreExpected says_sync n w = (i : ℕ) (s : Station) (d due : ℕ) → slice_get w.stations i ≡ Some s → s.live ≡ true
     → d < 255 → (follows : FollowsNearer n.graph s d) → since n d ≤ w.time → s.lapse ≡ Some due
-    → IsExpected says_sync n w.stations w.lanes d follows.from due
+    → IsExpected says_sync n w.stations w.lanes d follows.follows.from due

@@ -8,13 +8,22 @@
 //! (docs/WORLD_FACTS.md).
 //!
 //! The definitions stand in `specs/`. Each function of this crate is a law: it does nothing, and its contract is a
-//! theorem about the definitions. From when every port on a link of the snapshot is capable, traces become clean: a
-//! system goes on what it received a turn ago at most, and adds one member that is right, so that after as many turns
-//! as a path of the snapshot may have systems no other member is left. Then the choice settles, system by system in
-//! order of distance: two announce intervals after one has settled, those that its links lead to hold what it
-//! announces, and it is repeated before it ages. Where what is received also lapses for want of Sync, they first wait
-//! for a Sync of the best. In the words of `gptp_graph` each near system then follows the best of its component over
-//! its parent, and each of its ports has its settled role. An example run shows that the laws are of something.
+//! theorem about the definitions. Once what was in flight at the last change is gone, traces become clean: a system
+//! goes on what it received a turn ago at most, which is the longest span for which anything received stays and the
+//! largest delay, and adds one member that is right, so that after as many turns as a path of the snapshot may have
+//! systems no other member is left. Then all that is held is sound: it names a root worse than the best, or its trace
+//! is a path of the snapshot from its root.
+//!
+//! From when that is so, and every port on a link of the snapshot is capable, the choice settles. Where nothing lapses
+//! for want of Sync it takes the largest announce interval, in which each master port tells what its system has, and a
+//! delay for each step of distance: who hears what is settled tells it at once. Where something may lapse, each system
+//! first waits for a Sync of the best, then for the Announce of the one before it. In the words of `gptp_graph` each
+//! near system then follows the best of its component over its parent, and each of its ports has its settled role.
+//!
+//! Where links come up, systems join or a priority gets better, what was wholly clean is sound, and stays so: no turn
+//! has to pass. In a network at rest no announce interval has to pass either. After losses in a network at rest each
+//! system that is as far as before from the same best keeps its root and its steps. An example run shows that the laws
+//! are of something.
 //!
 //! Lemmas for the crates above, over any relation of octets and messages, are in the public modules of `proofs/`.
 #![tactic(auto)]
@@ -22,17 +31,27 @@
 mod coding;
 mod held;
 mod link;
+mod loss;
 mod network;
 mod runs;
+mod sound;
+mod sound_everywhere;
 mod syncs;
 mod traces;
 
 pub use coding::Coding;
 pub use held::{no_loop_is_taken, ports_stay_selected};
 pub use link::{link_becomes_settled, link_stays_at_a_stage};
+pub use loss::{fits_stays, loss_fits, nothing_is_better, nothing_moved_settles, unmoved_keep};
 pub use network::{
-    invariant_is_kept, network_settles, ports_settle, system_settles, systems_are_bounded,
+    invariant_is_kept, network_settles, networks_are_timed, ports_settle, system_settles,
+    systems_are_bounded,
 };
 pub use runs::{example_run, run_settles};
+pub use sound::{
+    all_becomes_whole, news_are_sound, news_from_rest, news_settle, reaction_settles, rest_settles,
+    settled_is_whole, sound_stays,
+};
+pub use sound_everywhere::{all_becomes_sound, sound_is_kept};
 pub use syncs::{sync_run_settles, syncs_are_expected, syncs_come_in_time};
 pub use traces::{clean_is_by_last_members, traces_become_clean, traces_stay_clean};

@@ -18,7 +18,7 @@ pub fn traces_stay_clean<C: Coding>()
 {}
 
 /// Where no path of the snapshot has more than m systems, all that live systems hold is wholly clean once m turns have
-/// passed from the start, a turn being the longest span for which anything received stays and an announce interval: it
+/// passed from the start, a turn being the longest span for which anything received stays and the largest delay: it
 /// came over the port's link, and its trace is a path of the snapshot from the announced root, of the announced length.
 pub fn traces_become_clean<C: Coding>()
     ensures { HeldBecomesWhole C.says }

@@ -24,10 +24,11 @@ impl Scene {
     ghost use Rattle.gptp_acts.specs.Sound.{IsSound};
     ghost use Rattle.gptp_acts.specs.Views.{Follows, HasPort, HasRole, IsLiveSystem, IsNextAct, ShowsLive, rising_clocks};
     ghost use Rattle.gptp_kept.specs.Claimed.{Claimed};
-    ghost use Rattle.gptp_kept.specs.Shown.{FollowsByDistance, FollowsByPaths, FollowsInTime, IsCapableInTime, IsEnabledInTime};
-    ghost use Rattle.gptp_kept.specs.Shown.{PlaysByDistance, PlaysByPaths, PlaysInTime};
+    ghost use Rattle.gptp_kept.specs.Shown.{FollowsAtOnce, FollowsByDistance, FollowsByPaths, FollowsInTime};
+    ghost use Rattle.gptp_kept.specs.Shown.{IsCapableInTime, IsEnabledInTime};
+    ghost use Rattle.gptp_kept.specs.Shown.{PlaysAtOnce, PlaysByDistance, PlaysByPaths, PlaysInTime};
     ghost use Rattle.gptp_kept.specs.TimedClaim.{AllClaimed};
-    ghost use Rattle.gptp_kept.specs.Traces.{AreHeldCleanInTime, AreHeldWholeInTime, IsCleanInTime};
+    ghost use Rattle.gptp_kept.specs.Traces.{AreHeldCleanInTime, AreHeldWholeInTime, AreHeldWholeSooner, IsCleanInTime};
 
     /// The time, in ns.
     pub(crate) fn now(&self) -> u64
@@ -88,6 +89,7 @@ impl Scene {
         ensures clean { IfSome result (λ system. IsCleanInTime self.now system.now) }
         ensures held { IfSome result (λ system. AreHeldCleanInTime self.now system.now) }
         ensures whole { IfSome result (λ system. AreHeldWholeInTime self.now system.now) }
+        ensures sooner { IfSome result (λ system. AreHeldWholeSooner self.now system.now) }
     {
         self.well_formed();
         self.live_system(clock)
@@ -127,6 +129,7 @@ impl Scene {
         ensures none { IfNone result (AtSystem clock self.now IsLiveSystem → ⊥) }
         ensures settled { IfSome result (λ f. FollowsInTime clock self.now f.0 f.1 f.2) }
         ensures by_paths { IfSome result (λ f. FollowsByPaths clock self.now f.0 f.1 f.2) }
+        ensures at_once { IfSome result (λ f. FollowsAtOnce clock self.now f.0 f.1 f.2) }
         ensures by_distance { IfSome result (λ f. FollowsByDistance clock self.now f.0 f.1 f.2) }
     {
         self.well_formed();
@@ -153,6 +156,7 @@ impl Scene {
         ensures enabled { IfSome result (λ role. IsEnabledInTime clock port self.now role) }
         ensures settled { IfSome result (λ role. PlaysInTime clock port self.now role) }
         ensures by_paths { IfSome result (λ role. PlaysByPaths clock port self.now role) }
+        ensures at_once { IfSome result (λ role. PlaysAtOnce clock port self.now role) }
         ensures by_distance { IfSome result (λ role. PlaysByDistance clock port self.now role) }
     {
         self.well_formed();

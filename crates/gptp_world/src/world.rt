@@ -30,11 +30,12 @@ impl<F: Fate + Drop> World<F> {
     ghost use Rattle.gptp_acts.specs.Sound.{IsSound};
     ghost use Rattle.gptp_kept.specs.Claimed.{Claimed};
     ghost use Rattle.gptp_kept.specs.Standing.{snapshot_of};
-    ghost use Rattle.gptp_kept.specs.Shown.{FollowsByDistance, FollowsByPaths, FollowsInTime, IsCapableInTime, IsEnabledInTime};
-    ghost use Rattle.gptp_kept.specs.Shown.{PlaysByDistance, PlaysByPaths, PlaysInTime};
+    ghost use Rattle.gptp_kept.specs.Shown.{FollowsAtOnce, FollowsByDistance, FollowsByPaths, FollowsInTime};
+    ghost use Rattle.gptp_kept.specs.Shown.{IsCapableInTime, IsEnabledInTime};
+    ghost use Rattle.gptp_kept.specs.Shown.{PlaysAtOnce, PlaysByDistance, PlaysByPaths, PlaysInTime};
     ghost use Rattle.gptp_kept.specs.Exact.{IsHeardExact};
     ghost use Rattle.gptp_kept.specs.TimedClaim.{AllClaimed};
-    ghost use Rattle.gptp_kept.specs.Traces.{AreHeldCleanInTime, AreHeldWholeInTime, IsCleanInTime, IsHeardClean};
+    ghost use Rattle.gptp_kept.specs.Traces.{AreHeldCleanInTime, AreHeldWholeInTime, AreHeldWholeSooner, IsCleanInTime, IsHeardClean};
     ghost use Rattle.gptp_acts.specs.Views.{Follows, HasPort, HasRole, IsLiveSystem, IsNextAct, ShowsLive, rising_clocks};
     ghost use Rattle.gptp_world.specs.Memory.{AsksForNoMemory};
     ghost use Rattle.gptp_world.specs.Used.{link_of};
@@ -212,10 +213,12 @@ impl<F: Fate + Drop> World<F> {
     /// for L + 5 announce intervals since the last change, L being how many requests may be lost, a port of the system is
     /// capable exactly where such a link is at it. From then on traces become clean, by one member in each turn of k + 1
     /// announce intervals, k being the announce receipt timeout: after c turns the last c + 1 members of the trace that the
-    /// system announces, and of each that its ports hold and that was sent by then, are different live systems, each linked
-    /// with the next; or the trace is so as a whole, from the root that it names. No trace that a port holds names the
-    /// system itself. After m turns, where no path over live systems and the links between them has more than m systems,
-    /// each trace that is held, sent by then or not, is so as a whole, and has as many links as its steps say.
+    /// system announces, and of each that its ports hold and that was sent from then on, are different live systems, each
+    /// linked with the next; or the trace is so as a whole, from the root that it names. No such trace that a port holds
+    /// names the system itself. After m turns, where no path over live systems and the links between them has more than m
+    /// systems, each trace that is held, whenever it was sent, is so as a whole, and has as many links as its steps say.
+    /// That is so already once two announce intervals have passed, and k of them and the greatest delay of such a link for
+    /// each of m systems.
     pub fn system(&self, clock: ClockId) -> Option<&System>
         ensures some { IfSome result (λ system. ShowsLive clock self.now.scene system.now) }
         ensures none { IfNone result (AtSystem clock self.now.scene IsLiveSystem → ⊥) }
@@ -223,6 +226,7 @@ impl<F: Fate + Drop> World<F> {
         ensures clean { IfSome result (λ system. IsCleanInTime self.now.scene system.now) }
         ensures held { IfSome result (λ system. AreHeldCleanInTime self.now.scene system.now) }
         ensures whole { IfSome result (λ system. AreHeldWholeInTime self.now.scene system.now) }
+        ensures sooner { IfSome result (λ system. AreHeldWholeSooner self.now.scene system.now) }
     {
         self.scene.system(clock)
     }
@@ -252,12 +256,15 @@ impl<F: Fate + Drop> World<F> {
     /// these are the identity of the best system of its component, the least number of steps to that, and the own port of
     /// the parent, where the system is near: fewer than 255 steps away. The best has no Slave port. So they are after
     /// (k+3)m + L + 5 intervals already, where no path over live systems and the links between them has more than m; and
-    /// at a distance of d steps after (k+1)m + 2d + L + 5.
+    /// at a distance of d steps after (k+1)m + 2d + L + 5. Where the network has no syncReceiptTimeout, with M the greatest
+    /// delay of these links they are so after the longer of L + 5 intervals and of 2 and k and M for each of m systems, one
+    /// interval more, and M for each of m but one.
     pub fn follows(&self, clock: ClockId) -> Option<(Identity, u16, Option<u8>)>
         ensures some { IfSome result (λ f. AtSystem clock self.now.scene (Follows f.0 f.1 f.2)) }
         ensures none { IfNone result (AtSystem clock self.now.scene IsLiveSystem → ⊥) }
         ensures settled { IfSome result (λ f. FollowsInTime clock self.now.scene f.0 f.1 f.2) }
         ensures by_paths { IfSome result (λ f. FollowsByPaths clock self.now.scene f.0 f.1 f.2) }
+        ensures at_once { IfSome result (λ f. FollowsAtOnce clock self.now.scene f.0 f.1 f.2) }
         ensures by_distance { IfSome result (λ f. FollowsByDistance clock self.now.scene f.0 f.1 f.2) }
     {
         self.scene.follows(clock)
@@ -269,13 +276,15 @@ impl<F: Fate + Drop> World<F> {
     /// Once the world has been calm for L + 5 announce intervals since the last change, the port is Disabled exactly where no
     /// link that is up leads from it to a live system; and once it has been for (k+3)n + L + 5, each port of a near system
     /// has the role that the tree of fewest steps to the best gives it. So it has after (k+3)m + L + 5 already, where no
-    /// path has more than m systems; and at a distance of d steps after (k+1)m + 2(d+1) + L + 5.
+    /// path has more than m systems; and at a distance of d steps after (k+1)m + 2(d+1) + L + 5. Where the network has no
+    /// syncReceiptTimeout, so it has as soon as the system follows.
     pub fn role(&self, clock: ClockId, port: u16) -> Option<Role>
         ensures some { IfSome result (λ role. AtSystem clock self.now.scene (HasRole port role)) }
         ensures none { IfNone result (AtSystem clock self.now.scene (HasPort port) → ⊥) }
         ensures enabled { IfSome result (λ role. IsEnabledInTime clock port self.now.scene role) }
         ensures settled { IfSome result (λ role. PlaysInTime clock port self.now.scene role) }
         ensures by_paths { IfSome result (λ role. PlaysByPaths clock port self.now.scene role) }
+        ensures at_once { IfSome result (λ role. PlaysAtOnce clock port self.now.scene role) }
         ensures by_distance { IfSome result (λ role. PlaysByDistance clock port self.now.scene role) }
     {
         self.scene.role(clock, port)

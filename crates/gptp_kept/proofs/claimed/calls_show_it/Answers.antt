@@ -1,4 +1,4 @@
-use Rattle.gptp_kept.proofs.ShownLemmas.{capable_shown, choice_by_distance, choice_by_paths, choice_shown, enabled_shown, role_by_distance, role_by_paths, role_shown}
+use Rattle.gptp_kept.proofs.ShownLemmas.{capable_shown, choice_at_once, choice_by_distance, choice_by_paths, choice_shown, enabled_shown, role_at_once, role_by_distance, role_by_paths, role_shown}
 use Rattle.gptp_kept.proofs.claimed.calls_show_it.Goals as goal
 
 pub returns-clause-capable : goal.returns-clause-capable
@@ -18,6 +18,12 @@ returns-clause-choice_by_paths c = choice_by_paths
 
 pub returns-clause-roles_by_paths : goal.returns-clause-roles_by_paths
 returns-clause-roles_by_paths c = role_by_paths
+
+pub returns-clause-choice_at_once : goal.returns-clause-choice_at_once
+returns-clause-choice_at_once c = choice_at_once
+
+pub returns-clause-roles_at_once : goal.returns-clause-roles_at_once
+returns-clause-roles_at_once c = role_at_once
 
 pub returns-clause-choice_by_distance : goal.returns-clause-choice_by_distance
 returns-clause-choice_by_distance c = choice_by_distance

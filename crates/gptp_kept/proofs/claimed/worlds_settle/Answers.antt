@@ -1,4 +1,4 @@
-use Rattle.gptp_kept.proofs.ClaimedLemmas.{calm_without, claimed_settled, settled_by_neighbours, settled_by_paths}
+use Rattle.gptp_kept.proofs.ClaimedLemmas.{calm_without, claimed_settled, settled_at_once, settled_by_neighbours, settled_by_paths}
 use Rattle.gptp_kept.proofs.claimed.worlds_settle.Goals as goal
 
 pub returns-clause-systems : goal.returns-clause-systems
@@ -12,3 +12,6 @@ returns-clause-neighbours c = settled_by_neighbours
 
 pub returns-clause-without_timeout : goal.returns-clause-without_timeout
 returns-clause-without_timeout c = calm_without
+
+pub returns-clause-at_once : goal.returns-clause-at_once
+returns-clause-at_once c = settled_at_once

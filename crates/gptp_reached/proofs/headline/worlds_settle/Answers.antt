@@ -1,8 +1,11 @@
-use Rattle.gptp_reached.proofs.HeadlineLemmas.{by_neighbours, by_systems, of_a_network, worlds_settle}
+use Rattle.gptp_reached.proofs.HeadlineLemmas.{at_once, by_neighbours, by_systems, of_a_network, worlds_settle}
 use Rattle.gptp_reached.proofs.headline.worlds_settle.Goals as goal
 
 pub returns-clause-theorem : goal.returns-clause-theorem
 returns-clause-theorem c = worlds_settle
+
+pub returns-clause-at_once : goal.returns-clause-at_once
+returns-clause-at_once c = at_once
 
 pub returns-clause-systems : goal.returns-clause-systems
 returns-clause-systems c = by_systems

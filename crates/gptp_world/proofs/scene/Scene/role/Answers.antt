@@ -1,5 +1,5 @@
 use Rattle.std.proofs.lemmas.Option.{IfSome_then}
-use Rattle.gptp_kept.proofs.ShownLemmas.{enabled_shown, role_by_distance, role_by_paths}
+use Rattle.gptp_kept.proofs.ShownLemmas.{enabled_shown, role_at_once, role_by_distance, role_by_paths}
 use Rattle.gptp_kept.proofs.ShownLemmas.{role_shown as role_settled}
 use Rattle.gptp_world.proofs.ViewLemmas.{no_port, on_none, role_shown}
 use Rattle.gptp_world.proofs.scene.Scene.role.Goals as goal
@@ -30,6 +30,13 @@ returns-in-Some-clause-by_paths c =
     let w = c.args.self.now in let s = c.in-Some.system.now in
     IfSome_then c.role_of.result c.role_of.ensures.some
     (λ role is. role_by_paths c.args.clock c.args.port w role c.well_formed-2.ensures.claimed
+    (role_shown c.args.clock c.args.port w s role c.in-Some.ensures.some is.0 is.1))
+
+pub returns-in-Some-clause-at_once : goal.returns-in-Some-clause-at_once
+returns-in-Some-clause-at_once c =
+    let w = c.args.self.now in let s = c.in-Some.system.now in
+    IfSome_then c.role_of.result c.role_of.ensures.some
+    (λ role is. role_at_once c.args.clock c.args.port w role c.well_formed-2.ensures.claimed
     (role_shown c.args.clock c.args.port w s role c.in-Some.ensures.some is.0 is.1))
 
 pub returns-in-Some-clause-by_distance : goal.returns-in-Some-clause-by_distance

@@ -1,0 +1,42 @@
+-- Laws: what a change leaves alone stays as it was known.
+use Rattle.std.specs.Prelude.{◌≡◌, ⊤, ◌*◌, ◌+◌, ◌≤◌, ℕ, true, List}
+use Rattle.gptp_links.specs.Fate.{Draw}
+use Rattle.gptp_pdelay.specs.Peer.{is_capable}
+use Rattle.gptp_plan.specs.declared.change.Act.{Act}
+use Rattle.gptp_plan.specs.declared.change.Act.TheVariants.{Deliver, Expire, Change as Changing}
+use Rattle.gptp_plan.specs.declared.change.Change.{Change}
+use Rattle.gptp_acts.specs.declared.done.Done.{Done}
+use Rattle.gptp_acts.specs.Acts.{Acts}
+use Rattle.gptp_acts.specs.Sound.{IsSound}
+use Rattle.gptp_acts.specs.World.{WorldState}
+use Rattle.gptp_measuring.specs.Measured.{HasMeasured}
+use Rattle.gptp_kept.specs.Elsewhere.{IsElsewhere}
+use Rattle.gptp_kept.specs.Measured.{IsMeasured}
+use Rattle.gptp_kept.specs.LinkView.{LinkPlace, least_delay, setting}
+use Rattle.gptp_kept.specs.Watched.{IsWatched}
+
+-- a change that leaves a link alone leaves it watched, with the times that it had
+abbrev pub WatchSurvives : Type 0
+WatchSurvives = (at : LinkPlace) (gone calm : ℕ) (change : Change) (w w' : WorldState) (draws : List Draw) (done : Done)
+    → IsSound w → IsMeasured w → IsElsewhere at change w → Acts (Changing change) w draws done w'
+    → IsWatched gone calm at w
+    → IsWatched gone calm at w'
+
+-- So does every act that leaves it alone: each but such a change.
+abbrev pub LeavesAlone : LinkPlace → Act → WorldState → Type 0
+LeavesAlone at (Deliver link direction) w = ⊤
+LeavesAlone at (Expire number timer) w = ⊤
+LeavesAlone at (Changing change) w = IsElsewhere at change w
+
+abbrev pub WatchGoesThrough : Type 0
+WatchGoesThrough = (at : LinkPlace) (gone calm : ℕ) (act : Act) (w w' : WorldState) (draws : List Draw) (done : Done)
+    → IsSound w → IsMeasured w → LeavesAlone at act w → Acts act w draws done w' → IsWatched gone calm at w
+    → IsWatched gone calm at w'
+
+-- So the port that asks is capable from three intervals between requests behind its own calm on, and its neighbour rate
+-- and mean link delay are those of two exchanges over the link, whatever was changed elsewhere since.
+abbrev pub WatchedPortsStayCapable : Type 0
+WatchedPortsStayCapable = (at : LinkPlace) (gone calm : ℕ) (w : WorldState) (l : IsWatched gone calm at w)
+    → calm + 3 * (setting at w l.link).period ≤ w.time
+    → (is_capable l.link.asking.state.peer ≡ true)
+    × HasMeasured (setting at w l.link) (least_delay at w l.link) l.link.asking.state.peer.last
