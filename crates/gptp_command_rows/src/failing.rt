@@ -1,7 +1,6 @@
 //! Devices of which each call fails in turn, for every command: a read that fails leaves nothing written, a write that
 //! fails a front of the text.
 
-use crate::far::clock;
 use crate::run::TWO;
 use crate::same::same_at;
 use gptp_commands::check::check;
@@ -13,6 +12,7 @@ use gptp_commands::sink::{Sink, WriteFailed};
 use gptp_commands::source::{ReadFailed, Source};
 use gptp_commands::timeline::{TimelineOrder, timeline};
 use gptp_timeline::{Limits, TimelineOptions};
+use gptp_vector::ClockId;
 use std::alloc::Global;
 use std::test::Fail;
 
@@ -159,7 +159,7 @@ fn ended(
         Command::Check => check(alloc, &mut source, &mut other, &mut sink, None),
         Command::Explain => {
             let question = Question::Explain {
-                clock: clock(2),
+                clock: ClockId::of_octets([0, 0, 0, 0, 0, 0, 0, 2]),
                 until: None,
             };
             answer_question(alloc, &mut source, &mut sink, question)

@@ -88,7 +88,7 @@ record IsSamePassage (p q : Passage) : Type 0 where
 module _ {F : Type 0} (answers : Bounds → ℕ → F → Option ℕ → F → Type 0) (once : AnswersOnce answers)
     (d : DocumentState) (names : HasOneEach d.network) (until : ℕ) where
   one_passage : (from : ℕ) (events : List Timed) (fate f g : F) (w : WorldState) (p q : Passage) → IsNamed w
-      → IsPassage answers d until from events fate f w p → IsPassage answers d until from events fate g w q
+      → IsPassage answers true d until from events fate f w p → IsPassage answers true d until from events fate g w q
       → IsSamePassage p q × (f ≡ g)
   one_passage from events fate f g w p q is k l =
       let to : p.to ≡ q.to = k.to_is ∙ sym l.to_is in
@@ -111,7 +111,7 @@ module _ {F : Type 0} (answers : Bounds → ℕ → F → Option ℕ → F → T
       )
 
   passage_named : (from : ℕ) (events : List Timed) (fate f : F) (w : WorldState) (p : Passage) → IsNamed w
-      → IsPassage answers d until from events fate f w p → IsNamed p.after
+      → IsPassage answers true d until from events fate f w p → IsNamed p.after
   passage_named from events fate f w p is k =
       courses_named answers p.to p.events p.acts fate f w p.after is k.courses
 
@@ -126,8 +126,8 @@ SamePassages (p ∷ ps) (q ∷ qs) = IsSamePassage p q × SamePassages ps qs
 module _ {F : Type 0} (answers : Bounds → ℕ → F → Option ℕ → F → Type 0) (once : AnswersOnce answers)
     (d : DocumentState) (names : HasOneEach d.network) (until : ℕ) where
   all_pass_once : (from : ℕ) (events : List Timed) (fate f g : F) (w v u : WorldState) (ps qs : List Passage)
-      → IsNamed w → AllPass answers d until from events fate f w v ps
-      → AllPass answers d until from events fate g w u qs → SamePassages ps qs
+      → IsNamed w → AllPass answers true d until from events fate f w v ps
+      → AllPass answers true d until from events fate g w u qs → SamePassages ps qs
   all_pass_once from events fate f g w v u [] qs is k l = absurd k
   all_pass_once from events fate f g w v u (p ∷ []) [] is k l = absurd l
   all_pass_once from events fate f g w v u (p ∷ []) (q ∷ []) is (k, _, _) (l, _, _) =
@@ -141,7 +141,7 @@ module _ {F : Type 0} (answers : Bounds → ℕ → F → Option ℕ → F → T
       let (first, fates) = one_passage answers once d names until from events fate x y w p q is k l in
       let left = later_than from events in
       let On : ℕ → F → WorldState → Type 0 =
-      λ time drawn a. AllPass answers d until time left drawn f a v (p2 ∷ ps) in
+      λ time drawn a. AllPass answers true d until time left drawn f a v (p2 ∷ ps) in
       let on : On q.to y q.after =
       subst (λ (a : WorldState). On q.to y a) first.after
       (subst (λ (drawn : F). On q.to drawn p.after) fates
@@ -226,9 +226,9 @@ one_timeline_of {F} answers once d until options fate xs ys a b names is k l =
     let (fates, starts) =
     begins_once answers once d.network fate k.started l.started k.start l.start is k.begun l.begun in
     let events = events_by until d.events in
-    let pass : AllPass answers d until 0 events l.started k.fate_after l.start k.after k.passages =
-    subst (λ (w : WorldState). AllPass answers d until 0 events l.started k.fate_after w k.after k.passages) starts
-    (subst (λ (f : F). AllPass answers d until 0 events f k.fate_after k.start k.after k.passages) fates k.pass) in
+    let pass : AllPass answers true d until 0 events l.started k.fate_after l.start k.after k.passages =
+    subst (λ (w : WorldState). AllPass answers true d until 0 events l.started k.fate_after w k.after k.passages) starts
+    (subst (λ (f : F). AllPass answers true d until 0 events f k.fate_after k.start k.after k.passages) fates k.pass) in
     let same = all_pass_once answers once d names until 0 events l.started k.fate_after l.fate_after l.start k.after
     l.after k.passages l.passages (begun_named answers d.network fate l.started l.start is l.begun) pass l.pass in
     let clocks = rising_clocks l.start in

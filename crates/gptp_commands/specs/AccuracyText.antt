@@ -1,29 +1,14 @@
 -- What `accuracy` writes for a document, and its status (profile).
-use Rattle.std.specs.Prelude.{◌≡◌, ◌⊎◌, ℕ, Bool, List, Option}
-use Rattle.gptp_graph.specs.Snapshot.{IsWellFormed, Snapshot}
+use Rattle.std.specs.Prelude.{◌≡◌, ℕ, Bool, List, Option}
 use Rattle.gptp_network.specs.Document.{DocumentState}
-use Rattle.gptp_network.specs.Snapshot.{IsSnapshot}
 use Rattle.gptp_time_error.specs.AccuracyText as exact
 use Rattle.gptp_commands.specs.declared.failure.Status.{Status}
 use Rattle.gptp_commands.specs.CheckText.{moment_of}
-use Rattle.gptp_commands.specs.ChoiceText.{RefusesChoice}
 use Rattle.gptp_commands.specs.Failure.{status_by}
 
 -- the time errors of its systems at the time that is meant; it is refused where one exceeds the greatest that is given
-pub record ShowsAccuracy (d : DocumentState) (until max_error : Option ℕ) (output : List (List ℕ)) (status : Status)
+pub record TellsAccuracy (d : DocumentState) (until max_error : Option ℕ) (output : List (List ℕ)) (status : Status)
     : Type 0 where
   pub exceeded : Bool
   pub text : exact.AccuracyText d (moment_of until d) max_error output exceeded
   pub status_is : status ≡ status_by exceeded
-
--- why there are none, where the search for the settled choice went wrong
-pub record RefusesAccuracy (d : DocumentState) (until : Option ℕ) (output : List (List ℕ)) (status : Status)
-    : Type 0 where
-  pub snapshot : Snapshot
-  pub is : IsSnapshot d (moment_of until d) snapshot
-  pub network : IsWellFormed snapshot
-  pub refuses : RefusesChoice snapshot output status
-
-abbrev pub TellsAccuracy : DocumentState → Option ℕ → Option ℕ → List (List ℕ) → Status → Type 0
-TellsAccuracy d until max_error output status =
-    ShowsAccuracy d until max_error output status ⊎ RefusesAccuracy d until output status

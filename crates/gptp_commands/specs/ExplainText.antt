@@ -2,12 +2,10 @@
 use Rattle.std.specs.Prelude.{◌≡◌, ◌⊎◌, ℕ, List, Option}
 use Rattle.gptp_network.specs.declared.fault.DocumentFault.TheVariants.{NoSuchPort}
 use Rattle.gptp_network.specs.Document.{DocumentState}
-use Rattle.gptp_choice.specs.declared.fault.ChoiceFault.{ChoiceFault}
-use Rattle.gptp_explain.specs.Explained.{Explains, IsAbsent, IsUnexplained}
+use Rattle.gptp_explain.specs.Explained.{Explains, IsAbsent}
 use Rattle.gptp_commands.specs.declared.failure.Status.{Status}
 use Rattle.gptp_commands.specs.declared.failure.Status.TheVariants.{Done}
 use Rattle.gptp_commands.specs.CheckText.{moment_of}
-use Rattle.gptp_commands.specs.ChoiceText.{ShowsFault}
 use Rattle.gptp_commands.specs.Documents.{RefusesFault}
 
 -- what is told of the live system with the clock, as the network stands at the time
@@ -18,13 +16,8 @@ ShowsSystem d at clock output status = Explains d at clock output × (status ≡
 abbrev pub RefusesAbsent : DocumentState → ℕ → ℕ → List (List ℕ) → Status → Type 0
 RefusesAbsent d at clock output status = IsAbsent d at clock × RefusesFault NoSuchPort output status
 
--- why nothing is told, where the search for the settled choice went wrong
-abbrev pub RefusesToExplain : DocumentState → ℕ → List (List ℕ) → Status → Type 0
-RefusesToExplain d at output status =
-    (fault : ChoiceFault) × IsUnexplained d at fault × ShowsFault fault output status
-
 -- at the time that is meant
 abbrev pub ExplainsAt : DocumentState → Option ℕ → ℕ → List (List ℕ) → Status → Type 0
 ExplainsAt d until clock output status =
     ShowsSystem d (moment_of until d) clock output status
-    ⊎ (RefusesAbsent d (moment_of until d) clock output status ⊎ RefusesToExplain d (moment_of until d) output status)
+    ⊎ RefusesAbsent d (moment_of until d) clock output status

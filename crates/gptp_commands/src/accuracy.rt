@@ -8,7 +8,6 @@ ghost use Rattle.gptp_commands.specs.Failure.{status_by};
 ghost use Rattle.gptp_commands.specs.Output.{IsOutput};
 
 use crate::check::moment_of;
-use crate::choice::refuse_choice;
 use crate::failure::{SimError, Status};
 use crate::output::Output;
 use gptp_network::Document;
@@ -36,8 +35,6 @@ pub(crate) fn tell_accuracy(
     ensures tells { IfOk result (IsOutput (TellsAccuracy document.now until max_error)) }
     ensures memory { IfErr result (λ e. e ≡ SimError.Memory) }
 {
-    match time_errors(alloc, document, moment_of(document, until)) {
-        Ok(errors) => show(alloc, &errors, max_error),
-        Err(fault) => refuse_choice(alloc, fault),
-    }
+    let errors = time_errors(alloc, document, moment_of(document, until))?;
+    show(alloc, &errors, max_error)
 }

@@ -3,14 +3,14 @@
 ghost use Rattle.std.specs.Prelude.{◌≡◌, IfErr, IfOk};
 ghost use Rattle.gptp_spelling.specs.Lines.{text_of};
 ghost use Rattle.gptp_certificate_text.specs.CertificateText.{certificate_lines};
-ghost use Rattle.gptp_commands.specs.ChoiceText.{Chooses, ChoosesAt, ShowsFault};
+ghost use Rattle.gptp_commands.specs.ChoiceText.{ChoosesAt, ShowsChoice};
 ghost use Rattle.gptp_commands.specs.Output.{IsOutput};
 
-use crate::check::{moment_of, refuse_certificate, reject};
+use crate::check::moment_of;
 use crate::failure::{SimError, Status};
 use crate::output::Output;
 use gptp_certificate_text::{Certificate, print};
-use gptp_choice::{ChoiceFault, settled_choice};
+use gptp_choice::settled_choice;
 use gptp_network::{Document, Snapshot};
 use std::alloc::Global;
 
@@ -28,27 +28,13 @@ fn show(alloc: Global, certificate: &Certificate) -> Result<Output, SimError>
     })
 }
 
-/// The line for a search that went wrong.
-pub(crate) fn refuse_choice(alloc: Global, fault: ChoiceFault) -> Result<Output, SimError>
-    ensures shows { IfOk result (IsOutput (ShowsFault fault)) }
-    ensures memory { IfErr result (λ e. e ≡ SimError.Memory) }
-{
-    match fault {
-        ChoiceFault::OutOfMemory => Err(SimError::Memory),
-        ChoiceFault::Unread(fault) => refuse_certificate(alloc, fault),
-        ChoiceFault::NotAccepted(fault) => reject(alloc, fault),
-    }
-}
-
 /// The text for the network as it stands at a time.
 fn choose(alloc: Global, snapshot: &Snapshot) -> Result<Output, SimError>
-    ensures chooses { IfOk result (IsOutput (Chooses snapshot.now)) }
+    ensures chooses { IfOk result (IsOutput (ShowsChoice snapshot.now)) }
     ensures memory { IfErr result (λ e. e ≡ SimError.Memory) }
 {
-    match settled_choice(alloc, snapshot) {
-        Ok(certificate) => show(alloc, &certificate),
-        Err(fault) => refuse_choice(alloc, fault),
-    }
+    let certificate = settled_choice(alloc, snapshot)?;
+    show(alloc, &certificate)
 }
 
 /// The text for a document.

@@ -96,8 +96,8 @@ Example: gptp_sim choice < examples/ring.toml";
 /// What help says of the input of `accuracy`.
 const ACCURACY_HELP: &str = "\
 Input: standard input, a document in TOML of at most 32 MiB (33,554,432 octets).
-Output: the time from which on it holds, and each system with its root, its steps from it, and how far its
-time may be from the root's, in ns, rounded up. Where links lose frames or are too long it is none.
+Output: the time from which on it holds, and each system with its root, its steps from it, and by how much an
+offset may be off in the instant it comes, in ns, rounded up. Where links lose frames or are too long it is none.
 Example: gptp_sim accuracy --max-error 1000 < examples/ring.toml";
 
 /// What help says of the input of `explain`.

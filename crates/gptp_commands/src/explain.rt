@@ -7,7 +7,6 @@ ghost use Rattle.gptp_commands.specs.Output.{IsOutput};
 ghost use Rattle.gptp_commands.specs.Documents.{RefusesFault};
 
 use crate::check::moment_of;
-use crate::choice::refuse_choice;
 use crate::documents::refuse;
 use crate::failure::{SimError, Status};
 use crate::output::Output;
@@ -38,8 +37,6 @@ pub(crate) fn explain_at(
     ensures explains { IfOk result (IsOutput (ExplainsAt document.now until clock)) }
     ensures memory { IfErr result (λ e. e ≡ SimError.Memory) }
 {
-    match explain(alloc, document, moment_of(document, until), clock) {
-        Ok(told) => show(alloc, told),
-        Err(fault) => refuse_choice(alloc, fault),
-    }
+    let told = explain(alloc, document, moment_of(document, until), clock)?;
+    show(alloc, told)
 }

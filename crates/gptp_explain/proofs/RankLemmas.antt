@@ -11,33 +11,14 @@ use Rattle.std.proofs.lemmas.Map.Keys.{IsDistinct-IsPermutation, IsDistinct-push
 use Rattle.gptp_lists.specs.Members.{Different, In}
 use Rattle.gptp_lists.proofs.MemberLemmas.{In-left, In-map, In-parts, In-right, In-slice_get, slice_get-In}
 use Rattle.gptp_graph.specs.Order.{IsRising}
-use Rattle.gptp_graph.specs.Path.{Reaches}
 use Rattle.gptp_graph.specs.SettledChoice.{IsBestIdentity}
 use Rattle.gptp_graph.specs.Snapshot.{Snapshot, System, IsWellFormed}
-use Rattle.gptp_graph.proofs.BestLemmas.{IsBest-reached, IsBest-unique}
-use Rattle.gptp_graph.proofs.PathLemmas.{Reaches-sym, Reaches-trans}
 use Rattle.gptp_graph.proofs.SystemLemmas.{same_identity}
 use Rattle.gptp_network.proofs.SnapshotLemmas.{In-permutation}
+use Rattle.gptp_components.proofs.ComponentLemmas.{reaches_by_best, same_best}
 use Rattle.gptp_explain.specs.Ranks.{AreFound, AreRanked, FollowsRoot, rank_lines, shown_line}
 use Rattle.gptp_explain.proofs.TextLemmas.{lines_behind}
 use Rattle.gptp_spelling.specs.Lines.{text_of}
-
--- a system has one best identity
-pub one_best : (g : Snapshot) (v a b : ℕ) → IsWellFormed g → IsBestIdentity g v a → IsBestIdentity g v b → a ≡ b
-one_best g v a b wf (s, is, same) (t, also, other) =
-    same ∙ ap (λ (u : System). u.identity) (IsBest-unique g v s t wf is also) ∙ sym other
-
--- two systems are of one component exactly where their bests are one
-pub same_best : (g : Snapshot) (v w root : ℕ) → IsWellFormed g → IsBestIdentity g v root → Reaches g v w
-    → IsBestIdentity g w root
-same_best g v w root wf (s, is, same) reached = (s, IsBest-reached g v w s wf reached is, same)
-
-pub reaches_by_best : (g : Snapshot) (v w root : ℕ) → IsWellFormed g → IsBestIdentity g v root
-    → IsBestIdentity g w root → Reaches g v w
-reaches_by_best g v w root wf (s, is, same) (t, also, other) =
-    let one : s ≡ t = same_identity g s t wf is.live also.live (sym same ∙ other) in
-    Reaches-trans g v s.clock w is.reached
-    (Reaches-sym g w s.clock wf (subst (λ (u : System). Reaches g w u.clock) (sym one) also.reached))
 
 -- ---- what was found of the systems at the first places
 

@@ -9,9 +9,6 @@ use Rattle.gptp_graph.specs.Parent.{IsParent, ParentLink}
 use Rattle.gptp_graph.specs.Snapshot.{Snapshot, System, clocks}
 use Rattle.gptp_network.specs.Document.{DocumentState}
 use Rattle.gptp_network.specs.Snapshot.{IsSnapshot}
-use Rattle.gptp_choice.specs.Choice.{IsRefused}
-use Rattle.gptp_choice.specs.declared.fault.ChoiceFault.{ChoiceFault}
-use Rattle.gptp_choice.specs.declared.fault.ChoiceFault.TheVariants.{OutOfMemory}
 use Rattle.gptp_spelling.specs.Digits.{clock_text, identity_text}
 use Rattle.gptp_explain.specs.Compared.{compared_text, difference}
 use Rattle.gptp_explain.specs.Ports.{ArePortLines}
@@ -81,8 +78,3 @@ pub record IsAbsent (d : DocumentState) (at clock : ℕ) : Type 0 where
   pub snapshot : Snapshot
   pub is_snapshot : IsSnapshot d at snapshot
   pub absent : In clock (clocks snapshot) → ⊥
-
--- the search for the settled choice went wrong
-abbrev pub IsUnexplained : DocumentState → ℕ → ChoiceFault → Type 0
-IsUnexplained d at fault =
-    (fault ≡ OutOfMemory) ⊎ ((g : Snapshot) × IsSnapshot d at g × IsRefused g fault)

@@ -1,13 +1,13 @@
 //! What is told of one system.
 
-ghost use Rattle.std.specs.Prelude.{◌≡◌, List, ℕ, IfErr, IfNone, IfOk, IfSome, OnOk, string_bytes};
+ghost use Rattle.std.specs.Prelude.{◌≡◌, List, ℕ, IfNone, IfOk, IfSome, OnOk, string_bytes};
 ghost use Rattle.gptp_certificate_text.specs.Certificate.{line_of};
 ghost use Rattle.gptp_checker.specs.Places.{IsLineAt};
 ghost use Rattle.gptp_graph.specs.SettledChoice.{IsSettledChoice};
 ghost use Rattle.gptp_lists.specs.Members.{In};
 ghost use Rattle.gptp_network.specs.Snapshot.{IsSnapshot, system_of};
 ghost use Rattle.gptp_spelling.specs.Lines.{text_of};
-ghost use Rattle.gptp_explain.specs.Explained.{Explains, ExplainsSystem, IsAbsent, IsUnexplained, ShowsWay};
+ghost use Rattle.gptp_explain.specs.Explained.{Explains, ExplainsSystem, IsAbsent, ShowsWay};
 ghost use Rattle.gptp_explain.specs.Writing.{AppendsLines};
 
 use crate::path::write_path;
@@ -16,7 +16,7 @@ use crate::ranks::write_ranks;
 use crate::system_line::write_system;
 use gptp_certificate_text::{Certificate, SystemLine};
 use gptp_checker::line_of;
-use gptp_choice::{ChoiceFault, settled_choice};
+use gptp_choice::settled_choice;
 use gptp_network::{Document, Snapshot};
 use gptp_vector::{ClockId, Identity};
 use std::alloc::{AllocError, Global};
@@ -78,17 +78,16 @@ fn write_all(
 /// after all events with time up to it: which root it follows and why, over which systems, the role of each port and
 /// why, and the systems of its component in their order. `None` where no live system has that clock then.
 ///
-/// Errors: [`ChoiceFault::OutOfMemory`]; the others don't come where the search for the settled choice is right.
+/// The only error is that memory ran out.
 pub fn explain(
     alloc: Global,
     document: &Document,
     at: u64,
     clock: ClockId,
-) -> Result<Option<String>, ChoiceFault>
+) -> Result<Option<String>, AllocError>
     ensures some { IfOk result (λ o. IfSome o (λ text. (lines : List (List ℕ)) × Explains document.now at clock lines
         × (string_bytes text ≡ text_of lines))) }
     ensures none { IfOk result (λ o. IfNone o (IsAbsent document.now at clock)) }
-    ensures refused { IfErr result (IsUnexplained document.now at) }
 {
     let snapshot = document.snapshot(alloc, at)?;
     snapshot.well_formed();

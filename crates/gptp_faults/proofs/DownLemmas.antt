@@ -137,12 +137,12 @@ module _ {F : Type 0} (answers : Bounds → ℕ → F → Option ℕ → F → T
   abbrev FindsIt : List Passage → Type 0
   FindsIt passages = (down up from : ℕ) (left : List Timed) (since : ℕ → Option ℕ) (fate fate_after : F)
       (w w' : WorldState) (a b : EndState) → AreLast down up from left
-      → AllPass answers d until from left fate fate_after w w' passages
+      → AllPass answers false d until from left fate fate_after w w' passages
       → last_two (ends_in names since passages) ≡ Some (a, b) → IsBetween down up passages a
 
   pub last_but_one : (passages : List Passage) (down up from : ℕ) (left : List Timed) (since : ℕ → Option ℕ)
       (fate fate_after : F) (w w' : WorldState) (a b : EndState) → AreLast down up from left
-      → AllPass answers d until from left fate fate_after w w' passages
+      → AllPass answers false d until from left fate fate_after w w' passages
       → last_two (ends_in names since passages) ≡ Some (a, b) → IsBetween down up passages a
   last_but_one [] down up from left since fate fate_after w w' a b k pass two = absurd pass
   last_but_one (p ∷ []) down up from left since fate fate_after w w' a b k (passage, none, ends) two =

@@ -212,7 +212,8 @@ module _ (d : DocumentState) (t : Times) (p : Planned) (playable : IsPlayable d)
       subst (λ es. StandsAfter d.network es g)
       (sym (ap (λ time. events_by time whole.events) k.from_is ∙ by_fault)) stands in
       subst (AreRoots g) (ap (λ (x : EndState). x.roots) (sym k.ended))
-      (follow_there draws whole can names until e.passages e.started e.fate_after e.start e.after k.passage bound g
+      (follow_there draws whole can names false until e.passages e.started e.fate_after e.start e.after k.passage
+      bound g
       (keeps_first draws whole can names (generator (seed_of t 0)) e.started e.start refl e.begun) e.pass k.member
       begins (λ span. let late = lasts k.passage.from bound k.from_is span in omega (arith, late, to)) there)
 

@@ -3,6 +3,7 @@ pub mod CaseLemmas
 pub mod TimesLemmas
 pub mod RunLemmas
 pub mod OutcomeLemmas
+pub mod ProgressLemmas
 pub mod RefusalLemmas
 pub mod TextLemmas
 pub mod AnswerLemmas

@@ -111,11 +111,11 @@ module _ (parts part count : ℕ) where
       ap (filter (belongs parts part)) (range_with_one count)
       ∙ filter-append (belongs parts part) (range_with_len 0 count) (count ∷ [])
 
-  one_number : belongs parts part count ≡ true
+  pub one_number : belongs parts part count ≡ true
       → numbers_of parts part (count + 1) ≡ numbers_of parts part count ++ count ∷ []
   one_number is = numbers_more ∙ ap (λ ns. numbers_of parts part count ++ ns) (rw is refl)
 
-  no_number : belongs parts part count ≡ false → numbers_of parts part (count + 1) ≡ numbers_of parts part count
+  pub no_number : belongs parts part count ≡ false → numbers_of parts part (count + 1) ≡ numbers_of parts part count
   no_number is =
       numbers_more ∙ ap (λ ns. numbers_of parts part count ++ ns) (rw is refl)
       ∙ append-nil (numbers_of parts part count)

@@ -7,5 +7,6 @@ pub mod Outcomes
 pub mod Ranking
 pub mod Refusals
 pub mod FaultsText
+pub mod Progress
 pub mod Faults
 pub mod Laws

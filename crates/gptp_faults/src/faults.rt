@@ -1,8 +1,11 @@
 //! What becomes of a network where something fails and comes back.
 
-ghost use Rattle.std.specs.Prelude.{◌≡◌, ◌≢◌, ◌≤◌, List, Err, IfOk, OnOk, false, length};
+ghost use Rattle.std.specs.Prelude.{◌≡◌, ◌≢◌, ◌≤◌, ◌+◌, ◌++◌, ◌∷◌, [], List, Err, IfOk, OnOk, false, length};
+ghost use Rattle.std.specs.Io.KnownBytes.{Appends};
+ghost use Rattle.gptp_spelling.specs.Lines.{text_of};
 ghost use Rattle.gptp_faults.specs.Faults.{Answers, IsTable};
 ghost use Rattle.gptp_faults.specs.Outcomes.{AreOutcomes, belongs, IsOutcome, OutcomeState};
+ghost use Rattle.gptp_faults.specs.Progress.{TellsCases, begun, begun_line, part_begun, part_of};
 ghost use Rattle.gptp_faults.specs.Ranking.{ranked, ranked_with};
 ghost use Rattle.gptp_faults.specs.Refusals.{any_late};
 ghost use Rattle.gptp_faults.specs.Times.{AreBounded, AreOptions, IsInTime};
@@ -37,30 +40,52 @@ fn belongs(options: &FaultsOptions, number: usize) -> bool
 }
 
 /// How many of so many cases belong to the part.
-fn count_of(options: &FaultsOptions, count: usize) -> u64
+fn count_of(options: &FaultsOptions, count: usize) -> usize
     requires { AreOptions options.now }
+    ensures { result ≡ part_of options.now count }
 {
-    (count as u64).saturating_add(options.parts - options.part) / options.parts
+    let mut found = 0;
+    for number in 0..count {
+        found += usize::from(belongs(options, number));
+    }
+    found
+}
+
+/// Tells that a case begins, by its place among so many, from 1.
+fn tell_case<P: Sink>(
+    alloc: Global,
+    count: usize,
+    place: usize,
+    progress: &mut P,
+) -> Result<(), Cut>
+    ensures told { OnOk result (Appends (P.written progress.old) (P.written progress.new)
+        (begun_line place count ++ 10 ∷ [])) }
+    ensures works { result ≢ Err Cut.Write → P.failures progress.new ≡ P.failures progress.old }
+    ensures fails { result ≡ Err Cut.Write → P.failures progress.new ≢ P.failures progress.old }
+{
+    let mut text = String::new(alloc);
+    writeln!(text, "case {place} of {count}")?;
+    write_whole(progress, text.as_bytes())?;
+    Ok(())
 }
 
 /// Tells that a case begins, where that is asked for.
 fn tell<P: Sink>(
     alloc: Global,
     asked: bool,
+    count: usize,
     place: usize,
-    count: u64,
     progress: &mut P,
 ) -> Result<(), Cut>
+    ensures told { OnOk result (Appends (P.written progress.old) (P.written progress.new)
+        (text_of (begun asked count place))) }
     ensures works { result ≢ Err Cut.Write → P.failures progress.new ≡ P.failures progress.old }
     ensures fails { result ≡ Err Cut.Write → P.failures progress.new ≢ P.failures progress.old }
 {
-    if !asked {
-        return Ok(());
+    match asked {
+        true => tell_case(alloc, count, place, progress),
+        false => Ok(()),
     }
-    let mut text = String::new(alloc);
-    writeln!(text, "case {place} of {count}")?;
-    write_whole(progress, text.as_bytes())?;
-    Ok(())
 }
 
 /// Tries a case that belongs to the part, and puts it among those before.
@@ -71,7 +96,7 @@ fn try_next<P: Sink>(
     times: &Times,
     number: usize,
     planned: &Planned,
-    count: u64,
+    count: usize,
     outcomes: &mut Vec<Outcome>,
     progress: &mut P,
 ) -> Result<(), Cut>
@@ -79,17 +104,13 @@ fn try_next<P: Sink>(
     requires in_time { IsInTime times.now planned.now }
     ensures tried { OnOk result ((o : OutcomeState) × IsOutcome document.old times.now number planned.now o
         × (outcomes.new.items ≡ ranked_with outcomes.old.items o)) }
+    ensures told { OnOk result (Appends (P.written progress.old) (P.written progress.new)
+        (text_of (begun options.now.progress count (length outcomes.old.items + 1)))) }
     ensures same { OnOk result (document.new ≡ document.old) }
     ensures works { result ≢ Err Cut.Write → P.failures progress.new ≡ P.failures progress.old }
     ensures fails { result ≡ Err Cut.Write → P.failures progress.new ≢ P.failures progress.old }
 {
-    tell(
-        alloc,
-        options.progress,
-        outcomes.len().saturating_add(1),
-        count,
-        progress,
-    )?;
+    tell(alloc, options.progress, count, outcomes.len() + 1, progress)?;
     let outcome = try_case(alloc, document, times, number, planned)?;
     rank(outcomes, outcome)?;
     Ok(())
@@ -109,6 +130,8 @@ fn try_cases<P: Sink>(
     requires in_time { any_late times.now planned.now ≡ false }
     ensures outcomes { IfOk result (λ v. (outcomes : List OutcomeState)
         × AreOutcomes document.old times.now options.now planned.now outcomes × (v.items ≡ ranked outcomes)) }
+    ensures told { OnOk result (Appends (P.written progress.old) (P.written progress.new)
+        (text_of (part_begun options.now (length planned.now)))) }
     ensures works { result ≢ Err Cut.Write → P.failures progress.new ≡ P.failures progress.old }
     ensures fails { result ≡ Err Cut.Write → P.failures progress.new ≢ P.failures progress.old }
 {
@@ -145,6 +168,8 @@ fn table_of<P: Sink>(
     requires bounded { AreBounded times.now }
     requires in_time { any_late times.now planned.now ≡ false }
     ensures table { IfOk result (IsTable document.old options.now times.now planned.now) }
+    ensures told { OnOk result (Appends (P.written progress.old) (P.written progress.new)
+        (text_of (part_begun options.now (length planned.now)))) }
     ensures works { result ≢ Err Cut.Write → P.failures progress.new ≡ P.failures progress.old }
     ensures fails { result ≡ Err Cut.Write → P.failures progress.new ≢ P.failures progress.old }
 {
@@ -156,7 +181,8 @@ fn table_of<P: Sink>(
 
 /// Lets each link in use and each live system of a document fail at several moments and come back, as far as they belong to
 /// the part that is asked for, and answers what becomes of the network: for each case the worst of its runs, the worst case
-/// first. A line is written to `progress` before each case, where that is asked for.
+/// first. Where that is asked for, a line `case K of N` is written to `progress` before each case, of those that belong to the
+/// part the Kth of N.
 ///
 /// Errors: [`Cut::Write`] exactly where a write to `progress` failed, after which nothing more happens; [`Cut::Memory`] as
 /// the timeline of a document has it.
@@ -168,6 +194,7 @@ pub fn fail_each<P: Sink>(
 ) -> Result<Answer, Cut>
     requires { AreOptions options.now }
     ensures answer { IfOk result (Answers document.old options.now) }
+    ensures told { IfOk result (TellsCases document.old options.now (P.written progress.old) (P.written progress.new)) }
     ensures works { result ≢ Err Cut.Write → P.failures progress.new ≡ P.failures progress.old }
     ensures fails { result ≡ Err Cut.Write → P.failures progress.new ≢ P.failures progress.old }
 {

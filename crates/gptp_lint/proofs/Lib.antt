@@ -1,13 +1,6 @@
-mod MemberLemmas
-mod LivesLemmas
-mod NamedLemmas
-mod CourseLemmas
 mod ThinLemmas
 mod TroubleLemmas
 mod QuietLemmas
-mod StandingLemmas
-mod BoundLemmas
-mod PassedLemmas
 mod TextLemmas
 mod FoundLemmas
 mod EscapedLemmas

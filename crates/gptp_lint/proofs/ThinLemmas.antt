@@ -8,12 +8,13 @@ use Rattle.gptp_plan.specs.declared.network.Wire.{Wire}
 use Rattle.gptp_network.specs.Document.{DocumentState}
 use Rattle.gptp_network.specs.Events.{AreInOrder}
 use Rattle.gptp_plan.proofs.AfterLemmas.{acted_keeps}
-use Rattle.gptp_lint.specs.Course.{acted, at_time, cable_of, course_from, course_of, first, is_end, named, naming, past, wire_of}
-use Rattle.gptp_lint.specs.Trouble.{ended, is_long, long_at, long_of, loss_in_use, stretches}
-use Rattle.gptp_lint.specs.declared.course.Cable.{Cable}
-use Rattle.gptp_lint.specs.declared.course.Standing.{Standing}
-use Rattle.gptp_lint.proofs.CourseLemmas.{all_from_0, behind, not_before, order_behind}
-use Rattle.gptp_lint.proofs.NamedLemmas.{untouched}
+use Rattle.gptp_topology.specs.Course.{acted, at_time, cable_of, course_from, course_of, first, is_end, named, naming, past, wire_of}
+use Rattle.gptp_topology.specs.Trouble.{is_long, loss_in_use}
+use Rattle.gptp_topology.specs.declared.course.Cable.{Cable}
+use Rattle.gptp_topology.specs.declared.course.Standing.{Standing}
+use Rattle.gptp_topology.proofs.CourseLemmas.{all_from_0, behind, not_before, order_behind}
+use Rattle.gptp_topology.proofs.NamedLemmas.{untouched}
+use Rattle.gptp_lint.specs.Trouble.{ended, long_at, long_of, stretches}
 
 -- the link's ends are at these systems
 record IsOf (c : Cable) (s : Standing) : Type 0 where

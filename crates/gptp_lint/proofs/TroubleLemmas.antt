@@ -3,8 +3,9 @@ use Rattle.std.proofs.Common.{◌≡◌, ℕ, Bool, true, false, ◌==◌, cond,
 use Rattle.std.specs.List.{flat_map}
 use Rattle.gptp_lists.specs.Members.{In}
 use Rattle.gptp_setup.specs.declared.setup.Params.{Params}
-use Rattle.gptp_lint.specs.Trouble.{ended, is_long, long_at, long_of, loss_in_use, stretches}
-use Rattle.gptp_lint.specs.declared.course.Standing.{Standing}
+use Rattle.gptp_topology.specs.Trouble.{is_long, loss_in_use}
+use Rattle.gptp_topology.specs.declared.course.Standing.{Standing}
+use Rattle.gptp_lint.specs.Trouble.{ended, long_at, long_of, stretches}
 use Rattle.gptp_lint.specs.declared.trouble.Lossy.{Lossy}
 
 -- none of a list that is nothing

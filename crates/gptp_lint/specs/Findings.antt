@@ -1,32 +1,14 @@
 -- What is found in a document (profile).
-use Rattle.std.specs.Prelude.{◌≡◌, ◌↔◌, ℕ, List, [], map, Option, None}
+use Rattle.std.specs.Prelude.{◌≡◌, ◌↔◌, ℕ, List, [], None}
 use Rattle.std.specs.List.{AllByRecursion}
 use Rattle.gptp_lists.specs.Members.{In}
 use Rattle.gptp_setup.specs.Pace.{lapse_span}
-use Rattle.gptp_plan.specs.SyncWait.{sync_paths}
 use Rattle.gptp_network.specs.Document.{DocumentState}
-use Rattle.gptp_network.specs.Snapshot.{events_by}
-use Rattle.gptp_network.specs.Span.{IsBound, IsCalmAt}
-use Rattle.gptp_lint.specs.Tables.{late_of}
-use Rattle.gptp_lint.specs.Times.{times_of}
+use Rattle.gptp_network.specs.Span.{IsCalmAt}
+use Rattle.gptp_topology.specs.Times.{AreCalmTimes, times_of}
+use Rattle.gptp_topology.specs.declared.times.CalmTime.{CalmTime}
 use Rattle.gptp_lint.specs.Trouble.{longs_of, lossies_of}
-use Rattle.gptp_lint.specs.declared.findings.CalmTime.{CalmTime}
 use Rattle.gptp_lint.specs.declared.findings.Findings.{Findings}
-
--- for how long at most a settled system waits for Sync after the events up to a time, where that isn't below the
--- timeout
-abbrev pub late_at : DocumentState → ℕ → Option ℕ
-late_at d at = late_of d.network.params (sync_paths d.network (events_by at d.events))
-
--- a time of a document, with its bound and that wait
-pub record IsTime (d : DocumentState) (t : CalmTime) : Type 0 where
-  pub bound : IsBound d t.at t.bound
-  pub needs : t.needs ≡ late_at d t.at
-
--- each time of a document
-pub record AreCalmTimes (d : DocumentState) (times : List CalmTime) : Type 0 where
-  pub times_are : map (λ (t : CalmTime). t.at) times ≡ times_of d.events
-  pub each : AllByRecursion (IsTime d) times
 
 -- at none of these times Sync is late
 abbrev pub NoneIsLate : List CalmTime → Type 0

@@ -7,9 +7,9 @@ use Rattle.gptp_network.specs.Faults as documents
 use Rattle.gptp_network.specs.declared.fault.DocumentFault.{DocumentFault}
 use Rattle.gptp_spelling.specs.Digits.{clock_text, identity_text, or_none}
 use Rattle.gptp_spelling.specs.Lines.{text_of}
+use Rattle.gptp_topology.specs.declared.times.CalmTime.{CalmTime}
 use Rattle.gptp_lint.specs.declared.components.Apart.{Apart}
 use Rattle.gptp_lint.specs.declared.components.Nobody.{Nobody}
-use Rattle.gptp_lint.specs.declared.findings.CalmTime.{CalmTime}
 use Rattle.gptp_lint.specs.declared.findings.Findings.{Findings}
 use Rattle.gptp_lint.specs.declared.trouble.Long.{Long}
 use Rattle.gptp_lint.specs.declared.trouble.Lossy.{Lossy}

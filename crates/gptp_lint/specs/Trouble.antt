@@ -1,22 +1,15 @@
 -- When a link in use is too long for the threshold, or loses frames (profile).
-use Rattle.std.specs.Prelude.{ℕ, ◌+◌, ◌==◌, ◌&&◌, nat_lt, Bool, if◌then◌else◌, List, [], ◌∷◌, ◌++◌, Option, Some, None}
+use Rattle.std.specs.Prelude.{ℕ, ◌==◌, if◌then◌else◌, List, [], ◌∷◌, ◌++◌, Option, Some, None}
 use Rattle.std.specs.Option.{option_to_list}
 use Rattle.std.specs.List.{flat_map}
-use Rattle.gptp_pdelay.specs.GoodLink.{ceil_div}
 use Rattle.gptp_setup.specs.declared.setup.Params.{Params}
 use Rattle.gptp_network.specs.Document.{DocumentState}
 use Rattle.gptp_plan.specs.declared.network.Wire.{Wire}
-use Rattle.gptp_lint.specs.Course.{course_of, is_used}
-use Rattle.gptp_lint.specs.declared.course.Standing.{Standing}
+use Rattle.gptp_topology.specs.Course.{course_of}
+use Rattle.gptp_topology.specs.Trouble.{is_long, loss_in_use, needed}
+use Rattle.gptp_topology.specs.declared.course.Standing.{Standing}
 use Rattle.gptp_lint.specs.declared.trouble.Long.{Long}
 use Rattle.gptp_lint.specs.declared.trouble.Lossy.{Lossy}
-
--- the least threshold at which a link of this greatest delay is good, and what the rule of good links asks for
-abbrev pub needed : Params → ℕ → ℕ
-needed p most = most + ceil_div most 1000 + ceil_div p.turnaround 2000 + 2
-
-abbrev pub is_long : Params → Standing → Bool
-is_long p s = is_used s && nat_lt p.threshold (needed p s.cable.bounds.max)
 
 abbrev pub long_at : Params → Standing → Long
 long_at p s = record {
@@ -30,10 +23,6 @@ long_at p s = record {
 abbrev pub long_of : Params → List Standing → Option Long
 long_of p [] = None
 long_of p (s ∷ ss) = if is_long p s then Some (long_at p s) else long_of p ss
-
--- how many of a thousand frames a link loses in use
-abbrev pub loss_in_use : Standing → ℕ
-loss_in_use s = if is_used s then s.cable.bounds.loss else 0
 
 -- a stretch that ends, where one has begun: no stretch is without a loss
 abbrev pub ended : ℕ → ℕ → ℕ → Option ℕ → List Lossy

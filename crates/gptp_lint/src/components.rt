@@ -1,8 +1,8 @@
 //! What the components of a network show at its times: how many there are, and which systems are their best.
 
-use crate::course::Cable;
 use crate::graph::{Best, Graph};
 use gptp_plan::{Network, Timed};
+use gptp_topology::Cable;
 use gptp_vector::Identity;
 use std::alloc::{AllocError, Global};
 

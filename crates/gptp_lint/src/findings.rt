@@ -1,32 +1,19 @@
 //! What a planner may have overlooked in a document.
 
-ghost use Rattle.std.specs.Prelude.{◌≡◌, ◌++◌, ◌∷◌, ◌≤◌, [], IfOk, OnOk, length};
+ghost use Rattle.std.specs.Prelude.{◌≡◌, ◌++◌, ◌∷◌, [], IfOk, OnOk};
 ghost use Rattle.std.specs.Option.{option_to_list};
-ghost use Rattle.gptp_lint.specs.Course.{names_of, wire_of};
-ghost use Rattle.gptp_lint.specs.Findings.{AreCalmTimes, AreFound};
-ghost use Rattle.gptp_lint.specs.Tables.{cables_of, greatest_used, time_of, told};
+ghost use Rattle.gptp_topology.specs.Course.{names_of, wire_of};
+ghost use Rattle.gptp_lint.specs.Findings.{AreFound};
 ghost use Rattle.gptp_lint.specs.Trouble.{longs_of, lossies_of};
 
 use crate::components::{Components, components_of};
-use crate::course::{Cable, cables_of, course_of, names_of};
-use crate::tables::{Tables, late_of};
 use crate::trouble::{Long, Lossy, long_of, push_stretches};
 use gptp_network::Document;
 use gptp_plan::Network;
 use gptp_setup::lapse_span;
+use gptp_topology::{Cable, CalmTime, cables_of, calm_times, course_of, names_of};
 use gptp_vector::ClockId;
 use std::alloc::{AllocError, Global};
-
-/// A time of a document.
-#[derive(Clone, Copy)]
-pub struct CalmTime {
-    /// In ns.
-    pub at: u64,
-    /// How long the network then takes at most to settle, in ns; none where it isn't calm.
-    pub bound: Option<u64>,
-    /// For how long at most a settled system then waits for Sync, in ns, where that isn't below `sync_timeout`.
-    pub needs: Option<u64>,
-}
 
 /// What a planner may have overlooked in a document.
 #[derive(Drop)]
@@ -42,64 +29,6 @@ pub struct Findings {
     pub calm: Vec<CalmTime>,
     /// How long what the Slave port holds stays without Sync, in ns: `sync_timeout` sync intervals.
     pub limit: u64,
-}
-
-/// A time, as the tables stand then.
-fn time_of(tables: &Tables, network: &Network, at: u64) -> CalmTime
-    requires few { length tables.now.nodes.items ≤ 512 }
-    requires short { greatest_used tables.now.marks.items ≤ 16000000000 }
-    ensures { result ≡ time_of network.now tables.now.marks.items tables.now.nodes.items at }
-{
-    let paths = tables.paths(&network.params());
-    CalmTime {
-        at,
-        bound: tables.bound(network, paths),
-        needs: late_of(network, paths),
-    }
-}
-
-/// Puts a time behind others, where the next is another.
-fn tell(
-    calm: &mut Vec<CalmTime>,
-    tables: &Tables,
-    network: &Network,
-    at: u64,
-    next: u64,
-) -> Result<(), AllocError>
-    requires few { length tables.now.nodes.items ≤ 512 }
-    requires short { greatest_used tables.now.marks.items ≤ 16000000000 }
-    ensures { OnOk result (calm.new.items
-        ≡ told next (time_of network.now tables.now.marks.items tables.now.nodes.items at) calm.old.items) }
-{
-    if next != at {
-        calm.push(time_of(tables, network, at))?;
-    }
-    Ok(())
-}
-
-/// Each time of a document whose links are these.
-fn calm_times(
-    alloc: Global,
-    document: &Document,
-    cables: &[Cable],
-) -> Result<Vec<CalmTime>, AllocError>
-    requires { cables.now ≡ cables_of document.now.network }
-    ensures { IfOk result (λ times. AreCalmTimes document.now times.items) }
-{
-    document.network().well_formed();
-    document.well_formed();
-    let network = document.network();
-    let events = document.events();
-    let mut tables = Tables::first(alloc, network, cables)?;
-    let mut calm = Vec::new(alloc);
-    let mut at = 0;
-    for event in events {
-        tell(&mut calm, &tables, network, at, event.at)?;
-        at = event.at;
-        tables.act(&event.act);
-    }
-    calm.push(time_of(&tables, network, at))?;
-    Ok(calm)
 }
 
 /// The clocks that links name, by rising clock.
@@ -182,7 +111,7 @@ pub fn find(alloc: Global, document: &Document) -> Result<Findings, AllocError>
     }
     let unlinked = unlinked_clocks(alloc, document.network(), &cables)?;
     let components = components_of(alloc, document.network(), &cables, document.events())?;
-    let calm = calm_times(alloc, document, &cables)?;
+    let calm = calm_times(alloc, document)?;
     Ok(Findings {
         long,
         lossy,

@@ -1,9 +1,9 @@
 //! The systems and links of a network as they stand, and the components that they make, as changes come.
 
-use crate::course::Cable;
 use crate::search::cut_off;
 use crate::sets::Set;
 use gptp_plan::{Act, Change, Network};
+use gptp_topology::Cable;
 use gptp_vector::{ClockId, Identity, PortId};
 use std::alloc::{AllocError, Global};
 

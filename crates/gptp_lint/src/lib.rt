@@ -3,14 +3,12 @@
 #![tactic(auto)]
 
 mod components;
-mod course;
 mod diagnosis;
 mod escaped;
 mod findings;
 mod graph;
 mod keys;
 mod nearest;
-mod nodes;
 mod outline;
 mod place;
 mod refusal;
@@ -18,14 +16,13 @@ mod scanner;
 mod search;
 mod seen;
 mod sets;
-mod tables;
 mod text;
 mod trouble;
 mod unknown;
 mod values;
 mod why;
 
-pub use findings::{CalmTime, Findings, find};
+pub use findings::{Findings, find};
 pub use refusal::write_refusal;
 pub use text::write_findings;
 pub use trouble::{Long, Lossy};

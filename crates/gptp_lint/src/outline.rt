@@ -506,8 +506,20 @@ impl Walk {
     }
 }
 
+/// What some editors put before a text in UTF-8.
+const BYTE_ORDER_MARK: [u8; 3] = [0xEF, 0xBB, 0xBF];
+
+/// A text without the byte order mark that it may begin with, which TOML passes over.
+fn without_mark(text: &[u8]) -> &[u8] {
+    match text.strip_prefix(&BYTE_ORDER_MARK) {
+        Some(rest) => rest,
+        None => text,
+    }
+}
+
 /// The outline of a text that is TOML.
 pub(crate) fn outline_of(alloc: Global, text: &[u8]) -> Result<Outline, AllocError> {
+    let text = without_mark(text);
     let mut scanner = Scanner::new();
     let mut walk = Walk::new(alloc);
     for (place, octet) in text.iter().enumerate() {

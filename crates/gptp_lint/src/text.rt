@@ -7,12 +7,13 @@ ghost use Rattle.gptp_lint.specs.LintText.{AppendsFindings, apart_line, calm_lin
 ghost use Rattle.gptp_lint.specs.Unread.{AppendsUnread};
 
 use crate::components::{Apart, Nobody};
-use crate::findings::{CalmTime, Findings};
+use crate::findings::Findings;
 use crate::outline::{Outline, outline_of};
 use crate::place::LineWords;
 use crate::trouble::{Long, Lossy};
 use crate::unknown::write_unknown_keys;
 use gptp_spelling::{ClockDigits, IdentityDigits};
+use gptp_topology::CalmTime;
 use gptp_vector::{ClockId, Identity};
 use std::alloc::{AllocError, Global};
 use std::fmt;

@@ -2,10 +2,10 @@
 
 ghost use Rattle.std.specs.Prelude.{◌≡◌, ◌++◌, OnOk};
 ghost use Rattle.gptp_setup.specs.declared.setup.Params.{Params};
-ghost use Rattle.gptp_lint.specs.Trouble.{ended, is_long, long_at, long_of, loss_in_use, needed, stretches};
+ghost use Rattle.gptp_lint.specs.Trouble.{ended, long_at, long_of, stretches};
 
-use crate::course::{Standing, is_used};
 use gptp_plan::Params;
+use gptp_topology::{Standing, is_long, loss_in_use, needed};
 use std::alloc::AllocError;
 
 /// A link that at some time is in use and isn't good.
@@ -34,23 +34,6 @@ pub struct Lossy {
     pub to: Option<u64>,
 }
 
-/// The least threshold at which a link of this greatest delay is good, in ns.
-fn needed(params: &Params, max: u64) -> u128
-    ensures { result ≡ needed params.now max }
-{
-    u128::from(max)
-        + u128::from(max.div_ceil(1000))
-        + u128::from(params.turnaround.div_ceil(2000))
-        + 2
-}
-
-/// Whether a link is in use and isn't good.
-pub(crate) fn is_long(params: &Params, standing: &Standing) -> bool
-    ensures { result ≡ is_long params.now standing.now }
-{
-    is_used(standing) && u128::from(params.threshold) < needed(params, standing.cable.bounds.max)
-}
-
 /// A link that isn't good.
 fn long_at(params: &Params, standing: &Standing) -> Long
     ensures { result ≡ long_at params.now standing.now }
@@ -73,17 +56,6 @@ pub(crate) fn long_of(params: &Params, course: &[Standing]) -> Option<Long>
         }
     }
     None
-}
-
-/// How many of a thousand frames a link loses in use.
-pub(crate) fn loss_in_use(standing: &Standing) -> u16
-    ensures { result ≡ loss_in_use standing.now }
-{
-    if is_used(standing) {
-        standing.cable.bounds.loss
-    } else {
-        0
-    }
 }
 
 /// Puts a stretch that ends behind others, where one has begun.

@@ -8,12 +8,10 @@ use Rattle.gptp_acts.specs.Acts.{at}
 use Rattle.gptp_acts.specs.Course.{WasDone}
 use Rattle.gptp_acts.specs.declared.done.Done.{Done}
 use Rattle.gptp_acts.specs.declared.done.Done.TheVariants.{Heard, Quiet}
-use Rattle.gptp_acts.specs.declared.item.Item.{Item}
-use Rattle.gptp_acts.specs.declared.item.Item.TheVariants.{Arrival, Expiry}
 use Rattle.gptp_acts.specs.declared.station.Station.{Station}
 use Rattle.gptp_acts.specs.Prompt.{HavePace}
 use Rattle.gptp_acts.specs.Sound.{IsSound}
-use Rattle.gptp_acts.specs.Views.{IsActOf, IsNextAct, ShowsLive}
+use Rattle.gptp_acts.specs.Views.{IsNextAct, ShowsLive}
 use Rattle.gptp_acts.specs.World.{WorldState, port_id}
 use Rattle.gptp_acts.proofs.AdvanceLemmas.{leaves_less}
 use Rattle.gptp_acts.proofs.SoundLemmas.{later_sound}
@@ -24,27 +22,28 @@ use Rattle.gptp_graph.specs.PathBound.{BoundsPaths}
 use Rattle.gptp_graph.specs.SettledChoice.{IsBestIdentity}
 use Rattle.gptp_graph.specs.Snapshot.{Snapshot, System, port_of}
 use Rattle.gptp_graph.proofs.LinkLemmas.{Joins-sym}
-use Rattle.gptp_graph.proofs.PathLemmas.{path_bounded}
 use Rattle.gptp_kept.specs.Calm.{IsQuietWorld, sync_paths_of}
 use Rattle.gptp_kept.specs.CalmFor.{IsCalmFor}
 use Rattle.gptp_kept.specs.Claimed.{Claimed}
 use Rattle.gptp_kept.specs.Exact.{IsAhead, IsErrorOf, IsExactInTime, IsHeardExact, exact_span}
 use Rattle.gptp_kept.specs.Followers.{bound_at, parts_of}
-use Rattle.gptp_kept.specs.SeenLaws.{IsNoChange}
 use Rattle.gptp_kept.specs.Standing.{live_systems, snapshot_of}
 use Rattle.gptp_kept.proofs.FollowPartLemmas.{bound_is, clock_shown, set_up_is}
 use Rattle.gptp_kept.proofs.WayLemmas.{way_of}
 use Rattle.gptp_links.specs.declared.bounds.Bounds.{Bounds}
 use Rattle.gptp_lists.specs.Members.{In}
 use Rattle.gptp_lists.proofs.MappedLemmas.{alike}
+use Rattle.gptp_lists.proofs.MemberLemmas.{slice_get-In}
 use Rattle.gptp_pdelay.specs.Clock.{local_clock}
 use Rattle.gptp_plan.specs.Change.{link_after}
-use Rattle.gptp_plan.specs.Network.{pace_of, wire}
-use Rattle.gptp_plan.specs.declared.change.Act.{Act}
+use Rattle.gptp_plan.specs.Network.{IsNetwork, pace_of, wire}
 use Rattle.gptp_plan.specs.declared.change.Timed.{Timed}
 use Rattle.gptp_plan.specs.declared.network.Wire.{Wire}
-use Rattle.gptp_reached.specs.Headline.{LeavesOffset}
+use Rattle.gptp_reached.specs.Headline.{HeadlineOnTime, LeavesOffset}
+use Rattle.gptp_reached.specs.HeadlineLaws.{RunsAreExact, WorldsAreExact}
+use Rattle.gptp_reached.specs.PlayedLaws.{IsPlayable}
 use Rattle.gptp_reached.specs.Reached.{Shape, shape, shape_after, wire_of}
+use Rattle.gptp_reached.proofs.CalmKeptLemmas.{no_change}
 use Rattle.gptp_reached.proofs.CalmLemmas.{quiet_stands, set_stands}
 use Rattle.gptp_reached.proofs.KeptLemmas.{acts_stand, time_stands}
 use Rattle.gptp_reached.proofs.SyncPathLemmas.{paths_stand}
@@ -52,8 +51,8 @@ use Rattle.gptp_roles.specs.Selection.{clock_of}
 use Rattle.gptp_scaled.specs.Counts.{AreWithin}
 use Rattle.gptp_system.specs.State.{clock, local_time}
 use Rattle.gptp_timing.specs.Tree.{IsWayTo, Parts, last_link, root_way}
-use Rattle.gptp_network_rows.specs.Pair.{IsPairSince, end_station, first, pair_network, pair_pace, pair_snapshot, params, second}
-use Rattle.gptp_network_rows.proofs.PairLemmas.{calm as is_calm, follows, led, near, pace_is, paths_are, snapshot_is, well_formed}
+use Rattle.gptp_network_rows.specs.Pair.{IsPairSince, RunsOfTwoAreExact, WorldsOfTwoAreExact, end_station, first, pair_document, pair_network, pair_pace, pair_snapshot, params, second}
+use Rattle.gptp_network_rows.proofs.PairLemmas.{bounded, calm as is_calm, follows, led, near, pace_is, paths_are, snapshot_is}
 
 -- ---- what holds of numbers
 
@@ -83,11 +82,6 @@ short_error : time_error short_way ≡ 19
 short_error = refl
 
 -- ---- an act
-
--- what is pending is no change
-no_change : (item : Item) (act : Act) (w : WorldState) → IsActOf item w act → IsNoChange act
-no_change (Arrival link direction) act w is = subst IsNoChange (sym is) tt
-no_change (Expiry place timer) act w (station, here, is) = subst IsNoChange (sym is) tt
 
 -- behind the next act it is the same pair
 pub goes_on : {F : Type 0} (answers : Bounds → ℕ → F → Option ℕ → F → Type 0) (time : ℕ) (timed : Timed)
@@ -144,8 +138,8 @@ module _ (w : WorldState) (time : ℕ) (k : IsPairSince 27000000000 w) (sound : 
     late = late;
   }
 
-  bounded : BoundsPaths (snapshot_of w) 2
-  bounded = of_pair (λ g. BoundsPaths g 2) (λ v u us way. path_bounded pair_snapshot v u us well_formed way)
+  few : BoundsPaths (snapshot_of w) 2
+  few = of_pair (λ g. BoundsPaths g 2) bounded
 
   parent : IsParent (snapshot_of w) 2 there
   parent = of_pair (λ g. IsParent g 2 there) (follows.parent refl)
@@ -260,7 +254,40 @@ module _ (w : WorldState) (time : ℕ) (k : IsPairSince 27000000000 w) (sound : 
   -- ---- its offset
 
   exact : (offset : ℤ) → IsExactInTime 2 w time offset → AreWithin 19 offset (pos 0)
-  exact offset promised = promised 2 0 19 (pos 0) calm bounded (of_pair (λ g. IsNear g 2) near) error ahead
+  exact offset promised = promised 2 0 19 (pos 0) calm few (of_pair (λ g. IsNear g 2) near) error ahead
+
+  -- so it is by what the theorem says of an act
+  exact_by_theorem : (w' : WorldState) (done : Done) (offset : ℤ) → HeadlineOnTime w time w' done
+      → LeavesOffset 2 offset w' done → AreWithin 19 offset (pos 0)
+  exact_by_theorem w' done offset promised left =
+      promised pair_pace 2 0 2 19 offset (pos 0) (record {
+        of = calm.set;
+        links = λ link member used.
+            let (place, there) = slice_get-In link w.net.channels member in
+            let is = quiet.links place link there used in (is.lossless, is.good);
+        lapses = quiet.lapses;
+      }) few (omega (arith, late)) left (of_pair (λ g. IsNear g 2) near) error ahead
+
+pub worlds_exact : {F : Type 0} (answers : Bounds → ℕ → F → Option ℕ → F → Type 0) → WorldsAreExact answers
+    → WorldsOfTwoAreExact answers
+worlds_exact answers theorem timed fate fate_after w w' done offset k all was early left =
+    exact_by_theorem w timed.at k all.is.world.sound (record { pace = all.pace; is = all.is }) was.ready.timely.now w'
+    done offset (theorem timed fate fate_after w w' done all was (omega (arith, early))) left
+
+-- the document of the pair can be played
+playable : IsNetwork pair_network → IsPlayable pair_document
+playable network = record {
+  network = network;
+  events = record { in_order = tt; each = tt };
+  octets = λ place event there. absurd (none-some event there);
+}
+
+pub runs_exact : {F : Type 0} (answers : Bounds → ℕ → F → Option ℕ → F → Type 0) → RunsAreExact answers
+    → RunsOfTwoAreExact answers
+runs_exact answers theorem until fate start w ts t offset early unfolds member k all passed left =
+    exact_by_theorem t.before t.told.timed.at k all.is.world.sound (record { pace = all.pace; is = all.is }) passed
+    t.after t.told.done offset
+    (theorem pair_document until fate start w ts t (playable k.network) (omega (arith, early)) unfolds member) left
 
 pub second_is_exact : (w : WorldState) (time : ℕ) (w' : WorldState) (done : Done) (offset : ℤ)
     → IsPairSince 27000000000 w → IsSound w → Claimed w → w.time ≤ time → IsHeardExact w time w' done

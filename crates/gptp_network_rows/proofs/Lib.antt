@@ -1,2 +1,3 @@
 mod ExactLemmas
+mod HeardLemmas
 mod PairLemmas

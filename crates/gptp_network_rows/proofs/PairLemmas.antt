@@ -1,5 +1,5 @@
 -- The world of two systems as it stands, and what it shows once they have settled.
-use Rattle.std.proofs.Common.{◌≡◌, ◌≢◌, ◌<◌, ◌≤◌, ◌+◌, ℕ, zero, suc, true, false, List, [], ◌∷◌, Option, Some, None, length, slice_get, refl, sym, ap, ap₂, subst, ◌∙◌, inl, inr, arith}
+use Rattle.std.proofs.Common.{◌≡◌, ◌≢◌, ◌<◌, ◌≤◌, ◌+◌, ℕ, zero, suc, true, List, [], ◌∷◌, Option, Some, None, length, slice_get, refl, sym, ap, ap₂, subst, ◌∙◌, inl, inr, arith}
 use Rattle.std.specs.Prelude.{◌⊎◌, IfNone, IfSome, reverse}
 use Rattle.std.proofs.lemmas.List.{reverse-reverse}
 use Rattle.std.proofs.lemmas.Option.{same_Some}
@@ -7,7 +7,9 @@ use Rattle.std.proofs.lemmas.List.Sorted.{IsPermutation-refl}
 use native.Mathlib.Decide.{ℕ_discrete, dec_le, dec_lt}
 use Rattle.gptp_lists.specs.Members.{In}
 use Rattle.gptp_graph.specs.Distance.{IsDistance, IsNear}
-use Rattle.gptp_graph.specs.Labelling.{SystemLine}
+use Rattle.gptp_graph.specs.Labelling.{SystemLine, line_clocks}
+use Rattle.gptp_graph.specs.Order.{IsRising}
+use Rattle.gptp_graph.specs.PathBound.{BoundsPaths}
 use Rattle.gptp_graph.specs.Path.{IsPath}
 use Rattle.gptp_graph.specs.Parent.{ParentLink}
 use Rattle.gptp_graph.specs.SettledChoice.{IsBestIdentity, IsSettledChoice, IsSettledLine}
@@ -15,6 +17,7 @@ use Rattle.gptp_graph.specs.SettledRole as settled
 use Rattle.gptp_graph.specs.SettledRole.{IsMasterPort, IsSettledRole, IsSlavePort}
 use Rattle.gptp_graph.specs.Snapshot.{Adjacent, IsLinked, IsWellFormed, Link, Snapshot, System, port_of}
 use Rattle.gptp_graph.proofs.BestLemmas.{IsBest-unique}
+use Rattle.gptp_graph.proofs.ChoiceLemmas.{same_choice}
 use Rattle.gptp_graph.proofs.DecisionLemmas.{dec_both, dec_either}
 use Rattle.gptp_graph.proofs.DistanceLemmas.{IsDistance-unique}
 use Rattle.gptp_graph.proofs.LinkDecisions.{PortIdentity-dec}
@@ -37,7 +40,6 @@ use Rattle.gptp_acts.specs.declared.station.Station.{Station}
 use Rattle.gptp_acts.specs.Sound.{IsSound}
 use Rattle.gptp_acts.specs.Views.{Follows, HasPort, IsLiveSystem, ShowsLive}
 use Rattle.gptp_acts.specs.World.{WorldState}
-use Rattle.gptp_network.specs.Document.{DocumentState}
 use Rattle.gptp_network.specs.Snapshot.{StandsAfter}
 use Rattle.gptp_roles.specs.declared.role.Role.{Role}
 use Rattle.gptp_roles.specs.declared.role.Role.TheVariants as roles
@@ -48,24 +50,22 @@ use Rattle.gptp_system.specs.State.{SystemState, clock, is_capable_at, trace}
 use Rattle.gptp_system.specs.Steps.{IsPortOf}
 use Rattle.gptp_kept.specs.Claimed.{Claimed}
 use Rattle.gptp_kept.specs.Settled.{role_of}
-use Rattle.gptp_kept.specs.Shown.{AreCapable, FollowsInTime, IsCapableInTime, IsEnabledInTime, IsSettledFor, PlaysInTime}
-use Rattle.gptp_kept.specs.CalmFor.{capable_span}
+use Rattle.gptp_kept.specs.Shown.{AreCapable, FollowsByDistance, FollowsByPaths, FollowsInTime, IsCapableInTime, IsEnabledInTime, IsSettledFor, PlaysInTime, distance_span}
+use Rattle.gptp_kept.specs.CalmFor.{capable_span, span_over}
 use Rattle.gptp_kept.specs.Standing.{live_systems, snapshot_of, standing}
 use Rattle.gptp_kept.specs.Traces.{IsCleanInTime, IsTraceClean, announced, turns_span}
 use Rattle.gptp_kept.proofs.SystemLemmas.{live_from, live_there}
+use Rattle.gptp_certificate.specs.Settled.{IsRightInTime}
+use Rattle.gptp_certificate.specs.Stated.{States}
 use Rattle.gptp_reached.specs.PlayedLaws.{IsReached}
 use Rattle.gptp_reached.specs.Reached.{StandsAs}
 use Rattle.gptp_reached.proofs.CalmLemmas.{quiet_stands, set_stands}
 use Rattle.gptp_reached.proofs.PlayedLemmas.{played_stands}
 use Rattle.gptp_reached.proofs.SnapshotLemmas.{snapshots_stand, systems_stand}
 use Rattle.gptp_reached.proofs.SyncPathLemmas.{paths_stand}
-use Rattle.gptp_network_rows.specs.Pair.{HasBegun, IsPairAt, first, pair_network, pair_pace, pair_paths, pair_snapshot, second}
+use Rattle.gptp_network_rows.specs.Pair.{HasBegun, IsPairAt, first, following, leading, pair_document, pair_network, pair_pace, pair_paths, pair_snapshot, second}
 
 -- ---- the network
-
--- nothing happens to it
-abbrev document : DocumentState
-document = record { network = pair_network; events = [] }
 
 pub pace_is : pace_of pair_network ≡ pair_pace
 unfolding largest_of
@@ -105,8 +105,8 @@ snapshot_is w so sound =
 module _ {F : Type 0} (answers : Bounds → ℕ → F → Option ℕ → F → Type 0) (fate fate_after : F) (told : List Told)
     (time : ℕ) (start w : WorldState) (k : HasBegun answers fate start)
     (advanced : Advanced answers time told fate fate_after start w) (claimed : Claimed w) where
-  reached : IsReached document time w
-  reached = played_stands answers document time k.before told w k.network tt (record {
+  reached : IsReached pair_document time w
+  reached = played_stands answers pair_document time k.before told w k.network tt (record {
     started = fate;
     start = start;
     begun = k.begun;
@@ -139,32 +139,11 @@ module _ {F : Type 0} (answers : Bounds → ℕ → F → Option ℕ → F → T
 
 -- ---- what it settles at
 
--- the second follows the first
-abbrev following : SystemLine
-following = record {
-  clock = 2;
-  root = first;
-  steps = 1;
-  far = false;
-  parent = Some (record { own_port = 1; clock = 1; port = 1 });
-  ports = record { number = 1; role = settled.Slave } ∷ [];
-}
-
-abbrev leading : SystemLine
-leading = record {
-  clock = 1;
-  root = first;
-  steps = 0;
-  far = false;
-  parent = None;
-  ports = record { number = 1; role = settled.Master } ∷ [];
-}
-
 pub well_formed : IsWellFormed pair_snapshot
 unfolding ℕ_discrete dec_le dec_lt dec_both dec_either IsLower-dec PortIdentity-dec
 well_formed = (sure_well_formed pair_snapshot).1 refl
 
-choice : IsSettledChoice pair_snapshot (leading ∷ following ∷ [])
+pub choice : IsSettledChoice pair_snapshot (leading ∷ following ∷ [])
 unfolding ℕ_discrete dec_le dec_lt dec_both dec_either IsLower-dec PortIdentity-dec
 choice =
     let passes = (sure_passes pair_snapshot (leading ∷ following ∷ [])).1 refl in
@@ -290,6 +269,30 @@ second_follows w root steps port at shown =
     subst (λ g. IsNear g 2 → IsSettledFor g 2 root steps port) at.snapshot by_rest near in
     (root_is root is.best, steps_are steps is.distance, slave_is port is.parent)
 
+-- no path has more systems than there are
+pub bounded : BoundsPaths pair_snapshot 2
+bounded v u us way = path_bounded pair_snapshot v u us well_formed way
+
+-- two seconds sooner, as it is one step away
+pub second_follows_sooner : (w : WorldState) (root steps : ℕ) (slave : Option ℕ) → IsPairAt 24000000000 w
+    → FollowsByDistance 2 w root steps slave → (root ≡ first) × (steps ≡ 1) × (slave ≡ Some 1)
+second_follows_sooner w root steps port at shown =
+    let is : IsSettledFor pair_snapshot 2 root steps port =
+    subst (λ g. IsSettledFor g 2 root steps port) at.snapshot
+    (shown 2 1 (subst (λ g. BoundsPaths g 2) (sym at.snapshot) bounded)
+    (subst (λ g. IsDistance g 2 1) (sym at.snapshot) follows.steps) (omega arith)
+    (at.calm (distance_span 2 1) (omega arith))) in
+    (root_is root is.best, steps_are steps is.distance, slave_is port is.parent)
+
+pub second_follows_by_paths : (w : WorldState) (root steps : ℕ) (slave : Option ℕ) → IsPairAt 26000000000 w
+    → FollowsByPaths 2 w root steps slave → (root ≡ first) × (steps ≡ 1) × (slave ≡ Some 1)
+second_follows_by_paths w root steps port at shown =
+    let is : IsSettledFor pair_snapshot 2 root steps port =
+    subst (λ g. IsSettledFor g 2 root steps port) at.snapshot
+    (shown 2 (subst (λ g. BoundsPaths g 2) (sym at.snapshot) bounded) (at.calm (span_over 2) (omega arith))
+    (subst (λ g. IsNear g 2) (sym at.snapshot) near)) in
+    (root_is root is.best, steps_are steps is.distance, slave_is port is.parent)
+
 -- what calls show of the ports at both ends
 abbrev ShowsRole : ℕ → Role → settled.Role → Type 0
 ShowsRole clock role wanted = IsSettledRole pair_snapshot (port_of clock 1) wanted → role_of role ≡ wanted
@@ -325,20 +328,40 @@ first_plays w role at shown = is_master role (role_shown w 1 role at near_first 
 
 -- ---- what its calls answer
 
-followed_second : (w : WorldState) (found : Option (ℕ × ℕ × Option ℕ)) → IsPairAt 26000000000 w
-    → IfSome found (λ f. FollowsInTime 2 w f.0 f.1 f.2) → IfNone found (AtSystem 2 w IsLiveSystem → ⊥)
+-- the second is found, and follows the first by whatever shows what it follows
+found_following : (time : ℕ) (w : WorldState) (Shows : ℕ → ℕ → ℕ → Option ℕ → Type 0) (clock : ℕ)
+    (found : Option (ℕ × ℕ × Option ℕ)) → clock ≡ 2 → IsPairAt time w
+    → ((root steps : ℕ) (port : Option ℕ) → Shows 2 root steps port
+    → (root ≡ first) × (steps ≡ 1) × (port ≡ Some 1))
+    → IfSome found (λ f. Shows clock f.0 f.1 f.2) → IfNone found (AtSystem clock w IsLiveSystem → ⊥)
     → found ≡ Some (first, 1, Some 1)
-followed_second w None at some none = absurd (none (second_lives 26000000000 w at))
-followed_second w (Some (root, steps, port)) at some none =
-    let (root_same, steps_same, port_same) = second_follows w root steps port at some in
+found_following time w Shows clock None named at is some none =
+    absurd (none (subst (λ c. AtSystem c w IsLiveSystem) (sym named) (second_lives time w at)))
+found_following time w Shows clock (Some (root, steps, port)) named at is some none =
+    let (root_same, steps_same, port_same) =
+    is root steps port (subst (λ c. Shows c root steps port) named some) in
     rw (root_same, steps_same, port_same) refl
 
 pub followed : (w : WorldState) (clock : ℕ) (found : Option (ℕ × ℕ × Option ℕ)) → clock ≡ 2
     → IsPairAt 26000000000 w → IfSome found (λ f. FollowsInTime clock w f.0 f.1 f.2)
     → IfNone found (AtSystem clock w IsLiveSystem → ⊥) → found ≡ Some (first, 1, Some 1)
-followed w clock found named at some none =
-    followed_second w found at (subst (λ c. IfSome found (λ f. FollowsInTime c w f.0 f.1 f.2)) named some)
-    (subst (λ c. IfNone found (AtSystem c w IsLiveSystem → ⊥)) named none)
+followed w clock found named at =
+    found_following 26000000000 w (λ c root steps port. FollowsInTime c w root steps port) clock found named at
+    (λ root steps port. second_follows w root steps port at)
+
+pub followed_sooner : (w : WorldState) (clock : ℕ) (found : Option (ℕ × ℕ × Option ℕ)) → clock ≡ 2
+    → IsPairAt 24000000000 w → IfSome found (λ f. FollowsByDistance clock w f.0 f.1 f.2)
+    → IfNone found (AtSystem clock w IsLiveSystem → ⊥) → found ≡ Some (first, 1, Some 1)
+followed_sooner w clock found named at =
+    found_following 24000000000 w (λ c root steps port. FollowsByDistance c w root steps port) clock found named at
+    (λ root steps port. second_follows_sooner w root steps port at)
+
+pub followed_by_paths : (w : WorldState) (clock : ℕ) (found : Option (ℕ × ℕ × Option ℕ)) → clock ≡ 2
+    → IsPairAt 26000000000 w → IfSome found (λ f. FollowsByPaths clock w f.0 f.1 f.2)
+    → IfNone found (AtSystem clock w IsLiveSystem → ⊥) → found ≡ Some (first, 1, Some 1)
+followed_by_paths w clock found named at =
+    found_following 26000000000 w (λ c root steps port. FollowsByPaths c w root steps port) clock found named at
+    (λ root steps port. second_follows_by_paths w root steps port at)
 
 -- the second lives, by a clock that is its
 pub lives : (time : ℕ) (w : WorldState) (clock : ℕ) → clock ≡ 2 → IsPairAt time w → AtSystem clock w IsLiveSystem
@@ -411,3 +434,19 @@ second_announces w s root steps port at sound found settled shows shown =
     let in_pair : IsTraceClean pair_snapshot 3 s = subst (λ g. IsTraceClean g 3 s) at.snapshot is in
     announces (trace s) (announced s) refl one
     (subst (λ v. Clean pair_snapshot 4 v (trace s) ⊎ Whole pair_snapshot v (announced s)) named in_pair)
+
+-- ---- what both state
+
+rising : IsRising (line_clocks (leading ∷ following ∷ []))
+rising = ((λ y among. later y among), ((λ y among. absurd among), tt))
+  where
+    later : (y : ℕ) → In y (2 ∷ []) → 1 < y
+    later y (inl same) = omega arith
+    later y (inr none) = absurd none
+
+pub certified : (w : WorldState) (lines : List SystemLine) → IsPairAt 26000000000 w → States w lines
+    → IsRightInTime w lines → lines ≡ leading ∷ following ∷ []
+certified w lines at states right =
+    same_choice pair_snapshot lines (leading ∷ following ∷ []) well_formed
+    (subst (λ g. IsSettledChoice g lines) at.snapshot (right (at.calm settling_span_with (omega arith)))) choice
+    states.rising rising

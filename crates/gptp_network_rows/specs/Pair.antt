@@ -1,18 +1,35 @@
 -- Two end stations and the link between them: their network, its snapshot, and their world once it has been calm for
 -- long enough.
-use Rattle.std.specs.Prelude.{◌≡◌, ◌≤◌, ℕ, ℤ, pos, negsuc, true, List, [], ◌∷◌, Option}
+use Rattle.std.specs.Prelude.{◌≡◌, ◌≤◌, ℕ, ℤ, pos, negsuc, true, false, List, [], ◌∷◌, Option, Some, None}
 use Rattle.arrayvec.specs.ArrayVec.{ArrayVec}
 use Rattle.gptp_setup.specs.Pace.{Pace}
 use Rattle.gptp_setup.specs.declared.setup.Params.{Params}
 use Rattle.gptp_links.specs.declared.bounds.Bounds.{Bounds}
+use Rattle.gptp_graph.specs.Labelling.{SystemLine}
+use Rattle.gptp_graph.specs.SettledRole as settled
 use Rattle.gptp_graph.specs.Snapshot.{Snapshot, port_of}
+use Rattle.gptp_lists.specs.Members.{In}
+use Rattle.gptp_messages.specs.declared.announce.AnnounceView.{AnnounceView}
+use Rattle.gptp_messages.specs.declared.message.Message.TheVariants as messages
+use Rattle.gptp_messages.specs.Grammar.{Reads}
+use Rattle.gptp_receipt.specs.declared.held.Reception.{Reception}
+use Rattle.gptp_receipt.specs.Held.{received}
+use Rattle.gptp_scaled.specs.Counts.{AreWithin}
+use Rattle.gptp_system.specs.State.{SystemState, held_at}
 use Rattle.gptp_plan.specs.Network.{IsNetwork, NetworkState, member, wire}
+use Rattle.gptp_plan.specs.declared.change.Timed.{Timed}
 use Rattle.gptp_plan.specs.declared.network.Member.{Member}
 use Rattle.gptp_plan.specs.declared.sync_wait.SyncPaths.{SyncPaths}
-use Rattle.gptp_acts.specs.Course.{Begun}
+use Rattle.gptp_acts.specs.Course.{Begun, WasDone}
+use Rattle.gptp_acts.specs.declared.done.Done.{Done}
+use Rattle.gptp_acts.specs.declared.done.Done.TheVariants.{Heard, Quiet}
 use Rattle.gptp_acts.specs.World.{WorldState, port_id}
+use Rattle.gptp_network.specs.Document.{DocumentState}
+use Rattle.gptp_report.specs.Transitions.{Transition, Unfolds}
 use Rattle.gptp_kept.specs.CalmFor.{IsCalmFor}
 use Rattle.gptp_kept.specs.Standing.{snapshot_of}
+use Rattle.gptp_kept.specs.TimedClaim.{AllClaimed}
+use Rattle.gptp_reached.specs.Headline.{LeavesOffset}
 use Rattle.gptp_reached.specs.Reached.{StandsAs}
 
 -- ---- the network
@@ -73,6 +90,31 @@ pair_snapshot = record {
   links = record { a = port_of 1 1; b = port_of 2 1 } ∷ [];
 }
 
+-- what both state once all has settled: the second follows the first
+abbrev pub leading : SystemLine
+leading = record {
+  clock = 1;
+  root = first;
+  steps = 0;
+  far = false;
+  parent = None;
+  ports = record { number = 1; role = settled.Master } ∷ [];
+}
+
+abbrev pub following : SystemLine
+following = record {
+  clock = 2;
+  root = first;
+  steps = 1;
+  far = false;
+  parent = Some (record { own_port = 1; clock = 1; port = 1 });
+  ports = record { number = 1; role = settled.Slave } ∷ [];
+}
+
+-- the document of their network, with no event
+abbrev pub pair_document : DocumentState
+pair_document = record { network = pair_network; events = [] }
+
 -- ---- their world
 
 -- the world of this network begins, whatever is drawn for its frames
@@ -94,3 +136,38 @@ pub record IsPairAt (time : ℕ) (w : WorldState) : Type 0 where
   pub since : IsPairSince time w
   pub snapshot : snapshot_of w ≡ pair_snapshot
   pub calm : (span : Pace → SyncPaths → ℕ → ℕ) → span pair_pace pair_paths 2 ≤ time → IsCalmFor span w
+
+-- ---- what is said and held in it
+
+-- what the port of a system received, if it holds that, came from the first over nothing between
+abbrev pub HoldsFirstAlone : SystemState → Type 0
+HoldsFirstAlone s = (r : Reception) → received (held_at s 1) ≡ Some r → r.path ≡ 1 ∷ []
+
+-- what it received once ports were capable came from the first
+abbrev pub HoldsFromFirst : SystemState → Type 0
+HoldsFromFirst s = (r : Reception) → received (held_at s 1) ≡ Some r → 15000000000 ≤ r.at
+    → r.vector.source ≡ port_id 1 1
+
+-- by an act of which this is told, the system with this clock heard this Announce
+abbrev pub HearsAnnounce : ℕ → AnnounceView → Done → Type 0
+HearsAnnounce number m Quiet = ⊥
+HearsAnnounce number m (Heard clock port answer frame) =
+    (clock ≡ number) × Reads frame.items (messages.Announce m)
+
+-- ---- how exact offsets are in it
+
+-- an act in their world leaves the second an offset that is exact but for rounding
+abbrev pub WorldsOfTwoAreExact : {F : Type 0} → (Bounds → ℕ → F → Option ℕ → F → Type 0) → Type 0
+WorldsOfTwoAreExact {F} answers = (timed : Timed) (fate fate_after : F) (w w' : WorldState) (done : Done) (offset : ℤ)
+    → IsPairSince 27000000000 w → AllClaimed w → WasDone answers timed fate fate_after w w' done
+    → timed.at ≤ 1000000000000000 → LeavesOffset 2 offset w' done
+    → AreWithin 19 offset (pos 0)
+
+-- so does each act of a run of their document
+abbrev pub RunsOfTwoAreExact : {F : Type 0} → (Bounds → ℕ → F → Option ℕ → F → Type 0) → Type 0
+RunsOfTwoAreExact {F} answers = (until : ℕ) (fate : F) (start w : WorldState) (ts : List Transition) (t : Transition)
+    (offset : ℤ)
+    → until ≤ 1000000000000000 → Unfolds answers pair_document until fate start ts w → In t ts
+    → IsPairSince 27000000000 t.before → AllClaimed t.before → t.before.time ≤ t.told.timed.at
+    → LeavesOffset 2 offset t.after t.told.done
+    → AreWithin 19 offset (pos 0)

@@ -1,12 +1,14 @@
 //! What is proved of two systems at rest, seen.
 
 use crate::drawn::{
-    announce_at_rest, capable_in_time, enabled_in_time, exact_in_time, follow_at_rest, play_at_rest,
+    announce_at_rest, capable_in_time, certify_at_rest, enabled_in_time, exact_in_time,
+    follow_at_rest, follow_by_distance, follow_by_paths, hear_in_time, play_at_rest, second_then,
+    whole,
 };
 use crate::same::same;
 use gptp_links::PcgFate;
 use gptp_roles::Role;
-use gptp_vector::{ClockId, Identity, Trace};
+use gptp_vector::{ClockId, Identity, PortId, Trace};
 use std::test::Fail;
 
 /// The clocks of a trace of two.
@@ -49,5 +51,28 @@ fn two_systems_at_rest_are_as_proved(rt: HostRuntime) -> Result<(), Fail> {
         offset.is_some_and(|offset| offset.value().unsigned_abs() <= 19),
         true,
     );
+    same(
+        &rt,
+        follow_by_distance(rt.alloc(), PcgFate::new(1))?,
+        Some((first, 1, Some(1))),
+    );
+    same(
+        &rt,
+        follow_by_paths(rt.alloc(), PcgFate::new(1))?,
+        Some((first, 1, Some(1))),
+    );
+    let certificate = certify_at_rest(rt.alloc(), PcgFate::new(1))?;
+    same(&rt, certificate.len(), 2);
+    let port = PortId {
+        clock: ClockId::from(1),
+        port: 1,
+    };
+    let world = whole(rt.alloc(), PcgFate::new(1))?;
+    same(
+        &rt,
+        second_then(&world).and_then(|system| system.parent()),
+        Some((1, port)),
+    );
+    same(&rt, hear_in_time(rt.alloc(), PcgFate::new(1))?, Some(port));
     Ok(())
 }

@@ -3,16 +3,24 @@
 
 ghost use Rattle.std.specs.Prelude.{◌≡◌, ◌≢◌, ◌≤◌, ◌∷◌, [], true, IfOk, IfSome, None, OnOk, Some, pos};
 ghost use Rattle.gptp_acts.specs.Views.{ShowsLive};
+ghost use Rattle.gptp_acts.specs.World.{port_id};
 ghost use Rattle.gptp_kept.specs.Shown.{IsCapableInTime};
 ghost use Rattle.gptp_kept.specs.TimedLaws.{AreFollowUp};
+ghost use Rattle.gptp_messages.specs.Grammar.{Reads};
+ghost use Rattle.gptp_messages.specs.declared.announce.AnnounceView.{AnnounceView};
+ghost use Rattle.gptp_messages.specs.declared.message.Message.TheVariants as messages;
 ghost use Rattle.gptp_reached.specs.Headline.{LeavesOffset, UsesFollowUp};
 ghost use Rattle.gptp_roles.specs.declared.role.Role.TheVariants.{Disabled, Master, Slave};
 ghost use Rattle.gptp_scaled.specs.Counts.{AreWithin};
-ghost use Rattle.gptp_network_rows.specs.Pair.{HasBegun, IsPairAt, IsPairSince, each_second, first, pair_network, second};
+ghost use Rattle.gptp_network_rows.specs.Pair.{HasBegun, HearsAnnounce, HoldsFirstAlone, HoldsFromFirst, IsPairAt, IsPairSince};
+ghost use Rattle.gptp_network_rows.specs.Pair.{RunsOfTwoAreExact, WorldsOfTwoAreExact};
+ghost use Rattle.gptp_network_rows.specs.Pair.{each_second, first, following, leading, pair_network, second};
 
 use arrayvec::ArrayVec;
+use gptp_certificate::{Certificate, write_certificate};
 use gptp_links::Fate;
 use gptp_messages::{Message, decode};
+use gptp_reached::{runs_are_exact, worlds_are_exact};
 use gptp_roles::Role;
 use gptp_scaled::ScaledNs;
 use gptp_system::{Answer, System};
@@ -36,7 +44,16 @@ const PARAMS: Params = Params {
 /// When their ports are capable: after L + 5 announce intervals, L being 9.
 const CAPABLE: u64 = 14_000_000_000;
 
-/// When all has settled: after (k + 3) n + L + 5, k being 3, and n 2.
+/// When all that arrives was sent once ports were capable: an announce interval later.
+const HEARS: u64 = 15_000_000_000;
+
+/// When all that is held is wholly clean: after two turns of k + 1, k being 3, as no path has more than two systems.
+const WHOLE: u64 = 22_000_000_000;
+
+/// When a system one step away follows the first: two announce intervals later.
+const SOONER: u64 = 24_000_000_000;
+
+/// When all has settled: after (k + 3) n + L + 5, n being 2.
 const SETTLED: u64 = 26_000_000_000;
 
 /// Before the second hears the Sync that leaves the first at 27.125 s, and its Follow_Up. By then all has settled, and
@@ -141,6 +158,82 @@ pub fn follow_at_rest<F: Fate + Drop>(
 {
     let world = pair_at(alloc, fate, SETTLED)?;
     Ok(second_follows(&world))
+}
+
+/// What it follows, one step away from the best.
+fn second_follows_sooner<F: Fate + Drop>(world: &World<F>) -> Option<(Identity, u16, Option<u8>)>
+    requires { IsPairAt 24000000000 world.now.scene }
+    ensures { result ≡ Some (first, 1, Some 1) }
+{
+    let second = ClockId::from(2);
+    world.follows(second)
+}
+
+/// So it does two announce intervals sooner, by its distance. Refused for want of memory alone.
+pub fn follow_by_distance<F: Fate + Drop>(
+    alloc: Global,
+    fate: F,
+) -> Result<Option<(Identity, u16, Option<u8>)>, NetworkFault>
+    ensures { IfOk result (λ followed. followed ≡ Some (first, 1, Some 1)) }
+{
+    let world = pair_at(alloc, fate, SOONER)?;
+    Ok(second_follows_sooner(&world))
+}
+
+/// What it follows, as no path has more than two systems.
+fn second_follows_by_paths<F: Fate + Drop>(world: &World<F>) -> Option<(Identity, u16, Option<u8>)>
+    requires { IsPairAt 26000000000 world.now.scene }
+    ensures { result ≡ Some (first, 1, Some 1) }
+{
+    let second = ClockId::from(2);
+    world.follows(second)
+}
+
+/// So it does by how many systems paths have; of two that is no sooner. Refused for want of memory alone.
+pub fn follow_by_paths<F: Fate + Drop>(
+    alloc: Global,
+    fate: F,
+) -> Result<Option<(Identity, u16, Option<u8>)>, NetworkFault>
+    ensures { IfOk result (λ followed. followed ≡ Some (first, 1, Some 1)) }
+{
+    let world = pair_at(alloc, fate, SETTLED)?;
+    Ok(second_follows_by_paths(&world))
+}
+
+/// What both systems state.
+fn certify<F: Fate + Drop>(alloc: Global, world: &World<F>) -> Result<Certificate, NetworkFault>
+    requires { IsPairAt 26000000000 world.now.scene }
+    ensures { IfOk result (λ certificate. certificate.lines ≡ leading ∷ following ∷ []) }
+{
+    match write_certificate(alloc, world) {
+        Ok(certificate) => Ok(certificate),
+        Err(_) => Err(NetworkFault::OutOfMemory),
+    }
+}
+
+/// What both state once all has settled: that the second follows the first. Refused for want of memory alone.
+pub fn certify_at_rest<F: Fate + Drop>(alloc: Global, fate: F) -> Result<Certificate, NetworkFault>
+    ensures { IfOk result (λ certificate. certificate.lines ≡ leading ∷ following ∷ []) }
+{
+    let world = pair_at(alloc, fate, SETTLED)?;
+    certify(alloc, &world)
+}
+
+/// The world of both once all that is held is wholly clean. Refused for want of memory alone.
+pub fn whole<F: Fate + Drop>(alloc: Global, fate: F) -> Result<World<F>, NetworkFault>
+    ensures { IfOk result (λ world. IsPairAt 22000000000 world.scene) }
+{
+    pair_at(alloc, fate, WHOLE)
+}
+
+/// The second system then: what its port holds as received came from the first, over nothing between.
+pub fn second_then<F: Fate + Drop>(world: &World<F>) -> Option<&System>
+    requires { IsPairAt 22000000000 world.now.scene }
+    ensures alone { IfSome result (λ system. HoldsFirstAlone system.now) }
+    ensures from { IfSome result (λ system. HoldsFromFirst system.now) }
+{
+    world.well_formed();
+    world.system(ClockId::from(2))
 }
 
 /// The role of the first system's port.
@@ -317,4 +410,76 @@ pub fn exact_in_time<F: Fate + Drop>(
     let mut world = pair_at(alloc, fate, AWAITS)?;
     let _by_sync = receive(&mut world)?;
     receive(&mut world)
+}
+
+/// The port that an Announce came from.
+fn announcer(octets: &[u8]) -> Option<PortId>
+    ensures { IfSome result (λ source. (m : AnnounceView) × Reads octets.now (messages.Announce m)
+        × (source ≡ m.head.source)) }
+{
+    match decode(octets) {
+        Ok(Message::Announce(announce)) => Some(announce.head.source),
+        _ => None,
+    }
+}
+
+/// The port of the Announce that the second system heard by an act of which this is told.
+fn second_hears(done: &Done) -> Option<PortId>
+    ensures { IfSome result (λ source. (m : AnnounceView) × HearsAnnounce 2 m done.now × (source ≡ m.head.source)) }
+{
+    match done {
+        Done::Heard { clock, frame, .. } if *clock == ClockId::from(2) => {
+            announcer(frame.as_slice())
+        }
+        _ => None,
+    }
+}
+
+/// The next act is done. The port of the Announce that the second hears by it: the first's, as all that reaches a port was
+/// sent by the system at the other end.
+fn hear<F: Fate + Drop>(world: &mut World<F>) -> Result<Option<PortId>, NetworkFault>
+    requires { IsPairSince 15000000000 world.old.scene }
+    ensures since { OnOk result (IsPairSince 15000000000 world.new.scene) }
+    ensures clean { IfOk result (λ heard. IfSome heard (λ source. source ≡ port_id 1 1)) }
+{
+    world.well_formed();
+    let timed = match world.next() {
+        Some(timed) => timed,
+        None => return Ok(None),
+    };
+    if LAST < timed.at {
+        return Ok(None);
+    }
+    match world.act(timed) {
+        Ok(done) => Ok(second_hears(&done)),
+        Err(_) => Err(NetworkFault::OutOfMemory),
+    }
+}
+
+/// The port of the first Announce that the second hears from L + 6 announce intervals on, if it does so by these acts.
+/// Refused for want of memory alone.
+pub fn hear_in_time<F: Fate + Drop>(alloc: Global, fate: F) -> Result<Option<PortId>, NetworkFault>
+    ensures { IfOk result (λ heard. IfSome heard (λ source. source ≡ port_id 1 1)) }
+{
+    let mut world = pair_at(alloc, fate, HEARS)?;
+    for _act in 0..200 {
+        if let Some(source) = hear(&mut world)? {
+            return Ok(Some(source));
+        }
+    }
+    Ok(None)
+}
+
+/// By the theorem each act in a world of both leaves the second an offset that is exact but for rounding.
+pub fn worlds_of_two_are_exact<F: Fate>()
+    ensures { WorldsOfTwoAreExact F.answers }
+{
+    worlds_are_exact::<F>();
+}
+
+/// So does each act of a run of their document.
+pub fn runs_of_two_are_exact<F: Fate>()
+    ensures { RunsOfTwoAreExact F.answers }
+{
+    runs_are_exact::<F>();
 }

@@ -90,15 +90,53 @@ fn expect(
     Ok(())
 }
 
-/// That change at time 0.
-fn at_first(change: Change) -> Timed
-    ensures at { result.at ≡ 0 }
-    ensures act { result.act ≡ Act.Change change }
-{
-    Timed {
-        at: 0,
-        act: Act::Change(change),
+/// A change at time 0, and the links in use after it, by their numbers.
+#[derive(Drop)]
+struct Row {
+    step: &'static str,
+    change: Change,
+    wanted: &'static [usize],
+}
+
+/// The changes, in their order.
+fn row_at(number: usize) -> Row {
+    match number {
+        0 => Row {
+            step: "a system has failed",
+            change: Change::Fail { clock: clock(1) },
+            wanted: &[2],
+        },
+        1 => Row {
+            step: "a link is up",
+            change: Change::LinkUp {
+                clock: clock(3),
+                port: 2,
+            },
+            wanted: &[2, 3],
+        },
+        _ => Row {
+            step: "another is down",
+            change: Change::LinkDown {
+                clock: clock(2),
+                port: 2,
+            },
+            wanted: &[3],
+        },
     }
+}
+
+/// Makes the change of a row, and expects its links.
+fn change(
+    rt: &impl Abort,
+    alloc: Global,
+    world: &mut World<PcgFate>,
+    row: Row,
+) -> Result<(), Fail> {
+    world.act(Timed {
+        at: 0,
+        act: Act::Change(row.change),
+    })?;
+    expect(rt, alloc, world, row.step, row.wanted)
 }
 
 #[test]
@@ -106,18 +144,9 @@ fn links_in_use_are_up_between_live_systems(rt: HostRuntime) -> Result<(), Fail>
     let alloc = rt.alloc();
     let mut world = World::new(alloc, &line(alloc)?, PcgFate::new(1))?;
     expect(&rt, alloc, &world, "at first", &[1, 2])?;
-    world.act(at_first(Change::Fail { clock: clock(1) }))?;
-    expect(&rt, alloc, &world, "a system has failed", &[2])?;
-    world.act(at_first(Change::LinkUp {
-        clock: clock(3),
-        port: 2,
-    }))?;
-    expect(&rt, alloc, &world, "a link is up", &[2, 3])?;
-    world.act(at_first(Change::LinkDown {
-        clock: clock(2),
-        port: 2,
-    }))?;
-    expect(&rt, alloc, &world, "another is down", &[3])?;
+    for number in 0..3 {
+        change(&rt, alloc, &mut world, row_at(number))?;
+    }
     same(&rt, world.link_at(usize::MAX), None);
     Ok(())
 }

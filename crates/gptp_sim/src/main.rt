@@ -1,4 +1,4 @@
-//! The simulator's program: the commands `run`, `check` and `compare` of [`gptp_commands`].
+//! The simulator's program: the commands of [`gptp_commands`].
 #![tactic(auto)]
 
 use gptp_commands::command;

@@ -1,5 +1,5 @@
 -- How exact the time is that each live system gets, after the events of a document up to a time (profile).
-use Rattle.std.specs.Prelude.{◌≡◌, ◌⊎◌, ◌<◌, ◌≤◌, ℕ, ◌+◌, ◌*◌, ◌/◌, ◌^◌, Bool, true, false, not, ◌&&◌, nat_lt, if◌then◌else◌, ⊤, List, take, Option, Some, None, map, slice_get}
+use Rattle.std.specs.Prelude.{◌≡◌, ◌⊎◌, ◌<◌, ◌≤◌, ℕ, ◌+◌, ◌*◌, ◌/◌, ◌^◌, Bool, true, false, not, ◌&&◌, nat_lt, if◌then◌else◌, List, take, Option, Some, None, map, slice_get}
 use Rattle.gptp_lists.specs.Members.{In}
 use Rattle.gptp_graph.specs.Distance.{IsDistance}
 use Rattle.gptp_graph.specs.Labelling.{SystemLine, line_clocks}
@@ -13,9 +13,6 @@ use Rattle.gptp_plan.specs.SyncWait.{sync_paths}
 use Rattle.gptp_plan.specs.declared.change.Timed.{Timed}
 use Rattle.gptp_network.specs.Document.{DocumentState}
 use Rattle.gptp_network.specs.Snapshot.{IsSnapshot, events_by}
-use Rattle.gptp_choice.specs.Choice.{IsRefused}
-use Rattle.gptp_choice.specs.declared.fault.ChoiceFault.{ChoiceFault}
-use Rattle.gptp_choice.specs.declared.fault.ChoiceFault.TheVariants.{NotAccepted, OutOfMemory, Unread}
 use Rattle.gptp_accuracy.specs.TimeError.{Way, time_error}
 use Rattle.gptp_time_error.specs.Ways.{IsWay}
 use Rattle.gptp_time_error.specs.declared.errors.SystemError.{SystemError}
@@ -85,16 +82,6 @@ pub record IsExact (n : NetworkState) (events : List Timed) (g : Snapshot) (s : 
 pub record AreExact (n : NetworkState) (events : List Timed) (g : Snapshot) (systems : List SystemError) : Type 0 where
   pub clocks : map (λ (s : SystemError). s.clock) systems ≡ clocks g
   pub each : (s : SystemError) → In s systems → IsExact n events g s
-
--- why there are none, where the search for the settled choice went wrong
-abbrev pub RefusesAt : DocumentState → ℕ → ChoiceFault → Type 0
-RefusesAt d until fault = (g : Snapshot) × IsSnapshot d until g × IsWellFormed g × IsRefused g fault
-
--- the same, or want of memory
-abbrev pub IsRefusedAt : DocumentState → ℕ → ChoiceFault → Type 0
-IsRefusedAt d until OutOfMemory = ⊤
-IsRefusedAt d until (Unread fault) = RefusesAt d until (Unread fault)
-IsRefusedAt d until (NotAccepted fault) = RefusesAt d until (NotAccepted fault)
 
 -- What is said of a document at a time: the last time of its events until then, from when on the errors hold, and the
 -- errors of all systems that live then.

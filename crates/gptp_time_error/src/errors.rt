@@ -1,6 +1,6 @@
 //! The time errors of all systems of a document.
 
-ghost use Rattle.std.specs.Prelude.{◌≡◌, ◌+◌, ◌≤◌, ◌<◌, ℕ, length, IfErr, IfOk, OnOk, map};
+ghost use Rattle.std.specs.Prelude.{◌≡◌, ◌+◌, ◌≤◌, ◌<◌, ℕ, length, IfOk, OnOk, map};
 ghost use Rattle.gptp_lists.specs.Members.{In};
 ghost use Rattle.gptp_graph.specs.Labelling.{line_clocks};
 ghost use Rattle.gptp_plan.specs.Allowed.{AreAllowed};
@@ -8,12 +8,12 @@ ghost use Rattle.gptp_plan.specs.Calm.{last_change};
 ghost use Rattle.gptp_network.specs.Events.{AreInOrder};
 ghost use Rattle.gptp_network.specs.Snapshot.{StandsAfter, events_by};
 ghost use Rattle.gptp_certificate_text.specs.Certificate.{line_of};
-ghost use Rattle.gptp_time_error.specs.TimeErrors.{AreEntries, AreTimeErrors, IsFrom, IsRefusedAt, IsSystemOf, error_of, exact_from};
+ghost use Rattle.gptp_time_error.specs.TimeErrors.{AreEntries, AreTimeErrors, IsFrom, IsSystemOf, error_of, exact_from};
 
 use crate::sums::Sums;
 use crate::ways::sums_of_all;
 use gptp_certificate_text::{Certificate, SystemLine};
-use gptp_choice::{ChoiceFault, settled_choice};
+use gptp_choice::settled_choice;
 use gptp_network::{Document, Snapshot};
 use gptp_plan::{Network, Timed};
 use gptp_vector::{ClockId, Identity};
@@ -156,17 +156,9 @@ fn systems_of(
 }
 
 /// How exact the time is that each live system gets, of the network of a document as it stands after all events with
-/// time up to `until`, in ns.
-///
-/// Errors are those of [`settled_choice`]: [`ChoiceFault::OutOfMemory`]; the others don't come where its search is
-/// right.
-pub fn time_errors(
-    alloc: Global,
-    document: &Document,
-    until: u64,
-) -> Result<TimeErrors, ChoiceFault>
-    ensures errors { IfOk result (AreTimeErrors document.now until) }
-    ensures refused { IfErr result (IsRefusedAt document.now until) }
+/// time up to `until`, in ns. The only error is that memory ran out.
+pub fn time_errors(alloc: Global, document: &Document, until: u64) -> Result<TimeErrors, AllocError>
+    ensures { IfOk result (AreTimeErrors document.now until) }
 {
     document.well_formed();
     let network = document.network();

@@ -1,6 +1,6 @@
 -- Where a stretch has a bound and lasts as long, the roots that are followed where it ends are those of the settled
 -- choice.
-use Rattle.std.proofs.Common.{◌≡◌, ◌≤◌, ◌+◌, ℕ, Bool, List, [], ◌∷◌, ◌++◌, map, Option, Some, None, inl, inr, refl, sym, ap, subst, ◌∙◌, arith}
+use Rattle.std.proofs.Common.{◌≡◌, ◌≤◌, ◌+◌, ℕ, Bool, List, [], ◌∷◌, ◌++◌, map, Option, Some, None, inl, inr, refl, sym, ap, subst, ◌∙◌, arith, true}
 use Rattle.gptp_acts.specs.Views.{rising_clocks}
 use Rattle.gptp_acts.specs.World.{WorldState}
 use Rattle.gptp_graph.specs.Distance.{IsNear}
@@ -164,20 +164,20 @@ module _ {F : Type 0} (answers : Bounds → ℕ → F → Option ℕ → F → T
           let live = found_live name w.stations s is in
           subst (λ c. In c names) live.is_named (keeps.named.each live.place live.station live.here)
 
-  pub follow_there : (until : ℕ) (passages : List Passage) (fate fate_after : F) (start after : WorldState)
-      (p : Passage) (bound : ℕ) (g : Snapshot) → Keeps answers d playable names [] start
-      → AllPass answers d until 0 (events_by until d.events) fate fate_after start after passages → In p passages
+  pub follow_there : (exact : Bool) (until : ℕ) (passages : List Passage) (fate fate_after : F)
+      (start after : WorldState) (p : Passage) (bound : ℕ) (g : Snapshot) → Keeps answers d playable names [] start
+      → AllPass answers exact d until 0 (events_by until d.events) fate fate_after start after passages → In p passages
       → p.bound ≡ Some bound → (IsSpan d p.from bound → p.from + bound ≤ p.to) → IsSnapshot d p.from g
       → AreRoots g (roots_of (map (λ name. shown name p.after) names))
-  follow_there until passages fate fate_after start after p bound g keeps pass member bounded lasts at_begin =
-      let b = begins answers d playable names until passages 0 [] (events_by until d.events) fate fate_after start after
-      p (left_first answers d playable names until) keeps pass member in
+  follow_there exact until passages fate fate_after start after p bound g keeps pass member bounded lasts at_begin =
+      let b = begins answers d playable names exact until passages 0 [] (events_by until d.events) fate fate_after start
+      after p (left_first answers d playable names until) keeps pass member in
       let events = b.before ++ now_of b.from b.left in
       let are : events_by b.from d.events ≡ events =
       events_then answers d playable names until b.from b.before b.left b.is_left in
       let is = b.passage.from_is in
-      let at_end = keeps_one answers d playable names until b.from b.before b.left b.fate b.fate_after b.w p b.is_left
-      b.keeps b.passage in
+      let at_end = keeps_one answers d playable names exact until b.from b.before b.left b.fate b.fate_after b.w p
+      b.is_left b.keeps b.passage in
       let bounds : IsBound d b.from (Some bound) = subst (IsBound d b.from) bounded b.passage.bound_is in
       let span = bounds.1 in
       let late = lasts (subst (λ time. IsSpan d time bound) (sym is) span) in
@@ -201,5 +201,5 @@ pub stretches_follow : {F : Type 0} (answers : Bounds → ℕ → F → Option �
     → AreRoots g (roots_of (map (λ name. shown name p.after) (rising_clocks t.start)))
 stretches_follow answers d until options fate lines exceeded t p bound g playable member bounded late =
     let names = rising_clocks t.start in
-    follow_there answers d playable names until t.passages t.started t.fate_after t.start t.after p bound g
+    follow_there answers d playable names true until t.passages t.started t.fate_after t.start t.after p bound g
     (keeps_first answers d playable names fate t.started t.start refl t.begun) t.pass member bounded (λ span. late)

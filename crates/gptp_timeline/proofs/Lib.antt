@@ -18,6 +18,7 @@ pub mod ReceiptLemmas
 pub mod ActStepLemmas
 pub mod EventLemmas
 pub mod CountLemmas
+pub mod RootLemmas
 pub mod HeardLemmas
 pub mod ChainStepLemmas
 pub mod KeptLemmas

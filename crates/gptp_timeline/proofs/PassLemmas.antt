@@ -21,7 +21,7 @@ use Rattle.gptp_timeline.specs.LastTwo.{all_kept, end_in, end_of, kept_after, no
 use Rattle.gptp_timeline.specs.Passing.{first_time, IsSeen, IsSeenSoFar, StopsSeen}
 use Rattle.gptp_timeline.specs.Stretch.{roots_of, shown_of_all, waits}
 use Rattle.gptp_timeline.specs.StretchText.{after_line, ended_stretch}
-use Rattle.gptp_timeline.specs.Timeline.{act_lines, all_lines, AllPass, AreErrorsBy, end_before, end_lines, ended_of, exact_time, is_begun, kept_accuracy, IsPassage, IsPlan, later_than, none_waits, now_of, Passage, passage_lines, SomePass}
+use Rattle.gptp_timeline.specs.Timeline.{act_lines, all_lines, AllPass, AreErrorsIf, end_before, end_lines, ended_of, exact_time, is_begun, kept_accuracy, IsPassage, IsPlan, later_than, none_waits, now_of, Passage, passage_lines, SomePass}
 use Rattle.gptp_timeline.specs.Watch.{begun, tells_changes, WatchState}
 use Rattle.gptp_timeline.specs.declared.ends.Kept.{Kept}
 use Rattle.gptp_timeline.specs.declared.measures.Measures.{Measures}
@@ -105,17 +105,17 @@ module _ {F : Type 0} (answers : Bounds → ℕ → F → Option ℕ → F → T
 
 -- ---- several stretches
 
-module _ {F : Type 0} (answers : Bounds → ℕ → F → Option ℕ → F → Type 0) (d : DocumentState) (until : ℕ)
+module _ {F : Type 0} (answers : Bounds → ℕ → F → Option ℕ → F → Type 0) (exact : Bool) (d : DocumentState) (until : ℕ)
     (options : TimelineOptions) (names : List ℕ) (events : List Timed) (fate : F) (w : WorldState) where
   -- Stretches passed, the first from 0 on with these events; the next begins at a time with those that are left.
   pub record Gone (from : ℕ) (left : List Timed) (drawn : F) (between : WorldState) (kept : Kept)
       (since : ℕ → Option ℕ) (lines : List (List ℕ)) : Type 0 where
     pub passages : List Passage
     pub more : (q : Passage) (qs : List Passage) (fate_after : F) (w' : WorldState)
-        → AllPass answers d until from left drawn fate_after between w' (q ∷ qs)
-        → AllPass answers d until 0 events fate fate_after w w' (passages ++ q ∷ qs)
-    pub some : (qs : List Passage) (ts : List Transition) → SomePass answers d until from left drawn between qs ts
-        → SomePass answers d until 0 events fate w (passages ++ qs) ts
+        → AllPass answers exact d until from left drawn fate_after between w' (q ∷ qs)
+        → AllPass answers exact d until 0 events fate fate_after w w' (passages ++ q ∷ qs)
+    pub some : (qs : List Passage) (ts : List Transition) → SomePass answers exact d until from left drawn between qs ts
+        → SomePass answers exact d until 0 events fate w (passages ++ qs) ts
     pub lines_are : (qs : List Passage)
         → lines ++ all_lines options names since qs ≡ all_lines options names none_waits (passages ++ qs)
     pub kept_is : (qs : List Passage) → all_kept options.limits names since qs kept
@@ -133,7 +133,7 @@ module _ {F : Type 0} (answers : Bounds → ℕ → F → Option ℕ → F → T
   -- all stretches passed, to these lines
   pub record AllGone (fate_after : F) (w' : WorldState) (verdict : Kept) (all : List (List ℕ)) : Type 0 where
     pub passages : List Passage
-    pub pass : AllPass answers d until 0 events fate fate_after w w' passages
+    pub pass : AllPass answers exact d until 0 events fate fate_after w w' passages
     pub verdict_is : verdict ≡ all_kept options.limits names none_waits passages none_kept
     pub are : all ≡ all_lines options names none_waits passages
 
@@ -141,14 +141,14 @@ module _ {F : Type 0} (answers : Bounds → ℕ → F → Option ℕ → F → T
   pub record SomeGone (some_lines : List (List ℕ)) : Type 0 where
     pub passages : List Passage
     pub acts : List Transition
-    pub pass : SomePass answers d until 0 events fate w passages acts
+    pub pass : SomePass answers exact d until 0 events fate w passages acts
     pub are : some_lines
         ≡ all_lines options names none_waits passages ++ flat_map (act_lines options names) acts
 
   -- one stretch more behind which another comes
   module _ (from to : ℕ) (left : List Timed) (drawn next : F) (between : WorldState) (kept : Kept)
       (since : ℕ → Option ℕ) (lines : List (List ℕ)) (gone : Gone from left drawn between kept since lines)
-      (p : Passage) (passage : IsPassage answers d until from left drawn next between p)
+      (p : Passage) (passage : IsPassage answers exact d until from left drawn next between p)
       (is : first_time (later_than from left) ≡ Some to) where
     to_is : p.to ≡ to
     to_is = passage.to_is ∙ ends_before until (later_than from left) to is
@@ -161,20 +161,21 @@ module _ {F : Type 0} (answers : Bounds → ℕ → F → Option ℕ → F → T
         (lines ++ passage_lines options names since p)
     gone_more = record {
       passages = gone.passages ++ p ∷ [];
-      more = λ q qs fate_after w' all. subst (AllPass answers d until 0 events fate fate_after w w') (behind (q ∷ qs))
+      more = λ q qs fate_after w' all.
+          subst (AllPass answers exact d until 0 events fate fate_after w w') (behind (q ∷ qs))
           (gone.more p (q ∷ qs) fate_after w' (
             next,
             passage,
             some_left (later_than from left) to is,
-            subst (λ t. AllPass answers d until t (later_than from left) next fate_after p.after w' (q ∷ qs))
+            subst (λ t. AllPass answers exact d until t (later_than from left) next fate_after p.after w' (q ∷ qs))
                 (sym to_is)
                 all,
           ));
-      some = λ qs ts rest. subst (λ ps. SomePass answers d until 0 events fate w ps ts) (behind qs)
+      some = λ qs ts rest. subst (λ ps. SomePass answers exact d until 0 events fate w ps ts) (behind qs)
           (gone.some (p ∷ qs) ts (
             next,
             passage,
-            subst (λ t. SomePass answers d until t (later_than from left) next p.after qs ts) (sym to_is) rest,
+            subst (λ t. SomePass answers exact d until t (later_than from left) next p.after qs ts) (sym to_is) rest,
           ));
       lines_are = λ qs. append_assoc lines (passage_lines options names since p)
           (all_lines options names (waits p.acts since) qs)
@@ -187,7 +188,7 @@ module _ {F : Type 0} (answers : Bounds → ℕ → F → Option ℕ → F → T
   -- the last of them
   module _ (from : ℕ) (left : List Timed) (drawn : F) (between : WorldState) (kept : Kept)
       (since : ℕ → Option ℕ) (lines : List (List ℕ)) (gone : Gone from left drawn between kept since lines) where
-    pub gone_all : (p : Passage) (next : F) → IsPassage answers d until from left drawn next between p
+    pub gone_all : (p : Passage) (next : F) → IsPassage answers exact d until from left drawn next between p
         → later_than from left ≡ []
         → AllGone next p.after (kept_after options.limits (end_in names since p) kept)
         (lines ++ passage_lines options names since p)
@@ -209,7 +210,7 @@ module _ {F : Type 0} (answers : Bounds → ℕ → F → Option ℕ → F → T
         ∙ ap (λ front. front ++ flat_map (act_lines options names) ts) (gone.lines_are qs)
 
     some_gone : (qs : List Passage) (ts : List Transition) (more : List (List ℕ))
-        → SomePass answers d until from left drawn between qs ts
+        → SomePass answers exact d until from left drawn between qs ts
         → more ≡ all_lines options names since qs ++ flat_map (act_lines options names) ts → SomeGone (lines ++ more)
     some_gone qs ts more pass are = record {
       passages = gone.passages ++ qs;
@@ -232,7 +233,7 @@ module _ {F : Type 0} (answers : Bounds → ℕ → F → Option ℕ → F → T
     gone_on ts told courses are = some_gone [] ts told courses are
 
     -- where it ends
-    pub gone_to_end : (p : Passage) (next : F) → IsPassage answers d until from left drawn next between p
+    pub gone_to_end : (p : Passage) (next : F) → IsPassage answers exact d until from left drawn next between p
         → SomeGone (lines ++ passage_lines options names since p)
     gone_to_end p next passage =
         some_gone (p ∷ []) [] (passage_lines options names since p) (
@@ -258,19 +259,19 @@ passage_of plan now acts after = record {
   errors = plan.errors;
 }
 
-module _ {F : Type 0} (answers : Bounds → ℕ → F → Option ℕ → F → Type 0) (d : DocumentState) (until from to : ℕ)
-    (left : List Timed) (to_is : to ≡ end_before until (later_than from left)) (plan : Plan)
-    (known : IsPlan d from to (is_begun (now_of from left)) plan) where
+module _ {F : Type 0} (answers : Bounds → ℕ → F → Option ℕ → F → Type 0) (exact : Bool) (d : DocumentState)
+    (until from to : ℕ) (left : List Timed) (to_is : to ≡ end_before until (later_than from left)) (plan : Plan)
+    (known : IsPlan exact d from to (is_begun (now_of from left)) plan) where
   pub is_passage : (fate fate_after : F) (w w' : WorldState) (acts : List Transition)
       → Courses answers plan.to (now_of from left) acts fate fate_after w w'
-      → IsPassage answers d until from left fate fate_after w (passage_of plan (now_of from left) acts w')
+      → IsPassage answers exact d until from left fate fate_after w (passage_of plan (now_of from left) acts w')
   is_passage fate fate_after w w' acts courses = record {
     from_is = known.from_is;
     to_is = known.to_is ∙ to_is;
     events_are = refl;
     courses = courses;
     bound_is = known.bound_is;
-    errors_are = subst (λ t. AreErrorsBy d from t plan.errors) (sym known.to_is) known.errors_are;
+    errors_are = subst (λ t. AreErrorsIf exact d from t plan.errors) (sym known.to_is) known.errors_are;
   }
 
   pub some_acts : (fate : F) (w : WorldState) (acts : List Transition)
@@ -351,14 +352,14 @@ module _ {F : Type 0} (answers : Bounds → ℕ → F → Option ℕ → F → T
 
 -- ---- all stretches before an observer
 
-module _ {F : Type 0} (answers : Bounds → ℕ → F → Option ℕ → F → Type 0) (d : DocumentState) (until : ℕ)
+module _ {F : Type 0} (answers : Bounds → ℕ → F → Option ℕ → F → Type 0) (exact : Bool) (d : DocumentState) (until : ℕ)
     (options : TimelineOptions) (names : List ℕ) (events : List Timed) (fate : F) (w : WorldState) where
   -- Stretches passed; the observer is where the next can begin, and this is so of the text of them.
   pub record GoneSeen (from : ℕ) (left : List Timed) (drawn : F) (between : WorldState) (kept : Kept)
       (o : WatchState) (So : List ℕ → Type 0) : Type 0 where
     pub since : ℕ → Option ℕ
     pub lines : List (List ℕ)
-    pub gone : Gone answers d until options names events fate w from left drawn between kept since lines
+    pub gone : Gone answers exact d until options names events fate w from left drawn between kept since lines
     pub rests : Rests options names since between o
     pub so : So (text_of lines)
 
@@ -367,7 +368,7 @@ module _ {F : Type 0} (answers : Bounds → ℕ → F → Option ℕ → F → T
   seen_none o So rests so = record {
     since = none_waits;
     lines = [];
-    gone = gone_none answers d until options names events fate w;
+    gone = gone_none answers exact d until options names events fate w;
     rests = rests;
     so = so;
   }
@@ -382,7 +383,7 @@ module _ {F : Type 0} (answers : Bounds → ℕ → F → Option ℕ → F → T
 
     -- it passed
     module _ (plan : Plan) (next : F) (after : WorldState) (o_after : WatchState) (told : List (List ℕ))
-        (verdict : Kept) (known : IsPlan d from to (is_begun (now_of from left)) plan)
+        (verdict : Kept) (known : IsPlan exact d from to (is_begun (now_of from left)) plan)
         (seen : IsSeen answers plan (now_of from left) drawn next between after o o_after told)
         (verdict_is : verdict ≡ kept_after options.limits (end_of plan o_after) kept)
         (so : Second (text_of (told ++ end_lines plan o_after))) where
@@ -411,13 +412,13 @@ module _ {F : Type 0} (answers : Bounds → ℕ → F → Option ℕ → F → T
       seen_more is = record {
         since = waits seen.acts so_far.since;
         lines = so_far.lines ++ passage_lines options names so_far.since passed;
-        gone = subst (λ e. Gone answers d until options names events fate w to (later_than from left) next after e
+        gone = subst (λ e. Gone answers exact d until options names events fate w to (later_than from left) next after e
             (waits seen.acts so_far.since) (so_far.lines ++ passage_lines options names so_far.since passed))
             (sym verdict_so)
-            (gone_more answers d until options names events fate w from to left drawn next between kept
+            (gone_more answers exact d until options names events fate w from to left drawn next between kept
             so_far.since so_far.lines so_far.gone passed
-            (is_passage answers d until from to left (sym (ends_before until (later_than from left) to is)) plan known
-            drawn next between after seen.acts seen.courses) is);
+            (is_passage answers exact d until from to left (sym (ends_before until (later_than from left) to is)) plan
+            known drawn next between after seen.acts seen.courses) is);
         rests = seen_rests answers options names so_far.since plan (now_of from left) drawn between o so_far.rests next
             after o_after told seen known.begins_is;
         so = both_so;
@@ -425,15 +426,15 @@ module _ {F : Type 0} (answers : Bounds → ℕ → F → Option ℕ → F → T
 
       -- and it is the last
       pub seen_all : later_than from left ≡ [] → to ≡ until
-          → (passages : List Passage) × AllPass answers d until 0 events fate next w after passages
+          → (passages : List Passage) × AllPass answers exact d until 0 events fate next w after passages
           × (verdict ≡ all_kept options.limits names none_waits passages none_kept)
           × Both (text_of (all_lines options names none_waits passages))
       seen_all none last =
           let ends : to ≡ end_before until (later_than from left) = last ∙ ap (end_before until) (sym none) in
-          let all = gone_all answers d until options names events fate w from left drawn between kept
+          let all = gone_all answers exact d until options names events fate w from left drawn between kept
           so_far.since so_far.lines so_far.gone passed next
-          (is_passage answers d until from to left ends plan known drawn next between after seen.acts seen.courses) none
-          in (
+          (is_passage answers exact d until from to left ends plan known drawn next between after seen.acts
+          seen.courses) none in (
             all.passages,
             all.pass,
             verdict_so ∙ all.verdict_is,
@@ -442,16 +443,16 @@ module _ {F : Type 0} (answers : Bounds → ℕ → F → Option ℕ → F → T
 
     -- it breaks off
     pub seen_some : (lines : List (List ℕ)) → to ≡ end_before until (later_than from left)
-        → StopsSeen answers d from to (now_of from left) drawn between o lines → Second (text_of lines)
+        → StopsSeen answers exact d from to (now_of from left) drawn between o lines → Second (text_of lines)
         → (passages : List Passage) × (acts : List Transition)
-        × SomePass answers d until 0 events fate w passages acts
+        × SomePass answers exact d until 0 events fate w passages acts
         × Both (text_of (all_lines options names none_waits passages ++ flat_map (act_lines options names) acts))
     seen_some lines ends stops so = by stops
       where
         some_of : (more : List (List ℕ)) → lines ≡ more
-            → SomeGone answers d until options names events fate w (so_far.lines ++ more)
+            → SomeGone answers exact d until options names events fate w (so_far.lines ++ more)
             → (passages : List Passage) × (acts : List Transition)
-            × SomePass answers d until 0 events fate w passages acts
+            × SomePass answers exact d until 0 events fate w passages acts
             × Both (text_of (all_lines options names none_waits passages ++ flat_map (act_lines options names) acts))
         some_of more are some = (
           some.passages,
@@ -460,19 +461,19 @@ module _ {F : Type 0} (answers : Bounds → ℕ → F → Option ℕ → F → T
           subst (λ xs. Both (text_of xs)) (ap (λ xs. so_far.lines ++ xs) are ∙ some.are) (joined lines so),
         )
 
-        by : StopsSeen answers d from to (now_of from left) drawn between o lines
+        by : StopsSeen answers exact d from to (now_of from left) drawn between o lines
             → (passages : List Passage) × (acts : List Transition)
-            × SomePass answers d until 0 events fate w passages acts
+            × SomePass answers exact d until 0 events fate w passages acts
             × Both (text_of (all_lines options names none_waits passages ++ flat_map (act_lines options names) acts))
         by (inl none) =
             some_of [] none
-            (gone_no_further answers d until options names events fate w from left drawn between kept
+            (gone_no_further answers exact d until options names events fate w from left drawn between kept
             so_far.since so_far.lines so_far.gone)
         by (inr (plan, known, inl some)) =
             some_of lines refl
-            (gone_on answers d until options names events fate w from left drawn between kept so_far.since
+            (gone_on answers exact d until options names events fate w from left drawn between kept so_far.since
             so_far.lines so_far.gone some.acts lines
-            (some_acts answers d until from to left ends plan known drawn between some.acts some.courses)
+            (some_acts answers exact d until from to left ends plan known drawn between some.acts some.courses)
             (seen_so_far answers options names so_far.since plan (now_of from left) drawn between o so_far.rests lines
             some))
         by (inr (plan, known, inr whole)) =
@@ -481,7 +482,7 @@ module _ {F : Type 0} (answers : Bounds → ℕ → F → Option ℕ → F → T
             (whole.are
             ∙ seen_lines answers options names so_far.since plan (now_of from left) drawn between o so_far.rests
             whole.fate_after whole.after whole.o_after whole.told whole.seen known.begins_is)
-            (gone_to_end answers d until options names events fate w from left drawn between kept so_far.since
+            (gone_to_end answers exact d until options names events fate w from left drawn between kept so_far.since
             so_far.lines so_far.gone (passage_of plan (now_of from left) whole.seen.acts whole.after) whole.fate_after
-            (is_passage answers d until from to left ends plan known drawn whole.fate_after between whole.after
+            (is_passage answers exact d until from to left ends plan known drawn whole.fate_after between whole.after
             whole.seen.acts whole.seen.courses))

@@ -471,10 +471,11 @@ module _ {F : Type 0} (answers : Bounds → ℕ → F → Option ℕ → F → T
 
   -- ---- the stretches of a timeline
 
-  module _ (until : ℕ) where
+  module _ (exact : Bool) (until : ℕ) where
     settles_one : (from : ℕ) (before left : List Timed) (fate fate_after : F) (w : WorldState) (p : Passage) (bound : ℕ)
         → IsLeft until from before left → Keeps before w
-        → IsPassage answers d until from left fate fate_after w p → p.bound ≡ Some bound → AllNear (snapshot_of p.after)
+        → IsPassage answers exact d until from left fate fate_after w p → p.bound ≡ Some bound
+        → AllNear (snapshot_of p.after)
         → StillBehind (p.from + bound) p.acts
     settles_one from before left fate fate_after w p bound is keeps passage bounded_by near =
         let bounds : IsBound d from (Some bound) = subst (IsBound d from) bounded_by passage.bound_is in
@@ -495,7 +496,7 @@ module _ {F : Type 0} (answers : Bounds → ℕ → F → Option ℕ → F → T
 
     pub keeps_one : (from : ℕ) (before left : List Timed) (fate fate_after : F) (w : WorldState) (p : Passage)
         → IsLeft until from before left → Keeps before w
-        → IsPassage answers d until from left fate fate_after w p
+        → IsPassage answers exact d until from left fate fate_after w p
         → Keeps (before ++ now_of from left) p.after
     keeps_one from before left fate fate_after w p is keeps passage =
         keeps_courses before (now_of from left) p.to p.acts fate fate_after w p.after
@@ -513,11 +514,11 @@ module _ {F : Type 0} (answers : Bounds → ℕ → F → Option ℕ → F → T
       pub w : WorldState
       pub is_left : IsLeft until from before left
       pub keeps : Keeps before w
-      pub passage : IsPassage answers d until from left fate fate_after w p
+      pub passage : IsPassage answers exact d until from left fate fate_after w p
 
     pub begins : (passages : List Passage) (from : ℕ) (before left : List Timed) (fate fate_after : F)
         (w w' : WorldState) (p : Passage) → IsLeft until from before left → Keeps before w
-        → AllPass answers d until from left fate fate_after w w' passages → In p passages → Begins p
+        → AllPass answers exact d until from left fate fate_after w w' passages → In p passages → Begins p
     begins [] from before left fate fate_after w w' p is keeps pass member = absurd pass
     begins (q ∷ []) from before left fate fate_after w w' p is keeps (passage, none, ends) (inl same) = record {
       from = from;
@@ -528,7 +529,7 @@ module _ {F : Type 0} (answers : Bounds → ℕ → F → Option ℕ → F → T
       w = w;
       is_left = is;
       keeps = keeps;
-      passage = subst (IsPassage answers d until from left fate fate_after w) (sym same) passage;
+      passage = subst (IsPassage answers exact d until from left fate fate_after w) (sym same) passage;
     }
     begins (q ∷ []) from before left fate fate_after w w' p is keeps pass (inr member) = absurd member
     begins (q ∷ (r ∷ rs)) from before left fate fate_after w w' p is keeps (drawn, passage, some, rest) (inl same) =
@@ -541,7 +542,7 @@ module _ {F : Type 0} (answers : Bounds → ℕ → F → Option ℕ → F → T
           w = w;
           is_left = is;
           keeps = keeps;
-          passage = subst (IsPassage answers d until from left fate drawn w) (sym same) passage;
+          passage = subst (IsPassage answers exact d until from left fate drawn w) (sym same) passage;
         }
     begins (q ∷ (r ∷ rs)) from before left fate fate_after w w' p is keeps (drawn, passage, some, rest)
         (inr member) =
@@ -564,10 +565,10 @@ pub stretches_settle : {F : Type 0} (answers : Bounds → ℕ → F → Option �
     × IfSome (behind p.from (stretch_of names since p).measures.roles) (λ time. time ≤ bound)
 stretches_settle answers d until options fate lines exceeded t p bound names since playable member bounded_by near =
     let clocks = rising_clocks t.start in
-    let b = begins answers d playable clocks until t.passages 0 [] (events_by until d.events) t.started t.fate_after
-    t.start t.after p (left_first answers d playable clocks until)
+    let b = begins answers d playable clocks true until t.passages 0 [] (events_by until d.events) t.started
+    t.fate_after t.start t.after p (left_first answers d playable clocks until)
     (keeps_first answers d playable clocks fate t.started t.start refl t.begun) t.pass member in
-    let still = settles_one answers d playable clocks until b.from b.before b.left b.fate b.fate_after b.w p bound
+    let still = settles_one answers d playable clocks true until b.from b.before b.left b.fate b.fate_after b.w p bound
     b.is_left b.keeps b.passage bounded_by near in (
       within_bound p.from bound _ (last_choice names (p.from + bound) p.acts still),
       within_bound p.from bound _ (last_roles names (p.from + bound) p.acts still),

@@ -1,5 +1,5 @@
 -- The text of a timeline: its start, its stretches and its verdict.
-use Rattle.std.proofs.Common.{◌≡◌, ℕ, Bool, List, [], ◌++◌, Option, inl, inr, refl, sym, ap, subst, ◌∙◌, append-nil, append_assoc}
+use Rattle.std.proofs.Common.{◌≡◌, ℕ, Bool, List, [], ◌++◌, Option, inl, inr, refl, sym, ap, subst, ◌∙◌, append-nil, append_assoc, true}
 use Rattle.std.specs.Io.KnownBytes.{Appends}
 use Rattle.std.specs.List.{flat_map}
 use Rattle.gptp_acts.specs.Course.{Begun}
@@ -79,7 +79,7 @@ module _ {F : Type 0} (answers : Bounds → ℕ → F → Option ℕ → F → T
   module _ (written : Appends old first (text_of (start_lines options (rising_clocks start) start))) where
     -- stretches pass, and then it breaks off
     pub stretches_begun : (passages : List Passage) × (acts : List Transition)
-        × SomePass answers d until 0 (events_by until d.events) started start passages acts
+        × SomePass answers true d until 0 (events_by until d.events) started start passages acts
         × AppendsSome first new (text_of (all_lines options (rising_clocks start) none_waits passages
         ++ flat_map (act_lines options (rising_clocks start)) acts))
         → (lines : List (List ℕ)) × BeginsTimeline answers d until options fate lines
@@ -103,7 +103,7 @@ module _ {F : Type 0} (answers : Bounds → ℕ → F → Option ℕ → F → T
 
     -- all do
     module _ (fate_after : F) (after : WorldState) (verdict : Exceeded) (passages : List Passage)
-        (pass : AllPass answers d until 0 (events_by until d.events) started fate_after start after passages)
+        (pass : AllPass answers true d until 0 (events_by until d.events) started fate_after start after passages)
         (verdict_is : verdict ≡ all_exceeded options.limits (rising_clocks start) none_waits passages not_exceeded)
         (passed : Appends first second (text_of (all_lines options (rising_clocks start) none_waits passages))) where
       timeline : (lines : List (List ℕ)) (exceeded : Bool)

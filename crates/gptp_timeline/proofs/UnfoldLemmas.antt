@@ -130,7 +130,7 @@ module _ {F : Type 0} (answers : Bounds → ℕ → F → Option ℕ → F → T
 
     pub all_course : (passages : List Passage) (from : ℕ) (events : List Timed) (fate fate_after : F)
         (w w' : WorldState) → AreInOrder events
-        → AllPass answers d until from events fate fate_after w w' passages
+        → AllPass answers true d until from events fate fate_after w w' passages
         → Courses answers until events (all_acts passages) fate fate_after w w'
     all_course [] from events fate fate_after w w' order pass = absurd pass
     all_course (p ∷ []) from events fate fate_after w w' order (passage, none, is) =

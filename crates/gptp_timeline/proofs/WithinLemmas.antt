@@ -430,8 +430,8 @@ pub errors_are_within : {F : Type 0} (answers : Bounds → ℕ → F → Option 
 errors_are_within answers d until options fate lines exceeded t p errors name from bound playable early member are
     says =
     let clocks = rising_clocks t.start in
-    let b = begins answers d playable clocks until t.passages 0 [] (events_by until d.events) t.started t.fate_after
-    t.start t.after p (left_first answers d playable clocks until)
+    let b = begins answers d playable clocks true until t.passages 0 [] (events_by until d.events) t.started
+    t.fate_after t.start t.after p (left_first answers d playable clocks until)
     (keeps_first answers d playable clocks fate t.started t.start refl t.begun) t.pass member in
     let hold : AreErrorsBy d b.from p.to (Some errors) =
     subst (AreErrorsBy d b.from p.to) are b.passage.errors_are in

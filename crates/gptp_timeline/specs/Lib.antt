@@ -8,6 +8,7 @@ pub mod Amounts
 pub mod Receipts
 pub mod Measures
 pub mod Stretch
+pub mod Roots
 pub mod StretchText
 pub mod Limits
 pub mod End

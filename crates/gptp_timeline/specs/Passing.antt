@@ -1,5 +1,5 @@
 -- A stretch that passes before an observer.
-use Rattle.std.specs.Prelude.{◌≡◌, ◌⊎◌, ℕ, List, [], ◌∷◌, ◌++◌, Option, Some, None, map}
+use Rattle.std.specs.Prelude.{◌≡◌, ◌⊎◌, ℕ, List, [], ◌∷◌, ◌++◌, Option, Some, None, map, Bool}
 use Rattle.gptp_acts.specs.Views.{rising_clocks}
 use Rattle.gptp_acts.specs.World.{WorldState}
 use Rattle.gptp_links.specs.declared.bounds.Bounds.{Bounds}
@@ -62,8 +62,8 @@ abbrev pub BreaksSeen : {F : Type 0} → (Bounds → ℕ → F → Option ℕ �
 BreaksSeen answers plan events fate w o lines =
     IsSeenSoFar answers plan events fate w o lines ⊎ IsSeenToEnd answers plan events fate w o lines
 
-abbrev pub StopsSeen : {F : Type 0} → (Bounds → ℕ → F → Option ℕ → F → Type 0) → DocumentState → ℕ → ℕ → List Timed
-    → F → WorldState → WatchState → List (List ℕ) → Type 0
-StopsSeen answers d from to events fate w o lines =
+abbrev pub StopsSeen : {F : Type 0} → (Bounds → ℕ → F → Option ℕ → F → Type 0) → Bool → DocumentState → ℕ → ℕ
+    → List Timed → F → WorldState → WatchState → List (List ℕ) → Type 0
+StopsSeen answers exact d from to events fate w o lines =
     (lines ≡ [])
-    ⊎ ((plan : Plan) × IsPlan d from to (is_begun events) plan × BreaksSeen answers plan events fate w o lines)
+    ⊎ ((plan : Plan) × IsPlan exact d from to (is_begun events) plan × BreaksSeen answers plan events fate w o lines)

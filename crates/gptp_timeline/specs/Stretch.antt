@@ -150,10 +150,13 @@ with_root None roots = roots
 with_root (Some s) roots = roots ++ s.root ∷ []
 
 -- How many live systems have no time, how many different roots two or more systems follow, and how many systems follow
--- a root that no other does.
-abbrev pub counted : List (Option Shown) → Counts
-counted all = record {
-  without = count_by is_without all;
-  roots = count_by (λ root. nat_lt 1 (times (roots_of all) root)) (distinct (roots_of all));
-  alone = count_by (λ root. times (roots_of all) root == 1) (roots_of all);
+-- a root that no other does: where so many have no time, and these are the roots that live systems follow.
+abbrev pub counted_roots : ℕ → List ℕ → Counts
+counted_roots without roots = record {
+  without = without;
+  roots = count_by (λ root. nat_lt 1 (times roots root)) (distinct roots);
+  alone = count_by (λ root. times roots root == 1) roots;
 }
+
+abbrev pub counted : List (Option Shown) → Counts
+counted all = counted_roots (count_by is_without all) (roots_of all)

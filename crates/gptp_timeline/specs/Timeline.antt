@@ -106,6 +106,11 @@ abbrev pub AreErrorsBy : DocumentState → ℕ → ℕ → Option TimeErrors →
 AreErrorsBy d at to None = (t : TimeErrors) → AreTimeErrors d at t → HoldsBy to t → ⊥
 AreErrorsBy d at to (Some t) = AreTimeErrors d at t × HoldsBy to t
 
+-- so it is where it is asked how exact systems are, and else there are none
+abbrev pub AreErrorsIf : Bool → DocumentState → ℕ → ℕ → Option TimeErrors → Type 0
+AreErrorsIf true d at to errors = AreErrorsBy d at to errors
+AreErrorsIf false d at to errors = errors ≡ None
+
 -- ---- a stretch
 
 -- What passes in a stretch: it begins with these events, and these acts are done in it, which lead to this world.
@@ -123,13 +128,14 @@ abbrev pub is_begun : List Timed → Bool
 is_begun [] = false
 is_begun (e ∷ es) = true
 
--- what is known of it by the document alone
-pub record IsPlan (d : DocumentState) (from to : ℕ) (begins_with_event : Bool) (plan : Plan) : Type 0 where
-  pub from_is : plan.from ≡ from
-  pub to_is : plan.to ≡ to
-  pub begins_is : plan.begins_with_event ≡ begins_with_event
-  pub bound_is : IsBound d from plan.bound
-  pub errors_are : AreErrorsBy d from to plan.errors
+-- what is known of it by the document alone, where it is asked, or isn't, how exact systems are
+pub record IsPlan (exact : Bool) (d : DocumentState) (from to : ℕ) (begins_with_event : Bool) (plan : Plan) : Type 0
+  where
+    pub from_is : plan.from ≡ from
+    pub to_is : plan.to ≡ to
+    pub begins_is : plan.begins_with_event ≡ begins_with_event
+    pub bound_is : IsBound d from plan.bound
+    pub errors_are : AreErrorsIf exact d from to plan.errors
 
 -- what became of it, where each system had been waiting since then
 abbrev pub stretch_of : List ℕ → (ℕ → Option ℕ) → Passage → Stretch
@@ -174,7 +180,7 @@ end_before until [] = until
 end_before until (e ∷ es) = e.at
 
 -- A stretch begins at a time with its events, of those that are left, and ends where the next begins.
-pub record IsPassage {F : Type 0} (answers : Bounds → ℕ → F → Option ℕ → F → Type 0) (d : DocumentState)
+pub record IsPassage {F : Type 0} (answers : Bounds → ℕ → F → Option ℕ → F → Type 0) (exact : Bool) (d : DocumentState)
     (until from : ℕ)
     (events : List Timed) (fate fate_after : F) (w : WorldState) (p : Passage) : Type 0 where
   pub from_is : p.from ≡ from
@@ -182,17 +188,17 @@ pub record IsPassage {F : Type 0} (answers : Bounds → ℕ → F → Option ℕ
   pub events_are : p.events ≡ now_of from events
   pub courses : Courses answers p.to p.events p.acts fate fate_after w p.after
   pub bound_is : IsBound d from p.bound
-  pub errors_are : AreErrorsBy d from p.to p.errors
+  pub errors_are : AreErrorsIf exact d from p.to p.errors
 
 -- Stretches pass, one after another: the first from a time on, the last to the end.
-abbrev pub AllPass : {F : Type 0} → (Bounds → ℕ → F → Option ℕ → F → Type 0) → DocumentState → ℕ → ℕ → List Timed
+abbrev pub AllPass : {F : Type 0} → (Bounds → ℕ → F → Option ℕ → F → Type 0) → Bool → DocumentState → ℕ → ℕ → List Timed
     → F → F → WorldState → WorldState → List Passage → Type 0
-AllPass answers d until from events fate fate_after w w' [] = ⊥
-AllPass {F} answers d until from events fate fate_after w w' (p ∷ []) =
-    IsPassage answers d until from events fate fate_after w p × (later_than from events ≡ []) × (w' ≡ p.after)
-AllPass {F} answers d until from events fate fate_after w w' (p ∷ (q ∷ qs)) =
-    (drawn : F) × IsPassage answers d until from events fate drawn w p × (later_than from events ≢ [])
-    × AllPass answers d until p.to (later_than from events) drawn fate_after p.after w' (q ∷ qs)
+AllPass answers exact d until from events fate fate_after w w' [] = ⊥
+AllPass {F} answers exact d until from events fate fate_after w w' (p ∷ []) =
+    IsPassage answers exact d until from events fate fate_after w p × (later_than from events ≡ []) × (w' ≡ p.after)
+AllPass {F} answers exact d until from events fate fate_after w w' (p ∷ (q ∷ qs)) =
+    (drawn : F) × IsPassage answers exact d until from events fate drawn w p × (later_than from events ≢ [])
+    × AllPass answers exact d until p.to (later_than from events) drawn fate_after p.after w' (q ∷ qs)
 
 abbrev pub none_waits : ℕ → Option ℕ
 none_waits name = None
@@ -209,7 +215,7 @@ pub record TimelineOf {F : Type 0} (answers : Bounds → ℕ → F → Option �
   pub passages : List Passage
   pub fate_after : F
   pub after : WorldState
-  pub pass : AllPass answers d until 0 (events_by until d.events) started fate_after start after passages
+  pub pass : AllPass answers true d until 0 (events_by until d.events) started fate_after start after passages
   pub verdict : Exceeded
   pub verdict_is : verdict ≡ all_exceeded options.limits (rising_clocks start) none_waits passages not_exceeded
   pub exceeded_is : exceeded ≡ is_exceeded options.limits verdict
@@ -219,13 +225,13 @@ pub record TimelineOf {F : Type 0} (answers : Bounds → ℕ → F → Option �
 -- ---- as far as it gets
 
 -- Some stretches pass, and in the one behind them some acts are done; these are the lines until then.
-abbrev pub SomePass : {F : Type 0} → (Bounds → ℕ → F → Option ℕ → F → Type 0) → DocumentState → ℕ → ℕ → List Timed
-    → F → WorldState → List Passage → List Transition → Type 0
-SomePass answers d until from events fate w [] ts =
+abbrev pub SomePass : {F : Type 0} → (Bounds → ℕ → F → Option ℕ → F → Type 0) → Bool → DocumentState → ℕ → ℕ
+    → List Timed → F → WorldState → List Passage → List Transition → Type 0
+SomePass answers exact d until from events fate w [] ts =
     CoursesSoFar answers (end_before until (later_than from events)) (now_of from events) ts fate w
-SomePass {F} answers d until from events fate w (p ∷ ps) ts =
-    (drawn : F) × IsPassage answers d until from events fate drawn w p
-    × SomePass answers d until p.to (later_than from events) drawn p.after ps ts
+SomePass {F} answers exact d until from events fate w (p ∷ ps) ts =
+    (drawn : F) × IsPassage answers exact d until from events fate drawn w p
+    × SomePass answers exact d until p.to (later_than from events) drawn p.after ps ts
 
 pub record TimelineSoFar {F : Type 0} (answers : Bounds → ℕ → F → Option ℕ → F → Type 0) (d : DocumentState) (until : ℕ)
     (options : TimelineOptions) (fate : F) (lines : List (List ℕ)) : Type 0 where
@@ -234,7 +240,7 @@ pub record TimelineSoFar {F : Type 0} (answers : Bounds → ℕ → F → Option
   pub begun : Begun answers d.network fate started start
   pub passages : List Passage
   pub acts : List Transition
-  pub pass : SomePass answers d until 0 (events_by until d.events) started start passages acts
+  pub pass : SomePass answers true d until 0 (events_by until d.events) started start passages acts
   pub are : lines ≡ start_lines options (rising_clocks start) start
       ++ all_lines options (rising_clocks start) none_waits passages
       ++ flat_map (act_lines options (rising_clocks start)) acts

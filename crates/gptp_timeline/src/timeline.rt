@@ -14,10 +14,11 @@ ghost use Rattle.gptp_plan.specs.Calm.{last_change};
 ghost use Rattle.gptp_sink.specs.Sink.{AppendsSome};
 ghost use Rattle.gptp_world.specs.Transitions.{Transition};
 ghost use Rattle.gptp_spelling.specs.Lines.{text_of};
+ghost use Rattle.gptp_topology.specs.Times.{AreCalmTimes};
 ghost use Rattle.gptp_timeline.specs.LastTwo.{EndsOf, all_kept, end_of, kept_after, none_kept};
 ghost use Rattle.gptp_timeline.specs.Limits.{is_exceeded, verdict_lines};
 ghost use Rattle.gptp_timeline.specs.Passing.{BreaksSeen, IsSeen, StopsSeen, first_time, watch_at_start};
-ghost use Rattle.gptp_timeline.specs.Timeline.{AllPass, AreErrorsBy, BeginsTimeline, IsPlan, Passage, SomePass, TimelineOf, act_lines, all_lines, end_lines, exact_time, is_begun, kept_accuracy, later_than, none_waits, now_of};
+ghost use Rattle.gptp_timeline.specs.Timeline.{AllPass, AreErrorsBy, AreErrorsIf, BeginsTimeline, IsPlan, Passage, SomePass, TimelineOf, act_lines, all_lines, end_lines, exact_time, is_begun, kept_accuracy, later_than, none_waits, now_of};
 ghost use Rattle.gptp_timeline.specs.Watch.{event_look, lines_all, see_all};
 
 use crate::counts::roots_of;
@@ -31,6 +32,7 @@ use gptp_network::Document;
 use gptp_report::sink::Sink;
 use gptp_report::{Cut, begin, play, write_whole};
 use gptp_time_error::{TimeErrors, time_errors};
+use gptp_topology::{CalmTime, bound_among, calm_times};
 use gptp_world::{Timed, World};
 use std::alloc::{AllocError, Global};
 
@@ -105,13 +107,10 @@ fn errors_by(
     ensures errors { IfOk result (AreErrorsBy document.now from to) }
     ensures memory { IfErr result (λ e. e ≡ Cut.Memory) }
 {
-    match time_errors(alloc, document, from) {
-        Ok(errors) => match errors.from {
-            Some(exact) if exact <= to => Ok(Some(errors)),
-            _ => Ok(None),
-        },
-        // the search isn't wrong
-        Err(_) => Err(Cut::Memory),
+    let errors = time_errors(alloc, document, from)?;
+    match errors.from {
+        Some(exact) if exact <= to => Ok(Some(errors)),
+        _ => Ok(None),
     }
 }
 
@@ -147,19 +146,41 @@ fn errors_if(
     }
 }
 
-/// What is known of a stretch by the document alone.
+/// So it is where it is asked how exact systems are, and else there are none.
+fn errors_asked(
+    alloc: Global,
+    document: &Document,
+    exact: bool,
+    from: u64,
+    to: u64,
+    bound: Option<u64>,
+) -> Result<Option<TimeErrors>, Cut>
+    requires { IsBound document.now from bound }
+    ensures errors { IfOk result (AreErrorsIf exact document.now from to) }
+    ensures memory { IfErr result (λ e. e ≡ Cut.Memory) }
+{
+    match exact {
+        true => errors_if(alloc, document, from, to, bound),
+        false => Ok(None),
+    }
+}
+
+/// What is known of a stretch by the document alone, whose times these are.
 fn plan_of(
     alloc: Global,
     document: &Document,
+    times: &[CalmTime],
+    exact: bool,
     from: u64,
     to: u64,
     begins_with_event: bool,
 ) -> Result<Plan, Cut>
-    ensures plan { IfOk result (IsPlan document.now from to begins_with_event) }
+    requires { AreCalmTimes document.now times.now }
+    ensures plan { IfOk result (IsPlan exact document.now from to begins_with_event) }
     ensures memory { IfErr result (λ e. e ≡ Cut.Memory) }
 {
-    let bound = document.bound_at(alloc, from)?;
-    let errors = errors_if(alloc, document, from, to, bound)?;
+    let bound = bound_among(alloc, document, times, from)?;
+    let errors = errors_asked(alloc, document, exact, from, to, bound)?;
     Ok(Plan {
         from,
         to,
@@ -261,6 +282,8 @@ fn pass_stretch<F: Fate + Drop, K: Sink>(
 fn next_stretch<F: Fate + Drop, K: Sink>(
     alloc: Global,
     document: &Document,
+    times: &[CalmTime],
+    exact: bool,
     world: &mut World<F>,
     from: u64,
     to: u64,
@@ -274,27 +297,31 @@ fn next_stretch<F: Fate + Drop, K: Sink>(
     requires prompt { ArePromptIn world.old.scene events.now }
     requires due { events_by to events.now ≡ events.now }
     requires moment { to ≤ 1000000000000000 }
+    requires times { AreCalmTimes document.now times.now }
     ensures passed { IfOk result (λ kept. (plan : Plan) × (told : List (List ℕ))
-        × IsPlan document.now from to (is_begun events.now) plan
+        × IsPlan exact document.now from to (is_begun events.now) plan
         × IsSeen F.answers plan events.now world.old.fate world.new.fate world.old.scene world.new.scene
         watch.old watch.new told
         × (kept ≡ kept_after limits.now (end_of plan watch.new) before)
         × Appends (K.written sink.old) (K.written sink.new) (text_of (told ++ end_lines plan watch.new))) }
     ensures broken { OnErr result ((lines : List (List ℕ))
-        × StopsSeen F.answers document.now from to events.now world.old.fate world.old.scene watch.old lines
+        × StopsSeen F.answers exact document.now from to events.now world.old.fate world.old.scene watch.old lines
         × AppendsSome (K.written sink.old) (K.written sink.new) (text_of lines)) }
     ensures works { result ≢ Err Cut.Write → K.failures sink.new ≡ K.failures sink.old }
     ensures fails { result ≡ Err Cut.Write → K.failures sink.new ≢ K.failures sink.old }
 {
-    let plan = plan_of(alloc, document, from, to, !events.is_empty())?;
+    let plan = plan_of(alloc, document, times, exact, from, to, !events.is_empty())?;
     let end = pass_stretch(alloc, world, &plan, events, watch, sink)?;
     Ok(keep(limits, end, before))
 }
 
-/// Lets all stretches pass of a world as it begins, and answers what is kept of them.
+/// Lets all stretches pass of a world as it begins, and answers what is kept of them, where these are the times of the
+/// document, and it is asked, or isn't, how exact systems are.
 fn all_stretches<F: Fate + Drop, K: Sink>(
     alloc: Global,
     document: &Document,
+    times: &[CalmTime],
+    exact: bool,
     world: &mut World<F>,
     until: u64,
     options: &TimelineOptions,
@@ -305,14 +332,15 @@ fn all_stretches<F: Fate + Drop, K: Sink>(
     requires begun { (fate : F) × Begun F.answers document.now.network fate world.old.fate world.old.scene }
     requires prompt { ArePromptIn world.old.scene document.now.events }
     requires starts { watch.old ≡ watch_at_start options.now world.old.scene }
+    requires times { AreCalmTimes document.now times.now }
     ensures passed { IfOk result (λ kept. (passages : List Passage)
-        × AllPass F.answers document.now until 0 (events_by until document.now.events) world.old.fate world.new.fate
+        × AllPass F.answers exact document.now until 0 (events_by until document.now.events) world.old.fate world.new.fate
         world.old.scene world.new.scene passages
         × (kept ≡ all_kept options.now.limits (rising_clocks world.old.scene) none_waits passages none_kept)
         × Appends (K.written sink.old) (K.written sink.new)
         (text_of (all_lines options.now (rising_clocks world.old.scene) none_waits passages))) }
     ensures broken { OnErr result ((passages : List Passage) × (acts : List Transition)
-        × SomePass F.answers document.now until 0 (events_by until document.now.events) world.old.fate world.old.scene
+        × SomePass F.answers exact document.now until 0 (events_by until document.now.events) world.old.fate world.old.scene
         passages acts
         × AppendsSome (K.written sink.old) (K.written sink.new)
         (text_of (all_lines options.now (rising_clocks world.old.scene) none_waits passages
@@ -329,13 +357,13 @@ fn all_stretches<F: Fate + Drop, K: Sink>(
     while let Some(to) = next_time(left, from) {
         let now = events_by(left, from);
         kept = next_stretch(
-            alloc, document, world, from, to, now, &limits, kept, watch, sink,
+            alloc, document, times, exact, world, from, to, now, &limits, kept, watch, sink,
         )?;
         left = events_after(left, from);
         from = to;
     }
     next_stretch(
-        alloc, document, world, from, until, left, &limits, kept, watch, sink,
+        alloc, document, times, exact, world, from, until, left, &limits, kept, watch, sink,
     )
 }
 
@@ -384,9 +412,9 @@ fn end_verdict<K: Sink>(
 /// of each stretch between the times of events, and whether each keeps to the limits, where any is given; answers whether
 /// one doesn't.
 ///
-/// Errors: [`Cut::Write`] exactly where a write failed, after which nothing more happens; [`Cut::Memory`] where an act was
-/// refused or the search for the settled choice was, which is meant to be for want of memory alone; that it is so isn't
-/// promised. What was written until then stands.
+/// Errors: [`Cut::Write`] exactly where a write failed, after which nothing more happens; [`Cut::Memory`] where memory ran
+/// out or an act was refused, which is meant to be for want of memory alone; that it is so isn't promised. What was written
+/// until then stands.
 pub fn write_timeline<F: Fate + Drop, K: Sink>(
     alloc: Global,
     document: &Document,
@@ -405,11 +433,12 @@ pub fn write_timeline<F: Fate + Drop, K: Sink>(
     ensures works { result ≢ Err Cut.Write → K.failures sink.new ≡ K.failures sink.old }
     ensures fails { result ≡ Err Cut.Write → K.failures sink.new ≢ K.failures sink.old }
 {
+    let times = calm_times(alloc, document)?;
     let mut world = begin(alloc, document, fate)?;
     let mut watch = Watch::new(alloc, &world, options.summary, options.offsets)?;
     write_start(alloc, &world, &mut watch, sink)?;
     let kept = all_stretches(
-        alloc, document, &mut world, until, options, &mut watch, sink,
+        alloc, document, &times, true, &mut world, until, options, &mut watch, sink,
     )?;
     end_verdict(alloc, &options.limits, kept.exceeded, sink)
 }
@@ -422,7 +451,8 @@ const NOTHING_TOLD: TimelineOptions = TimelineOptions {
 };
 
 /// Lets the world of a document run up to a time, at most 10^15 ns, and answers how the last two stretches between the times
-/// of events ended, where there are two. Nothing is written. Refused as [`write_timeline`] is, for want of memory.
+/// of events ended, where there are two. Nothing is written, and how exact systems are isn't asked. Refused for want of
+/// memory alone.
 pub fn last_stretches<F: Fate + Drop>(
     alloc: Global,
     document: &Document,
@@ -434,12 +464,15 @@ pub fn last_stretches<F: Fate + Drop>(
     ensures memory { IfErr result (λ e. e ≡ Cut.Memory) }
 {
     let mut sink = Unwritten;
+    let times = calm_times(alloc, document)?;
     let mut world = begin(alloc, document, fate)?;
     let mut watch = Watch::new(alloc, &world, true, false)?;
     write_start(alloc, &world, &mut watch, &mut sink)?;
     let kept = all_stretches(
         alloc,
         document,
+        &times,
+        false,
         &mut world,
         until,
         &NOTHING_TOLD,

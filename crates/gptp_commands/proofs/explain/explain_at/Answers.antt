@@ -24,19 +24,10 @@ tells : {X : Type 0} (bytes : X → List ℕ) (d : DocumentState) (until : Optio
 tells bytes d until clock (Some text) r (lines, explains, is) absent shown refused =
     IfOk-weaker r _ _ (λ o is_shown. (lines, inl (explains, is_shown.0), is_shown.1 ∙ is)) shown
 tells bytes d until clock None r explains absent shown refused =
-    IfOk-weaker r _ _ (λ o is_refused. (is_refused.0, inr (inl (absent, is_refused.1)), is_refused.2)) refused
+    IfOk-weaker r _ _ (λ o is_refused. (is_refused.0, inr (absent, is_refused.1), is_refused.2)) refused
 
-pub returns-in-Ok-clause-explains : goal.returns-in-Ok-clause-explains
-returns-in-Ok-clause-explains c =
-    tells string_bytes c.args.document.now c.args.until c.args.clock c.in-Ok.told c.show.result
-    (rw c.moment_of.ensures at c.in-Ok.ensures.some) (rw c.moment_of.ensures at c.in-Ok.ensures.none)
+pub returns-clause-explains : goal.returns-clause-explains
+returns-clause-explains c =
+    tells string_bytes c.args.document.now c.args.until c.args.clock c.in_ok-told.told c.show.result
+    (rw c.moment_of.ensures at c.in_ok-told.ensures.some) (rw c.moment_of.ensures at c.in_ok-told.ensures.none)
     c.show.ensures.some c.show.ensures.none
-
-pub returns-in-Err-clause-explains : goal.returns-in-Err-clause-explains
-returns-in-Err-clause-explains c =
-    IfOk-weaker c.refuse_choice.result _ _ (λ o shown. (
-      shown.0,
-      inr (inr (c.in-Err.fault, rw c.moment_of.ensures at c.in-Err.ensures.refused, shown.1)),
-      shown.2,
-    ))
-    c.refuse_choice.ensures.shows

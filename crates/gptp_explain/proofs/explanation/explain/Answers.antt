@@ -26,7 +26,7 @@ returns-in_default-line_of-clause-none c =
     let live = subst (λ v. In v (clocks g)) at.is
     (In-clocks g at.system (In-slice_get at.system g.systems c.in-Some.place at.there)) in
     let (line, stated) =
-    line_there g c.in_ok-choice.choice.lines c.well_formed-2.ensures.network c.in_ok-choice.ensures.choice.choice
+    line_there g c.in_ok-choice.choice.lines c.well_formed-2.ensures.network c.in_ok-choice.ensures.choice
     c.args.clock live in
     absurd (c.in_default-line_of.ensures.none line stated)
 

@@ -6,7 +6,7 @@ use Rattle.gptp_graph.specs.Snapshot.{System}
 use Rattle.gptp_graph.proofs.SystemLemmas.{In-clocks}
 use Rattle.gptp_network.specs.Snapshot.{system_of}
 use Rattle.gptp_checker.specs.Places.{IsLineAt}
-use Rattle.gptp_explain.proofs.RankLemmas.{one_best}
+use Rattle.gptp_components.proofs.ComponentLemmas.{one_best}
 use Rattle.gptp_explain.proofs.SettledLemmas.{best_stated, line_there}
 use Rattle.gptp_explain.proofs.ranks.follower_at.Goals as goal
 

@@ -1,9 +1,13 @@
-use Rattle.std.proofs.Common.{◌≡◌, ◌+◌, ◌∙◌, List, Some, slice_get, ap, subst, sym}
+use Rattle.std.proofs.Common.{◌≡◌, ◌+◌, ◌∙◌, List, Some, length, slice_get, ap, subst, sym, arith}
+use Rattle.std.specs.Io.KnownBytes.{Appends}
 use Rattle.std.proofs.lemmas.Option.{slice_get-get_or}
 use Rattle.gptp_network.specs.Document.{DocumentState}
+use Rattle.gptp_spelling.specs.Lines.{text_of}
+use Rattle.gptp_faults.specs.Progress.{all_begun, begun, part_of}
 use Rattle.gptp_faults.specs.Outcomes.{IsOutcome, OutcomeState}
 use Rattle.gptp_faults.specs.declared.cases.Planned.{Planned}
 use Rattle.gptp_faults.proofs.OutcomeLemmas.{AreRanked, one_ranked, other_ranked}
+use Rattle.gptp_faults.proofs.ProgressLemmas.{one_longer, ranked_count, told_all, told_more, told_still}
 use Rattle.gptp_faults.proofs.faults.try_cases.Goals as goal
 use Rattle.gptp_faults.proofs.faults.try_cases.Goals.{then-belongs+in_ok-try_next, else-belongs}
 
@@ -12,7 +16,9 @@ loop-number-preserved g c =
     let d = c.args.document.now in let t = c.args.times.now in let planned = c.args.planned.now in
     let parts = c.args.options.now.parts in let part = c.args.options.now.part in
     let number = c.loop-number.number in let before = c.loop-number.outcomes.items in
-    let so_far = c.loop-number.invariant in
+    let so_far = c.loop-number.invariant in let below = c.loop-number-test.true in
+    let written = g.P.Sink.written in let start = written c.args.progress.now in
+    let asked = c.args.options.now.progress in let count = c.count_of-count.result in
     elim c.if-belongs.branch [
       | then-belongs+in_ok-try_next w ↦
           let tried = w.in_ok-try_next.ensures.tried in let p = w.index-planned-number.result in
@@ -21,11 +27,17 @@ loop-number-preserved g c =
           ∙ ap (λ (q : Planned). Some q) (sym w.index-planned-number.is) in
           let outcome : IsOutcome d t number p tried.0 =
           subst (λ (e : DocumentState). IsOutcome e t number p tried.0) so_far.same tried.1 in
+          let after = ap (λ v. v.items) w.outcomes-is ∙ tried.2 in
           record {
-            ranked = subst (AreRanked d t planned parts part (number + 1))
-                (sym (ap (λ v. v.items) w.outcomes-is ∙ tried.2))
+            ranked = subst (AreRanked d t planned parts part (number + 1)) (sym after)
                 (one_ranked d t planned parts part number before so_far.ranked
                 (sym c.belongs.ensures ∙ w.if-belongs.true) tried.0 (p, there, outcome));
+            told = told_more asked count (length before) _ start (written c.loop-number.progress) _
+                (ap length after ∙ one_longer before tried.0) so_far.told
+                (subst (λ now. Appends (written c.loop-number.progress) (written now)
+                (text_of (begun asked count (length before + 1)))) (sym w.progress-is)
+                w.in_ok-try_next.ensures.told);
+            most = omega (arith, below);
             same = w.document-is ∙ w.in_ok-try_next.ensures.same ∙ so_far.same;
             works = ap g.P.Sink.failures w.progress-is ∙ w.in_ok-try_next.ensures.works (λ no. absurd cc)
                 ∙ so_far.works;
@@ -35,7 +47,22 @@ loop-number-preserved g c =
             ranked = subst (AreRanked d t planned parts part (number + 1)) (sym (ap (λ v. v.items) w.outcomes-is))
                 (other_ranked d t planned parts part number before so_far.ranked
                 (sym c.belongs.ensures ∙ w.if-belongs.false));
+            told = told_still asked count (length before) _ start _ (ap (λ v. length v.items) w.outcomes-is)
+                (subst (λ now. Appends start (written now) (text_of (all_begun asked count (length before))))
+                (sym w.progress-is) so_far.told);
+            most = omega (arith, below);
             same = w.document-is ∙ so_far.same;
             works = ap g.P.Sink.failures w.progress-is ∙ so_far.works;
           }
     ]
+
+pub returns-clause-told : goal.returns-clause-told
+returns-clause-told g c =
+    let options = c.args.options.now in let planned = c.args.planned.now in let number = c.loop-number.number in
+    let in_order = c.loop-number.outcomes.items in
+    let past = c.loop-number-test.false in let most = c.loop-number.invariant.most in
+    let all : number ≡ length planned = omega (arith, past, most) in
+    told_all options (length planned) c.count_of-count.result (length in_order)
+    (g.P.Sink.written c.args.progress.now) (g.P.Sink.written c.loop-number.progress) c.count_of-count.ensures
+    (ranked_count c.args.document.now c.args.times.now planned options.parts options.part number in_order
+    c.loop-number.invariant.ranked ∙ ap (part_of options) all) c.loop-number.invariant.told

@@ -5,7 +5,7 @@ use Rattle.std.proofs.lemmas.List.{append-nil, drop_all, drop_more}
 use Rattle.gptp_setup.specs.Pace.{lapse_span}
 use Rattle.gptp_plan.specs.Network.{IsNetwork, NetworkState}
 use Rattle.gptp_plan.specs.declared.network.Wire.{Wire}
-use Rattle.gptp_lint.specs.Course.{cable_of, course_of, wire_of}
+use Rattle.gptp_topology.specs.Course.{cable_of, course_of, wire_of}
 use Rattle.gptp_lint.specs.Trouble.{long_of, longs_of, lossies_of, stretches}
 use Rattle.gptp_lint.proofs.FoundLemmas.{found, told_more}
 use Rattle.gptp_lint.proofs.findings.find.Goals as goal

@@ -1,6 +1,6 @@
 -- What was found so far, and what is defined of the links that are left, is all.
 use Rattle.std.proofs.Common.{◌≡◌, ◌++◌, drop, map}
-use Rattle.gptp_lint.specs.Course.{wire_of}
+use Rattle.gptp_topology.specs.Course.{wire_of}
 use Rattle.gptp_lint.specs.Trouble.{longs_of, lossies_of}
 use Rattle.gptp_lint.proofs.findings.find.Given as goal
 

@@ -4,7 +4,7 @@ use Rattle.std.specs.Option.{option_to_list}
 use Rattle.std.proofs.lemmas.List.{append-nil}
 use Rattle.std.proofs.lemmas.Result.{on_ok_weaker}
 use Rattle.gptp_plan.specs.Network.{NetworkState}
-use Rattle.gptp_lint.specs.Course.{course_from, course_of, first, naming, wire_of}
+use Rattle.gptp_topology.specs.Course.{course_from, course_of, first, naming, wire_of}
 use Rattle.gptp_lint.specs.Trouble.{long_of, stretches}
 use Rattle.gptp_lint.proofs.ThinLemmas.{long_is, lossy_is}
 use Rattle.gptp_lint.proofs.findings.push_troubles.Goals as goal

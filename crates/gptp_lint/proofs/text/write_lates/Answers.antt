@@ -4,7 +4,7 @@ use Rattle.std.specs.Prelude.{string_bytes}
 use Rattle.std.proofs.lemmas.Option.{slice_get-get_or}
 use Rattle.gptp_spelling.specs.Lines.{text_of}
 use Rattle.gptp_lint.specs.LintText.{late_lines}
-use Rattle.gptp_lint.specs.declared.findings.CalmTime.{CalmTime}
+use Rattle.gptp_topology.specs.declared.times.CalmTime.{CalmTime}
 use Rattle.gptp_lint.proofs.TextLemmas.{several_more}
 use Rattle.gptp_lint.proofs.text.write_lates.Goals as goal
 

@@ -26,8 +26,8 @@ last_change-requires c =
     subst AreAllowed (sym (c.events_by-events.ensures ∙ ap (events_by c.args.until) c.events.ensures))
     (allowed_by c.args.until c.args.document.now.events c.well_formed-2.ensures.allowed)
 
-pub returns-clause-errors : goal.returns-clause-errors
-returns-clause-errors c =
+pub returns : goal.returns
+returns c =
     let d = c.args.document.now in
     let g = c.in_ok-snapshot.snapshot in
     let lines = c.in_ok-certificate.certificate.lines in
@@ -43,7 +43,7 @@ returns-clause-errors c =
     rw (c.is_some.ensures, c.deref.ensures.value) at c.in_ok-systems.ensures in
     let exact : AreExact n events g systems =
     are_exact n events g lines sums from systems c.well_formed-3.ensures.rising
-    c.well_formed-4.ensures.order.clocks c.in_ok-certificate.ensures.choice.choice c.in_ok-sums.ensures.done
+    c.well_formed-4.ensures.order.clocks c.in_ok-certificate.ensures.choice c.in_ok-sums.ensures.done
     c.holds_from_if_calm-from.ensures entries in
     record {
       snapshot = g;

@@ -18,12 +18,13 @@ use Rattle.gptp_timeline.proofs.timeline.all_stretches.Goals as goal
 pub loop-to-init : goal.loop-to-init
 loop-to-init g c =
     let d = c.args.document.now in let w = c.args.world.now.scene in let options = c.args.options.now in
+    let exact = c.args.exact in
     let old = g.K.Sink.written c.args.sink.now in let names = rising_clocks w in
     let rests = subst (Rests options names none_waits w) (sym c.requires.starts)
     (start_rests g.F.Fate.answers d.network c.requires.begun.0 c.args.world.now.fate options w (watch_before options w)
     c.requires.begun.1 c.well_formed-3.ensures.sound.wired refl) in
     rw (c.none_kept-kept.ensures, c.events_by-left.ensures, c.events.ensures) (record {
-      gone = seen_none g.F.Fate.answers d c.args.until options names (events_by c.args.until d.events)
+      gone = seen_none g.F.Fate.answers exact d c.args.until options names (events_by c.args.until d.events)
           c.args.world.now.fate w c.args.watch.now (Appends old old) rests (appends_none old);
       may = may_begin c.args.until d.events w c.well_formed-2.ensures.events.in_order c.well_formed-2.ensures.allowed
           c.requires.prompt;
@@ -63,7 +64,8 @@ next_stretch-requires-clause-moment g c =
 
 pub loop-to-preserved : goal.loop-to-preserved
 loop-to-preserved g c =
-    let answers = g.F.Fate.answers in let d = c.args.document.now in let until = c.args.until in
+    let answers = g.F.Fate.answers in let exact = c.args.exact in let d = c.args.document.now in
+    let until = c.args.until in
     let options = c.args.options.now in let names = rising_clocks c.args.world.now.scene in
     let events = events_by until d.events in let fate = c.args.world.now.fate in let w = c.args.world.now.scene in
     let from = c.loop-to.from in let to = c.in-Some.to in let left = c.loop-to.left.now in
@@ -74,13 +76,13 @@ loop-to-preserved g c =
     let new = g.K.Sink.written c.next_stretch.new.sink in
     let i = c.loop-to.invariant in let passed = c.in_ok-kept.ensures.passed in
     let is : first_time (later_than from left) ≡ Some to = sym c.next_time.ensures ∙ c.in-Some.is in
-    let known = subst (λ es. IsPlan d from to (is_begun es) passed.0) c.events_by-now.ensures passed.2 in
+    let known = subst (λ es. IsPlan exact d from to (is_begun es) passed.0) c.events_by-now.ensures passed.2 in
     let seen = subst (λ es. IsSeen answers passed.0 es drawn next between after o o_after passed.1)
     c.events_by-now.ensures passed.3 in
     let stays = courses_stay answers passed.0.to (events_by from left) seen.acts drawn next between after
     i.gone.rests.named.setups seen.courses in
     rw c.events_after-left.ensures (record {
-      gone = seen_more answers d until options names events fate w from to left drawn between c.loop-to.kept o
+      gone = seen_more answers exact d until options names events fate w from to left drawn between c.loop-to.kept o
           (Appends old mid) (Appends mid new) (Appends old new) (appends_both old mid new) i.gone passed.0 next after
           o_after passed.1 c.in_ok-kept.kept known seen passed.4 passed.5 is;
       may = may_next until from to left between after i.may stays is;
@@ -96,17 +98,18 @@ loop-to-smaller g c =
 
 pub returns-in_err-kept-clause-broken : goal.returns-in_err-kept-clause-broken
 returns-in_err-kept-clause-broken g c =
-    let answers = g.F.Fate.answers in let d = c.args.document.now in let until = c.args.until in
+    let answers = g.F.Fate.answers in let exact = c.args.exact in let d = c.args.document.now in
+    let until = c.args.until in
     let names = rising_clocks c.args.world.now.scene in let from = c.loop-to.from in let to = c.in-Some.to in
     let left = c.loop-to.left.now in let drawn = c.loop-to.world.fate in let between = c.loop-to.world.scene in
     let o = c.loop-to.watch in let old = g.K.Sink.written c.args.sink.now in
     let mid = g.K.Sink.written c.loop-to.sink in let new = g.K.Sink.written c.next_stretch.new.sink in
     let broken = c.in_err-kept.ensures.broken in
     let is : first_time (later_than from left) ≡ Some to = sym c.next_time.ensures ∙ c.in-Some.is in
-    let stops = subst (λ es. StopsSeen answers d from to es drawn between o broken.0) c.events_by-now.ensures broken.1
-    in
+    let stops = subst (λ es. StopsSeen answers exact d from to es drawn between o broken.0) c.events_by-now.ensures
+    broken.1 in
     after_error c.from_residual.result
-    (seen_some answers d until c.args.options.now names (events_by until d.events) c.args.world.now.fate
+    (seen_some answers exact d until c.args.options.now names (events_by until d.events) c.args.world.now.fate
     c.args.world.now.scene from to left drawn between c.loop-to.kept o (Appends old mid) (AppendsSome mid new)
     (AppendsSome old new) (some_behind old mid new) c.loop-to.invariant.gone broken.0
     (sym (ends_before until (later_than from left) to is)) stops broken.2)
@@ -123,7 +126,8 @@ next_stretch-requires-2-clause-due g c =
 
 pub returns-clause-passed : goal.returns-clause-passed
 returns-clause-passed g c =
-    let answers = g.F.Fate.answers in let d = c.args.document.now in let until = c.args.until in
+    let answers = g.F.Fate.answers in let exact = c.args.exact in let d = c.args.document.now in
+    let until = c.args.until in
     let names = rising_clocks c.args.world.now.scene in let from = c.loop-to.from in
     let left = c.loop-to.left.now in let drawn = c.loop-to.world.fate in let between = c.loop-to.world.scene in
     let next = c.next_stretch-2.new.world.fate in let after = c.next_stretch-2.new.world.scene in
@@ -134,17 +138,18 @@ returns-clause-passed g c =
     (sym c.next_time.ensures ∙ none_there c.next_time.result c.in_default.not-Some) in
     let all = sym (all_now from left none) in
     IfOk-weaker c.next_stretch-2.result _ _ (λ kept passed.
-    seen_all answers d until c.args.options.now names (events_by until d.events) c.args.world.now.fate
+    seen_all answers exact d until c.args.options.now names (events_by until d.events) c.args.world.now.fate
     c.args.world.now.scene from until left drawn between c.loop-to.kept o (Appends old mid) (Appends mid new)
     (Appends old new) (appends_both old mid new) c.loop-to.invariant.gone passed.0 next after o_after passed.1 kept
-    (subst (λ es. IsPlan d from until (is_begun es) passed.0) all passed.2)
+    (subst (λ es. IsPlan exact d from until (is_begun es) passed.0) all passed.2)
     (subst (λ es. IsSeen answers passed.0 es drawn next between after o o_after passed.1) all passed.3) passed.4
     passed.5
     none refl) c.next_stretch-2.ensures.passed
 
 pub returns-clause-broken : goal.returns-clause-broken
 returns-clause-broken g c =
-    let answers = g.F.Fate.answers in let d = c.args.document.now in let until = c.args.until in
+    let answers = g.F.Fate.answers in let exact = c.args.exact in let d = c.args.document.now in
+    let until = c.args.until in
     let names = rising_clocks c.args.world.now.scene in let from = c.loop-to.from in
     let left = c.loop-to.left.now in let drawn = c.loop-to.world.fate in let between = c.loop-to.world.scene in
     let o = c.loop-to.watch in let old = g.K.Sink.written c.args.sink.now in
@@ -152,9 +157,10 @@ returns-clause-broken g c =
     let none = none_left (later_than from left)
     (sym c.next_time.ensures ∙ none_there c.next_time.result c.in_default.not-Some) in
     on_err_weaker c.next_stretch-2.result (λ broken.
-    seen_some answers d until c.args.options.now names (events_by until d.events) c.args.world.now.fate
+    seen_some answers exact d until c.args.options.now names (events_by until d.events) c.args.world.now.fate
     c.args.world.now.scene from until left drawn between c.loop-to.kept o (Appends old mid) (AppendsSome mid new)
     (AppendsSome old new) (some_behind old mid new) c.loop-to.invariant.gone broken.0
     (sym (ap (end_before until) none))
-    (subst (λ es. StopsSeen answers d from until es drawn between o broken.0) (sym (all_now from left none)) broken.1)
+    (subst (λ es. StopsSeen answers exact d from until es drawn between o broken.0) (sym (all_now from left none))
+    broken.1)
     broken.2) c.next_stretch-2.ensures.broken

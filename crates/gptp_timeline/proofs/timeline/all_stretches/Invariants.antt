@@ -10,7 +10,7 @@ use Rattle.gptp_timeline.proofs.timeline.all_stretches.Given as goal
 -- the stretches before passed, the events that are left can be made, and no write has failed
 abbrev pub invariant-loop-to : goal.invariant-loop-to
 invariant-loop-to g l = record {
-  gone : GoneSeen g.F.Fate.answers l.document l.until l.options (rising_clocks l.initial.world.scene)
+  gone : GoneSeen g.F.Fate.answers l.exact l.document l.until l.options (rising_clocks l.initial.world.scene)
       (events_by l.until l.document.events) l.initial.world.fate l.initial.world.scene l.from l.left l.world.fate
       l.world.scene l.kept l.watch (Appends (g.K.Sink.written l.initial.sink) (g.K.Sink.written l.sink));
   may : MayPass l.until l.from l.left l.world.scene;

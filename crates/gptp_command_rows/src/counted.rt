@@ -1,0 +1,109 @@
+//! `compare` over devices that count their calls, of which one fails.
+
+use crate::same::same_at;
+use gptp_commands::compare::compare_lines;
+use gptp_commands::failure::{SimError, Status};
+use gptp_commands::sink::CountedWriter;
+use gptp_commands::source::CountedReader;
+use std::io::{self, Read, Write};
+use std::test::Fail;
+
+/// The first Announce of the system with clock 1, its own root, at port 1.
+const ANNOUNCE: &str =
+    "1b12004c00000008000000000000000000000000000000000000000100010000000000000000000000000000002500f6f8fe436af800000000000000010000a0000800080000000000000001";
+
+/// A device of which one call fails. Every other call moves at most `most` octets.
+#[derive(Drop)]
+struct FailsOnce<D> {
+    device: D,
+    calls_before: u64,
+    most: usize,
+}
+
+impl<D: Read> Read for FailsOnce<D> {
+    fn read(&mut self, buffer: &mut [u8]) -> io::Result<usize> {
+        if self.calls_before == 0 {
+            return Err(io::Error::from(io::ErrorKind::Other));
+        }
+        self.calls_before -= 1;
+        let length = self.most.min(buffer.len());
+        self.device.read(&mut buffer[..length])
+    }
+}
+
+impl<D: Write> Write for FailsOnce<D> {
+    fn write(&mut self, text: &[u8]) -> io::Result<usize> {
+        if self.calls_before == 0 {
+            return Ok(0);
+        }
+        self.calls_before -= 1;
+        let length = self.most.min(text.len());
+        self.device.write(&text[..length])
+    }
+
+    fn flush(&mut self) -> io::Result<()> {
+        self.device.flush()
+    }
+}
+
+/// 306 octets by 20 take 16 reads, and one more finds the end.
+const READS: u64 = 17;
+
+#[test]
+fn read_fails_with_nothing_written(rt: HostRuntime) -> Result<(), Fail> {
+    let alloc = rt.alloc();
+    let line = format!(in alloc; "{ANNOUNCE} {ANNOUNCE}\n")?;
+    for calls_before in 0..=READS {
+        let mut written = Vec::new(alloc);
+        let device = FailsOnce {
+            device: line.as_bytes(),
+            calls_before,
+            most: 20,
+        };
+        let mut source = CountedReader::new(device);
+        let mut sink = CountedWriter::new(&mut written);
+        let outcome = compare_lines(alloc, &mut source, &mut sink);
+        let (want, length) = if calls_before < READS {
+            (Err(SimError::Read), 0)
+        } else {
+            (Ok(Status::Done), 35)
+        };
+        same_at(&rt, &calls_before, outcome, want);
+        same_at(&rt, &calls_before, written.len(), length);
+    }
+    Ok(())
+}
+
+/// How much of two lines, of 35 and of 14 octets, is written by so many calls of 10 octets.
+const FRONTS: [(u64, usize); 7] = [(0, 0), (1, 10), (2, 20), (3, 30), (4, 35), (5, 45), (6, 49)];
+
+#[test]
+fn write_fails_with_a_front_written(rt: HostRuntime) -> Result<(), Fail> {
+    let alloc = rt.alloc();
+    let line = format!(in alloc; "{ANNOUNCE} {ANNOUNCE}\n\n")?;
+    let text = b"equal f6f8fe436af80000000000000001\nrefused words\n";
+    for (calls_before, length) in FRONTS {
+        let mut written = Vec::new(alloc);
+        let device = FailsOnce {
+            device: &mut written,
+            calls_before,
+            most: 10,
+        };
+        let mut source = line.as_bytes();
+        let mut sink = CountedWriter::new(device);
+        let outcome = compare_lines(alloc, &mut source, &mut sink);
+        let want = if length < text.len() {
+            Err(SimError::Write)
+        } else {
+            Ok(Status::Refused)
+        };
+        same_at(&rt, &calls_before, outcome, want);
+        same_at(
+            &rt,
+            &calls_before,
+            Some(written.as_slice()),
+            text.get(..length),
+        );
+    }
+    Ok(())
+}

@@ -1,0 +1,8 @@
+-- So many of the numbers so far belong to the part.
+use Rattle.std.proofs.Common.{◌≡◌, ◌≤◌, length}
+use Rattle.gptp_faults.specs.Outcomes.{numbers_of}
+use Rattle.gptp_faults.proofs.faults.count_of.Given as goal
+
+abbrev pub invariant-loop-number : goal.invariant-loop-number
+invariant-loop-number l =
+    (l.found ≡ length (numbers_of l.options.parts l.options.part l.number)) × (l.found ≤ l.number)

@@ -1,8 +1,0 @@
--- The first clocks, so far.
-use Rattle.std.proofs.Common.{◌≡◌, map, take}
-use Rattle.gptp_roles.specs.Selection.{clock_of}
-use Rattle.gptp_plan.specs.declared.network.Member.{Member}
-use Rattle.gptp_lint.proofs.nodes.clocks_of.Given as goal
-
-abbrev pub invariant-loop-place : goal.invariant-loop-place
-invariant-loop-place l = l.clocks.items ≡ map (λ (m : Member). clock_of m.identity) (take l.place l.network.systems)

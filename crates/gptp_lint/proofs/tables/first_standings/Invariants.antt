@@ -1,7 +1,0 @@
--- The first links, so far.
-use Rattle.std.proofs.Common.{◌≡◌, map, take}
-use Rattle.gptp_lint.specs.Course.{first, wire_of}
-use Rattle.gptp_lint.proofs.tables.first_standings.Given as goal
-
-abbrev pub invariant-loop-cable : goal.invariant-loop-cable
-invariant-loop-cable l = l.standings.items ≡ map (λ c. first (wire_of c)) (take l.cable-index l.cables)
