@@ -1,6 +1,8 @@
 //! The links of a world that are up between two live systems. Times are in ns.
 
-ghost use Rattle.std.specs.Prelude.{◌≡◌};
+ghost use Rattle.std.specs.Prelude.{◌≡◌, ◌≤◌};
+ghost use Rattle.gptp_acts.specs.Prompt.{IsPromptIn};
+ghost use Rattle.gptp_plan.specs.Allowed.{IsFitAct};
 
 use crate::intervals::intervals;
 use crate::same::{same, same_at};
@@ -90,53 +92,32 @@ fn expect(
     Ok(())
 }
 
-/// A change at time 0, and the links in use after it, by their numbers.
-#[derive(Drop)]
-struct Row {
-    step: &'static str,
-    change: Change,
-    wanted: &'static [usize],
-}
-
-/// The changes, in their order.
-fn row_at(number: usize) -> Row {
-    match number {
-        0 => Row {
-            step: "a system has failed",
-            change: Change::Fail { clock: clock(1) },
-            wanted: &[2],
-        },
-        1 => Row {
-            step: "a link is up",
-            change: Change::LinkUp {
-                clock: clock(3),
-                port: 2,
-            },
-            wanted: &[2, 3],
-        },
-        _ => Row {
-            step: "another is down",
-            change: Change::LinkDown {
-                clock: clock(2),
-                port: 2,
-            },
-            wanted: &[3],
-        },
+/// That change at time 0.
+fn at_first(change: Change) -> Timed
+    ensures at { result.at ≡ 0 }
+    ensures act { result.act ≡ Act.Change change }
+{
+    Timed {
+        at: 0,
+        act: Act::Change(change),
     }
 }
 
-/// Makes the change of a row, and expects its links.
-fn change(
+/// Does an act, and expects these links in use after it.
+fn follow(
     rt: &impl Abort,
     alloc: Global,
     world: &mut World<PcgFate>,
-    row: Row,
-) -> Result<(), Fail> {
-    world.act(Timed {
-        at: 0,
-        act: Act::Change(row.change),
-    })?;
-    expect(rt, alloc, world, row.step, row.wanted)
+    step: &str,
+    timed: Timed,
+    wanted: &[usize],
+) -> Result<(), Fail>
+    requires moment { timed.at ≤ 1000000000000000 }
+    requires fit { IsFitAct timed.act }
+    requires prompt { IsPromptIn world.old.scene timed.act }
+{
+    world.act(timed)?;
+    expect(rt, alloc, world, step, wanted)
 }
 
 #[test]
@@ -144,9 +125,18 @@ fn links_in_use_are_up_between_live_systems(rt: HostRuntime) -> Result<(), Fail>
     let alloc = rt.alloc();
     let mut world = World::new(alloc, &line(alloc)?, PcgFate::new(1))?;
     expect(&rt, alloc, &world, "at first", &[1, 2])?;
-    for number in 0..3 {
-        change(&rt, alloc, &mut world, row_at(number))?;
-    }
+    let fail = at_first(Change::Fail { clock: clock(1) });
+    follow(&rt, alloc, &mut world, "a system has failed", fail, &[2])?;
+    let up = at_first(Change::LinkUp {
+        clock: clock(3),
+        port: 2,
+    });
+    follow(&rt, alloc, &mut world, "a link is up", up, &[2, 3])?;
+    let down = at_first(Change::LinkDown {
+        clock: clock(2),
+        port: 2,
+    });
+    follow(&rt, alloc, &mut world, "another is down", down, &[3])?;
     same(&rt, world.link_at(usize::MAX), None);
     Ok(())
 }
