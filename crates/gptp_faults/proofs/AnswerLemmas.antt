@@ -4,7 +4,6 @@ use Rattle.gptp_network.specs.Document.{DocumentState}
 use Rattle.gptp_faults.specs.Cases.{AreCases}
 use Rattle.gptp_faults.specs.Faults.{Answers, IsTable}
 use Rattle.gptp_faults.specs.FaultsText.{table_lines}
-use Rattle.gptp_faults.specs.Ranking.{ranked}
 use Rattle.gptp_faults.specs.Refusals.{any_late, fault_before}
 use Rattle.gptp_faults.specs.Times.{ArePlanned, AreTimes}
 use Rattle.gptp_faults.specs.declared.cases.Case.{Case}
@@ -20,8 +19,8 @@ pub answered : (d : DocumentState) (options : FaultsOptions) (cases : List Case)
     → (answer : Answer) → IsTable d options t planned answer → Answers d options answer
 answered d options cases t planned are_cases are_times before are_planned in_time (Refused fault) none = absurd none
 answered d options cases t planned are_cases are_times before are_planned in_time (Table text exceeded)
-    (outcomes, are_outcomes, text_is, exceeded_is) = (
-      table_lines options.limits t (ranked outcomes),
+    (outcomes, told, are_outcomes, are_told, text_is, exceeded_is) = (
+      table_lines options.limits t told,
       record {
         cases = cases;
         are_cases = are_cases;
@@ -33,6 +32,8 @@ answered d options cases t planned are_cases are_times before are_planned in_tim
         in_time = in_time;
         outcomes = outcomes;
         are_outcomes = are_outcomes;
+        told = told;
+        are_told = are_told;
         are = refl;
         exceeded_is = exceeded_is;
       },

@@ -10,7 +10,6 @@ use Rattle.gptp_timeline.specs.Each.{Each}
 use Rattle.gptp_faults.specs.Extremes.{greatest_behind, joined, of_one}
 use Rattle.gptp_faults.specs.Follows.{follows}
 use Rattle.gptp_faults.specs.Outcomes.{backs, belongs, downs, IsOutcome, IsOutcomeAt, numbers_of, OutcomeState}
-use Rattle.gptp_faults.specs.Ranking.{ranked, ranked_behind, ranked_with}
 use Rattle.gptp_faults.specs.Runs.{IsRun, runs_of}
 use Rattle.gptp_faults.specs.declared.extremes.Extremes.{Extremes}
 use Rattle.gptp_faults.specs.declared.follows.Follow.{Follow}
@@ -120,39 +119,17 @@ module _ (parts part count : ℕ) where
       numbers_more ∙ ap (λ ns. numbers_of parts part count ++ ns) (rw is refl)
       ∙ append-nil (numbers_of parts part count)
 
--- one more in its order
-ranked_more : (others os : List OutcomeState) (o : OutcomeState)
-    → ranked_behind others (os ++ o ∷ []) ≡ ranked_with (ranked_behind others os) o
-ranked_more others [] o = refl
-ranked_more others (x ∷ xs) o = ranked_more (ranked_with others x) xs o
+module _ (d : DocumentState) (t : Times) (planned : List Planned) (parts part count : ℕ)
+    (tried : List OutcomeState) (so_far : Each (IsOutcomeAt d t planned) (numbers_of parts part count) tried) where
+  -- a case more that belongs to the part was tried
+  pub case_tried : belongs parts part count ≡ true → (o : OutcomeState) → IsOutcomeAt d t planned count o
+      → Each (IsOutcomeAt d t planned) (numbers_of parts part (count + 1)) (tried ++ o ∷ [])
+  case_tried is o outcome =
+      subst (λ ns. Each (IsOutcomeAt d t planned) ns (tried ++ o ∷ [])) (sym (one_number parts part count is))
+      (each_more (IsOutcomeAt d t planned) (numbers_of parts part count) tried count o so_far outcome)
 
--- The first cases were tried, so many, as far as they belong to a part; these are they in their order.
-pub record AreRanked (d : DocumentState) (t : Times) (planned : List Planned) (parts part count : ℕ)
-    (in_order : List OutcomeState) : Type 0 where
-  pub outcomes : List OutcomeState
-  pub are : Each (IsOutcomeAt d t planned) (numbers_of parts part count) outcomes
-  pub order_is : in_order ≡ ranked outcomes
-
-module _ (d : DocumentState) (t : Times) (planned : List Planned) (parts part : ℕ) where
-  pub none_ranked : AreRanked d t planned parts part 0 []
-  none_ranked = record { outcomes = []; are = tt; order_is = refl }
-
-  module _ (count : ℕ) (in_order : List OutcomeState) (so_far : AreRanked d t planned parts part count in_order) where
-    pub one_ranked : belongs parts part count ≡ true → (o : OutcomeState) → IsOutcomeAt d t planned count o
-        → AreRanked d t planned parts part (count + 1) (ranked_with in_order o)
-    one_ranked is o outcome = record {
-      outcomes = so_far.outcomes ++ o ∷ [];
-      are = subst (λ ns. Each (IsOutcomeAt d t planned) ns (so_far.outcomes ++ o ∷ []))
-          (sym (one_number parts part count is))
-          (each_more (IsOutcomeAt d t planned) (numbers_of parts part count) so_far.outcomes count o so_far.are
-          outcome);
-      order_is = ap (λ os. ranked_with os o) so_far.order_is ∙ sym (ranked_more [] so_far.outcomes o);
-    }
-
-    pub other_ranked : belongs parts part count ≡ false → AreRanked d t planned parts part (count + 1) in_order
-    other_ranked is = record {
-      outcomes = so_far.outcomes;
-      are = subst (λ ns. Each (IsOutcomeAt d t planned) ns so_far.outcomes) (sym (no_number parts part count is))
-          so_far.are;
-      order_is = so_far.order_is;
-    }
+  -- it doesn't belong to it
+  pub case_passed : belongs parts part count ≡ false
+      → Each (IsOutcomeAt d t planned) (numbers_of parts part (count + 1)) tried
+  case_passed is =
+      subst (λ ns. Each (IsOutcomeAt d t planned) ns tried) (sym (no_number parts part count is)) so_far

@@ -1,10 +1,8 @@
 -- How many cases belong to a part, and what is told of them as they begin.
 use Rattle.std.proofs.Common.{◌≡◌, ◌+◌, ◌++◌, ◌∷◌, [], ℕ, suc, Bool, true, false, cond, not, List, Option, length, refl, sym, ap, subst, ◌∙◌, arith}
 use Rattle.std.specs.Io.KnownBytes.{Appends}
-use Rattle.std.specs.List.{prefix_len}
 use Rattle.std.proofs.lemmas.List.{length-append}
 use Rattle.std.proofs.lemmas.List.Concat.{flat_map-append}
-use Rattle.std.proofs.lemmas.List.Sorted.{IsPermutation-insert, length_permutation}
 use Rattle.gptp_network.specs.Document.{DocumentState}
 use Rattle.gptp_sink.proofs.SinkLemmas.{appends_both}
 use Rattle.gptp_spelling.specs.Lines.{text_of}
@@ -13,14 +11,13 @@ use Rattle.gptp_faults.specs.Cases.{AreCases}
 use Rattle.gptp_faults.specs.Faults.{IsTable}
 use Rattle.gptp_faults.specs.Outcomes.{belongs, numbers_of, OutcomeState}
 use Rattle.gptp_faults.specs.Progress.{all_begun, begun, part_begun, part_of, TellsCases}
-use Rattle.gptp_faults.specs.Ranking.{is_worse, ranked, ranked_behind, ranked_with}
 use Rattle.gptp_faults.specs.declared.cases.Case.{Case}
 use Rattle.gptp_faults.specs.declared.cases.Planned.{Planned}
 use Rattle.gptp_faults.specs.declared.faults.Answer.{Answer}
 use Rattle.gptp_faults.specs.declared.faults.Answer.TheVariants.{Refused, Table}
 use Rattle.gptp_faults.specs.declared.options.FaultsOptions.{FaultsOptions}
 use Rattle.gptp_faults.specs.declared.times.Times.{Times}
-use Rattle.gptp_faults.proofs.OutcomeLemmas.{AreRanked, no_number, one_number}
+use Rattle.gptp_faults.proofs.OutcomeLemmas.{no_number, one_number}
 
 -- ---- how many there are
 
@@ -40,30 +37,6 @@ each_length P [] [] each = refl
 each_length P [] (y ∷ ys) each = absurd each
 each_length P (x ∷ xs) [] each = absurd each
 each_length P (x ∷ xs) (y ∷ ys) each = ap suc (each_length P xs ys each.1)
-
--- one outcome more among others
-pub one_longer : (others : List OutcomeState) (o : OutcomeState) → length (ranked_with others o) ≡ length others + 1
-one_longer others o =
-    let place : ℕ = prefix_len (λ other. not (is_worse o other)) others in
-    let whole : suc (length others) ≡ length others + 1 = omega arith in
-    length_permutation (o ∷ others) (ranked_with others o) (IsPermutation-insert others place o) ∙ whole
-
-ranked_length : (others os : List OutcomeState) → length (ranked_behind others os) ≡ length others + length os
-ranked_length others [] = let none : length others ≡ length others + 0 = omega arith in none
-ranked_length others (o ∷ os) =
-    let rest = ranked_length (ranked_with others o) os in
-    let one = one_longer others o in
-    let whole : length others + 1 + length os ≡ length others + suc (length os) = omega arith in
-    rest ∙ ap (λ n. n + length os) one ∙ whole
-
--- as many outcomes as numbers that belong to the part
-pub ranked_count : (d : DocumentState) (t : Times) (planned : List Planned) (parts part count : ℕ)
-    (in_order : List OutcomeState) → AreRanked d t planned parts part count in_order
-    → length in_order ≡ length (numbers_of parts part count)
-ranked_count d t planned parts part count in_order so_far =
-    let none : 0 + length so_far.outcomes ≡ length so_far.outcomes = omega arith in
-    ap length so_far.order_is ∙ ranked_length [] so_far.outcomes ∙ none
-    ∙ sym (each_length _ (numbers_of parts part count) so_far.outcomes so_far.are)
 
 -- ---- what is told
 

@@ -5,7 +5,7 @@ use Rattle.gptp_spelling.specs.Lines.{text_of}
 use Rattle.gptp_faults.specs.Cases.{AreCases}
 use Rattle.gptp_faults.specs.FaultsText.{exceeds, table_lines}
 use Rattle.gptp_faults.specs.Outcomes.{AreOutcomes, OutcomeState}
-use Rattle.gptp_faults.specs.Ranking.{ranked}
+use Rattle.gptp_faults.specs.Ranking.{AreRanked}
 use Rattle.gptp_faults.specs.Refusals.{any_late, fault_before, RefusesFaults}
 use Rattle.gptp_faults.specs.Times.{ArePlanned, AreTimes}
 use Rattle.gptp_faults.specs.declared.cases.Case.{Case}
@@ -29,16 +29,17 @@ pub record FaultsOf (d : DocumentState) (options : FaultsOptions) (lines : List 
     pub in_time : any_late times planned ≡ false
     pub outcomes : List OutcomeState
     pub are_outcomes : AreOutcomes d times options planned outcomes
-    pub are : lines ≡ table_lines options.limits times (ranked outcomes)
-    pub exceeded_is : exceeded ≡ exceeds options.limits (ranked outcomes)
+    pub told : List OutcomeState
+    pub are_told : AreRanked outcomes told
+    pub are : lines ≡ table_lines options.limits times told
+    pub exceeded_is : exceeded ≡ exceeds options.limits told
 
 -- the table of cases of which none is refused
 abbrev pub IsTable : DocumentState → FaultsOptions → Times → List Planned → Answer → Type 0
 IsTable d options t planned (Refused fault) = ⊥
 IsTable d options t planned (Table text exceeded) =
-    (outcomes : List OutcomeState) × AreOutcomes d t options planned outcomes
-    × (string_bytes text ≡ text_of (table_lines options.limits t (ranked outcomes)))
-    × (exceeded ≡ exceeds options.limits (ranked outcomes))
+    (outcomes told : List OutcomeState) × AreOutcomes d t options planned outcomes × AreRanked outcomes told
+    × (string_bytes text ≡ text_of (table_lines options.limits t told)) × (exceeded ≡ exceeds options.limits told)
 
 -- the table, or why there is none
 abbrev pub Answers : DocumentState → FaultsOptions → Answer → Type 0

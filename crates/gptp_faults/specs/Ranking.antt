@@ -1,9 +1,9 @@
 -- Cases in the order in which they are told (profile).
-use Rattle.std.specs.Prelude.{ℕ, Bool, not, List, [], ◌∷◌, Option, Some, None}
-use Rattle.std.specs.List.{insert, prefix_len}
+use Rattle.std.specs.Prelude.{ℕ, Bool, List, [], ◌∷◌, Option, Some, None}
+use Rattle.std.specs.List.Sorted.{IsPermutation, IsSortedBy, IsStableBy}
 use Rattle.std.specs.declared.cmp.Ordering.{Ordering}
 use Rattle.std.specs.Cmp.Lexicographic.{slice_cmp}
-use Rattle.std.specs.Ordering.{is_gt, nat_cmp}
+use Rattle.std.specs.Ordering.{is_lt, nat_cmp}
 use Rattle.gptp_timeline.specs.Limits.{amount_of}
 use Rattle.gptp_faults.specs.Extremes.{joined}
 use Rattle.gptp_faults.specs.Outcomes.{OutcomeState}
@@ -33,17 +33,12 @@ order a b = slice_cmp nat_cmp (weight a) (weight b)
 abbrev pub worst_of : OutcomeState → Extremes
 worst_of o = joined o.down o.back
 
+-- the first of these in which they differ is the greater
 abbrev pub is_worse : OutcomeState → OutcomeState → Bool
-is_worse a b = is_gt (order (worst_of a) (worst_of b))
+is_worse a b = is_lt (order (worst_of b) (worst_of a))
 
--- One more case among others, the worse first, behind those that it isn't worse than: so of equals the first comes
--- first.
-abbrev pub ranked_with : List OutcomeState → OutcomeState → List OutcomeState
-ranked_with others o = insert others (prefix_len (λ other. not (is_worse o other)) others) o
-
-abbrev pub ranked_behind : List OutcomeState → List OutcomeState → List OutcomeState
-ranked_behind others [] = others
-ranked_behind others (o ∷ os) = ranked_behind (ranked_with others o) os
-
-abbrev pub ranked : List OutcomeState → List OutcomeState
-ranked = ranked_behind []
+-- outcomes in the order in which they are told: the worst first, and of equals the first
+pub record AreRanked (outcomes told : List OutcomeState) : Type 0 where
+  pub same : IsPermutation outcomes told
+  pub worst_first : IsSortedBy is_worse told
+  pub equals : IsStableBy is_worse outcomes told

@@ -6,13 +6,12 @@ ghost use Rattle.gptp_spelling.specs.Lines.{text_of};
 ghost use Rattle.gptp_faults.specs.Faults.{Answers, IsTable};
 ghost use Rattle.gptp_faults.specs.Outcomes.{AreOutcomes, belongs, IsOutcome, OutcomeState};
 ghost use Rattle.gptp_faults.specs.Progress.{TellsCases, begun, begun_line, part_begun, part_of};
-ghost use Rattle.gptp_faults.specs.Ranking.{ranked, ranked_with};
 ghost use Rattle.gptp_faults.specs.Refusals.{any_late};
 ghost use Rattle.gptp_faults.specs.Times.{AreBounded, AreOptions, IsInTime};
 
 use crate::cases::{Planned, cases_of};
 use crate::options::FaultsOptions;
-use crate::outcome::{Outcome, try_case};
+use crate::outcome::{Outcome, push_outcome, try_case};
 use crate::ranking::rank;
 use crate::refusals::{any_late, fault_before};
 use crate::text::write_table;
@@ -88,7 +87,7 @@ fn tell<P: Sink>(
     }
 }
 
-/// Tries a case that belongs to the part, and puts it among those before.
+/// Tries a case that belongs to the part, and puts what becomes of it behind those before.
 fn try_next<P: Sink>(
     alloc: Global,
     document: &mut Document,
@@ -103,7 +102,7 @@ fn try_next<P: Sink>(
     requires bounded { AreBounded times.now }
     requires in_time { IsInTime times.now planned.now }
     ensures tried { OnOk result ((o : OutcomeState) × IsOutcome document.old times.now number planned.now o
-        × (outcomes.new.items ≡ ranked_with outcomes.old.items o)) }
+        × (outcomes.new.items ≡ outcomes.old.items ++ (o ∷ []))) }
     ensures told { OnOk result (Appends (P.written progress.old) (P.written progress.new)
         (text_of (begun options.now.progress count (length outcomes.old.items + 1)))) }
     ensures same { OnOk result (document.new ≡ document.old) }
@@ -112,11 +111,11 @@ fn try_next<P: Sink>(
 {
     tell(alloc, options.progress, count, outcomes.len() + 1, progress)?;
     let outcome = try_case(alloc, document, times, number, planned)?;
-    rank(outcomes, outcome)?;
+    push_outcome(outcomes, outcome)?;
     Ok(())
 }
 
-/// Tries all cases that belong to the part, and answers what becomes of them, the worst first.
+/// Tries all cases that belong to the part, and answers what becomes of them, by their numbers.
 fn try_cases<P: Sink>(
     alloc: Global,
     document: &mut Document,
@@ -128,8 +127,7 @@ fn try_cases<P: Sink>(
     requires options { AreOptions options.now }
     requires bounded { AreBounded times.now }
     requires in_time { any_late times.now planned.now ≡ false }
-    ensures outcomes { IfOk result (λ v. (outcomes : List OutcomeState)
-        × AreOutcomes document.old times.now options.now planned.now outcomes × (v.items ≡ ranked outcomes)) }
+    ensures outcomes { IfOk result (λ v. AreOutcomes document.old times.now options.now planned.now v.items) }
     ensures told { OnOk result (Appends (P.written progress.old) (P.written progress.new)
         (text_of (part_begun options.now (length planned.now)))) }
     ensures works { result ≢ Err Cut.Write → P.failures progress.new ≡ P.failures progress.old }
@@ -173,7 +171,8 @@ fn table_of<P: Sink>(
     ensures works { result ≢ Err Cut.Write → P.failures progress.new ≡ P.failures progress.old }
     ensures fails { result ≡ Err Cut.Write → P.failures progress.new ≢ P.failures progress.old }
 {
-    let outcomes = try_cases(alloc, document, options, times, planned, progress)?;
+    let mut outcomes = try_cases(alloc, document, options, times, planned, progress)?;
+    rank(&mut outcomes)?;
     let mut text = String::new(alloc);
     let exceeded = write_table(&mut text, &options.limits, times, &outcomes)?;
     Ok(Answer::Table { text, exceeded })

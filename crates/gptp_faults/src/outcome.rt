@@ -1,6 +1,6 @@
 //! What becomes of a case.
 
-ghost use Rattle.std.specs.Prelude.{◌≡◌, ◌≤◌, ◌<◌, ◌+◌, IfErr, IfOk, OnOk};
+ghost use Rattle.std.specs.Prelude.{◌≡◌, ◌≤◌, ◌<◌, ◌+◌, ◌++◌, ◌∷◌, [], IfErr, IfOk, OnOk};
 ghost use Rattle.gptp_faults.specs.Outcomes.{IsOutcome};
 ghost use Rattle.gptp_faults.specs.Times.{AreBounded, IsInTime};
 
@@ -11,7 +11,7 @@ use crate::runs::{run_case, runs_of};
 use crate::times::Times;
 use gptp_network::Document;
 use gptp_report::Cut;
-use std::alloc::Global;
+use std::alloc::{AllocError, Global};
 use std::marker::Model;
 
 /// What becomes of a case: the worst of its runs.
@@ -105,6 +105,14 @@ impl Outcome {
     {
         &self.follow
     }
+}
+
+/// Puts what becomes of a case behind others.
+pub(crate) fn push_outcome(outcomes: &mut Vec<Outcome>, outcome: Outcome) -> Result<(), AllocError>
+    ensures { OnOk result (outcomes.new.items ≡ outcomes.old.items ++ (outcome ∷ [])) }
+{
+    outcomes.push(outcome)?;
+    Ok(())
 }
 
 /// Lets a case fail and come back in each of its runs, and answers what becomes of it.

@@ -1,13 +1,15 @@
-use Rattle.std.proofs.Common.{◌≡◌, ◌+◌, ◌∙◌, List, Some, length, slice_get, ap, subst, sym, arith}
+use Rattle.std.proofs.Common.{◌≡◌, ◌+◌, ◌∙◌, [], ◌∷◌, List, Some, length, slice_get, ap, subst, sym, arith}
 use Rattle.std.specs.Io.KnownBytes.{Appends}
+use Rattle.std.proofs.lemmas.List.{length-append}
 use Rattle.std.proofs.lemmas.Option.{slice_get-get_or}
 use Rattle.gptp_network.specs.Document.{DocumentState}
 use Rattle.gptp_spelling.specs.Lines.{text_of}
 use Rattle.gptp_faults.specs.Progress.{all_begun, begun, part_of}
-use Rattle.gptp_faults.specs.Outcomes.{IsOutcome, OutcomeState}
+use Rattle.gptp_faults.specs.Outcomes.{IsOutcome, IsOutcomeAt, numbers_of, OutcomeState}
+use Rattle.gptp_timeline.specs.Each.{Each}
 use Rattle.gptp_faults.specs.declared.cases.Planned.{Planned}
-use Rattle.gptp_faults.proofs.OutcomeLemmas.{AreRanked, one_ranked, other_ranked}
-use Rattle.gptp_faults.proofs.ProgressLemmas.{one_longer, ranked_count, told_all, told_more, told_still}
+use Rattle.gptp_faults.proofs.OutcomeLemmas.{case_passed, case_tried}
+use Rattle.gptp_faults.proofs.ProgressLemmas.{each_length, told_all, told_more, told_still}
 use Rattle.gptp_faults.proofs.faults.try_cases.Goals as goal
 use Rattle.gptp_faults.proofs.faults.try_cases.Goals.{then-belongs+in_ok-try_next, else-belongs}
 
@@ -29,11 +31,11 @@ loop-number-preserved g c =
           subst (λ (e : DocumentState). IsOutcome e t number p tried.0) so_far.same tried.1 in
           let after = ap (λ v. v.items) w.outcomes-is ∙ tried.2 in
           record {
-            ranked = subst (AreRanked d t planned parts part (number + 1)) (sym after)
-                (one_ranked d t planned parts part number before so_far.ranked
+            tried = subst (Each (IsOutcomeAt d t planned) (numbers_of parts part (number + 1))) (sym after)
+                (case_tried d t planned parts part number before so_far.tried
                 (sym c.belongs.ensures ∙ w.if-belongs.true) tried.0 (p, there, outcome));
             told = told_more asked count (length before) _ start (written c.loop-number.progress) _
-                (ap length after ∙ one_longer before tried.0) so_far.told
+                (ap length after ∙ length-append before (tried.0 ∷ [])) so_far.told
                 (subst (λ now. Appends (written c.loop-number.progress) (written now)
                 (text_of (begun asked count (length before + 1)))) (sym w.progress-is)
                 w.in_ok-try_next.ensures.told);
@@ -44,8 +46,9 @@ loop-number-preserved g c =
           }
       | else-belongs w ↦
           record {
-            ranked = subst (AreRanked d t planned parts part (number + 1)) (sym (ap (λ v. v.items) w.outcomes-is))
-                (other_ranked d t planned parts part number before so_far.ranked
+            tried = subst (Each (IsOutcomeAt d t planned) (numbers_of parts part (number + 1)))
+                (sym (ap (λ v. v.items) w.outcomes-is))
+                (case_passed d t planned parts part number before so_far.tried
                 (sym c.belongs.ensures ∙ w.if-belongs.false));
             told = told_still asked count (length before) _ start _ (ap (λ v. length v.items) w.outcomes-is)
                 (subst (λ now. Appends start (written now) (text_of (all_begun asked count (length before))))
@@ -64,5 +67,5 @@ returns-clause-told g c =
     let all : number ≡ length planned = omega (arith, past, most) in
     told_all options (length planned) c.count_of-count.result (length in_order)
     (g.P.Sink.written c.args.progress.now) (g.P.Sink.written c.loop-number.progress) c.count_of-count.ensures
-    (ranked_count c.args.document.now c.args.times.now planned options.parts options.part number in_order
-    c.loop-number.invariant.ranked ∙ ap (part_of options) all) c.loop-number.invariant.told
+    (sym (each_length _ (numbers_of options.parts options.part number) in_order c.loop-number.invariant.tried)
+    ∙ ap (part_of options) all) c.loop-number.invariant.told
