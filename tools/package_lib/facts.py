@@ -2,6 +2,7 @@
 
 import hashlib
 import os
+import re
 import subprocess
 from dataclasses import dataclass
 from datetime import datetime, timezone
@@ -15,9 +16,8 @@ NAME = "gptp-sim"
 ARCHITECTURE = "amd64"
 MAINTAINER = "Raluyeko maintainers <maintainers@users.noreply.raluyeko.example>"
 
-# The version. The first of its numbers changes where a text that a command writes, or a promise of docs/PROMISES.md, is
-# another or gone; the second where one comes that wasn't there; the third where neither does.
-VERSION = "1.0.0"
+# the version of the program, as its source gives it
+VERSION = re.findall(r'"gptp_sim ([0-9.]+)\\n"', (TOP / "crates/gptp_commands/src/version.rt").read_text())[0]
 
 
 def git(*words: str) -> str:

@@ -1,10 +1,13 @@
 -- What a run certifies of a document at rest is accepted of it.
 use Rattle.std.proofs.Common.{◌≡◌, ◌≤◌, ℕ, true, List, [], ◌∷◌, Option, length, codes, refl, sym, ap, subst, ◌∙◌, inl, inr}
-use Rattle.gptp_graph.specs.Snapshot.{Snapshot}
+use Rattle.gptp_graph.specs.Snapshot.{IsWellFormed, Snapshot}
+use Rattle.gptp_plan.specs.Network.{IsNetwork}
 use Rattle.gptp_network.specs.Document.{DocumentState}
-use Rattle.gptp_network.specs.Snapshot.{StandsAfter}
+use Rattle.gptp_network.specs.Snapshot.{IsSnapshot, StandsAfter}
 use Rattle.gptp_network.specs.declared.fault.DocumentFault.TheVariants.{TooMany}
+use Rattle.gptp_network.proofs.ExistenceLemmas.{snapshot_exists}
 use Rattle.gptp_network.proofs.LawLemmas.{never_both, one_meaning, within_limits}
+use Rattle.gptp_network.proofs.MeantLemmas.{meant_document, meant_well}
 use Rattle.gptp_spelling.specs.Lines.{text_of}
 use Rattle.gptp_certificate_text.specs.CertificateText.{certificate_text}
 use Rattle.gptp_certificate_text.specs.declared.fault.CertificateFault.TheVariants.{Line}
@@ -13,66 +16,96 @@ use Rattle.gptp_checker.specs.Faults.{IsAccepted}
 use Rattle.gptp_checker.proofs.ReadableLemmas.{accepted_length, accepted_readable}
 use Rattle.gptp_commands.specs.declared.failure.Status.{Status}
 use Rattle.gptp_commands.specs.declared.failure.Status.TheVariants.{Done}
+use Rattle.gptp_commands.specs.declared.question.Question.TheVariants.{Choice}
 use Rattle.gptp_commands.specs.declared.run.RunOptions.{RunOptions}
 use Rattle.gptp_commands.specs.Certified.{AsksAtRest, AsksTheSame, EndsAccepted}
 use Rattle.gptp_commands.specs.CheckText.{certificate_limit, AnswersBoth, AnswersCertificate, CheckText, RefusesCertificate}
 use Rattle.gptp_commands.specs.Documents.{document_limit, RefusesFault}
+use Rattle.gptp_commands.specs.QuestionText as questions
+use Rattle.gptp_commands.specs.QuestionText.{QuestionText}
 use Rattle.gptp_commands.specs.RunText.{until_of, AnswersDocument, CertifiesRight, IsSettledRun, RunText, SettlesInTime}
 use Rattle.gptp_commands.proofs.LimitedLemmas.{in_size, of_size}
 
-module _ (options : RunOptions) (input : List ℕ) (d : DocumentState) (g : Snapshot) (at : Option ℕ)
-    (asks : AsksAtRest options input d g) (same : AsksTheSame at options d) where
-  -- a right certificate is accepted
-  right_accepted : (certificate : List (List ℕ)) → CertifiesRight true g certificate
-      → CheckText at (text_of certificate) input (codes "accepted" ∷ []) Done
-  right_accepted certificate (stated, right, is_certificate, lines) =
-      let is : IsAccepted 2 g stated = record { choice = right; near = λ first. absurd cc } in
-      let limits = within_limits d (until_of options d) g asks.network asks.snapshot in
-      let text : text_of certificate
-      ≡ certificate_text 2 stated = ap text_of lines ∙ sym (text_of_lines 2 stated) in
-      let short : length (text_of certificate) ≤ certificate_limit =
-      subst (λ t. length t ≤ certificate_limit) (sym text)
-      (accepted_length 2 g stated (inr refl) asks.well limits is) in
-      in_size document_limit (AnswersBoth at (text_of certificate)) (RefusesFault TooMany) input
-      (codes "accepted" ∷ []) Done asks.size
-      (inl (
-        d,
-        asks.means,
-        in_size certificate_limit (AnswersCertificate d at) (RefusesCertificate Line) (text_of certificate)
-            (codes "accepted" ∷ []) Done short
-            (inl (
-              record { version = 2; lines = stated },
-              text,
-              accepted_readable 2 g stated (inr refl) asks.well limits is,
-              is_certificate,
-              (
-                g,
-                subst (λ events. StandsAfter d.network events g) (sym same) asks.snapshot,
-                asks.well,
-                inl (is, record { shown = refl; status_is = refl }),
-              ),
-            )),
-      ))
+module _ (options : RunOptions) (input : List ℕ) (d : DocumentState) (at : Option ℕ)
+    (asks : AsksAtRest options input d) (same : AsksTheSame at options d) where
+  network : IsNetwork d.network
+  network = (meant_document input d asks.means).0
 
-  settled_accepted : (output : List (List ℕ)) → IsSettledRun d options output → EndsAccepted at input output
-  settled_accepted output is = record {
-    report = is.report;
-    certificate = is.certificate;
-    lines = is.lines;
-    accepted = right_accepted is.certificate
-        (subst (λ asked. CertifiesRight asked g is.certificate) asks.asked (is.certifies g asks.snapshot));
-  }
+  module _ (g : Snapshot) (stands : IsSnapshot d (until_of options d) g) where
+    well : IsWellFormed g
+    well = meant_well input d (until_of options d) g asks.means stands
 
-  answer_accepted : (output : List (List ℕ)) (status : Status) → AnswersDocument options input output status
-      → EndsAccepted at input output
-  answer_accepted output status (inl (e, means, (plays, settles))) =
-      let is : e ≡ d = one_meaning input e d means asks.means in
-      settled_accepted output
-      (subst (λ k. SettlesInTime k options output) is settles asks.rest)
-  answer_accepted output status (inr (fault, fails, refuses)) = absurd (never_both input d fault asks.means fails)
+    -- a right certificate is accepted
+    right_accepted : (certificate : List (List ℕ)) → CertifiesRight true g certificate
+        → CheckText at (text_of certificate) input (codes "accepted" ∷ []) Done
+    right_accepted certificate (stated, right, is_certificate, lines) =
+        let is : IsAccepted 2 g stated = record { choice = right; near = λ first. absurd cc } in
+        let limits = within_limits d (until_of options d) g network stands in
+        let text : text_of certificate
+        ≡ certificate_text 2 stated = ap text_of lines ∙ sym (text_of_lines 2 stated) in
+        let short : length (text_of certificate) ≤ certificate_limit =
+        subst (λ t. length t ≤ certificate_limit) (sym text)
+        (accepted_length 2 g stated (inr refl) well limits is) in
+        in_size document_limit (AnswersBoth at (text_of certificate)) (RefusesFault TooMany) input
+        (codes "accepted" ∷ []) Done asks.size
+        (inl (
+          d,
+          asks.means,
+          in_size certificate_limit (AnswersCertificate d at) (RefusesCertificate Line) (text_of certificate)
+              (codes "accepted" ∷ []) Done short
+              (inl (
+                record { version = 2; lines = stated },
+                text,
+                accepted_readable 2 g stated (inr refl) well limits is,
+                is_certificate,
+                (
+                  g,
+                  subst (λ events. StandsAfter d.network events g) (sym same) stands,
+                  well,
+                  inl (is, record { shown = refl; status_is = refl }),
+                ),
+              )),
+        ))
+
+    -- it is what `choice` writes
+    right_chosen : (certificate : List (List ℕ)) → CertifiesRight true g certificate
+        → QuestionText (Choice at) input certificate Done
+    right_chosen certificate (stated, right, is_certificate, lines) =
+        in_size document_limit (questions.AnswersInput (Choice at)) (RefusesFault TooMany) input certificate Done
+        asks.size
+        (inl (
+          d,
+          asks.means,
+          (
+            g,
+            subst (λ events. StandsAfter d.network events g) (sym same) stands,
+            well,
+            record { lines = stated; is = is_certificate; choice = right; shown = lines; status_is = refl },
+          ),
+        ))
+
+    settled_accepted : (output : List (List ℕ)) → IsSettledRun d options output → EndsAccepted at input output
+    settled_accepted output is =
+        let right = subst (λ asked. CertifiesRight asked g is.certificate) asks.asked (is.certifies g stands) in
+        record {
+          report = is.report;
+          certificate = is.certificate;
+          lines = is.lines;
+          accepted = right_accepted is.certificate right;
+          chosen = right_chosen is.certificate right;
+        }
+
+    answer_accepted : (output : List (List ℕ)) (status : Status) → AnswersDocument options input output status
+        → EndsAccepted at input output
+    answer_accepted output status (inl (e, means, (plays, settles))) =
+        let is : e ≡ d = one_meaning input e d means asks.means in
+        settled_accepted output
+        (subst (λ k. SettlesInTime k options output) is settles asks.rest)
+    answer_accepted output status (inr (fault, fails, refuses)) = absurd (never_both input d fault asks.means fails)
 
   pub run_accepted : (output : List (List ℕ)) (status : Status) → RunText options input output status
       → EndsAccepted at input output
   run_accepted output status text =
-      answer_accepted output status
+      let (g, stands) = snapshot_exists d (until_of options d) network in
+      answer_accepted g stands output status
       (of_size document_limit (AnswersDocument options) (RefusesFault TooMany) input output status asks.size text)

@@ -21,11 +21,11 @@ use Rattle.clap.proofs.OnLiterals.{clap_on_literals}
 use Rattle.gptp_network.specs.Values.{clock_of_text}
 use Rattle.gptp_network.specs.declared.fault.DocumentFault.{DocumentFault}
 use Rattle.gptp_network.specs.declared.fault.DocumentFault.TheVariants.{OutOfRange}
-use Rattle.gptp_commands.specs.Command.{AsksFor, BeginsWith, Enters, IsCompare, IsNoOption, IsPlain, LacksClock, LacksKind, LacksPart, OrderIsInRange, QuestionIsInRange, ReadsQuestion, RefusesCases, RefusesClock, WritesNumber, check_command, explain_command, name_of, program}
+use Rattle.gptp_commands.specs.Command.{AsksFor, BeginsWith, Enters, IsCompare, IsNoOption, IsPlain, IsTaken, LacksClock, LacksKind, LacksPart, OrderIsInRange, QuestionIsInRange, ReadsQuestion, RefusesCases, RefusesClock, WritesNumber, check_command, explain_command, name_of, program}
 use Rattle.gptp_commands.specs.declared.command.CommandLineError.{CommandLineError}
 use Rattle.gptp_commands.specs.declared.command.CommandLineError.TheVariants.{Memory}
 use Rattle.gptp_commands.specs.declared.command.Order.{Order}
-use Rattle.gptp_commands.specs.declared.command.Order.TheVariants.{Ask, Check, Compare, Faults, Run, Timeline}
+use Rattle.gptp_commands.specs.declared.command.Order.TheVariants.{Ask, Check, Compare, Faults, Run, Timeline, Version}
 use Rattle.gptp_commands.specs.declared.question.Question.{Question}
 use Rattle.gptp_commands.specs.declared.question.Question.TheVariants.{Accuracy, Choice, Explain, Lint}
 
@@ -492,6 +492,7 @@ asked parsed words m (Ask question) is matches accepted entered =
           (question_other question) (ap name_in rows_are),
       (entered.0, rows_are, entered.2),
     )
+asked parsed words m Version is matches accepted entered = absurd entered
 
 question_in_range : (rows : List Row) (question : Question) → ReadsQuestion rows question
     → QuestionIsInRange question
@@ -531,6 +532,7 @@ asked_in_range words (Faults options) asks =
     }
 asked_in_range words (Check options) asks = asks.1.2.until.range
 asked_in_range words (Ask question) asks = question_in_range asks.1.0 question asks.1.2
+asked_in_range words Version asks = tt
 
 -- ---- a command whose one value is a word: `check` with a file, `explain` with a clock
 
@@ -664,11 +666,11 @@ no_kind error (inr none) = absurd none
 
 -- one that fails
 pub refused_words : (parsed : App) (words : List Text) (error : Error) → parsed ≡ program
-    → (is_simple_and_free parsed ≡ true → HasKind (fault_of parsed words) error) → IsPlain words
+    → (is_simple_and_free parsed ≡ true → HasKind (fault_of parsed words) error) → IsTaken words
     → kind_of error ≡ OutOfMemory
-refused_words parsed words error is refused named =
+refused_words parsed words error is refused taken =
     let kinds : HasKind (fault_of program words) error = rw is at refused refl in
-    no_kind error (rw (none_wrong words named) at kinds)
+    no_kind error (rw taken.parsed at kinds)
 
 -- ---- a clock that isn't one
 
@@ -826,11 +828,19 @@ plain_with_cases words rows rows_are lacks (inr (inr (inr (inr (inr (inr (inr (i
     lacks_none rows
     (sym (ap rows_in (sym (ap (λ after. entered (built program) (stop after)) faults) ∙ rows_are))) lacks
 
+-- the words that name a command and nothing that may be left out are taken
+pub plain_taken : (words : List Text) → IsPlain words → IsTaken words
+plain_taken words named = record {
+  parsed = none_wrong words named;
+  clock = λ rows rows_are lacks. plain_with_clock words rows rows_are lacks named;
+  cases = λ rows rows_are lacks. plain_with_cases words rows rows_are lacks named;
+}
+
 pub refused_order : (parsed : App) (words : List Text) (m : ArgMatches) (error : CommandLineError) → parsed ≡ program
-    → HasMatchesOf parsed words m → (error ≡ Memory) ⊎ (RefusesClock m ⊎ RefusesCases m) → IsPlain words
+    → HasMatchesOf parsed words m → (error ≡ Memory) ⊎ (RefusesClock m ⊎ RefusesCases m) → IsTaken words
     → error ≡ Memory
-refused_order parsed words m error is matches (inl memory) named = memory
-refused_order parsed words m error is matches (inr (inr (rows, rows_are, lacks))) named =
-    absurd (plain_with_cases words rows (sym (rows_of_words parsed words m is matches) ∙ rows_are) lacks named)
-refused_order parsed words m error is matches (inr (inl (rows, rows_are, lacks))) named =
-    absurd (plain_with_clock words rows (sym (rows_of_words parsed words m is matches) ∙ rows_are) lacks named)
+refused_order parsed words m error is matches (inl memory) taken = memory
+refused_order parsed words m error is matches (inr (inr (rows, rows_are, lacks))) taken =
+    absurd (taken.cases rows (sym (rows_of_words parsed words m is matches) ∙ rows_are) lacks)
+refused_order parsed words m error is matches (inr (inl (rows, rows_are, lacks))) taken =
+    absurd (taken.clock rows (sym (rows_of_words parsed words m is matches) ∙ rows_are) lacks)

@@ -12,6 +12,8 @@ pub mod OnePlaceLemmas
 pub mod SameActLemmas
 pub mod OneTimelineLemmas
 pub mod CertifiedLemmas
+pub mod OneChoiceLemmas
+pub mod VersionLemmas
 pub mod CommandLemmas
 pub mod OptionLemmas
 pub mod CheckLemmas

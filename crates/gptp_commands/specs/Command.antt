@@ -2,6 +2,7 @@
 use Rattle.std.specs.Prelude.{◌≡◌, ◌≢◌, ◌⊎◌, ◌<◌, ◌≤◌, ◌^◌, ⊤, IfSome, ℕ, Bool, true, false, List, [], ◌∷◌, Option, Some, None, Ok, Err, drop, codes, string_bytes, bytes_eq, if◌then◌else◌}
 use Rattle.std.specs.Str.Parse.{IsNumeral, digits_value, without_leading_plus}
 use Rattle.clap.specs.Words.{App, Row, Rule, first_of, new_app, new_rule, one_of, subcommand_name_of, subcommand_of, subcommand_rows_of, with_rule, with_subcommand}
+use Rattle.clap.specs.Faults.{fault_of}
 use Rattle.clap.specs.Lexer.{strip_byte}
 use Rattle.clap.specs.declared.builder.action.ArgAction.TheVariants.{Set, SetTrue}
 use Rattle.clap.specs.declared.builder.value_parser.ValueParser.TheVariants.{Unsigned}
@@ -17,11 +18,12 @@ use Rattle.gptp_commands.specs.declared.command.CheckOptions.{CheckOptions}
 use Rattle.gptp_commands.specs.declared.command.CommandLineError.{CommandLineError}
 use Rattle.gptp_commands.specs.declared.command.CommandLineError.TheVariants.{Memory, NotText, NotRead, NotClock, NotKind, NotPart}
 use Rattle.gptp_commands.specs.declared.command.Order.{Order}
-use Rattle.gptp_commands.specs.declared.command.Order.TheVariants.{Ask, Check, Compare, Faults, Run, Timeline}
+use Rattle.gptp_commands.specs.declared.command.Order.TheVariants.{Ask, Check, Compare, Faults, Run, Timeline, Version}
 use Rattle.gptp_commands.specs.declared.question.Question.{Question}
 use Rattle.gptp_commands.specs.declared.question.Question.TheVariants.{Accuracy, Choice, Explain, Lint}
 use Rattle.gptp_commands.specs.declared.run.RunOptions.{RunOptions}
 use Rattle.gptp_commands.specs.declared.timeline.TimelineOrder.{TimelineOrder}
+use Rattle.gptp_commands.specs.Version.{AsksVersion}
 use Rattle.gptp_timeline.specs.declared.limits.Limits.{Limits}
 
 -- `--until NS`, at most 10^15
@@ -249,7 +251,7 @@ ExplainsOnly clock words = (drop 1 words ≡ codes "explain" ∷ clock ∷ []) �
 abbrev pub IsBare : List ℕ → List (List ℕ) → Type 0
 IsBare name words = drop 1 words ≡ name ∷ []
 
--- a command with nothing that may be left out: such a command line is read
+-- a command with nothing that may be left out
 abbrev pub IsPlain : List (List ℕ) → Type 0
 IsPlain words =
     NamesCompare words ⊎ (((file : List ℕ) × ChecksOnly file words) ⊎ (((clock : List ℕ) × ExplainsOnly clock words)
@@ -382,6 +384,14 @@ name_of (Accuracy until max_error) = codes "accuracy"
 name_of (Explain clock until) = codes "explain"
 name_of (Lint strict) = codes "lint"
 
+-- a command line that is read: the parser's model finds no fault in it, `explain` has no word that isn't a clock, and
+-- `faults` no kind and no part that there isn't
+pub record IsTaken (words : List (List ℕ)) : Type 0 where
+  pub parsed : fault_of program words ≡ []
+  pub clock : (rows : List Row) → subcommand_of program words ≡ Some (codes "explain", rows) → LacksClock rows → ⊥
+  pub cases : (rows : List Row) → subcommand_of program words ≡ Some (codes "faults", rows)
+      → LacksKind rows ⊎ LacksPart rows → ⊥
+
 -- ---- what a command line asks for
 
 -- the command that was entered is `run`, with these options
@@ -405,7 +415,7 @@ abbrev pub IsQuestionOf : Option (List ℕ × List Row) → Question → Type 0
 IsQuestionOf entered question =
     (rows : List Row) × (entered ≡ Some (name_of question, rows)) × ReadsQuestion rows question
 
--- what the matches of a command line ask for
+-- what the matches of a command line ask for: a command, never the version
 abbrev pub Enters : ArgMatches → Order → Type 0
 Enters m Compare =
     (subcommand_name_of m ≢ Some (codes "run")) × (subcommand_name_of m ≢ Some (codes "check"))
@@ -417,6 +427,7 @@ Enters m (Timeline order) = IsTimelineOf (subcommand_rows_of m) order
 Enters m (Faults options) = IsFaultsOf (subcommand_rows_of m) options
 Enters m (Check options) = IsCheckOf (subcommand_rows_of m) options
 Enters m (Ask question) = IsQuestionOf (subcommand_rows_of m) question
+Enters m Version = ⊥
 
 -- the command that was entered is `explain`, with no clock
 abbrev pub RefusesClock : ArgMatches → Type 0
@@ -436,6 +447,7 @@ AsksFor words (Faults options) = NamesFaults words × IsFaultsOf (subcommand_of 
 AsksFor words (Check options) = NamesCheck words × IsCheckOf (subcommand_of program words) options
 AsksFor words (Ask question) =
     BeginsWith (name_of question) (drop 1 words) × IsQuestionOf (subcommand_of program words) question
+AsksFor words Version = AsksVersion words
 
 -- the numbers of the options of `run` are in their ranges
 abbrev pub AreInRange : RunOptions → Type 0
@@ -463,6 +475,7 @@ OrderIsInRange (Timeline order) =
 OrderIsInRange (Faults options) = AreOptions options
 OrderIsInRange (Check options) = IsEndInRange options.until
 OrderIsInRange (Ask question) = QuestionIsInRange question
+OrderIsInRange Version = ⊤
 
 -- ---- where no command runs
 

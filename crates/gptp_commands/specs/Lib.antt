@@ -20,4 +20,6 @@ pub mod ExplainText
 pub mod LintText
 pub mod QuestionText
 pub mod Certified
+pub mod Version
 pub mod Command
+pub mod OrderText

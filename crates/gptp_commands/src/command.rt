@@ -4,27 +4,27 @@ ghost use Rattle.std.specs.Prelude.{◌≡◌, ◌⊎◌, ◌≤◌, List, ℕ, 
 ghost use Rattle.std.specs.Process.{exit_status as process_status};
 ghost use Rattle.clap.specs.Words.{app_of, first_of, found_of, new_app, one_text, rows_of, rule_of, with_rule};
 ghost use Rattle.clap.specs.declared.builder.command.Command.TheViews.{out-Command as fields_of};
-ghost use Rattle.gptp_commands.specs.Command.{AsksFor, Enters, IsPlain, IsUntil, IsSeed, LacksClock, OrderIsInRange, ReadsCheck, ReadsLimits, ReadsQuestion, ReadsRun, ReadsTimeline, RefusesClock};
-ghost use Rattle.gptp_commands.specs.Command.{IsEndInRange, command_line_status, program};
+ghost use Rattle.gptp_commands.specs.Command.{AsksFor, Enters, IsTaken, IsUntil, IsSeed, LacksClock, OrderIsInRange, ReadsCheck, ReadsLimits, ReadsQuestion, ReadsRun, ReadsTimeline, RefusesClock};
+ghost use Rattle.gptp_commands.specs.Command.{command_line_status, program};
 ghost use Rattle.gptp_commands.specs.Command.{certificate_rule, clock_rule, file_rule, frames_rule, limit_rule, max_error_rule, offsets_rule, seed_rule, summary_rule, until_rule, where_rule};
 ghost use Rattle.gptp_commands.specs.Command.{accuracy_command, check_command, choice_command, explain_command, first_program, played_command, run_command};
 ghost use Rattle.gptp_commands.specs.Command.{choosing_program, lint_command, simulating_program, strict_rule};
 ghost use Rattle.gptp_commands.specs.Command.{timed_command, timeline_command, told_command};
 ghost use Rattle.gptp_commands.specs.Command.{count_rule, dealt_command, faults_command, hold_rule, measured_command, only_rule};
 ghost use Rattle.gptp_commands.specs.Command.{IsCount, LacksKind, LacksPart, ReadsFaults, ReadsKind, RefusesCases, kind_of_text, placed_command, progress_rule, repeated_command};
+ghost use Rattle.gptp_commands.specs.Version.{AsksVersion};
 ghost use Rattle.gptp_commands.specs.declared.command.CommandLineError.TheVariants.{Memory};
 ghost use Rattle.gptp_network.specs.Values.{clock_of_text};
 ghost use Rattle.gptp_network.specs.declared.fault.DocumentFault.TheVariants.{OutOfRange};
 ghost use Rattle.gptp_commands.specs.declared.question.Question.TheVariants.{Accuracy, Choice, Explain, Lint};
 
-use crate::check::{check, check_where};
-use crate::compare::compare_lines;
+use crate::dispatch::{close, dispatch};
 use crate::failure::{SimError, Status, exit_status};
-use crate::faults::faults;
-use crate::question::{Question, answer_question};
+use crate::question::Question;
 use crate::run::RunOptions;
 use crate::source::{CountedReader, Source};
-use crate::timeline::{TimelineOrder, timeline};
+use crate::timeline::TimelineOrder;
+use crate::version::is_version;
 use clap::error::ErrorKind;
 use clap::{Arg, ArgAction, ArgMatches, Command};
 use gptp_faults::{FaultsOptions, Only};
@@ -35,7 +35,7 @@ use hex::FromHex;
 use std::alloc::{AllocError, Global};
 use std::env::{self, Env};
 use std::fs;
-use std::io::{self, BufWriter, Write};
+use std::io::{self, BufWriter};
 use std::process::ExitCode;
 use std::rt::Files;
 use thiserror::Error;
@@ -149,7 +149,7 @@ pub struct CheckOptions {
 
 /// What a command line asks for.
 #[derive(Debug, Drop, PartialEq, Eq)]
-enum Order {
+pub(crate) enum Order {
     /// The command `compare`.
     Compare,
     /// The command `run`, with these options.
@@ -162,6 +162,8 @@ enum Order {
     Check(CheckOptions),
     /// A command that answers this question.
     Ask(Question),
+    /// The version of the program.
+    Version,
 }
 
 /// Why no command runs.
@@ -745,6 +747,7 @@ fn first_grammar<'a>(alloc: Global) -> Result<Command<'a>, AllocError>
         .after_help(COMPARE_HELP);
     Command::new(alloc, "gptp_sim")
         .about("Simulates networks that run gPTP")
+        .after_help("'gptp_sim --version' says which version this is.")
         .subcommand_required(true)
         .subcommand(compare)
 }
@@ -1045,10 +1048,22 @@ fn order_in(alloc: Global, matches: &ArgMatches) -> Result<Order, CommandLineErr
 /// NotClock where a word isn't the clock that it ought to be; Memory.
 fn read_words(alloc: Global, words: &[String]) -> Result<Order, CommandLineError>
     ensures asks { IfOk result (AsksFor (map string_bytes words.now)) }
-    ensures refused { IfErr result (λ e. IsPlain (map string_bytes words.now) → e ≡ Memory) }
+    ensures refused { IfErr result (λ e. IsTaken (map string_bytes words.now) → e ≡ Memory) }
 {
     let matches = grammar(alloc)?.try_get_matches_from(words)?;
     order_in(alloc, &matches)
+}
+
+/// Reads the words of a command line: those that ask for the version, or as [`read_words`] does.
+fn read_order(alloc: Global, words: &[String]) -> Result<Order, CommandLineError>
+    ensures asks { IfOk result (AsksFor (map string_bytes words.now)) }
+    ensures version { AsksVersion (map string_bytes words.now) → result ≡ Ok Order.Version }
+    ensures refused { IfErr result (λ e. IsTaken (map string_bytes words.now) → e ≡ Memory) }
+{
+    if is_version(words) {
+        return Ok(Order::Version);
+    }
+    read_words(alloc, words)
 }
 
 /// Reads the command line.
@@ -1057,56 +1072,7 @@ fn read_command_line<R: Env + AllocGlobal>(rt: &R) -> Result<Order, CommandLineE
 {
     let alloc = rt.alloc();
     let words: Vec<String> = env::args(rt)?.collect(alloc)?;
-    read_words(alloc, words.as_slice())
-}
-
-/// Checks the certificate in a file against a document.
-///
-/// Read also where the document can't be read or the file can't be opened, and then nothing is written.
-fn check_file<R: Files + AllocGlobal, S: Source, K: Sink>(
-    rt: &R,
-    document: &mut S,
-    sink: &mut K,
-    options: &CheckOptions,
-) -> Result<Status, SimError>
-    requires { IsEndInRange options.now.until }
-{
-    // No octet is asked for. It fails where standard input is closed, whose descriptor the file would get.
-    document.read(&mut [])?;
-    let Ok(file) = fs::open(rt, options.file.as_str()) else {
-        return Err(SimError::Read);
-    };
-    let mut certificate = CountedReader::new(file);
-    if options.located {
-        return check_where(rt.alloc(), document, &mut certificate, sink, options.until);
-    }
-    check(rt.alloc(), document, &mut certificate, sink, options.until)
-}
-
-/// Writes what is held back, unless a write has failed: then the device isn't tried again. A write that fails here is the
-/// outcome of a command that did its work.
-fn close<W: Write + Drop>(
-    sink: CountedWriter<BufWriter<W>>,
-    outcome: Result<Status, SimError>,
-) -> Result<Status, SimError>
-    ensures done { IfOk outcome (λ status. (result ≡ Ok status) ⊎ (result ≡ Err SimError.Write)) }
-    ensures failed { IfErr outcome (λ e. result ≡ Err e) }
-{
-    let mut writer = sink.into_inner();
-    let outcome = match outcome {
-        Ok(status) => match writer.flush() {
-            Ok(()) => Ok(status),
-            Err(_) => Err(SimError::Write),
-        },
-        Err(SimError::Write) => Err(SimError::Write),
-        Err(error) => {
-            let _ = writer.flush();
-            Err(error)
-        }
-    };
-    // dropped as it is, it would write once more
-    let _ = writer.into_parts();
-    outcome
+    read_order(alloc, words.as_slice())
 }
 
 /// Standard error as a sink.
@@ -1134,6 +1100,38 @@ impl<R: Eprint> Sink for ErrorSink<'_, R> {
     }
 }
 
+/// Runs `check`, of which this is the file that holds the certificate, or another command without one.
+///
+/// Read also where the document can't be read or the file can't be opened, and then nothing is written.
+fn run_order<R: Files + Eprint + AllocGlobal, S: Source, K: Sink>(
+    rt: &R,
+    order: &Order,
+    source: &mut S,
+    sink: &mut K,
+) -> Result<Status, SimError>
+    requires { OrderIsInRange order.now }
+{
+    let mut progress = ErrorSink { rt, failures: 0 };
+    let Order::Check(options) = order else {
+        let mut none: &[u8] = &[];
+        return dispatch(rt.alloc(), order, source, &mut none, sink, &mut progress);
+    };
+    // No octet is asked for. It fails where standard input is closed, whose descriptor the file would get.
+    source.read(&mut [])?;
+    let Ok(file) = fs::open(rt, options.file.as_str()) else {
+        return Err(SimError::Read);
+    };
+    let mut certificate = CountedReader::new(file);
+    dispatch(
+        rt.alloc(),
+        order,
+        source,
+        &mut certificate,
+        sink,
+        &mut progress,
+    )
+}
+
 /// Runs a command from standard input to standard output, which is written in blocks.
 fn carry_out<R: Input + Print + Eprint + Files + AllocGlobal>(
     rt: &R,
@@ -1146,18 +1144,12 @@ fn carry_out<R: Input + Print + Eprint + Files + AllocGlobal>(
         return Err(SimError::Memory);
     };
     let mut sink = CountedWriter::new(writer);
-    let outcome = match order {
-        Order::Compare => compare_lines(rt.alloc(), &mut source, &mut sink),
-        Order::Run(options) => crate::run::run(rt.alloc(), &mut source, &mut sink, options),
-        Order::Timeline(order) => timeline(rt.alloc(), &mut source, &mut sink, order),
-        Order::Faults(options) => {
-            let mut progress = ErrorSink { rt, failures: 0 };
-            faults(rt.alloc(), &mut source, &mut sink, &mut progress, options)
-        }
-        Order::Check(options) => check_file(rt, &mut source, &mut sink, options),
-        Order::Ask(question) => answer_question(rt.alloc(), &mut source, &mut sink, *question),
-    };
-    close(sink, outcome)
+    let outcome = run_order(rt, order, &mut source, &mut sink);
+    let mut writer = sink.into_inner();
+    let outcome = close(&mut writer, outcome);
+    // dropped as it is, it would write once more
+    let _ = writer.into_parts();
+    outcome
 }
 
 /// Runs what the command line says, and tells of errors on standard error. The process ends with 0, 1 or

@@ -2,13 +2,15 @@
 
 ghost use Rattle.std.specs.Prelude.{◌≡◌, ◌++◌, ℕ, List, Option};
 ghost use Rattle.gptp_commands.specs.declared.failure.Status.{Status};
-ghost use Rattle.gptp_graph.specs.Snapshot.{Snapshot};
 ghost use Rattle.gptp_network.specs.Document.{DocumentState};
 ghost use Rattle.gptp_commands.specs.declared.run.RunOptions.{RunOptions};
 ghost use Rattle.gptp_commands.specs.declared.timeline.TimelineOrder.{TimelineOrder};
 ghost use Rattle.gptp_commands.specs.Certified.{AsksAtRest, AsksTheSame, EndsAccepted};
 ghost use Rattle.gptp_commands.specs.CheckText.{CheckText};
+ghost use Rattle.gptp_commands.specs.Command.{IsPlain, IsTaken};
 ghost use Rattle.gptp_commands.specs.CompareText.{BeginsCompare, CompareText};
+ghost use Rattle.gptp_commands.specs.QuestionText.{QuestionText};
+ghost use Rattle.gptp_commands.specs.declared.question.Question.TheVariants as questions;
 ghost use Rattle.gptp_commands.specs.RunText.{BeginsRun, RunText};
 ghost use Rattle.gptp_commands.specs.TimelineText.{TimelineText};
 ghost use Rattle.gptp_commands.specs.WhereText.{WhereText};
@@ -65,11 +67,26 @@ pub fn a_run_begins_so()
         → (rest : List (List ℕ)) × (output ≡ begun ++ rest) }
 {}
 
-/// What `run` certifies of a document that is at rest at its end, [`check`](crate::check::check) accepts of that document:
-/// at that time, and at each before and after which the same events lie. So a right certificate is one that is read.
+/// A document has one text of its choice at a time, and one status, at most.
+/// [`answer_question`](crate::question::answer_question) finds them wherever memory and the devices serve.
+pub fn one_choice()
+    ensures { (until : Option ℕ) (input : List ℕ) (a b : List (List ℕ)) (s t : Status)
+        → QuestionText (questions.Choice until) input a s → QuestionText (questions.Choice until) input b t
+        → (a ≡ b) × (s ≡ t) }
+{}
+
+/// What `run` certifies of a document that is at rest at its end, [`check`](crate::check::check) accepts of that document,
+/// and `choice` writes: at that time, and at each before and after which the same events lie. So a right certificate is one
+/// that is read.
 pub fn what_a_run_certifies_is_accepted()
-    ensures { (options : RunOptions) (input : List ℕ) (d : DocumentState) (g : Snapshot) (at : Option ℕ)
-        → AsksAtRest options input d g → AsksTheSame at options d
+    ensures { (options : RunOptions) (input : List ℕ) (d : DocumentState) (at : Option ℕ)
+        → AsksAtRest options input d → AsksTheSame at options d
         → (output : List (List ℕ)) (status : Status) → RunText options input output status
         → EndsAccepted at input output }
+{}
+
+/// A command by its name with nothing that may be left out is a command line that is read: `compare`, `run`, `timeline`,
+/// `faults`, `choice`, `accuracy` and `lint` alone, `check` with a file, and `explain` with a clock.
+pub fn a_plain_command_line_is_taken()
+    ensures { (words : List (List ℕ)) → IsPlain words → IsTaken words }
 {}

@@ -18,6 +18,7 @@ pub mod check;
 mod choice;
 pub mod command;
 pub mod compare;
+mod dispatch;
 mod documents;
 mod explain;
 pub mod failure;
@@ -32,6 +33,7 @@ mod reading;
 pub mod run;
 pub mod source;
 pub mod timeline;
+pub mod version;
 mod words;
 
 pub use gptp_report::sink;

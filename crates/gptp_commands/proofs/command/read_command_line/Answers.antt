@@ -5,5 +5,5 @@ use Rattle.gptp_commands.proofs.command.read_command_line.Goals as goal
 
 pub returns : goal.returns
 returns g c =
-    IfOk-weaker c.read_words.result _ _ (asked_in_range (map string_bytes c.as_slice.result.now))
-    c.read_words.ensures.asks
+    IfOk-weaker c.read_order.result _ _ (asked_in_range (map string_bytes c.as_slice.result.now))
+    c.read_order.ensures.asks
