@@ -1,16 +1,19 @@
-//! `compare` over devices that count their calls, of which one fails.
+//! Devices that count their calls, of which one fails, and a sink that counts the lines of a call.
 
-use crate::same::same_at;
+use crate::run::TWO;
+use crate::same::{same, same_at};
 use gptp_commands::compare::compare_lines;
 use gptp_commands::failure::{SimError, Status};
-use gptp_commands::sink::CountedWriter;
+use gptp_commands::run::{RunOptions, run};
+use gptp_commands::sink::{CountedWriter, Sink, WriteFailed};
 use gptp_commands::source::CountedReader;
 use std::io::{self, Read, Write};
 use std::test::Fail;
 
 /// The first Announce of the system with clock 1, its own root, at port 1.
-const ANNOUNCE: &str =
-    "1b12004c00000008000000000000000000000000000000000000000100010000000000000000000000000000002500f6f8fe436af800000000000000010000a0000800080000000000000001";
+const ANNOUNCE: &str = "\
+1b12004c00000008000000000000000000000000000000000000000100010000000000000000\
+000000000000002500f6f8fe436af800000000000000010000a0000800080000000000000001";
 
 /// A device of which one call fails. Every other call moves at most `most` octets.
 #[derive(Drop)]
@@ -105,5 +108,45 @@ fn write_fails_with_a_front_written(rt: HostRuntime) -> Result<(), Fail> {
             text.get(..length),
         );
     }
+    Ok(())
+}
+
+/// A sink that keeps nothing but how many lines it was given, and the most by one call.
+#[derive(Drop)]
+struct Lines {
+    all: usize,
+    most: usize,
+}
+
+impl Sink for Lines {
+    ghost use Rattle.std.specs.Prelude.{None};
+
+    ghost written = { λ _. None };
+
+    ghost failures = { λ _. 0 };
+
+    fn write(&mut self, text: &[u8]) -> Result<usize, WriteFailed> {
+        let lines = text.iter().filter(|octet| **octet == b'\n').count();
+        self.all = self.all.saturating_add(lines);
+        self.most = self.most.max(lines);
+        Ok(text.len())
+    }
+}
+
+/// Each line of a frame is written by a call of its own, and the six lines of the report by one: no text is held that grows
+/// with the run.
+#[test]
+fn a_run_is_written_line_by_line(rt: HostRuntime) -> Result<(), Fail> {
+    let options = RunOptions {
+        until: Some(26_000_000_000),
+        seed: 1,
+        frames: true,
+        certificate: false,
+    };
+    let mut source = TWO.as_bytes();
+    let mut sink = Lines { all: 0, most: 0 };
+    let status = run(rt.alloc(), &mut source, &mut sink, &options)?;
+    same(&rt, (status, sink.most), (Status::Done, 6));
+    assert!(rt; 500 < sink.all);
     Ok(())
 }

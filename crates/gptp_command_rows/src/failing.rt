@@ -1,7 +1,7 @@
 //! Devices of which each call fails in turn, for every command: a read that fails leaves nothing written, a write that
 //! fails a front of the text.
 
-use crate::run::TWO;
+use crate::run::{TO_THE_END, TWO};
 use crate::same::same_at;
 use gptp_commands::check::check;
 use gptp_commands::compare::compare_lines;
@@ -14,10 +14,11 @@ use gptp_commands::timeline::{TimelineOrder, timeline};
 use gptp_timeline::{Limits, TimelineOptions};
 use gptp_vector::ClockId;
 use std::alloc::Global;
+use std::process::Abort;
 use std::test::Fail;
 
 /// How many octets a call moves at most.
-const MOST: usize = 200;
+const MOST: usize = 100;
 
 /// A device over memory: so many calls pass, and every one behind them fails.
 #[derive(Drop)]
@@ -51,7 +52,8 @@ impl Source for Failing<&[u8]> {
             return Err(ReadFailed);
         }
         self.calls -= 1;
-        self.device.read(buffer)
+        let count = MOST.min(buffer.len());
+        self.device.read(&mut buffer[..count])
     }
 }
 
@@ -73,9 +75,48 @@ impl Sink for Failing<Vec<u8>> {
     }
 }
 
-/// What is asked of the run: lines of its frames up to some time, and its certificate.
-const OPTIONS: RunOptions = RunOptions {
-    until: Some(3_000_000_000),
+/// Two Announces of one root, the first from the better port, and a line without words.
+const ANNOUNCES: &str = "\
+1b12004c00000008000000000000000000000000000000000000000100010000000000000000\
+000000000000002500f6f8fe436af800000000000000010001a0000800080000000000000001 \
+1b12004c00000008000000000000000000000000000000000000000100010000000000000000\
+000000000000002500f6f8fe436af800000000000000010002a0000800080000000000000001
+
+";
+
+/// One system, which has no port.
+const ONE: &str = "version = 1
+[[system]]
+clock = \"0000000000000001\"
+ports = 0
+";
+
+/// Two systems, of which the second hears at 30.0000005 s of a better root that isn't there.
+const FORGED: &str = "version = 1
+[[system]]
+clock = \"0000000000000001\"
+[[system]]
+clock = \"0000000000000002\"
+phase = 1000000
+[[link]]
+a = \"0000000000000001\"
+a_port = 1
+b = \"0000000000000002\"
+b_port = 1
+min = 500
+max = 500
+[[event]]
+kind = \"inject\"
+at = 30000000000
+clock = \"0000000000000001\"
+port = 1
+octets = \"1b12004000000008000000000000000000000000000000000000009900010000\
+00000000000000000000000000250001f8fe436af800000000000000990000a0\"
+";
+
+/// What is asked of its run: lines of its frames until that is heard, and the certificate then.
+const ALL_TOLD: RunOptions = RunOptions {
+    until: Some(30_000_000_500),
     seed: 1,
     frames: true,
     certificate: true,
@@ -108,20 +149,23 @@ port 0000000000000002 1 slave
 end
 ";
 
-/// A command.
+/// A command, with its options.
 #[derive(Clone, Copy, Debug)]
 enum Command {
     Compare,
     Run,
+    RunWithAll,
     Timeline,
     Check,
     Explain,
 }
 
 /// What each reads.
-const COMMANDS: [(Command, &str); 5] = [
-    (Command::Compare, "one two\n\none\n"),
+const COMMANDS: [(Command, &str); 7] = [
+    (Command::Compare, ANNOUNCES),
+    (Command::Run, ONE),
     (Command::Run, TWO),
+    (Command::RunWithAll, FORGED),
     (Command::Timeline, TWO),
     (Command::Check, TWO),
     (Command::Explain, TWO),
@@ -154,7 +198,8 @@ fn ended(
     let mut sink = Failing::after(passing.writes, Vec::new(alloc));
     let outcome = match command {
         Command::Compare => compare_lines(alloc, &mut source, &mut sink),
-        Command::Run => run(alloc, &mut source, &mut sink, &OPTIONS),
+        Command::Run => run(alloc, &mut source, &mut sink, &TO_THE_END),
+        Command::RunWithAll => run(alloc, &mut source, &mut sink, &ALL_TOLD),
         Command::Timeline => timeline(alloc, &mut source, &mut sink, &ORDER),
         Command::Check => check(alloc, &mut source, &mut other, &mut sink, None),
         Command::Explain => {
@@ -168,29 +213,41 @@ fn ended(
     (outcome, sink.device)
 }
 
-/// The most calls that a command makes.
-const MOST_CALLS: u64 = 2_000;
+/// The most calls that a command makes of a device.
+const MOST_CALLS: u64 = 10_000;
 
-#[test]
-fn a_failed_read_leaves_nothing_written(rt: HostRuntime) -> Result<(), Fail> {
-    let alloc = rt.alloc();
-    for (command, input) in COMMANDS {
-        let (status, whole) = ended(alloc, command, input, ALL);
-        let mut passed = false;
-        for reads in 0..MOST_CALLS {
-            let (outcome, text) = ended(alloc, command, input, Passing { reads, ..ALL });
-            passed = outcome.is_ok();
-            if passed {
-                same_at(&rt, &command, outcome, status);
-                same_at(&rt, &command, text.as_slice(), whole.as_slice());
-                break;
-            }
-            same_at(&rt, &command, outcome, Err(SimError::Read));
-            same_at(&rt, &command, text.len(), 0);
-        }
-        assert!(rt; passed);
+/// Where a call fails.
+#[derive(Clone, Copy, Debug)]
+enum Device {
+    Document,
+    Certificate,
+    Output,
+}
+
+/// How many calls pass where those of one device fail behind some.
+fn failing_at(device: Device, calls: u64) -> Passing {
+    match device {
+        Device::Document => Passing {
+            reads: calls,
+            ..ALL
+        },
+        Device::Certificate => Passing {
+            others: calls,
+            ..ALL
+        },
+        Device::Output => Passing {
+            writes: calls,
+            ..ALL
+        },
     }
-    Ok(())
+}
+
+/// Whether a command makes calls of a device.
+fn uses(command: Command, device: Device) -> bool {
+    match (command, device) {
+        (Command::Check, _) | (_, Device::Document | Device::Output) => true,
+        (_, Device::Certificate) => false,
+    }
 }
 
 /// Whether a text is a front of another, and not the whole.
@@ -198,34 +255,48 @@ fn is_front(text: &[u8], whole: &[u8]) -> bool {
     text.len() < whole.len() && whole.starts_with(text)
 }
 
-#[test]
-fn a_failed_write_leaves_a_front(rt: HostRuntime) -> Result<(), Fail> {
-    let alloc = rt.alloc();
-    for (command, input) in COMMANDS {
-        let (status, whole) = ended(alloc, command, input, ALL);
-        let mut passed = false;
-        for writes in 0..MOST_CALLS {
-            let (outcome, text) = ended(alloc, command, input, Passing { writes, ..ALL });
-            passed = outcome.is_ok();
-            if passed {
-                same_at(&rt, &command, outcome, status);
-                same_at(&rt, &command, text.as_slice(), whole.as_slice());
-                break;
+/// Expects what a command leaves where a call of a device fails.
+fn expect(rt: &impl Abort, device: Device, error: SimError, text: &[u8], whole: &[u8]) {
+    let (want, kept) = match device {
+        Device::Document | Device::Certificate => (SimError::Read, text.is_empty()),
+        Device::Output => (SimError::Write, is_front(text, whole)),
+    };
+    same_at(rt, &device, error, want);
+    same_at(rt, &device, kept, true);
+}
+
+/// Each call of a device fails in turn, until none is left to fail: how many did.
+fn fail_in_turn(
+    rt: &impl Abort,
+    alloc: Global,
+    command: Command,
+    input: &str,
+    device: Device,
+) -> u64 {
+    let (status, whole) = ended(alloc, command, input, ALL);
+    for calls in 0..MOST_CALLS {
+        let (outcome, text) = ended(alloc, command, input, failing_at(device, calls));
+        match outcome {
+            Err(error) => expect(rt, device, error, text.as_slice(), whole.as_slice()),
+            Ok(_) => {
+                same_at(rt, &command, outcome, status);
+                same_at(rt, &command, text.as_slice(), whole.as_slice());
+                return calls;
             }
-            same_at(&rt, &command, outcome, Err(SimError::Write));
-            assert!(rt; is_front(text.as_slice(), whole.as_slice()));
         }
-        assert!(rt; passed);
     }
-    Ok(())
+    MOST_CALLS
 }
 
 #[test]
-fn a_certificate_that_cannot_be_read_leaves_nothing_written(rt: HostRuntime) -> Result<(), Fail> {
+fn a_failed_call_is_told_and_leaves_a_front(rt: HostRuntime) -> Result<(), Fail> {
     let alloc = rt.alloc();
-    let others = 0;
-    let (outcome, text) = ended(alloc, Command::Check, TWO, Passing { others, ..ALL });
-    same_at(&rt, &others, outcome, Err(SimError::Read));
-    same_at(&rt, &others, text.len(), 0);
+    for (command, input) in COMMANDS {
+        for device in [Device::Document, Device::Certificate, Device::Output] {
+            let failed = fail_in_turn(&rt, alloc, command, input, device);
+            assert!(rt; failed < MOST_CALLS);
+            same_at(&rt, &(command, device), 0 < failed, uses(command, device));
+        }
+    }
     Ok(())
 }

@@ -1,5 +1,5 @@
-//! Worked rows of the commands that take calls, as an outside caller makes them: over devices that fail, over inputs that
-//! are cut or too long, and runs that are compared. What only compares a text stands in cases/ as data.
+//! Worked rows of the commands that take calls, as an outside caller makes them: over devices that fail, over inputs
+//! that are cut or too long, and runs that are compared. What only compares a text stands in cases/ as data.
 //!
 //! What they expect was written down before the code.
 #![tactic(auto)]
