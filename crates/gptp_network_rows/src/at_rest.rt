@@ -51,28 +51,54 @@ fn two_systems_at_rest_are_as_proved(rt: HostRuntime) -> Result<(), Fail> {
         offset.is_some_and(|offset| offset.value().unsigned_abs() <= 19),
         true,
     );
+    Ok(())
+}
+
+#[test]
+fn the_second_follows_by_its_distance_and_by_paths(rt: HostRuntime) -> Result<(), Fail> {
+    let first = Identity::of_octets([246, 248, 254, 0x43, 0x6a, 248, 0, 0, 0, 0, 0, 0, 0, 1]);
+    let followed = Some((first, 1, Some(1)));
     same(
         &rt,
         follow_by_distance(rt.alloc(), PcgFate::new(1))?,
-        Some((first, 1, Some(1))),
+        followed,
     );
-    same(
-        &rt,
-        follow_by_paths(rt.alloc(), PcgFate::new(1))?,
-        Some((first, 1, Some(1))),
-    );
+    same(&rt, follow_by_paths(rt.alloc(), PcgFate::new(1))?, followed);
+    Ok(())
+}
+
+#[test]
+fn both_are_certified(rt: HostRuntime) -> Result<(), Fail> {
     let certificate = certify_at_rest(rt.alloc(), PcgFate::new(1))?;
     same(&rt, certificate.len(), 2);
-    let port = PortId {
+    Ok(())
+}
+
+/// The port of the first system.
+fn first_port() -> PortId {
+    PortId {
         clock: ClockId::from(1),
         port: 1,
-    };
+    }
+}
+
+#[test]
+fn what_the_second_holds_came_from_the_first(rt: HostRuntime) -> Result<(), Fail> {
     let world = whole(rt.alloc(), PcgFate::new(1))?;
     same(
         &rt,
         second_then(&world).and_then(|system| system.parent()),
-        Some((1, port)),
+        Some((1, first_port())),
     );
-    same(&rt, hear_in_time(rt.alloc(), PcgFate::new(1))?, Some(port));
+    Ok(())
+}
+
+#[test]
+fn what_the_second_hears_comes_from_the_first(rt: HostRuntime) -> Result<(), Fail> {
+    same(
+        &rt,
+        hear_in_time(rt.alloc(), PcgFate::new(1))?,
+        Some(first_port()),
+    );
     Ok(())
 }
