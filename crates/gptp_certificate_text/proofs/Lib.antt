@@ -9,3 +9,5 @@ pub mod LineLemmas
 pub mod OrderLemmas
 pub mod ReadingLemmas
 pub mod LawLemmas
+pub mod DecisionLemmas
+pub mod EveryLemmas

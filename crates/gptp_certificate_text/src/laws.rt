@@ -1,6 +1,6 @@
 //! What the text of a certificate promises by itself.
 
-ghost use Rattle.std.specs.Prelude.{◌≡◌, ◌≢◌, ℕ, List};
+ghost use Rattle.std.specs.Prelude.{◌≡◌, ◌≢◌, ◌⊎◌, ℕ, List};
 ghost use Rattle.gptp_graph.specs.Labelling.{SystemLine};
 ghost use Rattle.gptp_certificate_text.specs.declared.fault.CertificateFault.{CertificateFault};
 ghost use Rattle.gptp_certificate_text.specs.Certificate.{IsCertificate, IsVersion};
@@ -32,4 +32,18 @@ pub fn a_text_is_one_certificates()
     ensures { (version second : ℕ) (one other : List SystemLine)
         → IsVersion version → IsVersion second → IsReadable version one → IsReadable second other
         → certificate_text version one ≡ certificate_text second other → (version ≡ second) × (one ≡ other) }
+{}
+
+/// Every text is that of a certificate that can be read, or fails.
+pub fn every_text_is_a_certificates_or_fails()
+    ensures { (text : List ℕ)
+        → ((version : ℕ) × (lines : List SystemLine) × (text ≡ certificate_text version lines)
+        × IsReadable version lines × IsCertificate version lines)
+        ⊎ ((fault : CertificateFault) × Fails text fault) }
+{}
+
+/// A text that fails does so at some place.
+pub fn a_text_that_fails_has_a_place()
+    ensures { (text : List ℕ) (fault : CertificateFault) → Fails text fault
+        → (part : List ℕ) × FailsFrom text fault part }
 {}

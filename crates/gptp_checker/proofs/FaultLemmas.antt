@@ -27,7 +27,7 @@ found_by tests.Role = Role
 
 module _ (version : ℕ) (g : Snapshot) (lines : List SystemLine) where
   -- it is found line by line
-  by_lines : (test : LineTest) → IsWellFormed g → PassesSystems g lines → (test ≡ tests.TooFar → version ≡ 1)
+  pub by_lines : (test : LineTest) → IsWellFormed g → PassesSystems g lines → (test ≡ tests.TooFar → version ≡ 1)
       → PassesEachLine test g lines ↔ test_of (found_by test) version g lines
   by_lines tests.TooFar wf right first =
       let each = too_far_by_line g lines in ((λ h e. each.0 h), (λ h. each.1 (h (first refl))))

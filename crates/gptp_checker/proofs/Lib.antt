@@ -9,3 +9,6 @@ pub mod ReadableLemmas
 pub mod LocatedLemmas
 pub mod EndLemmas
 pub mod OneLocationLemmas
+pub mod DecisionLemmas
+pub mod EveryLemmas
+pub mod PlacedLemmas

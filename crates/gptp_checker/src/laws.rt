@@ -1,11 +1,11 @@
 //! What the faults of certificates promise beyond single calls.
 
-ghost use Rattle.std.specs.Prelude.{◌≡◌, ◌≤◌, ℕ, List, length};
+ghost use Rattle.std.specs.Prelude.{◌≡◌, ◌≤◌, ◌⊎◌, ℕ, List, length};
 ghost use Rattle.gptp_graph.specs.Labelling.{SystemLine, line_clocks};
 ghost use Rattle.gptp_graph.specs.Order.{IsRising};
-ghost use Rattle.gptp_graph.specs.Snapshot.{IsWellFormed, Snapshot};
+ghost use Rattle.gptp_graph.specs.Snapshot.{IsWellFormed, Snapshot, clocks};
 ghost use Rattle.gptp_network.specs.Snapshot.{IsWithinLimits};
-ghost use Rattle.gptp_certificate_text.specs.Certificate.{IsVersion};
+ghost use Rattle.gptp_certificate_text.specs.Certificate.{IsCertificate, IsVersion};
 ghost use Rattle.gptp_certificate_text.specs.CertificateText.{certificate_text};
 ghost use Rattle.gptp_certificate_text.specs.Entries.{IsReadable};
 ghost use Rattle.gptp_checker.specs.Faults.{IsAccepted, IsFirstFault};
@@ -46,4 +46,17 @@ pub fn what_is_accepted_can_be_read()
         → IsWithinLimits g → IsAccepted version g lines → IsReadable version lines }
     ensures short { (version : ℕ) (g : Snapshot) (lines : List SystemLine) → IsVersion version → IsWellFormed g
         → IsWithinLimits g → IsAccepted version g lines → length (certificate_text version lines) ≤ 1048576 }
+{}
+
+/// Whatever lines are stated of a network, in whichever version, they are accepted or have a first fault.
+pub fn every_certificate_is_accepted_or_has_a_fault()
+    ensures { (version : ℕ) (g : Snapshot) (lines : List SystemLine) → IsWellFormed g
+        → IsAccepted version g lines ⊎ ((fault : Fault) × IsFirstFault version g lines fault) }
+{}
+
+/// The first fault of a certificate has a place in each network whose systems stand by rising clock.
+pub fn every_first_fault_has_a_place()
+    ensures { (version : ℕ) (g : Snapshot) (lines : List SystemLine) → IsWellFormed g → IsRising (clocks g)
+        → IsCertificate version lines → (fault : Fault) → IsFirstFault version g lines fault
+        → (place : Location) × IsLocation fault g lines place }
 {}

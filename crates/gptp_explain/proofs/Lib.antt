@@ -5,3 +5,5 @@ pub mod PathLemmas
 pub mod RankLemmas
 pub mod UsedLemmas
 pub mod TextLemmas
+pub mod OneLemmas
+pub mod EveryLemmas

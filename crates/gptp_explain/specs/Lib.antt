@@ -4,3 +4,4 @@ pub mod Ports
 pub mod Ranks
 pub mod Explained
 pub mod Writing
+pub mod Laws

@@ -8,6 +8,7 @@
 mod compared;
 mod disabled;
 mod explanation;
+pub mod laws;
 mod path;
 mod ports;
 mod ranks;

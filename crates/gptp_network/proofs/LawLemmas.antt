@@ -1,8 +1,11 @@
 -- A text means one document or has one fault, and a document has one snapshot at a time.
-use Rattle.std.proofs.Common.{◌≡◌, ℕ, List, Result, Ok, Err, sym, ap, ◌∙◌, inl, inr}
+use Rattle.std.proofs.Common.{◌≡◌, ◌⊎◌, ℕ, Bool, true, false, List, Option, Some, None, Result, Ok, Err, refl, sym, ap, ◌∙◌, inl, inr}
+use Rattle.std.specs.Str.{is_utf8}
 use Rattle.std.proofs.lemmas.Option.{same_Some}
+use Rattle.std.proofs.lemmas.Str.{IsUtf8-from_is_utf8, is_utf8-from_IsUtf8}
 use Rattle.std.proofs.lemmas.List.Sorted.{IsPermutation-sym}
 use Rattle.toml.specs.Data.{Members}
+use Rattle.toml.specs.Parse.{parse_document}
 use Rattle.gptp_graph.specs.Snapshot.{Link, Snapshot, System}
 use Rattle.gptp_graph.proofs.RisingLemmas.{same_rising}
 use Rattle.gptp_lists.specs.Members.{In}
@@ -10,6 +13,7 @@ use Rattle.gptp_plan.specs.Network.{IsNetwork}
 use Rattle.gptp_network.specs.Document.{DocumentState, Fails, Means, Parses, document_of}
 use Rattle.gptp_network.specs.Snapshot.{IsSnapshot, IsWithinLimits, events_by, live_systems, used_links}
 use Rattle.gptp_network.specs.declared.fault.DocumentFault.{DocumentFault}
+use Rattle.gptp_network.specs.declared.fault.DocumentFault.TheVariants.{NotToml}
 use Rattle.gptp_network.proofs.SnapshotLemmas.{In-permutation, stands_within}
 
 -- what a table makes is one document, or has one fault
@@ -45,6 +49,30 @@ one_fault text f g (inr (t, parses, _)) (inl (_, none)) = absurd (none t parses)
 one_fault text f g (inr (t, t-parses, f-is)) (inr (u, u-parses, g-is)) =
     let same = one_table text t u t-parses u-parses in
     one_err (document_of u) f g (ap document_of (sym same) ∙ f-is) g-is
+
+-- each text means a document, or has a fault
+abbrev pub MeansOrFails : List ℕ → Type 0
+MeansOrFails text = ((d : DocumentState) × Means text d) ⊎ ((fault : DocumentFault) × Fails text fault)
+
+module _ (text : List ℕ) where
+  of_table : (t : Members) (made : Result DocumentState DocumentFault) → Parses text t → document_of t ≡ made
+      → MeansOrFails text
+  of_table t (Ok d) parses is = inl (d, record { table = t; parses = parses; is = is })
+  of_table t (Err fault) parses is = inr (fault, inr (t, parses, is))
+
+  of_parsed : (parsed : Option Members) → is_utf8 text ≡ true → parse_document text ≡ parsed → MeansOrFails text
+  of_parsed None utf8 is =
+      inr (NotToml, inl (refl, λ t parses. absurd (let table = parses.table in cc)))
+  of_parsed (Some t) utf8 is =
+      of_table t (document_of t) (record { utf8 = IsUtf8-from_is_utf8 text utf8; table = is }) refl
+
+  of_octets : (utf8 : Bool) → is_utf8 text ≡ utf8 → MeansOrFails text
+  of_octets true is = of_parsed (parse_document text) is refl
+  of_octets false is =
+      inr (NotToml, inl (refl, λ t parses. absurd (let utf8 = is_utf8-from_IsUtf8 text parses.utf8 in cc)))
+
+  pub means_or_fails : MeansOrFails text
+  means_or_fails = of_octets (is_utf8 text) refl
 
 abbrev snapshot : List System → List Link → Snapshot
 snapshot systems links = record { systems = systems; links = links }

@@ -1,6 +1,6 @@
 //! What documents promise beyond single calls.
 
-ghost use Rattle.std.specs.Prelude.{◌≡◌, ℕ, List};
+ghost use Rattle.std.specs.Prelude.{◌≡◌, ◌⊎◌, ℕ, List};
 ghost use Rattle.gptp_graph.specs.Snapshot.{IsWellFormed, Snapshot};
 ghost use Rattle.gptp_plan.specs.Network.{IsNetwork};
 ghost use Rattle.gptp_network.specs.Document.{DocumentState, Fails, Means};
@@ -21,6 +21,12 @@ pub fn a_text_that_fails_means_no_document()
 /// A text fails in one way at most.
 pub fn a_text_fails_in_one_way()
     ensures { (text : List ℕ) (first second : DocumentFault) → Fails text first → Fails text second → first ≡ second }
+{}
+
+/// Every text means a document or fails.
+pub fn every_text_means_a_document_or_fails()
+    ensures { (text : List ℕ)
+        → ((d : DocumentState) × Means text d) ⊎ ((fault : DocumentFault) × Fails text fault) }
 {}
 
 /// What a text means is a network within its limits, with events that can be made in it.

@@ -9,3 +9,5 @@ pub mod ExactLemmas
 mod TextLemmas
 pub mod WayLemmas
 pub mod OneLemmas
+pub mod CalmLemmas
+pub mod EveryLemmas

@@ -3,7 +3,7 @@ use Rattle.std.specs.Prelude.{◌≡◌, ℕ, Bool, List, Option, length}
 use Rattle.gptp_graph.specs.Snapshot.{IsWellFormed, Snapshot}
 use Rattle.gptp_plan.specs.Network.{IsNetwork, NetworkState}
 use Rattle.gptp_plan.specs.declared.change.Timed.{Timed}
-use Rattle.gptp_network.specs.Document.{DocumentState}
+use Rattle.gptp_network.specs.Document.{DocumentState, Means}
 use Rattle.gptp_accuracy.specs.TimeError.{Way}
 use Rattle.gptp_accuracy.specs.WayLaws.{IsDocumented}
 use Rattle.gptp_time_error.specs.AccuracyText.{AccuracyText}
@@ -25,3 +25,8 @@ abbrev pub OneAccuracy : Type 0
 OneAccuracy = (d : DocumentState) (until : ℕ) (most : Option ℕ) (lines others : List (List ℕ)) (one other : Bool)
     → IsNetwork d.network → AccuracyText d until most lines one → AccuracyText d until most others other
     → (lines ≡ others) × (one ≡ other)
+
+-- each document has a text at each time
+abbrev pub EachIsExact : Type 0
+EachIsExact = (text : List ℕ) (d : DocumentState) (until : ℕ) (most : Option ℕ) → Means text d
+    → (lines : List (List ℕ)) × (exceeded : Bool) × AccuracyText d until most lines exceeded

@@ -1,6 +1,6 @@
 //! What time errors promise beyond single calls. Each function does nothing, and its contract is the law.
 
-ghost use Rattle.gptp_time_error.specs.Laws.{OneAccuracy, OneWay, WaysAreDocumented};
+ghost use Rattle.gptp_time_error.specs.Laws.{EachIsExact, OneAccuracy, OneWay, WaysAreDocumented};
 
 /// A system of a network has one way, and its distance is how many links that has.
 pub fn a_system_has_one_way()
@@ -16,4 +16,9 @@ pub fn ways_are_documented()
 /// A document has one text at a time, and one answer to whether a greatest error is exceeded.
 pub fn a_document_has_one_accuracy()
     ensures { OneAccuracy }
+{}
+
+/// Each document that a text means has a text of its time errors at each time.
+pub fn every_document_has_an_accuracy()
+    ensures { EachIsExact }
 {}
