@@ -23,7 +23,7 @@ use Rattle.gptp_report.specs.Transitions.{Courses}
 use Rattle.gptp_system.specs.State.{SystemState}
 use Rattle.gptp_world.specs.Transitions.{Transition}
 use Rattle.gptp_timeline.specs.Each.{Each}
-use Rattle.gptp_timeline.specs.Laws.{AreRoots, IsRootOf}
+use Rattle.gptp_timeline.specs.Laws.{AreRoots, Follow, IsRootOf}
 use Rattle.gptp_timeline.specs.Shown.{live_system, shown}
 use Rattle.gptp_timeline.specs.Stretch.{roots_of}
 use Rattle.gptp_timeline.specs.Timeline.{AllPass, now_of, Passage, TimelineOf}
@@ -196,10 +196,8 @@ module _ {F : Type 0} (answers : Bounds → ℕ → F → Option ℕ → F → T
 
 pub stretches_follow : {F : Type 0} (answers : Bounds → ℕ → F → Option ℕ → F → Type 0) (d : DocumentState) (until : ℕ)
     (options : TimelineOptions) (fate : F) (lines : List (List ℕ)) (exceeded : Bool)
-    (t : TimelineOf answers d until options fate lines exceeded) (p : Passage) (bound : ℕ) (g : Snapshot)
-    → IsPlayable d → In p t.passages → p.bound ≡ Some bound → p.from + bound ≤ p.to → IsSnapshot d p.from g
-    → AreRoots g (roots_of (map (λ name. shown name p.after) (rising_clocks t.start)))
-stretches_follow answers d until options fate lines exceeded t p bound g playable member bounded late =
+    (t : TimelineOf answers d until options fate lines exceeded) → IsPlayable d → Follow d t.start t.passages
+stretches_follow answers d until options fate lines exceeded t playable p bound g member bounded late =
     let names = rising_clocks t.start in
     follow_there answers d playable names true until t.passages t.started t.fate_after t.start t.after p bound g
     (keeps_first answers d playable names fate t.started t.start refl t.begun) t.pass member bounded (λ span. late)

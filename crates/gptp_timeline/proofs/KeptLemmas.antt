@@ -1,20 +1,19 @@
 -- What is kept of the stretches that passed.
-use Rattle.std.proofs.Common.{◌≡◌, ℕ, List, [], ◌∷◌, Option, Some, None, refl, ap, ◌∙◌}
+use Rattle.std.proofs.Common.{◌≡◌, ℕ, List, [], ◌∷◌, Option, Some, None, refl, ap, ◌∙◌, replicate}
 use Rattle.gptp_timeline.specs.Ends.{EndState}
 use Rattle.gptp_timeline.specs.LastTwo.{all_kept, both_of, end_in, ends_in, kept_after, last_two, none_kept}
-use Rattle.gptp_timeline.specs.Limits.{not_exceeded}
 use Rattle.gptp_timeline.specs.Stretch.{waits}
 use Rattle.gptp_timeline.specs.Timeline.{all_exceeded, none_waits, Passage}
 use Rattle.gptp_timeline.specs.declared.ends.Kept.{Kept}
-use Rattle.gptp_timeline.specs.declared.limits.Exceeded.{Exceeded}
+use Rattle.gptp_timeline.specs.declared.limits.Limit.{Limit}
 use Rattle.gptp_timeline.specs.declared.limits.Limits.{Limits}
 
 -- nothing is asked of stretches
 abbrev pub no_limits : Limits
-no_limits = record { choice = None; holdover = None; error = None; without = None; roots = None; alone = None }
+no_limits = record { most = replicate 6 None }
 
 module _ (limits : Limits) (names : List ℕ) where
-  -- which limits were exceeded
+  -- the first limit that was exceeded
   exceeded_from : (ps : List Passage) (since : ℕ → Option ℕ) (kept : Kept)
       → (all_kept limits names since ps kept).exceeded ≡ all_exceeded limits names since ps kept.exceeded
   exceeded_from [] since kept = refl
@@ -22,27 +21,27 @@ module _ (limits : Limits) (names : List ℕ) where
       exceeded_from ps (waits p.acts since) (kept_after limits (end_in names since p) kept)
 
   pub exceeded_is : (ps : List Passage) (kept : Kept) → kept ≡ all_kept limits names none_waits ps none_kept
-      → kept.exceeded ≡ all_exceeded limits names none_waits ps not_exceeded
+      → kept.exceeded ≡ all_exceeded limits names none_waits ps None
   exceeded_is ps kept is = ap (λ (k : Kept). k.exceeded) is ∙ exceeded_from ps none_waits none_kept
 
   -- the last two
   abbrev two_of : Kept → Option (EndState × EndState)
   two_of kept = both_of kept.before kept.last
 
-  abbrev kept_two : Exceeded → EndState → EndState → Kept
+  abbrev kept_two : Option Limit → EndState → EndState → Kept
   kept_two exceeded a b = record { exceeded = exceeded; before = Some a; last = Some b }
 
-  abbrev kept_one : Exceeded → EndState → Kept
+  abbrev kept_one : Option Limit → EndState → Kept
   kept_one exceeded a = record { exceeded = exceeded; before = None; last = Some a }
 
-  behind_two : (ps : List Passage) (since : ℕ → Option ℕ) (exceeded : Exceeded) (a b : EndState)
+  behind_two : (ps : List Passage) (since : ℕ → Option ℕ) (exceeded : Option Limit) (a b : EndState)
       → two_of (all_kept limits names since ps (kept_two exceeded a b)) ≡ last_two (a ∷ (b ∷ ends_in names since ps))
   behind_two [] since exceeded a b = refl
   behind_two (p ∷ ps) since exceeded a b =
       behind_two ps (waits p.acts since)
       (kept_after limits (end_in names since p) (kept_two exceeded a b)).exceeded b (end_in names since p)
 
-  behind_one : (ps : List Passage) (since : ℕ → Option ℕ) (exceeded : Exceeded) (a : EndState)
+  behind_one : (ps : List Passage) (since : ℕ → Option ℕ) (exceeded : Option Limit) (a : EndState)
       → two_of (all_kept limits names since ps (kept_one exceeded a)) ≡ last_two (a ∷ ends_in names since ps)
   behind_one [] since exceeded a = refl
   behind_one (p ∷ ps) since exceeded a =

@@ -39,4 +39,5 @@ pub mod SettlingLemmas
 pub mod FollowedLemmas
 pub mod WayLemmas
 pub mod WithinLemmas
+pub mod RightLemmas
 pub mod DifferenceLemmas

@@ -73,13 +73,12 @@ use Rattle.gptp_setup.specs.Intervals.{interval_of}
 use Rattle.gptp_setup.specs.Pace.{Pace}
 use Rattle.gptp_world.proofs.ClaimedLemmas.{next_octet}
 use Rattle.gptp_world.proofs.InitialLemmas.{initial_sound}
-use Rattle.gptp_timeline.specs.Laws.{AllNear}
+use Rattle.gptp_timeline.specs.Laws.{AllNear, Settle}
 use Rattle.gptp_timeline.specs.Passing.{first_time}
 use Rattle.gptp_timeline.specs.Shown.{live_system, same_choice, same_roles, shown}
 use Rattle.gptp_timeline.specs.Stretch.{at_of}
-use Rattle.gptp_timeline.specs.Limits.{choice_after}
 use Rattle.gptp_timeline.specs.StretchText.{behind}
-use Rattle.gptp_timeline.specs.Timeline.{AllPass, end_before, IsPassage, later_than, now_of, Passage, stretch_of, TimelineOf}
+use Rattle.gptp_timeline.specs.Timeline.{AllPass, end_before, IsPassage, later_than, now_of, Passage, TimelineOf}
 use Rattle.gptp_timeline.specs.declared.timeline.TimelineOptions.{TimelineOptions}
 use Rattle.gptp_timeline.proofs.EventLemmas.{Each, ends_first, ends_later, filter_each, filter_in_order, filter_passes, first_due}
 use Rattle.gptp_timeline.proofs.UnfoldLemmas.{now_and_later}
@@ -559,11 +558,8 @@ within_bound from bound (Some last) within = omega arith
 
 pub stretches_settle : {F : Type 0} (answers : Bounds → ℕ → F → Option ℕ → F → Type 0) (d : DocumentState) (until : ℕ)
     (options : TimelineOptions) (fate : F) (lines : List (List ℕ)) (exceeded : Bool)
-    (t : TimelineOf answers d until options fate lines exceeded) (p : Passage) (bound : ℕ) (names : List ℕ)
-    (since : ℕ → Option ℕ) → IsPlayable d → In p t.passages → p.bound ≡ Some bound → AllNear (snapshot_of p.after)
-    → IfSome (choice_after (stretch_of names since p)) (λ time. time ≤ bound)
-    × IfSome (behind p.from (stretch_of names since p).measures.roles) (λ time. time ≤ bound)
-stretches_settle answers d until options fate lines exceeded t p bound names since playable member bounded_by near =
+    (t : TimelineOf answers d until options fate lines exceeded) → IsPlayable d → Settle t.passages
+stretches_settle answers d until options fate lines exceeded t playable p bound names since member bounded_by near =
     let clocks = rising_clocks t.start in
     let b = begins answers d playable clocks true until t.passages 0 [] (events_by until d.events) t.started
     t.fate_after t.start t.after p (left_first answers d playable clocks until)

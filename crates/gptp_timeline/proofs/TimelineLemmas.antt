@@ -1,5 +1,5 @@
 -- The text of a timeline: its start, its stretches and its verdict.
-use Rattle.std.proofs.Common.{◌≡◌, ℕ, Bool, List, [], ◌++◌, Option, inl, inr, refl, sym, ap, subst, ◌∙◌, append-nil, append_assoc, true}
+use Rattle.std.proofs.Common.{◌≡◌, ℕ, Bool, List, [], ◌++◌, Option, None, inl, inr, refl, sym, ap, subst, ◌∙◌, append-nil, append_assoc, true}
 use Rattle.std.specs.Io.KnownBytes.{Appends}
 use Rattle.std.specs.List.{flat_map}
 use Rattle.gptp_acts.specs.Course.{Begun}
@@ -13,9 +13,9 @@ use Rattle.gptp_world.specs.Transitions.{Transition}
 use Rattle.gptp_world.proofs.FollowLemmas.{text_append}
 use Rattle.gptp_sink.proofs.SinkLemmas.{appends_both, none_of, some_behind}
 use Rattle.gptp_spelling.specs.Lines.{text_of}
-use Rattle.gptp_timeline.specs.Limits.{is_exceeded, not_exceeded, verdict_lines}
+use Rattle.gptp_timeline.specs.Limits.{is_exceeded, verdict_lines}
 use Rattle.gptp_timeline.specs.Timeline.{act_lines, all_exceeded, all_lines, AllPass, BeginsTimeline, none_waits, Passage, SomePass, start_lines, TimelineOf}
-use Rattle.gptp_timeline.specs.declared.limits.Exceeded.{Exceeded}
+use Rattle.gptp_timeline.specs.declared.limits.Limit.{Limit}
 use Rattle.gptp_timeline.specs.declared.timeline.TimelineOptions.{TimelineOptions}
 use Rattle.gptp_timeline.proofs.PassLemmas.{none_done}
 
@@ -102,9 +102,9 @@ module _ {F : Type 0} (answers : Bounds → ℕ → F → Option ℕ → F → T
         )
 
     -- all do
-    module _ (fate_after : F) (after : WorldState) (verdict : Exceeded) (passages : List Passage)
+    module _ (fate_after : F) (after : WorldState) (verdict : Option Limit) (passages : List Passage)
         (pass : AllPass answers true d until 0 (events_by until d.events) started fate_after start after passages)
-        (verdict_is : verdict ≡ all_exceeded options.limits (rising_clocks start) none_waits passages not_exceeded)
+        (verdict_is : verdict ≡ all_exceeded options.limits (rising_clocks start) none_waits passages None)
         (passed : Appends first second (text_of (all_lines options (rising_clocks start) none_waits passages))) where
       timeline : (lines : List (List ℕ)) (exceeded : Bool)
           → lines ≡ (start_lines options (rising_clocks start) start

@@ -1,5 +1,5 @@
 -- Errors of receipts are within the bounds that time errors say.
-use Rattle.std.proofs.Common.{◌≡◌, ◌≤◌, ◌<◌, ◌+◌, ◌*◌, ◌^◌, ◌-ℤ◌, ℕ, zero, suc, ℤ, Bool, true, List, [], ◌∷◌, ◌++◌, nat_le, Option, Some, None, IfSome, option_map, option_and_then, unsigned_abs, inl, inr, refl, sym, ap, subst, ◌∙◌, append_assoc, append-nil, arith}
+use Rattle.std.proofs.Common.{◌≡◌, ◌≤◌, ◌<◌, ◌+◌, ◌*◌, ◌^◌, ◌-ℤ◌, ℕ, zero, suc, ℤ, Bool, true, List, [], ◌∷◌, ◌++◌, nat_le, Option, Some, None, option_map, option_and_then, unsigned_abs, inl, inr, refl, sym, ap, subst, ◌∙◌, append_assoc, append-nil, arith}
 use Rattle.std.specs.List.{AllByRecursion}
 use Rattle.std.proofs.Math.Nat.{le_refl, mul-le-mul}
 use Rattle.std.proofs.lemmas.Int.{ints}
@@ -51,11 +51,11 @@ use Rattle.gptp_time_error.specs.TimeErrors.{AreTimeErrors, exact_from, IsFrom}
 use Rattle.gptp_time_error.specs.TimeErrors as errors_of
 use Rattle.gptp_time_error.specs.Ways.{IsWay}
 use Rattle.gptp_time_error.specs.declared.errors.TimeErrors.{TimeErrors}
-use Rattle.gptp_timeline.specs.Laws.{IsWithin, SayBound}
+use Rattle.gptp_timeline.specs.Laws.{AreErrorsWithin, IsWithin, SayBound}
 use Rattle.gptp_timeline.specs.Receipts.{error_of}
 use Rattle.gptp_timeline.specs.Shown.{live_system}
-use Rattle.gptp_timeline.specs.Stretch.{at_of, error_at, error_from, receives}
-use Rattle.gptp_timeline.specs.Timeline.{AreErrorsBy, now_of, Passage, TimelineOf}
+use Rattle.gptp_timeline.specs.Stretch.{at_of, error_at, receives}
+use Rattle.gptp_timeline.specs.Timeline.{AreErrorsBy, now_of, TimelineOf}
 use Rattle.gptp_timeline.specs.declared.timeline.TimelineOptions.{TimelineOptions}
 use Rattle.gptp_timeline.proofs.BehindLemmas.{all_both}
 use Rattle.gptp_timeline.proofs.ErrorLemmas.{errors_within}
@@ -422,12 +422,9 @@ module _ {F : Type 0} (answers : Bounds → ℕ → F → Option ℕ → F → T
 
 pub errors_are_within : {F : Type 0} (answers : Bounds → ℕ → F → Option ℕ → F → Type 0) (d : DocumentState)
     (until : ℕ) (options : TimelineOptions) (fate : F) (lines : List (List ℕ)) (exceeded : Bool)
-    (t : TimelineOf answers d until options fate lines exceeded) (p : Passage) (errors : TimeErrors)
-    (name from bound : ℕ) → IsPlayable d → until ≤ 10 ^ 18 → In p t.passages → p.errors ≡ Some errors
-    → SayBound errors name from bound
-    → ((act : Transition) → In act p.acts → IsWithin name from bound act)
-    × IfSome (error_from name (Some from) p.acts) (λ amount. amount ≤ bound)
-errors_are_within answers d until options fate lines exceeded t p errors name from bound playable early member are
+    (t : TimelineOf answers d until options fate lines exceeded) → IsPlayable d → until ≤ 10 ^ 18
+    → AreErrorsWithin t.passages
+errors_are_within answers d until options fate lines exceeded t playable early p errors name from bound member are
     says =
     let clocks = rising_clocks t.start in
     let b = begins answers d playable clocks true until t.passages 0 [] (events_by until d.events) t.started

@@ -7,7 +7,7 @@ use Rattle.gptp_links.specs.declared.bounds.Bounds.{Bounds}
 use Rattle.gptp_network.specs.Document.{DocumentState}
 use Rattle.gptp_network.specs.Snapshot.{events_by}
 use Rattle.gptp_timeline.specs.Ends.{EndState}
-use Rattle.gptp_timeline.specs.Limits.{exceeded_after, not_exceeded}
+use Rattle.gptp_timeline.specs.Limits.{exceeded_after}
 use Rattle.gptp_timeline.specs.Shown.{shown}
 use Rattle.gptp_timeline.specs.Stretch.{roots_of, shown_of_all, waits}
 use Rattle.gptp_timeline.specs.Timeline.{AllPass, ended_of, none_waits, Passage, stretch_of}
@@ -55,7 +55,7 @@ end_of plan o = record { stretch = ended_of plan o; roots = roots_of (shown_of_a
 
 -- nothing is kept yet
 abbrev pub none_kept : Kept
-none_kept = record { exceeded = not_exceeded; before = None; last = None }
+none_kept = record { exceeded = None; before = None; last = None }
 
 -- what is kept with one stretch more
 abbrev pub kept_after : Limits → EndState → Kept → Kept

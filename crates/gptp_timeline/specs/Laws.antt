@@ -66,13 +66,16 @@ AllNear g = (name : ℕ) → In name (clocks g) → IsNear g name
 
 -- Where a stretch has a bound, and every live system is near where it ends, no act later than the bound behind its
 -- begin leaves a system another as to whether it lives, root, steps or Slave port, nor as to role or capable of a port.
+abbrev pub Settle : List Passage → Type 0
+Settle passages = (p : Passage) (bound : ℕ) (names : List ℕ) (since : ℕ → Option ℕ)
+    → In p passages → p.bound ≡ Some bound → AllNear (snapshot_of p.after)
+    → IfSome (choice_after (stretch_of names since p)) (λ time. time ≤ bound)
+    × IfSome (behind p.from (stretch_of names since p).measures.roles) (λ time. time ≤ bound)
+
 abbrev pub StretchesSettle : {F : Type 0} → (Bounds → ℕ → F → Option ℕ → F → Type 0) → Type 0
 StretchesSettle {F} answers = (d : DocumentState) (until : ℕ) (options : TimelineOptions) (fate : F)
     (lines : List (List ℕ)) (exceeded : Bool) (t : TimelineOf answers d until options fate lines exceeded)
-    (p : Passage) (bound : ℕ) (names : List ℕ) (since : ℕ → Option ℕ)
-    → IsPlayable d → In p t.passages → p.bound ≡ Some bound → AllNear (snapshot_of p.after)
-    → IfSome (choice_after (stretch_of names since p)) (λ time. time ≤ bound)
-    × IfSome (behind p.from (stretch_of names since p).measures.roles) (λ time. time ≤ bound)
+    → IsPlayable d → Settle t.passages
 
 -- the root that a system follows: where it is near, the identity of the best of its component
 abbrev pub IsRootOf : Snapshot → ℕ → ℕ → Type 0
@@ -84,12 +87,15 @@ AreRoots g roots = Each (IsRootOf g) (clocks g) roots
 
 -- Where a stretch has a bound and lasts as long, the roots that live systems follow where it ends are those of the
 -- settled choice of the network as it stands then: of each near system the best of its component.
+abbrev pub Follow : DocumentState → WorldState → List Passage → Type 0
+Follow d start passages = (p : Passage) (bound : ℕ) (g : Snapshot)
+    → In p passages → p.bound ≡ Some bound → p.from + bound ≤ p.to → IsSnapshot d p.from g
+    → AreRoots g (roots_of (map (λ name. shown name p.after) (rising_clocks start)))
+
 abbrev pub StretchesFollow : {F : Type 0} → (Bounds → ℕ → F → Option ℕ → F → Type 0) → Type 0
 StretchesFollow {F} answers = (d : DocumentState) (until : ℕ) (options : TimelineOptions) (fate : F)
     (lines : List (List ℕ)) (exceeded : Bool) (t : TimelineOf answers d until options fate lines exceeded)
-    (p : Passage) (bound : ℕ) (g : Snapshot)
-    → IsPlayable d → In p t.passages → p.bound ≡ Some bound → p.from + bound ≤ p.to → IsSnapshot d p.from g
-    → AreRoots g (roots_of (map (λ name. shown name p.after) (rising_clocks t.start)))
+    → IsPlayable d → Follow d t.start t.passages
 
 -- What time errors say of a system that isn't its own root: its bound, and from when on that holds.
 pub record SayBound (errors : TimeErrors) (name from bound : ℕ) : Type 0 where
@@ -106,15 +112,18 @@ IsWithin name from bound t = (error : ℤ) → from ≤ at_of t → receives nam
     → unsigned_abs error ≤ bound
 
 -- Errors of receipts are within the bounds that the time errors of their stretch say, each from the time on from which
--- these hold; and so is the greatest of them, which is what the `accuracy` line of a system says. So it is as long as
--- clocks can show the time.
+-- these hold; and so is the greatest of them, which is what the `accuracy` line of a system says.
+abbrev pub AreErrorsWithin : List Passage → Type 0
+AreErrorsWithin passages = (p : Passage) (errors : TimeErrors) (name from bound : ℕ)
+    → In p passages → p.errors ≡ Some errors → SayBound errors name from bound
+    → ((act : Transition) → In act p.acts → IsWithin name from bound act)
+    × IfSome (error_from name (Some from) p.acts) (λ amount. amount ≤ bound)
+
+-- So it is as long as clocks can show the time.
 abbrev pub ErrorsAreWithin : {F : Type 0} → (Bounds → ℕ → F → Option ℕ → F → Type 0) → Type 0
 ErrorsAreWithin {F} answers = (d : DocumentState) (until : ℕ) (options : TimelineOptions) (fate : F)
     (lines : List (List ℕ)) (exceeded : Bool) (t : TimelineOf answers d until options fate lines exceeded)
-    (p : Passage) (errors : TimeErrors) (name from bound : ℕ)
-    → IsPlayable d → until ≤ 10 ^ 18 → In p t.passages → p.errors ≡ Some errors → SayBound errors name from bound
-    → ((act : Transition) → In act p.acts → IsWithin name from bound act)
-    × IfSome (error_from name (Some from) p.acts) (λ amount. amount ≤ bound)
+    → IsPlayable d → until ≤ 10 ^ 18 → AreErrorsWithin t.passages
 
 -- So it is in every run of a document with the time errors of the document as it stands at the end of the run.
 abbrev pub RunsAreWithin : {F : Type 0} → (Bounds → ℕ → F → Option ℕ → F → Type 0) → Type 0
@@ -123,3 +132,22 @@ RunsAreWithin {F} answers = (d : DocumentState) (until : ℕ) (fate : F) (start 
     → IsPlayable d → until ≤ 10 ^ 18 → Unfolds answers d until fate start ts w → AreTimeErrors d until errors
     → SayBound errors name from bound
     → (act : Transition) → In act ts → IsWithin name from bound act
+
+-- ---- all of it at once
+
+-- A timeline is right: its stretches are one run, the last lines of each system tell what it shows where that ends,
+-- stretches settle within their bounds and then follow the settled choice, and errors are within theirs.
+pub record IsRight {F : Type 0} (answers : Bounds → ℕ → F → Option ℕ → F → Type 0) (d : DocumentState) (until : ℕ)
+    (options : TimelineOptions) (fate : F) (lines : List (List ℕ)) (exceeded : Bool)
+    (t : TimelineOf answers d until options fate lines exceeded) : Type 0 where
+  pub unfolds : Unfolds answers d until fate t.start (all_acts t.passages) t.after
+  pub last : (name : ℕ) → TellLast (all_tellings name t.start (all_acts t.passages)) (shown name t.after)
+  pub settle : Settle t.passages
+  pub follow : Follow d t.start t.passages
+  pub within : AreErrorsWithin t.passages
+
+-- So is every timeline of a document that is playable, as long as clocks can show the time.
+abbrev pub TimelinesAreRight : {F : Type 0} → (Bounds → ℕ → F → Option ℕ → F → Type 0) → Type 0
+TimelinesAreRight {F} answers = (d : DocumentState) (until : ℕ) (options : TimelineOptions) (fate : F)
+    (lines : List (List ℕ)) (exceeded : Bool) (t : TimelineOf answers d until options fate lines exceeded)
+    → IsPlayable d → until ≤ 10 ^ 18 → IsRight answers d until options fate lines exceeded t

@@ -1,65 +1,26 @@
 -- What is asked of stretches, and which of it isn't so (profile).
-use Rattle.std.specs.Prelude.{ℕ, ◌-◌, ◌*◌, ◌&&◌, ◌||◌, nat_lt, Bool, false, if◌then◌else◌, List, [], ◌∷◌, ◌++◌, codes, Option, Some, None, is_some}
+use Rattle.std.specs.Prelude.{ℕ, ◌-◌, ◌*◌, ◌&&◌, ◌||◌, nat_lt, Bool, false, if◌then◌else◌, List, [], ◌∷◌, ◌++◌, codes, Option, Some, None, is_some, slice_index_or}
 use Rattle.std.specs.Option.{option_map}
-use Rattle.gptp_timeline.specs.declared.limits.Exceeded.{Exceeded}
 use Rattle.gptp_timeline.specs.declared.limits.Limit.{Limit}
 use Rattle.gptp_timeline.specs.declared.limits.Limit.TheVariants.{Alone, Choice, Error, Holdover, Roots, Without}
 use Rattle.gptp_timeline.specs.declared.limits.Limits.{Limits}
 use Rattle.gptp_timeline.specs.declared.measures.Greatest.{Greatest}
 use Rattle.gptp_timeline.specs.declared.stretch.Stretch.{Stretch}
 
--- an amount is above so many units, where that is asked
-abbrev pub is_above : Option ℕ → ℕ → ℕ → Bool
-is_above None unit amount = false
-is_above (Some most) unit amount = nat_lt (most * unit) amount
+-- ---- the limits
 
--- there is one, and it is above
-abbrev pub is_any_above : Option ℕ → ℕ → Option ℕ → Bool
-is_any_above most unit None = false
-is_any_above most unit (Some amount) = is_above most unit amount
+-- in the order in which a verdict names the first that is exceeded
+abbrev pub all_limits : List Limit
+all_limits = Choice ∷ Holdover ∷ Error ∷ Without ∷ Roots ∷ Alone ∷ []
 
-abbrev pub choice_after : Stretch → Option ℕ
-choice_after s = option_map (λ time. time - s.from) s.measures.choice
-
-abbrev pub amount_of : Option Greatest → Option ℕ
-amount_of = option_map (λ (g : Greatest). g.amount)
-
-abbrev pub not_exceeded : Exceeded
-not_exceeded = record {
-  choice = false;
-  holdover = false;
-  error = false;
-  without = false;
-  roots = false;
-  alone = false;
-}
-
--- Choice and holdover are asked of stretches that begin with an event, the others of all. Errors are in 2^-16 ns.
-abbrev pub exceeded_after : Limits → Stretch → Exceeded → Exceeded
-exceeded_after limits s before = record {
-  choice = before.choice || (s.begins_with_event && is_any_above limits.choice 1 (choice_after s));
-  holdover = before.holdover || (s.begins_with_event && is_any_above limits.holdover 1 (amount_of s.measures.holdover));
-  error = before.error || is_any_above limits.error 65536 (amount_of s.measures.error);
-  without = before.without || is_above limits.without 1 s.counts.without;
-  roots = before.roots || is_above limits.roots 1 s.counts.roots;
-  alone = before.alone || is_above limits.alone 1 s.counts.alone;
-}
-
--- any limit is given
-abbrev pub is_asked : Limits → Bool
-is_asked limits =
-    is_some limits.choice || (is_some limits.holdover || (is_some limits.error || (is_some limits.without
-    || (is_some limits.roots || is_some limits.alone))))
-
--- the first that is exceeded
-abbrev pub first_exceeded : Exceeded → Option Limit
-first_exceeded e =
-    if e.choice then Some Choice else
-    (if e.holdover then Some Holdover else
-    (if e.error then Some Error else
-    (if e.without then Some Without else
-    (if e.roots then Some Roots else
-    (if e.alone then Some Alone else None)))))
+-- the place of each among them
+abbrev pub place_of : Limit → ℕ
+place_of Choice = 0
+place_of Holdover = 1
+place_of Error = 2
+place_of Without = 3
+place_of Roots = 4
+place_of Alone = 5
 
 abbrev pub limit_text : Limit → List ℕ
 limit_text Choice = codes "choice"
@@ -69,12 +30,77 @@ limit_text Without = codes "without"
 limit_text Roots = codes "roots"
 limit_text Alone = codes "alone"
 
+-- the option that gives it
+abbrev pub option_name : Limit → List ℕ
+option_name limit = codes "max-" ++ limit_text limit
+
+-- errors are in 2^-16 ns
+abbrev pub unit_of : Limit → ℕ
+unit_of Error = 65536
+unit_of limit = 1
+
+-- what is given for it
+abbrev pub most_of : Limits → Limit → Option ℕ
+most_of limits limit = slice_index_or limits.most (place_of limit) None
+
+-- ---- whether a stretch keeps to them
+
+abbrev pub choice_after : Stretch → Option ℕ
+choice_after s = option_map (λ time. time - s.from) s.measures.choice
+
+abbrev pub amount_of : Option Greatest → Option ℕ
+amount_of = option_map (λ (g : Greatest). g.amount)
+
+-- what a limit asks for in a stretch: choice and holdover where it begins with an event, the others in all
+abbrev pub amount_in : Stretch → Limit → Option ℕ
+amount_in s Choice = if s.begins_with_event then choice_after s else None
+amount_in s Holdover = if s.begins_with_event then amount_of s.measures.holdover else None
+amount_in s Error = amount_of s.measures.error
+amount_in s Without = Some s.counts.without
+amount_in s Roots = Some s.counts.roots
+amount_in s Alone = Some s.counts.alone
+
+-- so many units are given, there is an amount, and it is above
+abbrev pub is_above : Option ℕ → ℕ → Option ℕ → Bool
+is_above None unit amount = false
+is_above (Some most) unit None = false
+is_above (Some most) unit (Some amount) = nat_lt (most * unit) amount
+
+abbrev pub exceeds : Limits → Limit → Option ℕ → Bool
+exceeds limits limit amount = is_above (most_of limits limit) (unit_of limit) amount
+
+-- the first of several limits that is exceeded, by what each asks for
+abbrev pub first_exceeded : Limits → (Limit → Option ℕ) → List Limit → Option Limit
+first_exceeded limits amounts [] = None
+first_exceeded limits amounts (limit ∷ others) =
+    if exceeds limits limit (amounts limit) then Some limit else first_exceeded limits amounts others
+
+-- the one of two that comes first
+abbrev pub earlier : Option Limit → Option Limit → Option Limit
+earlier None b = b
+earlier (Some a) None = Some a
+earlier (Some a) (Some b) = if nat_lt (place_of b) (place_of a) then Some b else Some a
+
+-- the first limit that some stretches exceed, with one more
+abbrev pub exceeded_after : Limits → Stretch → Option Limit → Option Limit
+exceeded_after limits s before = earlier before (first_exceeded limits (amount_in s) all_limits)
+
+-- ---- the verdict
+
+abbrev pub is_some_given : List (Option ℕ) → Bool
+is_some_given [] = false
+is_some_given (most ∷ others) = is_some most || is_some_given others
+
+-- any limit is given
+abbrev pub is_asked : Limits → Bool
+is_asked limits = is_some_given limits.most
+
 abbrev pub verdict_line : Option Limit → List ℕ
 verdict_line None = codes "within"
 verdict_line (Some limit) = codes "exceeded " ++ limit_text limit
 
-abbrev pub verdict_lines : Limits → Exceeded → List (List ℕ)
-verdict_lines limits e = if is_asked limits then verdict_line (first_exceeded e) ∷ [] else []
+abbrev pub verdict_lines : Limits → Option Limit → List (List ℕ)
+verdict_lines limits first = if is_asked limits then verdict_line first ∷ [] else []
 
-abbrev pub is_exceeded : Limits → Exceeded → Bool
-is_exceeded limits e = is_asked limits && is_some (first_exceeded e)
+abbrev pub is_exceeded : Limits → Option Limit → Bool
+is_exceeded limits first = is_asked limits && is_some first

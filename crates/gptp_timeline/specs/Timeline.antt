@@ -20,13 +20,13 @@ use Rattle.gptp_time_error.specs.declared.errors.SystemError.{SystemError}
 use Rattle.gptp_time_error.specs.declared.errors.TimeErrors.{TimeErrors}
 use Rattle.gptp_timeline.specs.Changes.{change_lines}
 use Rattle.gptp_timeline.specs.EventLine.{event_line}
-use Rattle.gptp_timeline.specs.Limits.{exceeded_after, not_exceeded, verdict_lines, is_exceeded}
+use Rattle.gptp_timeline.specs.Limits.{exceeded_after, verdict_lines, is_exceeded}
 use Rattle.gptp_timeline.specs.Receipts.{offset_line, received_by}
 use Rattle.gptp_timeline.specs.Shown.{live_system, shown}
 use Rattle.gptp_timeline.specs.Stretch.{at_of, counted, error_at, error_from, measured, waits}
 use Rattle.gptp_timeline.specs.StretchText.{after_line, ended_stretch, error_among, system_accuracy}
 use Rattle.gptp_timeline.specs.Watch.{unless, WatchState}
-use Rattle.gptp_timeline.specs.declared.limits.Exceeded.{Exceeded}
+use Rattle.gptp_timeline.specs.declared.limits.Limit.{Limit}
 use Rattle.gptp_timeline.specs.declared.limits.Limits.{Limits}
 use Rattle.gptp_timeline.specs.declared.stretch.Stretch.{Stretch}
 use Rattle.gptp_timeline.specs.declared.timeline.Plan.{Plan}
@@ -161,8 +161,8 @@ all_lines options names since [] = []
 all_lines options names since (p ∷ ps) =
     passage_lines options names since p ++ all_lines options names (waits p.acts since) ps
 
--- which limits some of them exceed, or did before
-abbrev pub all_exceeded : Limits → List ℕ → (ℕ → Option ℕ) → List Passage → Exceeded → Exceeded
+-- the first limit that some of them exceed, or others did before
+abbrev pub all_exceeded : Limits → List ℕ → (ℕ → Option ℕ) → List Passage → Option Limit → Option Limit
 all_exceeded limits names since [] before = before
 all_exceeded limits names since (p ∷ ps) before =
     all_exceeded limits names (waits p.acts since) ps (exceeded_after limits (stretch_of names since p) before)
@@ -216,8 +216,8 @@ pub record TimelineOf {F : Type 0} (answers : Bounds → ℕ → F → Option �
   pub fate_after : F
   pub after : WorldState
   pub pass : AllPass answers true d until 0 (events_by until d.events) started fate_after start after passages
-  pub verdict : Exceeded
-  pub verdict_is : verdict ≡ all_exceeded options.limits (rising_clocks start) none_waits passages not_exceeded
+  pub verdict : Option Limit
+  pub verdict_is : verdict ≡ all_exceeded options.limits (rising_clocks start) none_waits passages None
   pub exceeded_is : exceeded ≡ is_exceeded options.limits verdict
   pub are : lines ≡ start_lines options (rising_clocks start) start
       ++ all_lines options (rising_clocks start) none_waits passages ++ verdict_lines options.limits verdict

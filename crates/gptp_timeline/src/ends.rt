@@ -3,7 +3,7 @@
 ghost use Rattle.std.specs.Prelude.{◌≡◌};
 ghost use Rattle.gptp_timeline.specs.LastTwo.{both_of, kept_after, none_kept};
 
-use crate::limits::{Exceeded, Limits, NOT_EXCEEDED, exceeded_after};
+use crate::limits::{Limit, Limits, exceeded_after};
 use crate::stretch::Stretch;
 use gptp_vector::Identity;
 use std::marker::Model;
@@ -52,8 +52,8 @@ impl StretchEnd {
 /// What is kept of the stretches that ended so far.
 #[derive(Drop)]
 pub(crate) struct Kept {
-    /// Which limits some of them exceeded.
-    pub exceeded: Exceeded,
+    /// The first limit that some of them exceeded.
+    pub exceeded: Option<Limit>,
     /// How the last but one ended.
     pub before: Option<StretchEnd>,
     /// How the last ended.
@@ -65,7 +65,7 @@ pub(crate) fn none_kept() -> Kept
     ensures { result ≡ none_kept }
 {
     Kept {
-        exceeded: NOT_EXCEEDED,
+        exceeded: None,
         before: None,
         last: None,
     }

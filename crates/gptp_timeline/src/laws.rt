@@ -1,6 +1,6 @@
 //! Laws of timelines.
 
-ghost use Rattle.gptp_timeline.specs.Laws.{ChangesAreTold, ErrorsAreWithin, LastLinesTell, RunsAreWithin, StretchesFollow, StretchesSettle, TimelineEndsAsRun, TimelineUnfolds};
+ghost use Rattle.gptp_timeline.specs.Laws.{ChangesAreTold, ErrorsAreWithin, LastLinesTell, RunsAreWithin, StretchesFollow, StretchesSettle, TimelineEndsAsRun, TimelineUnfolds, TimelinesAreRight};
 
 use gptp_links::Fate;
 
@@ -39,4 +39,9 @@ pub fn stretches_follow<F: Fate>()
 pub fn errors_are_within<F: Fate>()
     ensures stretches { ErrorsAreWithin F.answers }
     ensures runs { RunsAreWithin F.answers }
+{}
+
+/// All of these hold of every timeline of a document that is playable, up to 10^18 ns.
+pub fn timelines_are_right<F: Fate>()
+    ensures { TimelinesAreRight F.answers }
 {}

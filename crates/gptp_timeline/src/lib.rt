@@ -31,9 +31,10 @@ pub use counts::{Counts, times};
 pub use end::end_by_default;
 pub use ends::StretchEnd;
 pub use laws::{
-    errors_are_within, last_lines_tell, stretches_follow, stretches_settle, timelines_are_runs,
+    errors_are_within, last_lines_tell, stretches_follow, stretches_settle, timelines_are_right,
+    timelines_are_runs,
 };
-pub use limits::{Exceeded, Limits, is_above, is_any_above, write_first_exceeded};
+pub use limits::{Limit, Limits, write_first_exceeded};
 pub use measures::{Greatest, Measures, better_if};
-pub use stretch::{Longest, Stretch, TimeOrNone, Worst};
+pub use stretch::{Longest, Stretch, TimeOrNone, Worst, amount_of};
 pub use timeline::{TimelineOptions, last_stretches, write_timeline};

@@ -1,49 +1,72 @@
 //! What is asked of each stretch, and whether it keeps to it.
 
-ghost use Rattle.std.specs.Prelude.{◌≡◌, ◌++◌, ◌∷◌, [], IfOk, OnOk, is_some, string_bytes};
+ghost use Rattle.std.specs.Prelude.{◌≡◌, ◌<◌, ◌++◌, ◌∷◌, [], IfOk, OnOk, is_some, string_bytes};
 ghost use Rattle.gptp_spelling.specs.Lines.{text_of};
-ghost use Rattle.gptp_timeline.specs.Limits.{exceeded_after, first_exceeded, is_above, is_any_above, is_asked, is_exceeded, verdict_line, verdict_lines};
+ghost use Rattle.gptp_timeline.specs.Limits.{amount_in, earlier, exceeded_after, exceeds, first_exceeded, is_above, is_asked, is_exceeded, is_some_given, most_of, option_name, place_of, unit_of, verdict_line, verdict_lines};
 
 use crate::stretch::Stretch;
 use std::alloc::AllocError;
 use std::fmt;
 
-/// The greatest that each stretch may have, where it is given.
-#[derive(Clone, Copy, Debug, PartialEq, Eq)]
-pub struct Limits {
-    /// How long the choice takes to stand behind an event, in ns.
-    pub choice: Option<u64>,
-    /// How long a system waits for time behind an event, in ns.
-    pub holdover: Option<u64>,
-    /// How far a receipt is off, in ns.
-    pub error: Option<u64>,
-    /// How many systems go without time where the stretch ends.
-    pub without: Option<u64>,
-    /// How many roots two or more systems follow there.
-    pub roots: Option<u64>,
-    /// How many systems follow a root that no other does there.
-    pub alone: Option<u64>,
-}
-
-/// None is given.
-pub(crate) const NO_LIMITS: Limits = Limits {
-    choice: None,
-    holdover: None,
-    error: None,
-    without: None,
-    roots: None,
-    alone: None,
-};
-
 /// What a limit is given for.
 #[derive(Clone, Copy, Debug, PartialEq, Eq)]
-pub(crate) enum Limit {
+pub enum Limit {
+    /// How long the choice takes to stand behind an event, in ns.
     Choice,
+    /// How long a system waits for time behind an event, in ns.
     Holdover,
+    /// How far a receipt is off, in ns.
     Error,
+    /// How many systems go without time where the stretch ends.
     Without,
+    /// How many roots two or more systems follow there.
     Roots,
+    /// How many systems follow a root that no other does there.
     Alone,
+}
+
+impl Limit {
+    /// All of them, in the order in which a verdict names the first that is exceeded.
+    pub const ALL: [Limit; 6] = [
+        Limit::Choice,
+        Limit::Holdover,
+        Limit::Error,
+        Limit::Without,
+        Limit::Roots,
+        Limit::Alone,
+    ];
+
+    /// Its place among all of them.
+    fn place(self) -> usize
+        ensures place { result ≡ place_of self }
+        ensures below { result < 6 }
+    {
+        self as usize
+    }
+
+    /// The name of the option that gives it: `max-`, and its word.
+    pub fn option(self) -> &'static str
+        ensures { result.now ≡ option_name self }
+    {
+        match self {
+            Limit::Choice => "max-choice",
+            Limit::Holdover => "max-holdover",
+            Limit::Error => "max-error",
+            Limit::Without => "max-without",
+            Limit::Roots => "max-roots",
+            Limit::Alone => "max-alone",
+        }
+    }
+
+    /// How many units of its amount are one of what is given: errors are given in ns, and counted in 2^-16 ns.
+    fn unit(self) -> u32
+        ensures { result ≡ unit_of self }
+    {
+        match self {
+            Limit::Error => 65_536,
+            _ => 1,
+        }
+    }
 }
 
 impl fmt::Display for Limit {
@@ -64,95 +87,93 @@ impl fmt::Display for Limit {
     }
 }
 
-/// Which limits some stretch exceeded so far.
+/// The greatest that each stretch may have, where it is given.
 #[derive(Clone, Copy, Debug, PartialEq, Eq)]
-pub struct Exceeded {
-    pub choice: bool,
-    pub holdover: bool,
-    pub error: bool,
-    pub without: bool,
-    pub roots: bool,
-    pub alone: bool,
+pub struct Limits {
+    /// By limit, in the order of [`Limit::ALL`]; times and errors in ns.
+    pub most: [Option<u64>; 6],
 }
 
-/// None of them.
-pub(crate) const NOT_EXCEEDED: Exceeded = Exceeded {
-    choice: false,
-    holdover: false,
-    error: false,
-    without: false,
-    roots: false,
-    alone: false,
-};
+/// None is given.
+pub(crate) const NO_LIMITS: Limits = Limits { most: [None; 6] };
 
-/// Whether an amount is above so many units.
-pub fn is_above(most: Option<u64>, unit: u32, amount: u128) -> bool
+impl Limits {
+    /// What is given for a limit.
+    fn most_of(&self, limit: Limit) -> Option<u64>
+        ensures { result ≡ most_of self.now limit }
+    {
+        self.most[limit.place()]
+    }
+
+    /// Whether there is an amount, and it is above what is given for a limit.
+    pub fn exceeds(&self, limit: Limit, amount: Option<u128>) -> bool
+        ensures { result ≡ exceeds self.now limit amount }
+    {
+        is_above(self.most_of(limit), limit.unit(), amount)
+    }
+}
+
+/// Whether there is an amount, and it is above so many units.
+fn is_above(most: Option<u64>, unit: u32, amount: Option<u128>) -> bool
     ensures { result ≡ is_above most unit amount }
 {
-    match most {
-        Some(most) => u128::from(most) * u128::from(unit) < amount,
-        None => false,
+    match (most, amount) {
+        (Some(most), Some(amount)) => u128::from(most) * u128::from(unit) < amount,
+        _ => false,
     }
 }
 
-/// Whether there is an amount, and it is above.
-pub fn is_any_above(most: Option<u64>, unit: u32, amount: Option<u128>) -> bool
-    ensures { result ≡ is_any_above most unit amount }
+/// The first of several limits that a stretch exceeds.
+fn first_exceeded(limits: &Limits, stretch: &Stretch, among: &[Limit]) -> Option<Limit>
+    ensures { result ≡ first_exceeded limits.now (amount_in stretch.now) among.now }
 {
-    match amount {
-        Some(amount) => is_above(most, unit, amount),
-        None => false,
+    for limit in among {
+        if limits.exceeds(*limit, stretch.amount(*limit)) {
+            return Some(*limit);
+        }
+    }
+    None
+}
+
+/// The one of two that a verdict names.
+fn earlier(a: Option<Limit>, b: Option<Limit>) -> Option<Limit>
+    ensures { result ≡ earlier a b }
+{
+    match (a, b) {
+        (Some(first), Some(second)) if second.place() < first.place() => b,
+        (Some(_), _) => a,
+        _ => b,
     }
 }
 
-/// Which limits some stretch exceeded, with one stretch more.
-pub(crate) fn exceeded_after(limits: &Limits, stretch: &Stretch, before: Exceeded) -> Exceeded
+/// The first limit that some stretch exceeds, with one stretch more.
+pub(crate) fn exceeded_after(
+    limits: &Limits,
+    stretch: &Stretch,
+    before: Option<Limit>,
+) -> Option<Limit>
     ensures { result ≡ exceeded_after limits.now stretch.now before }
 {
-    let asked = stretch.begins_with_event;
-    let counts = stretch.counts;
-    Exceeded {
-        choice: before.choice || (asked && is_any_above(limits.choice, 1, stretch.choice_after())),
-        holdover: before.holdover
-            || (asked && is_any_above(limits.holdover, 1, stretch.holdover_amount())),
-        error: before.error || is_any_above(limits.error, 65_536, stretch.error_amount()),
-        without: before.without || is_above(limits.without, 1, u128::from(counts.without)),
-        roots: before.roots || is_above(limits.roots, 1, u128::from(counts.roots)),
-        alone: before.alone || is_above(limits.alone, 1, u128::from(counts.alone)),
+    earlier(before, first_exceeded(limits, stretch, &Limit::ALL))
+}
+
+/// Whether any of several is given.
+fn is_some_given(all: &[Option<u64>]) -> bool
+    ensures { result ≡ is_some_given all.now }
+{
+    for most in all {
+        if most.is_some() {
+            return true;
+        }
     }
+    false
 }
 
 /// Whether any limit is given.
 fn is_asked(limits: &Limits) -> bool
     ensures { result ≡ is_asked limits.now }
 {
-    limits.choice.is_some()
-        || limits.holdover.is_some()
-        || limits.error.is_some()
-        || limits.without.is_some()
-        || limits.roots.is_some()
-        || limits.alone.is_some()
-}
-
-/// The first limit that is exceeded.
-fn first_exceeded(exceeded: Exceeded) -> Option<Limit>
-    ensures { result ≡ first_exceeded exceeded }
-{
-    if exceeded.choice {
-        Some(Limit::Choice)
-    } else if exceeded.holdover {
-        Some(Limit::Holdover)
-    } else if exceeded.error {
-        Some(Limit::Error)
-    } else if exceeded.without {
-        Some(Limit::Without)
-    } else if exceeded.roots {
-        Some(Limit::Roots)
-    } else if exceeded.alone {
-        Some(Limit::Alone)
-    } else {
-        None
-    }
+    is_some_given(&limits.most)
 }
 
 /// Appends the line of a verdict.
@@ -165,8 +186,8 @@ fn write_first(text: &mut String, first: Option<Limit>) -> Result<(), AllocError
     }
 }
 
-/// Appends the line of a verdict, and answers whether a limit is exceeded.
-fn write_asked(text: &mut String, first: Option<Limit>) -> Result<bool, AllocError>
+/// Appends the line that says which limit is the first that is exceeded, and answers whether one is.
+pub fn write_first_exceeded(text: &mut String, first: Option<Limit>) -> Result<bool, AllocError>
     ensures text { OnOk result (string_bytes text.new ≡ string_bytes text.old ++ text_of (verdict_line first ∷ [])) }
     ensures exceeded { IfOk result (λ exceeded. exceeded ≡ is_some first) }
 {
@@ -174,26 +195,17 @@ fn write_asked(text: &mut String, first: Option<Limit>) -> Result<bool, AllocErr
     Ok(first.is_some())
 }
 
-/// Appends the line that says which limit is the first that is exceeded, and answers whether one is.
-pub fn write_first_exceeded(text: &mut String, exceeded: Exceeded) -> Result<bool, AllocError>
-    ensures text { OnOk result (string_bytes text.new
-        ≡ string_bytes text.old ++ text_of (verdict_line (first_exceeded exceeded) ∷ [])) }
-    ensures exceeded { IfOk result (λ is. is ≡ is_some (first_exceeded exceeded)) }
-{
-    write_asked(text, first_exceeded(exceeded))
-}
-
 /// Appends the line of a verdict where a limit is given, and answers whether one is exceeded.
 pub(crate) fn write_verdict(
     text: &mut String,
     limits: &Limits,
-    exceeded: Exceeded,
+    first: Option<Limit>,
 ) -> Result<bool, AllocError>
-    ensures text { OnOk result (string_bytes text.new ≡ string_bytes text.old ++ text_of (verdict_lines limits.now exceeded)) }
-    ensures exceeded { IfOk result (λ is. is ≡ is_exceeded limits.now exceeded) }
+    ensures text { OnOk result (string_bytes text.new ≡ string_bytes text.old ++ text_of (verdict_lines limits.now first)) }
+    ensures exceeded { IfOk result (λ is. is ≡ is_exceeded limits.now first) }
 {
     match is_asked(limits) {
-        true => write_asked(text, first_exceeded(exceeded)),
+        true => write_first_exceeded(text, first),
         false => Ok(false),
     }
 }

@@ -4,7 +4,7 @@ ghost use Rattle.std.specs.Prelude.{◌≡◌, ◌≢◌, ◌++◌, ◌∷◌, �
 ghost use Rattle.std.specs.List.{filter_map, flat_map};
 ghost use Rattle.std.specs.Option.{option_map};
 ghost use Rattle.gptp_spelling.specs.Lines.{text_of};
-ghost use Rattle.gptp_timeline.specs.Limits.{amount_of, choice_after};
+ghost use Rattle.gptp_timeline.specs.Limits.{amount_of};
 ghost use Rattle.gptp_timeline.specs.Measures.{greatest_from};
 ghost use Rattle.gptp_timeline.specs.Stretch.{shown_of_all};
 ghost use Rattle.gptp_timeline.specs.Watch.{RisesByClock};
@@ -12,6 +12,7 @@ ghost use Rattle.gptp_timeline.specs.StretchText.{accuracy_line, after_line, beh
 
 use crate::amounts::{Near, NearOrNone, Up};
 use crate::counts::{Counts, counts_of};
+use crate::limits::Limit;
 use crate::measures::{Greatest, Measures, better_if};
 use crate::watched::Watched;
 use gptp_spelling::ClockDigits;
@@ -47,9 +48,19 @@ fn behind(from: u64, time: Option<u64>) -> Option<u64>
     }
 }
 
+/// The amount of the greatest, if there is one.
+pub fn amount_of(greatest: Option<Greatest>) -> Option<u128>
+    ensures { result ≡ amount_of greatest }
+{
+    match greatest {
+        Some(greatest) => Some(greatest.amount),
+        None => None,
+    }
+}
+
 impl Stretch {
     ghost use Rattle.std.specs.Prelude.{◌≡◌};
-    ghost use Rattle.gptp_timeline.specs.Limits.{amount_of, choice_after};
+    ghost use Rattle.gptp_timeline.specs.Limits.{amount_in, amount_of, choice_after};
 
     /// How long the choice took to stand, in ns.
     pub fn choice_after(&self) -> Option<u128>
@@ -61,23 +72,18 @@ impl Stretch {
         }
     }
 
-    /// The longest wait, in ns.
-    pub(crate) fn holdover_amount(&self) -> Option<u128>
-        ensures { result ≡ amount_of self.now.measures.holdover }
+    /// The amount that a limit asks for: times in ns, errors in units of 2^-16 ns; none where it isn't asked of the stretch.
+    pub(crate) fn amount(&self, limit: Limit) -> Option<u128>
+        ensures { result ≡ amount_in self.now limit }
     {
-        match self.measures.holdover {
-            Some(longest) => Some(longest.amount),
-            None => None,
-        }
-    }
-
-    /// The greatest absolute error, in units of 2^-16 ns.
-    pub(crate) fn error_amount(&self) -> Option<u128>
-        ensures { result ≡ amount_of self.now.measures.error }
-    {
-        match self.measures.error {
-            Some(greatest) => Some(greatest.amount),
-            None => None,
+        match limit {
+            Limit::Choice if self.begins_with_event => self.choice_after(),
+            Limit::Holdover if self.begins_with_event => amount_of(self.measures.holdover),
+            Limit::Choice | Limit::Holdover => None,
+            Limit::Error => amount_of(self.measures.error),
+            Limit::Without => Some(u128::from(self.counts.without)),
+            Limit::Roots => Some(u128::from(self.counts.roots)),
+            Limit::Alone => Some(u128::from(self.counts.alone)),
         }
     }
 }

@@ -23,7 +23,7 @@ ghost use Rattle.gptp_timeline.specs.Watch.{event_look, lines_all, see_all};
 
 use crate::counts::roots_of;
 use crate::ends::{Kept, StretchEnd, both_of, keep, none_kept};
-use crate::limits::{Exceeded, Limits, NO_LIMITS, write_verdict};
+use crate::limits::{Limit, Limits, NO_LIMITS, write_verdict};
 use crate::stretch::{ended, write_accuracies, write_after};
 use crate::unwritten::Unwritten;
 use crate::watch::Watch;
@@ -392,7 +392,7 @@ fn write_start<F: Fate + Drop, K: Sink>(
 fn end_verdict<K: Sink>(
     alloc: Global,
     limits: &Limits,
-    exceeded: Exceeded,
+    exceeded: Option<Limit>,
     sink: &mut K,
 ) -> Result<bool, Cut>
     ensures some { AppendsSome (K.written sink.old) (K.written sink.new) (text_of (verdict_lines limits.now exceeded)) }
