@@ -36,7 +36,7 @@ use Rattle.gptp_timeline.proofs.SettlingLemmas.{keeps_first}
 use Rattle.gptp_faults.specs.Cases.{fault_of, return_of}
 use Rattle.gptp_faults.specs.Extremes.{greatest_behind, joined, of_one}
 use Rattle.gptp_faults.specs.Faults.{FaultsOf}
-use Rattle.gptp_faults.specs.Laws.{StandsWithout, TellsSettled}
+use Rattle.gptp_faults.specs.Laws.{FollowSettled}
 use Rattle.gptp_faults.specs.Outcomes.{AreOutcomes, downs, IsOutcome, IsOutcomeAt, OutcomeState}
 use Rattle.gptp_faults.specs.Refusals.{fault_before, first_fault, latest_event}
 use Rattle.gptp_faults.specs.Runs.{draws, generator, IsRun, moment_of, runs_of, seed_of, with_case}
@@ -235,16 +235,14 @@ not_refused d t (x ∷ xs) c member none =
     by false a false b false k = grind (arith, nat_tests)
 
 pub follow_settles : (d : DocumentState) (options : FaultsOptions) (lines : List (List ℕ)) (exceeded : Bool)
-    (f : FaultsOf d options lines exceeded) (o : OutcomeState) (bound : ℕ) (g : Snapshot) → IsPlayable d
-    → options.hold ≡ None → In o f.outcomes → o.down.bound ≡ Some bound → StandsWithout d f.times.from o g
-    → TellsSettled g o
-follow_settles d options lines exceeded f o bound g playable default member bounded stands =
+    (f : FaultsOf d options lines exceeded) → IsPlayable d → FollowSettled d options f.times.from f.outcomes
+follow_settles d options lines exceeded f playable o bound g default member bounded stands =
     let t = f.times in
     let (number, of_part, (p, there, outcome)) =
     each_for (IsOutcomeAt d t f.planned) _ f.outcomes o f.are_outcomes member in
     let (c, a_case, (is_case, hold_is)) =
     each_at (IsPlanned d options t) f.cases f.planned number p f.are_planned there in
-    let failing : o.failing ≡ p.failing = ap (λ (x : OutcomeState). x.failing) outcome.is in
+    let failing = outcome.failing in
     let hold : IsHold d t p.failing None p.hold =
     subst (λ x. IsHold d t x None p.hold) (sym is_case) (subst (λ asked. IsHold d t c asked p.hold) default hold_is) in
     let last = not_refused d t f.cases c a_case f.before in
@@ -255,9 +253,9 @@ follow_settles d options lines exceeded f o bound g playable default member boun
     let run = first_run (IsRun d t p) (runs_of t) first outcome.others outcome.runs in
     let kept : first.0.stretch.bound ≡ Some bound =
     sym (bound_kept (of_one first.0.stretch) (downs outcome.others))
-    ∙ ap (λ (x : OutcomeState). x.down.bound) (sym outcome.is) ∙ bounded in
+    ∙ ap (λ (e : Extremes). e.bound) (sym outcome.down) ∙ bounded in
     let g_stands = subst (λ x. IsSnapshot (with_event t.from (fault_of x) d) t.from g) failing stands in (
       first.0.roots,
       roots_settle d t p playable last hold first.0 first.1 bound g playable_whole run kept g_stands,
-      ap (λ (x : OutcomeState). x.follow) outcome.is,
+      outcome.follow,
     )

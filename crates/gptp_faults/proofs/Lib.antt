@@ -1,4 +1,5 @@
 pub mod EachLemmas
+pub mod RootLemmas
 pub mod CaseLemmas
 pub mod TimesLemmas
 pub mod RunLemmas
@@ -10,3 +11,5 @@ pub mod AnswerLemmas
 mod DownLemmas
 mod PlayableLemmas
 mod FollowLemmas
+pub mod OrderLemmas
+pub mod OneLemmas

@@ -8,7 +8,7 @@ use Rattle.gptp_timeline.specs.Ends.{EndState}
 use Rattle.gptp_timeline.specs.declared.stretch.Stretch.{Stretch}
 use Rattle.gptp_timeline.specs.Each.{Each}
 use Rattle.gptp_faults.specs.Extremes.{greatest_behind, joined, of_one}
-use Rattle.gptp_faults.specs.Follows.{follows}
+use Rattle.gptp_faults.specs.Follows.{AreFollows}
 use Rattle.gptp_faults.specs.Outcomes.{backs, belongs, downs, IsOutcome, IsOutcomeAt, numbers_of, OutcomeState}
 use Rattle.gptp_faults.specs.Runs.{IsRun, runs_of}
 use Rattle.gptp_faults.specs.declared.extremes.Extremes.{Extremes}
@@ -46,11 +46,11 @@ pub record AreTried (d : DocumentState) (t : Times) (p : Planned) (count : ℕ) 
   pub runs : Each (IsRun d t p) (range_with_len 0 count) (first ∷ others)
   pub down_is : down ≡ greatest_behind (of_one first.0.stretch) (downs others)
   pub back_is : back ≡ greatest_behind (of_one first.1.stretch) (backs others)
-  pub follow_is : follow ≡ follows first.0.roots
+  pub follow_is : AreFollows first.0.roots follow
 
 module _ (d : DocumentState) (t : Times) (p : Planned) where
   pub one_tried : (first : EndState × EndState) (down back : Extremes) (follow : List Follow) → IsRun d t p 0 first
-      → down ≡ of_one first.0.stretch → back ≡ of_one first.1.stretch → follow ≡ follows first.0.roots
+      → down ≡ of_one first.0.stretch → back ≡ of_one first.1.stretch → AreFollows first.0.roots follow
       → AreTried d t p 1 down back follow
   one_tried first down back follow run down_is back_is follow_is = record {
     first = first;
@@ -81,24 +81,20 @@ module _ (d : DocumentState) (t : Times) (p : Planned) where
     follow_is = tried.follow_is;
   }
 
-  abbrev outcome : ℕ → Extremes → Extremes → List Follow → OutcomeState
-  outcome number down back follow =
-      record { number = number; failing = p.failing; down = down; back = back; follow = follow }
-
   -- all of them
   pub all_tried : (number count : ℕ) (down back : Extremes) (follow : List Follow) (o : OutcomeState)
       → AreTried d t p count down back follow → count ≡ runs_of t
-      → o ≡ outcome number down back follow
+      → o ≡ record { number = number; failing = p.failing; down = down; back = back; follow = follow }
       → IsOutcome d t number p o
   all_tried number count down back follow o tried all is = record {
     first = tried.first;
     others = tried.others;
     runs = subst (λ n. Each (IsRun d t p) (range_with_len 0 n) (tried.first ∷ tried.others)) all tried.runs;
-    is = is ∙ ap (λ e. outcome number e back follow) tried.down_is
-        ∙ ap (λ e. outcome number (greatest_behind (of_one tried.first.0.stretch) (downs tried.others)) e follow)
-        tried.back_is
-        ∙ ap (outcome number (greatest_behind (of_one tried.first.0.stretch) (downs tried.others))
-        (greatest_behind (of_one tried.first.1.stretch) (backs tried.others))) tried.follow_is;
+    number_is = ap (λ (x : OutcomeState). x.number) is;
+    failing = ap (λ (x : OutcomeState). x.failing) is;
+    down = ap (λ (x : OutcomeState). x.down) is ∙ tried.down_is;
+    back = ap (λ (x : OutcomeState). x.back) is ∙ tried.back_is;
+    follow = subst (AreFollows tried.first.0.roots) (sym (ap (λ (x : OutcomeState). x.follow) is)) tried.follow_is;
   }
 
 -- ---- the cases of a part

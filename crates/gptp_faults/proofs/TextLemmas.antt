@@ -1,10 +1,10 @@
 -- Texts of several lines.
-use Rattle.std.proofs.Common.{◌≡◌, ℕ, List, [], ◌∷◌, ◌++◌, append_assoc, codes, length, map, sym, ap, ◌∙◌}
+use Rattle.std.proofs.Common.{◌≡◌, ℕ, Option, List, [], ◌∷◌, ◌++◌, append_assoc, codes, length, map, sym, ap, ◌∙◌}
 use Rattle.std.specs.List.{flat_map}
 use Rattle.gptp_spelling.specs.Lines.{text_of}
 use Rattle.gptp_timeline.proofs.LineLemmas.{line_on, line_text, lines_on, words_on}
-use Rattle.gptp_timeline.specs.Limits.{amount_of, first_exceeded, verdict_line}
-use Rattle.gptp_timeline.specs.declared.limits.Exceeded.{Exceeded}
+use Rattle.gptp_timeline.specs.Limits.{amount_of, verdict_line}
+use Rattle.gptp_timeline.specs.declared.limits.Limit.{Limit}
 use Rattle.gptp_timeline.specs.declared.limits.Limits.{Limits}
 use Rattle.gptp_faults.specs.FaultsText.{case_line, counts_text, exceeded_by, extremes_line, follow_line, head_line, outcome_lines, table_lines, worst_line, worst_of_all, worst_words}
 use Rattle.gptp_faults.specs.Ranking.{amount_or_0}
@@ -53,16 +53,16 @@ outcome_text o number failing down back follow before a b c d number_is failing_
     ∙ ap (λ e. before ++ text_of (lines_by o.number o.failing o.down o.follow e)) back_is
 
 -- the lines of all cases, by the worst of them
-pub all_text : (limits : Limits) (t : Times) (os : List OutcomeState) (worst : Extremes) (exceeded : Exceeded)
+pub all_text : (limits : Limits) (t : Times) (os : List OutcomeState) (worst : Extremes) (exceeded : Option Limit)
     (before a b c d : List ℕ) → worst ≡ worst_of_all os → exceeded ≡ exceeded_by limits worst
     → a ≡ before ++ (head_line (length os) t ++ 10 ∷ []) → b ≡ a ++ text_of (flat_map outcome_lines os)
-    → c ≡ b ++ (worst_line worst ++ 10 ∷ []) → d ≡ c ++ text_of (verdict_line (first_exceeded exceeded) ∷ [])
+    → c ≡ b ++ (worst_line worst ++ 10 ∷ []) → d ≡ c ++ text_of (verdict_line exceeded ∷ [])
     → d ≡ before ++ text_of (table_lines limits t os)
 all_text limits t os worst exceeded before a b c d worst_is exceeded_is one two three four =
     table_text before a b c d (head_line (length os) t) (worst_line (worst_of_all os))
-    (verdict_line (first_exceeded (exceeded_by limits (worst_of_all os)))) (flat_map outcome_lines os) one two
+    (verdict_line (exceeded_by limits (worst_of_all os))) (flat_map outcome_lines os) one two
     (three ∙ ap (λ w. b ++ (worst_line w ++ 10 ∷ [])) worst_is)
-    (four ∙ ap (λ e. c ++ text_of (verdict_line (first_exceeded e) ∷ []))
+    (four ∙ ap (λ e. c ++ text_of (verdict_line e ∷ []))
     (exceeded_is ∙ ap (exceeded_by limits) worst_is))
 
 -- the line of the worst of all, by its amounts

@@ -1,13 +1,14 @@
 -- The lines of cases (profile).
-use Rattle.std.specs.Prelude.{ℕ, List, [], ◌∷◌, ◌++◌, codes, length, map, is_some, Bool, Option}
+use Rattle.std.specs.Prelude.{ℕ, List, [], ◌∷◌, ◌++◌, codes, length, map, is_some, Bool, Option, Some}
 use Rattle.std.specs.Fmt.{decimal}
 use Rattle.std.specs.List.{flat_map}
 use Rattle.gptp_spelling.specs.Digits.{clock_text, identity_text, or_none}
 use Rattle.gptp_timeline.specs.Amounts.{near_text}
-use Rattle.gptp_timeline.specs.Limits.{amount_of, first_exceeded, is_above, is_any_above, verdict_line}
+use Rattle.gptp_timeline.specs.Limits.{all_limits, amount_of, first_exceeded, verdict_line}
 use Rattle.gptp_timeline.specs.StretchText.{longest_text, worst_text}
 use Rattle.gptp_timeline.specs.declared.counts.Counts.{Counts}
-use Rattle.gptp_timeline.specs.declared.limits.Exceeded.{Exceeded}
+use Rattle.gptp_timeline.specs.declared.limits.Limit.{Limit}
+use Rattle.gptp_timeline.specs.declared.limits.Limit.TheVariants.{Alone, Choice, Error, Holdover, Roots, Without}
 use Rattle.gptp_timeline.specs.declared.limits.Limits.{Limits}
 use Rattle.gptp_vector.specs.declared.port.PortId.{PortId}
 use Rattle.gptp_faults.specs.Extremes.{joined, of_none}
@@ -86,23 +87,25 @@ abbrev pub worst_line : Extremes → List ℕ
 worst_line e =
     worst_words e.choice (amount_or_0 (amount_of e.holdover)) (amount_or_0 (amount_of e.error)) ++ counts_text e.counts
 
--- which limits it exceeds; errors are in 2^-16 ns
-abbrev pub exceeded_by : Limits → Extremes → Exceeded
-exceeded_by limits e = record {
-  choice = is_any_above limits.choice 1 e.choice;
-  holdover = is_any_above limits.holdover 1 (amount_of e.holdover);
-  error = is_any_above limits.error 65536 (amount_of e.error);
-  without = is_above limits.without 1 e.counts.without;
-  roots = is_above limits.roots 1 e.counts.roots;
-  alone = is_above limits.alone 1 e.counts.alone;
-}
+-- what a limit asks for in it
+abbrev pub worst_amount : Extremes → Limit → Option ℕ
+worst_amount e Choice = e.choice
+worst_amount e Holdover = amount_of e.holdover
+worst_amount e Error = amount_of e.error
+worst_amount e Without = Some e.counts.without
+worst_amount e Roots = Some e.counts.roots
+worst_amount e Alone = Some e.counts.alone
+
+-- the first limit that it exceeds
+abbrev pub exceeded_by : Limits → Extremes → Option Limit
+exceeded_by limits e = first_exceeded limits (worst_amount e) all_limits
 
 abbrev pub exceeds : Limits → List OutcomeState → Bool
-exceeds limits outcomes = is_some (first_exceeded (exceeded_by limits (worst_of_all outcomes)))
+exceeds limits outcomes = is_some (exceeded_by limits (worst_of_all outcomes))
 
 -- of cases in the order in which they are told
 abbrev pub table_lines : Limits → Times → List OutcomeState → List (List ℕ)
 table_lines limits t outcomes =
     head_line (length outcomes) t ∷ flat_map outcome_lines outcomes
     ++ worst_line (worst_of_all outcomes)
-    ∷ verdict_line (first_exceeded (exceeded_by limits (worst_of_all outcomes))) ∷ []
+    ∷ verdict_line (exceeded_by limits (worst_of_all outcomes)) ∷ []

@@ -2,15 +2,21 @@
 use Rattle.std.specs.Prelude.{◌≡◌, ℕ, Bool, List, Option, Some, None}
 use Rattle.gptp_graph.specs.Snapshot.{Snapshot}
 use Rattle.gptp_lists.specs.Members.{In}
+use Rattle.rand_pcg.specs.Lcg.{Lcg}
 use Rattle.gptp_network.specs.Adding.{with_event}
 use Rattle.gptp_network.specs.Document.{DocumentState}
 use Rattle.gptp_network.specs.Snapshot.{IsSnapshot}
+use Rattle.gptp_network.specs.declared.fault.DocumentFault.{DocumentFault}
+use Rattle.gptp_timeline.specs.Ends.{EndState}
+use Rattle.gptp_timeline.specs.LastTwo.{EndsOf}
 use Rattle.gptp_reached.specs.PlayedLaws.{IsPlayable}
 use Rattle.gptp_timeline.specs.Laws.{AreRoots}
 use Rattle.gptp_faults.specs.Cases.{fault_of}
 use Rattle.gptp_faults.specs.Faults.{FaultsOf}
-use Rattle.gptp_faults.specs.Follows.{follows}
+use Rattle.gptp_faults.specs.Follows.{AreFollows}
 use Rattle.gptp_faults.specs.Outcomes.{OutcomeState}
+use Rattle.gptp_faults.specs.Refusals.{RefusesFaults}
+use Rattle.gptp_faults.specs.Runs.{draws}
 use Rattle.gptp_faults.specs.declared.options.FaultsOptions.{FaultsOptions}
 
 -- the network of a document as it stands where a case fails at a time
@@ -19,13 +25,35 @@ StandsWithout d at o = IsSnapshot (with_event at (fault_of o.failing) d) at
 
 -- What is told of roots counts those of the settled choice of a network: of each near system the best of its component.
 abbrev pub TellsSettled : Snapshot → OutcomeState → Type 0
-TellsSettled g o = (roots : List ℕ) × AreRoots g roots × (o.follow ≡ follows roots)
+TellsSettled g o = (roots : List ℕ) × AreRoots g roots × AreFollows roots o.follow
 
--- Where faults stay by default, and the `down` line of a case has a bound, its `follow` lines are those of the settled
--- choice of the network without what has failed.
+-- Where faults stay by default, and the `down` line of a case that fails at this time has a bound, its `follow` lines
+-- are those of the settled choice of the network without what has failed.
+abbrev pub FollowSettled : DocumentState → FaultsOptions → ℕ → List OutcomeState → Type 0
+FollowSettled d options at outcomes = (o : OutcomeState) (bound : ℕ) (g : Snapshot)
+    → options.hold ≡ None → In o outcomes → o.down.bound ≡ Some bound → StandsWithout d at o g → TellsSettled g o
+
+-- So it is of every document that is playable.
 abbrev pub FollowLinesSettle : Type 0
 FollowLinesSettle = (d : DocumentState) (options : FaultsOptions) (lines : List (List ℕ)) (exceeded : Bool)
-    (f : FaultsOf d options lines exceeded) (o : OutcomeState) (bound : ℕ) (g : Snapshot)
-    → IsPlayable d → options.hold ≡ None → In o f.outcomes → o.down.bound ≡ Some bound
-    → StandsWithout d f.times.from o g
-    → TellsSettled g o
+    (f : FaultsOf d options lines exceeded) → IsPlayable d → FollowSettled d options f.times.from f.outcomes
+
+-- In each document with the network of this one the last two stretches of a run end in one way.
+abbrev pub RunsEndOnce : DocumentState → Type 0
+RunsEndOnce d = (e : DocumentState) (until : ℕ) (fate : Lcg) (two other : Option (EndState × EndState))
+    → e.network ≡ d.network → EndsOf draws e until fate two → EndsOf draws e until fate other → two ≡ other
+
+-- then two tables of a document are one
+abbrev pub OneTable : Type 0
+OneTable = (d : DocumentState) (options : FaultsOptions) (lines others : List (List ℕ)) (one other : Bool)
+    → RunsEndOnce d → FaultsOf d options lines one → FaultsOf d options others other
+    → (lines ≡ others) × (one ≡ other)
+
+-- a document with a table isn't refused, and two faults of one are the same
+abbrev pub NeverRefused : Type 0
+NeverRefused = (d : DocumentState) (options : FaultsOptions) (lines : List (List ℕ)) (exceeded : Bool)
+    (fault : DocumentFault) → FaultsOf d options lines exceeded → RefusesFaults d options fault → ⊥
+
+abbrev pub OneRefusal : Type 0
+OneRefusal = (d : DocumentState) (options : FaultsOptions) (first second : DocumentFault)
+    → RefusesFaults d options first → RefusesFaults d options second → first ≡ second

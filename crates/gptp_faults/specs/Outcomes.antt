@@ -5,7 +5,7 @@ use Rattle.gptp_network.specs.Document.{DocumentState}
 use Rattle.gptp_timeline.specs.Ends.{EndState}
 use Rattle.gptp_timeline.specs.declared.stretch.Stretch.{Stretch}
 use Rattle.gptp_faults.specs.Extremes.{greatest_behind, of_one}
-use Rattle.gptp_faults.specs.Follows.{follows}
+use Rattle.gptp_faults.specs.Follows.{AreFollows}
 use Rattle.gptp_timeline.specs.Each.{Each}
 use Rattle.gptp_faults.specs.Runs.{IsRun, runs_of}
 use Rattle.gptp_faults.specs.declared.cases.Case.{Case}
@@ -30,21 +30,16 @@ downs = map (λ (r : EndState × EndState). r.0.stretch)
 abbrev pub backs : List (EndState × EndState) → List Stretch
 backs = map (λ (r : EndState × EndState). r.1.stretch)
 
--- by its first run, and the others
-abbrev pub outcome_by : ℕ → Case → EndState × EndState → List (EndState × EndState) → OutcomeState
-outcome_by number c first others = record {
-  number = number;
-  failing = c;
-  down = greatest_behind (of_one first.0.stretch) (downs others);
-  back = greatest_behind (of_one first.1.stretch) (backs others);
-  follow = follows first.0.roots;
-}
-
+-- of a case by its number: the greatest of its runs, and whom systems follow where the first of them ends to be down
 pub record IsOutcome (d : DocumentState) (t : Times) (number : ℕ) (p : Planned) (o : OutcomeState) : Type 0 where
   pub first : EndState × EndState
   pub others : List (EndState × EndState)
   pub runs : Each (IsRun d t p) (range_with_len 0 (runs_of t)) (first ∷ others)
-  pub is : o ≡ outcome_by number p.failing first others
+  pub number_is : o.number ≡ number
+  pub failing : o.failing ≡ p.failing
+  pub down : o.down ≡ greatest_behind (of_one first.0.stretch) (downs others)
+  pub back : o.back ≡ greatest_behind (of_one first.1.stretch) (backs others)
+  pub follow : AreFollows first.0.roots o.follow
 
 -- ---- the cases of a part
 

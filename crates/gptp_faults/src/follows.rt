@@ -1,10 +1,10 @@
 //! Which roots are followed, by how many systems.
 
-ghost use Rattle.std.specs.Prelude.{◌≡◌, ◌≤◌, ◌+◌, nat_lt, [], IfOk, OnOk, length, map, take};
+ghost use Rattle.std.specs.Prelude.{◌≡◌, ◌==◌, ◌≤◌, IfOk, length};
 ghost use Rattle.std.specs.List.{prefix_len};
-ghost use Rattle.gptp_faults.specs.Follows.{follow_of, follows, with_root, with_roots};
+ghost use Rattle.std.specs.List.Sorted.{IsNonDecreasing};
+ghost use Rattle.gptp_faults.specs.Follows.{AreFollows};
 
-use gptp_timeline::times;
 use gptp_vector::Identity;
 use std::alloc::{AllocError, Global};
 
@@ -15,66 +15,38 @@ pub(crate) struct Follow {
     pub systems: u64,
 }
 
-/// How many of roots in front are below one.
-fn below(roots: &[Identity], root: Identity) -> usize
-    ensures place { result ≡ prefix_len (λ other. nat_lt other root) roots.now }
+/// How many roots in front are this one.
+fn front_of(roots: &[Identity], root: Identity) -> usize
+    ensures length { result ≡ prefix_len (λ other. other == root) roots.now }
     ensures bound { result ≤ length roots.now }
 {
-    roots.iter().take_while(|other| **other < root).count()
+    roots.iter().take_while(|other| **other == root).count()
 }
 
-/// Puts a root among others in rising order, unless it is one of them.
-fn put_root(roots: &mut Vec<Identity>, root: Identity) -> Result<(), AllocError>
-    ensures { OnOk result (roots.new.items ≡ with_root roots.old.items root) }
-{
-    if 0 < times(roots, root) {
-        return Ok(());
-    }
-    let place = below(roots, root);
-    roots.insert(place, root)?;
-    Ok(())
-}
-
-/// Each root once, in rising order.
-fn rising_roots(alloc: Global, roots: &[Identity]) -> Result<Vec<Identity>, AllocError>
-    ensures { IfOk result (λ v. v.items ≡ with_roots [] roots.now) }
-{
-    let mut rising = Vec::new(alloc);
-    for root in roots {
-        put_root(&mut rising, *root)?;
-    }
-    Ok(rising)
-}
-
-/// How many systems follow a root, of those that follow these.
-fn follow_of(roots: &[Identity], root: Identity) -> Follow
-    ensures { result ≡ follow_of roots.now root }
-{
-    Follow {
-        root,
-        systems: times(roots, root) as u64,
-    }
-}
-
-/// How many systems follow each of some roots.
-fn follows_among(
-    alloc: Global,
-    roots: &[Identity],
-    rising: &[Identity],
-) -> Result<Vec<Follow>, AllocError>
-    ensures { IfOk result (λ v. v.items ≡ map (follow_of roots.now) rising.now) }
+/// Each of roots that don't fall once, with how often it is there.
+fn follows_in_order(alloc: Global, roots: &[Identity]) -> Result<Vec<Follow>, AllocError>
+    requires { IsNonDecreasing roots.now }
+    ensures { IfOk result (λ v. AreFollows roots.now v.items) }
 {
     let mut follows = Vec::new(alloc);
-    for root in rising {
-        follows.push(follow_of(roots, *root))?;
+    let mut rest = roots;
+    while let Some(root) = rest.first() {
+        let systems = front_of(rest, *root);
+        let (_, behind) = rest.split_at(systems);
+        follows.push(Follow {
+            root: *root,
+            systems: systems as u64,
+        })?;
+        rest = behind;
     }
     Ok(follows)
 }
 
 /// Each root once, in rising order, with how many systems follow it.
 pub(crate) fn follows_of(alloc: Global, roots: &[Identity]) -> Result<Vec<Follow>, AllocError>
-    ensures { IfOk result (λ v. v.items ≡ follows roots.now) }
+    ensures { IfOk result (λ v. AreFollows roots.now v.items) }
 {
-    let rising = rising_roots(alloc, roots)?;
-    follows_among(alloc, roots, &rising)
+    let mut rising = Vec::from_slice(alloc, roots)?;
+    rising.sort_unstable();
+    follows_in_order(alloc, &rising)
 }

@@ -1,9 +1,17 @@
 //! Laws of faults.
 
-ghost use Rattle.gptp_faults.specs.Laws.{FollowLinesSettle};
+ghost use Rattle.gptp_faults.specs.Laws.{FollowLinesSettle, NeverRefused, OneRefusal, OneTable};
 
 /// Where faults stay by default, and the `down` line of a case has a bound, its `follow` lines are those of the settled
 /// choice: so many near systems have this best in their component of the network without what has failed.
 pub fn follow_lines_settle()
     ensures { FollowLinesSettle }
+{}
+
+/// Where runs of a document end in one way, it has one table of its faults and one answer to whether a limit is exceeded;
+/// and it has a table or is refused in one way.
+pub fn one_table()
+    ensures table { OneTable }
+    ensures apart { NeverRefused }
+    ensures refusal { OneRefusal }
 {}

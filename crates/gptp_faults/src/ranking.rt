@@ -1,12 +1,11 @@
 //! Cases in the order in which they are told.
 
 ghost use Rattle.std.specs.Prelude.{◌≡◌, OnOk};
-ghost use Rattle.gptp_timeline.specs.Limits.{amount_of};
 ghost use Rattle.gptp_faults.specs.Ranking.{AreRanked, amount_or_0, there, weight, worst_of};
 
 use crate::extremes::joined;
 use crate::outcome::Outcome;
-use gptp_timeline::Greatest;
+use gptp_timeline::amount_of;
 use std::alloc::AllocError;
 use std::cmp::Reverse;
 
@@ -27,16 +26,6 @@ pub(crate) fn amount_or_0(amount: Option<u128>) -> u128
     match amount {
         Some(amount) => amount,
         None => 0,
-    }
-}
-
-/// The amount of the greatest, if there is one.
-pub(crate) fn amount_of(greatest: Option<Greatest>) -> Option<u128>
-    ensures { result ≡ amount_of greatest }
-{
-    match greatest {
-        Some(greatest) => Some(greatest.amount),
-        None => None,
     }
 }
 

@@ -5,18 +5,18 @@ ghost use Rattle.std.specs.Fmt.{decimal};
 ghost use Rattle.std.specs.List.{flat_map};
 ghost use Rattle.gptp_spelling.specs.Lines.{text_of};
 ghost use Rattle.gptp_spelling.specs.Digits.{or_none};
-ghost use Rattle.gptp_faults.specs.FaultsText.{amounts_words, case_line, counts_text, exceeded_by, exceeds, extremes_line, follow_line, head_line, outcome_lines, table_lines, worst_line, worst_of_all, worst_words};
+ghost use Rattle.gptp_timeline.specs.Limits.{first_exceeded};
+ghost use Rattle.gptp_faults.specs.FaultsText.{amounts_words, case_line, counts_text, exceeded_by, exceeds, extremes_line, follow_line, head_line, outcome_lines, table_lines, worst_amount, worst_line, worst_of_all, worst_words};
 
 use crate::cases::Case;
 use crate::extremes::{Extremes, OF_NONE, joined};
 use crate::follows::Follow;
 use crate::outcome::Outcome;
-use crate::ranking::{amount_of, amount_or_0};
+use crate::ranking::amount_or_0;
 use crate::times::Times;
 use gptp_spelling::{ClockDigits, IdentityDigits};
 use gptp_timeline::{
-    Counts, Exceeded, Limits, Longest, Near, TimeOrNone, Worst, is_above, is_any_above,
-    write_first_exceeded,
+    Counts, Limit, Limits, Longest, Near, TimeOrNone, Worst, amount_of, write_first_exceeded,
 };
 use gptp_vector::PortId;
 use std::alloc::AllocError;
@@ -229,19 +229,37 @@ fn write_worst(text: &mut String, worst: &Extremes) -> Result<(), AllocError>
     write_counts(text, worst.counts)
 }
 
-/// Which limits it exceeds.
-fn exceeded_by(limits: &Limits, worst: &Extremes) -> Exceeded
+/// The amount that a limit asks for in the greatest of all: times in ns, errors in units of 2^-16 ns.
+fn worst_amount(worst: &Extremes, limit: Limit) -> Option<u128>
+    ensures { result ≡ worst_amount worst.now limit }
+{
+    match limit {
+        Limit::Choice => worst.choice,
+        Limit::Holdover => amount_of(worst.holdover),
+        Limit::Error => amount_of(worst.error),
+        Limit::Without => Some(u128::from(worst.counts.without)),
+        Limit::Roots => Some(u128::from(worst.counts.roots)),
+        Limit::Alone => Some(u128::from(worst.counts.alone)),
+    }
+}
+
+/// The first of several limits that it exceeds.
+fn first_exceeded(limits: &Limits, worst: &Extremes, among: &[Limit]) -> Option<Limit>
+    ensures { result ≡ first_exceeded limits.now (worst_amount worst.now) among.now }
+{
+    for limit in among {
+        if limits.exceeds(*limit, worst_amount(worst, *limit)) {
+            return Some(*limit);
+        }
+    }
+    None
+}
+
+/// The first limit that it exceeds.
+fn exceeded_by(limits: &Limits, worst: &Extremes) -> Option<Limit>
     ensures { result ≡ exceeded_by limits.now worst.now }
 {
-    let counts = worst.counts;
-    Exceeded {
-        choice: is_any_above(limits.choice, 1, worst.choice),
-        holdover: is_any_above(limits.holdover, 1, amount_of(worst.holdover)),
-        error: is_any_above(limits.error, 65_536, amount_of(worst.error)),
-        without: is_above(limits.without, 1, u128::from(counts.without)),
-        roots: is_above(limits.roots, 1, u128::from(counts.roots)),
-        alone: is_above(limits.alone, 1, u128::from(counts.alone)),
-    }
+    first_exceeded(limits, worst, &Limit::ALL)
 }
 
 /// Appends the table of cases in the order in which they are told, and answers whether a limit is exceeded.

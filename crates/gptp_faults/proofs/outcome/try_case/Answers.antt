@@ -2,7 +2,7 @@ use Rattle.std.proofs.Common.{◌≡◌, ◌+◌, arith, rules, subst, ◌∙◌
 use Rattle.gptp_network.specs.Document.{DocumentState}
 use Rattle.gptp_timeline.specs.Ends.{EndState}
 use Rattle.gptp_faults.specs.Extremes.{joined, of_one}
-use Rattle.gptp_faults.specs.Follows.{follows}
+use Rattle.gptp_faults.specs.Follows.{AreFollows}
 use Rattle.gptp_faults.specs.Runs.{IsRun, runs_of}
 use Rattle.gptp_faults.proofs.OutcomeLemmas.{all_tried, more_tried, one_tried}
 use Rattle.gptp_faults.proofs.outcome.try_case.Goals as goal
@@ -13,7 +13,8 @@ loop-run-init c =
     let first : EndState × EndState = (down, back) in
     let down_is : c.of_one-down.result ≡ of_one down.stretch = search rules in
     let back_is : c.of_one-back.result ≡ of_one back.stretch = search rules in
-    let follow_is : c.in_ok-follow.follow.items ≡ follows down.roots = search rules in
+    let follow_is =
+    subst (λ roots. AreFollows roots c.in_ok-follow.follow.items) c.roots.ensures c.in_ok-follow.ensures in
     let count = c.runs_of-run-end.ensures.is in let some = c.runs_of-run-end.ensures.some in
     record {
       tried = one_tried c.args.document.now c.args.times.now c.args.planned.now first c.of_one-down.result

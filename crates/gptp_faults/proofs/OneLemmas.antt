@@ -1,0 +1,225 @@
+-- A document has one table of its faults, or is refused in one way, where runs end in one way.
+use Rattle.std.proofs.Common.{◌≡◌, ◌⊎◌, ◌+◌, ℕ, Bool, true, List, [], ◌∷◌, ◌++◌, length, Option, Some, None, unwrap_or, refl, sym, ap, ap₂, subst, ◌∙◌, inl, inr}
+use Rattle.std.proofs.lemmas.Option.{same_Some}
+use Rattle.gptp_graph.specs.PathBound.{path_bound}
+use Rattle.gptp_graph.specs.Snapshot.{Snapshot}
+use Rattle.gptp_graph.proofs.RisingLemmas.{same_rising}
+use Rattle.gptp_lists.specs.Members.{In}
+use Rattle.gptp_lists.proofs.MemberLemmas.{from_map}
+use Rattle.gptp_network.specs.Document.{DocumentState}
+use Rattle.gptp_network.specs.Snapshot.{events_by}
+use Rattle.gptp_network.specs.Span.{IsSpan}
+use Rattle.gptp_network.specs.declared.fault.DocumentFault.{DocumentFault}
+use Rattle.gptp_network.proofs.LawLemmas.{one_snapshot}
+use Rattle.gptp_plan.specs.Calm.{last_change}
+use Rattle.gptp_plan.specs.Network.{pace_of}
+use Rattle.gptp_plan.specs.SettlingTime.{settling_span_with}
+use Rattle.gptp_plan.specs.SyncWait.{sync_paths}
+use Rattle.gptp_timeline.specs.Each.{Each}
+use Rattle.gptp_timeline.specs.Ends.{EndState}
+use Rattle.gptp_timeline.specs.Stretch.{times}
+use Rattle.gptp_faults.specs.Cases.{AreCases, link_cases, system_cases}
+use Rattle.gptp_faults.specs.Extremes.{greatest_behind, of_one}
+use Rattle.gptp_faults.specs.Faults.{FaultsOf}
+use Rattle.gptp_faults.specs.Follows.{AreFollows}
+use Rattle.gptp_faults.specs.declared.follows.Follow.{Follow}
+use Rattle.gptp_faults.specs.FaultsText.{exceeds, table_lines}
+use Rattle.gptp_faults.specs.Laws.{NeverRefused, OneRefusal, OneTable, RunsEndOnce}
+use Rattle.gptp_faults.specs.Outcomes.{AreOutcomes, IsOutcome, IsOutcomeAt, OutcomeState, backs, downs, numbers_of}
+use Rattle.gptp_faults.specs.Ranking.{AreRanked}
+use Rattle.gptp_faults.specs.Refusals.{IsLate, RefusesFaults, any_late, fault_before}
+use Rattle.gptp_faults.specs.Runs.{IsRun, generator, moment_of, seed_of, with_case}
+use Rattle.gptp_faults.specs.Times.{ArePlanned, AreTimes, IsHold, IsPlanned}
+use Rattle.gptp_faults.specs.declared.cases.Case.{Case}
+use Rattle.gptp_faults.specs.declared.cases.Planned.{Planned}
+use Rattle.gptp_faults.specs.declared.options.FaultsOptions.{FaultsOptions}
+use Rattle.gptp_faults.specs.declared.times.Times.{Times}
+use Rattle.gptp_faults.proofs.OrderLemmas.{ranked_once}
+
+-- ---- member by member
+
+-- where each member has one answer, two lists of answers are one
+each_once : {X Y : Type 0} (P : X → Y → Type 0) → ((x : X) (y z : Y) → P x y → P x z → y ≡ z)
+    → (xs : List X) (ys zs : List Y) → Each P xs ys → Each P xs zs → ys ≡ zs
+each_once P once [] [] [] k l = refl
+each_once P once [] [] (z ∷ zs) k l = absurd l
+each_once P once [] (y ∷ ys) zs k l = absurd k
+each_once P once (x ∷ xs) [] zs k l = absurd k
+each_once P once (x ∷ xs) (y ∷ ys) [] k l = absurd l
+each_once {X} {Y} P once (x ∷ xs) (y ∷ ys) (z ∷ zs) k l =
+    ap₂ (λ (v : Y) (vs : List Y). v ∷ vs) (once x y z k.0 l.0) (each_once P once xs ys zs k.1 l.1)
+
+-- ---- whom systems follow
+
+follows_once : (roots : List ℕ) (a b : List Follow) → AreFollows roots a → AreFollows roots b → a ≡ b
+follows_once roots a b k l =
+    same_rising (λ (f : Follow). f.root) a b k.rising l.rising (among a b k l) (among b a l k)
+  where
+    among : (xs ys : List Follow) → AreFollows roots xs → AreFollows roots ys → (f : Follow) → In f xs → In f ys
+    among xs ys x y f member =
+        let (g, there, is) = from_map (λ (h : Follow). h.root) f.root ys (y.all f.root (x.only f member)) in
+        let systems : g.systems ≡ f.systems =
+        y.counted g there ∙ ap (times roots) is ∙ sym (x.counted f member) in
+        let same : g ≡ f = λ i. record { root = is i; systems = systems i } in
+        subst (λ (h : Follow). In h ys) same there
+
+-- ---- a run
+
+module _ (d : DocumentState) (once : RunsEndOnce d) where
+  run_once : (t : Times) (p : Planned) (run : ℕ) (a b : EndState × EndState) → IsRun d t p run a → IsRun d t p run b
+      → a ≡ b
+  run_once t p run a b k l =
+      let at = moment_of t run in
+      same_Some a b (once (with_case at p d) (at + p.hold + t.behind) (generator (seed_of t run)) (Some a) (Some b) refl
+      k l)
+
+  -- ---- a case
+
+  outcome_once : (t : Times) (number : ℕ) (p : Planned) (a b : OutcomeState) → IsOutcome d t number p a
+      → IsOutcome d t number p b → a ≡ b
+  outcome_once t number p a b k l =
+      let runs = each_once (IsRun d t p) (run_once t p) _ (k.first ∷ k.others) (l.first ∷ l.others) k.runs l.runs in
+      let first : k.first ≡ l.first = cc in
+      let others : k.others ≡ l.others = cc in
+      let numbers : a.number ≡ b.number = k.number_is ∙ sym l.number_is in
+      let failing : a.failing ≡ b.failing = k.failing ∙ sym l.failing in
+      let down : a.down ≡ b.down =
+      k.down ∙ ap₂ (λ (r : EndState × EndState) (rs : List (EndState × EndState)).
+      greatest_behind (of_one r.0.stretch) (downs rs)) first others ∙ sym l.down in
+      let back : a.back ≡ b.back =
+      k.back ∙ ap₂ (λ (r : EndState × EndState) (rs : List (EndState × EndState)).
+      greatest_behind (of_one r.1.stretch) (backs rs)) first others ∙ sym l.back in
+      let follow : a.follow ≡ b.follow =
+      follows_once l.first.0.roots a.follow b.follow
+      (subst (λ (r : EndState × EndState). AreFollows r.0.roots a.follow) first k.follow) l.follow in
+      λ i. record {
+        number = numbers i;
+        failing = failing i;
+        down = down i;
+        back = back i;
+        follow = follow i;
+      }
+
+  outcome_at_once : (t : Times) (planned : List Planned) (number : ℕ) (a b : OutcomeState)
+      → IsOutcomeAt d t planned number a → IsOutcomeAt d t planned number b → a ≡ b
+  outcome_at_once t planned number a b (p, at, k) (q, there, l) =
+      let same : q ≡ p = same_Some q p (sym there ∙ at) in
+      outcome_once t number p a b k (subst (λ (r : Planned). IsOutcome d t number r b) same l)
+
+  outcomes_once : (t : Times) (options : FaultsOptions) (planned : List Planned) (a b : List OutcomeState)
+      → AreOutcomes d t options planned a → AreOutcomes d t options planned b → a ≡ b
+  outcomes_once t options planned a b k l =
+      each_once (IsOutcomeAt d t planned) (outcome_at_once t planned)
+      (numbers_of options.parts options.part (length planned)) a b k l
+
+-- ---- what is planned
+
+span_once : (d : DocumentState) (at m n : ℕ) → IsSpan d at m → IsSpan d at n → m ≡ n
+span_once d at m n x y =
+    let same = one_snapshot d at x.snapshot y.snapshot x.stands y.stands in
+    let paths = sync_paths d.network (events_by at d.events) in
+    x.is ∙ ap (λ (g : Snapshot). settling_span_with (pace_of d.network) paths (path_bound g)) same ∙ sym y.is
+
+cases_once : (d : DocumentState) (options : FaultsOptions) (a b : List Case) → AreCases d options.only a
+    → AreCases d options.only b → a ≡ b
+cases_once d options a b k l =
+    let same = one_snapshot d _ k.snapshot l.snapshot k.stands l.stands in
+    k.are ∙ ap (λ (g : Snapshot). link_cases options.only g ++ system_cases options.only d) same ∙ sym l.are
+
+times_once : (d : DocumentState) (options : FaultsOptions) (t u : Times) → AreTimes d options t → AreTimes d options u
+    → t ≡ u
+times_once d options t u k l =
+    let spans = span_once d _ k.span l.span k.span_is l.span_is in
+    let from : t.from ≡ u.from =
+    k.from_is ∙ ap (λ (span : ℕ). unwrap_or options.at (last_change d.events + span)) spans ∙ sym l.from_is in
+    let spread : t.spread ≡ u.spread = k.spread_is ∙ sym l.spread_is in
+    let moments : t.moments ≡ u.moments = k.moments_are ∙ sym l.moments_are in
+    let seeds : t.seeds ≡ u.seeds = k.seeds_are ∙ sym l.seeds_are in
+    let behind : t.behind ≡ u.behind = k.behind_is ∙ ap (unwrap_or options.hold) spans ∙ sym l.behind_is in
+    λ i. record { from = from i; spread = spread i; moments = moments i; seeds = seeds i; behind = behind i }
+
+hold_once : (d : DocumentState) (t : Times) (c : Case) (asked : Option ℕ) (m n : ℕ) → IsHold d t c asked m
+    → IsHold d t c asked n → m ≡ n
+hold_once d t c (Some asked) m n k l = k ∙ sym l
+hold_once d t c None m n k l = span_once _ t.from m n k l
+
+planned_once : (d : DocumentState) (options : FaultsOptions) (t : Times) (c : Case) (p q : Planned)
+    → IsPlanned d options t c p → IsPlanned d options t c q → p ≡ q
+planned_once d options t c p q k l =
+    let failing : p.failing ≡ q.failing = k.0 ∙ sym l.0 in
+    let hold : p.hold ≡ q.hold = hold_once d t c options.hold p.hold q.hold k.1 l.1 in
+    λ i. record { failing = failing i; hold = hold i }
+
+module _ (d : DocumentState) (options : FaultsOptions) where
+  all_planned_once : (t : Times) (cases : List Case) (a b : List Planned) → ArePlanned d options t cases a
+      → ArePlanned d options t cases b → a ≡ b
+  all_planned_once t cases a b k l = each_once (IsPlanned d options t) (planned_once d options t) cases a b k l
+
+  -- ---- a table, or a refusal
+
+  module _ (once : RunsEndOnce d) where
+    one_table_of : (xs ys : List (List ℕ)) (a b : Bool) → FaultsOf d options xs a → FaultsOf d options ys b
+        → (xs ≡ ys) × (a ≡ b)
+    one_table_of xs ys a b k l =
+        let cases = cases_once d options k.cases l.cases k.are_cases l.are_cases in
+        let times = times_once d options k.times l.times k.are_times l.are_times in
+        let planned : k.planned ≡ l.planned =
+        all_planned_once l.times l.cases k.planned l.planned
+        (subst (λ (cs : List Case). ArePlanned d options l.times cs k.planned) cases
+        (subst (λ (t : Times). ArePlanned d options t k.cases k.planned) times k.are_planned)) l.are_planned in
+        let outcomes : k.outcomes ≡ l.outcomes =
+        outcomes_once d once l.times options l.planned k.outcomes l.outcomes
+        (subst (λ (ps : List Planned). AreOutcomes d l.times options ps k.outcomes) planned
+        (subst (λ (t : Times). AreOutcomes d t options k.planned k.outcomes) times k.are_outcomes)) l.are_outcomes in
+        let told : k.told ≡ l.told =
+        ranked_once l.outcomes k.told l.told
+        (subst (λ (os : List OutcomeState). AreRanked os k.told) outcomes k.are_told) l.are_told in (
+          k.are ∙ ap₂ (λ (t : Times) (os : List OutcomeState). table_lines options.limits t os) times told ∙ sym l.are,
+          k.exceeded_is ∙ ap (exceeds options.limits) told ∙ sym l.exceeded_is,
+        )
+
+  -- what a refusal rests on: the cases and the times of a document are one thing
+  refuses_with : (fault : DocumentFault) (cases : List Case) (t : Times) → AreCases d options.only cases
+      → AreTimes d options t → RefusesFaults d options fault
+      → (fault_before d t cases ≡ Some fault) ⊎ IsLate d options t cases fault
+  refuses_with fault cases t are_cases are_times k =
+      subst (λ (u : Times). (fault_before d u cases ≡ Some fault) ⊎ IsLate d options u cases fault)
+      (times_once d options k.times t k.are_times are_times)
+      (subst (λ (cs : List Case). (fault_before d k.times cs ≡ Some fault) ⊎ IsLate d options k.times cs fault)
+      (cases_once d options k.cases cases k.are_cases are_cases) k.refuses)
+
+  -- a document with a table isn't refused
+  not_refused : (xs : List (List ℕ)) (exceeded : Bool) (fault : DocumentFault) → FaultsOf d options xs exceeded
+      → RefusesFaults d options fault → ⊥
+  not_refused xs exceeded fault k refuses =
+      by (refuses_with fault k.cases k.times k.are_cases k.are_times refuses)
+    where
+      by : (fault_before d k.times k.cases ≡ Some fault) ⊎ IsLate d options k.times k.cases fault → ⊥
+      by (inl early) = let none = k.before in absurd cc
+      by (inr late) =
+          let same : late.planned ≡ k.planned =
+          all_planned_once k.times k.cases late.planned k.planned late.are_planned k.are_planned in
+          let in_time = k.in_time in
+          let too_late : any_late k.times k.planned ≡ true =
+          subst (λ (ps : List Planned). any_late k.times ps ≡ true) same late.late in
+          absurd cc
+
+  -- and has one fault
+  refusals_once : (f g : DocumentFault) → RefusesFaults d options f → RefusesFaults d options g → f ≡ g
+  refusals_once f g k l = by k.refuses (refuses_with g k.cases k.times k.are_cases k.are_times l)
+    where
+      by : (fault_before d k.times k.cases ≡ Some f) ⊎ IsLate d options k.times k.cases f
+          → (fault_before d k.times k.cases ≡ Some g) ⊎ IsLate d options k.times k.cases g → f ≡ g
+      by (inl x) (inl y) = cc
+      by (inl x) (inr y) = let none = y.before in absurd cc
+      by (inr x) (inl y) = let none = x.before in absurd cc
+      by (inr x) (inr y) = x.is ∙ sym y.is
+
+pub table_once : OneTable
+table_once d options lines others one other once k l = one_table_of d options once lines others one other k l
+
+pub never_refused : NeverRefused
+never_refused d options lines exceeded fault k refuses = not_refused d options lines exceeded fault k refuses
+
+pub one_refusal : OneRefusal
+one_refusal d options f g k l = refusals_once d options f g k l
