@@ -12,8 +12,10 @@ use Rattle.gptp_topology.specs.Course.{cable_of, wire_of}
 use Rattle.gptp_topology.specs.Times.{AreCalmTimes, IsTime, late_at}
 use Rattle.gptp_topology.specs.declared.course.Cable.{Cable}
 use Rattle.gptp_topology.specs.declared.times.CalmTime.{CalmTime}
+use Rattle.gptp_lint.specs.Components.{AreComponents}
 use Rattle.gptp_lint.specs.Findings.{AreFound, NoneIsLate}
 use Rattle.gptp_lint.specs.Trouble.{longs_of, lossies_of}
+use Rattle.gptp_lint.specs.Unlinked.{AreUnlinked}
 use Rattle.gptp_lint.specs.declared.findings.Findings.{Findings}
 use Rattle.gptp_lint.proofs.QuietLemmas.{quiet}
 
@@ -55,8 +57,9 @@ none_late d (t ∷ times) (here, more) =
 pub found : (d : DocumentState) (f : Findings) (cables : List Cable) → IsNetwork d.network
     → AreEvents d.network d.events → cables ≡ map cable_of d.network.links
     → f.long.items ≡ longs_of d (map wire_of cables) → f.lossy.items ≡ lossies_of d (map wire_of cables)
-    → AreCalmTimes d f.calm.items → f.limit ≡ lapse_span d.network.params → AreFound d f
-found d f cables network events are long lossy calm limit =
+    → AreUnlinked d.network f.unlinked.items → AreComponents d f.components → AreCalmTimes d f.calm.items
+    → f.limit ≡ lapse_span d.network.params → AreFound d f
+found d f cables network events are long lossy unlinked components calm limit =
     let whole : map wire_of cables ≡ d.network.links = ap (map wire_of) are ∙ wires_back d.network.links in
     let longs : f.long.items ≡ longs_of d d.network.links = long ∙ ap (longs_of d) whole in
     let lossies : f.lossy.items ≡ lossies_of d d.network.links = lossy ∙ ap (lossies_of d) whole in
@@ -66,6 +69,8 @@ found d f cables network events are long lossy calm limit =
     record {
       long = longs;
       lossy = lossies;
+      unlinked = unlinked;
+      components = components;
       calm = calm;
       limit = limit;
       quiet = (

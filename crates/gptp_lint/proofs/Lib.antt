@@ -1,4 +1,11 @@
 mod ThinLemmas
+mod GraphLemmas
+mod LabelLemmas
+mod FitsLemmas
+mod BestLemmas
+mod MomentLemmas
+mod SortedLemmas
+mod UnlinkedLemmas
 mod TroubleLemmas
 mod QuietLemmas
 mod TextLemmas

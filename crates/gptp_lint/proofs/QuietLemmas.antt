@@ -59,7 +59,7 @@ module _ (d : DocumentState) (network : IsNetwork d.network) (order : AreInOrder
 
   no_lossy_where_calm : IsAlwaysCalm d → lossies_of d d.network.links ≡ []
   no_lossy_where_calm calm = none_at_all _ d.network.links (λ w member.
-      no_lossy w.bounds.link 0 (course_of d.events w) (λ s stands. (stands_quiet calm w member s stands).1))
+      no_lossy w.bounds.link (course_of d.events w) (λ s stands. (stands_quiet calm w member s stands).1))
 
   pub quiet :
       ((longs_of d d.network.links ≡ []) × (lossies_of d d.network.links ≡ [])

@@ -1,5 +1,5 @@
 -- What a course tells of what is new at a link, the events that name a system at one of its ends tell too.
-use Rattle.std.proofs.Common.{◌≡◌, ◌≤◌, ◌<◌, ℕ, Bool, true, false, ◌==◌, cond, List, [], ◌∷◌, ◌++◌, Some, refl, sym, ap, ap₂, ◌∙◌, arith}
+use Rattle.std.proofs.Common.{◌≡◌, ◌≤◌, ◌<◌, ℕ, Bool, true, false, ◌==◌, cond, List, [], ◌∷◌, ◌++◌, Option, Some, refl, sym, ap, ap₂, ◌∙◌, arith}
 use Rattle.std.proofs.lemmas.Bool.{eqb-true, eqb-false, eq-eqb, ne_eqb, or_parts}
 use Rattle.gptp_setup.specs.declared.setup.Params.{Params}
 use Rattle.gptp_vector.specs.declared.port.PortId.{PortId}
@@ -14,7 +14,8 @@ use Rattle.gptp_topology.specs.declared.course.Cable.{Cable}
 use Rattle.gptp_topology.specs.declared.course.Standing.{Standing}
 use Rattle.gptp_topology.proofs.CourseLemmas.{all_from_0, behind, not_before, order_behind}
 use Rattle.gptp_topology.proofs.NamedLemmas.{untouched}
-use Rattle.gptp_lint.specs.Trouble.{ended, long_at, long_of, stretches}
+use Rattle.gptp_lint.specs.Trouble.{long_at, long_of, next_other, stretch_of, stretches}
+use Rattle.gptp_lint.specs.declared.trouble.Lossy.{Lossy}
 
 -- the link's ends are at these systems
 record IsOf (c : Cable) (s : Standing) : Type 0 where
@@ -44,59 +45,59 @@ kept_before c at (t ∷ ts) come = by (kept_before c at ts come.1) (is_end c (na
     by rest true = (come.0, rest)
     by rest false = rest
 
-module _ {X : Type 0} (Told : ℕ → ℕ → List Standing → X)
-    (repeats : (loss from at : ℕ) (s : Standing) (ss : List Standing)
-    → Told loss from (s ∷ at_time at s ∷ ss) ≡ Told loss from (s ∷ ss))
-    (goes_on : (s : Standing) (ss rs : List Standing) → ((loss from : ℕ) → Told loss from ss ≡ Told loss from rs)
-    → (loss from : ℕ) → Told loss from (s ∷ ss) ≡ Told loss from (s ∷ rs))
+module _ {X : Type 0} (Told : ℕ → List Standing → X)
+    (repeats : (loss at : ℕ) (s : Standing) (ss : List Standing)
+    → Told loss (s ∷ at_time at s ∷ ss) ≡ Told loss (s ∷ ss))
+    (goes_on : (s : Standing) (ss rs : List Standing) → ((loss : ℕ) → Told loss ss ≡ Told loss rs)
+    → (loss : ℕ) → Told loss (s ∷ ss) ≡ Told loss (s ∷ rs))
     (c : Cable) where
   -- all that is told is told by the events that name one of these systems
   abbrev Same : Standing → List Timed → Type 0
-  Same s ts = (loss from : ℕ) → Told loss from (course_from s ts) ≡ Told loss from (course_from s (naming c ts))
+  Same s ts = (loss : ℕ) → Told loss (course_from s ts) ≡ Told loss (course_from s (naming c ts))
 
   -- an event that counts
   with_it : (s : Standing) (t : Timed) (ts : List Timed) → Same (acted t.act (at_time t.at s)) ts → (same : Bool)
-      → (loss from : ℕ)
-      → Told loss from (cond same [] (s ∷ []) ++ course_from (acted t.act (at_time t.at s)) ts)
-      ≡ Told loss from (cond same [] (s ∷ []) ++ course_from (acted t.act (at_time t.at s)) (naming c ts))
-  with_it s t ts rest true loss from = rest loss from
-  with_it s t ts rest false loss from =
+      → (loss : ℕ)
+      → Told loss (cond same [] (s ∷ []) ++ course_from (acted t.act (at_time t.at s)) ts)
+      ≡ Told loss (cond same [] (s ∷ []) ++ course_from (acted t.act (at_time t.at s)) (naming c ts))
+  with_it s t ts rest true loss = rest loss
+  with_it s t ts rest false loss =
       goes_on s (course_from (acted t.act (at_time t.at s)) ts)
-      (course_from (acted t.act (at_time t.at s)) (naming c ts)) rest loss from
+      (course_from (acted t.act (at_time t.at s)) (naming c ts)) rest loss
 
   -- A standing that is there again at a later time, before events that come no earlier
-  again : (s : Standing) (at : ℕ) (us : List Timed) → s.at < at → not_before at us → (loss from : ℕ)
-      → Told loss from (s ∷ course_from (at_time at s) us) ≡ Told loss from (course_from s us)
-  again s at [] later come loss from = repeats loss from at s []
-  again s at (u ∷ us) later come loss from =
+  again : (s : Standing) (at : ℕ) (us : List Timed) → s.at < at → not_before at us → (loss : ℕ)
+      → Told loss (s ∷ course_from (at_time at s) us) ≡ Told loss (course_from s us)
+  again s at [] later come loss = repeats loss at s []
+  again s at (u ∷ us) later come loss =
       let here = come.0 in
       let apart : (s.at == u.at) ≡ false = ne_eqb s.at u.at (λ same. absurd (omega (arith, same, here, later))) in
       let then = course_from (acted u.act (at_time u.at s)) us in
-      by (at == u.at) ∙ ap (λ test. Told loss from (cond test [] (s ∷ []) ++ then)) (sym apart)
+      by (at == u.at) ∙ ap (λ test. Told loss (cond test [] (s ∷ []) ++ then)) (sym apart)
     where
       by : (same : Bool)
-          → Told loss from (s ∷ (cond same [] (at_time at s ∷ []) ++ course_from (acted u.act (at_time u.at s)) us))
-          ≡ Told loss from (s ∷ course_from (acted u.act (at_time u.at s)) us)
+          → Told loss (s ∷ (cond same [] (at_time at s ∷ []) ++ course_from (acted u.act (at_time u.at s)) us))
+          ≡ Told loss (s ∷ course_from (acted u.act (at_time u.at s)) us)
       by true = refl
-      by false = repeats loss from at s (course_from (acted u.act (at_time u.at s)) us)
+      by false = repeats loss at s (course_from (acted u.act (at_time u.at s)) us)
 
   -- an event that doesn't count
   without_it : (s : Standing) (t : Timed) (ts : List Timed) → Same (at_time t.at s) ts → s.at ≤ t.at
-      → not_before t.at ts → (same : Bool) → (s.at == t.at) ≡ same → (loss from : ℕ)
-      → Told loss from (cond same [] (s ∷ []) ++ course_from (at_time t.at s) ts)
-      ≡ Told loss from (course_from s (naming c ts))
-  without_it s t ts rest earlier come true is loss from =
+      → not_before t.at ts → (same : Bool) → (s.at == t.at) ≡ same → (loss : ℕ)
+      → Told loss (cond same [] (s ∷ []) ++ course_from (at_time t.at s) ts)
+      ≡ Told loss (course_from s (naming c ts))
+  without_it s t ts rest earlier come true is loss =
       let now : at_time t.at s ≡ s = ap (λ at. at_time at s) (sym (eqb-true s.at t.at is)) in
-      rest loss from ∙ ap (λ r. Told loss from (course_from r (naming c ts))) now
-  without_it s t ts rest earlier come false is loss from =
+      rest loss ∙ ap (λ r. Told loss (course_from r (naming c ts))) now
+  without_it s t ts rest earlier come false is loss =
       let apart = eqb-false s.at t.at is in
       let later : s.at < t.at = omega (arith, earlier, apart) in
-      goes_on s (course_from (at_time t.at s) ts) (course_from (at_time t.at s) (naming c ts)) rest loss from
-      ∙ again s t.at (naming c ts) later (kept_before c t.at ts come) loss from
+      goes_on s (course_from (at_time t.at s) ts) (course_from (at_time t.at s) (naming c ts)) rest loss
+      ∙ again s t.at (naming c ts) later (kept_before c t.at ts come) loss
 
   thin : (s : Standing) (ts : List Timed) → IsOf c s → not_before s.at ts → AreInOrder ts → Same s ts
-  thin s [] of_it come order loss from = refl
-  thin s (t ∷ ts) of_it come order loss from =
+  thin s [] of_it come order loss = refl
+  thin s (t ∷ ts) of_it come order loss =
       let at_it : IsOf c (at_time t.at s) = record { a = of_it.a; b = of_it.b } in
       let later = behind t ts order in
       let in_order = order_behind t ts order in
@@ -105,12 +106,12 @@ module _ {X : Type 0} (Told : ℕ → ℕ → List Standing → X)
     where
       by : IsOf c (at_time t.at s) → Same (acted t.act (at_time t.at s)) ts → Same (at_time t.at s) ts
           → (test : Bool) → is_end c (named t.act) ≡ test
-          → Told loss from (course_from s (t ∷ ts))
-          ≡ Told loss from (course_from s (cond test (t ∷ naming c ts) (naming c ts)))
-      by at_it counts passes true is = with_it s t ts counts (s.at == t.at) loss from
+          → Told loss (course_from s (t ∷ ts))
+          ≡ Told loss (course_from s (cond test (t ∷ naming c ts) (naming c ts)))
+      by at_it counts passes true is = with_it s t ts counts (s.at == t.at) loss
       by at_it counts passes false is =
-          ap (λ r. Told loss from (past t.at s [] ++ course_from r ts)) (passed_over c t (at_time t.at s) at_it is)
-          ∙ without_it s t ts passes come.0 (behind t ts order) (s.at == t.at) refl loss from
+          ap (λ r. Told loss (past t.at s [] ++ course_from r ts)) (passed_over c t (at_time t.at s) at_it is)
+          ∙ without_it s t ts passes come.0 (behind t ts order) (s.at == t.at) refl loss
 
 -- ---- the first time at which it isn't good
 
@@ -126,32 +127,53 @@ pub long_is : (d : DocumentState) (w : Wire) → AreInOrder d.events
     ≡ long_of d.network.params (course_of d.events w)
 long_is d w order =
     let p : Params = d.network.params in
-    sym (thin (λ loss from. long_of p) (λ loss from at s ss. long_again p at s ss (is_long p s) refl)
-    (λ s ss rs rest loss from. ap (λ o. cond (is_long p s) (Some (long_at p s)) o) (rest loss from))
-    (cable_of w) (first w) d.events (record { a = refl; b = refl }) (all_from_0 d.events) order 0 0)
+    sym (thin (λ loss. long_of p) (λ loss at s ss. long_again p at s ss (is_long p s) refl)
+    (λ s ss rs rest loss. ap (λ o. cond (is_long p s) (Some (long_at p s)) o) (rest loss))
+    (cable_of w) (first w) d.events (record { a = refl; b = refl }) (all_from_0 d.events) order 0)
 
 -- ---- the stretches at which it loses frames
 
-lossy_again : (link loss from at : ℕ) (s : Standing) (ss : List Standing) (same : Bool)
-    → (loss_in_use s == loss) ≡ same
-    → cond same (stretches link loss from (at_time at s ∷ ss))
-    (ended link loss from (Some s.at) ++ stretches link (loss_in_use s) s.at (at_time at s ∷ ss))
-    ≡ cond same (stretches link loss from ss)
-    (ended link loss from (Some s.at) ++ stretches link (loss_in_use s) s.at ss)
-lossy_again link loss from at s ss true is =
-    ap (λ test. cond test (stretches link loss from ss)
-    (ended link loss from (Some at) ++ stretches link (loss_in_use s) at ss)) is
-lossy_again link loss from at s ss false is =
-    ap (λ test. ended link loss from (Some s.at) ++ cond test (stretches link (loss_in_use s) s.at ss)
-    (ended link (loss_in_use s) s.at (Some at) ++ stretches link (loss_in_use s) at ss))
-    (eq-eqb (loss_in_use s) (loss_in_use s) refl)
+-- until when a loss lasts, and the stretches behind a time with it
+abbrev Stretches : Type 0
+Stretches = Option ℕ × List Lossy
+
+abbrev lasts : ℕ → ℕ → List Standing → Stretches
+lasts link loss ss = (next_other loss ss, stretches link loss ss)
+
+module _ (link loss at : ℕ) (s : Standing) (ss : List Standing) where
+  abbrev now : ℕ
+  now = loss_in_use s
+
+  lasts_as_long : (same : Bool) → (now == loss) ≡ same
+      → cond same (cond (now == loss) (next_other loss ss) (Some at)) (Some s.at)
+      ≡ cond same (next_other loss ss) (Some s.at)
+  lasts_as_long true is = ap (λ test. cond test (next_other loss ss) (Some at)) is
+  lasts_as_long false is = refl
+
+  none_begins : stretches link loss (s ∷ at_time at s ∷ ss) ≡ stretches link loss (s ∷ ss)
+  none_begins =
+      ap (λ same. cond (now == loss) [] (stretch_of link now s.at (cond same (next_other now ss) (Some at)))
+      ++ (cond same [] (stretch_of link now at (next_other now ss)) ++ stretches link now ss))
+      (eq-eqb now now refl)
+
+  lossy_again : lasts link loss (s ∷ at_time at s ∷ ss) ≡ lasts link loss (s ∷ ss)
+  lossy_again = ap₂ (λ (to : Option ℕ) (ls : List Lossy). (to, ls)) (lasts_as_long (now == loss) refl) none_begins
+
+lossy_goes_on : (link : ℕ) (s : Standing) (ss rs : List Standing)
+    → ((loss : ℕ) → lasts link loss ss ≡ lasts link loss rs)
+    → (loss : ℕ) → lasts link loss (s ∷ ss) ≡ lasts link loss (s ∷ rs)
+lossy_goes_on link s ss rs rest loss =
+    let now = loss_in_use s in
+    ap₂ (λ (a b : Stretches). (
+      cond (now == loss) a.0 (Some s.at),
+      cond (now == loss) [] (stretch_of link now s.at b.0) ++ b.1,
+    )) (rest loss) (rest now)
 
 pub lossy_is : (d : DocumentState) (w : Wire) → AreInOrder d.events
-    → stretches w.bounds.link 0 0 (course_from (first w) (naming (cable_of w) d.events))
-    ≡ stretches w.bounds.link 0 0 (course_of d.events w)
+    → stretches w.bounds.link 0 (course_from (first w) (naming (cable_of w) d.events))
+    ≡ stretches w.bounds.link 0 (course_of d.events w)
 lossy_is d w order =
     let link : ℕ = w.bounds.link in
-    sym (thin (stretches link) (λ loss from at s ss. lossy_again link loss from at s ss (loss_in_use s == loss) refl)
-    (λ s ss rs rest loss from. ap₂ (λ k l. cond (loss_in_use s == loss) k
-    (ended link loss from (Some s.at) ++ l)) (rest loss from) (rest (loss_in_use s) s.at))
-    (cable_of w) (first w) d.events (record { a = refl; b = refl }) (all_from_0 d.events) order 0 0)
+    sym (ap (λ (l : Stretches). l.1)
+    (thin (lasts link) (lossy_again link) (lossy_goes_on link) (cable_of w) (first w) d.events
+    (record { a = refl; b = refl }) (all_from_0 d.events) order 0))

@@ -1,11 +1,11 @@
 -- A link is told of where at some time it is in use and isn't good, or loses frames.
-use Rattle.std.proofs.Common.{◌≡◌, ℕ, Bool, true, false, ◌==◌, cond, List, [], ◌∷◌, ◌++◌, Option, Some, None, eqb-true, refl, ap, ◌∙◌, inl, inr}
+use Rattle.std.proofs.Common.{◌≡◌, ℕ, Bool, true, false, ◌==◌, cond, List, [], ◌∷◌, ◌++◌, Option, Some, None, eqb-true, refl, sym, ap, ◌∙◌, inl, inr}
 use Rattle.std.specs.List.{flat_map}
 use Rattle.gptp_lists.specs.Members.{In}
 use Rattle.gptp_setup.specs.declared.setup.Params.{Params}
 use Rattle.gptp_topology.specs.Trouble.{is_long, loss_in_use}
 use Rattle.gptp_topology.specs.declared.course.Standing.{Standing}
-use Rattle.gptp_lint.specs.Trouble.{ended, long_at, long_of, stretches}
+use Rattle.gptp_lint.specs.Trouble.{long_at, long_of, next_other, stretch_of, stretches}
 use Rattle.gptp_lint.specs.declared.trouble.Lossy.{Lossy}
 
 -- none of a list that is nothing
@@ -49,48 +49,45 @@ no_long p (s ∷ ss) none =
 
 -- ---- links that lose frames
 
-none_ended : (link loss from : ℕ) (to : Option ℕ) (test : Bool) → (loss == 0) ≡ test
-    → cond {A = List Lossy} test [] (record { link = link; loss = loss; from = from; to = to } ∷ []) ≡ []
+none_begun : (link from : ℕ) (loss : ℕ) (to : Option ℕ) (test : Bool) → (loss == 0) ≡ test
+    → cond {A = List Lossy} test [] (cond test [] (record { link = link; loss = loss; from = from; to = to } ∷ [])) ≡ []
     → loss ≡ 0
-none_ended link loss from to true is none = eqb-true loss 0 is
-none_ended link loss from to false is none = absurd cc
+none_begun link from loss to true is none = eqb-true loss 0 is
+none_begun link from loss to false is none = absurd cc
 
--- what is known of a course where there is no stretch
-abbrev IsFree : List Standing → ℕ → Type 0
-IsFree ss loss = (loss ≡ 0) × ((s : Standing) → In s ss → loss_in_use s ≡ 0)
-
-free_with : (s : Standing) (ss : List Standing) → loss_in_use s ≡ 0 → ((r : Standing) → In r ss → loss_in_use r ≡ 0)
-    → (r : Standing) → In r (s ∷ ss) → loss_in_use r ≡ 0
-free_with s ss here rest r (inl is) = ap loss_in_use is ∙ here
-free_with s ss here rest r (inr behind) = rest r behind
-
-no_stretch_step : (link loss from : ℕ) (s : Standing) (ss : List Standing)
-    → ((l f : ℕ) → stretches link l f ss ≡ [] → IsFree ss l) → (test : Bool) → (loss_in_use s == loss) ≡ test
-    → cond test (stretches link loss from ss)
-    (ended link loss from (Some s.at) ++ stretches link (loss_in_use s) s.at ss) ≡ []
-    → IsFree (s ∷ ss) loss
-no_stretch_step link loss from s ss rest true is none =
-    let behind = rest loss from none in
-    (behind.0, free_with s ss (eqb-true (loss_in_use s) loss is ∙ behind.0) behind.1)
-no_stretch_step link loss from s ss rest false is none =
-    let before = nothing_left (ended link loss from (Some s.at)) (stretches link (loss_in_use s) s.at ss) none in
-    let later = nothing_right (ended link loss from (Some s.at)) (stretches link (loss_in_use s) s.at ss) none in
-    let behind = rest (loss_in_use s) s.at later in
-    (none_ended link loss from (Some s.at) (loss == 0) refl before, free_with s ss behind.0 behind.1)
-
-no_stretch : (link loss from : ℕ) (ss : List Standing) → stretches link loss from ss ≡ [] → IsFree ss loss
-no_stretch link loss from [] none = (none_ended link loss from None (loss == 0) refl none, λ s member. absurd member)
-no_stretch link loss from (s ∷ ss) none =
-    no_stretch_step link loss from s ss (λ l f. no_stretch link l f ss) (loss_in_use s == loss) refl none
-
-pub not_lossy : (link : ℕ) (ss : List Standing) → stretches link 0 0 ss ≡ [] → (s : Standing) → In s ss
+pub not_lossy : (link : ℕ) (ss : List Standing) → stretches link 0 ss ≡ [] → (s : Standing) → In s ss
     → loss_in_use s ≡ 0
-not_lossy link ss none = (no_stretch link 0 0 ss none).1
+not_lossy link [] none s member = absurd member
+not_lossy link (r ∷ ss) none s member =
+    by (not_lossy link ss (ap (λ loss. stretches link loss ss) (sym free) ∙ behind)) member
+  where
+    now : ℕ
+    now = loss_in_use r
 
-pub no_lossy : (link from : ℕ) (ss : List Standing) → ((s : Standing) → In s ss → loss_in_use s ≡ 0)
-    → stretches link 0 from ss ≡ []
-no_lossy link from [] none = refl
-no_lossy link from (s ∷ ss) none =
-    ap (λ loss. cond (loss == 0) (stretches link 0 from ss)
-    (ended link 0 from (Some s.at) ++ stretches link loss s.at ss)) (none s (inl refl))
-    ∙ no_lossy link from ss (λ r member. none r (inr member))
+    begun : List Lossy
+    begun = cond (now == 0) [] (stretch_of link now r.at (next_other now ss))
+
+    free : now ≡ 0
+    free = none_begun link r.at now (next_other now ss) (now == 0) refl
+        (nothing_left begun (stretches link now ss) none)
+
+    behind : stretches link now ss ≡ []
+    behind = nothing_right begun (stretches link now ss) none
+
+    by : ((t : Standing) → In t ss → loss_in_use t ≡ 0) → In s (r ∷ ss) → loss_in_use s ≡ 0
+    by rest (inl is) = ap loss_in_use is ∙ free
+    by rest (inr later) = rest s later
+
+pub no_lossy : (link : ℕ) (ss : List Standing) → ((s : Standing) → In s ss → loss_in_use s ≡ 0)
+    → stretches link 0 ss ≡ []
+no_lossy link [] none = refl
+no_lossy link (s ∷ ss) none =
+    ap (λ loss. cond (loss == 0) [] (stretch_of link loss s.at (next_other loss ss)) ++ stretches link loss ss)
+    (none s (inl refl))
+    ∙ no_lossy link ss (λ r member. none r (inr member))
+
+-- ---- those that are left where one may have begun
+
+-- the one that has begun with this loss, and those behind it
+abbrev pub left : ℕ → ℕ → ℕ → List Standing → List Lossy
+left link loss from ss = stretch_of link loss from (next_other loss ss) ++ stretches link loss ss

@@ -1,4 +1,9 @@
+pub mod Graph
+pub mod Labels
+pub mod Components
+pub mod Moments
 pub mod Trouble
+pub mod Unlinked
 pub mod Findings
 pub mod Unread
 pub mod LintText

@@ -24,21 +24,27 @@ abbrev pub long_of : Params → List Standing → Option Long
 long_of p [] = None
 long_of p (s ∷ ss) = if is_long p s then Some (long_at p s) else long_of p ss
 
--- a stretch that ends, where one has begun: no stretch is without a loss
-abbrev pub ended : ℕ → ℕ → ℕ → Option ℕ → List Lossy
-ended link loss from to =
+-- the first time with another loss than this
+abbrev pub next_other : ℕ → List Standing → Option ℕ
+next_other loss [] = None
+next_other loss (s ∷ ss) = if loss_in_use s == loss then next_other loss ss else Some s.at
+
+-- a stretch of times with this loss; there is none without a loss
+abbrev pub stretch_of : ℕ → ℕ → ℕ → Option ℕ → List Lossy
+stretch_of link loss from to =
     if loss == 0 then [] else record { link = link; loss = loss; from = from; to = to } ∷ []
 
--- the longest stretches of times with one and the same loss, where the first has begun with this loss at this time
-abbrev pub stretches : ℕ → ℕ → ℕ → List Standing → List Lossy
-stretches link loss from [] = ended link loss from None
-stretches link loss from (s ∷ ss) =
-    if loss_in_use s == loss then stretches link loss from ss
-    else ended link loss from (Some s.at) ++ stretches link (loss_in_use s) s.at ss
+-- The longest stretches of times with one loss. A stretch begins at each time with another loss than at the time
+-- before, and ends at the first with another again. Before the first time this was the loss.
+abbrev pub stretches : ℕ → ℕ → List Standing → List Lossy
+stretches link before [] = []
+stretches link before (s ∷ ss) =
+    (if loss_in_use s == before then [] else stretch_of link (loss_in_use s) s.at (next_other (loss_in_use s) ss))
+    ++ stretches link (loss_in_use s) ss
 
 -- those of the links of a document
 abbrev pub longs_of : DocumentState → List Wire → List Long
 longs_of d = flat_map (λ w. option_to_list (long_of d.network.params (course_of d.events w)))
 
 abbrev pub lossies_of : DocumentState → List Wire → List Lossy
-lossies_of d = flat_map (λ w. stretches w.bounds.link 0 0 (course_of d.events w))
+lossies_of d = flat_map (λ w. stretches w.bounds.link 0 (course_of d.events w))

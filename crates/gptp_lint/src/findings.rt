@@ -8,8 +8,8 @@ ghost use Rattle.gptp_lint.specs.Trouble.{longs_of, lossies_of};
 
 use crate::components::{Components, components_of};
 use crate::trouble::{Long, Lossy, long_of, push_stretches};
+use crate::unlinked::unlinked_clocks;
 use gptp_network::Document;
-use gptp_plan::Network;
 use gptp_setup::lapse_span;
 use gptp_topology::{Cable, CalmTime, cables_of, calm_times, course_of, names_of};
 use gptp_vector::ClockId;
@@ -29,39 +29,6 @@ pub struct Findings {
     pub calm: Vec<CalmTime>,
     /// How long what the Slave port holds stays without Sync, in ns: `sync_timeout` sync intervals.
     pub limit: u64,
-}
-
-/// The clocks that links name, by rising clock.
-fn linked_clocks(alloc: Global, cables: &[Cable]) -> Result<Vec<ClockId>, AllocError> {
-    let mut clocks = Vec::new(alloc);
-    for cable in cables {
-        clocks.push(cable.a.clock)?;
-        clocks.push(cable.b.clock)?;
-    }
-    clocks.sort_unstable();
-    Ok(clocks)
-}
-
-/// The systems that none of these links names, by rising clock; none where there is one system.
-fn unlinked_clocks(
-    alloc: Global,
-    network: &Network,
-    cables: &[Cable],
-) -> Result<Vec<ClockId>, AllocError> {
-    let mut unlinked = Vec::new(alloc);
-    if network.systems() < 2 {
-        return Ok(unlinked);
-    }
-    let linked = linked_clocks(alloc, cables)?;
-    for place in 0..network.systems() {
-        if let Some((identity, _, _, _, _)) = network.system_at(place) {
-            if linked.binary_search(&identity.clock()).is_err() {
-                unlinked.push(identity.clock())?;
-            }
-        }
-    }
-    unlinked.sort_unstable();
-    Ok(unlinked)
 }
 
 /// Puts a link that is too long behind others, if it is one.
@@ -100,17 +67,18 @@ fn push_troubles(
 pub fn find(alloc: Global, document: &Document) -> Result<Findings, AllocError>
     ensures { IfOk result (AreFound document.now) }
 {
-    document.network().well_formed();
+    let network = document.network();
+    network.well_formed();
     document.well_formed();
-    let cables = cables_of(alloc, document.network())?;
+    let cables = cables_of(alloc, network)?;
     let names = names_of(alloc, document.events())?;
     let mut long = Vec::new(alloc);
     let mut lossy = Vec::new(alloc);
     for cable in &cables {
         push_troubles(alloc, &mut long, &mut lossy, document, &names, cable)?;
     }
-    let unlinked = unlinked_clocks(alloc, document.network(), &cables)?;
-    let components = components_of(alloc, document.network(), &cables, document.events())?;
+    let unlinked = unlinked_clocks(alloc, network, &cables)?;
+    let components = components_of(alloc, document, &cables)?;
     let calm = calm_times(alloc, document)?;
     Ok(Findings {
         long,
@@ -118,6 +86,6 @@ pub fn find(alloc: Global, document: &Document) -> Result<Findings, AllocError>
         unlinked,
         components,
         calm,
-        limit: lapse_span(&document.network().params()),
+        limit: lapse_span(&network.params()),
     })
 }

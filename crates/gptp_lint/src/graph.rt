@@ -1,460 +1,246 @@
-//! The systems and links of a network as they stand, and the components that they make, as changes come.
+//! How the systems and the links of a network stand, by place, as its events come.
 
-use crate::search::cut_off;
-use crate::sets::Set;
+ghost use Rattle.std.specs.Prelude.{◌≡◌, ◌<◌, ◌+◌, ◌++◌, ◌∷◌, [], length, map, take, IfOk, OnOk};
+ghost use Rattle.gptp_plan.specs.declared.network.Member.{Member};
+ghost use Rattle.gptp_lint.specs.Graph.{Acted, AreFirst, edge_acted, edge_of, first_node, node_acted, node_changed, place_in, up_changed};
+
 use gptp_plan::{Act, Change, Network};
 use gptp_topology::Cable;
 use gptp_vector::{ClockId, Identity, PortId};
 use std::alloc::{AllocError, Global};
 
-/// A system: its identity, whether it lives, and the places of the links at it.
-#[derive(Drop)]
-struct Node {
-    identity: Identity,
-    lives: bool,
-    edges: Vec<usize>,
-}
-
-/// A link: its ends, whether it is up, and the places of its systems.
+/// A system as it stands.
 #[derive(Clone, Copy)]
-struct Edge {
-    a: PortId,
-    b: PortId,
-    up: bool,
-    from: usize,
-    to: usize,
+pub(crate) struct Node {
+    pub clock: ClockId,
+    pub identity: Identity,
+    pub lives: bool,
 }
 
-/// The systems and links of a network as they stand.
+/// A link as it stands: its ends, the places of the systems there, and whether it is up.
+#[derive(Clone, Copy)]
+pub(crate) struct Edge {
+    pub a: PortId,
+    pub b: PortId,
+    pub from: usize,
+    pub to: usize,
+    pub up: bool,
+}
+
+/// The systems and the links of a network as they stand, by place.
 #[derive(Drop)]
 pub(crate) struct Graph {
-    nodes: Vec<Node>,
-    edges: Vec<Edge>,
-    // The places of systems, by rising clock.
-    places: Vec<(ClockId, usize)>,
-    // Those that links in use join each system to.
-    joined: Vec<Set>,
-    // The systems that can be grandmaster.
-    capable: Set,
-    // The components of the live systems, in no order.
-    components: Vec<Set>,
+    pub nodes: Vec<Node>,
+    pub edges: Vec<Edge>,
 }
 
-/// The two best systems of a component, the second where there is one.
-#[derive(Clone, Copy)]
-pub(crate) struct Best {
-    pub best: Identity,
-    pub second: Option<Identity>,
-}
-
-/// The place of the system with a clock, among places by rising clock.
-fn place_among(places: &[(ClockId, usize)], clock: ClockId) -> usize {
-    let mut least = 0_usize;
-    let mut most = places.len();
-    for _step in 0..10 {
-        let middle = least.saturating_add(most.saturating_sub(least) / 2);
-        match places.get(middle) {
-            Some((found, place)) => {
-                if *found == clock {
-                    return *place;
-                }
-                if *found < clock {
-                    least = middle.saturating_add(1);
-                } else {
-                    most = middle;
-                }
+/// Does to a system what a change does.
+fn change_node(change: &Change, node: &mut Node)
+    ensures { node.new ≡ node_changed change.now node.old }
+{
+    match *change {
+        Change::Fail { clock } => {
+            if clock == node.clock {
+                node.lives = false;
             }
-            None => return 0,
         }
+        Change::Recover { clock } => {
+            if clock == node.clock {
+                node.lives = true;
+            }
+        }
+        Change::Priority1 { clock, value } => {
+            if clock == node.clock {
+                node.identity = node.identity.with_priority1(value);
+            }
+        }
+        Change::LinkDown { clock: _, port: _ } => {}
+        Change::LinkUp { clock: _, port: _ } => {}
+        Change::LinkSet {
+            clock: _,
+            port: _,
+            min: _,
+            max: _,
+            loss: _,
+        } => {}
+        Change::Inject {
+            clock: _,
+            port: _,
+            octets: _,
+        } => {}
     }
-    0
 }
 
-/// The systems of a network, at first.
-fn first_nodes(alloc: Global, network: &Network) -> Result<Vec<Node>, AllocError> {
+/// Does to a system what an act does.
+fn act_on_node(act: &Act, node: &mut Node)
+    ensures { node.new ≡ node_acted act.now node.old }
+{
+    match act {
+        Act::Change(change) => change_node(change, node),
+        Act::Deliver {
+            link: _,
+            direction: _,
+        } => {}
+        Act::Expire { clock: _, timer: _ } => {}
+    }
+}
+
+/// Whether a link with these ends is up after a change, where it was so or not before.
+fn up_changed(change: &Change, a: PortId, b: PortId, up: bool) -> bool
+    ensures { result ≡ up_changed change.now a b up }
+{
+    match *change {
+        Change::LinkDown { clock, port } => {
+            let port = PortId { clock, port };
+            if a == port || b == port { false } else { up }
+        }
+        Change::LinkUp { clock, port } => {
+            let port = PortId { clock, port };
+            if a == port || b == port { true } else { up }
+        }
+        Change::LinkSet {
+            clock: _,
+            port: _,
+            min: _,
+            max: _,
+            loss: _,
+        } => up,
+        Change::Fail { clock: _ } => up,
+        Change::Recover { clock: _ } => up,
+        Change::Priority1 { clock: _, value: _ } => up,
+        Change::Inject {
+            clock: _,
+            port: _,
+            octets: _,
+        } => up,
+    }
+}
+
+/// Does to a link what an act does.
+fn act_on_edge(act: &Act, edge: &mut Edge)
+    ensures { edge.new ≡ edge_acted act.now edge.old }
+{
+    match act {
+        Act::Change(change) => {
+            edge.up = up_changed(change, edge.a, edge.b, edge.up);
+        }
+        Act::Deliver {
+            link: _,
+            direction: _,
+        } => {}
+        Act::Expire { clock: _, timer: _ } => {}
+    }
+}
+
+/// Does to each system what an act does.
+fn act_on_nodes(act: &Act, nodes: &mut [Node])
+    ensures { nodes.new ≡ map (node_acted act.now) nodes.old }
+{
+    for node in nodes.iter_mut() {
+        act_on_node(act, node);
+    }
+}
+
+/// Does to each link what an act does.
+fn act_on_edges(act: &Act, edges: &mut [Edge])
+    ensures { edges.new ≡ map (edge_acted act.now) edges.old }
+{
+    for edge in edges.iter_mut() {
+        act_on_edge(act, edge);
+    }
+}
+
+/// Puts a system, which lives, behind others.
+fn push_node(nodes: &mut Vec<Node>, identity: Identity) -> Result<(), AllocError>
+    ensures { OnOk result (nodes.new.items ≡ nodes.old.items ++ first_node identity ∷ []) }
+{
+    nodes.push(Node {
+        clock: identity.clock(),
+        identity,
+        lives: true,
+    })?;
+    Ok(())
+}
+
+/// Puts the system at a place behind those before.
+fn push_node_at(nodes: &mut Vec<Node>, network: &Network, place: usize) -> Result<(), AllocError>
+    requires place { place < length network.now.systems }
+    requires before { nodes.old.items ≡ map (λ (m : Member). first_node m.identity) (take place network.now.systems) }
+    ensures { OnOk result
+        (nodes.new.items ≡ map (λ (m : Member). first_node m.identity) (take (place + 1) network.now.systems)) }
+{
+    match network.system_at(place) {
+        Some(system) => push_node(nodes, system.0),
+        None => Ok(()),
+    }
+}
+
+/// The systems of a network, in its order; all live.
+fn nodes_of(alloc: Global, network: &Network) -> Result<Vec<Node>, AllocError>
+    ensures { IfOk result (λ nodes. nodes.items ≡ map (λ (m : Member). first_node m.identity) network.now.systems) }
+{
     let mut nodes = Vec::new(alloc);
     for place in 0..network.systems() {
-        if let Some((identity, _, _, _, _)) = network.system_at(place) {
-            nodes.push(Node {
-                identity,
-                lives: true,
-                edges: Vec::new(alloc),
-            })?;
-        }
+        push_node_at(&mut nodes, network, place)?;
     }
     Ok(nodes)
 }
 
-/// The places of systems, by rising clock.
-fn places_of(alloc: Global, nodes: &[Node]) -> Result<Vec<(ClockId, usize)>, AllocError> {
-    let mut places = Vec::new(alloc);
+/// The place of the first system with a clock, or their number.
+fn place_in(nodes: &[Node], clock: ClockId) -> usize
+    ensures { result ≡ place_in clock nodes.now }
+{
     for (place, node) in nodes.iter().enumerate() {
-        places.push((node.identity.clock(), place))?;
+        if node.clock == clock {
+            return place;
+        }
     }
-    places.sort_unstable();
-    Ok(places)
+    nodes.len()
 }
 
-/// The best two of a component with one system more.
-fn with_system(best: Option<Best>, identity: Identity) -> Best {
-    let Some(Best { best, second }) = best else {
-        return Best {
-            best: identity,
-            second: None,
-        };
-    };
-    if identity < best {
-        return Best {
-            best: identity,
-            second: Some(best),
-        };
+/// A link as it stands at first.
+fn edge_of(nodes: &[Node], cable: &Cable) -> Edge
+    ensures { result ≡ edge_of nodes.now cable.now }
+{
+    Edge {
+        a: cable.a,
+        b: cable.b,
+        from: place_in(nodes, cable.a.clock),
+        to: place_in(nodes, cable.b.clock),
+        up: cable.up,
     }
-    let second = match second {
-        Some(second) if second < identity => second,
-        _ => identity,
-    };
-    Best {
-        best,
-        second: Some(second),
+}
+
+/// Links as they stand at first.
+fn edges_of(alloc: Global, nodes: &[Node], cables: &[Cable]) -> Result<Vec<Edge>, AllocError>
+    ensures { IfOk result (λ edges. edges.items ≡ map (edge_of nodes.now) cables.now) }
+{
+    let mut edges = Vec::new(alloc);
+    for cable in cables {
+        edges.push(edge_of(nodes, cable))?;
     }
+    Ok(edges)
 }
 
 impl Graph {
-    /// The systems of a network, all live, without links.
-    fn of_systems(alloc: Global, network: &Network) -> Result<Self, AllocError> {
-        let nodes = first_nodes(alloc, network)?;
-        let places = places_of(alloc, &nodes)?;
-        let mut joined = Vec::new(alloc);
-        let mut components = Vec::new(alloc);
-        let mut capable = Set::empty();
-        for (place, node) in nodes.iter().enumerate() {
-            joined.push(Set::empty())?;
-            let mut alone = Set::empty();
-            alone.put(place);
-            components.push(alone)?;
-            if node.identity.capable() {
-                capable.put(place);
-            }
-        }
-        Ok(Graph {
-            nodes,
-            edges: Vec::new(alloc),
-            places,
-            joined,
-            capable,
-            components,
-        })
-    }
-
-    /// Puts the place of a link behind those at a system.
-    fn push_edge_at(&mut self, place: usize, edge: usize) -> Result<(), AllocError> {
-        if place < self.nodes.len() {
-            self.nodes[place].edges.push(edge)?;
-        }
-        Ok(())
-    }
-
-    /// Puts a link behind the others.
-    fn push_edge(&mut self, cable: &Cable) -> Result<(), AllocError> {
-        let from = self.place_of(cable.a.clock);
-        let to = self.place_of(cable.b.clock);
-        let place = self.edges.len();
-        self.edges.push(Edge {
-            a: cable.a,
-            b: cable.b,
-            up: cable.up,
-            from,
-            to,
-        })?;
-        self.push_edge_at(from, place)?;
-        self.push_edge_at(to, place)?;
-        if cable.up {
-            self.unite(from, to);
-        }
-        Ok(())
-    }
-
-    /// A network at first, with these links.
+    /// A network with these links as it stands at first.
     pub(crate) fn first(
         alloc: Global,
         network: &Network,
         cables: &[Cable],
-    ) -> Result<Self, AllocError> {
-        let mut graph = Graph::of_systems(alloc, network)?;
-        for cable in cables {
-            graph.push_edge(cable)?;
-        }
-        Ok(graph)
-    }
-
-    /// The place of the system with a clock.
-    fn place_of(&self, clock: ClockId) -> usize {
-        place_among(&self.places, clock)
-    }
-
-    /// Whether the system at a place lives.
-    fn lives(&self, place: usize) -> bool {
-        match self.nodes.as_slice().get(place) {
-            Some(node) => node.lives,
-            None => false,
-        }
-    }
-
-    /// Whether a link is up between two live systems.
-    fn is_used(&self, edge: &Edge) -> bool {
-        edge.up && self.lives(edge.from) && self.lives(edge.to)
-    }
-
-    /// The place of the link at a port.
-    fn edge_at(&self, clock: ClockId, port: u16) -> Option<usize> {
-        let port = PortId { clock, port };
-        let node = self.nodes.as_slice().get(self.place_of(clock))?;
-        for place in &node.edges {
-            if let Some(edge) = self.edges.as_slice().get(*place) {
-                if edge.a == port || edge.b == port {
-                    return Some(*place);
-                }
-            }
-        }
-        None
-    }
-
-    /// Those that a system is joined to by links in use, of its links.
-    fn joined_to(&self, place: usize) -> Set {
-        let mut joined = Set::empty();
-        if let Some(node) = self.nodes.as_slice().get(place) {
-            for edge in &node.edges {
-                if let Some(edge) = self.edges.as_slice().get(*edge) {
-                    if self.is_used(edge) {
-                        joined.put(if edge.from == place {
-                            edge.to
-                        } else {
-                            edge.from
-                        });
-                    }
-                }
-            }
-        }
-        joined
-    }
-
-    /// The number of the component that a system is in.
-    fn component_of(&self, place: usize) -> usize {
-        for (number, component) in self.components.iter().enumerate() {
-            if component.has(place) {
-                return number;
-            }
-        }
-        0
-    }
-
-    /// Whether two systems are noted as joined or not.
-    fn note(&mut self, one: usize, other: usize, joined: bool) {
-        if one < self.joined.len() {
-            if joined {
-                self.joined[one].put(other);
-            } else {
-                self.joined[one].take(other);
-            }
-        }
-    }
-
-    /// A link between two live systems comes into use.
-    fn unite(&mut self, one: usize, other: usize) {
-        self.note(one, other, true);
-        self.note(other, one, true);
-        let first = self.component_of(one);
-        let second = self.component_of(other);
-        if first == second {
-            return;
-        }
-        if first < self.components.len() && second < self.components.len() {
-            let more = self.components[second];
-            self.components[first].join(&more);
-            let _ = self.components.swap_remove(second);
-        }
-    }
-
-    /// No link between two live systems is in use any more.
-    fn divide(&mut self, one: usize, other: usize) -> Result<(), AllocError> {
-        self.note(one, other, false);
-        self.note(other, one, false);
-        if let Some(part) = cut_off(&self.joined, one, other) {
-            let whole = self.component_of(one);
-            if whole < self.components.len() {
-                self.components[whole].leave(&part);
-                self.components.push(part)?;
-            }
-        }
-        Ok(())
-    }
-
-    /// The link at a place goes down or up.
-    fn set_edge(&mut self, place: usize, up: bool) -> Result<(), AllocError> {
-        if self.edges.len() <= place || self.edges[place].up == up {
-            return Ok(());
-        }
-        self.edges[place].up = up;
-        let edge = self.edges[place];
-        if !self.lives(edge.from) || !self.lives(edge.to) {
-            return Ok(());
-        }
-        if up {
-            self.unite(edge.from, edge.to);
-            return Ok(());
-        }
-        if self.joined_to(edge.from).has(edge.to) {
-            return Ok(());
-        }
-        self.divide(edge.from, edge.to)
-    }
-
-    /// The link at a port goes down or up.
-    fn set_up(&mut self, clock: ClockId, port: u16, up: bool) -> Result<(), AllocError> {
-        match self.edge_at(clock, port) {
-            Some(place) => self.set_edge(place, up),
-            None => Ok(()),
-        }
-    }
-
-    /// The system at a place lives or not.
-    fn set_live(&mut self, place: usize, lives: bool) {
-        if place < self.nodes.len() {
-            self.nodes[place].lives = lives;
-        }
-    }
-
-    /// The system with a clock falls silent.
-    fn fail(&mut self, clock: ClockId) -> Result<(), AllocError> {
-        let place = self.place_of(clock);
-        if !self.lives(place) {
-            return Ok(());
-        }
-        let mut left = self.joined_to(place);
-        for _other in 0..self.nodes.len() {
-            match left.lowest() {
-                Some(other) => {
-                    left.take(other);
-                    self.divide(place, other)?;
-                }
-                None => break,
-            }
-        }
-        self.set_live(place, false);
-        let alone = self.component_of(place);
-        if alone < self.components.len() {
-            let _ = self.components.swap_remove(alone);
-        }
-        Ok(())
-    }
-
-    /// The system with a clock starts again.
-    fn recover(&mut self, clock: ClockId) -> Result<(), AllocError> {
-        let place = self.place_of(clock);
-        if self.lives(place) {
-            return Ok(());
-        }
-        self.set_live(place, true);
-        let mut alone = Set::empty();
-        alone.put(place);
-        self.components.push(alone)?;
-        let mut left = self.joined_to(place);
-        for _other in 0..self.nodes.len() {
-            match left.lowest() {
-                Some(other) => {
-                    left.take(other);
-                    self.unite(place, other);
-                }
-                None => break,
-            }
-        }
-        Ok(())
-    }
-
-    /// The system with a clock gets another priority1.
-    fn set_priority1(&mut self, clock: ClockId, value: u8) {
-        let place = self.place_of(clock);
-        if place < self.nodes.len() {
-            let identity = self.nodes[place].identity.with_priority1(value);
-            self.nodes[place].identity = identity;
-            if identity.capable() {
-                self.capable.put(place);
-            } else {
-                self.capable.take(place);
-            }
-        }
-    }
-
-    /// Does what a change does.
-    fn change(&mut self, change: &Change) -> Result<(), AllocError> {
-        match *change {
-            Change::LinkDown { clock, port } => self.set_up(clock, port, false),
-            Change::LinkUp { clock, port } => self.set_up(clock, port, true),
-            Change::Fail { clock } => self.fail(clock),
-            Change::Recover { clock } => self.recover(clock),
-            Change::Priority1 { clock, value } => {
-                self.set_priority1(clock, value);
-                Ok(())
-            }
-            Change::LinkSet {
-                clock: _,
-                port: _,
-                min: _,
-                max: _,
-                loss: _,
-            } => Ok(()),
-            Change::Inject {
-                clock: _,
-                port: _,
-                octets: _,
-            } => Ok(()),
-        }
+    ) -> Result<Self, AllocError>
+        ensures { IfOk result (AreFirst network.now cables.now) }
+    {
+        let nodes = nodes_of(alloc, network)?;
+        let edges = edges_of(alloc, &nodes, cables)?;
+        Ok(Graph { nodes, edges })
     }
 
     /// Does what an act does.
-    pub(crate) fn act(&mut self, act: &Act) -> Result<(), AllocError> {
-        match act {
-            Act::Change(change) => self.change(change),
-            Act::Deliver {
-                link: _,
-                direction: _,
-            } => Ok(()),
-            Act::Expire { clock: _, timer: _ } => Ok(()),
-        }
-    }
-
-    /// How many components there are.
-    pub(crate) fn components(&self) -> usize {
-        self.components.len()
-    }
-
-    /// The best systems of a component.
-    fn best_of(&self, component: &Set) -> Option<Best> {
-        let mut best = None;
-        let mut left = *component;
-        for _node in 0..self.nodes.len() {
-            let Some(place) = left.lowest() else {
-                break;
-            };
-            left.take(place);
-            if let Some(node) = self.nodes.as_slice().get(place) {
-                best = Some(with_system(best, node.identity));
-            }
-        }
-        best
-    }
-
-    /// The best systems of a component, by its number.
-    pub(crate) fn best_at(&self, number: usize) -> Option<Best> {
-        self.best_of(self.components.as_slice().get(number)?)
-    }
-
-    /// The best of a component, by its number, if it can't be grandmaster: then no system of the component can.
-    pub(crate) fn incapable_at(&self, number: usize) -> Option<Identity> {
-        let component = self.components.as_slice().get(number)?;
-        if component.meets(&self.capable) {
-            return None;
-        }
-        Some(self.best_of(component)?.best)
+    pub(crate) fn act(&mut self, done: &Act)
+        ensures { Acted done.now self.old self.new }
+    {
+        act_on_nodes(done, self.nodes.as_mut_slice());
+        act_on_edges(done, self.edges.as_mut_slice());
     }
 }

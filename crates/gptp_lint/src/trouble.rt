@@ -2,7 +2,7 @@
 
 ghost use Rattle.std.specs.Prelude.{◌≡◌, ◌++◌, OnOk};
 ghost use Rattle.gptp_setup.specs.declared.setup.Params.{Params};
-ghost use Rattle.gptp_lint.specs.Trouble.{ended, long_at, long_of, stretches};
+ghost use Rattle.gptp_lint.specs.Trouble.{long_at, long_of, stretch_of, stretches};
 
 use gptp_plan::Params;
 use gptp_topology::{Standing, is_long, loss_in_use, needed};
@@ -58,15 +58,15 @@ pub(crate) fn long_of(params: &Params, course: &[Standing]) -> Option<Long>
     None
 }
 
-/// Puts a stretch that ends behind others, where one has begun.
-fn push_ended(
+/// Puts a stretch behind others, where its times have a loss.
+fn push_stretch(
     lossy: &mut Vec<Lossy>,
     link: usize,
     loss: u16,
     from: u64,
     to: Option<u64>,
 ) -> Result<(), AllocError>
-    ensures { OnOk result (lossy.new.items ≡ lossy.old.items ++ ended link loss from to) }
+    ensures { OnOk result (lossy.new.items ≡ lossy.old.items ++ stretch_of link loss from to) }
 {
     if loss != 0 {
         lossy.push(Lossy {
@@ -85,17 +85,17 @@ pub(crate) fn push_stretches(
     link: usize,
     course: &[Standing],
 ) -> Result<(), AllocError>
-    ensures { OnOk result (lossy.new.items ≡ lossy.old.items ++ stretches link 0 0 course.now) }
+    ensures { OnOk result (lossy.new.items ≡ lossy.old.items ++ stretches link 0 course.now) }
 {
     let mut loss = 0;
     let mut from = 0;
     for standing in course {
         let now = loss_in_use(standing);
         if now != loss {
-            push_ended(lossy, link, loss, from, Some(standing.at))?;
+            push_stretch(lossy, link, loss, from, Some(standing.at))?;
             loss = now;
             from = standing.at;
         }
     }
-    push_ended(lossy, link, loss, from, None)
+    push_stretch(lossy, link, loss, from, None)
 }

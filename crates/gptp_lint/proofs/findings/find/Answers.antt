@@ -7,6 +7,7 @@ use Rattle.gptp_plan.specs.Network.{IsNetwork, NetworkState}
 use Rattle.gptp_plan.specs.declared.network.Wire.{Wire}
 use Rattle.gptp_topology.specs.Course.{cable_of, course_of, wire_of}
 use Rattle.gptp_lint.specs.Trouble.{long_of, longs_of, lossies_of, stretches}
+use Rattle.gptp_lint.specs.Unlinked.{AreUnlinked}
 use Rattle.gptp_lint.proofs.FoundLemmas.{found, told_more}
 use Rattle.gptp_lint.proofs.findings.find.Goals as goal
 
@@ -22,7 +23,7 @@ loop-cable-preserved c =
       long = told_more (λ (w : Wire). option_to_list (long_of d.network.params (course_of d.events w)))
           c.loop-cable.long.items c.push_troubles.new.long.items (longs_of d (map wire_of cables)) cable cables i here
           c.loop-cable.invariant.long c.in_ok-push_troubles.ensures.long;
-      lossy = told_more (λ (w : Wire). stretches w.bounds.link 0 0 (course_of d.events w)) c.loop-cable.lossy.items
+      lossy = told_more (λ (w : Wire). stretches w.bounds.link 0 (course_of d.events w)) c.loop-cable.lossy.items
           c.push_troubles.new.lossy.items (lossies_of d (map wire_of cables)) cable cables i here
           c.loop-cable.invariant.lossy c.in_ok-push_troubles.ensures.lossy;
     }
@@ -34,12 +35,15 @@ returns c =
     let end = drop_all c.loop-cable.cable-index cables c.loop-cable-test.false in
     let long = c.loop-cable.long.items in
     let lossy = c.loop-cable.lossy.items in
-    found d _ cables (subst IsNetwork c.network.ensures c.well_formed-2.ensures) c.well_formed-3.ensures.events
+    found d _ cables (subst IsNetwork c.network-network.ensures c.well_formed-2.ensures) c.well_formed-3.ensures.events
     (c.deref-cable-items.ensures.value ∙ c.in_ok-cables.ensures
-    ∙ ap (λ (n : NetworkState). map cable_of n.links) c.network-2.ensures)
+    ∙ ap (λ (n : NetworkState). map cable_of n.links) c.network-network.ensures)
     (sym (append-nil long) ∙ ap (λ cs. long ++ longs_of d (map wire_of cs)) (sym end) ∙ c.loop-cable.invariant.long)
     (sym (append-nil lossy) ∙ ap (λ cs. lossy ++ lossies_of d (map wire_of cs)) (sym end)
     ∙ c.loop-cable.invariant.lossy)
+    (subst (λ (n : NetworkState). AreUnlinked n c.in_ok-unlinked.unlinked.items) c.network-network.ensures
+    c.in_ok-unlinked.ensures)
+    c.in_ok-components.ensures
     c.in_ok-calm.ensures
     (c.lapse_span.ensures.span
-    ∙ ap lapse_span (c.params.ensures ∙ ap (λ (n : NetworkState). n.params) c.network-5.ensures))
+    ∙ ap lapse_span (c.params.ensures ∙ ap (λ (n : NetworkState). n.params) c.network-network.ensures))

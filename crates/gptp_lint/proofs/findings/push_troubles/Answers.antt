@@ -35,6 +35,6 @@ returns-clause-lossy c =
     ∙ ap (λ es. course_from (first w) (naming c.args.cable.now es)) c.events.ensures in
     on_ok_weaker c.push_stretches.result
     (λ h. h ∙ ap (λ ls. c.args.lossy.now.items ++ ls)
-    (ap (stretches w.bounds.link 0 0) course ∙ lossy_is d w c.well_formed-2.ensures.events.in_order
-    ∙ sym (append-nil (stretches w.bounds.link 0 0 (course_of d.events w)))))
+    (ap (stretches w.bounds.link 0) course ∙ lossy_is d w c.well_formed-2.ensures.events.in_order
+    ∙ sym (append-nil (stretches w.bounds.link 0 (course_of d.events w)))))
     c.push_stretches.ensures
