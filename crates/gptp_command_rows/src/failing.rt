@@ -130,12 +130,7 @@ const ORDER: TimelineOrder = TimelineOrder {
         summary: false,
         offsets: true,
         limits: Limits {
-            choice: Some(0),
-            holdover: None,
-            error: None,
-            without: None,
-            roots: None,
-            alone: None,
+            most: [Some(0), None, None, None, None, None],
         },
     },
 };

@@ -508,14 +508,7 @@ asked_in_range words (Timeline order) asks =
     let limits = asks.1.2.limits in (
       asks.1.2.until.range,
       asks.1.2.seed.range,
-      (
-        limits.choice.range,
-        limits.holdover.range,
-        limits.error.range,
-        limits.without.range,
-        limits.roots.range,
-        limits.alone.range,
-      ),
+      λ limit. (limits limit).range,
     )
 asked_in_range words (Faults options) asks =
     let reads = asks.1.2 in

@@ -12,7 +12,11 @@ pub mod OnePlaceLemmas
 pub mod SameActLemmas
 pub mod OneTimelineLemmas
 pub mod CertifiedLemmas
-pub mod OneChoiceLemmas
+pub mod OneQuestionLemmas
+pub mod OneFaultsLemmas
+pub mod EveryQuestionLemmas
+pub mod EveryCheckLemmas
+pub mod EveryPlaceLemmas
 pub mod VersionLemmas
 pub mod CommandLemmas
 pub mod OptionLemmas

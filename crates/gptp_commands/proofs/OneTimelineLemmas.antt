@@ -30,11 +30,11 @@ use Rattle.gptp_time_error.specs.declared.errors.TimeErrors.{TimeErrors}
 use Rattle.gptp_time_error.proofs.OneLemmas.{errors_once}
 use Rattle.gptp_time_error.proofs.WayLemmas.{HasOneEach}
 use Rattle.gptp_timeline.specs.End.{end_behind}
-use Rattle.gptp_timeline.specs.Limits.{exceeded_after, is_exceeded, not_exceeded, verdict_lines}
+use Rattle.gptp_timeline.specs.Limits.{exceeded_after, is_exceeded, verdict_lines}
 use Rattle.gptp_timeline.specs.Shown.{shown}
 use Rattle.gptp_timeline.specs.Stretch.{counted, measured, waits}
 use Rattle.gptp_timeline.specs.StretchText.{after_line, system_accuracy}
-use Rattle.gptp_timeline.specs.Timeline.{AllPass, AreErrorsBy, IsPassage, Passage, TimelineOf, accuracy_at, accuracy_lines, all_exceeded, all_lines, is_begun, later_than, none_waits, passage_lines, start_lines, stretch_of}
+use Rattle.gptp_timeline.specs.Timeline.{AllPass, AreErrorsBy, AreErrorsIf, IsPassage, Passage, TimelineOf, accuracy_at, accuracy_lines, all_exceeded, all_lines, is_begun, later_than, none_waits, passage_lines, start_lines, stretch_of}
 use Rattle.gptp_timeline.specs.declared.limits.Limits.{Limits}
 use Rattle.gptp_timeline.specs.declared.timeline.TimelineOptions.{TimelineOptions}
 use Rattle.gptp_commands.specs.declared.failure.Status.{Status}
@@ -59,7 +59,7 @@ one_bound d at (Some m) (Some n) (_, x) (_, y) =
     ap Some (x.is ∙ ap (λ (g : Snapshot). settling_span_with (pace_of d.network) paths (path_bound g)) same ∙ sym y.is)
 
 -- as far as they are told, errors are the same, or there are none
-abbrev SameErrors : Option TimeErrors → Option TimeErrors → Type 0
+abbrev pub SameErrors : Option TimeErrors → Option TimeErrors → Type 0
 SameErrors None None = ⊤
 SameErrors None (Some u) = ⊥
 SameErrors (Some t) None = ⊥
@@ -73,22 +73,30 @@ one_errors d at to (Some t) None names x y = absurd (y t x.0 x.1)
 one_errors d at to (Some t) (Some u) names x y =
     let (time, from, systems) = errors_once d at t u names x.0 y.0 in (from, systems)
 
+-- where they aren't asked, there are none
+one_errors_if : (exact : Bool) (d : DocumentState) (at to : ℕ) (a b : Option TimeErrors) → HasOneEach d.network
+    → AreErrorsIf exact d at to a → AreErrorsIf exact d at to b → SameErrors a b
+one_errors_if true d at to a b names x y = one_errors d at to a b names x y
+one_errors_if false d at to a b names x y =
+    subst (λ (e : Option TimeErrors). SameErrors e b) (sym x)
+    (subst (λ (e : Option TimeErrors). SameErrors None e) (sym y) tt)
+
 -- ---- one stretch
 
 -- two stretches are one: when they are, what happens in them, and what is known of them
-record IsSamePassage (p q : Passage) : Type 0 where
-  from : p.from ≡ q.from
-  to : p.to ≡ q.to
-  events : p.events ≡ q.events
-  acts : SameTransitions p.acts q.acts
-  after : p.after ≡ q.after
-  bound : p.bound ≡ q.bound
-  errors : SameErrors p.errors q.errors
+pub record IsSamePassage (p q : Passage) : Type 0 where
+  pub from : p.from ≡ q.from
+  pub to : p.to ≡ q.to
+  pub events : p.events ≡ q.events
+  pub acts : SameTransitions p.acts q.acts
+  pub after : p.after ≡ q.after
+  pub bound : p.bound ≡ q.bound
+  pub errors : SameErrors p.errors q.errors
 
 module _ {F : Type 0} (answers : Bounds → ℕ → F → Option ℕ → F → Type 0) (once : AnswersOnce answers)
-    (d : DocumentState) (names : HasOneEach d.network) (until : ℕ) where
+    (exact : Bool) (d : DocumentState) (names : HasOneEach d.network) (until : ℕ) where
   one_passage : (from : ℕ) (events : List Timed) (fate f g : F) (w : WorldState) (p q : Passage) → IsNamed w
-      → IsPassage answers true d until from events fate f w p → IsPassage answers true d until from events fate g w q
+      → IsPassage answers exact d until from events fate f w p → IsPassage answers exact d until from events fate g w q
       → IsSamePassage p q × (f ≡ g)
   one_passage from events fate f g w p q is k l =
       let to : p.to ≡ q.to = k.to_is ∙ sym l.to_is in
@@ -96,8 +104,8 @@ module _ {F : Type 0} (answers : Bounds → ℕ → F → Option ℕ → F → T
       let way = courses_once answers once q.to q.events p.acts q.acts fate f g w p.after q.after is
       (subst (λ (es : List Timed). Courses answers q.to es p.acts fate f w p.after) made
       (subst (λ (time : ℕ). Courses answers time p.events p.acts fate f w p.after) to k.courses)) l.courses in
-      let errors : AreErrorsBy d from q.to p.errors =
-      subst (λ (time : ℕ). AreErrorsBy d from time p.errors) to k.errors_are in (
+      let errors : AreErrorsIf exact d from q.to p.errors =
+      subst (λ (time : ℕ). AreErrorsIf exact d from time p.errors) to k.errors_are in (
         record {
           from = k.from_is ∙ sym l.from_is;
           to = to;
@@ -105,50 +113,50 @@ module _ {F : Type 0} (answers : Bounds → ℕ → F → Option ℕ → F → T
           acts = way.acts;
           after = way.world;
           bound = one_bound d from p.bound q.bound k.bound_is l.bound_is;
-          errors = one_errors d from q.to p.errors q.errors names errors l.errors_are;
+          errors = one_errors_if exact d from q.to p.errors q.errors names errors l.errors_are;
         },
         way.fate_is,
       )
 
   passage_named : (from : ℕ) (events : List Timed) (fate f : F) (w : WorldState) (p : Passage) → IsNamed w
-      → IsPassage answers true d until from events fate f w p → IsNamed p.after
+      → IsPassage answers exact d until from events fate f w p → IsNamed p.after
   passage_named from events fate f w p is k =
       courses_named answers p.to p.events p.acts fate f w p.after is k.courses
 
 -- ---- all stretches
 
-abbrev SamePassages : List Passage → List Passage → Type 0
+abbrev pub SamePassages : List Passage → List Passage → Type 0
 SamePassages [] [] = ⊤
 SamePassages [] (q ∷ qs) = ⊥
 SamePassages (p ∷ ps) [] = ⊥
 SamePassages (p ∷ ps) (q ∷ qs) = IsSamePassage p q × SamePassages ps qs
 
 module _ {F : Type 0} (answers : Bounds → ℕ → F → Option ℕ → F → Type 0) (once : AnswersOnce answers)
-    (d : DocumentState) (names : HasOneEach d.network) (until : ℕ) where
-  all_pass_once : (from : ℕ) (events : List Timed) (fate f g : F) (w v u : WorldState) (ps qs : List Passage)
-      → IsNamed w → AllPass answers true d until from events fate f w v ps
-      → AllPass answers true d until from events fate g w u qs → SamePassages ps qs
+    (exact : Bool) (d : DocumentState) (names : HasOneEach d.network) (until : ℕ) where
+  pub all_pass_once : (from : ℕ) (events : List Timed) (fate f g : F) (w v u : WorldState) (ps qs : List Passage)
+      → IsNamed w → AllPass answers exact d until from events fate f w v ps
+      → AllPass answers exact d until from events fate g w u qs → SamePassages ps qs
   all_pass_once from events fate f g w v u [] qs is k l = absurd k
   all_pass_once from events fate f g w v u (p ∷ []) [] is k l = absurd l
   all_pass_once from events fate f g w v u (p ∷ []) (q ∷ []) is (k, _, _) (l, _, _) =
-      ((one_passage answers once d names until from events fate f g w p q is k l).0, tt)
+      ((one_passage answers once exact d names until from events fate f g w p q is k l).0, tt)
   all_pass_once from events fate f g w v u (p ∷ []) (q ∷ (q2 ∷ qs)) is (_, last, _) (_, _, more, _) =
       absurd (more last)
   all_pass_once from events fate f g w v u (p ∷ (p2 ∷ ps)) [] is k l = absurd l
   all_pass_once from events fate f g w v u (p ∷ (p2 ∷ ps)) (q ∷ []) is (_, _, more, _) (_, last, _) =
       absurd (more last)
   all_pass_once from events fate f g w v u (p ∷ (p2 ∷ ps)) (q ∷ (q2 ∷ qs)) is (x, k, _, ks) (y, l, _, ls) =
-      let (first, fates) = one_passage answers once d names until from events fate x y w p q is k l in
+      let (first, fates) = one_passage answers once exact d names until from events fate x y w p q is k l in
       let left = later_than from events in
       let On : ℕ → F → WorldState → Type 0 =
-      λ time drawn a. AllPass answers true d until time left drawn f a v (p2 ∷ ps) in
+      λ time drawn a. AllPass answers exact d until time left drawn f a v (p2 ∷ ps) in
       let on : On q.to y q.after =
       subst (λ (a : WorldState). On q.to y a) first.after
       (subst (λ (drawn : F). On q.to drawn p.after) fates
       (subst (λ (time : ℕ). On time x p.after) first.to ks)) in (
         first,
         all_pass_once q.to left y f g q.after v u (p2 ∷ ps) (q2 ∷ qs)
-            (passage_named answers once d names until from events fate y w q is l) on ls,
+            (passage_named answers once exact d names until from events fate y w q is l) on ls,
       )
 
 -- ---- their lines
@@ -168,7 +176,7 @@ same_accuracy ts us (Some t) (Some u) k (from, systems) =
     ap₂ (λ (time : Option ℕ) (errors : List SystemError). accuracy_at time ts errors) from systems
     ∙ same_accuracy_at u.from ts us u.systems.items k
 
-same_stretch : (names : List ℕ) (since : ℕ → Option ℕ) (p q : Passage) → IsSamePassage p q
+pub same_stretch : (names : List ℕ) (since : ℕ → Option ℕ) (p q : Passage) → IsSamePassage p q
     → stretch_of names since p ≡ stretch_of names since q
 same_stretch names since p q k =
     let measures = same_measures names since p.to p.acts q.acts k.acts
@@ -229,16 +237,17 @@ one_timeline_of {F} answers once d until options fate xs ys a b names is k l =
     let pass : AllPass answers true d until 0 events l.started k.fate_after l.start k.after k.passages =
     subst (λ (w : WorldState). AllPass answers true d until 0 events l.started k.fate_after w k.after k.passages) starts
     (subst (λ (f : F). AllPass answers true d until 0 events f k.fate_after k.start k.after k.passages) fates k.pass) in
-    let same = all_pass_once answers once d names until 0 events l.started k.fate_after l.fate_after l.start k.after
-    l.after k.passages l.passages (begun_named answers d.network fate l.started l.start is l.begun) pass l.pass in
+    let same = all_pass_once answers once true d names until 0 events l.started k.fate_after l.fate_after l.start
+    k.after l.after k.passages l.passages (begun_named answers d.network fate l.started l.start is l.begun) pass
+    l.pass in
     let clocks = rising_clocks l.start in
-    let counted : all_exceeded options.limits clocks none_waits k.passages not_exceeded
-    ≡ all_exceeded options.limits clocks none_waits l.passages not_exceeded = λ i.
-    same_exceeded options.limits clocks none_waits none_waits k.passages l.passages refl same i not_exceeded in
+    let counted : all_exceeded options.limits clocks none_waits k.passages None
+    ≡ all_exceeded options.limits clocks none_waits l.passages None = λ i.
+    same_exceeded options.limits clocks none_waits none_waits k.passages l.passages refl same i None in
     let verdicts : k.verdict ≡ l.verdict =
     k.verdict_is
     ∙ ap (λ (w : WorldState).
-    all_exceeded options.limits (rising_clocks w) none_waits k.passages not_exceeded) starts
+    all_exceeded options.limits (rising_clocks w) none_waits k.passages None) starts
     ∙ counted ∙ sym l.verdict_is in
     let told = same_lines options clocks none_waits k.passages l.passages same in
     let parts : start_lines options clocks l.start ++ all_lines options clocks none_waits k.passages
@@ -263,7 +272,7 @@ one_end None d m n x y =
     x.is ∙ ap (end_behind d.network d.events) same ∙ sym y.is
 
 -- ways are determined where names mean one thing
-each_named : (d : DocumentState) → NamesOne d.network → HasOneEach d.network
+pub each_named : (d : DocumentState) → NamesOne d.network → HasOneEach d.network
 each_named d names = record { clocks = names.clocks; one_link = names.one_link }
 
 plays_timeline_once : (d : DocumentState) (order : TimelineOrder) (a b : List (List ℕ)) (s t : Status)

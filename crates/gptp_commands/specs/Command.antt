@@ -24,6 +24,8 @@ use Rattle.gptp_commands.specs.declared.question.Question.TheVariants.{Accuracy,
 use Rattle.gptp_commands.specs.declared.run.RunOptions.{RunOptions}
 use Rattle.gptp_commands.specs.declared.timeline.TimelineOrder.{TimelineOrder}
 use Rattle.gptp_commands.specs.Version.{AsksVersion}
+use Rattle.gptp_timeline.specs.Limits.{all_limits, most_of, option_name}
+use Rattle.gptp_timeline.specs.declared.limits.Limit.{Limit}
 use Rattle.gptp_timeline.specs.declared.limits.Limits.{Limits}
 
 -- `--until NS`, at most 10^15
@@ -123,10 +125,15 @@ file_rule = record (new_rule (codes "file")) { action = Some Set; value_names = 
 abbrev pub clock_rule : Rule
 clock_rule = record (new_rule (codes "clock")) { action = Some Set; value_names = 1; required = true }
 
+-- a command with the options that give these limits
+abbrev pub with_limits : App → List Limit → App
+with_limits command [] = command
+with_limits command (limit ∷ others) = with_limits (with_rule command (limit_rule (option_name limit))) others
+
 -- the command `compare`, which has no options, the command `run`, which has four, the command `timeline`, which has
--- ten, the command `check`, which has a file and two options, the command `choice`, which has one option, the command
--- `accuracy`, which has two, the command `explain`, which has a clock and one option, and the command `lint`, which
--- has a flag
+-- four and those that give limits, the command `check`, which has a file and two options, the command `choice`, which
+-- has one option, the command `accuracy`, which has two, the command `explain`, which has a clock and one option, and
+-- the command `lint`, which has a flag
 abbrev pub compare_command : App
 compare_command = new_app (codes "compare")
 
@@ -137,20 +144,15 @@ played_command = with_rule (with_rule (new_app (codes "run")) until_rule) seed_r
 abbrev pub run_command : App
 run_command = with_rule (with_rule played_command frames_rule) certificate_rule
 
--- `timeline` without its limits, and with those of times
+-- `timeline` without its limits
 abbrev pub told_command : App
 told_command = with_rule (with_rule (with_rule (with_rule (new_app (codes "timeline")) until_rule) seed_rule)
     summary_rule) offsets_rule
 
-abbrev pub timed_command : App
-timed_command = with_rule (with_rule (with_rule told_command (limit_rule (codes "max-choice")))
-    (limit_rule (codes "max-holdover"))) (limit_rule (codes "max-error"))
-
 abbrev pub timeline_command : App
-timeline_command = with_rule (with_rule (with_rule timed_command (limit_rule (codes "max-without")))
-    (limit_rule (codes "max-roots"))) (limit_rule (codes "max-alone"))
+timeline_command = with_limits told_command all_limits
 
--- `faults` without its limits, and with those of times
+-- `faults` without its limits
 abbrev pub repeated_command : App
 repeated_command = with_rule (with_rule (new_app (codes "faults")) (count_rule (codes "seeds") 1000 (codes "1")))
     (count_rule (codes "moments") 1000 (codes "8"))
@@ -162,13 +164,8 @@ abbrev pub dealt_command : App
 dealt_command = with_rule (with_rule (with_rule placed_command (count_rule (codes "parts") 10000 (codes "1")))
     (count_rule (codes "part") 10000 (codes "1"))) progress_rule
 
-abbrev pub measured_command : App
-measured_command = with_rule (with_rule (with_rule dealt_command (limit_rule (codes "max-choice")))
-    (limit_rule (codes "max-holdover"))) (limit_rule (codes "max-error"))
-
 abbrev pub faults_command : App
-faults_command = with_rule (with_rule (with_rule measured_command (limit_rule (codes "max-without")))
-    (limit_rule (codes "max-roots"))) (limit_rule (codes "max-alone"))
+faults_command = with_limits dealt_command all_limits
 
 abbrev pub check_command : App
 check_command = with_rule (with_rule (with_rule (new_app (codes "check")) file_rule) until_rule) where_rule
@@ -309,14 +306,9 @@ pub record ReadsRun (rows : List Row) (options : RunOptions) : Type 0 where
   pub frames : IsFlag (one_of (codes "frames") rows) options.frames
   pub certificate : IsFlag (one_of (codes "certificate") rows) options.certificate
 
--- the limits of `timeline`, by what was found for its arguments
-pub record ReadsLimits (rows : List Row) (limits : Limits) : Type 0 where
-  pub choice : IsUntil (one_of (codes "max-choice") rows) limits.choice
-  pub holdover : IsUntil (one_of (codes "max-holdover") rows) limits.holdover
-  pub error : IsUntil (one_of (codes "max-error") rows) limits.error
-  pub without : IsUntil (one_of (codes "max-without") rows) limits.without
-  pub roots : IsUntil (one_of (codes "max-roots") rows) limits.roots
-  pub alone : IsUntil (one_of (codes "max-alone") rows) limits.alone
+-- the limits of `timeline` or `faults`, each by what was found for its option
+abbrev pub ReadsLimits : List Row → Limits → Type 0
+ReadsLimits rows limits = (limit : Limit) → IsUntil (one_of (option_name limit) rows) (most_of limits limit)
 
 -- the options of `timeline`
 pub record ReadsTimeline (rows : List Row) (order : TimelineOrder) : Type 0 where
@@ -455,9 +447,7 @@ AreInRange options = IsEndInRange options.until × (options.seed < 2 ^ 32)
 
 -- the limits of `timeline` are in their range
 abbrev pub LimitsAreInRange : Limits → Type 0
-LimitsAreInRange limits =
-    IsEndInRange limits.choice × IsEndInRange limits.holdover × IsEndInRange limits.error
-    × IsEndInRange limits.without × IsEndInRange limits.roots × IsEndInRange limits.alone
+LimitsAreInRange limits = (limit : Limit) → IsEndInRange (most_of limits limit)
 
 -- the numbers of a question are in their ranges
 abbrev pub QuestionIsInRange : Question → Type 0

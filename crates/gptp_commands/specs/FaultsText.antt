@@ -4,6 +4,7 @@ use Rattle.gptp_network.specs.declared.fault.DocumentFault.{DocumentFault}
 use Rattle.gptp_network.specs.declared.fault.DocumentFault.TheVariants.{TooMany}
 use Rattle.gptp_network.specs.Document.{DocumentState, Fails, Means}
 use Rattle.gptp_faults.specs.Faults.{FaultsOf}
+use Rattle.gptp_faults.specs.Laws.{FollowSettled}
 use Rattle.gptp_faults.specs.Refusals.{RefusesFaults}
 use Rattle.gptp_faults.specs.declared.options.FaultsOptions.{FaultsOptions}
 use Rattle.gptp_commands.specs.declared.failure.Status.{Status}
@@ -11,11 +12,12 @@ use Rattle.gptp_commands.specs.Failure.{status_by}
 use Rattle.gptp_commands.specs.Limited.{Limited}
 use Rattle.gptp_commands.specs.Documents.{document_limit, RefusesFault}
 
--- the table of its cases; it is refused where a limit is exceeded, and where it would be with the two events of some
--- run
+-- The table of its cases, whose `follow` lines are those of the settled choice where faults stay by default and are
+-- bounded. It is refused where a limit is exceeded, and where it would be with the two events of some run.
 abbrev pub TellsFaults : DocumentState → FaultsOptions → List (List ℕ) → Status → Type 0
 TellsFaults d options output status =
-    ((exceeded : Bool) × FaultsOf d options output exceeded × (status ≡ status_by exceeded))
+    ((exceeded : Bool) × (f : FaultsOf d options output exceeded) × FollowSettled d options f.times.from f.outcomes
+    × (status ≡ status_by exceeded))
     ⊎ ((fault : DocumentFault) × RefusesFaults d options fault × RefusesFault fault output status)
 
 -- an input is a document, of which this is told, or fails a test

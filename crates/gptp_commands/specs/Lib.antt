@@ -6,6 +6,7 @@ pub mod Announced
 pub mod Answer
 pub mod Limited
 pub mod Written
+pub mod Every
 pub mod Documents
 pub mod CompareText
 pub mod RunText

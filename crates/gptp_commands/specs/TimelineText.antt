@@ -2,6 +2,7 @@
 use Rattle.std.specs.Prelude.{◌≡◌, ℕ, Bool, List, Option, Some, None}
 use Rattle.gptp_network.specs.Document.{DocumentState}
 use Rattle.gptp_timeline.specs.End.{IsDefaultEnd}
+use Rattle.gptp_timeline.specs.Laws.{IsRight}
 use Rattle.gptp_timeline.specs.Timeline.{BeginsTimeline, TimelineOf}
 use Rattle.gptp_commands.specs.declared.failure.Status.{Status}
 use Rattle.gptp_commands.specs.declared.timeline.TimelineOrder.{TimelineOrder}
@@ -14,14 +15,16 @@ abbrev pub EndsAt : Option ℕ → DocumentState → ℕ → Type 0
 EndsAt (Some asked) d until = until ≡ asked
 EndsAt None d until = IsDefaultEnd d until
 
--- the timeline of a document, with delays and losses drawn from the generator of the seed; it is refused where a limit
--- is exceeded
+-- The timeline of a document, with delays and losses drawn from the generator of the seed, which is right: as a run of
+-- the document, in its last lines, its bounds, whom systems follow then, and its errors. It is refused where a limit is
+-- exceeded.
 pub record PlaysTimeline (d : DocumentState) (order : TimelineOrder) (output : List (List ℕ)) (status : Status) : Type
     0 where
   pub until : ℕ
   pub ends : EndsAt order.until d until
   pub exceeded : Bool
   pub timeline : TimelineOf draws d until order.options (generator order.seed) output exceeded
+  pub right : IsRight draws d until order.options (generator order.seed) output exceeded timeline
   pub status_is : status ≡ status_by exceeded
 
 abbrev pub TellsTimeline : TimelineOrder → DocumentState → List (List ℕ) → Status → Type 0

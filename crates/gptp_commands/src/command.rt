@@ -2,19 +2,20 @@
 
 ghost use Rattle.std.specs.Prelude.{◌≡◌, ◌⊎◌, ◌≤◌, List, ℕ, Err, IfErr, IfNone, IfOk, IfSome, Ok, Some, codes, false, map, string_bytes};
 ghost use Rattle.std.specs.Process.{exit_status as process_status};
-ghost use Rattle.clap.specs.Words.{app_of, first_of, found_of, new_app, one_text, rows_of, rule_of, with_rule};
+ghost use Rattle.clap.specs.Words.{app_of, first_of, found_of, new_app, one_of, one_text, rows_of, rule_of, with_rule};
 ghost use Rattle.clap.specs.declared.builder.command.Command.TheViews.{out-Command as fields_of};
 ghost use Rattle.gptp_commands.specs.Command.{AsksFor, Enters, IsTaken, IsUntil, IsSeed, LacksClock, OrderIsInRange, ReadsCheck, ReadsLimits, ReadsQuestion, ReadsRun, ReadsTimeline, RefusesClock};
 ghost use Rattle.gptp_commands.specs.Command.{command_line_status, program};
 ghost use Rattle.gptp_commands.specs.Command.{certificate_rule, clock_rule, file_rule, frames_rule, limit_rule, max_error_rule, offsets_rule, seed_rule, summary_rule, until_rule, where_rule};
 ghost use Rattle.gptp_commands.specs.Command.{accuracy_command, check_command, choice_command, explain_command, first_program, played_command, run_command};
 ghost use Rattle.gptp_commands.specs.Command.{choosing_program, lint_command, simulating_program, strict_rule};
-ghost use Rattle.gptp_commands.specs.Command.{timed_command, timeline_command, told_command};
-ghost use Rattle.gptp_commands.specs.Command.{count_rule, dealt_command, faults_command, hold_rule, measured_command, only_rule};
+ghost use Rattle.gptp_commands.specs.Command.{timeline_command, told_command, with_limits};
+ghost use Rattle.gptp_commands.specs.Command.{count_rule, dealt_command, faults_command, hold_rule, only_rule};
 ghost use Rattle.gptp_commands.specs.Command.{IsCount, LacksKind, LacksPart, ReadsFaults, ReadsKind, RefusesCases, kind_of_text, placed_command, progress_rule, repeated_command};
 ghost use Rattle.gptp_commands.specs.Version.{AsksVersion};
 ghost use Rattle.gptp_commands.specs.declared.command.CommandLineError.TheVariants.{Memory};
 ghost use Rattle.gptp_network.specs.Values.{clock_of_text};
+ghost use Rattle.gptp_timeline.specs.Limits.{option_name};
 ghost use Rattle.gptp_network.specs.declared.fault.DocumentFault.TheVariants.{OutOfRange};
 ghost use Rattle.gptp_commands.specs.declared.question.Question.TheVariants.{Accuracy, Choice, Explain, Lint};
 
@@ -29,7 +30,7 @@ use clap::error::ErrorKind;
 use clap::{Arg, ArgAction, ArgMatches, Command};
 use gptp_faults::{FaultsOptions, Only};
 use gptp_report::sink::{CountedWriter, Sink, WriteFailed};
-use gptp_timeline::{Limits, TimelineOptions};
+use gptp_timeline::{Limit, Limits, TimelineOptions};
 use gptp_vector::ClockId;
 use hex::FromHex;
 use std::alloc::{AllocError, Global};
@@ -275,7 +276,61 @@ fn max_error_option<'a>(alloc: Global) -> Arg<'a>
         .help("Say whether each system's error is at most this, in ns")
 }
 
-/// An option of `timeline` that gives the greatest number of something.
+/// A command that takes limits.
+#[derive(Clone, Copy)]
+enum Limited {
+    Timeline,
+    Faults,
+}
+
+/// What help calls the value of the option that gives a limit.
+fn limit_value(limit: Limit) -> &'static str {
+    match limit {
+        Limit::Choice | Limit::Holdover | Limit::Error => "NS",
+        Limit::Without | Limit::Roots | Limit::Alone => "N",
+    }
+}
+
+/// What help says of the option that gives a limit.
+fn limit_help(limited: Limited, limit: Limit) -> &'static str {
+    match (limited, limit) {
+        (Limited::Timeline, Limit::Choice) => {
+            "Say whether behind each event the choice stands within this, in ns"
+        }
+        (Limited::Timeline, Limit::Holdover) => {
+            "Say whether behind each event no system waits longer for time than this, in ns"
+        }
+        (Limited::Timeline, Limit::Without) => {
+            "Say whether where a stretch ends at most so many systems go without time"
+        }
+        (Limited::Timeline, Limit::Roots) => {
+            "Say whether at most so many roots are followed there by two systems or more"
+        }
+        (Limited::Timeline, Limit::Alone) => {
+            "Say whether at most so many systems follow a root there that no other does"
+        }
+        (Limited::Faults, Limit::Choice) => {
+            "Say whether the choice always stands within this, in ns"
+        }
+        (Limited::Faults, Limit::Holdover) => {
+            "Say whether no system ever waits longer for time than this, in ns"
+        }
+        (Limited::Faults, Limit::Without) => {
+            "Say whether at most so many systems go without time in the end"
+        }
+        (Limited::Faults, Limit::Roots) => {
+            "Say whether at most so many roots are followed then by two systems or more"
+        }
+        (Limited::Faults, Limit::Alone) => {
+            "Say whether at most so many systems follow a root then that no other does"
+        }
+        (Limited::Timeline | Limited::Faults, Limit::Error) => {
+            "Say whether each receipt of time is off by at most this, in ns"
+        }
+    }
+}
+
+/// An option of `timeline` or `faults` that gives the greatest number of something.
 fn limit_option<'a>(
     alloc: Global,
     name: &'static str,
@@ -291,6 +346,29 @@ fn limit_option<'a>(
         .value_name(value_name)
         .value_parser(clap::value_parser!(u64).range(0..=1_000_000_000_000_000))
         .help(help)
+}
+
+/// A command with the options that give these limits.
+fn with_limits<'a>(
+    alloc: Global,
+    command: Command<'a>,
+    limited: Limited,
+    limits: &[Limit],
+) -> Result<Command<'a>, AllocError>
+    requires { (fields_of command).has_globals ≡ false }
+    ensures app { IfOk result (λ after. app_of after ≡ with_limits (app_of command.entry) limits.now) }
+    ensures local { IfOk result (λ after. (fields_of after).has_globals ≡ false) }
+{
+    let mut command = command;
+    for limit in limits {
+        command = command.arg(limit_option(
+            alloc,
+            limit.option(),
+            limit_value(*limit),
+            limit_help(limited, *limit),
+        ))?;
+    }
+    Ok(command)
 }
 
 /// An option of `faults` that says how often each case is tried.
@@ -508,56 +586,12 @@ fn told_grammar<'a>(alloc: Global) -> Result<Command<'a>, AllocError>
         .arg(offsets_option(alloc))
 }
 
-/// The same with the limits of times.
-fn timed_grammar<'a>(alloc: Global) -> Result<Command<'a>, AllocError>
-    ensures app { IfOk result (λ command. app_of command ≡ timed_command) }
-    ensures local { IfOk result (λ command. (fields_of command).has_globals ≡ false) }
-{
-    told_grammar(alloc)?
-        .arg(limit_option(
-            alloc,
-            "max-choice",
-            "NS",
-            "Say whether behind each event the choice stands within this, in ns",
-        ))?
-        .arg(limit_option(
-            alloc,
-            "max-holdover",
-            "NS",
-            "Say whether behind each event no system waits longer for time than this, in ns",
-        ))?
-        .arg(limit_option(
-            alloc,
-            "max-error",
-            "NS",
-            "Say whether each receipt of time is off by at most this, in ns",
-        ))
-}
-
 /// The command `timeline` with all its options.
 fn timeline_grammar<'a>(alloc: Global) -> Result<Command<'a>, AllocError>
     ensures app { IfOk result (λ command. app_of command ≡ timeline_command) }
     ensures local { IfOk result (λ command. (fields_of command).has_globals ≡ false) }
 {
-    timed_grammar(alloc)?
-        .arg(limit_option(
-            alloc,
-            "max-without",
-            "N",
-            "Say whether where a stretch ends at most so many systems go without time",
-        ))?
-        .arg(limit_option(
-            alloc,
-            "max-roots",
-            "N",
-            "Say whether at most so many roots are followed there by two systems or more",
-        ))?
-        .arg(limit_option(
-            alloc,
-            "max-alone",
-            "N",
-            "Say whether at most so many systems follow a root there that no other does",
-        ))
+    with_limits(alloc, told_grammar(alloc)?, Limited::Timeline, &Limit::ALL)
 }
 
 /// The command `check` with its file and its option.
@@ -685,56 +719,12 @@ fn dealt_grammar<'a>(alloc: Global) -> Result<Command<'a>, AllocError>
         .arg(progress_option(alloc))
 }
 
-/// The same with the limits of times.
-fn measured_grammar<'a>(alloc: Global) -> Result<Command<'a>, AllocError>
-    ensures app { IfOk result (λ command. app_of command ≡ measured_command) }
-    ensures local { IfOk result (λ command. (fields_of command).has_globals ≡ false) }
-{
-    dealt_grammar(alloc)?
-        .arg(limit_option(
-            alloc,
-            "max-choice",
-            "NS",
-            "Say whether the choice always stands within this, in ns",
-        ))?
-        .arg(limit_option(
-            alloc,
-            "max-holdover",
-            "NS",
-            "Say whether no system ever waits longer for time than this, in ns",
-        ))?
-        .arg(limit_option(
-            alloc,
-            "max-error",
-            "NS",
-            "Say whether each receipt of time is off by at most this, in ns",
-        ))
-}
-
 /// The command `faults` with all its options.
 fn faults_grammar<'a>(alloc: Global) -> Result<Command<'a>, AllocError>
     ensures app { IfOk result (λ command. app_of command ≡ faults_command) }
     ensures local { IfOk result (λ command. (fields_of command).has_globals ≡ false) }
 {
-    measured_grammar(alloc)?
-        .arg(limit_option(
-            alloc,
-            "max-without",
-            "N",
-            "Say whether at most so many systems go without time in the end",
-        ))?
-        .arg(limit_option(
-            alloc,
-            "max-roots",
-            "N",
-            "Say whether at most so many roots are followed then by two systems or more",
-        ))?
-        .arg(limit_option(
-            alloc,
-            "max-alone",
-            "N",
-            "Say whether at most so many systems follow a root then that no other does",
-        ))
+    with_limits(alloc, dealt_grammar(alloc)?, Limited::Faults, &Limit::ALL)
 }
 
 /// The program with its first command, of which one has to be named.
@@ -828,17 +818,19 @@ fn options_in(matches: &ArgMatches) -> RunOptions
     }
 }
 
+/// The greatest that the command line gives for a limit.
+fn limit_in(matches: &ArgMatches, limit: Limit) -> Option<u64>
+    ensures { IsUntil (one_of (option_name limit) (rows_of (found_of matches.now))) result }
+{
+    nanoseconds_in(matches, limit.option())
+}
+
 /// The limits that the command line gives.
 fn limits_in(matches: &ArgMatches) -> Limits
     ensures { ReadsLimits (rows_of (found_of matches.now)) result }
 {
     Limits {
-        choice: nanoseconds_in(matches, "max-choice"),
-        holdover: nanoseconds_in(matches, "max-holdover"),
-        error: nanoseconds_in(matches, "max-error"),
-        without: nanoseconds_in(matches, "max-without"),
-        roots: nanoseconds_in(matches, "max-roots"),
-        alone: nanoseconds_in(matches, "max-alone"),
+        most: Limit::ALL.map(|limit| limit_in(matches, limit)),
     }
 }
 

@@ -5,7 +5,7 @@ ghost use Rattle.std.specs.Io.KnownBytes.{Keeps};
 ghost use Rattle.gptp_faults.specs.Times.{AreOptions};
 ghost use Rattle.gptp_commands.specs.FaultsText.{AnswersFaults, FaultsText, TellsFaults};
 ghost use Rattle.gptp_commands.specs.Output.{IsOutput};
-ghost use Rattle.gptp_commands.specs.Documents.{document_limit};
+ghost use Rattle.gptp_commands.specs.Documents.{IsRead, document_limit};
 ghost use Rattle.gptp_commands.specs.Source.{ReadsWhole, TakesAtMost};
 ghost use Rattle.gptp_commands.specs.Written.{Writes, WritesFront};
 
@@ -14,7 +14,7 @@ use crate::failure::{SimError, Status};
 use crate::output::Output;
 use crate::reading::read_whole;
 use crate::source::Source;
-use gptp_faults::{Answer, FaultsOptions, fail_each};
+use gptp_faults::{Answer, FaultsOptions, fail_each, follow_lines_settle};
 use gptp_network::{Document, DocumentFault};
 use gptp_report::sink::Sink;
 use gptp_report::write_whole;
@@ -27,12 +27,16 @@ fn answer_document<P: Sink>(
     options: &FaultsOptions,
     progress: &mut P,
 ) -> Result<Output, SimError>
-    requires { AreOptions options.now }
+    requires options { AreOptions options.now }
+    requires read { IsRead document.old }
     ensures tells { IfOk result (IsOutput (TellsFaults document.old options.now)) }
     ensures no_read { result ≢ Err SimError.Read }
     ensures works { result ≢ Err SimError.Write → P.failures progress.new ≡ P.failures progress.old }
     ensures fails { result ≡ Err SimError.Write → P.failures progress.new ≢ P.failures progress.old }
 {
+    document.well_formed();
+    document.network().well_formed();
+    follow_lines_settle();
     match fail_each(alloc, document, options, progress) {
         Ok(Answer::Refused(fault)) => refuse(alloc, fault),
         Ok(Answer::Table { text, exceeded }) => {
@@ -83,6 +87,9 @@ fn output_of<P: Sink>(
 
 /// Reads a document, lets each link in use and each live system fail and come back, and writes what becomes of its network,
 /// the worst case first. A line is written to `progress` before each case, where that is asked for.
+///
+/// Where faults stay by default, and the `down` line of a case has a bound, its `follow` lines are those of the settled
+/// choice of the network without what has failed.
 ///
 /// A document that is refused, also with the two events of some run, is the one line `refused` with the number and name of
 /// [`gptp_network::DocumentFault`]. Of an input of more than 33,554,432 octets no more than one further octet is read, and it

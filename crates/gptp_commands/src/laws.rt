@@ -9,6 +9,9 @@ ghost use Rattle.gptp_commands.specs.Certified.{AsksAtRest, AsksTheSame, EndsAcc
 ghost use Rattle.gptp_commands.specs.CheckText.{CheckText};
 ghost use Rattle.gptp_commands.specs.Command.{IsPlain, IsTaken};
 ghost use Rattle.gptp_commands.specs.CompareText.{BeginsCompare, CompareText};
+ghost use Rattle.gptp_commands.specs.Every.{HasText};
+ghost use Rattle.gptp_commands.specs.FaultsText.{FaultsText};
+ghost use Rattle.gptp_faults.specs.declared.options.FaultsOptions.{FaultsOptions};
 ghost use Rattle.gptp_commands.specs.QuestionText.{QuestionText};
 ghost use Rattle.gptp_commands.specs.declared.question.Question.TheVariants as questions;
 ghost use Rattle.gptp_commands.specs.RunText.{BeginsRun, RunText};
@@ -73,6 +76,56 @@ pub fn one_choice()
     ensures { (until : Option ℕ) (input : List ℕ) (a b : List (List ℕ)) (s t : Status)
         → QuestionText (questions.Choice until) input a s → QuestionText (questions.Choice until) input b t
         → (a ≡ b) × (s ≡ t) }
+{}
+
+/// A document has one text of its accuracy at a time, and one status, at most.
+/// [`answer_question`](crate::question::answer_question) finds them wherever memory and the devices serve.
+pub fn one_accuracy()
+    ensures { (until max_error : Option ℕ) (input : List ℕ) (a b : List (List ℕ)) (s t : Status)
+        → QuestionText (questions.Accuracy until max_error) input a s
+        → QuestionText (questions.Accuracy until max_error) input b t → (a ≡ b) × (s ≡ t) }
+{}
+
+/// A document has one text of what is explained of a clock at a time, and one status, at most.
+/// [`answer_question`](crate::question::answer_question) finds them wherever memory and the devices serve.
+pub fn one_explanation()
+    ensures { (clock : ℕ) (until : Option ℕ) (input : List ℕ) (a b : List (List ℕ)) (s t : Status)
+        → QuestionText (questions.Explain clock until) input a s
+        → QuestionText (questions.Explain clock until) input b t → (a ≡ b) × (s ≡ t) }
+{}
+
+/// A document and what is asked of its faults have one text and one status at most. [`faults`](crate::faults::faults)
+/// finds them wherever memory and the devices serve.
+pub fn one_faults()
+    ensures { (options : FaultsOptions) (input : List ℕ) (a b : List (List ℕ)) (s t : Status)
+        → FaultsText options input a s → FaultsText options input b t → (a ≡ b) × (s ≡ t) }
+{}
+
+/// Every document and certificate have a text of `check`, at each time.
+pub fn every_input_has_a_check()
+    ensures { (until : Option ℕ) (certificate document : List ℕ) → HasText (CheckText until certificate) document }
+{}
+
+/// Every document and certificate have a text of `check --where`, at each time.
+pub fn every_input_has_a_place()
+    ensures { (until : Option ℕ) (certificate document : List ℕ) → HasText (WhereText until certificate) document }
+{}
+
+/// Every input has a text of its choice, at each time.
+pub fn every_input_has_a_choice()
+    ensures { (until : Option ℕ) (input : List ℕ) → HasText (QuestionText (questions.Choice until)) input }
+{}
+
+/// Every input has a text of its accuracy, at each time and with each greatest error.
+pub fn every_input_has_an_accuracy()
+    ensures { (until max_error : Option ℕ) (input : List ℕ)
+        → HasText (QuestionText (questions.Accuracy until max_error)) input }
+{}
+
+/// Every input has a text of what is explained of each clock, at each time.
+pub fn every_input_has_an_explanation()
+    ensures { (clock : ℕ) (until : Option ℕ) (input : List ℕ)
+        → HasText (QuestionText (questions.Explain clock until)) input }
 {}
 
 /// What `run` certifies of a document that is at rest at its end, [`check`](crate::check::check) accepts of that document,

@@ -57,6 +57,8 @@ impl DocumentCommand for TimelineOrder {
         document: &Document,
         sink: &mut K,
     ) -> Result<Status, Cut> {
+        document.well_formed();
+        document.network().well_formed();
         let until = until_of(alloc, document, self)?;
         let fate = PcgFate::new(self.seed);
         let exceeded = write_timeline(alloc, document, fate, until, &self.options, sink)?;
@@ -66,6 +68,10 @@ impl DocumentCommand for TimelineOrder {
 
 /// Reads a document, a network and its events as TOML, lets them run up to a time, and writes act by act which event is made
 /// and what each act leaves another at which system, and where each stretch between times of events ends what became of it.
+///
+/// The acts are those of [`run`](crate::run::run) to the same end, and the last line of each system and port tells what
+/// it shows there. Where a stretch has a bound, it settles within that; where it lasts as long, each near system follows
+/// the best of its component where it ends. No error of a receipt is above the bound of its `accuracy` line.
 ///
 /// A document that is refused is the one line `refused` with the number and name of [`gptp_network::DocumentFault`]. Of an
 /// input of more than 33,554,432 octets no more than one further octet is read, and it is `refused 11 TooMany`. The document

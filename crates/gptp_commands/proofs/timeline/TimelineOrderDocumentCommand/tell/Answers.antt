@@ -1,6 +1,9 @@
-use Rattle.std.proofs.Common.{[], inl, inr, refl}
+use Rattle.std.proofs.Common.{◌≤◌, ◌^◌, [], arith, inl, inr, refl}
 use Rattle.std.proofs.lemmas.Result.{on_err_weaker}
+use Rattle.gptp_reached.proofs.OctetLemmas.{documents_playable}
 use Rattle.gptp_sink.proofs.SinkLemmas.{after_error, none_of}
+use Rattle.gptp_timeline.proofs.RightLemmas.{timelines_are_right}
+use Rattle.gptp_commands.specs.RunText.{draws, generator}
 use Rattle.gptp_commands.proofs.timeline.TimelineOrderDocumentCommand.tell.Goals as goal
 
 -- nothing was written
@@ -19,13 +22,21 @@ returns-in_err-exceeded-clause-some g c =
 
 pub returns-clause-whole : goal.returns-clause-whole
 returns-clause-whole g c =
-    let whole = rw c.new-fate.ensures at c.in_ok-exceeded.ensures.whole in (
+    let whole = rw c.new-fate.ensures at c.in_ok-exceeded.ensures.whole in
+    let network = rw c.network.ensures at c.well_formed-3.ensures in
+    let playable = documents_playable c.requires.read.0 c.args.document.now c.requires.read.1 network
+    c.well_formed-2.ensures.events in
+    let until = c.in_ok-until.until in
+    let bound = c.in_ok-until.ensures.bound in
+    let early : until ≤ 10 ^ 18 = omega (arith, bound) in (
       whole.0,
       record {
-        until = c.in_ok-until.until;
+        until = until;
         ends = c.in_ok-until.ensures.end;
         exceeded = c.in_ok-exceeded.exceeded;
         timeline = whole.1;
+        right = timelines_are_right draws c.args.document.now until c.args.self.now.options
+            (generator c.args.self.now.seed) whole.0 c.in_ok-exceeded.exceeded whole.1 playable early;
         status_is = c.of_refusal.ensures;
       },
       whole.2,

@@ -1,0 +1,140 @@
+-- A document and what is asked of its faults have one text, and one status.
+use Rattle.std.proofs.Common.{◌⊎◌, ◌≡◌, ℕ, Bool, true, false, nat_le, List, [], ◌∷◌, length, map, Option, refl, sym, ap, ap₂, subst, ◌∙◌, inl, inr}
+use Rattle.std.specs.Bool.{MatchBool}
+use Rattle.gptp_acts.specs.Initial.{initial}
+use Rattle.gptp_acts.specs.Views.{rising_clocks}
+use Rattle.gptp_acts.specs.World.{WorldState}
+use Rattle.gptp_links.specs.declared.bounds.Bounds.{Bounds}
+use Rattle.gptp_network.specs.Document.{DocumentState}
+use Rattle.gptp_network.specs.Snapshot.{events_by}
+use Rattle.gptp_network.specs.declared.fault.DocumentFault.{DocumentFault}
+use Rattle.gptp_network.specs.declared.fault.DocumentFault.TheVariants.{TooMany}
+use Rattle.gptp_network.proofs.LawLemmas as network_laws
+use Rattle.gptp_plan.specs.Network.{NetworkState}
+use Rattle.gptp_outcome.specs.Named.{AnswersOnce, IsNamed}
+use Rattle.gptp_outcome.proofs.CourseLemmas.{begins_once}
+use Rattle.gptp_outcome.proofs.MeantLemmas.{meant_named, meant_names}
+use Rattle.gptp_outcome.proofs.NameLemmas.{begun_named}
+use Rattle.gptp_time_error.proofs.WayLemmas.{HasOneEach}
+use Rattle.gptp_timeline.specs.Ends.{EndState}
+use Rattle.gptp_timeline.specs.LastTwo.{EndsOf, end_in, ends_in, last_two}
+use Rattle.gptp_timeline.specs.Shown.{shown}
+use Rattle.gptp_timeline.specs.Stretch.{roots_of, waits}
+use Rattle.gptp_timeline.specs.Timeline.{AllPass, Passage, none_waits}
+use Rattle.gptp_faults.specs.Faults.{FaultsOf}
+use Rattle.gptp_faults.specs.Laws.{RunsEndOnce}
+use Rattle.gptp_faults.specs.Refusals.{RefusesFaults}
+use Rattle.gptp_faults.specs.declared.options.FaultsOptions.{FaultsOptions}
+use Rattle.gptp_faults.proofs.OneLemmas.{never_refused, one_refusal, table_once}
+use Rattle.gptp_commands.specs.declared.failure.Status.{Status}
+use Rattle.gptp_commands.specs.Documents.{RefusesFault, document_limit}
+use Rattle.gptp_commands.specs.Failure.{status_by}
+use Rattle.gptp_commands.specs.FaultsText.{AnswersFaults, FaultsText, TellsFaults}
+use Rattle.gptp_commands.specs.RunText.{draws}
+use Rattle.gptp_commands.proofs.OneRunLemmas.{draws_once}
+use Rattle.gptp_commands.proofs.OneTimelineLemmas.{IsSamePassage, SamePassages, all_pass_once, each_named, same_stretch}
+use Rattle.gptp_commands.proofs.SameActLemmas.{same_waits}
+use Rattle.gptp_commands.proofs.VerdictLemmas.{AreSame, same_refusal}
+
+-- ---- a run
+
+same_end : (names : List ℕ) (since : ℕ → Option ℕ) (p q : Passage) → IsSamePassage p q
+    → end_in names since p ≡ end_in names since q
+same_end names since p q k =
+    let stretch = same_stretch names since p q k in
+    λ i. record { stretch = stretch i; roots = roots_of (map (λ name. shown name (k.after i)) names) }
+
+same_ends : (names : List ℕ) (since : ℕ → Option ℕ) (ps qs : List Passage) → SamePassages ps qs
+    → ends_in names since ps ≡ ends_in names since qs
+same_ends names since [] [] k = refl
+same_ends names since [] (q ∷ qs) k = absurd k
+same_ends names since (p ∷ ps) [] k = absurd k
+same_ends names since (p ∷ ps) (q ∷ qs) (first, rest) =
+    let later = ap (λ (begun : ℕ → Option ℕ). ends_in names begun ps) (same_waits p.acts q.acts since first.acts)
+    ∙ same_ends names (waits q.acts since) ps qs rest in
+    ap₂ (λ (e : EndState) (es : List EndState). e ∷ es) (same_end names since p q first) later
+
+-- the last two stretches of a run end in one way
+ends_once : {F : Type 0} (answers : Bounds → ℕ → F → Option ℕ → F → Type 0) → AnswersOnce answers
+    → (d : DocumentState) (until : ℕ) (fate : F) (two other : Option (EndState × EndState)) → HasOneEach d.network
+    → IsNamed (initial d.network) → EndsOf answers d until fate two → EndsOf answers d until fate other → two ≡ other
+ends_once {F} answers once d until fate two other names is k l =
+    let (fates, starts) =
+    begins_once answers once d.network fate k.started l.started k.start l.start is k.begun l.begun in
+    let events = events_by until d.events in
+    let pass : AllPass answers false d until 0 events l.started k.fate_after l.start k.after k.passages =
+    subst (λ (w : WorldState). AllPass answers false d until 0 events l.started k.fate_after w k.after k.passages)
+    starts
+    (subst (λ (f : F). AllPass answers false d until 0 events f k.fate_after k.start k.after k.passages) fates
+    k.pass) in
+    let same = all_pass_once answers once false d names until 0 events l.started k.fate_after l.fate_after l.start
+    k.after l.after k.passages l.passages (begun_named answers d.network fate l.started l.start is l.begun) pass
+    l.pass in
+    k.are ∙ ap (λ (w : WorldState). last_two (ends_in (rising_clocks w) none_waits k.passages)) starts
+    ∙ ap last_two (same_ends (rising_clocks l.start) none_waits k.passages l.passages same) ∙ sym l.are
+
+-- ---- a table, or a refusal
+
+module _ (d : DocumentState) (options : FaultsOptions) where
+  -- the table of a text, and the status by it
+  record IsTabled (output : List (List ℕ)) (status : Status) : Type 0 where
+    exceeded : Bool
+    table : FaultsOf d options output exceeded
+    status_is : status ≡ status_by exceeded
+
+  abbrev IsRefused : List (List ℕ) → Status → Type 0
+  IsRefused output status = (fault : DocumentFault) × RefusesFaults d options fault × RefusesFault fault output status
+
+  tabled : (output : List (List ℕ)) (status : Status) → TellsFaults d options output status
+      → IsTabled output status ⊎ IsRefused output status
+  tabled output status (inl (exceeded, table, _, is)) =
+      inl (record { exceeded = exceeded; table = table; status_is = is })
+  tabled output status (inr refused) = inr refused
+
+  module _ (names : HasOneEach d.network) (is : IsNamed (initial d.network)) where
+    runs_end_once : RunsEndOnce d
+    runs_end_once e until fate two other same k l =
+        ends_once draws draws_once e until fate two other
+        (subst (λ (n : NetworkState). HasOneEach n) (sym same) names)
+        (subst (λ (n : NetworkState). IsNamed (initial n)) (sym same) is) k l
+
+    tabled_once : (a b : List (List ℕ)) (s t : Status) → IsTabled a s ⊎ IsRefused a s → IsTabled b t ⊎ IsRefused b t
+        → AreSame a s b t
+    tabled_once a b s t (inl k) (inl l) =
+        let (lines, same) = table_once d options a b k.exceeded l.exceeded runs_end_once k.table l.table in
+        (lines, k.status_is ∙ ap status_by same ∙ sym l.status_is)
+    tabled_once a b s t (inl k) (inr (fault, refuses, _)) =
+        absurd (never_refused d options a k.exceeded fault k.table refuses)
+    tabled_once a b s t (inr (fault, refuses, _)) (inl l) =
+        absurd (never_refused d options b l.exceeded fault l.table refuses)
+    tabled_once a b s t (inr (f, f-refuses, k)) (inr (g, g-refuses, l)) =
+        same_refusal f g a b s t (one_refusal d options f g f-refuses g-refuses) k l
+
+    tells_once : (a b : List (List ℕ)) (s t : Status) → TellsFaults d options a s → TellsFaults d options b t
+        → AreSame a s b t
+    tells_once a b s t k l = tabled_once a b s t (tabled a s k) (tabled b t l)
+
+-- ---- the whole text
+
+answers_once : (options : FaultsOptions) (input : List ℕ) (a b : List (List ℕ)) (s t : Status)
+    → AnswersFaults options input a s → AnswersFaults options input b t → AreSame a s b t
+answers_once options input a b s t (inl (d, d-means, k)) (inl (e, e-means, l)) =
+    let same = network_laws.one_meaning input e d e-means d-means in
+    tells_once d options (each_named d (meant_names input d d-means)) (meant_named input d d-means) a b s t k
+    (subst (λ (x : DocumentState). TellsFaults x options b t) same l)
+answers_once options input a b s t (inl (d, means, _)) (inr (fault, fails, _)) =
+    absurd (network_laws.never_both input d fault means fails)
+answers_once options input a b s t (inr (fault, fails, _)) (inl (d, means, _)) =
+    absurd (network_laws.never_both input d fault means fails)
+answers_once options input a b s t (inr (f, f-fails, k)) (inr (g, g-fails, l)) =
+    same_refusal f g a b s t (network_laws.one_fault input f g f-fails g-fails) k l
+
+by_size : (options : FaultsOptions) (input : List ℕ) (a b : List (List ℕ)) (s t : Status) (fits : Bool)
+    → MatchBool fits (AnswersFaults options input a s) (RefusesFault TooMany a s)
+    → MatchBool fits (AnswersFaults options input b t) (RefusesFault TooMany b t) → AreSame a s b t
+by_size options input a b s t true k l = answers_once options input a b s t k l
+by_size options input a b s t false k l = same_refusal TooMany TooMany a b s t refl k l
+
+pub one_faults : (options : FaultsOptions) (input : List ℕ) (a b : List (List ℕ)) (s t : Status)
+    → FaultsText options input a s → FaultsText options input b t → AreSame a s b t
+one_faults options input a b s t k l = by_size options input a b s t (nat_le (length input) document_limit) k l
