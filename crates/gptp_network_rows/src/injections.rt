@@ -4,7 +4,7 @@ ghost use Rattle.std.specs.Prelude.{◌≤◌};
 
 use crate::far::line;
 use crate::same::{same, same_at};
-use crate::world::{ARRIVAL, ARRIVAL_FROM_B, SPREAD, TWO, begun, clock, timed};
+use crate::world::{ARRIVAL, ARRIVAL_FROM_B, SPREAD, TWO, act, advance, begun, clock, timed};
 use gptp_links::{Fate, ListFate, PcgFate};
 use gptp_messages::Refused as Unread;
 use gptp_network::Document;
@@ -32,7 +32,7 @@ fn inject<F: Fate + Drop>(
         port,
         octets,
     };
-    Ok(world.act(timed(at, Act::Change(change))).err())
+    Ok(act(world, at, Act::Change(change)).err())
 }
 
 /// Whether an act told that port 1 of the system with this clock answered these octets so.
@@ -57,11 +57,11 @@ fn each_front_of_an_announce_is_short(rt: HostRuntime) -> Result<(), Fail> {
     for length in 1..76_u8 {
         let front = &FIRST_ANNOUNCE[..usize::from(length)];
         let at = 10_000 + 500 * u64::from(length);
-        same_at(&rt, &length, world.advance(at), Ok(()));
+        same_at(&rt, &length, advance(&mut world, at), Ok(()));
         let refused = inject(&mut world, alloc, at, (1, 1), front)?;
         same_at(&rt, &length, refused, None);
-        same_at(&rt, &length, world.advance(at + 499), Ok(()));
-        let done = world.act(timed(at + 500, ARRIVAL))?;
+        same_at(&rt, &length, advance(&mut world, at + 499), Ok(()));
+        let done = act(&mut world, at + 500, ARRIVAL)?;
         let short = tells(&done, 2, Some(Answer::Refused(Unread::Short)), front);
         same_at(&rt, &length, short, true);
     }
@@ -74,7 +74,7 @@ fn an_injection_is_refused_by_the_first_test(rt: HostRuntime) -> Result<(), Fail
     let mut world = begun(alloc, TWO)?;
     let untimely = inject(&mut world, alloc, 600, (1, 2), &[0])?;
     same(&rt, untimely, Some(Refused::Untimely));
-    same(&rt, world.advance(1_000), Ok(()));
+    same(&rt, advance(&mut world, 1_000), Ok(()));
     let past = inject(&mut world, alloc, 500, (1, 2), &[0])?;
     same(&rt, past, Some(Refused::InThePast));
     for at in [(1, 0), (1, 2), (1, 17), (1, 65_535), (9, 1)] {
@@ -98,7 +98,7 @@ fn nothing_enters_a_link_that_is_down(rt: HostRuntime) -> Result<(), Fail> {
         clock: clock(1),
         port: 1,
     };
-    same(&rt, world.act(timed(10, Act::Change(down))).err(), None);
+    same(&rt, act(&mut world, 10, Act::Change(down)).err(), None);
     let next = world.next();
     same(&rt, inject(&mut world, alloc, 20, (1, 1), &[0])?, None);
     same(&rt, world.last_change(), 20);
@@ -107,7 +107,7 @@ fn nothing_enters_a_link_that_is_down(rt: HostRuntime) -> Result<(), Fail> {
         clock: clock(1),
         port: 1,
     };
-    same(&rt, world.act(timed(30, Act::Change(up))).err(), None);
+    same(&rt, act(&mut world, 30, Act::Change(up)).err(), None);
     same(&rt, world.next(), Some(timed(630, ARRIVAL)));
     Ok(())
 }
@@ -116,20 +116,20 @@ fn nothing_enters_a_link_that_is_down(rt: HostRuntime) -> Result<(), Fail> {
 fn a_failed_system_stops_no_injection(rt: HostRuntime) -> Result<(), Fail> {
     let alloc = rt.alloc();
     let mut world = begun(alloc, TWO)?;
-    same(&rt, world.advance(10_000), Ok(()));
+    same(&rt, advance(&mut world, 10_000), Ok(()));
     let failure = Change::Fail { clock: clock(1) };
     same(
         &rt,
-        world.act(timed(10_000, Act::Change(failure))).err(),
+        act(&mut world, 10_000, Act::Change(failure)).err(),
         None,
     );
     for number in [1, 2] {
         let refused = inject(&mut world, alloc, 10_000, (number, 1), &FIRST_ANNOUNCE)?;
         same_at(&rt, &number, refused, None);
     }
-    let done = world.act(timed(10_500, ARRIVAL))?;
+    let done = act(&mut world, 10_500, ARRIVAL)?;
     assert!(rt; tells(&done, 2, Some(Answer::Disabled), &FIRST_ANNOUNCE));
-    let done = world.act(timed(10_500, ARRIVAL_FROM_B))?;
+    let done = act(&mut world, 10_500, ARRIVAL_FROM_B)?;
     assert!(rt; tells(&done, 1, None, &FIRST_ANNOUNCE));
     Ok(())
 }
@@ -189,7 +189,7 @@ fn a_trace_of_255_strangers_goes_one_hop(rt: HostRuntime) -> Result<(), Fail> {
     let forged = frame(alloc, port(99, 1), identity(1, 99), 0, &path)?;
     let network = line(alloc, 3)?;
     let mut world = World::new(alloc, &network, PcgFate::new(0))?;
-    same(&rt, world.advance(SETTLED), Ok(()));
+    same(&rt, advance(&mut world, SETTLED), Ok(()));
     let refused = inject(&mut world, alloc, SETTLED, (1, 2), forged.as_slice())?;
     same(&rt, refused, None);
     // 68 octets, and 8 for each clock
@@ -215,9 +215,9 @@ fn injections_of_one_moment_stay_in_order(rt: HostRuntime) -> Result<(), Fail> {
         let refused = inject(&mut world, alloc, 400, (1, 1), &[octet])?;
         same_at(&rt, &octet, refused, None);
     }
-    same(&rt, world.advance(1_199), Ok(()));
+    same(&rt, advance(&mut world, 1_199), Ok(()));
     for octet in [1, 2] {
-        let done = world.act(timed(1_200, ARRIVAL))?;
+        let done = act(&mut world, 1_200, ARRIVAL)?;
         let short = tells(&done, 2, Some(Answer::Refused(Unread::Short)), &[octet]);
         same_at(&rt, &octet, short, true);
     }

@@ -1,9 +1,11 @@
 //! A world that goes on by itself, or by one act after another. Times are in ns.
 
-ghost use Rattle.std.specs.Prelude.{◌≡◌};
+ghost use Rattle.std.specs.Prelude.{◌≡◌, ◌≤◌};
+ghost use Rattle.gptp_acts.specs.Prompt.{IsPromptIn};
+ghost use Rattle.gptp_plan.specs.Allowed.{IsFitAct};
 
 use crate::same::same;
-use gptp_links::{Direction, ListFate, PcgFate};
+use gptp_links::{Direction, Fate, ListFate, PcgFate};
 use gptp_network::Document;
 use gptp_system::Timer;
 use gptp_vector::ClockId;
@@ -61,6 +63,22 @@ pub(crate) fn begun(alloc: Global, document: &str) -> Result<World<PcgFate>, Fai
     Ok(World::new(alloc, document.network(), PcgFate::new(0))?)
 }
 
+/// What goes on by itself is done at that time, or refused.
+pub(crate) fn act<F: Fate + Drop>(world: &mut World<F>, at: u64, act: Act) -> Result<Done, Refused>
+    requires moment { at ≤ 1000000000000000 }
+    requires fit { IsFitAct act }
+    requires prompt { IsPromptIn world.old.scene act }
+{
+    world.act(Timed { at, act })
+}
+
+/// It goes on up to a time, or that is refused.
+pub(crate) fn advance<F: Fate + Drop>(world: &mut World<F>, until: u64) -> Result<(), Refused>
+    requires { until ≤ 1000000000000000 }
+{
+    world.advance(until)
+}
+
 /// When the next act is due.
 fn next_at(world: &World<PcgFate>) -> Option<u64> {
     match world.next() {
@@ -93,16 +111,16 @@ fn offset(world: &World<PcgFate>, number: u64) -> Option<i128> {
 #[test]
 fn a_world_goes_on_by_itself(rt: HostRuntime) -> Result<(), Fail> {
     let mut world = begun(rt.alloc(), TWO)?;
-    same(&rt, world.advance(1_000), Ok(()));
+    same(&rt, advance(&mut world, 1_000), Ok(()));
     same(&rt, world.now(), 1_000);
     same(
         &rt,
-        world.act(timed(500, ARRIVAL)).err(),
+        act(&mut world, 500, ARRIVAL).err(),
         Some(Refused::InThePast),
     );
-    same(&rt, world.advance(500), Err(Refused::InThePast));
+    same(&rt, advance(&mut world, 500), Err(Refused::InThePast));
     same(&rt, world.now(), 1_000);
-    same(&rt, world.advance(26_000_000_000), Ok(()));
+    same(&rt, advance(&mut world, 26_000_000_000), Ok(()));
     same(&rt, world.now(), 26_000_000_000);
     same(&rt, world.last_change(), 0);
     same(&rt, next_at(&world) > Some(26_000_000_000), true);
@@ -160,23 +178,23 @@ fn an_act_is_refused_by_the_first_test(rt: HostRuntime) -> Result<(), Fail> {
     let mut world = begun(rt.alloc(), TWO)?;
     same(
         &rt,
-        world.act(timed(400, ARRIVAL)).err(),
+        act(&mut world, 400, ARRIVAL).err(),
         Some(Refused::NotDue),
     );
     same(
         &rt,
-        world.act(timed(600, ARRIVAL)).err(),
+        act(&mut world, 600, ARRIVAL).err(),
         Some(Refused::Untimely),
     );
-    same(&rt, world.act(timed(0, STRAY)).err(), Some(Refused::NoSuch));
+    same(&rt, act(&mut world, 0, STRAY).err(), Some(Refused::NoSuch));
     same(&rt, world.now(), 0);
-    let done = world.act(timed(500, ARRIVAL))?;
+    let done = act(&mut world, 500, ARRIVAL)?;
     same(&rt, tells_request(&done), true);
     same(&rt, world.now(), 500);
-    same(&rt, world.advance(1_000), Ok(()));
+    same(&rt, advance(&mut world, 1_000), Ok(()));
     same(
         &rt,
-        world.act(timed(500, STRAY)).err(),
+        act(&mut world, 500, STRAY).err(),
         Some(Refused::InThePast),
     );
     Ok(())
@@ -210,14 +228,14 @@ fn acts_of_one_moment_go_in_any_order(rt: HostRuntime) -> Result<(), Fail> {
     let fate = ListFate::new(vec![in alloc; Some(500), Some(500), Some(600)]?);
     let mut world = World::new(alloc, document.network(), fate)?;
     same(&rt, world.next(), Some(timed(500, ARRIVAL)));
-    same(&rt, world.act(timed(500, ARRIVAL_FROM_B)).err(), None);
+    same(&rt, act(&mut world, 500, ARRIVAL_FROM_B).err(), None);
     same(&rt, world.next(), Some(timed(500, ARRIVAL)));
-    same(&rt, world.act(timed(500, ARRIVAL)).err(), None);
+    same(&rt, act(&mut world, 500, ARRIVAL).err(), None);
     // each answers 1,000 ns later: the one that heard first is next
     same(&rt, world.next(), Some(timed(1_500, answer(clock(1)))));
-    same(&rt, world.act(timed(1_500, answer(clock(2)))).err(), None);
+    same(&rt, act(&mut world, 1_500, answer(clock(2))).err(), None);
     same(&rt, world.next(), Some(timed(1_500, answer(clock(1)))));
-    same(&rt, world.act(timed(1_500, answer(clock(1)))).err(), None);
+    same(&rt, act(&mut world, 1_500, answer(clock(1))).err(), None);
     same(&rt, world.next(), Some(timed(2_100, ARRIVAL_FROM_B)));
     same(&rt, world.now(), 1_500);
     Ok(())
