@@ -8,8 +8,8 @@ pub fn follow_lines_settle()
     ensures { FollowLinesSettle }
 {}
 
-/// Where runs of a document end in one way, it has one table of its faults and one answer to whether a limit is exceeded;
-/// and it has a table or is refused in one way.
+/// Where runs of a document end in one way, it has one table of its faults at most, and one answer to whether a limit is
+/// exceeded; one with a table isn't refused, and none is refused in two ways.
 pub fn one_table()
     ensures table { OneTable }
     ensures apart { NeverRefused }

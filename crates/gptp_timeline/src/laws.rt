@@ -41,7 +41,8 @@ pub fn errors_are_within<F: Fate>()
     ensures runs { RunsAreWithin F.answers }
 {}
 
-/// All of these hold of every timeline of a document that is playable, up to 10^18 ns.
+/// Every timeline of a playable document is right up to 10^18 ns: it is one run, its last lines tell what stands where
+/// that ends, its stretches settle and follow within their bounds, and its errors are within theirs.
 pub fn timelines_are_right<F: Fate>()
     ensures { TimelinesAreRight F.answers }
 {}
