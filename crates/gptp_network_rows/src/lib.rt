@@ -1,5 +1,5 @@
-//! Worked rows of networks, worlds and documents, as an outside caller sees them: also that whatever the order of acts
-//! and the fate of frames, a calm network settles in time, and that a refused allocation leaves things as they were.
+//! Worked rows of networks and documents, as an outside caller sees them: also that whatever the order of acts and the
+//! fate of frames, a calm network settles in time.
 //!
 //! What they expect was written down before the code. What is in `drawn` is no test: its contracts follow from those of
 //! the crates below.
@@ -15,22 +15,10 @@ mod constants;
 mod document;
 pub mod drawn;
 #[cfg(test)]
-mod far;
-#[cfg(test)]
-mod injections;
-#[cfg(test)]
-mod intervals;
-#[cfg(test)]
 mod paths;
 #[cfg(test)]
 mod printed;
 #[cfg(test)]
-mod refused;
-#[cfg(test)]
 mod ring;
 #[cfg(test)]
 mod same;
-#[cfg(test)]
-mod used;
-#[cfg(test)]
-mod world;
