@@ -1,7 +1,9 @@
 pub mod StepLaws
 pub mod Named
+pub mod GoingOn
 pub mod ActLaws
 pub mod CourseLaws
 pub mod RunLaws
 pub mod SoFar
 pub mod TransitionLaws
+pub mod ExistenceLaws

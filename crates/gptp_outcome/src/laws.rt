@@ -1,7 +1,13 @@
-//! Laws that what follows from the same is the same.
+//! Laws that what follows from the same is the same, and that there is what follows.
 
+ghost use Rattle.std.specs.Prelude.{List};
+ghost use Rattle.gptp_acts.specs.World.{WorldState};
+ghost use Rattle.gptp_certificate.specs.Stated.{States};
+ghost use Rattle.gptp_graph.specs.Labelling.{SystemLine};
+ghost use Rattle.gptp_kept.specs.Claimed.{Claimed};
 ghost use Rattle.gptp_outcome.specs.ActLaws.{ActsKeepNames, ActsOnce, ActsOnceDrawn, InitialIsNamed, SoundIsNamed};
 ghost use Rattle.gptp_outcome.specs.CourseLaws.{AdvancesOnce, BeginsOnce, NextOnce, StopsOnTheWay};
+ghost use Rattle.gptp_outcome.specs.ExistenceLaws.{ActsExist, BeginningsExist, DocumentsLead, DocumentsUnfold, FramesAreJudged, StepsExist, WaysExist};
 ghost use Rattle.gptp_outcome.specs.RunLaws.{LeadsOnce, MeantIsNamed, PlayedIsNamed, PlaysOnce, ReportsOnce, StatesOnce};
 ghost use Rattle.gptp_outcome.specs.SoFar.{LeadsBeginSo};
 ghost use Rattle.gptp_outcome.specs.StepLaws.{StepsOnce};
@@ -73,4 +79,38 @@ pub fn worlds_are_told_in_one_way()
 /// The lines of the frames of a document that stopped before its end are the first of all that it leads to.
 pub fn documents_begin_in_one_way<F: Fate>()
     ensures { LeadsBeginSo F.answers }
+{}
+
+/// Every list of octets reads as a message, or is refused.
+pub fn every_frame_is_judged()
+    ensures { FramesAreJudged }
+{}
+
+/// A system that is given an input in time takes a step, and is a system then.
+pub fn every_step_exists()
+    ensures { StepsExist }
+{}
+
+/// The world of a network begins, and an act that is ready is done, whatever the fate that answers all that it is asked:
+/// there are draws and a world then, and the world can go on.
+pub fn acts_exist<F: Fate>()
+    ensures begins { BeginningsExist F.answers }
+    ensures acts { ActsExist F.answers }
+{}
+
+/// A world that can go on goes on to each time that is ahead, and can go on then.
+pub fn worlds_go_on<F: Fate>()
+    ensures { WaysExist F.answers }
+{}
+
+/// A document that is playable is played to each time, whatever its fate, and has the lines of its frames and a report.
+pub fn documents_unfold<F: Fate>()
+    ensures unfold { DocumentsUnfold F.answers }
+    ensures lead { DocumentsLead F.answers }
+{}
+
+/// In a world that keeps what every world of a network keeps, what the live systems state of themselves has the lines of
+/// a certificate.
+pub fn worlds_are_stated()
+    ensures { (w : WorldState) → Claimed w → (lines : List SystemLine) × States w lines }
 {}
