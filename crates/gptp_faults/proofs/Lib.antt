@@ -13,3 +13,7 @@ mod PlayableLemmas
 mod FollowLemmas
 pub mod OrderLemmas
 pub mod OneLemmas
+mod EveryRankingLemmas
+mod EveryPlanLemmas
+mod EveryOutcomeLemmas
+pub mod EveryLemmas

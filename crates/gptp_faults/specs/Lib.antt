@@ -10,3 +10,4 @@ pub mod FaultsText
 pub mod Progress
 pub mod Faults
 pub mod Laws
+pub mod EveryLaws

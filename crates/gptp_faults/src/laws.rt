@@ -1,5 +1,6 @@
 //! Laws of faults.
 
+ghost use Rattle.gptp_faults.specs.EveryLaws.{EachHasFaults};
 ghost use Rattle.gptp_faults.specs.Laws.{FollowLinesSettle, NeverRefused, OneRefusal, OneTable};
 
 /// Where faults stay by default, and the `down` line of a case has a bound, its `follow` lines are those of the settled
@@ -14,4 +15,10 @@ pub fn one_table()
     ensures table { OneTable }
     ensures apart { NeverRefused }
     ensures refusal { OneRefusal }
+{}
+
+/// Where each run of a document with two events more ends its last two stretches in some way, and a fault stays for 1 ns
+/// at least, the document has a table of its faults, or is refused.
+pub fn every_document_has_faults()
+    ensures { EachHasFaults }
 {}

@@ -11,3 +11,6 @@ mod QuietLemmas
 mod TextLemmas
 mod FoundLemmas
 mod EscapedLemmas
+mod OrderedLemmas
+mod FewLemmas
+pub mod EveryLemmas

@@ -7,3 +7,4 @@ pub mod Unlinked
 pub mod Findings
 pub mod Unread
 pub mod LintText
+pub mod Laws

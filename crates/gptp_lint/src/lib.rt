@@ -9,6 +9,7 @@ mod findings;
 mod graph;
 mod keys;
 mod labels;
+pub mod laws;
 mod nearest;
 mod outline;
 mod place;
