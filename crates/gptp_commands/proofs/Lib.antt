@@ -17,6 +17,14 @@ pub mod OneFaultsLemmas
 pub mod EveryQuestionLemmas
 pub mod EveryCheckLemmas
 pub mod EveryPlaceLemmas
+pub mod EveryComparisonLemmas
+pub mod EveryFindingLemmas
+pub mod DrawLemmas
+pub mod InjectLemmas
+pub mod EveryRunLemmas
+pub mod EveryPassLemmas
+pub mod EveryTimelineLemmas
+pub mod EveryFaultsLemmas
 pub mod VersionLemmas
 pub mod CommandLemmas
 pub mod OptionLemmas

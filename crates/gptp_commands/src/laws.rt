@@ -1,6 +1,6 @@
 //! What the texts promise beyond single calls.
 
-ghost use Rattle.std.specs.Prelude.{◌≡◌, ◌++◌, ℕ, List, Option};
+ghost use Rattle.std.specs.Prelude.{◌≡◌, ◌≤◌, ◌++◌, ℕ, Bool, IfSome, List, Option};
 ghost use Rattle.gptp_commands.specs.declared.failure.Status.{Status};
 ghost use Rattle.gptp_network.specs.Document.{DocumentState};
 ghost use Rattle.gptp_commands.specs.declared.run.RunOptions.{RunOptions};
@@ -11,6 +11,7 @@ ghost use Rattle.gptp_commands.specs.Command.{IsPlain, IsTaken};
 ghost use Rattle.gptp_commands.specs.CompareText.{BeginsCompare, CompareText};
 ghost use Rattle.gptp_commands.specs.Every.{HasText};
 ghost use Rattle.gptp_commands.specs.FaultsText.{FaultsText};
+ghost use Rattle.gptp_faults.specs.Times.{AreOptions};
 ghost use Rattle.gptp_faults.specs.declared.options.FaultsOptions.{FaultsOptions};
 ghost use Rattle.gptp_commands.specs.QuestionText.{QuestionText};
 ghost use Rattle.gptp_commands.specs.declared.question.Question.TheVariants as questions;
@@ -126,6 +127,34 @@ pub fn every_input_has_an_accuracy()
 pub fn every_input_has_an_explanation()
     ensures { (clock : ℕ) (until : Option ℕ) (input : List ℕ)
         → HasText (QuestionText (questions.Explain clock until)) input }
+{}
+
+/// Every input has a text of `compare`.
+pub fn every_input_has_a_comparison()
+    ensures { (input : List ℕ) → HasText CompareText input }
+{}
+
+/// Every input has a text of what is found in it, strict or not.
+pub fn every_input_has_findings()
+    ensures { (strict : Bool) (input : List ℕ) → HasText (QuestionText (questions.Lint strict)) input }
+{}
+
+/// Every input has a text of its run, with each seed, where its end is asked for at no later than 10^15 ns.
+pub fn every_input_has_a_run()
+    ensures { (options : RunOptions) (input : List ℕ)
+        → IfSome options.until (λ until. until ≤ 1000000000000000) → HasText (RunText options) input }
+{}
+
+/// Every input has a text of its timeline, with each seed, where its end is asked for at no later than 10^15 ns.
+pub fn every_input_has_a_timeline()
+    ensures { (order : TimelineOrder) (input : List ℕ)
+        → IfSome order.until (λ until. until ≤ 1000000000000000) → HasText (TimelineText order) input }
+{}
+
+/// Every input has a text of its faults, with all that may be asked of them, where a fault stays for 1 ns at least.
+pub fn every_input_has_faults()
+    ensures { (options : FaultsOptions) (input : List ℕ) → AreOptions options
+        → IfSome options.hold (λ hold. 1 ≤ hold) → HasText (FaultsText options) input }
 {}
 
 /// What `run` certifies of a document that is at rest at its end, [`check`](crate::check::check) accepts of that document,

@@ -1,0 +1,107 @@
+-- Each input has a text of its run.
+use Rattle.std.proofs.Common.{◌≡◌, ◌≢◌, ◌+◌, ◌-◌, ◌<◌, ◌≤◌, ◌%◌, ◌==◌, ℕ, Bool, true, false, if◌then◌else◌, cond, nat_lt, List, [], ◌∷◌, ◌++◌, length, Option, Some, None, IfSome, refl, arith}
+use Rattle.std.specs.Prelude.{unwrap_or}
+use Rattle.std.proofs.lemmas.Bool.Decides.{nat_tests}
+use Rattle.std.proofs.lemmas.Nat.{mod_below}
+use Rattle.rand_pcg.specs.Lcg.{Lcg}
+use Rattle.rand_pcg.specs.Pcg.{pcg64}
+use Rattle.gptp_links.specs.declared.bounds.Bounds.{Bounds}
+use Rattle.gptp_links.specs.Bounds.{Fit, IsLawful}
+use Rattle.gptp_links.specs.Draws.{delay_drawn, delayed, drawn}
+use Rattle.gptp_plan.specs.Change.{system_after}
+use Rattle.gptp_plan.specs.InUse.{live_systems}
+use Rattle.gptp_plan.specs.Network.{IsNetwork, pace_of}
+use Rattle.gptp_plan.specs.SettlingTime.{settles}
+use Rattle.gptp_plan.specs.SyncWait.{sync_paths}
+use Rattle.gptp_plan.specs.declared.change.Timed.{Timed}
+use Rattle.gptp_plan.specs.declared.network.Member.{Member}
+use Rattle.gptp_plan.proofs.InUseLemmas.{short_delay}
+use Rattle.gptp_plan.proofs.LogLemmas.{largest_log, smallest_log}
+use Rattle.gptp_plan.proofs.SyncWaitLemmas.{short_time}
+use Rattle.gptp_acts.specs.World.{WorldState}
+use Rattle.gptp_network.specs.Document.{DocumentState, Means}
+use Rattle.gptp_network.specs.Events.{AreEvents}
+use Rattle.gptp_network.proofs.EventLemmas.{early_from, events_allowed}
+use Rattle.gptp_network.proofs.MeantLemmas.{meant_document}
+use Rattle.gptp_network.proofs.PassLemmas.{count_more}
+use Rattle.gptp_kept.specs.Claimed.{Claimed}
+use Rattle.gptp_certificate_text.specs.CertificateText.{certificate_lines}
+use Rattle.gptp_reached.proofs.ClaimedLemmas.{played_claimed}
+use Rattle.gptp_reached.proofs.OctetLemmas.{documents_playable}
+use Rattle.gptp_outcome.proofs.LineExistLemmas.{documents_lead}
+use Rattle.gptp_outcome.proofs.StatedExistLemmas.{states_exist}
+use Rattle.gptp_commands.specs.declared.failure.Status.TheVariants.{Done}
+use Rattle.gptp_commands.specs.declared.run.RunOptions.{RunOptions}
+use Rattle.gptp_commands.specs.Every.{HasText, HaveText}
+use Rattle.gptp_commands.specs.RunText.{draws, generator, until_of, CertifiesIf, PlaysDocument, RunsDocument, RunText}
+use Rattle.gptp_commands.proofs.DrawLemmas.{draws_answer_all}
+use Rattle.gptp_commands.proofs.EveryQuestionLemmas.{each_has_text}
+use Rattle.gptp_commands.proofs.InjectLemmas.{meant_injects}
+use Rattle.gptp_commands.proofs.RunLemmas.{runs_settle}
+
+-- ---- a run ends in time
+
+live_few : (events : List Timed) (members : List Member) → live_systems members events ≤ length members
+live_few events [] = omega arith
+live_few events (m ∷ members) =
+    let more = count_more (λ (x : Member). (system_after events x).live) m members in
+    let rest = live_few events members in
+    let one : cond (system_after events m).live 1 0 ≤ 1 = by (system_after events m).live in
+    omega (arith, more, rest, one)
+  where
+    by : (live : Bool) → cond live 1 0 ≤ 1
+    by true = omega arith
+    by false = omega arith
+
+settled_in_time : (d : DocumentState) → IsNetwork d.network → AreEvents d.network d.events
+    → settles d.network d.events ≤ 1000000000000000
+settled_in_time d network events =
+    let n = d.network in
+    let allowed = events_allowed n d.events (smallest_log n network) events in
+    let early = early_from n d.events events in
+    let few = live_few d.events n.systems in
+    let most = network.few_systems in
+    let live : live_systems n.systems d.events ≤ 512 = omega (arith, few, most) in
+    let span = short_time (pace_of n) (sync_paths n d.events) (live_systems n.systems d.events) network.params
+    (largest_log n network) live (short_delay n d.events network allowed) in
+    omega (arith, early, span)
+
+ends_in_time : (asked : Option ℕ) (settled : ℕ) → IfSome asked (λ until. until ≤ 1000000000000000)
+    → settled ≤ 1000000000000000 → unwrap_or asked settled ≤ 1000000000000000
+ends_in_time None settled moment in_time = in_time
+ends_in_time (Some until) settled moment in_time = moment
+
+-- ---- a run
+
+certificate_exists : (asked : Bool) (w : WorldState) → Claimed w → (lines : List (List ℕ)) × CertifiesIf asked w lines
+certificate_exists true w claimed =
+    let (stated, states) = states_exist w claimed in (certificate_lines 2 stated, (stated, states, refl))
+certificate_exists false w claimed = ([], refl)
+
+module _ (options : RunOptions)
+    (asked : IfSome options.until (λ until. until ≤ 1000000000000000)) (input : List ℕ) where
+  run_exists : (d : DocumentState) → Means input d → HaveText (RunsDocument options d)
+  run_exists d means =
+      let (network, events) = meant_document input d means in
+      let playable = documents_playable input d means network events in
+      let until = until_of options d in
+      let fate = generator options.seed in
+      let moment = ends_in_time options.until (settles d.network d.events) asked (settled_in_time d network events) in
+      let (w, frames, leads, (report, reports)) =
+      documents_lead draws draws_answer_all d until options.frames fate playable (meant_injects input d means) moment in
+      let claimed = played_claimed draws d until fate leads.told w playable leads.plays in
+      let (certificate, certifies) = certificate_exists options.certificate w claimed in
+      let output : List (List ℕ) = (frames ++ report) ++ certificate in
+      let plays : PlaysDocument d options output Done = record {
+        world = w;
+        report = frames ++ report;
+        reports = record { frames = frames; leads = leads; report = report; reports = reports; are = refl };
+        certificate = certificate;
+        certifies = certifies;
+        lines = refl;
+        status_is = refl;
+      } in
+      (output, Done, (plays, runs_settle d options output Done playable plays))
+
+  pub each_has_run : HasText (RunText options) input
+  each_has_run = each_has_text (RunsDocument options) input run_exists

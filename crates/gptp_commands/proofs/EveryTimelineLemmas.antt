@@ -1,0 +1,190 @@
+-- Each input has a text of its timeline.
+use Rattle.std.proofs.Common.{◌≡◌, ◌≤◌, ◌+◌, ◌*◌, ℕ, Bool, true, List, ◌∷◌, ◌++◌, Option, Some, None, IfSome, refl, sym, subst, ◌∙◌, arith}
+use Rattle.std.proofs.lemmas.Nat.{mul-le}
+use Rattle.std.proofs.lemmas.Option.{none-some, same_Some}
+use native.Mathlib.Decide.{dec_le}
+use Rattle.gptp_acts.specs.Views.{rising_clocks}
+use Rattle.gptp_graph.specs.PathBound.{path_bound}
+use Rattle.gptp_kept.proofs.HoldsLemmas.{paths_fewer}
+use Rattle.gptp_network.specs.Document.{DocumentState, Means}
+use Rattle.gptp_network.specs.Events.{AreEvents}
+use Rattle.gptp_network.proofs.EventLemmas.{early_from, events_allowed}
+use Rattle.gptp_network.proofs.ExistenceLemmas.{snapshot_exists}
+use Rattle.gptp_network.proofs.LawLemmas.{within_limits}
+use Rattle.gptp_network.proofs.MeantLemmas.{meant_document}
+use Rattle.gptp_plan.specs.Calm.{last_change}
+use Rattle.gptp_plan.specs.Network.{IsNetwork, pace_of}
+use Rattle.gptp_plan.specs.SettlingTime.{settling_span_with}
+use Rattle.gptp_plan.specs.SyncWait.{sync_paths}
+use Rattle.gptp_plan.proofs.InUseLemmas.{short_delay}
+use Rattle.gptp_plan.proofs.LogLemmas.{largest_log, smallest_log}
+use Rattle.gptp_plan.proofs.SyncWaitLemmas.{short_time}
+use Rattle.gptp_reached.specs.PlayedLaws.{IsPlayable}
+use Rattle.gptp_reached.proofs.OctetLemmas.{documents_playable}
+use Rattle.gptp_setup.specs.Intervals.{interval_of}
+use Rattle.gptp_setup.proofs.IntervalLemmas.{interval_most}
+use Rattle.gptp_time_error.specs.TimeErrors.{AreTimeErrors}
+use Rattle.gptp_time_error.specs.declared.errors.TimeErrors.{TimeErrors}
+use Rattle.gptp_time_error.proofs.EveryLemmas.{each_is_exact}
+use Rattle.gptp_time_error.proofs.OneLemmas.{errors_once}
+use Rattle.gptp_time_error.proofs.WayLemmas.{one_each}
+use Rattle.gptp_timeline.specs.End.{IsDefaultEnd, end_behind}
+use Rattle.gptp_timeline.specs.Limits.{is_exceeded, verdict_lines}
+use Rattle.gptp_timeline.specs.Timeline.{AreErrorsBy, HoldsBy, Passage, TimelineOf, all_exceeded, all_lines, none_waits, start_lines}
+use Rattle.gptp_timeline.specs.declared.limits.Limit.{Limit}
+use Rattle.gptp_timeline.specs.declared.timeline.TimelineOptions.{TimelineOptions}
+use Rattle.gptp_timeline.proofs.RightLemmas.{timelines_are_right}
+use Rattle.gptp_outcome.specs.ExistenceLaws.{AllInject}
+use Rattle.gptp_outcome.proofs.DocumentExistLemmas.{documents_unfold}
+use Rattle.gptp_commands.specs.declared.timeline.TimelineOrder.{TimelineOrder}
+use Rattle.gptp_commands.specs.Every.{HasText, HaveText}
+use Rattle.gptp_commands.specs.Failure.{status_by}
+use Rattle.gptp_commands.specs.RunText.{draws, generator}
+use Rattle.gptp_commands.specs.TimelineText.{EndsAt, TellsTimeline, TimelineText}
+use Rattle.gptp_commands.proofs.DrawLemmas.{draws_answer_all}
+use Rattle.gptp_commands.proofs.EveryPassLemmas.{bound_at, document_passes}
+use Rattle.gptp_commands.proofs.EveryQuestionLemmas.{each_has_text}
+use Rattle.gptp_commands.proofs.InjectLemmas.{meant_injects}
+
+-- ---- time errors
+
+-- whether they hold by a time can be decided
+module _ (to : ℕ) (t : TimeErrors) where
+  holds_from : (exact : ℕ) → t.from ≡ Some exact → Dec (exact ≤ to) → Dec (HoldsBy to t)
+  holds_from exact is (yes early) = yes (exact, is, early)
+  holds_from exact is (no late) =
+      no (λ holds. late (subst (λ n. n ≤ to) (same_Some holds.0 exact (sym holds.1 ∙ is)) holds.2))
+
+  by_from : (from : Option ℕ) → t.from ≡ from → Dec (HoldsBy to t)
+  by_from None is = no (λ holds. none-some holds.0 (sym is ∙ holds.1))
+  by_from (Some exact) is = holds_from exact is (dec_le exact to)
+
+  holds_dec : Dec (HoldsBy to t)
+  holds_dec = by_from t.from refl
+
+-- so a document has those that hold, or none
+module _ (d : DocumentState) (network : IsNetwork d.network) (at to : ℕ) where
+  errors_by : (t : TimeErrors) → AreTimeErrors d at t → Dec (HoldsBy to t)
+      → (errors : Option TimeErrors) × AreErrorsBy d at to errors
+  errors_by t are (yes holds) = (Some t, (are, holds))
+  errors_by t are (no never) = (
+    None,
+    λ u other holds.
+        let same = errors_once d at t u (one_each d.network network) are other in
+        never (holds.0, same.1 ∙ holds.1, holds.2),
+  )
+
+-- ---- the end
+
+-- so many ns are within the longest run
+end_within : (last span way sync : ℕ) → last ≤ 800000000000000 → span ≤ 195000000000000 → way ≤ 1024000000000
+    → sync ≤ 16000000000 → last + span + way + 8 * sync ≤ 1000000000000000
+end_within last span way sync l s w i = omega (arith, l, s, w, i)
+
+-- a run has an end by default, in time
+default_end : (d : DocumentState) → IsNetwork d.network → AreEvents d.network d.events
+    → (until : ℕ) × IsDefaultEnd d until × (until ≤ 1000000000000000)
+default_end d network events =
+    let (g, stands) = snapshot_exists d (last_change d.events) network in
+    let most = (within_limits d (last_change d.events) g network stands).systems in
+    let fewer = paths_fewer g in
+    let few : path_bound g ≤ 512 = omega (arith, most, fewer) in
+    let span : settling_span_with (pace_of d.network) (sync_paths d.network d.events) (path_bound g)
+    ≤ 195000000000000 =
+    short_time (pace_of d.network) (sync_paths d.network d.events) (path_bound g) network.params
+    (largest_log d.network network) few
+    (short_delay d.network d.events network
+    (events_allowed d.network d.events (smallest_log d.network network) events)) in
+    let threshold = network.params.ranges.params.threshold in
+    let residence = network.params.ranges.params.residence in
+    let way : path_bound g * (d.network.params.threshold + d.network.params.residence) ≤ 1024000000000 =
+    mul-le (path_bound g) (d.network.params.threshold + d.network.params.residence) 512 2000000000 few
+    (omega (arith, threshold, residence)) in
+    let sync = interval_most d.network.params.sync network.params.ranges.params.sync in (
+      end_behind d.network d.events g,
+      record { snapshot = g; stands = stands; is = refl },
+      end_within (last_change d.events)
+          (settling_span_with (pace_of d.network) (sync_paths d.network d.events) (path_bound g))
+          (path_bound g * (d.network.params.threshold + d.network.params.residence))
+          (interval_of d.network.params.sync) (early_from d.network d.events events) span way sync,
+    )
+
+-- the one that is asked for, or that
+end_exists : (d : DocumentState) (asked : Option ℕ) → IsNetwork d.network → AreEvents d.network d.events
+    → IfSome asked (λ until. until ≤ 1000000000000000)
+    → (until : ℕ) × EndsAt asked d until × (until ≤ 1000000000000000)
+end_exists d (Some asked) network events early = (asked, refl, early)
+end_exists d None network events early = default_end d network events
+
+-- ---- a timeline
+
+module _ (input : List ℕ) (d : DocumentState) (means : Means input d) where
+  network : IsNetwork d.network
+  network = (meant_document input d means).0
+
+  events : AreEvents d.network d.events
+  events = (meant_document input d means).1
+
+  playable : IsPlayable d
+  playable = documents_playable input d means network events
+
+  injects : AllInject d.events
+  injects = meant_injects input d means
+
+  errors_at : (at to : ℕ) → (errors : Option TimeErrors) × AreErrorsBy d at to errors
+  errors_at at to =
+      let (lines, exceeded, text) = each_is_exact input d at None means in
+      errors_by d network at to text.errors text.are (holds_dec to text.errors)
+
+  timeline_exists : (until seed : ℕ) (options : TimelineOptions) → until ≤ 1000000000000000
+      → (lines : List (List ℕ)) × (exceeded : Bool) × TimelineOf draws d until options (generator seed) lines exceeded
+  timeline_exists until seed options early =
+      let (start, ts, w, run, goes_on) =
+      documents_unfold draws draws_answer_all d until (generator seed) playable injects early in
+      let k = document_passes draws true d until (λ at. bound_at d at network) errors_at events ts run.started run.drawn
+      start w run.courses in
+      let passages : List Passage = k.first ∷ k.others in
+      let names : List ℕ = rising_clocks start in
+      let verdict : Option Limit = all_exceeded options.limits names none_waits passages None in
+      let lines : List (List ℕ) =
+      start_lines options names start
+      ++ all_lines options names none_waits passages ++ verdict_lines options.limits verdict in (
+        lines,
+        is_exceeded options.limits verdict,
+        record {
+          started = run.started;
+          start = start;
+          begun = run.begun;
+          passages = passages;
+          fate_after = run.drawn;
+          after = w;
+          pass = k.pass;
+          verdict = verdict;
+          verdict_is = refl;
+          exceeded_is = refl;
+          are = refl {a = lines};
+        },
+      )
+
+  timeline_told : (order : TimelineOrder) → IfSome order.until (λ until. until ≤ 1000000000000000)
+      → HaveText (TellsTimeline order d)
+  timeline_told order asked =
+      let (until, ends, early) = end_exists d order.until network events asked in
+      let (lines, exceeded, timeline) = timeline_exists until order.seed order.options early in (
+        lines,
+        status_by exceeded,
+        record {
+          until = until;
+          ends = ends;
+          exceeded = exceeded;
+          timeline = timeline;
+          right = timelines_are_right draws d until order.options (generator order.seed) lines exceeded timeline
+              playable (omega (arith, early));
+          status_is = refl;
+        },
+      )
+
+pub each_has_timeline : (order : TimelineOrder) (input : List ℕ)
+    → IfSome order.until (λ until. until ≤ 1000000000000000) → HasText (TimelineText order) input
+each_has_timeline order input asked =
+    each_has_text (TellsTimeline order) input (λ d means. timeline_told input d means order asked)
