@@ -39,13 +39,7 @@ IsStrange g lines v = (line : SystemLine) × IsLineAt lines v line × (IsKnownLi
 abbrev pub IsMissing : Snapshot → List SystemLine → ℕ → Type 0
 IsMissing g lines v = In v (clocks g) × (In v (line_clocks lines) → ⊥)
 
--- no line is so, and no system
-abbrev pub AreKnown : Snapshot → List SystemLine → Type 0
-AreKnown g lines = (line : SystemLine) → In line lines → IsKnownLine g line
-
-abbrev pub AreStated : Snapshot → List SystemLine → Type 0
-AreStated g lines = (v : ℕ) → In v (clocks g) → In v (line_clocks lines)
-
+-- one of both is so
 abbrev pub DiffersAt : Snapshot → List SystemLine → ℕ → Type 0
 DiffersAt g lines v = IsStrange g lines v ⊎ IsMissing g lines v
 
@@ -114,21 +108,6 @@ pub record IsFirstEnd (g : Snapshot) (lines : List SystemLine) (p q : PortId) : 
   pub disagrees : Disagrees g lines p q
   pub first : (r s : PortId) → Disagrees g lines r s → IsBefore r p → ⊥
 
--- the second end, or the first where there is one that doesn't come later
-abbrev pub IsEarliest : Option (PortId × PortId) → PortId × PortId → PortId × PortId → Type 0
-IsEarliest None second result = result ≡ second
-IsEarliest (Some first) second result =
-    ((result ≡ first) × (IsBefore second.0 first.0 → ⊥)) ⊎ ((result ≡ second) × IsBefore second.0 first.0)
-
--- of the ends of such links at the places before this one the first, if there is any
-abbrev pub IsFirstUpTo : Snapshot → List SystemLine → ℕ → Option (PortId × PortId) → Type 0
-IsFirstUpTo g lines n None =
-    (i : ℕ) (link : GraphLink) → i < n → slice_get g.links i ≡ Some link → AgreeOver lines link.a.clock link.b.clock
-IsFirstUpTo g lines n (Some ends) = Disagrees g lines ends.0 ends.1
-    × ((r s : PortId) (i : ℕ) → i < n
-    → (slice_get g.links i ≡ Some (link_of (r, s))) ⊎ (slice_get g.links i ≡ Some (link_of (s, r)))
-    → (AgreeOver lines r.clock s.clock → ⊥) → IsBefore r ends.0 → ⊥)
-
 -- ---- the place of a fault
 
 abbrev pub IsLocation : Fault → Snapshot → List SystemLine → Location → Type 0
@@ -144,3 +123,27 @@ IsLocation faults.Tie g lines place = (line : SystemLine) × (p q : PortId) × I
     × IsLowerWay g lines line p q × (place ≡ Link p q)
 IsLocation faults.Role g lines place = (line : SystemLine) × (p : PortId) × IsFirstLine tests.Role g lines line
     × (p.clock ≡ line.clock) × IsFirstRole g lines line p.port × (place ≡ Port p)
+
+-- ---- what the code keeps: contracts of private functions alone cite this
+
+-- no line is strange, and no system's is missing
+abbrev pub AreKnown : Snapshot → List SystemLine → Type 0
+AreKnown g lines = (line : SystemLine) → In line lines → IsKnownLine g line
+
+abbrev pub AreStated : Snapshot → List SystemLine → Type 0
+AreStated g lines = (v : ℕ) → In v (clocks g) → In v (line_clocks lines)
+
+-- the second end, or the first where there is one that doesn't come later
+abbrev pub IsEarliest : Option (PortId × PortId) → PortId × PortId → PortId × PortId → Type 0
+IsEarliest None second result = result ≡ second
+IsEarliest (Some first) second result =
+    ((result ≡ first) × (IsBefore second.0 first.0 → ⊥)) ⊎ ((result ≡ second) × IsBefore second.0 first.0)
+
+-- of the ends of such links at the places before this one the first, if there is any
+abbrev pub IsFirstUpTo : Snapshot → List SystemLine → ℕ → Option (PortId × PortId) → Type 0
+IsFirstUpTo g lines n None =
+    (i : ℕ) (link : GraphLink) → i < n → slice_get g.links i ≡ Some link → AgreeOver lines link.a.clock link.b.clock
+IsFirstUpTo g lines n (Some ends) = Disagrees g lines ends.0 ends.1
+    × ((r s : PortId) (i : ℕ) → i < n
+    → (slice_get g.links i ≡ Some (link_of (r, s))) ⊎ (slice_get g.links i ≡ Some (link_of (s, r)))
+    → (AgreeOver lines r.clock s.clock → ⊥) → IsBefore r ends.0 → ⊥)

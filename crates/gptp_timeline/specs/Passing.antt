@@ -1,4 +1,4 @@
--- A stretch that passes before an observer.
+-- What the code keeps of a stretch that passes before an observer: contracts of private functions alone cite this.
 use Rattle.std.specs.Prelude.{◌≡◌, ◌⊎◌, ℕ, List, [], ◌∷◌, ◌++◌, Option, Some, None, map, Bool}
 use Rattle.gptp_acts.specs.Views.{rising_clocks}
 use Rattle.gptp_acts.specs.World.{WorldState}

@@ -1,4 +1,4 @@
--- Who is where in a world (profile).
+-- What the code keeps of who is where in a world: contracts of private functions alone cite this.
 use Rattle.std.specs.Prelude.{◌≡◌, ◌≢◌, ℕ, ◌+◌, ◌*◌, ◌<◌, ◌≤◌, List, map, length, Contains, Option, Some, None, slice_get, slice_index_or, slice_set}
 use Rattle.std.specs.List.Sorted.{IsPermutation, IsNonDecreasing}
 use Rattle.gptp_vector.specs.declared.port.PortId.{PortId}
