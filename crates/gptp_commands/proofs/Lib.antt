@@ -26,8 +26,11 @@ pub mod EveryPassLemmas
 pub mod EveryTimelineLemmas
 pub mod EveryFaultsLemmas
 pub mod VersionLemmas
-pub mod CommandLemmas
+pub mod TableLemmas
 pub mod OptionLemmas
+pub mod NameLemmas
+pub mod PlainLemmas
+pub mod CommandLemmas
 pub mod CheckLemmas
 pub mod RunLemmas
 pub mod RunSoFarLemmas

@@ -22,5 +22,7 @@ pub mod LintText
 pub mod QuestionText
 pub mod Certified
 pub mod Version
+pub mod Table
+pub mod Options
 pub mod Command
 pub mod OrderText

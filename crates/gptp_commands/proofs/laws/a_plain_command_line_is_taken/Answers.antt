@@ -1,4 +1,4 @@
-use Rattle.gptp_commands.proofs.CommandLemmas.{plain_taken}
+use Rattle.gptp_commands.proofs.PlainLemmas.{plain_taken}
 use Rattle.gptp_commands.proofs.laws.a_plain_command_line_is_taken.Goals as goal
 
 pub returns : goal.returns
