@@ -6,5 +6,7 @@ pub mod Trouble
 pub mod Unlinked
 pub mod Findings
 pub mod Unread
+pub mod Why
+pub mod Refusal
 pub mod LintText
 pub mod Laws

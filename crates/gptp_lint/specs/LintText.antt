@@ -15,7 +15,7 @@ use Rattle.gptp_lint.specs.declared.trouble.Long.{Long}
 use Rattle.gptp_lint.specs.declared.trouble.Lossy.{Lossy}
 use Rattle.gptp_lint.specs.Unread.{UnreadKey, line_words, unread_line}
 
--- the line of a document that is refused: the fault, and behind it where it is and why it is one
+-- the line of a document that is refused: the fault, and after it where it is and why it is one (`TellsPlace`)
 abbrev pub refused_line : DocumentFault → List ℕ → List ℕ
 refused_line fault place = codes "refused " ++ documents.fault_text fault ++ place
 

@@ -3,7 +3,6 @@
 #![tactic(auto)]
 
 mod components;
-mod diagnosis;
 mod escaped;
 mod findings;
 mod graph;
@@ -15,12 +14,10 @@ mod outline;
 mod place;
 mod refusal;
 mod scanner;
-mod seen;
 mod text;
 mod trouble;
 mod unknown;
 mod unlinked;
-mod values;
 mod why;
 
 pub use findings::{Findings, find};
