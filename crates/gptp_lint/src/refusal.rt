@@ -114,7 +114,7 @@ fn meant<'a>(
 ) -> Option<&'a [u8]> {
     let number = nearest(outline, keys_at(document, place), place, missing)?;
     let entry = outline.entries.get(number)?;
-    Some(&entry.key)
+    Some(entry.key.as_slice())
 }
 
 /// The key at a place that was meant, maybe, where the document is refused since one is missing.
@@ -167,7 +167,8 @@ fn tell_refusal(
     let outline = outline_of(alloc, input)?;
     let place = Place::of(refusal.place);
     let near = near_key(document, &outline, place, &refusal.why);
-    write_words(alloc, refusal, outline.line(place), near)
+    let tail = write_words(alloc, refusal, outline.line(place), near)?;
+    Ok(tail)
 }
 
 /// What follows the fault of a text that spells a table; nothing where that is a document.
@@ -176,7 +177,7 @@ fn tell_table(alloc: Global, input: &[u8], document: &Table) -> Result<String, A
 {
     match Document::of_table(alloc, document) {
         Ok(_) => Ok(String::new(alloc)),
-        Err(refusal) => match refusal.why {
+        Err(refusal) => match &refusal.why {
             Why::Memory => Err(AllocError),
             _ => tell_refusal(alloc, input, document, &refusal),
         },

@@ -4,6 +4,7 @@ use Rattle.std.specs.Prelude.{bytes_eq, if◌then◌else◌, int_le, nat_lt}
 use Rattle.hex.specs.Hex.{decode_of, decode_sized}
 use Rattle.hex.specs.declared.error.FromHexError.{FromHexError}
 use Rattle.toml.specs.Data.{Data, Items, Members, item, no_items, as_array, as_bool, as_integer, as_str, as_table, get_member, no_members}
+use Rattle.gptp_roles.specs.Selection.{clock_of}
 use Rattle.gptp_plan.specs.Calm.{last_change}
 use Rattle.gptp_plan.specs.Network.{NetworkState, link_fault, system_fault, with_link, with_system, without_members}
 use Rattle.gptp_plan.specs.Params.{is_between, params_fault}
@@ -259,7 +260,10 @@ system_is version announce t =
 
 put_system_is : (s : System) (n : NetworkState)
     → forget (put_system s n) ≡ tested (system_fault n (member_of s)) (with_system (member_of s) n)
-put_system_is s n = told_is _ (system_fault n (member_of s)) (with_system (member_of s) n) (system_faults n _ _)
+put_system_is s n =
+    let log = first_shorter n.params.pdelay s.intervals.items n.params.announce in
+    told_is (system_why n (clock_of s.identity) log) (system_fault n (member_of s)) (with_system (member_of s) n)
+    (system_faults n (clock_of s.identity) log)
 
 with_system_is : (version : ℕ) (d : Data) (n : NetworkState)
     → forget (read_with_system version d n) ≡ with_system_of version d n

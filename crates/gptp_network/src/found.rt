@@ -2,23 +2,28 @@
 
 ghost use Rattle.std.specs.Prelude.{◌≡◌, slice_get};
 ghost use Rattle.std.specs.Option.{option_and_then};
-ghost use Rattle.gptp_network.specs.Found.{joins, link_from, ports_if, system_from};
+ghost use Rattle.gptp_network.specs.Found.{is_either, joins, link_from, ports_by, ports_if, system_from};
 
 use gptp_plan::Network;
-use gptp_vector::{ClockId, PortId};
+use gptp_vector::{ClockId, Identity, PortId};
+
+/// How many ports a system with this identity has, where it has this clock.
+fn ports_by(identity: Identity, ports: u8, clock: ClockId) -> Option<u8>
+    ensures { result ≡ ports_by clock identity ports }
+{
+    if identity.clock() == clock {
+        Some(ports)
+    } else {
+        None
+    }
+}
 
 /// How many ports the system at a place has, where it has this clock.
-fn ports_if(network: &Network, place: usize, clock: ClockId) -> Option<u8>
+fn ports_at(network: &Network, place: usize, clock: ClockId) -> Option<u8>
     ensures { result ≡ option_and_then (ports_if clock) (slice_get network.now.systems place) }
 {
     match network.system_at(place) {
-        Some((identity, ports, _, _, _)) => {
-            if identity.clock() == clock {
-                Some(ports)
-            } else {
-                None
-            }
-        }
+        Some(system) => ports_by(system.0, system.1, clock),
         None => None,
     }
 }
@@ -29,11 +34,18 @@ pub(crate) fn system_with(network: &Network, clock: ClockId) -> Option<(usize, u
     ensures { result ≡ system_from 0 network.now.systems clock }
 {
     for place in 0..network.systems() {
-        if let Some(ports) = ports_if(network, place, clock) {
+        if let Some(ports) = ports_at(network, place, clock) {
             return Some((place, ports));
         }
     }
     None
+}
+
+/// Whether a port is one of these two.
+fn is_either(a: PortId, b: PortId, port: PortId) -> bool
+    ensures { result ≡ is_either port a b }
+{
+    a == port || b == port
 }
 
 /// Whether the link at a place, if there is one, is at a port.
@@ -41,7 +53,7 @@ fn joins(network: &Network, place: usize, port: PortId) -> bool
     ensures { result ≡ joins port (slice_get network.now.links place) }
 {
     match network.link_at(place) {
-        Some((a, b, _, _)) => a == port || b == port,
+        Some(link) => is_either(link.0, link.1, port),
         None => false,
     }
 }

@@ -10,7 +10,6 @@ use crate::place::Place;
 use arrayvec::ArrayVec;
 use gptp_plan::{NetworkFault, Params};
 use gptp_vector::{ClockId, PortId};
-use std::alloc::AllocFailed;
 use toml::Value;
 
 /// How many octets of a text are kept.
@@ -240,16 +239,5 @@ impl Why {
             Why::Other { fault } => DocumentFault::from(*fault),
             Why::Memory => DocumentFault::OutOfMemory,
         }
-    }
-}
-
-impl<T: Drop> From<AllocFailed<T>> for Why {
-    ghost use Rattle.std.specs.Prelude.{◌≡◌};
-    ghost use Rattle.gptp_network.specs.declared.why.Why.TheVariants.{Memory};
-
-    ghost from_gives = { λ _ why. why ≡ Memory };
-
-    fn from(_: AllocFailed<T>) -> Self {
-        Why::Memory
     }
 }
