@@ -1,6 +1,7 @@
 -- Where a document is refused, and why (profile).
-use Rattle.std.specs.Prelude.{◌≡◌, ◌⊎◌, ◌++◌, ℕ, Bool, true, false, codes, List, [], Option, Some, None, Result, Ok, Err}
+use Rattle.std.specs.Prelude.{◌≡◌, ◌⊎◌, ◌==◌, ◌++◌, ℕ, Bool, true, false, not, codes, List, [], Option, Some, None, Result, Ok, Err}
 use Rattle.std.specs.Fmt.{decimal}
+use Rattle.std.specs.List.{list_all}
 use Rattle.toml.specs.Data.{Members}
 use Rattle.gptp_network.specs.Document.{DocumentState, IsNoToml, Parses}
 use Rattle.gptp_network.specs.ReadDocument.{read_document}
@@ -57,3 +58,7 @@ abbrev pub TellsPlace : List ℕ → List ℕ → Type 0
 TellsPlace text tail =
     (IsNoToml text × ((at : Option (ℕ × ℕ)) × (tail ≡ no_toml_words at)))
     ⊎ ((t : Members) × Parses text t × TellsRefusal (read_document t) tail)
+
+-- a text that is part of one line
+abbrev pub HasNoFeed : List ℕ → Type 0
+HasNoFeed text = list_all (λ octet. not (octet == 10)) text ≡ true
