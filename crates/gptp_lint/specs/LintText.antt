@@ -1,7 +1,7 @@
 -- What `lint` writes for a document (profile).
-use Rattle.std.specs.Prelude.{◌≡◌, ◌==◌, ℕ, not, Bool, codes, List, ◌++◌, length, map, Option, Some, None, option_map}
+use Rattle.std.specs.Prelude.{◌≡◌, ◌==◌, ℕ, not, Bool, true, codes, List, ◌++◌, length, map, Option, Some, None, option_map}
 use Rattle.std.specs.Fmt.{decimal}
-use Rattle.std.specs.List.{flat_map}
+use Rattle.std.specs.List.{flat_map, list_all}
 use Rattle.std.specs.Option.{option_to_list}
 use Rattle.gptp_network.specs.Faults as documents
 use Rattle.gptp_network.specs.declared.fault.DocumentFault.{DocumentFault}
@@ -14,6 +14,10 @@ use Rattle.gptp_lint.specs.declared.findings.Findings.{Findings}
 use Rattle.gptp_lint.specs.declared.trouble.Long.{Long}
 use Rattle.gptp_lint.specs.declared.trouble.Lossy.{Lossy}
 use Rattle.gptp_lint.specs.Unread.{UnreadKey, line_words, unread_line}
+
+-- a text without a line feed
+abbrev pub IsOneLine : List ℕ → Type 0
+IsOneLine text = list_all (λ octet. not (octet == 10)) text ≡ true
 
 -- the line of a document that is refused: the fault, and behind it where it is and why it is one
 abbrev pub refused_line : DocumentFault → List ℕ → List ℕ

@@ -1,8 +1,9 @@
 //! The line of a document that is refused.
 
-ghost use Rattle.std.specs.Prelude.{◌≡◌, ◌++◌, ◌∷◌, [], List, ℕ, OnOk, string_bytes};
+ghost use Rattle.std.specs.Prelude.{◌≡◌, ◌++◌, ◌∷◌, ◌==◌, [], List, ℕ, OnOk, not, string_bytes};
+ghost use Rattle.std.specs.List.{list_all};
 ghost use Rattle.gptp_spelling.specs.Lines.{text_of};
-ghost use Rattle.gptp_lint.specs.LintText.{refused_line};
+ghost use Rattle.gptp_lint.specs.LintText.{IsOneLine, refused_line};
 
 use crate::diagnosis::{Halt, test_document};
 use crate::escaped::Escaped;
@@ -126,6 +127,23 @@ fn write_place(alloc: Global, text: &mut String, input: &[u8]) -> Result<(), All
     }
 }
 
+/// Whether a text has no line feed.
+fn is_one_line(text: &[u8]) -> bool
+    ensures { result ≡ list_all (λ octet. not (octet == 10)) text.now }
+{
+    text.iter().all(|octet| *octet != b'\n')
+}
+
+/// The words of a place, which are one line.
+fn words_of(place: &str) -> &str
+    ensures { IsOneLine result.now }
+{
+    match is_one_line(place.as_bytes()) {
+        true => place,
+        false => "",
+    }
+}
+
 /// Appends the line of a text that is refused as a document: the fault, where it is, and why it is one.
 pub fn write_refusal(
     alloc: Global,
@@ -133,13 +151,13 @@ pub fn write_refusal(
     input: &[u8],
     fault: DocumentFault,
 ) -> Result<(), AllocError>
-    ensures { OnOk result ((place : List ℕ)
+    ensures { OnOk result ((place : List ℕ) × IsOneLine place
         × (string_bytes text.new ≡ string_bytes text.old ++ text_of (refused_line fault place ∷ []))) }
 {
     let mut place = String::new(alloc);
     write_place(alloc, &mut place, input)?;
     write!(text, "refused {fault}")?;
-    text.push_str(place.as_str())?;
+    text.push_str(words_of(place.as_str()))?;
     text.push_str("\n")?;
     Ok(())
 }
