@@ -34,7 +34,11 @@ findings_told strict input d means =
 
 -- the place of a fault is left open too
 refused_at : (fault : DocumentFault) → HaveText (RefusesAtPlace fault)
-refused_at fault = (refused_line fault [] ∷ [], Refused, record { place = []; one = refl; line = refl; status_is = refl })
+refused_at fault = (
+  refused_line fault [] ∷ [],
+  Refused,
+  record { place = []; one = refl; line = refl; status_is = refl },
+)
 
 module _ (strict : Bool) (input : List ℕ) where
   input_answered : MeansOrFails input → HaveText (AnswersInput (Lint strict) input)
