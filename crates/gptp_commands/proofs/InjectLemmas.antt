@@ -1,24 +1,21 @@
 -- What the events of a document that a text means inject is octets that a frame can have.
-use Rattle.std.proofs.Common.{◌≡◌, ◌<◌, ◌≤◌, ◌*◌, ℕ, suc, Bool, true, false, codes, nat_le, List, [], ◌∷◌, ◌++◌, length, Option, Some, None, Result, Ok, Err, refl, arith}
-use Rattle.std.specs.Prelude.{if◌then◌else◌, bytes_eq, nat_lt, slice_index}
+use Rattle.std.proofs.Common.{◌≡◌, ◌<◌, ◌≤◌, ◌*◌, ℕ, suc, Bool, true, false, codes, nat_le, List, [], ◌∷◌, length, Option, Some, None, Result, Ok, Err, refl, arith}
+use Rattle.std.specs.Prelude.{if◌then◌else◌, bytes_eq, slice_index}
 use Rattle.std.proofs.lemmas.Bool.{and_parts, leb-true}
-use Rattle.toml.specs.Data.{Data, Items, Members, as_str, as_table, get_member, item, no_items}
+use Rattle.toml.specs.Data.{Data, Members, as_str, get_member}
 use Rattle.hex.specs.Hex.{decode_of}
 use Rattle.hex.specs.declared.error.FromHexError.{FromHexError}
 use Rattle.hex.proofs.HexLemmas.{decode_of-ok}
-use Rattle.gptp_plan.specs.Calm.{last_change}
-use Rattle.gptp_plan.specs.Network.{NetworkState}
 use Rattle.gptp_plan.specs.Params.{is_between}
 use Rattle.gptp_plan.specs.declared.change.Act.TheVariants.{Change as Changing}
 use Rattle.gptp_plan.specs.declared.change.Change.{Change}
 use Rattle.gptp_plan.specs.declared.change.Change.TheVariants.{LinkDown, LinkUp, LinkSet, Fail, Recover, Priority1, Inject}
-use Rattle.gptp_plan.specs.declared.change.Timed.{Timed}
-use Rattle.gptp_network.specs.Document.{DocumentState, Means, document_of, whole_network_of}
-use Rattle.gptp_network.specs.Events.{change_fault, change_of, event_of, events_of, fail_of, inject_of, link_down_of, link_set_of, link_up_of, not_before, priority1_of, recover_of, timed, with_event_of}
-use Rattle.gptp_network.specs.Members.{each_of, limited}
-use Rattle.gptp_network.specs.Values.{array_at, clock, key_in, kind_of, natural, octets, octets_of_text, spelled_octets, text}
-use Rattle.gptp_network.specs.declared.fault.DocumentFault.TheVariants.{EventOrder, MissingKey, OutOfRange}
-use Rattle.gptp_network.proofs.GivenLemmas.{either, given, next, refused, unless_faulty, Gives}
+use Rattle.gptp_network.specs.Document.{DocumentState, Means}
+use Rattle.gptp_network.specs.Events.{change_of, fail_of, inject_of, link_down_of, link_set_of, link_up_of, priority1_of, recover_of}
+use Rattle.gptp_network.specs.Values.{clock, key_in, kind_of, natural, octets, octets_of_text, spelled_octets}
+use Rattle.gptp_network.specs.declared.fault.DocumentFault.TheVariants.{MissingKey, OutOfRange}
+use Rattle.gptp_network.proofs.GivenLemmas.{Gives, either, given, next, refused}
+use Rattle.gptp_reached.proofs.EventGivenLemmas.{document_given}
 use Rattle.gptp_outcome.specs.ExistenceLaws.{AllInject}
 use Rattle.gptp_outcome.specs.GoingOn.{AreOctets, AreOfFrame, InjectsOctets}
 
@@ -115,60 +112,5 @@ change_injects kind t =
     (either Injects (bytes_eq kind (codes "priority1")) _ _ (priority1_injects t)
     (either Injects (bytes_eq kind (codes "inject")) _ _ (inject_injects t) (refused Injects OutOfRange)))))))
 
--- ---- events
-
-event_injects : (t : Members) (e : _) → event_of t ≡ Ok e → InjectsOctets (timed e).act
-unfolding event_of
-event_injects t =
-    next (λ e. InjectsOctets (timed e).act) (natural (codes "at") 0 800000000000000 None t) _ (λ at is.
-    next (λ e. InjectsOctets (timed e).act) (text (codes "kind") t) _ (λ kind of.
-    next (λ e. InjectsOctets (timed e).act) (change_of kind t) _ (λ change read.
-    given (λ e. InjectsOctets (timed e).act) (record { at = at; change = change })
-    (change_injects kind t change read))))
-
-inject_behind : (events : List Timed) (one : Timed) → AllInject events → InjectsOctets one.act
-    → AllInject (events ++ one ∷ [])
-inject_behind [] one all is = (is, tt)
-inject_behind (e ∷ events) one all is = (all.0, inject_behind events one all.1 is)
-
-with_event_injects : (n : NetworkState) (d : Data) (events : List Timed) → AllInject events
-    → Gives AllInject (with_event_of n d events)
-unfolding with_event_of
-with_event_injects n d events all =
-    next AllInject (kind_of (as_table d)) _ (λ t is. next AllInject (event_of t) _ (λ e read.
-    next AllInject (not_before (last_change events) e) _ (λ later in_order.
-    let injects : InjectsOctets (timed later).act =
-    either (λ e. InjectsOctets (timed e).act) (nat_lt e.at (last_change events)) (Err EventOrder) (Ok e)
-    (refused (λ e. InjectsOctets (timed e).act) EventOrder)
-    (given (λ e. InjectsOctets (timed e).act) e (event_injects t e read)) later in_order in
-    unless_faulty AllInject (change_fault n later.change) (events ++ timed later ∷ [])
-    (λ none. inject_behind events (timed later) all injects))))
-
-each_injects : (n : NetworkState) (ds : Items) (events : List Timed) → AllInject events
-    → Gives AllInject (each_of (with_event_of n) ds events)
-each_injects n no_items events all = given AllInject events all
-each_injects n (item d ds) events all =
-    next AllInject (with_event_of n d events) (each_of (with_event_of n) ds)
-    (λ more is. each_injects n ds more (with_event_injects n d events all more is))
-
-events_inject : (t : Members) (n : NetworkState) → Gives AllInject (events_of t n)
-unfolding events_of
-events_inject t n =
-    next AllInject (array_at (codes "event") t) _ (λ ds is. next AllInject (limited 4096 ds) _ (λ few short.
-    each_injects n few [] tt))
-
--- ---- documents
-
-abbrev DocumentInjects : DocumentState → Type 0
-DocumentInjects d = AllInject d.events
-
-document_injects : (t : Members) → Gives DocumentInjects (document_of t)
-unfolding document_of
-document_injects t =
-    next DocumentInjects (natural (codes "version") 1 2 None t) _ (λ version is.
-    next DocumentInjects (whole_network_of version t) _ (λ network of.
-    next DocumentInjects (events_of t network) _ (λ events read.
-    given DocumentInjects (record { network = network; events = events }) (events_inject t network events read))))
-
 pub meant_injects : (input : List ℕ) (d : DocumentState) → Means input d → AllInject d.events
-meant_injects input d means = document_injects means.table d means.is
+meant_injects input d means = document_given InjectsOctets change_injects means.table d means.is

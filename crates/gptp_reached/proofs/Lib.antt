@@ -10,6 +10,7 @@ pub mod CalmLemmas
 pub mod AlikeLemmas
 pub mod SettleLemmas
 pub mod ClaimedLemmas
+pub mod EventGivenLemmas
 pub mod OctetLemmas
 pub mod RestLemmas
 pub mod HeadlineLemmas
