@@ -141,7 +141,8 @@ module _ (P : Act → Type 0) (each : EachChange (λ change. P (Changing change)
       next (λ e. P (timed e).act) (natural (codes "at") 0 800000000000000 None t) _ (λ at is.
       next (λ e. P (timed e).act) (text (codes "kind") t) _ (λ kind of.
       next (λ e. P (timed e).act) (change_of kind t) _ (λ change read.
-      given (λ e. P (timed e).act) (record { at = at; change = change }) (change_given (λ c. P (Changing c)) each kind t change read))))
+      given (λ e. P (timed e).act) (record { at = at; change = change })
+      (change_given (λ c. P (Changing c)) each kind t change read))))
 
   with_event_given : (n : NetworkState) (d : Data) (events : List Timed) → AllAre P events
       → Gives (AllAre P) (with_event_of n d events)
