@@ -10,7 +10,6 @@ pub mod CalmLemmas
 pub mod AlikeLemmas
 pub mod SettleLemmas
 pub mod ClaimedLemmas
-pub mod EventGivenLemmas
 pub mod OctetLemmas
 pub mod RestLemmas
 pub mod HeadlineLemmas
