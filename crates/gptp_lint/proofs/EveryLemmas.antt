@@ -22,8 +22,9 @@ use Rattle.gptp_network.specs.Document.{DocumentState}
 use Rattle.gptp_network.specs.Events.{AreEvents}
 use Rattle.gptp_network.specs.Snapshot.{events_by}
 use Rattle.gptp_network.proofs.ExistenceLemmas.{snapshot_exists}
-use Rattle.gptp_network.proofs.MeantLemmas.{SetsOctets, each_member, meant_document, meant_octets, stands_below}
+use Rattle.gptp_network.proofs.MeantLemmas.{SetsOctets, meant_document, meant_octets, stands_below}
 use Rattle.gptp_network.proofs.SnapshotLemmas.{from_filter}
+use Rattle.gptp_network.proofs.TakingLemmas.{in_all}
 use Rattle.gptp_topology.specs.Course.{cable_of, wire_of}
 use Rattle.gptp_topology.specs.Tables.{clocks_of}
 use Rattle.gptp_topology.specs.Times.{IsTime, late_at, times_of}
@@ -343,4 +344,5 @@ module _ (d : DocumentState) (network : IsNetwork d.network) (events : AreEvents
 pub each_is_found : EachIsFound
 each_is_found text d means =
     let (network, events) = meant_document text d means in
-    findings_exist d network events (few_meant text d means) (each_member d.events (meant_octets text d means))
+    findings_exist d network events (few_meant text d means)
+    (λ t member. in_all (λ (u : Timed). SetsOctets u.act) t d.events (meant_octets text d means) member)

@@ -1,5 +1,5 @@
 -- What a text means is a network with events of it.
-use Rattle.std.proofs.Common.{◌≡◌, ◌<◌, ◌≤◌, ◌*◌, ◌^◌, ◌/◌, ◌==◌, ℕ, zero, suc, ℤ, Bool, true, false, codes, nat_le, List, [], ◌∷◌, ◌++◌, length, Option, Some, None, Result, Ok, Err, refl, sym, subst, inl, inr, arith}
+use Rattle.std.proofs.Common.{◌≡◌, ◌<◌, ◌≤◌, ◌*◌, ◌^◌, ◌/◌, ◌==◌, ℕ, zero, suc, ℤ, Bool, true, false, codes, nat_le, List, [], ◌∷◌, ◌++◌, length, Option, Some, None, Result, Ok, Err, refl, subst, inl, inr, arith}
 use Rattle.std.specs.Prelude.{⊤, bytes_eq, if◌then◌else◌, nat_lt, slice_index}
 use Rattle.std.specs.Int.{byte_at, bytes_high_first, int_max, int_min}
 use Rattle.std.specs.List.{AllByRecursion, reduce}
@@ -42,6 +42,7 @@ use Rattle.gptp_network.specs.declared.systems.System.{System}
 use Rattle.gptp_network.proofs.EventLemmas.{event_added}
 use Rattle.gptp_network.proofs.FitLemmas.{change_fits, link_fits, params_fit, system_fits}
 use Rattle.gptp_network.proofs.SnapshotLemmas.{from_filter, member_there, stands_well}
+use Rattle.gptp_network.proofs.TakingLemmas.{in_all}
 use Rattle.gptp_network.proofs.GivenLemmas.{either, given, next, refused, unless_faulty, value_within, Gives}
 
 -- ---- octets
@@ -410,17 +411,11 @@ stands_below (t ∷ es) sets own s below =
     stands_below es (λ u member. sets u (inr member)) own (system_acted t.act own s)
     (acted_below t.act own s (sets t (inl refl)) below)
 
-pub each_member : (es : List Timed) → AllByRecursion (λ (t : Timed). SetsOctets t.act) es → (t : Timed) → In t es
-    → SetsOctets t.act
-each_member [] all t member = absurd member
-each_member (e ∷ es) all t (inl same) = subst (λ (u : Timed). SetsOctets u.act) (sym same) all.0
-each_member (e ∷ es) all t (inr member) = each_member es all.1 t member
-
 pub meant_well : (octets : List ℕ) (d : DocumentState) (time : ℕ) (g : Snapshot) → Means octets d → IsSnapshot d time g
     → IsWellFormed g
 meant_well octets d time g means stands =
     let network = (meant_document octets d means).0 in
-    let sets = each_member d.events (meant_octets octets d means) in
+    let sets = λ t member. in_all (λ (u : Timed). SetsOctets u.act) t d.events (meant_octets octets d means) member in
     stands_well d.network network (events_by time d.events) g stands (λ s live.
     let (m, at, is) = member_there d.network network (events_by time d.events) g stands s live in
     let (place, there) = slice_get-In m d.network.systems at in
