@@ -138,7 +138,7 @@ module _ (n : NetworkState) (network : IsNetwork n) (events : List Timed) (g : S
     pub member : In wire n.links
     pub is : link_of (wire.a, wire.b) ≡ l
     pub up : (link_after events wire).up ≡ true
-    pub used : is_used_after wire ≡ true
+    pub used : is_used n.systems events (link_after events wire) ≡ true
     pub to : has_clock g.systems l.b.clock ≡ true
     pub from : has_clock g.systems l.a.clock ≡ true
 
