@@ -113,16 +113,17 @@ no_header s e left open is pair = by (slice_index s 1 == 91) refl
     by true second = members (header_key (drop 2 s)) refl second
     by false second = tables (header_key (drop 1 s)) refl second
 
-pub has_value : (s : List ℕ) (e : Expression) (left : List ℕ) → expression s ≡ Some (e, left) → HasValue (row_of e s)
-has_value s e left is = by (first s == 91) refl
+pub has_value : (text s : List ℕ) (e : Expression) (left : List ℕ) → expression s ≡ Some (e, left) → HasValue (row_of text e s)
+has_value text s e left is = by (first s == 91) refl
   where
     read : (r : Read Key) → key_equals s ≡ r → (first s == 91) ≡ false
-        → (key : Key) × (text : List ℕ) × (d : Data) × (rest : List ℕ) × (key_equals s ≡ Some (key, text))
-        × (val recursion_limit text ≡ Some (d, rest))
+        → (key : Key) × (at_value : List ℕ) × (d : Data) × (rest : List ℕ) × (key_equals s ≡ Some (key, at_value))
+        × (val recursion_limit at_value ≡ Some (d, rest))
     read None none other = absurd (none-some _ (sym (no_pair s other none) ∙ is))
-    read (Some (key, text)) some other =
-        let (d, value, same) = expression_pair s text key e left other some is in (key, text, d, left, some, value)
+    read (Some (key, at_value)) some other =
+        let (d, value, same) = expression_pair s at_value key e left other some is in
+        (key, at_value, d, left, some, value)
 
-    by : (open : Bool) → (first s == 91) ≡ open → HasValue (row_of e s)
+    by : (open : Bool) → (first s == 91) ≡ open → HasValue (row_of text e s)
     by true open = λ pair. absurd (no_header s e left open is pair)
     by false other = λ pair. read (key_equals s) refl other

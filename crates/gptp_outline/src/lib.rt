@@ -7,7 +7,6 @@ mod outline;
 mod row;
 mod value;
 
-pub use counter::header_lines;
 pub use inline::{array_keys, table_keys};
 pub use outline::rows;
 pub use row::{Row, RowKind};

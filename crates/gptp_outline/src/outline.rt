@@ -5,6 +5,7 @@ ghost use Rattle.toml.specs.Parse as spec;
 ghost use Rattle.toml_parser.specs.declared.error.ParseError.TheVariants.{OutOfMemory};
 ghost use Rattle.gptp_outline.specs.Rows.{IsDocument, rows, shown};
 
+use crate::counter::{LineMark, mark_of};
 use crate::row::{Row, expression};
 use std::alloc::Global;
 use toml_parser::ParseError;
@@ -29,13 +30,21 @@ pub fn rows<'a>(alloc: Global, text: &'a str) -> Result<Vec<Row<'a>>, ParseError
 {
     let mut rows = Vec::new(alloc);
     let mut rest = skip_bom(text);
+    let mut mark = LineMark { place: 0, line: 1 };
     'lines: loop {
         let start = skip_blank(rest, true);
         if start.is_empty() {
             return Ok(rows);
         }
         let ((key, kind), after) = expression(alloc, start)?;
-        rows.push(Row { key, kind, start })?;
+        let here = mark_of(text, mark, start);
+        rows.push(Row {
+            key,
+            kind,
+            start,
+            line: here.line,
+        })?;
+        mark = here;
         rest = after;
     }
 }

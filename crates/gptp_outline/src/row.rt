@@ -20,12 +20,13 @@ pub enum RowKind {
     ArrayTable,
 }
 
-/// A row: its key, what it says of it, and what is left of the text where it begins.
+/// A row: its key, what it says of it, what is left of the text where it begins, and the number of its line, from 1.
 #[derive(Drop)]
 pub struct Row<'a> {
     pub key: Key,
     pub kind: RowKind,
     pub start: &'a str,
+    pub line: usize,
 }
 
 /// The key of a header and its first closing bracket.
