@@ -12,5 +12,6 @@ mod TextLemmas
 mod FoundLemmas
 mod EscapedLemmas
 mod OrderedLemmas
+mod OutlineLemmas
 mod FewLemmas
 pub mod EveryLemmas

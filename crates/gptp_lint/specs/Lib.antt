@@ -6,5 +6,6 @@ pub mod Trouble
 pub mod Unlinked
 pub mod Findings
 pub mod Unread
+pub mod Outline
 pub mod LintText
 pub mod Laws

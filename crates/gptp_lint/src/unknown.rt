@@ -6,7 +6,7 @@ ghost use Rattle.gptp_lint.specs.Unread.{AppendsUnread};
 use crate::escaped::Escaped;
 use crate::keys::{is_known, keys_at, table_at};
 use crate::nearest::{is_nearer, near};
-use crate::outline::{Entry, Outline, outline_of};
+use crate::outline::{Entry, Outline};
 use crate::place::{Place, PlaceWords};
 use std::alloc::{AllocError, Global};
 use toml::Table;

@@ -1,10 +1,11 @@
 -- The rows of a document, a row at a time.
-use Rattle.std.proofs.Common.{◌≡◌, ℕ, zero, suc, ◌-◌, ◌<◌, Bool, true, false, ◌==◌, List, [], ◌∷◌, ◌++◌, Option, Some, None, Result, Ok, Err, IfErr, append_assoc, arith, IsUtf8, length, option_and_then, option_map, unwrap_or, refl, subst, sym, ap, ◌∙◌}
+use Rattle.std.proofs.Common.{◌≡◌, ℕ, zero, suc, ◌-◌, ◌<◌, Bool, true, false, ◌==◌, List, [], ◌∷◌, ◌++◌, Option, Some, None, Result, Ok, Err, IfErr, append_assoc, arith, if◌then◌else◌, IsUtf8, length, option_and_then, option_map, unwrap_or, refl, subst, sym, ap, ◌∙◌}
 use Rattle.std.proofs.lemmas.Bool.Decides.{nat_tests}
 use Rattle.std.proofs.lemmas.Option.{none-some, same_Some}
-use Rattle.std.proofs.lemmas.Str.{is_utf8-from_IsUtf8}
+use Rattle.std.proofs.lemmas.Str.{IsUtf8-from_is_utf8, is_utf8-from_IsUtf8}
 use Rattle.std.specs.List.{AllByRecursion}
 use Rattle.std.specs.Result.{IsErrAnd}
+use Rattle.std.specs.Str.{is_utf8}
 use Rattle.toml_parser.specs.Lexical.{Read, skip_blank}
 use Rattle.toml_parser.specs.declared.error.ParseError.{ParseError}
 use Rattle.toml_parser.specs.declared.error.ParseError.TheVariants.{OutOfMemory}
@@ -87,6 +88,28 @@ nothing_before (Some more) = refl
 pub table_is : (text : List ℕ) (t : Members) → IsUtf8 text → parse_document text ≡ Some t → table_of text ≡ Some t
 unfolding table_of
 table_is text t utf8 is = rw (is_utf8-from_IsUtf8 text utf8, is) refl
+
+pub is_table : (text : List ℕ) (t : Members) → table_of text ≡ Some t → parse_document text ≡ Some t
+unfolding table_of
+is_table text t is = by (is_utf8 text) is
+  where
+    by : (utf8 : Bool) → (if utf8 then parse_document text else None) ≡ Some t → parse_document text ≡ Some t
+    by true read = read
+    by false read = absurd (none-some _ read)
+
+-- a text that is no TOML has no table, and no rows
+pub no_table : (text : List ℕ) → (IsUtf8 text → parse_document text ≡ None) → table_of text ≡ None
+unfolding table_of
+no_table text none = by (is_utf8 text) refl
+  where
+    by : (utf8 : Bool) → is_utf8 text ≡ utf8
+        → ◌≡◌ {A = Option Members} (if utf8 then parse_document text else None) None
+    by true is = none (IsUtf8-from_is_utf8 text is)
+    by false is = refl
+
+pub no_rows : (text : List ℕ) → table_of text ≡ None → rows text ≡ []
+unfolding rows
+no_rows text none = rw none refl
 
 -- the rows of a document are those that were found
 pub rows_are : (text : List ℕ) (t : Members) (found : List RowState) → table_of text ≡ Some t
