@@ -13,5 +13,6 @@ mod FoundLemmas
 mod EscapedLemmas
 mod OrderedLemmas
 mod OutlineLemmas
+pub mod UnreadLemmas
 mod FewLemmas
 pub mod EveryLemmas

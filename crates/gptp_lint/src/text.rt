@@ -1,10 +1,13 @@
 //! Findings as text.
 
-ghost use Rattle.std.specs.Prelude.{◌≡◌, ◌++◌, ◌∷◌, ◌↔◌, [], Bool, List, ℕ, IfOk, IsTrue, OnOk, map, slice_get, string_bytes};
+ghost use Rattle.std.specs.Prelude.{◌≡◌, ◌++◌, ◌∷◌, ◌↔◌, [], Bool, List, ℕ, IfOk, IsTrue, OnOk, map, option_map, slice_get, string_bytes};
 ghost use Rattle.std.specs.List.{flat_map};
 ghost use Rattle.gptp_spelling.specs.Lines.{text_of};
 ghost use Rattle.gptp_lint.specs.LintText.{AppendsFindings, apart_line, calm_line, chance_line, late_line, late_lines, long_line, lossy_line, nobody_line, other_lines, unlinked_line};
+ghost use Rattle.toml.specs.View.{table_view};
+ghost use Rattle.gptp_lint.specs.Outline.{outline_state};
 ghost use Rattle.gptp_lint.specs.Unread.{AppendsUnread};
+ghost use Rattle.gptp_lint.specs.UnreadKeys.{unread_of};
 
 use crate::components::{Apart, Nobody};
 use crate::findings::Findings;
@@ -247,7 +250,9 @@ fn write_calm_times(text: &mut String, times: &[CalmTime]) -> Result<(), AllocEr
 
 /// Appends the lines of the keys of a text that aren't read.
 fn write_unread(alloc: Global, text: &mut String, source: &Source) -> Result<(), AllocError>
-    ensures { OnOk result (AppendsUnread (string_bytes text.old) (string_bytes text.new)) }
+    ensures { OnOk result (AppendsUnread (outline_state source.now.outline)
+        (unread_of (option_map table_view source.now.document) (outline_state source.now.outline))
+        (string_bytes text.old) (string_bytes text.new)) }
 {
     match &source.document {
         Some(document) => write_unknown_keys(alloc, text, document, &source.outline),

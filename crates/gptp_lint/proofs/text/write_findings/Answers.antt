@@ -9,7 +9,9 @@ use Rattle.gptp_lint.specs.declared.place.Place.TheVariants.{Member}
 use Rattle.gptp_lint.specs.declared.place.Section.TheVariants.{Link}
 use Rattle.gptp_lint.specs.declared.trouble.Long.{Long}
 use Rattle.gptp_lint.specs.declared.trouble.Lossy.{Lossy}
+use Rattle.gptp_lint.specs.UnreadKeys.{unread_of}
 use Rattle.gptp_lint.proofs.TextLemmas.{five_kinds, joined, longer}
+use Rattle.gptp_lint.proofs.UnreadLemmas.{unread_is}
 use Rattle.gptp_lint.proofs.text.write_findings.Goals as goal
 
 pub returns : goal.returns
@@ -17,16 +19,18 @@ returns c =
     let f = c.args.findings.now in
     let old = string_bytes c.args.text.now in
     let others = string_bytes c.write_others.new.text in
-    let (unread, first) = c.in_ok-write_unread.ensures in
+    let told = c.in_ok-write_unread.ensures in
+    let unread = told.told in
     let input = c.args.input.now in
+    let outline_is = c.in_ok-source.ensures.outline in
     let links_are : c.in_ok-source.source.outline.links.items ≡ (outline_of_text input).links =
-    ap (λ (o : OutlineState). o.links) c.in_ok-source.ensures.outline in
+    ap (λ (o : OutlineState). o.links) outline_is in
     let header : ℕ → Option ℕ = λ link. header_line input (Member Link link) in
     let long : Long → List ℕ = λ l. long_line c.args.threshold (header l.link) l in
     let lossy : Lossy → List ℕ = λ l. lossy_line (header l.link) l in
     let mid = five_kinds old (string_bytes c.write_unread.new.text) (string_bytes c.write_longs.new.text)
-    (string_bytes c.write_stretches.new.text) (string_bytes c.write_lates.new.text) others (map unread_line unread)
-    (map long f.long.items) (map lossy f.lossy.items) (flat_map (late_lines f.limit) f.calm.items) (other_lines f) first
+    (string_bytes c.write_stretches.new.text) (string_bytes c.write_lates.new.text) others (map (unread_line (outline_of_text input)) unread)
+    (map long f.long.items) (map lossy f.lossy.items) (flat_map (late_lines f.limit) f.calm.items) (other_lines f) (rw outline_is at told.text_is)
     (rw (c.deref.ensures.value, links_are) at c.in_ok-write_longs.ensures)
     (rw (c.deref-2.ensures.value, links_are) at c.in_ok-write_stretches.ensures)
     (rw c.deref-3.ensures.value at c.in_ok-write_lates.ensures) c.in_ok-write_others.ensures in
@@ -34,6 +38,7 @@ returns c =
       lines ++ map calm_line f.calm.items,
       record {
         unread = unread;
+        unread_are = told.keys_are ∙ ap₂ unread_of c.in_ok-source.ensures.document outline_is ∙ unread_is input;
         lines_are = refl;
         found_is = ap₂ nat_lt (ap length c.as_bytes-before.ensures.value) (ap length c.as_bytes.ensures.value)
             ∙ ap (λ t. nat_lt (length old) (length t)) mid
