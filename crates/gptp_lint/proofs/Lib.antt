@@ -12,5 +12,7 @@ mod TextLemmas
 mod FoundLemmas
 mod EscapedLemmas
 mod OrderedLemmas
+mod OutlineLemmas
+pub mod UnreadLemmas
 mod FewLemmas
 pub mod EveryLemmas

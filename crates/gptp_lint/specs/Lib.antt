@@ -5,6 +5,9 @@ pub mod Moments
 pub mod Trouble
 pub mod Unlinked
 pub mod Findings
+pub mod Outline
 pub mod Unread
+pub mod Keys
+pub mod UnreadKeys
 pub mod LintText
 pub mod Laws
