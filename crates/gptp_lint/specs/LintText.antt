@@ -1,7 +1,7 @@
 -- What `lint` writes for a document (profile).
-use Rattle.std.specs.Prelude.{◌≡◌, ◌==◌, ℕ, not, Bool, true, codes, List, ◌++◌, length, map, Option, Some, None, option_map}
+use Rattle.std.specs.Prelude.{◌≡◌, ◌==◌, ℕ, not, Bool, codes, List, ◌++◌, length, map, Option, Some, None, option_map}
 use Rattle.std.specs.Fmt.{decimal}
-use Rattle.std.specs.List.{flat_map, list_all}
+use Rattle.std.specs.List.{flat_map}
 use Rattle.std.specs.Option.{option_to_list}
 use Rattle.gptp_network.specs.Faults as documents
 use Rattle.gptp_network.specs.declared.fault.DocumentFault.{DocumentFault}
@@ -19,11 +19,7 @@ use Rattle.gptp_lint.specs.Outline.{header_line, outline_of_text}
 use Rattle.gptp_lint.specs.Unread.{UnreadKey, line_words, placed, unread_line}
 use Rattle.gptp_lint.specs.UnreadKeys.{unread_keys}
 
--- a text without a line feed
-abbrev pub IsOneLine : List ℕ → Type 0
-IsOneLine text = list_all (λ octet. not (octet == 10)) text ≡ true
-
--- the line of a document that is refused: the fault, and behind it where it is and why it is one
+-- the line of a document that is refused: the fault, and after it where it is and why it is one (`TellsPlace`)
 abbrev pub refused_line : DocumentFault → List ℕ → List ℕ
 refused_line fault place = codes "refused " ++ documents.fault_text fault ++ place
 

@@ -4,10 +4,10 @@ use Rattle.gptp_lint.proofs.refusal.write_refusal.Goals as goal
 
 pub returns : goal.returns
 returns c = (
-  c.words_of.result.now,
-  c.words_of.ensures,
+  c.as_str.result.now,
+  c.in_ok-tail.ensures,
   c.in_ok-push_str-2.ensures.bytes
       ∙ ap (λ t. t ++ 10 ∷ []) (c.in_ok-push_str.ensures.bytes
-      ∙ ap (λ t. t ++ c.words_of.result.now) c.in_ok-write.ensures.bytes)
+      ∙ ap (λ t. t ++ c.as_str.result.now) c.in_ok-write.ensures.bytes)
       ∙ simp append_assoc,
 )
