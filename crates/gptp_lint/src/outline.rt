@@ -7,7 +7,7 @@ ghost use Rattle.toml_parser.specs.Reading.{key_view};
 ghost use Rattle.gptp_outline.specs.Inline.{HasValue, array_keys, keys_view};
 ghost use Rattle.gptp_outline.specs.Rows.{shown, table_of};
 ghost use Rattle.gptp_outline.specs.declared.row.RowKind.TheVariants.{Pair};
-ghost use Rattle.gptp_lint.specs.Outline.{after, after_array, after_pair, after_table, array_section, at_place, before_rows, entries_view, first_part, header_entries, keys_at, last_member, line_in, lines_of, network_entries, numbered, opened, outline_of_text, outline_state, pair_entries, place_inside, second_part, section_of, table_context, value_entries};
+ghost use Rattle.gptp_lint.specs.Outline.{after, after_array, after_pair, after_table, array_section, at_place, before_rows, entries_view, first_part, header_entries, keys_at, last_member, line_in, lines_of, network_context, network_entries, numbered, opened, outline_of_text, outline_state, pair_entries, place_inside, second_part, section_of, table_context, value_entries};
 
 use crate::place::{Place, Section};
 use gptp_outline::{Row, RowKind, array_keys, rows, table_keys};
@@ -245,14 +245,24 @@ fn push_line(lines: &mut Vec<usize>, line: usize) -> Result<usize, AllocError>
     Ok(number)
 }
 
+/// The place of the pairs after the header `[name]`, if they count.
+fn network_context(name: &str) -> Option<Place>
+    ensures { result ≡ network_context name.now }
+{
+    if name == "network" {
+        Some(Place::Network)
+    } else {
+        None
+    }
+}
+
 /// The place of the pairs after a header in single brackets, if they count.
 fn table_context(key: &Key) -> Option<Place>
     ensures { result ≡ table_context (key_view key.now) }
 {
-    if second_part(key).is_none() && first_part(key) == "network" {
-        Some(Place::Network)
-    } else {
-        None
+    match second_part(key) {
+        Some(_) => None,
+        None => network_context(first_part(key)),
     }
 }
 
@@ -404,17 +414,27 @@ fn outline_of_rows(alloc: Global, rows: &[Row<'_>]) -> Result<Outline, AllocErro
     Ok(outline)
 }
 
+/// The outline of a text in UTF-8 that is TOML.
+fn outline_of_str(alloc: Global, text: &str) -> Result<Outline, AllocError>
+    ensures { IfOk result (λ outline. (t : Members) → table_of text.now ≡ Some t
+        → outline_state outline ≡ outline_of_text text.now) }
+{
+    match rows(alloc, text) {
+        Ok(rows) => outline_of_rows(alloc, &rows),
+        Err(error) => match error {
+            ParseError::OutOfMemory => Err(AllocError),
+            ParseError::At(_, _, _) => Ok(Outline::new(alloc)),
+        },
+    }
+}
+
 /// The outline of a text that is TOML.
 pub(crate) fn outline_of(alloc: Global, text: &[u8]) -> Result<Outline, AllocError>
     ensures { IfOk result (λ outline. (t : Members) → table_of text.now ≡ Some t
         → outline_state outline ≡ outline_of_text text.now) }
 {
-    let Ok(source) = str::from_utf8(text) else {
-        return Ok(Outline::new(alloc));
-    };
-    match rows(alloc, source) {
-        Ok(rows) => outline_of_rows(alloc, &rows),
-        Err(ParseError::OutOfMemory) => Err(AllocError),
-        Err(ParseError::At(_, _, _)) => Ok(Outline::new(alloc)),
+    match str::from_utf8(text) {
+        Ok(source) => outline_of_str(alloc, source),
+        Err(_) => Ok(Outline::new(alloc)),
     }
 }
