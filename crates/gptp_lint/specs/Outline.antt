@@ -98,9 +98,12 @@ inner_entries Network row = []
 inner_entries (Member section number) row = []
 
 -- a pair has its key where the last header says, and at the top what its value has
+abbrev pub placed_entries : Place → RowState → List PlacedKey
+placed_entries place row = ((place, first_part row.key) ∷ []) ++ inner_entries place row
+
 abbrev pub pair_entries : Option Place → RowState → List PlacedKey
 pair_entries None row = []
-pair_entries (Some place) row = ((place, first_part row.key) ∷ []) ++ inner_entries place row
+pair_entries (Some place) row = placed_entries place row
 
 abbrev pub after_pair : OutlineState → RowState → OutlineState
 after_pair o row = record o { entries = o.entries ++ pair_entries o.context row }

@@ -7,7 +7,7 @@ ghost use Rattle.toml_parser.specs.Reading.{key_view};
 ghost use Rattle.gptp_outline.specs.Inline.{HasValue, array_keys, keys_view};
 ghost use Rattle.gptp_outline.specs.Rows.{shown, table_of};
 ghost use Rattle.gptp_outline.specs.declared.row.RowKind.TheVariants.{Pair};
-ghost use Rattle.gptp_lint.specs.Outline.{after, after_array, after_pair, after_table, array_section, at_place, before_rows, entries_view, first_part, header_entries, keys_at, last_member, line_in, lines_of, network_context, network_entries, numbered, opened, outline_of_text, outline_state, pair_entries, place_inside, second_part, section_of, table_context, value_entries};
+ghost use Rattle.gptp_lint.specs.Outline.{after, after_array, after_pair, after_table, array_section, at_place, before_rows, entries_view, first_part, header_entries, keys_at, last_member, line_in, lines_of, network_context, network_entries, numbered, opened, outline_of_text, outline_state, pair_entries, place_inside, placed_entries, second_part, section_of, table_context, value_entries};
 
 use crate::place::{Place, Section};
 use gptp_outline::{Row, RowKind, array_keys, rows, table_keys};
@@ -105,12 +105,12 @@ fn push_if(
     ensures { OnOk result (entries_view entries.new ≡ entries_view entries.old
         ++ at_place place (option_to_list (option_map (λ part. part.now) key))) }
 {
-    let Some(place) = place else {
-        return Ok(());
-    };
-    match key {
-        Some(key) => push_key(alloc, entries, place, key),
+    match place {
         None => Ok(()),
+        Some(place) => match key {
+            None => Ok(()),
+            Some(key) => push_key(alloc, entries, place, key),
+        },
     }
 }
 
@@ -200,6 +200,24 @@ fn push_value(
     }
 }
 
+/// Puts the key of a pair at a place after others, and at the top the keys in its value.
+fn push_pair_at(
+    alloc: Global,
+    entries: &mut Vec<Entry>,
+    place: Place,
+    row: &Row<'_>,
+) -> Result<(), AllocError>
+    ensures { OnOk result (HasValue (shown row.now) → row.now.kind ≡ Pair
+        → entries_view entries.new ≡ entries_view entries.old ++ placed_entries place (shown row.now)) }
+{
+    push_key(alloc, entries, place, first_part(&row.key))?;
+    match place {
+        Place::Top => push_value(alloc, entries, row),
+        Place::Network => Ok(()),
+        Place::Member(_, _) => Ok(()),
+    }
+}
+
 /// Puts the keys of a pair after others.
 fn push_pair(
     alloc: Global,
@@ -210,14 +228,9 @@ fn push_pair(
     ensures { OnOk result (HasValue (shown row.now) → row.now.kind ≡ Pair
         → entries_view entries.new ≡ entries_view entries.old ++ pair_entries context (shown row.now)) }
 {
-    let Some(place) = context else {
-        return Ok(());
-    };
-    push_key(alloc, entries, place, first_part(&row.key))?;
-    match place {
-        Place::Top => push_value(alloc, entries, row),
-        Place::Network => Ok(()),
-        Place::Member(_, _) => Ok(()),
+    match context {
+        None => Ok(()),
+        Some(place) => push_pair_at(alloc, entries, place, row),
     }
 }
 
