@@ -155,7 +155,8 @@ fn push_network(
     row: &Row<'_>,
 ) -> Result<(), AllocError>
     ensures { OnOk result (HasValue (shown row.now) → row.now.kind ≡ Pair
-        → entries_view entries.new ≡ entries_view entries.old ++ network_entries (second_part (key_view row.now.key)) (shown row.now)) }
+        → entries_view entries.new ≡ entries_view entries.old
+        ++ network_entries (second_part (key_view row.now.key)) (shown row.now)) }
 {
     if let Some(part) = second_part(&row.key) {
         return push_key(alloc, entries, Place::Network, part);

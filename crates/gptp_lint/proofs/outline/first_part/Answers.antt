@@ -6,7 +6,8 @@ use Rattle.gptp_lint.proofs.outline.first_part.Goals as goal
 pub returns-in-Some : goal.returns-in-Some
 returns-in-Some c =
     let key = c.args.key.now in
-    let there : slice_get key.path.items 0 ≡ Some c.in-Some.part.now = rw c.deref.ensures.value at (sym c.in-Some.ensures.value) in
+    let there : slice_get key.path.items 0 ≡ Some c.in-Some.part.now =
+    rw c.deref.ensures.value at (sym c.in-Some.ensures.value) in
     c.as_str.ensures.value
     ∙ sym (ap (λ o. unwrap_or o (string_bytes key.last))
     (slice_get-map string_bytes key.path.items 0 ∙ ap (option_map string_bytes) there))

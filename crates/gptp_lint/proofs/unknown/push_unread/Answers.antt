@@ -16,8 +16,10 @@ use Rattle.gptp_lint.proofs.unknown.push_unread.Goals as goal
 
 pub returns-then-is_known-clause-pushed : goal.returns-then-is_known-clause-pushed
 returns-then-is_known-clause-pushed c =
-    let known = sym (c.is_known.ensures ∙ ap₂ is_known c.keys_at.ensures c.deref.ensures.value) ∙ c.if-is_known.true in
-    known_stays (table_view c.args.document.now) (found_view c.args.unread.now.items) (entry_view c.args.entry.now) known
+    let known = sym (c.is_known.ensures ∙ ap₂ is_known c.keys_at.ensures c.deref.ensures.value)
+    ∙ c.if-is_known.true in
+    known_stays (table_view c.args.document.now) (found_view c.args.unread.now.items) (entry_view c.args.entry.now)
+    known
 
 pub returns-then-not-added-clause-pushed : goal.returns-then-not-added-clause-pushed
 returns-then-not-added-clause-pushed c =
@@ -25,10 +27,12 @@ returns-then-not-added-clause-pushed c =
     let found = found_view c.args.unread.now.items in
     let k : PlacedKey = entry_view c.args.entry.now in
     let x : SeenKey = ((c.part_of.result, c.number_of.result), c.as_slice.result) in
-    let x_is : (x.0, x.1.now) ≡ as_numbers k = rw (c.part_of.ensures, c.number_of.ensures, c.as_slice.ensures.value) refl in
+    let x_is : (x.0, x.1.now) ≡ as_numbers k =
+    rw (c.part_of.ensures, c.number_of.ensures, c.as_slice.ensures.value) refl in
     let member : contains seen_cmp c.args.seen.now x ≡ list_any (λ old. is_same old k) found =
     c.requires.seen x ∙ ap (λ q. list_any (λ old. is_eq (compare_keys (as_numbers old) q)) found) x_is in
-    let unknown = sym (c.is_known.ensures ∙ ap₂ is_known c.keys_at.ensures c.deref.ensures.value) ∙ c.if-is_known.false in
+    let unknown = sym (c.is_known.ensures ∙ ap₂ is_known c.keys_at.ensures c.deref.ensures.value)
+    ∙ c.if-is_known.false in
     let there : contains seen_cmp c.args.seen.now x ≡ true = grind (common_steps, c.in_ok-added.ensures.added) in
     again_stays t found k unknown (sym member ∙ there)
 
@@ -38,10 +42,12 @@ returns-clause-pushed c =
     let found = found_view c.args.unread.now.items in
     let k : PlacedKey = entry_view c.args.entry.now in
     let x : SeenKey = ((c.part_of.result, c.number_of.result), c.as_slice.result) in
-    let x_is : (x.0, x.1.now) ≡ as_numbers k = rw (c.part_of.ensures, c.number_of.ensures, c.as_slice.ensures.value) refl in
+    let x_is : (x.0, x.1.now) ≡ as_numbers k =
+    rw (c.part_of.ensures, c.number_of.ensures, c.as_slice.ensures.value) refl in
     let member : contains seen_cmp c.args.seen.now x ≡ list_any (λ old. is_same old k) found =
     c.requires.seen x ∙ ap (λ q. list_any (λ old. is_eq (compare_keys (as_numbers old) q)) found) x_is in
-    let unknown = sym (c.is_known.ensures ∙ ap₂ is_known c.keys_at.ensures c.deref.ensures.value) ∙ c.if-is_known.false in
+    let unknown = sym (c.is_known.ensures ∙ ap₂ is_known c.keys_at.ensures c.deref.ensures.value)
+    ∙ c.if-is_known.false in
     let absent : contains seen_cmp c.args.seen.now x ≡ false = grind (common_steps, c.in_ok-added.ensures.added) in
     ap found_view c.in_ok-push.ensures.items
     ∙ map-append (λ (e : Bor Entry). entry_view e.now) c.args.unread.now.items (c.args.entry ∷ [])
@@ -52,7 +58,8 @@ returns-clause-seen c =
     let found = found_view c.args.unread.now.items in
     let k : PlacedKey = entry_view c.args.entry.now in
     let x : SeenKey = ((c.part_of.result, c.number_of.result), c.as_slice.result) in
-    let x_is : (x.0, x.1.now) ≡ as_numbers k = rw (c.part_of.ensures, c.number_of.ensures, c.as_slice.ensures.value) refl in
+    let x_is : (x.0, x.1.now) ≡ as_numbers k =
+    rw (c.part_of.ensures, c.number_of.ensures, c.as_slice.ensures.value) refl in
     let pushed : found_view c.push.new.self.items ≡ found ++ k ∷ [] = ap found_view c.in_ok-push.ensures.items
     ∙ map-append (λ (e : Bor Entry). entry_view e.now) c.args.unread.now.items (c.args.entry ∷ []) in
     subst (HaveSeen c.insert-added.new.self) (sym pushed)

@@ -8,7 +8,8 @@ overflow_add-line c =
     let text = c.args.text.now in
     let from = c.args.mark.place in
     let to = c.args.place in
-    let more : c.feeds-more.result ≡ count_by (λ octet. octet == 10) (take (to - from) (drop from text)) = search rules in
+    let more : c.feeds-more.result
+    ≡ count_by (λ octet. octet == 10) (take (to - from) (drop from text)) = search rules in
     omega (arith, counted_more text from to c.requires.before, line_small text to, c.requires.counted.counted)
 
 pub returns-clause-counted : goal.returns-clause-counted
@@ -16,7 +17,8 @@ returns-clause-counted c =
     let text = c.args.text.now in
     let from = c.args.mark.place in
     let to = c.args.place in
-    let more : c.feeds-more.result ≡ count_by (λ octet. octet == 10) (take (to - from) (drop from text)) = search rules in
+    let more : c.feeds-more.result
+    ≡ count_by (λ octet. octet == 10) (take (to - from) (drop from text)) = search rules in
     record {
       within = c.requires.within;
       counted = omega (arith, counted_more text from to c.requires.before, c.requires.counted.counted);
