@@ -13,6 +13,7 @@ mod FoundLemmas
 mod EscapedLemmas
 mod OrderedLemmas
 mod OutlineLemmas
+mod KeyLemmas
 pub mod UnreadLemmas
 mod FewLemmas
 pub mod EveryLemmas

@@ -87,7 +87,7 @@ section_entries (Some section) row = numbered section 0 (array_keys row)
 section_entries None row = []
 
 -- the keys in the value of a pair at the top
-unfoldable pub value_entries : RowState → List PlacedKey
+abbrev pub value_entries : RowState → List PlacedKey
 value_entries row =
     if is_network (first_part row.key) then network_entries (second_part row.key) row
     else section_entries (array_section row.key) row
