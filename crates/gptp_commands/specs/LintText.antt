@@ -19,7 +19,8 @@ pub record RefusesAtPlace (input : List ℕ) (fault : DocumentFault) (output : L
 
 -- what is found in a document, which the input spells; it is refused where that is strict and there is a line but on
 -- calm
-pub record TellsFindings (input : List ℕ) (d : DocumentState) (strict : Bool) (output : List (List ℕ)) (status : Status) : Type 0 where
+pub record TellsFindings (input : List ℕ) (d : DocumentState) (strict : Bool) (output : List (List ℕ)) (status : Status)
+    : Type 0 where
   pub findings : Findings
   pub are : AreFound d findings
   pub found : Bool

@@ -14,6 +14,7 @@ mod EscapedLemmas
 mod FeedLemmas
 mod OrderedLemmas
 mod OutlineLemmas
+mod KeyLemmas
 pub mod UnreadLemmas
 mod FewLemmas
 pub mod EveryLemmas

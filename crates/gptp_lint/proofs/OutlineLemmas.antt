@@ -46,7 +46,8 @@ two_pieces old mid new xs ys first second = second ∙ ap (λ zs. zs ++ ys) firs
 
 -- one row more
 pub row_more : (xs : List Row) (i : ℕ) (x : Row) → slice_get xs i ≡ Some x
-    → fold after before_rows (map shown (take (i + 1) xs)) ≡ after (fold after before_rows (map shown (take i xs))) (shown x)
+    → fold after before_rows (map shown (take (i + 1) xs))
+    ≡ after (fold after before_rows (map shown (take i xs))) (shown x)
 row_more xs i x there =
     ap (λ ys. fold after before_rows (map shown ys)) (taken xs i x there)
     ∙ ap (fold after before_rows) (map-append shown (take i xs) (x ∷ []))

@@ -85,7 +85,8 @@ pub more_unread : (o : OutlineState) (xs ys : List PlacedKey) (old mid new : Lis
 more_unread o xs ys old mid new first second = record {
   told = first.told ++ second.told;
   keys_are = map-append placed first.told second.told ∙ ap₂ (λ us vs. us ++ vs) first.keys_are second.keys_are;
-  text_is = joined old mid new (map (unread_line o) first.told) (map (unread_line o) second.told) first.text_is second.text_is
+  text_is = joined old mid new (map (unread_line o) first.told) (map (unread_line o) second.told) first.text_is
+      second.text_is
       ∙ ap (λ t. old ++ text_of t) (sym (map-append (unread_line o) first.told second.told));
 }
 

@@ -85,7 +85,8 @@ found_lines input threshold f unread =
 -- too long or lose frames, each with the line of its header, the times at which Sync is late, the other findings, and
 -- each time; and whether there is a line but the last. There is no other line. Which known key is told to be near one
 -- that isn't read is left open here.
-pub record AreLines (input : List ℕ) (threshold : ℕ) (f : Findings) (lines : List (List ℕ)) (found : Bool) : Type 0 where
+pub record AreLines (input : List ℕ) (threshold : ℕ) (f : Findings) (lines : List (List ℕ)) (found : Bool)
+    : Type 0 where
   pub unread : List UnreadKey
   pub unread_are : map placed unread ≡ unread_keys input
   pub lines_are : lines ≡ found_lines input threshold f unread ++ map calm_line f.calm.items

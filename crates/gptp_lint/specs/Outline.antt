@@ -1,5 +1,5 @@
 -- Which keys stand where in a document, in the order of its text, and at which lines members begin (profile).
-use Rattle.std.specs.Prelude.{◌≡◌, ◌==◌, ◌&&◌, ◌-◌, ◌++◌, ℕ, suc, Bool, List, [], ◌∷◌, Option, Some, None, Vec, bytes_eq, codes, if◌then◌else◌, is_none, length, map, option_and_then, option_to_list, slice_get, unwrap_or}
+use Rattle.std.specs.Prelude.{◌==◌, ◌-◌, ◌++◌, ℕ, suc, Bool, List, [], ◌∷◌, Option, Some, None, Vec, bytes_eq, codes, if◌then◌else◌, length, map, option_and_then, option_to_list, slice_get, unwrap_or}
 use Rattle.std.specs.List.{fold}
 use Rattle.std.specs.declared.alloc.Global.{Global}
 use Rattle.toml_parser.specs.Strings.{Key}
@@ -87,7 +87,7 @@ section_entries (Some section) row = numbered section 0 (array_keys row)
 section_entries None row = []
 
 -- the keys in the value of a pair at the top
-unfoldable pub value_entries : RowState → List PlacedKey
+abbrev pub value_entries : RowState → List PlacedKey
 value_entries row =
     if is_network (first_part row.key) then network_entries (second_part row.key) row
     else section_entries (array_section row.key) row
@@ -98,9 +98,12 @@ inner_entries Network row = []
 inner_entries (Member section number) row = []
 
 -- a pair has its key where the last header says, and at the top what its value has
+abbrev pub placed_entries : Place → RowState → List PlacedKey
+placed_entries place row = ((place, first_part row.key) ∷ []) ++ inner_entries place row
+
 abbrev pub pair_entries : Option Place → RowState → List PlacedKey
 pair_entries None row = []
-pair_entries (Some place) row = ((place, first_part row.key) ∷ []) ++ inner_entries place row
+pair_entries (Some place) row = placed_entries place row
 
 abbrev pub after_pair : OutlineState → RowState → OutlineState
 after_pair o row = record o { entries = o.entries ++ pair_entries o.context row }
@@ -126,8 +129,15 @@ with_header o key context =
     record o { context = context; entries = o.entries ++ header_entries (place_inside (first_part key) o) key }
 
 -- after `[network]` come its keys; those of any other table count nowhere
+abbrev pub network_context : List ℕ → Option Place
+network_context name = if is_network name then Some Network else None
+
+abbrev pub context_without : Option (List ℕ) → List ℕ → Option Place
+context_without (Some part) name = None
+context_without None name = network_context name
+
 abbrev pub table_context : Key → Option Place
-table_context key = if is_none (second_part key) && is_network (first_part key) then Some Network else None
+table_context key = context_without (second_part key) (first_part key)
 
 abbrev pub after_table : OutlineState → RowState → OutlineState
 after_table o row = with_header o row.key (table_context row.key)

@@ -7,7 +7,7 @@ ghost use Rattle.toml_parser.specs.Reading.{key_view};
 ghost use Rattle.gptp_outline.specs.Inline.{HasValue, array_keys, keys_view};
 ghost use Rattle.gptp_outline.specs.Rows.{shown, table_of};
 ghost use Rattle.gptp_outline.specs.declared.row.RowKind.TheVariants.{Pair};
-ghost use Rattle.gptp_lint.specs.Outline.{after, after_array, after_pair, after_table, array_section, at_place, before_rows, entries_view, first_part, header_entries, keys_at, last_member, line_in, lines_of, network_entries, numbered, opened, outline_of_text, outline_state, pair_entries, place_inside, second_part, section_of, table_context, value_entries};
+ghost use Rattle.gptp_lint.specs.Outline.{after, after_array, after_pair, after_table, array_section, at_place, before_rows, entries_view, first_part, header_entries, keys_at, last_member, line_in, lines_of, network_context, network_entries, numbered, opened, outline_of_text, outline_state, pair_entries, place_inside, placed_entries, second_part, section_of, table_context, value_entries};
 
 use crate::place::{Place, Section};
 use gptp_outline::{Row, RowKind, array_keys, rows, table_keys};
@@ -105,12 +105,12 @@ fn push_if(
     ensures { OnOk result (entries_view entries.new ≡ entries_view entries.old
         ++ at_place place (option_to_list (option_map (λ part. part.now) key))) }
 {
-    let Some(place) = place else {
-        return Ok(());
-    };
-    match key {
-        Some(key) => push_key(alloc, entries, place, key),
+    match place {
         None => Ok(()),
+        Some(place) => match key {
+            None => Ok(()),
+            Some(key) => push_key(alloc, entries, place, key),
+        },
     }
 }
 
@@ -155,7 +155,8 @@ fn push_network(
     row: &Row<'_>,
 ) -> Result<(), AllocError>
     ensures { OnOk result (HasValue (shown row.now) → row.now.kind ≡ Pair
-        → entries_view entries.new ≡ entries_view entries.old ++ network_entries (second_part (key_view row.now.key)) (shown row.now)) }
+        → entries_view entries.new ≡ entries_view entries.old
+        ++ network_entries (second_part (key_view row.now.key)) (shown row.now)) }
 {
     if let Some(part) = second_part(&row.key) {
         return push_key(alloc, entries, Place::Network, part);
@@ -200,6 +201,24 @@ fn push_value(
     }
 }
 
+/// Puts the key of a pair at a place after others, and at the top the keys in its value.
+fn push_pair_at(
+    alloc: Global,
+    entries: &mut Vec<Entry>,
+    place: Place,
+    row: &Row<'_>,
+) -> Result<(), AllocError>
+    ensures { OnOk result (HasValue (shown row.now) → row.now.kind ≡ Pair
+        → entries_view entries.new ≡ entries_view entries.old ++ placed_entries place (shown row.now)) }
+{
+    push_key(alloc, entries, place, first_part(&row.key))?;
+    match place {
+        Place::Top => push_value(alloc, entries, row),
+        Place::Network => Ok(()),
+        Place::Member(_, _) => Ok(()),
+    }
+}
+
 /// Puts the keys of a pair after others.
 fn push_pair(
     alloc: Global,
@@ -210,14 +229,9 @@ fn push_pair(
     ensures { OnOk result (HasValue (shown row.now) → row.now.kind ≡ Pair
         → entries_view entries.new ≡ entries_view entries.old ++ pair_entries context (shown row.now)) }
 {
-    let Some(place) = context else {
-        return Ok(());
-    };
-    push_key(alloc, entries, place, first_part(&row.key))?;
-    match place {
-        Place::Top => push_value(alloc, entries, row),
-        Place::Network => Ok(()),
-        Place::Member(_, _) => Ok(()),
+    match context {
+        None => Ok(()),
+        Some(place) => push_pair_at(alloc, entries, place, row),
     }
 }
 
@@ -245,14 +259,24 @@ fn push_line(lines: &mut Vec<usize>, line: usize) -> Result<usize, AllocError>
     Ok(number)
 }
 
+/// The place of the pairs after the header `[name]`, if they count.
+fn network_context(name: &str) -> Option<Place>
+    ensures { result ≡ network_context name.now }
+{
+    if name == "network" {
+        Some(Place::Network)
+    } else {
+        None
+    }
+}
+
 /// The place of the pairs after a header in single brackets, if they count.
 fn table_context(key: &Key) -> Option<Place>
     ensures { result ≡ table_context (key_view key.now) }
 {
-    if second_part(key).is_none() && first_part(key) == "network" {
-        Some(Place::Network)
-    } else {
-        None
+    match second_part(key) {
+        Some(_) => None,
+        None => network_context(first_part(key)),
     }
 }
 
@@ -404,17 +428,27 @@ fn outline_of_rows(alloc: Global, rows: &[Row<'_>]) -> Result<Outline, AllocErro
     Ok(outline)
 }
 
+/// The outline of a text in UTF-8 that is TOML.
+fn outline_of_str(alloc: Global, text: &str) -> Result<Outline, AllocError>
+    ensures { IfOk result (λ outline. (t : Members) → table_of text.now ≡ Some t
+        → outline_state outline ≡ outline_of_text text.now) }
+{
+    match rows(alloc, text) {
+        Ok(rows) => outline_of_rows(alloc, &rows),
+        Err(error) => match error {
+            ParseError::OutOfMemory => Err(AllocError),
+            ParseError::At(_, _, _) => Ok(Outline::new(alloc)),
+        },
+    }
+}
+
 /// The outline of a text that is TOML.
 pub(crate) fn outline_of(alloc: Global, text: &[u8]) -> Result<Outline, AllocError>
     ensures { IfOk result (λ outline. (t : Members) → table_of text.now ≡ Some t
         → outline_state outline ≡ outline_of_text text.now) }
 {
-    let Ok(source) = str::from_utf8(text) else {
-        return Ok(Outline::new(alloc));
-    };
-    match rows(alloc, source) {
-        Ok(rows) => outline_of_rows(alloc, &rows),
-        Err(ParseError::OutOfMemory) => Err(AllocError),
-        Err(ParseError::At(_, _, _)) => Ok(Outline::new(alloc)),
+    match str::from_utf8(text) {
+        Ok(source) => outline_of_str(alloc, source),
+        Err(_) => Ok(Outline::new(alloc)),
     }
 }

@@ -9,7 +9,8 @@ pub counted_more : (text : List ℕ) (from to : ℕ) → from ≤ to
     → line_at text from + count_by (λ octet. octet == 10) (take (to - from) (drop from text)) ≡ line_at text to
 counted_more text from to below =
     let end : from + (to - from) ≡ to = omega arith in
-    let rest : drop from (take to text) ≡ take (to - from) (drop from text) = rw end at (drop-take from (to - from) text) in
+    let rest : drop from (take to text) ≡ take (to - from) (drop from text) =
+    rw end at (drop-take from (to - from) text) in
     let parts = sum_by-take-drop (λ octet. cond (octet == 10) 1 0) (take to text) from in
     let whole : count_by (λ octet. octet == 10) (take from text)
     + count_by (λ octet. octet == 10) (take (to - from) (drop from text))

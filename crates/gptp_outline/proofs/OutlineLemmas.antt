@@ -37,27 +37,30 @@ lines_step m doc text all some other read = by (line (skip_blank text)) refl
     by None l = absurd (none-some _ (sym (lines_bad m doc text some other l) ∙ read))
     by (Some (e, after)) l = defines e after l (define doc e) refl
 
-pub rows_end : (whole : List ℕ) (m : ℕ) (text : List ℕ) → 0 < m → length (skip_blank text) ≡ 0 → rows_from whole m text ≡ Some []
+pub rows_end : (whole : List ℕ) (m : ℕ) (text : List ℕ) → 0 < m → length (skip_blank text) ≡ 0
+    → rows_from whole m text ≡ Some []
 unfolding rows_from
 rows_end whole zero text some none = absurd (omega arith)
 rows_end whole (suc m) text some none = rw none refl
 
-rows_turn : (whole : List ℕ) (m : ℕ) (text : List ℕ) (e : Expression) (after : List ℕ) → (length (skip_blank text) == 0) ≡ false
-    → line (skip_blank text) ≡ Some (e, after)
-    → rows_from whole (suc m) text ≡ option_map (λ rows. row_of whole e (skip_blank text) ∷ rows) (rows_from whole m after)
+rows_turn : (whole : List ℕ) (m : ℕ) (text : List ℕ) (e : Expression) (after : List ℕ)
+    → (length (skip_blank text) == 0) ≡ false → line (skip_blank text) ≡ Some (e, after)
+    → rows_from whole (suc m) text
+    ≡ option_map (λ rows. row_of whole e (skip_blank text) ∷ rows) (rows_from whole m after)
 unfolding rows_from
 rows_turn whole m text e after other read = rw (other, read) refl
 
 pub rows_more : (whole : List ℕ) (m : ℕ) (text : List ℕ) (e : Expression) (after : List ℕ) → 0 < m
     → (length (skip_blank text) == 0) ≡ false → line (skip_blank text) ≡ Some (e, after)
-    → rows_from whole m text ≡ option_map (λ rows. row_of whole e (skip_blank text) ∷ rows) (rows_from whole (m - 1) after)
+    → rows_from whole m text
+    ≡ option_map (λ rows. row_of whole e (skip_blank text) ∷ rows) (rows_from whole (m - 1) after)
 rows_more whole zero text e after some other read = absurd (omega arith)
 rows_more whole (suc m) text e after some other read =
     let less : suc m - 1 ≡ m = omega arith in
     rw less (rows_turn whole m text e after other read)
 
-rows_bad : (whole : List ℕ) (m : ℕ) (text : List ℕ) → (length (skip_blank text) == 0) ≡ false → line (skip_blank text) ≡ None
-    → rows_from whole (suc m) text ≡ None
+rows_bad : (whole : List ℕ) (m : ℕ) (text : List ℕ) → (length (skip_blank text) == 0) ≡ false
+    → line (skip_blank text) ≡ None → rows_from whole (suc m) text ≡ None
 unfolding rows_from
 rows_bad whole m text other none = rw (other, none) refl
 
@@ -144,7 +147,10 @@ values_step whole n text found less is = by (length (skip_blank text) == 0) refl
         let turn = rows_turn whole n text e after other read
         ∙ ap (option_map (λ (rows : List RowState). row_of whole e (skip_blank text) ∷ rows)) some in
         subst (AllByRecursion HasValue) (same_Some _ _ (sym turn ∙ is))
-        (has_value whole (skip_blank text) e after (line_expression (skip_blank text) e after read), less after rest some)
+        (
+          has_value whole (skip_blank text) e after (line_expression (skip_blank text) e after read),
+          less after rest some,
+        )
 
     rows_of_line : (r : Read Expression) → line (skip_blank text) ≡ r → (length (skip_blank text) == 0) ≡ false
         → AllByRecursion HasValue found
@@ -161,7 +167,8 @@ rows_values : (whole : List ℕ) (n : ℕ) (text : List ℕ) (found : List RowSt
     → AllByRecursion HasValue found
 unfolding rows_from
 rows_values whole zero text found is = absurd (none-some _ is)
-rows_values whole (suc n) text found is = values_step whole n text found (λ after rest some. rows_values whole n after rest some) is
+rows_values whole (suc n) text found is =
+    values_step whole n text found (λ after rest some. rows_values whole n after rest some) is
 
 pub each_has_value : (text : List ℕ) → AllByRecursion HasValue (rows text)
 unfolding rows

@@ -96,7 +96,8 @@ no_header s e left open is pair = by (slice_index s 1 == 91) refl
         let same = same_Some _ _ (sym (closed_member s k rest open second read closed) ∙ is) in
         let kind : ArrayTable ≡ Pair = ap (λ (p : Expression × List ℕ). kind_of p.0.1) same ∙ pair in
         absurd cc
-    member k rest false unclosed second read = none-some _ (sym (open_member s k rest open second read unclosed) ∙ is)
+    member k rest false unclosed second read =
+        none-some _ (sym (open_member s k rest open second read unclosed) ∙ is)
 
     members : (r : Read Key) → header_key (drop 2 s) ≡ r → (slice_index s 1 == 91) ≡ true → ⊥
     members None read second = none-some _ (sym (no_member s open second read) ∙ is)
@@ -113,7 +114,8 @@ no_header s e left open is pair = by (slice_index s 1 == 91) refl
     by true second = members (header_key (drop 2 s)) refl second
     by false second = tables (header_key (drop 1 s)) refl second
 
-pub has_value : (text s : List ℕ) (e : Expression) (left : List ℕ) → expression s ≡ Some (e, left) → HasValue (row_of text e s)
+pub has_value : (text s : List ℕ) (e : Expression) (left : List ℕ) → expression s ≡ Some (e, left)
+    → HasValue (row_of text e s)
 has_value text s e left is = by (first s == 91) refl
   where
     read : (r : Read Key) → key_equals s ≡ r → (first s == 91) ≡ false

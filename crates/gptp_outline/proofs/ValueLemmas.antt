@@ -47,7 +47,8 @@ module _ (value : List ℕ → Read Data) where
           → after_element 93 after ≡ o
           → (d : Data) × (after : List ℕ) × (next : List ℕ) × (value (skip_blank text) ≡ Some (d, after))
           × (after_element 93 after ≡ Some next) × (items value (m - 1) (push_item found d) next ≡ Some (x, left))
-      ends d after v None e = absurd (none-some _ (sym (items_bad_end value m found text d after some other v e) ∙ read))
+      ends d after v None e =
+          absurd (none-some _ (sym (items_bad_end value m found text d after some other v e) ∙ read))
       ends d after v (Some next) e =
           (d, after, next, v, e, sym (items_more value m found text d after next some other v e) ∙ read)
 
@@ -59,7 +60,8 @@ module _ (value : List ℕ → Read Data) where
 
   -- the value of a pair whose key is known
   pub pair_step : (text at_value : List ℕ) (k key : Key) (d : Data) (after : List ℕ)
-      → key_equals text ≡ Some (k, at_value) → keyval value text ≡ Some ((key, d), after) → value at_value ≡ Some (d, after)
+      → key_equals text ≡ Some (k, at_value) → keyval value text ≡ Some ((key, d), after)
+      → value at_value ≡ Some (d, after)
   pair_step text at_value k key d after is pair = by (value at_value) refl
     where
       by : (v : Read Data) → value at_value ≡ v → value at_value ≡ Some (d, after)
@@ -94,7 +96,8 @@ module _ (value : List ℕ → Read Data) where
       ends key d after more v p None e =
           absurd (none-some _ (sym (members_bad_end value m found more text key d after some other v p e) ∙ read))
       ends key d after more v p (Some next) e =
-          (key, d, after, more, next, v, e, sym (members_more value m found more text key d after next some other v p e) ∙ read)
+          let rest = sym (members_more value m found more text key d after next some other v p e) ∙ read in
+          (key, d, after, more, next, v, e, rest)
 
       puts : (key : Key) (d : Data) (after : List ℕ) → keyval value (skip_blank text) ≡ Some ((key, d), after)
           → (o : Option Nodes) → put key d found ≡ o

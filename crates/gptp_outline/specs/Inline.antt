@@ -33,7 +33,8 @@ items_from depth (suc n) text =
     let start = skip_blank text in
     if first start == right_bracket then Some []
     else option_and_then
-        (λ read. option_and_then (λ next. option_map (λ items. value_keys depth start ∷ items) (items_from depth n next))
+        (λ read. option_and_then
+        (λ next. option_map (λ items. value_keys depth start ∷ items) (items_from depth n next))
         (after_element right_bracket read.1))
         (val depth start)
 

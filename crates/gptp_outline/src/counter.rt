@@ -12,8 +12,7 @@ pub(crate) struct LineMark {
 
 /// How many lines end in some octets.
 fn feeds(octets: &[u8]) -> usize
-    ensures count { result ≡ count_by (λ octet. octet == 10) octets.now }
-    ensures most { result ≤ length octets.now }
+    ensures { result ≡ count_by (λ octet. octet == 10) octets.now }
 {
     octets.iter().filter(|octet| **octet == b'\n').count()
 }
@@ -40,10 +39,8 @@ fn mark_after(text: &str, mark: LineMark, place: usize) -> LineMark
     ensures place { result.place ≡ place }
 {
     let more = feeds(&text.as_bytes()[mark.place..place]);
-    LineMark {
-        place,
-        line: mark.line + more,
-    }
+    let line = mark.line + more;
+    LineMark { place, line }
 }
 
 /// The mark of the place at which this is left of a text, mostly counted from another on.

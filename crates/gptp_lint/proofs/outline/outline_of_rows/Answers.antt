@@ -11,6 +11,7 @@ loop-row-preserved c all =
     let xs = c.args.rows.now in
     let i = c.loop-row.row-index in
     let row = c.row-item.result in
-    let there : slice_get xs i ≡ Some row = slice_get-get_or xs i row c.loop-row-test.true ∙ ap Some (sym c.row-item.is) in
+    let there : slice_get xs i ≡ Some row =
+    slice_get-get_or xs i row c.loop-row-test.true ∙ ap Some (sym c.row-item.is) in
     c.in_ok-note_row.ensures (value_at xs i row all there)
     ∙ ap (λ o. after o (shown row)) (c.loop-row.invariant all) ∙ sym (row_more xs i row there)

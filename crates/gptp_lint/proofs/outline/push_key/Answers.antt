@@ -10,4 +10,5 @@ returns c =
     let old = c.args.entries.now.items in
     let entry : Entry = record { place = c.args.place; key = c.in_ok-octets.octets } in
     ap (map entry_view) c.in_ok-push.ensures.items ∙ map-append entry_view old (entry ∷ [])
-    ∙ ap (λ key. map entry_view old ++ (c.args.place, key) ∷ []) (c.in_ok-octets.ensures.items ∙ c.as_bytes.ensures.value)
+    ∙ ap (λ key. map entry_view old ++ (c.args.place, key) ∷ [])
+    (c.in_ok-octets.ensures.items ∙ c.as_bytes.ensures.value)

@@ -12,7 +12,8 @@ loop-key-preserved c =
     let xs = c.args.keys.now in
     let i = c.loop-key.key-index in
     let key = c.key-item.result in
-    let there : slice_get xs i ≡ Some key = slice_get-get_or xs i key c.loop-key-test.true ∙ ap Some (sym c.key-item.is) in
+    let there : slice_get xs i ≡ Some key =
+    slice_get-get_or xs i key c.loop-key-test.true ∙ ap Some (sym c.key-item.is) in
     let pushed = c.in_ok-push_key.ensures
     ∙ ap (λ part. entries_view c.loop-key.entries ++ (place, part) ∷ []) c.first_part.ensures in
     two_pieces (entries_view c.args.entries.now) (entries_view c.loop-key.entries)

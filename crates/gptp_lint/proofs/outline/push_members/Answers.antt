@@ -28,5 +28,6 @@ loop-keys-preserved c =
           ∙ ap (λ more. entries_view c.args.entries.now ++ more)
           (ap (λ m. numbered section 0 front ++ keys_at (Member section m) (keys_view keys)) (sym count)
           ∙ sym (numbered_more section 0 front (keys_view keys))
-          ∙ ap (numbered section 0) (sym (ap (map keys_view) (taken xs i keys there) ∙ map-append keys_view (take i xs) (keys ∷ [])))),
+          ∙ ap (numbered section 0)
+          (sym (ap (map keys_view) (taken xs i keys there) ∙ map-append keys_view (take i xs) (keys ∷ [])))),
     )

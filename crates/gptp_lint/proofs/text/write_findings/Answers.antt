@@ -29,8 +29,9 @@ returns c =
     let long : Long → List ℕ = λ l. long_line c.args.threshold (header l.link) l in
     let lossy : Lossy → List ℕ = λ l. lossy_line (header l.link) l in
     let mid = five_kinds old (string_bytes c.write_unread.new.text) (string_bytes c.write_longs.new.text)
-    (string_bytes c.write_stretches.new.text) (string_bytes c.write_lates.new.text) others (map (unread_line (outline_of_text input)) unread)
-    (map long f.long.items) (map lossy f.lossy.items) (flat_map (late_lines f.limit) f.calm.items) (other_lines f) (rw outline_is at told.text_is)
+    (string_bytes c.write_stretches.new.text) (string_bytes c.write_lates.new.text) others
+    (map (unread_line (outline_of_text input)) unread) (map long f.long.items) (map lossy f.lossy.items)
+    (flat_map (late_lines f.limit) f.calm.items) (other_lines f) (rw outline_is at told.text_is)
     (rw (c.deref.ensures.value, links_are) at c.in_ok-write_longs.ensures)
     (rw (c.deref-2.ensures.value, links_are) at c.in_ok-write_stretches.ensures)
     (rw c.deref-3.ensures.value at c.in_ok-write_lates.ensures) c.in_ok-write_others.ensures in

@@ -15,7 +15,7 @@ returns c =
     let second = string_bytes c.write_part-2.new.text in
     let third = string_bytes c.write_part-3.new.text in
     on_ok_weaker c.write_part-3.result
-    (λ rest. more_unread o (of_part 2 found) (of_part 3 found ++ of_part 4 found) (string_bytes c.args.text.now) first third
-    c.in_ok-write_part.ensures
+    (λ rest. more_unread o (of_part 2 found) (of_part 3 found ++ of_part 4 found) (string_bytes c.args.text.now) first
+    third c.in_ok-write_part.ensures
     (more_unread o (of_part 3 found) (of_part 4 found) first second third c.in_ok-write_part-2.ensures rest))
     c.write_part-3.ensures

@@ -62,7 +62,8 @@ items-preserved c =
             so_far
                 ∙ ap (option_map (λ items. map keys_view l.found.items ++ items))
                 (item_keys_more depth m l.rest.now d after next (omega arith) other read element)
-                ∙ joined (map keys_view l.found.items) (value_keys depth (skip_blank l.rest.now)) (items_from depth (m - 1) next)
+                ∙ joined (map keys_view l.found.items) (value_keys depth (skip_blank l.rest.now))
+                (items_from depth (m - 1) next)
                 ∙ ap₂ (λ keys rest. option_map (λ others. keys ++ others) (items_from depth (m - 1) rest))
                 (sym (ap (map keys_view) pushed ∙ map-append keys_view l.found.items (c.in_ok-keys.keys ∷ [])
                 ∙ ap (λ k. map keys_view l.found.items ++ k ∷ []) keys_are)) next_is,

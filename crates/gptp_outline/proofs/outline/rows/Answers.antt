@@ -35,7 +35,8 @@ returns-then-is_empty-clause-are c doc =
     let (m, d, all, room, read, same) = l.invariant.3 doc in
     let none : length (skip_blank l.rest.now) ≡ 0 = grind (arith, common_steps) in
     let found = same
-    ∙ ap (option_map (λ more. map shown l.rows.items ++ more)) (rows_end c.args.text.now m l.rest.now (omega arith) none)
+    ∙ ap (option_map (λ more. map shown l.rows.items ++ more))
+    (rows_end c.args.text.now m l.rest.now (omega arith) none)
     ∙ ap Some (append-nil (map shown l.rows.items)) in
     sym (rows_are c.args.text.now doc.0 (map shown l.rows.items)
     (table_is c.args.text.now doc.0 c.utf8.text doc.1) found)
@@ -70,7 +71,8 @@ lines-preserved c =
             all,
             omega arith,
             ap (lines (m - 1) next) facts.0 ∙ more,
-            same ∙ ap (option_map (λ more. map shown l.rows.items ++ more)) (rows_more text m l.rest.now e after (omega arith) other is_line)
+            same ∙ ap (option_map (λ more. map shown l.rows.items ++ more))
+                (rows_more text m l.rest.now e after (omega arith) other is_line)
                 ∙ joined (map shown l.rows.items) y (rows_from text (m - 1) after)
                 ∙ ap₂ (λ xs left. option_map (λ more. xs ++ more) (rows_from text (m - 1) left))
                 (sym (ap (map shown) items ∙ map-append shown l.rows.items (row ∷ [])

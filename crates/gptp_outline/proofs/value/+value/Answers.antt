@@ -30,7 +30,8 @@ array_end-items-preserved t c =
           let (m, found, room, loop) = l.invariant.2 n h x left is in
           let (d, after, next, read, element, more) =
           items_step (val c.args.depth) m found l.rest.now x left (omega arith) other loop in
-          let after_is : c.in_ok-after.after.now ≡ after = c.in_ok-after.ensures.value d after (ap (val c.args.depth) start_is ∙ read) in
+          let after_is : c.in_ok-after.after.now ≡ after =
+          c.in_ok-after.ensures.value d after (ap (val c.args.depth) start_is ∙ read) in
           let next_is : next ≡ c.in_ok-rest.rest.now =
           same_Some _ _ (sym element ∙ ap (after_element 93) (sym after_is) ∙ c.in_ok-rest.ensures.value) in
           (m - 1, _, omega arith, ap (items (val c.args.depth) (m - 1) _) (sym next_is) ∙ more),
@@ -93,7 +94,8 @@ value_end-returns-else-byte-eq91-clause-value t c =
     IfOk-weaker c.table_end.result _ _
     (λ rest skips d left is.
     let inner = mapped table _ d left (sym (val_open_table c.args.depth s some a b) ∙ is) in
-    skips inner.0 left (ap (members (val (c.args.depth - 1)) (length s) _) c.skip-else-byte-eq91.ensures.rest ∙ inner.1))
+    skips inner.0 left
+    (ap (members (val (c.args.depth - 1)) (length s) _) c.skip-else-byte-eq91.ensures.rest ∙ inner.1))
     (c.table_end.ensures.value (length s) c.skip-else-byte-eq91.ensures.shorter)
 
 pub array_end-returns-in_err-after-clause-refused : goal.array_end-returns-in_err-after-clause-refused
