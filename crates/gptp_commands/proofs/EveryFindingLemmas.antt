@@ -9,7 +9,9 @@ use Rattle.gptp_network.specs.declared.why.Refusal.{Refusal}
 use Rattle.gptp_network.proofs.LawLemmas.{MeansOrFails, means_or_fails}
 use Rattle.gptp_lint.specs.LintText.{calm_line, found_lines, refused_line}
 use Rattle.gptp_lint.specs.Refusal.{TellsPlace, TellsRefusal, no_toml_words, refusal_words}
+use Rattle.gptp_lint.specs.UnreadKeys.{unread_keys}
 use Rattle.gptp_lint.proofs.EveryLemmas.{each_is_found}
+use Rattle.gptp_lint.proofs.UnreadLemmas.{bare, bare_placed}
 use Rattle.gptp_commands.specs.declared.failure.Status.TheVariants.{Refused}
 use Rattle.gptp_commands.specs.declared.question.Question.TheVariants.{Lint}
 use Rattle.gptp_commands.specs.Documents.{RefusesFault, document_limit}
@@ -19,18 +21,25 @@ use Rattle.gptp_commands.specs.LintText.{RefusesAtPlace, TellsFindings}
 use Rattle.gptp_commands.specs.QuestionText.{AnswersInput, QuestionText}
 use Rattle.gptp_commands.proofs.EveryQuestionLemmas.{refused_so}
 
--- which keys aren't read, and the lines of headers, are left open: none are told here
-findings_told : (strict : Bool) (input : List ℕ) (d : DocumentState) → Means input d → HaveText (TellsFindings d strict)
+-- which key was meant is left open: none is told here
+findings_told : (strict : Bool) (input : List ℕ) (d : DocumentState) → Means input d
+    → HaveText (TellsFindings input d strict)
 findings_told strict input d means =
     let (f, are) = each_is_found input d means in
-    let said = found_lines d.network.params.threshold f [] (λ link. None) in (
+    let unread = map bare (unread_keys input) in
+    let said = found_lines input d.network.params.threshold f unread in (
       said ++ map calm_line f.calm.items,
       status_by (strict && not (length said == 0)),
       record {
         findings = f;
         are = are;
         found = not (length said == 0);
-        text = record { unread = []; header = λ link. None; lines_are = refl; found_is = refl };
+        text = record {
+          unread = unread;
+          unread_are = bare_placed (unread_keys input);
+          lines_are = refl;
+          found_is = refl;
+        };
         status_is = refl;
       },
     )

@@ -17,10 +17,12 @@ pub record RefusesAtPlace (input : List ℕ) (fault : DocumentFault) (output : L
   pub line : output ≡ refused_line fault place ∷ []
   pub status_is : status ≡ Refused
 
--- what is found in a document; it is refused where that is strict and there is a line but on calm
-pub record TellsFindings (d : DocumentState) (strict : Bool) (output : List (List ℕ)) (status : Status) : Type 0 where
+-- what is found in a document, which the input spells; it is refused where that is strict and there is a line but on
+-- calm
+pub record TellsFindings (input : List ℕ) (d : DocumentState) (strict : Bool) (output : List (List ℕ)) (status : Status)
+    : Type 0 where
   pub findings : Findings
   pub are : AreFound d findings
   pub found : Bool
-  pub text : AreLines d.network.params.threshold findings output found
+  pub text : AreLines input d.network.params.threshold findings output found
   pub status_is : status ≡ status_by (strict && found)

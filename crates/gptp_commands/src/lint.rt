@@ -38,7 +38,7 @@ pub(crate) fn tell_findings(
     input: &[u8],
     strict: bool,
 ) -> Result<Output, SimError>
-    ensures tells { IfOk result (IsOutput (TellsFindings document.now strict)) }
+    ensures tells { IfOk result (IsOutput (TellsFindings input.now document.now strict)) }
     ensures memory { IfErr result (λ e. e ≡ SimError.Memory) }
 {
     let findings = find(alloc, document)?;

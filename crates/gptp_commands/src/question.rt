@@ -58,7 +58,7 @@ fn answer_document(
     input: &[u8],
     question: Question,
 ) -> Result<Output, SimError>
-    ensures answers { IfOk result (IsOutput (Answers question document.now)) }
+    ensures answers { IfOk result (IsOutput (Answers question input.now document.now)) }
     ensures memory { IfErr result (λ e. e ≡ SimError.Memory) }
 {
     match question {

@@ -13,5 +13,8 @@ mod FoundLemmas
 mod EscapedLemmas
 mod FeedLemmas
 mod OrderedLemmas
+mod OutlineLemmas
+mod KeyLemmas
+pub mod UnreadLemmas
 mod FewLemmas
 pub mod EveryLemmas

@@ -7,7 +7,6 @@ use Rattle.std.proofs.lemmas.List.Concat.{flat_map-append}
 use Rattle.std.proofs.lemmas.Option.{slice_get-get_or}
 use Rattle.gptp_lists.proofs.MappedLemmas.{taken}
 use Rattle.gptp_spelling.specs.Lines.{text_of}
-use Rattle.gptp_lint.specs.Unread.{AppendsUnread, UnreadKey, unread_line}
 
 -- a line with its line feed
 abbrev fed : List ℕ → List ℕ
@@ -53,23 +52,6 @@ longer old (line ∷ lines) =
     let parts = length-append (line ++ 10 ∷ []) (text_of lines) in
     let fed = length-append line (10 ∷ []) in
     grind (arith, nat_tests)
-
--- ---- keys that aren't read
-
-pub none_unread : (text : List ℕ) → AppendsUnread text text
-none_unread text = ([], sym (append-nil text))
-
--- the line of one key
-pub one_unread : (old new : List ℕ) (k : UnreadKey) → new ≡ old ++ (unread_line k ++ 10 ∷ []) → AppendsUnread old new
-one_unread old new k is = (k ∷ [], one_more old old new (unread_line k) [] (sym (append-nil old)) is)
-
--- lines of keys, and of more keys
-pub more_unread : (old mid new : List ℕ) → AppendsUnread old mid → AppendsUnread mid new → AppendsUnread old new
-more_unread old mid new (xs, first) (ys, second) = (
-  xs ++ ys,
-  joined old mid new (map unread_line xs) (map unread_line ys) first second
-      ∙ ap (λ t. old ++ text_of t) (sym (map-append unread_line xs ys)),
-)
 
 -- ---- all findings
 

@@ -5,7 +5,10 @@ pub mod Moments
 pub mod Trouble
 pub mod Unlinked
 pub mod Findings
+pub mod Outline
 pub mod Unread
+pub mod Keys
+pub mod UnreadKeys
 pub mod Why
 pub mod Refusal
 pub mod LintText

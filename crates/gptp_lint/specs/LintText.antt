@@ -13,7 +13,11 @@ use Rattle.gptp_lint.specs.declared.components.Nobody.{Nobody}
 use Rattle.gptp_lint.specs.declared.findings.Findings.{Findings}
 use Rattle.gptp_lint.specs.declared.trouble.Long.{Long}
 use Rattle.gptp_lint.specs.declared.trouble.Lossy.{Lossy}
-use Rattle.gptp_lint.specs.Unread.{UnreadKey, line_words, unread_line}
+use Rattle.gptp_lint.specs.declared.place.Place.TheVariants.{Member}
+use Rattle.gptp_lint.specs.declared.place.Section.TheVariants.{Link}
+use Rattle.gptp_lint.specs.Outline.{header_line, outline_of_text}
+use Rattle.gptp_lint.specs.Unread.{UnreadKey, line_words, placed, unread_line}
+use Rattle.gptp_lint.specs.UnreadKeys.{unread_keys}
 
 -- the line of a document that is refused: the fault, and after it where it is and why it is one (`TellsPlace`)
 abbrev pub refused_line : DocumentFault → List ℕ → List ℕ
@@ -70,22 +74,24 @@ other_lines f =
     ++ map chance_line f.components.chance.items ++ map nobody_line f.components.nobody.items
 
 -- all lines but those that tell of each time whether it is calm
-abbrev pub found_lines : ℕ → Findings → List UnreadKey → (ℕ → Option ℕ) → List (List ℕ)
-found_lines threshold f unread header =
-    map unread_line unread ++ map (λ (l : Long). long_line threshold (header l.link) l) f.long.items
-    ++ map (λ (l : Lossy). lossy_line (header l.link) l) f.lossy.items
+abbrev pub found_lines : List ℕ → ℕ → Findings → List UnreadKey → List (List ℕ)
+found_lines input threshold f unread =
+    map (unread_line (outline_of_text input)) unread
+    ++ map (λ (l : Long). long_line threshold (header_line input (Member Link l.link)) l) f.long.items
+    ++ map (λ (l : Lossy). lossy_line (header_line input (Member Link l.link)) l) f.lossy.items
     ++ flat_map (late_lines f.limit) f.calm.items ++ other_lines f
 
--- The findings of a document of this threshold: the keys that aren't read, the links that are too long or lose frames,
--- each with the line of its header, the times at which Sync is late, the other findings, and each time; and whether
--- there is a line but the last. There is no other line: which keys aren't read, and the lines of headers, are left open
--- here.
-pub record AreLines (threshold : ℕ) (f : Findings) (lines : List (List ℕ)) (found : Bool) : Type 0 where
+-- The findings of a document of this threshold, which the input spells: the keys that aren't read, the links that are
+-- too long or lose frames, each with the line of its header, the times at which Sync is late, the other findings, and
+-- each time; and whether there is a line but the last. There is no other line. Which known key is told to be near one
+-- that isn't read is left open here.
+pub record AreLines (input : List ℕ) (threshold : ℕ) (f : Findings) (lines : List (List ℕ)) (found : Bool)
+    : Type 0 where
   pub unread : List UnreadKey
-  pub header : ℕ → Option ℕ
-  pub lines_are : lines ≡ found_lines threshold f unread header ++ map calm_line f.calm.items
-  pub found_is : found ≡ not (length (found_lines threshold f unread header) == 0)
+  pub unread_are : map placed unread ≡ unread_keys input
+  pub lines_are : lines ≡ found_lines input threshold f unread ++ map calm_line f.calm.items
+  pub found_is : found ≡ not (length (found_lines input threshold f unread) == 0)
 
-abbrev pub AppendsFindings : ℕ → Findings → List ℕ → List ℕ → Bool → Type 0
-AppendsFindings threshold f old new found =
-    (lines : List (List ℕ)) × AreLines threshold f lines found × (new ≡ old ++ text_of lines)
+abbrev pub AppendsFindings : List ℕ → ℕ → Findings → List ℕ → List ℕ → Bool → Type 0
+AppendsFindings input threshold f old new found =
+    (lines : List (List ℕ)) × AreLines input threshold f lines found × (new ≡ old ++ text_of lines)

@@ -4,6 +4,7 @@ use Rattle.std.specs.Fmt.{decimal}
 use Rattle.std.specs.List.{flat_map}
 use Rattle.hex.specs.Hex.{encode_lower}
 use Rattle.gptp_spelling.specs.Lines.{text_of}
+use Rattle.gptp_lint.specs.Outline.{OutlineState, PlacedKey, line_in}
 use Rattle.gptp_lint.specs.declared.place.Place.{Place}
 use Rattle.gptp_lint.specs.declared.place.Place.TheVariants.{Top, Network, Member}
 use Rattle.gptp_lint.specs.declared.place.Section.{Section}
@@ -38,10 +39,9 @@ abbrev pub escaped : List ℕ → List ℕ
 escaped [] = 92 ∷ []
 escaped (octet ∷ more) = flat_map escaped_octet (take 64 (octet ∷ more))
 
--- a key that isn't read: its place, the line of the header there, and the key that was meant, maybe
+-- a key that isn't read: its place, and the key that was meant, maybe
 pub record UnreadKey : Type 0 where
   pub place : Place
-  pub line : Option ℕ
   pub key : List ℕ
   pub near : Option (List ℕ)
 
@@ -49,10 +49,18 @@ abbrev pub near_words : Option (List ℕ) → List ℕ
 near_words (Some known) = codes " near " ++ escaped known
 near_words None = []
 
-abbrev pub unread_line : UnreadKey → List ℕ
-unread_line k =
-    codes "unknown " ++ place_words k.place k.line ++ codes " key " ++ escaped k.key ++ near_words k.near
+-- its line, with that of the header of its place
+abbrev pub unread_line : OutlineState → UnreadKey → List ℕ
+unread_line o k =
+    codes "unknown " ++ place_words k.place (line_in o k.place) ++ codes " key " ++ escaped k.key ++ near_words k.near
 
--- lines of some such keys
-abbrev pub AppendsUnread : List ℕ → List ℕ → Type 0
-AppendsUnread old new = (keys : List UnreadKey) × (new ≡ old ++ text_of (map unread_line keys))
+abbrev pub placed : UnreadKey → PlacedKey
+placed k = (k.place, k.key)
+
+-- ---- what the code keeps
+
+-- lines of these keys
+pub record AppendsUnread (o : OutlineState) (keys : List PlacedKey) (old new : List ℕ) : Type 0 where
+  pub told : List UnreadKey
+  pub keys_are : map placed told ≡ keys
+  pub text_is : new ≡ old ++ text_of (map (unread_line o) told)

@@ -1,13 +1,19 @@
 //! Which keys are read where (profile).
 
+ghost use Rattle.std.specs.Prelude.{◌≡◌, bytes_eq, map, option_map};
+ghost use Rattle.std.specs.List.{list_any};
+ghost use Rattle.toml.specs.Data.{get_member};
+ghost use Rattle.toml.specs.View.{items_view, table_view, view};
+ghost use Rattle.gptp_lint.specs.Keys.{event_keys, is_known, is_two, is_version_2, keys_read, kind_text, member_at, members_of, system_keys, table_at};
+
 use crate::place::{Place, Section};
 use toml::{Table, Value};
 
 /// Those at the top.
-const TOP: [&str; 5] = ["version", "network", "system", "link", "event"];
+const TOP: &[&str] = &["version", "network", "system", "link", "event"];
 
 /// Those of `[network]`.
-const NETWORK: [&str; 9] = [
+const NETWORK: &[&str] = &[
     "announce",
     "sync",
     "pdelay",
@@ -20,7 +26,7 @@ const NETWORK: [&str; 9] = [
 ];
 
 /// Those of a system.
-const SYSTEM: [&str; 9] = [
+const SYSTEM: &[&str] = &[
     "clock",
     "priority1",
     "class",
@@ -33,7 +39,7 @@ const SYSTEM: [&str; 9] = [
 ];
 
 /// Those of a system of a document of version 2.
-const SYSTEM_2: [&str; 10] = [
+const SYSTEM_2: &[&str] = &[
     "clock",
     "priority1",
     "class",
@@ -47,95 +53,168 @@ const SYSTEM_2: [&str; 10] = [
 ];
 
 /// Those of a link.
-const LINK: [&str; 8] = ["a", "a_port", "b", "b_port", "min", "max", "loss", "up"];
+const LINK: &[&str] = &["a", "a_port", "b", "b_port", "min", "max", "loss", "up"];
 
 /// Those of an event of no known kind.
-const EVENT: [&str; 2] = ["at", "kind"];
+const EVENT: &[&str] = &["at", "kind"];
 
 /// Those of `link_down` and `link_up`.
-const LINK_EVENT: [&str; 4] = ["at", "kind", "clock", "port"];
+const LINK_EVENT: &[&str] = &["at", "kind", "clock", "port"];
 
 /// Those of `link_set`.
-const LINK_SET: [&str; 7] = ["at", "kind", "clock", "port", "min", "max", "loss"];
+const LINK_SET: &[&str] = &["at", "kind", "clock", "port", "min", "max", "loss"];
 
 /// Those of `fail` and `recover`.
-const SYSTEM_EVENT: [&str; 3] = ["at", "kind", "clock"];
+const SYSTEM_EVENT: &[&str] = &["at", "kind", "clock"];
 
 /// Those of `priority1`.
-const PRIORITY1: [&str; 4] = ["at", "kind", "clock", "value"];
+const PRIORITY1: &[&str] = &["at", "kind", "clock", "value"];
 
 /// Those of `inject`.
-const INJECT: [&str; 5] = ["at", "kind", "clock", "port", "octets"];
+const INJECT: &[&str] = &["at", "kind", "clock", "port", "octets"];
 
 /// Those of an event of this kind.
-fn event_keys(kind: &str) -> &'static [&'static str] {
-    match kind {
-        "link_down" | "link_up" => &LINK_EVENT,
-        "link_set" => &LINK_SET,
-        "fail" | "recover" => &SYSTEM_EVENT,
-        "priority1" => &PRIORITY1,
-        "inject" => &INJECT,
-        _ => &EVENT,
+fn event_keys(kind: &str) -> &'static [&'static str]
+    ensures { map (λ key. key.now) result.now ≡ event_keys kind.now }
+{
+    if kind == "link_down" {
+        LINK_EVENT
+    } else if kind == "link_up" {
+        LINK_EVENT
+    } else if kind == "link_set" {
+        LINK_SET
+    } else if kind == "fail" {
+        SYSTEM_EVENT
+    } else if kind == "recover" {
+        SYSTEM_EVENT
+    } else if kind == "priority1" {
+        PRIORITY1
+    } else if kind == "inject" {
+        INJECT
+    } else {
+        EVENT
     }
+}
+
+/// The value at a key.
+fn value_at<'a>(table: &'a Table, key: &str) -> Option<&'a Value>
+    ensures { option_map (λ value. view value.now) result ≡ get_member key.now (table_view table.now) }
+{
+    table.get(key)
 }
 
 /// The kind of an event, empty where it has none.
-fn kind_of<'a>(table: Option<&'a Table>) -> &'a str {
-    let Some(table) = table else {
-        return "";
-    };
-    match table.get("kind") {
-        Some(value) => value.as_str().unwrap_or(""),
+fn kind_of<'a>(table: Option<&'a Table>) -> &'a str
+    ensures { result.now ≡ kind_text (option_map (λ event. table_view event.now) table) }
+{
+    match table {
         None => "",
+        Some(table) => match value_at(table, "kind") {
+            None => "",
+            Some(value) => match value.as_str() {
+                None => "",
+                Some(text) => text,
+            },
+        },
     }
 }
 
+/// Whether a number is 2.
+fn is_two(number: i64) -> bool
+    ensures { result ≡ is_two number }
+{
+    number == 2
+}
+
 /// Whether a document is of version 2.
-fn is_version_2(document: &Table) -> bool {
-    match document.get("version") {
-        Some(value) => value.as_integer() == Some(2),
+fn is_version_2(document: &Table) -> bool
+    ensures { result ≡ is_version_2 (table_view document.now) }
+{
+    match value_at(document, "version") {
         None => false,
+        Some(value) => match value.as_integer() {
+            None => false,
+            Some(number) => is_two(number),
+        },
     }
 }
 
 /// The members of a section.
-fn members<'a>(document: &'a Table, section: Section) -> &'a [Value] {
-    match document.get(section.name()) {
-        Some(value) => match value.as_array() {
-            Some(members) => members.as_slice(),
-            None => &[],
-        },
+fn members<'a>(document: &'a Table, section: Section) -> &'a [Value]
+    ensures { items_view result.now ≡ members_of (table_view document.now) section }
+{
+    match value_at(document, section.name()) {
         None => &[],
+        Some(value) => match value.as_array() {
+            None => &[],
+            Some(members) => members.as_slice(),
+        },
+    }
+}
+
+/// The table of a member of a section, if it is one.
+fn member_table<'a>(members: &'a [Value], number: usize) -> Option<&'a Table>
+    ensures { option_map (λ table. table_view table.now) result ≡ member_at (items_view members.now) number }
+{
+    match members.get(number) {
+        None => None,
+        Some(value) => value.as_table(),
     }
 }
 
 /// The table at a place, if there is one.
-pub(crate) fn table_at<'a>(document: &'a Table, place: Place) -> Option<&'a Table> {
+pub(crate) fn table_at<'a>(document: &'a Table, place: Place) -> Option<&'a Table>
+    ensures { option_map (λ table. table_view table.now) result ≡ table_at (table_view document.now) place }
+{
     match place {
         Place::Top => Some(document),
-        Place::Network => document.get("network")?.as_table(),
-        Place::Member(section, number) => members(document, section).get(number)?.as_table(),
+        Place::Network => match value_at(document, "network") {
+            None => None,
+            Some(value) => value.as_table(),
+        },
+        Place::Member(section, number) => member_table(members(document, section), number),
+    }
+}
+
+/// Those of a system, by the version of its document.
+fn system_keys(document: &Table) -> &'static [&'static str]
+    ensures { map (λ key. key.now) result.now ≡ system_keys (table_view document.now) }
+{
+    if is_version_2(document) {
+        SYSTEM_2
+    } else {
+        SYSTEM
     }
 }
 
 /// The keys that are read at a place, in the order of the formats.
-pub(crate) fn keys_at(document: &Table, place: Place) -> &'static [&'static str] {
+pub(crate) fn keys_at(document: &Table, place: Place) -> &'static [&'static str]
+    ensures { map (λ key. key.now) result.now ≡ keys_read (table_view document.now) place }
+{
     match place {
-        Place::Top => &TOP,
-        Place::Network => &NETWORK,
-        Place::Member(Section::System, _) => {
-            if is_version_2(document) {
-                &SYSTEM_2
-            } else {
-                &SYSTEM
-            }
-        }
-        Place::Member(Section::Link, _) => &LINK,
+        Place::Top => TOP,
+        Place::Network => NETWORK,
+        Place::Member(Section::System, _) => system_keys(document),
+        Place::Member(Section::Link, _) => LINK,
         Place::Member(Section::Event, _) => event_keys(kind_of(table_at(document, place))),
     }
 }
 
+/// Whether a key is one of some.
+fn is_among(keys: &[&str], key: &[u8]) -> bool
+    ensures { result ≡ list_any (λ known. bytes_eq known key.now) (map (λ key. key.now) keys.now) }
+{
+    for known in keys {
+        if known.as_bytes() == key {
+            return true;
+        }
+    }
+    false
+}
+
 /// Whether a key is read at a place, or is a name, which is read nowhere and may stand everywhere.
-pub(crate) fn is_known(keys: &[&str], key: &[u8]) -> bool {
-    key == b"name".as_slice() || keys.iter().any(|known| known.as_bytes() == key)
+pub(crate) fn is_known(keys: &[&str], key: &[u8]) -> bool
+    ensures { result ≡ is_known (map (λ known. known.now) keys.now) key.now }
+{
+    key == b"name".as_slice() || is_among(keys, key)
 }

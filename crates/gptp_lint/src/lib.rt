@@ -13,7 +13,7 @@ mod nearest;
 mod outline;
 mod place;
 mod refusal;
-mod scanner;
+mod source;
 mod text;
 mod trouble;
 mod unknown;

@@ -1,10 +1,18 @@
 //! Which keys stand where in a text that is TOML, in its order, and at which lines members begin.
 
-ghost use Rattle.std.specs.Prelude.{◌≡◌, slice_get};
+ghost use Rattle.std.specs.Prelude.{◌≡◌, ◌++◌, ◌∷◌, [], IfOk, OnOk, Some, length, map, option_map, option_to_list, slice_get};
+ghost use Rattle.std.specs.List.{AllByRecursion, fold};
+ghost use Rattle.toml.specs.Data.{Members};
+ghost use Rattle.toml_parser.specs.Reading.{key_view};
+ghost use Rattle.gptp_outline.specs.Inline.{HasValue, array_keys, keys_view};
+ghost use Rattle.gptp_outline.specs.Rows.{shown, table_of};
+ghost use Rattle.gptp_outline.specs.declared.row.RowKind.TheVariants.{Pair};
+ghost use Rattle.gptp_lint.specs.Outline.{after, after_array, after_pair, after_table, array_section, at_place, before_rows, entries_view, first_part, header_entries, keys_at, last_member, line_in, lines_of, network_context, network_entries, numbered, opened, outline_of_text, outline_state, pair_entries, place_inside, placed_entries, second_part, section_of, table_context, value_entries};
 
 use crate::place::{Place, Section};
-use crate::scanner::{Quote, Scanner, Span, Token};
+use gptp_outline::{Row, RowKind, array_keys, rows, table_keys};
 use std::alloc::{AllocError, Global};
+use toml_parser::{Key, ParseError};
 
 /// A key at a place.
 #[derive(Drop)]
@@ -17,15 +25,279 @@ pub(crate) struct Entry {
 /// lines, from 1, of the headers of these members. A key may stand there several times.
 #[derive(Drop)]
 pub(crate) struct Outline {
+    /// Where the keys of pairs stand after the last header, if they count.
+    context: Option<Place>,
     pub entries: Vec<Entry>,
     pub systems: Vec<usize>,
     pub links: Vec<usize>,
     pub events: Vec<usize>,
 }
 
+/// The first part of a key.
+fn first_part(key: &Key) -> &str
+    ensures { result.now ≡ first_part (key_view key.now) }
+{
+    match key.path.first() {
+        Some(part) => part.as_str(),
+        None => key.last.as_str(),
+    }
+}
+
+/// The second part of a key, if it has one.
+fn second_part(key: &Key) -> Option<&str>
+    ensures { option_map (λ part. part.now) result ≡ second_part (key_view key.now) }
+{
+    if key.path.is_empty() {
+        return None;
+    }
+    match key.path.get(1) {
+        Some(part) => Some(part.as_str()),
+        None => Some(key.last.as_str()),
+    }
+}
+
+/// The section of a name, if it has one that is an array.
+fn section_of(name: &str) -> Option<Section>
+    ensures { result ≡ section_of name.now }
+{
+    if name == "system" {
+        Some(Section::System)
+    } else if name == "link" {
+        Some(Section::Link)
+    } else if name == "event" {
+        Some(Section::Event)
+    } else {
+        None
+    }
+}
+
+/// The section that a key of one part names, if it is an array.
+fn array_section(key: &Key) -> Option<Section>
+    ensures { result ≡ array_section (key_view key.now) }
+{
+    match second_part(key) {
+        Some(_) => None,
+        None => section_of(first_part(key)),
+    }
+}
+
+/// Puts a key after others.
+fn push_key(
+    alloc: Global,
+    entries: &mut Vec<Entry>,
+    place: Place,
+    key: &str,
+) -> Result<(), AllocError>
+    ensures { OnOk result (entries_view entries.new ≡ entries_view entries.old ++ (place, key.now) ∷ []) }
+{
+    let octets = Vec::from_slice(alloc, key.as_bytes())?;
+    entries.push(Entry { place, key: octets })?;
+    Ok(())
+}
+
+/// Puts a key after others, where there is one and its place counts.
+fn push_if(
+    alloc: Global,
+    entries: &mut Vec<Entry>,
+    place: Option<Place>,
+    key: Option<&str>,
+) -> Result<(), AllocError>
+    ensures { OnOk result (entries_view entries.new ≡ entries_view entries.old
+        ++ at_place place (option_to_list (option_map (λ part. part.now) key))) }
+{
+    match place {
+        None => Ok(()),
+        Some(place) => match key {
+            None => Ok(()),
+            Some(key) => push_key(alloc, entries, place, key),
+        },
+    }
+}
+
+/// Puts keys after others, each by its first part.
+fn push_keys(
+    alloc: Global,
+    entries: &mut Vec<Entry>,
+    place: Place,
+    keys: &[Key],
+) -> Result<(), AllocError>
+    ensures { OnOk result (entries_view entries.new ≡ entries_view entries.old
+        ++ keys_at place (map key_view keys.now)) }
+{
+    for key in keys {
+        push_key(alloc, entries, place, first_part(key))?;
+    }
+    Ok(())
+}
+
+/// Puts the keys of the members of an array after others.
+fn push_members(
+    alloc: Global,
+    entries: &mut Vec<Entry>,
+    section: Section,
+    members: &[Vec<Key>],
+) -> Result<(), AllocError>
+    ensures { OnOk result (entries_view entries.new ≡ entries_view entries.old
+        ++ numbered section 0 (map keys_view members.now)) }
+{
+    let mut number = 0;
+    for keys in members {
+        push_keys(alloc, entries, Place::Member(section, number), keys)?;
+        number += 1;
+    }
+    Ok(())
+}
+
+/// Puts the keys of `network = {..}` or `network.key = ..` after others.
+fn push_network(
+    alloc: Global,
+    entries: &mut Vec<Entry>,
+    row: &Row<'_>,
+) -> Result<(), AllocError>
+    ensures { OnOk result (HasValue (shown row.now) → row.now.kind ≡ Pair
+        → entries_view entries.new ≡ entries_view entries.old
+        ++ network_entries (second_part (key_view row.now.key)) (shown row.now)) }
+{
+    if let Some(part) = second_part(&row.key) {
+        return push_key(alloc, entries, Place::Network, part);
+    }
+    match table_keys(alloc, row) {
+        Ok(keys) => push_keys(alloc, entries, Place::Network, &keys),
+        Err(_) => Err(AllocError),
+    }
+}
+
+/// Puts the keys of a section that is spelled as an array after others.
+fn push_section(
+    alloc: Global,
+    entries: &mut Vec<Entry>,
+    section: Section,
+    row: &Row<'_>,
+) -> Result<(), AllocError>
+    ensures { OnOk result (HasValue (shown row.now) → row.now.kind ≡ Pair
+        → entries_view entries.new ≡ entries_view entries.old ++ numbered section 0 (array_keys (shown row.now))) }
+{
+    match array_keys(alloc, row) {
+        Ok(members) => push_members(alloc, entries, section, &members),
+        Err(_) => Err(AllocError),
+    }
+}
+
+/// Puts the keys in the value of a pair at the top after others.
+fn push_value(
+    alloc: Global,
+    entries: &mut Vec<Entry>,
+    row: &Row<'_>,
+) -> Result<(), AllocError>
+    ensures { OnOk result (HasValue (shown row.now) → row.now.kind ≡ Pair
+        → entries_view entries.new ≡ entries_view entries.old ++ value_entries (shown row.now)) }
+{
+    if first_part(&row.key) == "network" {
+        return push_network(alloc, entries, row);
+    }
+    match array_section(&row.key) {
+        Some(section) => push_section(alloc, entries, section, row),
+        None => Ok(()),
+    }
+}
+
+/// Puts the key of a pair at a place after others, and at the top the keys in its value.
+fn push_pair_at(
+    alloc: Global,
+    entries: &mut Vec<Entry>,
+    place: Place,
+    row: &Row<'_>,
+) -> Result<(), AllocError>
+    ensures { OnOk result (HasValue (shown row.now) → row.now.kind ≡ Pair
+        → entries_view entries.new ≡ entries_view entries.old ++ placed_entries place (shown row.now)) }
+{
+    push_key(alloc, entries, place, first_part(&row.key))?;
+    match place {
+        Place::Top => push_value(alloc, entries, row),
+        Place::Network => Ok(()),
+        Place::Member(_, _) => Ok(()),
+    }
+}
+
+/// Puts the keys of a pair after others.
+fn push_pair(
+    alloc: Global,
+    entries: &mut Vec<Entry>,
+    context: Option<Place>,
+    row: &Row<'_>,
+) -> Result<(), AllocError>
+    ensures { OnOk result (HasValue (shown row.now) → row.now.kind ≡ Pair
+        → entries_view entries.new ≡ entries_view entries.old ++ pair_entries context (shown row.now)) }
+{
+    match context {
+        None => Ok(()),
+        Some(place) => push_pair_at(alloc, entries, place, row),
+    }
+}
+
+/// Puts the keys of a header after others, of which the second part stands at a place, if that counts.
+fn push_header(
+    alloc: Global,
+    entries: &mut Vec<Entry>,
+    place: Option<Place>,
+    key: &Key,
+) -> Result<(), AllocError>
+    ensures { OnOk result (entries_view entries.new ≡ entries_view entries.old
+        ++ header_entries place (key_view key.now)) }
+{
+    push_key(alloc, entries, Place::Top, first_part(key))?;
+    push_if(alloc, entries, place, second_part(key))
+}
+
+/// Puts a line after others, and answers how many there were.
+fn push_line(lines: &mut Vec<usize>, line: usize) -> Result<usize, AllocError>
+    ensures number { IfOk result (λ number. number ≡ length lines.old.items) }
+    ensures pushed { OnOk result (lines.new.items ≡ lines.old.items ++ line ∷ []) }
+{
+    let number = lines.len();
+    lines.push(line)?;
+    Ok(number)
+}
+
+/// The place of the pairs after the header `[name]`, if they count.
+fn network_context(name: &str) -> Option<Place>
+    ensures { result ≡ network_context name.now }
+{
+    if name == "network" {
+        Some(Place::Network)
+    } else {
+        None
+    }
+}
+
+/// The place of the pairs after a header in single brackets, if they count.
+fn table_context(key: &Key) -> Option<Place>
+    ensures { result ≡ table_context (key_view key.now) }
+{
+    match second_part(key) {
+        Some(_) => None,
+        None => network_context(first_part(key)),
+    }
+}
+
 impl Outline {
+    /// Before the first row.
+    pub(crate) fn new(alloc: Global) -> Self
+        ensures { outline_state result ≡ before_rows }
+    {
+        Outline {
+            context: Some(Place::Top),
+            entries: Vec::new(alloc),
+            systems: Vec::new(alloc),
+            links: Vec::new(alloc),
+            events: Vec::new(alloc),
+        }
+    }
+
     /// The lines of the headers of a section.
-    fn lines(&self, section: Section) -> &[usize] {
+    fn lines(&self, section: Section) -> &[usize]
+        ensures { result.now ≡ lines_of section (outline_state self.now) }
+    {
         match section {
             Section::System => &self.systems,
             Section::Link => &self.links,
@@ -34,7 +306,9 @@ impl Outline {
     }
 
     /// The line of the header of a place, if it has one.
-    pub(crate) fn line(&self, place: Place) -> Option<usize> {
+    pub(crate) fn line(&self, place: Place) -> Option<usize>
+        ensures { result ≡ line_in (outline_state self.now) place }
+    {
         match place {
             Place::Top => None,
             Place::Network => None,
@@ -49,486 +323,132 @@ impl Outline {
         self.links.as_slice().get(link).copied()
     }
 
-    /// Puts the header of a member behind the others, and answers which member that is.
-    fn push_header(&mut self, section: Section, line: usize) -> Result<Place, AllocError> {
-        let lines = match section {
-            Section::System => &mut self.systems,
-            Section::Link => &mut self.links,
-            Section::Event => &mut self.events,
-        };
-        let number = lines.len();
-        lines.push(line)?;
-        Ok(Place::Member(section, number))
-    }
-
-    /// Puts a key behind the others.
-    fn push_key(&mut self, place: Place, key: Vec<u8>) -> Result<(), AllocError> {
-        self.entries.push(Entry { place, key })?;
-        Ok(())
-    }
-
     /// The member of a section whose header came last, if there is one.
-    fn last_member(&self, section: Section) -> Option<Place> {
-        let number = self.lines(section).len().checked_sub(1)?;
-        Some(Place::Member(section, number))
+    fn last_member(&self, section: Section) -> Option<Place>
+        ensures { result ≡ last_member section (outline_state self.now) }
+    {
+        let count = self.lines(section).len();
+        if count == 0 {
+            None
+        } else {
+            Some(Place::Member(section, count - 1))
+        }
     }
-}
 
-/// A part of a key, as the text spells it.
-#[derive(Clone, Copy)]
-struct Part {
-    span: Span,
-    escapes: bool,
-}
-
-/// What the next word is.
-#[derive(Clone, Copy)]
-enum Expects {
-    /// The first part of a key, or a header.
-    Line,
-    /// A further part of a key.
-    Key,
-    /// A part of a header.
-    Header,
-    /// A value, so many brackets deep.
-    Value(usize),
-    /// Nothing up to the end of the line.
-    End,
-}
-
-/// What a value has whose keys count.
-#[derive(Clone, Copy)]
-enum Holds {
-    Nothing,
-    Network,
-    Members(Section),
-}
-
-/// What is known behind some tokens.
-#[derive(Drop)]
-struct Walk {
-    outline: Outline,
-    expects: Expects,
-    // Where the keys of lines stand, if they count.
-    context: Option<Place>,
-    // The first two parts of a key or a header.
-    first: Option<Part>,
-    second: Option<Part>,
-    // How many brackets a header begins with.
-    brackets: usize,
-    holds: Holds,
-    // Whether the bracket that is one deep in a value is that of a table, and the latest that is two deep.
-    outer: bool,
-    inner: bool,
-    // Whether a key of a table in a value comes next.
-    names: bool,
-    // The number of the member that a value is at.
-    member: usize,
-    line: usize,
-}
-
-/// The character that an escape names by one letter; none where it is spelled by digits.
-fn escaped_letter(letter: u8) -> Option<u8> {
-    match letter {
-        b'b' => Some(0x08),
-        b't' => Some(0x09),
-        b'n' => Some(0x0a),
-        b'f' => Some(0x0c),
-        b'r' => Some(0x0d),
-        b'e' => Some(0x1b),
-        b'"' => Some(b'"'),
-        b'\\' => Some(b'\\'),
-        _ => None,
+    /// Where the second part of a header with this first part stands, if that counts.
+    fn place_inside(&self, name: &str) -> Option<Place>
+        ensures { result ≡ place_inside name.now (outline_state self.now) }
+    {
+        if name == "network" {
+            return Some(Place::Network);
+        }
+        match section_of(name) {
+            Some(section) => self.last_member(section),
+            None => None,
+        }
     }
-}
 
-/// How many digits an escape has.
-fn digits_of_escape(letter: u8) -> u8 {
-    match letter {
-        b'x' => 2,
-        b'u' => 4,
-        _ => 8,
+    /// After a row that holds a value.
+    fn note_pair(&mut self, alloc: Global, row: &Row<'_>) -> Result<(), AllocError>
+        ensures { OnOk result (HasValue (shown row.now) → row.now.kind ≡ Pair
+            → outline_state self.new ≡ after_pair (outline_state self.old) (shown row.now)) }
+    {
+        let context = self.context;
+        push_pair(alloc, &mut self.entries, context, row)
     }
-}
 
-/// The value of a hexadecimal digit.
-fn digit_value(octet: u8) -> u32 {
-    char::from(octet).to_digit(16).unwrap_or(0)
-}
+    /// After a header in single brackets.
+    fn note_table(&mut self, alloc: Global, row: &Row<'_>) -> Result<(), AllocError>
+        ensures { OnOk result (outline_state self.new ≡ after_table (outline_state self.old) (shown row.now)) }
+    {
+        let place = self.place_inside(first_part(&row.key));
+        push_header(alloc, &mut self.entries, place, &row.key)?;
+        self.context = table_context(&row.key);
+        Ok(())
+    }
 
-/// What is open in a text with escapes.
-#[derive(Clone, Copy)]
-enum Escape {
-    None,
-    Begun,
-    /// So many digits are to come, and this is spelled by those before.
-    Digits(u8, u32),
-}
-
-/// Puts a character behind octets, by its number.
-fn push_character(octets: &mut Vec<u8>, number: u32) -> Result<(), AllocError> {
-    let character = char::from_u32(number).unwrap_or('?');
-    let mut buffer = [0; 4];
-    octets.extend_from_slice(character.encode_utf8(&mut buffer).as_bytes())
-}
-
-/// One octet more of a text with escapes.
-fn push_escaped(octets: &mut Vec<u8>, escape: Escape, octet: u8) -> Result<Escape, AllocError> {
-    match escape {
-        Escape::None => {
-            if octet == b'\\' {
-                return Ok(Escape::Begun);
+    /// A member of a section begins in a line.
+    fn open(&mut self, section: Section, line: usize) -> Result<(), AllocError>
+        ensures { OnOk result (outline_state self.new ≡ opened section line (outline_state self.old)) }
+    {
+        match section {
+            Section::System => {
+                let number = push_line(&mut self.systems, line)?;
+                self.context = Some(Place::Member(Section::System, number));
+                Ok(())
             }
-            octets.push(octet)?;
-            Ok(Escape::None)
-        }
-        Escape::Begun => match escaped_letter(octet) {
-            Some(letter) => {
-                octets.push(letter)?;
-                Ok(Escape::None)
+            Section::Link => {
+                let number = push_line(&mut self.links, line)?;
+                self.context = Some(Place::Member(Section::Link, number));
+                Ok(())
             }
-            None => Ok(Escape::Digits(digits_of_escape(octet), 0)),
-        },
-        Escape::Digits(count, number) => {
-            let number = number.wrapping_mul(16).wrapping_add(digit_value(octet));
-            if 1 < count {
-                return Ok(Escape::Digits(count.saturating_sub(1), number));
+            Section::Event => {
+                let number = push_line(&mut self.events, line)?;
+                self.context = Some(Place::Member(Section::Event, number));
+                Ok(())
             }
-            push_character(octets, number)?;
-            Ok(Escape::None)
-        }
-    }
-}
-
-/// The octets of a part of a key.
-fn octets_of(alloc: Global, text: &[u8], part: Part) -> Result<Vec<u8>, AllocError> {
-    let spelled = text.get(part.span.from..part.span.to).unwrap_or(&[]);
-    if !part.escapes {
-        return Vec::from_slice(alloc, spelled);
-    }
-    let mut octets = Vec::new(alloc);
-    let mut escape = Escape::None;
-    for octet in spelled {
-        escape = push_escaped(&mut octets, escape, *octet)?;
-    }
-    Ok(octets)
-}
-
-impl Walk {
-    /// Before the first token.
-    fn new(alloc: Global) -> Self {
-        Walk {
-            outline: Outline {
-                entries: Vec::new(alloc),
-                systems: Vec::new(alloc),
-                links: Vec::new(alloc),
-                events: Vec::new(alloc),
-            },
-            expects: Expects::Line,
-            context: Some(Place::Top),
-            first: None,
-            second: None,
-            brackets: 0,
-            holds: Holds::Nothing,
-            outer: false,
-            inner: false,
-            names: false,
-            member: 0,
-            line: 1,
         }
     }
 
-    /// Notes a part of a key.
-    fn note_key(
-        &mut self,
-        alloc: Global,
-        text: &[u8],
-        place: Place,
-        part: Part,
-    ) -> Result<(), AllocError> {
-        self.outline.push_key(place, octets_of(alloc, text, part)?)
-    }
-
-    /// Notes the second part of a key or a header as a key at a place, if there is one.
-    fn note_second(
-        &mut self,
-        alloc: Global,
-        text: &[u8],
-        place: Option<Place>,
-    ) -> Result<(), AllocError> {
-        match (place, self.second) {
-            (Some(place), Some(part)) => self.note_key(alloc, text, place, part),
-            _ => Ok(()),
-        }
-    }
-
-    /// A key or a header gets one part more.
-    fn push_part(&mut self, part: Part) {
-        if self.first.is_none() {
-            self.first = Some(part);
-        } else if self.second.is_none() {
-            self.second = Some(part);
-        }
-    }
-
-    /// A key or a header begins.
-    fn begin_parts(&mut self, expects: Expects) {
-        self.first = None;
-        self.second = None;
-        self.brackets = 0;
-        self.expects = expects;
-    }
-
-    /// The header of `[network]` or of a section ends.
-    fn end_known_header(
-        &mut self,
-        alloc: Global,
-        text: &[u8],
-        name: &[u8],
-    ) -> Result<(), AllocError> {
+    /// After a header in double brackets.
+    fn note_array(&mut self, alloc: Global, row: &Row<'_>) -> Result<(), AllocError>
+        ensures { OnOk result (outline_state self.new ≡ after_array (outline_state self.old) (shown row.now)) }
+    {
+        let place = self.place_inside(first_part(&row.key));
+        push_header(alloc, &mut self.entries, place, &row.key)?;
         self.context = None;
-        if name == b"network".as_slice() {
-            if self.second.is_none() {
-                self.context = Some(Place::Network);
-            }
-            return self.note_second(alloc, text, Some(Place::Network));
-        }
-        let Some(section) = Section::of_name(name) else {
-            return Ok(());
-        };
-        if self.second.is_some() {
-            let place = self.outline.last_member(section);
-            return self.note_second(alloc, text, place);
-        }
-        if self.brackets == 2 {
-            self.context = Some(self.outline.push_header(section, self.line)?);
-        }
-        Ok(())
-    }
-
-    /// A header ends.
-    fn end_header(&mut self, alloc: Global, text: &[u8]) -> Result<(), AllocError> {
-        self.expects = Expects::End;
-        let Some(first) = self.first else {
-            return Ok(());
-        };
-        self.note_key(alloc, text, Place::Top, first)?;
-        let name = octets_of(alloc, text, first)?;
-        self.end_known_header(alloc, text, &name)
-    }
-
-    /// What the value behind a key at the top has.
-    fn end_top_key(&mut self, alloc: Global, text: &[u8], name: &[u8]) -> Result<(), AllocError> {
-        if name == b"network".as_slice() {
-            if self.second.is_none() {
-                self.holds = Holds::Network;
-            }
-            return self.note_second(alloc, text, Some(Place::Network));
-        }
-        if let (Some(section), None) = (Section::of_name(name), self.second) {
-            self.holds = Holds::Members(section);
-        }
-        Ok(())
-    }
-
-    /// The key of a line ends.
-    fn end_key(&mut self, alloc: Global, text: &[u8]) -> Result<(), AllocError> {
-        self.expects = Expects::Value(0);
-        self.holds = Holds::Nothing;
-        self.member = 0;
-        self.names = false;
-        let (Some(place), Some(first)) = (self.context, self.first) else {
-            return Ok(());
-        };
-        self.note_key(alloc, text, place, first)?;
-        if place != Place::Top {
-            return Ok(());
-        }
-        let name = octets_of(alloc, text, first)?;
-        self.end_top_key(alloc, text, &name)
-    }
-
-    /// Where the keys of a table in a value stand, so many brackets deep.
-    fn place_in_value(&self, depth: usize) -> Option<Place> {
-        match self.holds {
-            Holds::Network if depth == 1 => Some(Place::Network),
-            Holds::Members(section) if depth == 2 && !self.outer => {
-                Some(Place::Member(section, self.member))
-            }
-            _ => None,
-        }
-    }
-
-    /// A bracket opens in a value.
-    fn open_bracket(&mut self, depth: usize, is_table: bool) {
-        if depth == 0 {
-            self.outer = is_table;
-        }
-        if depth == 1 {
-            self.inner = is_table;
-        }
-        self.names = is_table;
-        self.expects = Expects::Value(depth.saturating_add(1));
-    }
-
-    /// A bracket closes in a value.
-    fn close_bracket(&mut self, depth: usize) {
-        self.names = false;
-        self.expects = Expects::Value(depth.saturating_sub(1));
-    }
-
-    /// A comma in a value.
-    fn next_item(&mut self, depth: usize) {
-        if depth == 1 {
-            self.member = self.member.saturating_add(1);
-            self.names = self.outer;
-        }
-        if depth == 2 {
-            self.names = self.inner;
-        }
-    }
-
-    /// A mark in a value.
-    fn mark_in_value(&mut self, depth: usize, mark: u8) {
-        match mark {
-            b'[' => self.open_bracket(depth, false),
-            b'{' => self.open_bracket(depth, true),
-            b']' | b'}' => self.close_bracket(depth),
-            b',' => self.next_item(depth),
-            _ => {}
-        }
-    }
-
-    /// A mark.
-    fn mark(&mut self, alloc: Global, text: &[u8], mark: u8) -> Result<(), AllocError> {
-        match self.expects {
-            Expects::Line => {
-                if mark == b'[' {
-                    self.begin_parts(Expects::Header);
-                    self.brackets = 1;
-                }
-                Ok(())
-            }
-            Expects::Header => match mark {
-                b'[' => {
-                    self.brackets = 2;
-                    Ok(())
-                }
-                b']' => self.end_header(alloc, text),
-                _ => Ok(()),
-            },
-            Expects::Key => {
-                if mark == b'=' {
-                    return self.end_key(alloc, text);
-                }
-                Ok(())
-            }
-            Expects::Value(depth) => {
-                self.mark_in_value(depth, mark);
-                Ok(())
-            }
-            Expects::End => Ok(()),
-        }
-    }
-
-    /// A word, or a text between quotation marks.
-    fn word(&mut self, alloc: Global, text: &[u8], part: Part) -> Result<(), AllocError> {
-        match self.expects {
-            Expects::Line => {
-                self.begin_parts(Expects::Key);
-                self.push_part(part);
-                Ok(())
-            }
-            Expects::Key | Expects::Header => {
-                self.push_part(part);
-                Ok(())
-            }
-            Expects::Value(depth) => {
-                if !self.names {
-                    return Ok(());
-                }
-                self.names = false;
-                match self.place_in_value(depth) {
-                    Some(place) => self.note_key(alloc, text, place, part),
-                    None => Ok(()),
-                }
-            }
-            Expects::End => Ok(()),
-        }
-    }
-
-    /// The end of a line.
-    fn feed(&mut self) {
-        self.expects = match self.expects {
-            Expects::Value(0) | Expects::End => Expects::Line,
-            expects => expects,
-        };
-    }
-
-    /// One token more.
-    fn token(&mut self, alloc: Global, text: &[u8], token: Token) -> Result<(), AllocError> {
-        match token {
-            Token::Feed => {
-                self.feed();
-                Ok(())
-            }
-            Token::Mark(mark) => self.mark(alloc, text, mark),
-            Token::Word(span) => self.word(
-                alloc,
-                text,
-                Part {
-                    span,
-                    escapes: false,
-                },
-            ),
-            Token::Quoted(span, quote) => self.word(
-                alloc,
-                text,
-                Part {
-                    span,
-                    escapes: quote == Quote::Basic,
-                },
-            ),
-        }
-    }
-
-    /// A token, if there is one.
-    fn token_if(
-        &mut self,
-        alloc: Global,
-        text: &[u8],
-        token: Option<Token>,
-    ) -> Result<(), AllocError> {
-        match token {
-            Some(token) => self.token(alloc, text, token),
+        match array_section(&row.key) {
+            Some(section) => self.open(section, row.line),
             None => Ok(()),
         }
     }
+
+    /// After one row more.
+    fn note_row(&mut self, alloc: Global, row: &Row<'_>) -> Result<(), AllocError>
+        ensures { OnOk result (HasValue (shown row.now)
+            → outline_state self.new ≡ after (outline_state self.old) (shown row.now)) }
+    {
+        match row.kind {
+            RowKind::Pair => self.note_pair(alloc, row),
+            RowKind::Table => self.note_table(alloc, row),
+            RowKind::ArrayTable => self.note_array(alloc, row),
+        }
+    }
 }
 
-/// What some editors put before a text in UTF-8.
-const BYTE_ORDER_MARK: [u8; 3] = [0xEF, 0xBB, 0xBF];
+/// The outline of rows.
+fn outline_of_rows(alloc: Global, rows: &[Row<'_>]) -> Result<Outline, AllocError>
+    ensures { IfOk result (λ outline. AllByRecursion HasValue (map shown rows.now)
+        → outline_state outline ≡ fold after before_rows (map shown rows.now)) }
+{
+    let mut outline = Outline::new(alloc);
+    for row in rows {
+        outline.note_row(alloc, row)?;
+    }
+    Ok(outline)
+}
 
-/// A text without the byte order mark that it may begin with, which TOML passes over.
-fn without_mark(text: &[u8]) -> &[u8] {
-    match text.strip_prefix(&BYTE_ORDER_MARK) {
-        Some(rest) => rest,
-        None => text,
+/// The outline of a text in UTF-8 that is TOML.
+fn outline_of_str(alloc: Global, text: &str) -> Result<Outline, AllocError>
+    ensures { IfOk result (λ outline. (t : Members) → table_of text.now ≡ Some t
+        → outline_state outline ≡ outline_of_text text.now) }
+{
+    match rows(alloc, text) {
+        Ok(rows) => outline_of_rows(alloc, &rows),
+        Err(error) => match error {
+            ParseError::OutOfMemory => Err(AllocError),
+            ParseError::At(_, _, _) => Ok(Outline::new(alloc)),
+        },
     }
 }
 
 /// The outline of a text that is TOML.
-pub(crate) fn outline_of(alloc: Global, text: &[u8]) -> Result<Outline, AllocError> {
-    let text = without_mark(text);
-    let mut scanner = Scanner::new();
-    let mut walk = Walk::new(alloc);
-    for (place, octet) in text.iter().enumerate() {
-        let step = scanner.step(*octet, place);
-        walk.token_if(alloc, text, step.ended)?;
-        walk.token_if(alloc, text, step.own)?;
-        if *octet == b'\n' {
-            walk.line = walk.line.saturating_add(1);
-        }
+pub(crate) fn outline_of(alloc: Global, text: &[u8]) -> Result<Outline, AllocError>
+    ensures { IfOk result (λ outline. (t : Members) → table_of text.now ≡ Some t
+        → outline_state outline ≡ outline_of_text text.now) }
+{
+    match str::from_utf8(text) {
+        Ok(source) => outline_of_str(alloc, source),
+        Err(_) => Ok(Outline::new(alloc)),
     }
-    Ok(walk.outline)
 }

@@ -1,15 +1,19 @@
 //! Findings as text.
 
-ghost use Rattle.std.specs.Prelude.{◌≡◌, ◌++◌, ◌∷◌, ◌↔◌, [], Bool, List, ℕ, IfOk, IsTrue, OnOk, map, slice_get, string_bytes};
+ghost use Rattle.std.specs.Prelude.{◌≡◌, ◌++◌, ◌∷◌, ◌↔◌, [], Bool, List, ℕ, IfOk, IsTrue, OnOk, map, option_map, slice_get, string_bytes};
 ghost use Rattle.std.specs.List.{flat_map};
 ghost use Rattle.gptp_spelling.specs.Lines.{text_of};
 ghost use Rattle.gptp_lint.specs.LintText.{AppendsFindings, apart_line, calm_line, chance_line, late_line, late_lines, long_line, lossy_line, nobody_line, other_lines, unlinked_line};
+ghost use Rattle.toml.specs.View.{table_view};
+ghost use Rattle.gptp_lint.specs.Outline.{outline_state};
 ghost use Rattle.gptp_lint.specs.Unread.{AppendsUnread};
+ghost use Rattle.gptp_lint.specs.UnreadKeys.{unread_of};
 
 use crate::components::{Apart, Nobody};
 use crate::findings::Findings;
-use crate::outline::{Outline, outline_of};
+use crate::outline::Outline;
 use crate::place::LineWords;
+use crate::source::Source;
 use crate::trouble::{Long, Lossy};
 use crate::unknown::write_unknown_keys;
 use gptp_spelling::{ClockDigits, IdentityDigits};
@@ -245,23 +249,14 @@ fn write_calm_times(text: &mut String, times: &[CalmTime]) -> Result<(), AllocEr
 }
 
 /// Appends the lines of the keys of a text that aren't read.
-fn write_unread(
-    alloc: Global,
-    text: &mut String,
-    input: &[u8],
-    outline: &Outline,
-) -> Result<(), AllocError>
-    ensures { OnOk result (AppendsUnread (string_bytes text.old) (string_bytes text.new)) }
+fn write_unread(alloc: Global, text: &mut String, source: &Source) -> Result<(), AllocError>
+    ensures { OnOk result (AppendsUnread (outline_state source.now.outline)
+        (unread_of (option_map table_view source.now.document) (outline_state source.now.outline))
+        (string_bytes text.old) (string_bytes text.new)) }
 {
-    match toml::table_from_slice(alloc, input) {
-        Ok(document) => write_unknown_keys(alloc, text, &document, outline),
-        Err(error) => {
-            if error.is_memory() {
-                Err(AllocError)
-            } else {
-                Ok(())
-            }
-        }
+    match &source.document {
+        Some(document) => write_unknown_keys(alloc, text, document, &source.outline),
+        None => Ok(()),
     }
 }
 
@@ -274,13 +269,14 @@ pub fn write_findings(
     threshold: u64,
     findings: &Findings,
 ) -> Result<bool, AllocError>
-    ensures { IfOk result (AppendsFindings threshold findings.now (string_bytes text.old) (string_bytes text.new)) }
+    ensures { IfOk result (AppendsFindings input.now threshold findings.now
+        (string_bytes text.old) (string_bytes text.new)) }
 {
     let before = text.as_bytes().len();
-    let outline = outline_of(alloc, input)?;
-    write_unread(alloc, text, input, &outline)?;
-    write_longs(text, threshold, &outline, &findings.long)?;
-    write_stretches(text, &outline, &findings.lossy)?;
+    let source = Source::read(alloc, input)?;
+    write_unread(alloc, text, &source)?;
+    write_longs(text, threshold, &source.outline, &findings.long)?;
+    write_stretches(text, &source.outline, &findings.lossy)?;
     write_lates(text, findings.limit, &findings.calm)?;
     write_others(text, findings)?;
     let found = before < text.as_bytes().len();

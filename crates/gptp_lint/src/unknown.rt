@@ -1,73 +1,94 @@
 //! Keys that aren't read.
 
-ghost use Rattle.std.specs.Prelude.{OnOk, string_bytes};
+ghost use Rattle.std.specs.Prelude.{◌≡◌, [], ◌∷◌, ◌++◌, IfOk, OnOk, if◌then◌else◌, map, string_bytes};
+ghost use Rattle.toml.specs.View.{table_view};
+ghost use Rattle.gptp_lint.specs.Outline.{entries_view, entry_view, outline_state};
 ghost use Rattle.gptp_lint.specs.Unread.{AppendsUnread};
+ghost use Rattle.gptp_lint.specs.UnreadKeys.{HaveSeen, by_part, first_unread, found_view, in_part, number_of, of_part, part_of, part_of_section, with_key};
 
 use crate::escaped::Escaped;
 use crate::keys::{is_known, keys_at, table_at};
 use crate::nearest::{is_nearer, near};
-use crate::outline::{Entry, Outline, outline_of};
-use crate::place::{Place, PlaceWords};
+use crate::outline::{Entry, Outline};
+use crate::place::{Place, PlaceWords, Section};
 use std::alloc::{AllocError, Global};
+use std::collections::BTreeSet;
 use toml::Table;
 
-/// A key that isn't read at its place, and its number among all keys of the text.
-#[derive(Drop, PartialEq, Eq, PartialOrd, Ord)]
-struct Unknown {
-    place: Place,
-    key: Vec<u8>,
-    number: usize,
+/// The part of a document that a section is, by its order there.
+fn part_of_section(section: Section) -> u8
+    ensures { result ≡ part_of_section section }
+{
+    match section {
+        Section::System => 2,
+        Section::Link => 3,
+        Section::Event => 4,
+    }
 }
 
-/// Puts a key behind others, where it isn't read.
-fn push_unknown(
-    alloc: Global,
-    unknown: &mut Vec<Unknown>,
+/// The part of a document in which a place is, by its order there.
+fn part_of(place: Place) -> u8
+    ensures { result ≡ part_of place }
+{
+    match place {
+        Place::Top => 0,
+        Place::Network => 1,
+        Place::Member(section, _) => part_of_section(section),
+    }
+}
+
+/// Which member of its part a place is.
+fn number_of(place: Place) -> usize
+    ensures { result ≡ number_of place }
+{
+    match place {
+        Place::Top => 0,
+        Place::Network => 0,
+        Place::Member(_, number) => number,
+    }
+}
+
+/// Puts a key after others, if it isn't read, and not there yet.
+fn push_unread<'a>(
+    seen: &mut BTreeSet<((u8, usize), &'a [u8])>,
+    unread: &mut Vec<&'a Entry>,
     document: &Table,
-    entry: &Entry,
-    number: usize,
-) -> Result<(), AllocError> {
+    entry: &'a Entry,
+) -> Result<(), AllocError>
+    requires seen { HaveSeen seen.old (found_view unread.old.items) }
+    ensures seen { OnOk result (HaveSeen seen.new (found_view unread.new.items)) }
+    ensures pushed { OnOk result (found_view unread.new.items
+        ≡ with_key (table_view document.now) (found_view unread.old.items) (entry_view entry.now)) }
+{
     if is_known(keys_at(document, entry.place), &entry.key) {
         return Ok(());
     }
-    unknown.push(Unknown {
-        place: entry.place,
-        key: Vec::from_slice(alloc, &entry.key)?,
-        number,
-    })?;
+    let added = seen.insert((
+        (part_of(entry.place), number_of(entry.place)),
+        entry.key.as_slice(),
+    ))?;
+    if !added {
+        return Ok(());
+    }
+    unread.push(entry)?;
     Ok(())
 }
 
-/// The keys that aren't read, by place, then key, then number.
-fn unknown_keys(
+/// The keys that aren't read, each where it comes first at its place.
+fn first_unread<'a>(
     alloc: Global,
     document: &Table,
-    outline: &Outline,
-) -> Result<Vec<Unknown>, AllocError> {
-    let mut unknown = Vec::new(alloc);
-    for (number, entry) in outline.entries.iter().enumerate() {
-        push_unknown(alloc, &mut unknown, document, entry, number)?;
+    entries: &'a [Entry],
+) -> Result<Vec<&'a Entry>, AllocError>
+    ensures { IfOk result (λ unread. found_view unread.items
+        ≡ first_unread (table_view document.now) (map entry_view entries.now)) }
+{
+    let mut seen = BTreeSet::new(alloc);
+    let mut unread = Vec::new(alloc);
+    for entry in entries {
+        push_unread(&mut seen, &mut unread, document, entry)?;
     }
-    unknown.sort_unstable();
-    Ok(unknown)
-}
-
-/// The numbers of the first of each key at its place, by place, then number.
-fn firsts(alloc: Global, unknown: &[Unknown]) -> Result<Vec<(Place, usize)>, AllocError> {
-    let mut firsts = Vec::new(alloc);
-    let mut before: Option<&Unknown> = None;
-    for key in unknown {
-        let again = match before {
-            Some(before) => before.place == key.place && before.key == key.key,
-            None => false,
-        };
-        if !again {
-            firsts.push((key.place, key.number))?;
-        }
-        before = Some(key);
-    }
-    firsts.sort_unstable();
-    Ok(firsts)
+    Ok(unread)
 }
 
 /// The key that is read at a place and absent there, and nearest to another, the first of equals, if any is near.
@@ -96,7 +117,8 @@ fn write_unknown(
     outline: &Outline,
     entry: &Entry,
 ) -> Result<(), AllocError>
-    ensures { OnOk result (AppendsUnread (string_bytes text.old) (string_bytes text.new)) }
+    ensures { OnOk result (AppendsUnread (outline_state outline.now) (entry_view entry.now ∷ [])
+        (string_bytes text.old) (string_bytes text.new)) }
 {
     let place = PlaceWords {
         place: entry.place,
@@ -112,19 +134,71 @@ fn write_unknown(
     }
 }
 
-/// Appends the line of the key of this number among all keys of the text, if there is one.
-fn write_entry(
+/// Appends the line of a key, where it is in a part.
+fn write_in_part(
     text: &mut String,
     document: &Table,
     outline: &Outline,
-    number: usize,
+    part: u8,
+    entry: &Entry,
 ) -> Result<(), AllocError>
-    ensures { OnOk result (AppendsUnread (string_bytes text.old) (string_bytes text.new)) }
+    ensures { OnOk result (AppendsUnread (outline_state outline.now)
+        (if in_part part (entry_view entry.now) then entry_view entry.now ∷ [] else [])
+        (string_bytes text.old) (string_bytes text.new)) }
 {
-    match outline.entries.get(number) {
-        Some(entry) => write_unknown(text, document, outline, entry),
-        None => Ok(()),
+    if part_of(entry.place) == part {
+        write_unknown(text, document, outline, entry)
+    } else {
+        Ok(())
     }
+}
+
+/// Appends the lines of the keys of a part.
+fn write_part(
+    text: &mut String,
+    document: &Table,
+    outline: &Outline,
+    part: u8,
+    unread: &[&Entry],
+) -> Result<(), AllocError>
+    ensures { OnOk result (AppendsUnread (outline_state outline.now) (of_part part (found_view unread.now))
+        (string_bytes text.old) (string_bytes text.new)) }
+{
+    for entry in unread {
+        write_in_part(text, document, outline, part, *entry)?;
+    }
+    Ok(())
+}
+
+/// Appends the lines of the keys at the top and in `[network]`.
+fn write_head(
+    text: &mut String,
+    document: &Table,
+    outline: &Outline,
+    unread: &[&Entry],
+) -> Result<(), AllocError>
+    ensures { OnOk result (AppendsUnread (outline_state outline.now)
+        (of_part 0 (found_view unread.now) ++ of_part 1 (found_view unread.now))
+        (string_bytes text.old) (string_bytes text.new)) }
+{
+    write_part(text, document, outline, 0, unread)?;
+    write_part(text, document, outline, 1, unread)
+}
+
+/// Appends the lines of the keys of members.
+fn write_sections(
+    text: &mut String,
+    document: &Table,
+    outline: &Outline,
+    unread: &[&Entry],
+) -> Result<(), AllocError>
+    ensures { OnOk result (AppendsUnread (outline_state outline.now)
+        (of_part 2 (found_view unread.now) ++ (of_part 3 (found_view unread.now) ++ of_part 4 (found_view unread.now)))
+        (string_bytes text.old) (string_bytes text.new)) }
+{
+    write_part(text, document, outline, 2, unread)?;
+    write_part(text, document, outline, 3, unread)?;
+    write_part(text, document, outline, 4, unread)
 }
 
 /// Appends the lines of the keys that aren't read.
@@ -134,12 +208,11 @@ pub(crate) fn write_unknown_keys(
     document: &Table,
     outline: &Outline,
 ) -> Result<(), AllocError>
-    ensures { OnOk result (AppendsUnread (string_bytes text.old) (string_bytes text.new)) }
+    ensures { OnOk result (AppendsUnread (outline_state outline.now)
+        (by_part (first_unread (table_view document.now) (entries_view outline.now.entries)))
+        (string_bytes text.old) (string_bytes text.new)) }
 {
-    let unknown = unknown_keys(alloc, document, outline)?;
-    let firsts = firsts(alloc, &unknown)?;
-    for (_, number) in &firsts {
-        write_entry(text, document, outline, *number)?;
-    }
-    Ok(())
+    let unread = first_unread(alloc, document, &outline.entries)?;
+    write_head(text, document, outline, &unread)?;
+    write_sections(text, document, outline, &unread)
 }

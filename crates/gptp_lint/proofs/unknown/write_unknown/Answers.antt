@@ -1,9 +1,10 @@
 -- What is written, word by word, is the line of the key.
-use Rattle.std.proofs.Common.{◌≡◌, ℕ, List, [], ◌∷◌, ◌++◌, Some, None, append_assoc, ap, ◌∙◌}
+use Rattle.std.proofs.Common.{◌≡◌, ℕ, List, [], ◌∷◌, ◌++◌, Some, None, append_assoc, ap, subst, ◌∙◌}
 use Rattle.std.specs.Prelude.{codes, string_bytes}
 use Rattle.std.proofs.lemmas.Result.{on_ok_weaker}
-use Rattle.gptp_lint.specs.Unread.{UnreadKey, escaped, place_words}
-use Rattle.gptp_lint.proofs.TextLemmas.{one_unread}
+use Rattle.gptp_lint.specs.Outline.{line_in, outline_state}
+use Rattle.gptp_lint.specs.Unread.{AppendsUnread, UnreadKey, escaped, place_words}
+use Rattle.gptp_lint.proofs.UnreadLemmas.{one_unread}
 use Rattle.gptp_lint.proofs.unknown.write_unknown.Goals as goal
 
 words_are : (place key_word key near_word near end : List ℕ)
@@ -13,28 +14,27 @@ words_are place key_word key near_word near end = simp append_assoc
 
 pub returns-in-Some : goal.returns-in-Some
 returns-in-Some c =
-    let key : UnreadKey = record {
-      place = c.args.entry.now.place;
-      line = c.line.result;
-      key = c.deref.result.now;
-      near = Some c.as_bytes.result.now;
-    } in
+    let o = outline_state c.args.outline.now in
+    let place = c.args.entry.now.place in
+    let old = string_bytes c.args.text.now in
+    let new = string_bytes c.writeln.new.self in
+    let key : UnreadKey = record { place = place; key = c.deref.result.now; near = Some c.as_bytes.result.now } in
     on_ok_weaker c.writeln.result
-    (λ h. one_unread (string_bytes c.args.text.now) (string_bytes c.writeln.new.self) key
-    (h ∙ ap (λ words. string_bytes c.args.text.now ++ (codes "unknown " ++ words))
-    (words_are (place_words key.place key.line) (codes " key ") (escaped key.key) (codes " near ")
-    (escaped c.as_bytes.result.now) (10 ∷ []))))
+    (λ h. subst (λ word. AppendsUnread o ((place, word) ∷ []) old new) c.deref.ensures.value
+    (one_unread o old new key
+    (rw c.line.ensures at h ∙ ap (λ words. old ++ (codes "unknown " ++ words))
+    (words_are (place_words place (line_in o place)) (codes " key ") (escaped key.key) (codes " near ")
+    (escaped c.as_bytes.result.now) (10 ∷ [])))))
     c.writeln.ensures.bytes
 
 pub returns-in-None : goal.returns-in-None
 returns-in-None c =
-    let key : UnreadKey = record {
-      place = c.args.entry.now.place;
-      line = c.line.result;
-      key = c.deref.result.now;
-      near = None;
-    } in
+    let o = outline_state c.args.outline.now in
+    let place = c.args.entry.now.place in
+    let old = string_bytes c.args.text.now in
+    let new = string_bytes c.writeln-in-None.new.self in
+    let key : UnreadKey = record { place = place; key = c.deref.result.now; near = None } in
     on_ok_weaker c.writeln-in-None.result
-    (λ h. one_unread (string_bytes c.args.text.now) (string_bytes c.writeln-in-None.new.self) key
-    (h ∙ simp append_assoc))
+    (λ h. subst (λ word. AppendsUnread o ((place, word) ∷ []) old new) c.deref.ensures.value
+    (one_unread o old new key (rw c.line.ensures at h ∙ simp append_assoc)))
     c.writeln-in-None.ensures.bytes

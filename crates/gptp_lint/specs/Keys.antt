@@ -1,0 +1,118 @@
+-- Which keys are read where (profile).
+use Rattle.std.specs.Prelude.{◌||◌, ℕ, ℤ, pos, negsuc, ◌==◌, Bool, false, List, [], ◌∷◌, Option, Some, None, bytes_eq, codes, if◌then◌else◌}
+use Rattle.std.specs.List.{list_any}
+use Rattle.toml.specs.Data.{Data, Items, Members, as_array, as_integer, as_str, as_table, get_item, get_member, no_items}
+use Rattle.gptp_lint.specs.Unread.{section_name}
+use Rattle.gptp_lint.specs.declared.place.Place.{Place}
+use Rattle.gptp_lint.specs.declared.place.Place.TheVariants.{Member, Network, Top}
+use Rattle.gptp_lint.specs.declared.place.Section.{Section}
+use Rattle.gptp_lint.specs.declared.place.Section.TheVariants.{Event, Link, System}
+
+-- at the top, and in `[network]`
+abbrev pub top_keys : List (List ℕ)
+top_keys = codes "version" ∷ codes "network" ∷ codes "system" ∷ codes "link" ∷ codes "event" ∷ []
+
+abbrev pub network_keys : List (List ℕ)
+network_keys =
+    codes "announce" ∷ codes "sync" ∷ codes "pdelay" ∷ codes "timeout" ∷ codes "lost" ∷ codes "threshold"
+    ∷ codes "turnaround" ∷ codes "residence" ∷ codes "sync_timeout" ∷ []
+
+-- in a system, of a document of version 1 and of version 2
+abbrev pub system_keys_1 : List (List ℕ)
+system_keys_1 =
+    codes "clock" ∷ codes "priority1" ∷ codes "class" ∷ codes "accuracy" ∷ codes "variance" ∷ codes "priority2"
+    ∷ codes "phase" ∷ codes "drift" ∷ codes "ports" ∷ []
+
+abbrev pub system_keys_2 : List (List ℕ)
+system_keys_2 =
+    codes "clock" ∷ codes "priority1" ∷ codes "class" ∷ codes "accuracy" ∷ codes "variance" ∷ codes "priority2"
+    ∷ codes "phase" ∷ codes "drift" ∷ codes "ports" ∷ codes "announce" ∷ []
+
+abbrev pub is_two : ℤ → Bool
+is_two (pos n) = n == 2
+is_two (negsuc n) = false
+
+abbrev pub holds_two : Option ℤ → Bool
+holds_two (Some z) = is_two z
+holds_two None = false
+
+abbrev pub integer_in : Option Data → Option ℤ
+integer_in (Some d) = as_integer d
+integer_in None = None
+
+abbrev pub is_version_2 : Members → Bool
+is_version_2 t = holds_two (integer_in (get_member (codes "version") t))
+
+abbrev pub system_keys : Members → List (List ℕ)
+system_keys t = if is_version_2 t then system_keys_2 else system_keys_1
+
+-- in a link
+abbrev pub link_keys : List (List ℕ)
+link_keys =
+    codes "a" ∷ codes "a_port" ∷ codes "b" ∷ codes "b_port" ∷ codes "min" ∷ codes "max" ∷ codes "loss" ∷ codes "up" ∷ []
+
+-- in an event, by its kind
+unfoldable pub event_keys : List ℕ → List (List ℕ)
+event_keys kind =
+    if bytes_eq kind (codes "link_down") then codes "at" ∷ codes "kind" ∷ codes "clock" ∷ codes "port" ∷ []
+    else if bytes_eq kind (codes "link_up") then codes "at" ∷ codes "kind" ∷ codes "clock" ∷ codes "port" ∷ []
+    else if bytes_eq kind (codes "link_set")
+    then codes "at" ∷ codes "kind" ∷ codes "clock" ∷ codes "port" ∷ codes "min" ∷ codes "max" ∷ codes "loss" ∷ []
+    else if bytes_eq kind (codes "fail") then codes "at" ∷ codes "kind" ∷ codes "clock" ∷ []
+    else if bytes_eq kind (codes "recover") then codes "at" ∷ codes "kind" ∷ codes "clock" ∷ []
+    else if bytes_eq kind (codes "priority1") then codes "at" ∷ codes "kind" ∷ codes "clock" ∷ codes "value" ∷ []
+    else if bytes_eq kind (codes "inject")
+    then codes "at" ∷ codes "kind" ∷ codes "clock" ∷ codes "port" ∷ codes "octets" ∷ []
+    else codes "at" ∷ codes "kind" ∷ []
+
+-- ---- places of a document
+
+-- the table of a value, and the members of a section
+abbrev pub table_in : Option Data → Option Members
+table_in (Some d) = as_table d
+table_in None = None
+
+abbrev pub items_in : Option Items → Items
+items_in (Some items) = items
+items_in None = no_items
+
+abbrev pub array_in : Option Data → Items
+array_in (Some d) = items_in (as_array d)
+array_in None = no_items
+
+abbrev pub members_of : Members → Section → Items
+members_of t section = array_in (get_member (section_name section) t)
+
+abbrev pub member_at : Items → ℕ → Option Members
+member_at items number = table_in (get_item number items)
+
+-- the table at a place, if there is one
+abbrev pub table_at : Members → Place → Option Members
+table_at t Top = Some t
+table_at t Network = table_in (get_member (codes "network") t)
+table_at t (Member section number) = member_at (members_of t section) number
+
+-- the kind of an event, empty where it has none
+abbrev pub text_in : Option (List ℕ) → List ℕ
+text_in (Some text) = text
+text_in None = []
+
+abbrev pub text_of_value : Option Data → List ℕ
+text_of_value (Some d) = text_in (as_str d)
+text_of_value None = []
+
+abbrev pub kind_text : Option Members → List ℕ
+kind_text (Some event) = text_of_value (get_member (codes "kind") event)
+kind_text None = []
+
+-- the keys that are read at a place
+abbrev pub keys_read : Members → Place → List (List ℕ)
+keys_read t Top = top_keys
+keys_read t Network = network_keys
+keys_read t (Member System number) = system_keys t
+keys_read t (Member Link number) = link_keys
+keys_read t (Member Event number) = event_keys (kind_text (table_at t (Member Event number)))
+
+-- a key is one of these, or a name, which is read nowhere and may stand everywhere
+abbrev pub is_known : List (List ℕ) → List ℕ → Bool
+is_known keys key = bytes_eq key (codes "name") || list_any (λ known. bytes_eq known key) keys
