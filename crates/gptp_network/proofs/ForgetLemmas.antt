@@ -1,5 +1,5 @@
 -- What is read is what is meant, where it is forgotten why and where it is refused.
-use Rattle.std.proofs.Common.{◌≡◌, ◌≤◌, ◌&&◌, ◌==◌, ℕ, suc, ℤ, pos, negsuc, neg_ℤ, Bool, true, false, codes, List, [], ◌∷◌, ◌++◌, length, Option, Some, None, Result, Ok, Err, refl, sym, ap, subst, ◌∙◌}
+use Rattle.std.proofs.Common.{◌≡◌, ◌≤◌, ◌&&◌, ◌==◌, ℕ, suc, ℤ, pos, negsuc, neg_ℤ, Bool, true, false, codes, List, [], ◌∷◌, ◌++◌, length, replicate, Option, Some, None, Result, Ok, Err, refl, sym, ap, subst, ◌∙◌}
 use Rattle.std.specs.Prelude.{bytes_eq, if◌then◌else◌, int_le, nat_lt}
 use Rattle.hex.specs.Hex.{decode_of, decode_sized}
 use Rattle.hex.specs.declared.error.FromHexError.{FromHexError}
@@ -231,9 +231,11 @@ intervals_are : (version ports : ℕ) (default : ℤ) (t : Members)
     → forget (read_intervals version ports default t) ≡ intervals version ports default t
 unfolding read_intervals intervals
 intervals_are version ports default t =
-    either (version == 2) _ _ _ _
-    (value_is names.Announce as_array (read_array ports) (intervals_in ports) (array_agrees ports) _
-    (get_member (codes "announce") t))
+    let alike : List ℤ = replicate ports default in
+    let value = get_member (codes "announce") t in
+    either (version == 2) (value_in names.Announce as_array (read_array ports) (Some alike) value) (Ok alike)
+    (key_in as_array (intervals_in ports) (Some alike) value) (Ok alike)
+    (value_is names.Announce as_array (read_array ports) (intervals_in ports) (array_agrees ports) (Some alike) value)
     refl
 
 system_is : (version : ℕ) (announce : ℤ) (t : Members)

@@ -2,6 +2,7 @@
 
 ghost use Rattle.std.specs.Prelude.{◌≡◌, ◌≤ℤ◌, ◌≤◌, pos, neg_ℤ, Ok, OnOk, IfOk, IfSome};
 ghost use Rattle.toml.specs.View.{view, items_view, table_view};
+ghost use Rattle.gptp_roles.specs.Selection.{clock_of};
 ghost use Rattle.gptp_network.specs.Found.{system_from};
 ghost use Rattle.gptp_network.specs.ReadMembers.{read_each};
 ghost use Rattle.gptp_network.specs.ReadSystems.{duplicate, first_shorter, put_system, read_system, read_with_system, read_with_systems, system_why};
@@ -31,6 +32,13 @@ pub(crate) struct System {
     pub phase: u64,
     pub drift: i32,
     pub intervals: ArrayVec<i8, 16>,
+}
+
+/// What is told of a system that can't be added: its clock, and what a port of it announces at.
+#[derive(Clone, Copy)]
+struct Newcomer {
+    clock: ClockId,
+    log: i8,
 }
 
 /// The identity of these parts.
@@ -126,16 +134,27 @@ fn duplicate(network: &Network, clock: ClockId) -> Why
     }
 }
 
-/// Why a system with this clock, one of whose ports announces at this interval, can't be added.
-fn system_why(network: &Network, clock: ClockId, log: i8, fault: NetworkFault) -> Why
-    ensures { result ≡ system_why network.now clock log fault }
+/// What is told of a system, of whose intervals the first that is shorter than that of requests counts.
+fn newcomer(network: &Network, system: &System) -> Newcomer
+    ensures clock { result.clock ≡ clock_of system.now.identity }
+    ensures log { result.log ≡ first_shorter network.now.params.pdelay system.now.intervals.items network.now.params.announce }
+{
+    let params = network.params();
+    let clock = system.identity.clock();
+    let log = first_shorter(params.pdelay, system.intervals.as_slice(), params.announce);
+    Newcomer { clock, log }
+}
+
+/// Why a system can't be added.
+fn system_why(network: &Network, newcomer: &Newcomer, fault: NetworkFault) -> Why
+    ensures { result ≡ system_why network.now newcomer.now.clock newcomer.now.log fault }
 {
     match fault {
         NetworkFault::Timing => Why::Timing {
             params: network.params(),
-            announce: log,
+            announce: newcomer.log,
         },
-        NetworkFault::DuplicateClock => duplicate(network, clock),
+        NetworkFault::DuplicateClock => duplicate(network, newcomer.clock),
         NetworkFault::OutOfMemory => Why::Memory,
         _ => Why::Other { fault },
     }
@@ -146,9 +165,7 @@ fn put_system(network: &mut Network, system: System) -> Result<(), Why>
     ensures network { OnOk result (put_system system network.old ≡ Ok network.new) }
     ensures refused { Stops (put_system system network.old) result }
 {
-    let params = network.params();
-    let clock = system.identity.clock();
-    let log = first_shorter(params.pdelay, system.intervals.as_slice(), params.announce);
+    let newcomer = newcomer(network, &system);
     match network.add_system(
         system.identity,
         system.ports,
@@ -157,7 +174,7 @@ fn put_system(network: &mut Network, system: System) -> Result<(), Why>
         system.intervals,
     ) {
         Ok(()) => Ok(()),
-        Err(fault) => Err(system_why(network, clock, log, fault)),
+        Err(fault) => Err(system_why(network, &newcomer, fault)),
     }
 }
 
