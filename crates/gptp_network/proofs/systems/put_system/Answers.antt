@@ -16,7 +16,7 @@ returns-in-Err-clause-refused c =
     let log = first_shorter n.params.pdelay s.intervals.items n.params.announce in
     let why : NetworkFault → Why = system_why n (clock_of s.identity) log in
     let same : c.system_why.result ≡ why c.in-Err.fault =
-    rw (c.newcomer-newcomer.ensures.clock, c.newcomer-newcomer.ensures.log, c.in-Err.ensures.kept)
+    rw (c.told_of-newcomer.ensures.clock, c.told_of-newcomer.ensures.log, c.in-Err.ensures.kept)
     at c.system_why.ensures in
     subst (λ (w : Why). (w ≡ Memory) ⊎ (put_system s n ≡ Err w)) (sym same)
     (refusal_told why (system_fault n (member_of s)) (with_system (member_of s) n) c.in-Err.fault refl
