@@ -150,7 +150,7 @@ marked_more place lowest numbers old now line new here marks so_far = record {
         let (x, at, was) = so_far.marked i one (earlier i place below apart) there in
         (x, get-set_other now place i new apart ∙ at, was)
 
--- so it is as the code has lines
+-- one line more is marked, over the lines as the code has them
 pub mark_next : (place : ℕ) (lowest numbers : List ℕ) (old : List SystemLine) (cur : List Line) (one new : Line)
     (low : ℕ) → place < length old → place < length lowest → one ≡ slice_index_or cur place one
     → low ≡ slice_index_or lowest place low → Marks low (value numbers place) (line_of one) (line_of new)

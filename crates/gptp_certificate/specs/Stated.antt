@@ -42,7 +42,7 @@ pub record IsFarLine (g : Snapshot) (all : List Statement) (one : Statement) (li
   pub steps : AreFarSteps g all one line.steps
   pub bare : IsBare line
 
--- that of one that isn't far: what it says itself
+-- the line of a system that isn't far: what it says itself
 pub record IsNearLine (g : Snapshot) (all : List Statement) (station : Station) (line : SystemLine) : Type 0 where
   pub is_near : IsFar g all (statement_of station) → ⊥
   pub is : line ≡ stated_line station.system

@@ -91,7 +91,7 @@ fn state_clock<F: Fate + Drop>(
     }
 }
 
-/// So that of the system at a place by rising clock.
+/// Appends the line of the system at a place by rising clock.
 fn state_at<F: Fate + Drop>(
     alloc: Global,
     world: &World<F>,

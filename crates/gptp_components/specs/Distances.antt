@@ -11,13 +11,13 @@ pub record IsDistanceOf (g : Snapshot) (v : ℕ) (d : Distance) : Type 0 where
   pub root : IsBestIdentity g v d.root
   pub steps : IsDistance g v d.steps
 
--- those of the systems at the first places, so many
+-- the distances of the systems at the first places, so many
 pub record AreFirst (g : Snapshot) (count : ℕ) (ds : List Distance) : Type 0 where
   pub as_many : length ds ≡ count
   pub each : (place : ℕ) (s : System) (d : Distance) → slice_get g.systems place ≡ Some s → slice_get ds place ≡ Some d
       → IsDistanceOf g s.clock d
 
--- those of all systems, by their places
+-- the distances of all systems, by their places
 abbrev pub AreDistances : Snapshot → List Distance → Type 0
 AreDistances g = AreFirst g (length g.systems)
 

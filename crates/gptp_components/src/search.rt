@@ -50,7 +50,7 @@ fn put_new(
     Ok(())
 }
 
-/// The same, unless its distance is found.
+/// Puts a system among those that wait, unless its distance is found.
 fn put(
     snapshot: &Snapshot,
     found: &mut Vec<Option<Distance>>,
@@ -69,7 +69,7 @@ fn put(
     }
 }
 
-/// The same for the system at the other end of a port's link, if there is one.
+/// Puts the system at the other end of a port's link among those that wait, if there is one.
 fn put_over(
     snapshot: &Snapshot,
     found: &mut Vec<Option<Distance>>,
@@ -105,7 +105,7 @@ fn ports_of(snapshot: &Snapshot, clock: ClockId) -> u8
     }
 }
 
-/// The same for all neighbours of a system at the edge.
+/// Puts all neighbours of a system at the edge among those that wait.
 fn put_neighbours(
     snapshot: &Snapshot,
     found: &mut Vec<Option<Distance>>,
@@ -215,7 +215,7 @@ fn identities(alloc: Global, snapshot: &Snapshot) -> Result<Vec<Identity>, Alloc
     Ok(ids)
 }
 
-/// The same, the best first.
+/// The identities of all systems, the best first.
 fn by_rank(alloc: Global, snapshot: &Snapshot) -> Result<Vec<Identity>, AllocError>
     ensures { IfOk result (λ ids. AreByRank snapshot.now ids.items) }
 {

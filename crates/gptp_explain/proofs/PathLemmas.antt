@@ -7,7 +7,7 @@ use Rattle.gptp_graph.proofs.DistanceLemmas.{IsDistance-unique}
 use Rattle.gptp_graph.proofs.ParentLemmas.{no_parent_at_zero}
 use Rattle.gptp_explain.specs.Explained.{LeadsUp}
 
--- So many parents have been passed, up to the last; what leads up from there leads up from v.
+-- A number of parents have been passed, up to the last; what leads up from there leads up from v.
 pub record HasClimbed (g : Snapshot) (v steps step last : ℕ) (way : List ℕ) : Type 0 where
   pub front : List ℕ
   pub is : way ≡ v ∷ front

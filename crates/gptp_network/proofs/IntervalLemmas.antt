@@ -25,7 +25,7 @@ pub one_more : (zs : List ℤ) (z : ℤ) (rest : Result (List ℤ) DocumentFault
 one_more zs z (Ok more) = ap Ok (sym (append_assoc zs (z ∷ []) more))
 one_more zs z (Err e) = refl
 
--- so it is with the next member of an array
+-- the next member of an array is read
 pub next_read : (values : List Value) (i : ℕ) (v : Value) (zs : List ℤ) (z : ℤ)
     → drop i values ≡ v ∷ drop (i + 1) values → kind_of (as_integer (view v)) ≡ Ok z
     → whole_numbers (items_view values) ≡ behind zs (whole_numbers (items_view (drop i values)))

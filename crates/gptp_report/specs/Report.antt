@@ -17,7 +17,7 @@ time_line until = codes "time " ++ decimal until
 abbrev pub calm_text : ℕ → ℕ → List ℕ
 calm_text last settled = codes "change " ++ decimal last ++ codes " calm yes settle " ++ decimal settled
 
--- those of the whole document
+-- the line of a calm document
 abbrev pub calm_line : DocumentState → List ℕ
 calm_line d = calm_text (last_change d.events) (settles d.network d.events)
 

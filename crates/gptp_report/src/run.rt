@@ -47,7 +47,7 @@ fn make<F: Fate + Drop, O: Observer, K: Sink>(
     observer.observe(alloc, world, event, &done, sink)
 }
 
-/// So it is made where it is due by the end.
+/// Makes an event where it is due by the end.
 fn make_if_due<F: Fate + Drop, O: Observer, K: Sink>(
     alloc: Global,
     world: &mut World<F>,

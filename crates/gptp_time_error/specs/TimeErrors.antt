@@ -55,7 +55,7 @@ pub record IsSystemOf (calm : Bool) (line : SystemLine) (to : Sums) (s : SystemE
   pub far : s.far ≡ line.far
   pub error : s.error ≡ error_of calm line.far line.root to.error
 
--- so it is of some line and the sums at its place
+-- an entry is that of some line and the sums at its place
 pub record IsEntry (calm : Bool) (lines : List SystemLine) (sums : List Sums) (s : SystemError) : Type 0 where
   pub place : ℕ
   pub line : SystemLine

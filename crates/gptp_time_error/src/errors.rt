@@ -82,7 +82,7 @@ fn holds_from(network: &Network, events: &[Timed], snapshot: &Snapshot) -> u64
         + systems as u64 * (params.threshold + params.residence)
 }
 
-/// The same, if it is calm.
+/// From when on time errors hold, if the network is calm.
 fn holds_from_if_calm(network: &Network, events: &[Timed], snapshot: &Snapshot) -> Option<u64>
     requires allowed { AreAllowed events.now }
     requires stands { StandsAfter network.now events.now snapshot.now }

@@ -28,7 +28,7 @@ pub(crate) struct Link {
 pub(crate) struct Sums {
     /// The drift of the root's clock, in units of 2^-41.
     pub root_drift: i32,
-    /// That of the clock at the end of the way.
+    /// The drift of the clock at the end of the way, in units of 2^-41.
     pub drift: i32,
     /// The jitter of the last link, in ns; 0 at the root.
     pub jitter: u64,
@@ -49,7 +49,7 @@ fn count_of(drift: i32) -> i64
     UNIT + i64::from(drift)
 }
 
-/// The same, as a time.
+/// The rate of a clock with this drift, as a time.
 fn elapsed_of(drift: i32) -> ScaledNs
     requires { IsDrift drift }
     ensures { result ≡ pos (clock_rate drift) }

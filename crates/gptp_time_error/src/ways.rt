@@ -51,7 +51,7 @@ fn places_of(alloc: Global, certificate: &Certificate) -> Result<Vec<(u16, usize
     Ok(places)
 }
 
-/// The same, none with more steps than one behind it.
+/// The lines of a certificate by their steps and places, none with more steps than one after it.
 fn places_by_steps(
     alloc: Global,
     certificate: &Certificate,
@@ -142,7 +142,7 @@ fn sum_up(
     }
 }
 
-/// So many sums of nothing.
+/// A number of sums over no link.
 fn no_sums(alloc: Global, count: usize) -> Result<Vec<Sums>, AllocError>
     ensures { IfOk result (λ v. length v.items ≡ count) }
 {

@@ -153,7 +153,7 @@ maps_alike f g [] same = refl
 maps_alike f g (x ∷ xs) same = ap₂ (λ y ys. y ∷ ys) (same x) (maps_alike f g xs same)
 
 module _ (events : List Timed) (cables : List Cable) (clock : ℕ) where
-  -- those of the first system with the clock, or there is none
+  -- the neighbours are those of the first system with the clock, or there is none
   abbrev Looked : List Node → List ℕ → Type 0
   Looked os owns =
       (neighbours_at clock os ≡ neighbours_of clock cables)

@@ -264,7 +264,7 @@ fn pass(
     Ok(())
 }
 
-/// The same of the event at a place, where that names a system at one of the link's ends.
+/// Passes the event at a place, where that names a system at one of the link's ends.
 fn pass_at(
     course: &mut Vec<Standing>,
     standing: &mut Standing,
