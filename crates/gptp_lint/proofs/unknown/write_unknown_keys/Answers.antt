@@ -21,5 +21,6 @@ returns c =
     on_ok_weaker c.write_sections.result
     (λ rest. subst (λ keys. AppendsUnread (Some t) o (by_part keys) old new) are
     (more_unread (Some t) o (of_part 0 found ++ of_part 1 found)
-    (of_part 2 found ++ (of_part 3 found ++ of_part 4 found)) old mid new (rw c.deref-2.ensures.value at c.in_ok-write_head.ensures) rest))
+    (of_part 2 found ++ (of_part 3 found ++ of_part 4 found)) old mid new
+    (rw c.deref-2.ensures.value at c.in_ok-write_head.ensures) rest))
     (rw c.deref-3.ensures.value at c.write_sections.ensures)
