@@ -1,12 +1,15 @@
 -- Each input has a text of what is found in it.
-use Rattle.std.proofs.Common.{◌==◌, ◌&&◌, ℕ, Bool, true, false, not, nat_le, List, [], ◌∷◌, ◌++◌, length, map, refl, inl, inr}
+use Rattle.std.proofs.Common.{◌==◌, ◌&&◌, ℕ, Bool, true, false, not, nat_le, List, [], ◌∷◌, ◌++◌, length, map, None, Result, Ok, Err, refl, inl, inr}
 use Rattle.std.specs.Bool.{MatchBool}
-use Rattle.gptp_network.specs.Document.{DocumentState, Means}
+use Rattle.gptp_network.specs.Document.{DocumentState, Fails, Means}
+use Rattle.gptp_network.specs.ReadDocument.{read_document}
 use Rattle.gptp_network.specs.declared.fault.DocumentFault.{DocumentFault}
 use Rattle.gptp_network.specs.declared.fault.DocumentFault.TheVariants.{TooMany}
+use Rattle.gptp_network.specs.declared.why.Refusal.{Refusal}
 use Rattle.gptp_network.proofs.LawLemmas.{MeansOrFails, means_or_fails}
 use Rattle.gptp_outline.specs.Rows.{table_of}
 use Rattle.gptp_lint.specs.LintText.{calm_line, found_lines, refused_line}
+use Rattle.gptp_lint.specs.Refusal.{TellsPlace, TellsRefusal, no_toml_words, refusal_words}
 use Rattle.gptp_lint.specs.UnreadKeys.{unread_keys}
 use Rattle.gptp_lint.proofs.EveryLemmas.{each_is_found}
 use Rattle.gptp_lint.proofs.UnreadLemmas.{bare, bare_near, bare_placed}
@@ -43,16 +46,27 @@ findings_told strict input d means =
       },
     )
 
--- the place of a fault is left open too
-refused_at : (fault : DocumentFault) → HaveText (RefusesAtPlace fault)
-refused_at fault = (refused_line fault [] ∷ [], Refused, record { place = []; line = refl; status_is = refl })
+-- nor are the line of a header and a key that is near where a document is refused
+told_of : (read : Result DocumentState Refusal) → (tail : List ℕ) × TellsRefusal read tail
+told_of (Ok d) = ([], refl)
+told_of (Err refusal) = (refusal_words refusal None None, (None, None, λ missing. refl, refl))
+
+told_at : (input : List ℕ) (fault : DocumentFault) → Fails input fault → (tail : List ℕ) × TellsPlace input tail
+told_at input fault (inl (is, no_toml)) = (no_toml_words None, inl (no_toml, (None, refl)))
+told_at input fault (inr (t, parses, is)) =
+    let (tail, told) = told_of (read_document t) in (tail, inr (t, parses, told))
+
+refused_at : (input : List ℕ) (fault : DocumentFault) → Fails input fault → HaveText (RefusesAtPlace input fault)
+refused_at input fault fails =
+    let (tail, told) = told_at input fault fails in
+    (refused_line fault tail ∷ [], Refused, record { place = tail; told = told; line = refl; status_is = refl })
 
 module _ (strict : Bool) (input : List ℕ) where
   input_answered : MeansOrFails input → HaveText (AnswersInput (Lint strict) input)
   input_answered (inl (d, means)) =
       let (output, status, tells) = findings_told strict input d means in (output, status, inl (d, means, tells))
   input_answered (inr (fault, fails)) =
-      let (output, status, refuses) = refused_at fault in (output, status, inr (fault, fails, refuses))
+      let (output, status, refuses) = refused_at input fault fails in (output, status, inr (fault, fails, refuses))
 
   answered_by_size : (fits : Bool)
       → HaveText (λ output status. MatchBool fits (AnswersInput (Lint strict) input output status)

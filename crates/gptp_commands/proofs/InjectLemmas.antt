@@ -1,174 +1,34 @@
 -- What the events of a document that a text means inject is octets that a frame can have.
-use Rattle.std.proofs.Common.{◌≡◌, ◌<◌, ◌≤◌, ◌*◌, ℕ, suc, Bool, true, false, codes, nat_le, List, [], ◌∷◌, ◌++◌, length, Option, Some, None, Result, Ok, Err, refl, arith}
-use Rattle.std.specs.Prelude.{if◌then◌else◌, bytes_eq, nat_lt, slice_index}
-use Rattle.std.proofs.lemmas.Bool.{and_parts, leb-true}
-use Rattle.toml.specs.Data.{Data, Items, Members, as_str, as_table, get_member, item, no_items}
-use Rattle.hex.specs.Hex.{decode_of}
-use Rattle.hex.specs.declared.error.FromHexError.{FromHexError}
-use Rattle.hex.proofs.HexLemmas.{decode_of-ok}
-use Rattle.gptp_plan.specs.Calm.{last_change}
-use Rattle.gptp_plan.specs.Network.{NetworkState}
-use Rattle.gptp_plan.specs.Params.{is_between}
-use Rattle.gptp_plan.specs.declared.change.Act.TheVariants.{Change as Changing}
-use Rattle.gptp_plan.specs.declared.change.Change.{Change}
+use Rattle.std.proofs.Common.{◌<◌, ℕ, List, [], ◌∷◌, refl, inl, inr}
+use Rattle.std.specs.List.{AllByRecursion}
+use Rattle.gptp_lists.specs.Members.{In}
+use Rattle.gptp_plan.specs.declared.change.Act.{Act}
+use Rattle.gptp_plan.specs.declared.change.Act.TheVariants.{Deliver, Expire, Change as Changing}
 use Rattle.gptp_plan.specs.declared.change.Change.TheVariants.{LinkDown, LinkUp, LinkSet, Fail, Recover, Priority1, Inject}
 use Rattle.gptp_plan.specs.declared.change.Timed.{Timed}
-use Rattle.gptp_network.specs.Document.{DocumentState, Means, document_of, whole_network_of}
-use Rattle.gptp_network.specs.Events.{change_fault, change_of, event_of, events_of, fail_of, inject_of, link_down_of, link_set_of, link_up_of, not_before, priority1_of, recover_of, timed, with_event_of}
-use Rattle.gptp_network.specs.Members.{each_of, limited}
-use Rattle.gptp_network.specs.Values.{array_at, clock, key_in, kind_of, natural, octets, octets_of_text, spelled_octets, text}
-use Rattle.gptp_network.specs.declared.fault.DocumentFault.TheVariants.{EventOrder, MissingKey, OutOfRange}
-use Rattle.gptp_network.proofs.GivenLemmas.{either, given, next, refused, unless_faulty, Gives}
+use Rattle.gptp_network.specs.Document.{DocumentState, Means}
+use Rattle.gptp_network.proofs.MeantLemmas.{SetsOctets, meant_octets}
 use Rattle.gptp_outcome.specs.ExistenceLaws.{AllInject}
-use Rattle.gptp_outcome.specs.GoingOn.{AreOctets, AreOfFrame, InjectsOctets}
+use Rattle.gptp_outcome.specs.GoingOn.{AreOctets, InjectsOctets}
 
--- ---- octets
+are_octets : (frame : List ℕ) → ((octet : ℕ) → In octet frame → octet < 256) → AreOctets frame
+are_octets [] below = tt
+are_octets (x ∷ xs) below = (below x (inl refl), are_octets xs (λ octet member. below octet (inr member)))
 
-octets_from : (frame : List ℕ) → ((place : ℕ) → slice_index frame place < 256) → AreOctets frame
-octets_from [] below = tt
-octets_from (x ∷ xs) below = (below 0, octets_from xs (λ place. below (suc place)))
+injects : (act : Act) → SetsOctets act → InjectsOctets act
+injects (Deliver link direction) is = tt
+injects (Expire name timer) is = tt
+injects (Changing (LinkDown name port)) is = tt
+injects (Changing (LinkUp name port)) is = tt
+injects (Changing (LinkSet name port least greatest loss)) is = tt
+injects (Changing (Fail name)) is = tt
+injects (Changing (Recover name)) is = tt
+injects (Changing (Priority1 name value)) is = tt
+injects (Changing (Inject name port frame)) is = (are_octets frame is.0, is.1)
 
--- so many digits spell octets that a frame can have
-spelled_frame : (digits : List ℕ) → length digits ≤ 4232 → Gives AreOfFrame (spelled_octets (decode_of digits))
-spelled_frame digits few = by (decode_of digits) refl
-  where
-    by : (r : Result (List ℕ) FromHexError) → decode_of digits ≡ r → Gives AreOfFrame (spelled_octets r)
-    by (Ok frame) is =
-        let read = decode_of-ok digits frame is in
-        let twice : length digits ≡ 2 * length frame = read.2 in
-        given AreOfFrame frame (octets_from frame read.3, omega (arith, few, twice))
-    by (Err e) is = refused AreOfFrame OutOfRange
-
-text_frame : (digits : List ℕ) → Gives AreOfFrame (octets_of_text digits)
-text_frame digits = by (is_between 1 4232 (length digits)) refl
-  where
-    by : (test : Bool) → is_between 1 4232 (length digits) ≡ test
-        → Gives AreOfFrame (if test then spelled_octets (decode_of digits) else Err OutOfRange)
-    by true is =
-        let parts = and_parts (nat_le 1 (length digits)) (nat_le (length digits) 4232) is in
-        spelled_frame digits (leb-true (length digits) 4232 parts.1)
-    by false is = refused AreOfFrame OutOfRange
-
-octets_frame : (key : List ℕ) (t : Members) → Gives AreOfFrame (octets key t)
-unfolding octets
-octets_frame key t = by (get_member key t)
-  where
-    by : (o : Option Data) → Gives AreOfFrame (key_in as_str octets_of_text None o)
-    by None = refused AreOfFrame MissingKey
-    by (Some d) = next AreOfFrame (kind_of (as_str d)) octets_of_text (λ digits is. text_frame digits)
-
--- ---- changes
-
-abbrev Injects : Change → Type 0
-Injects change = InjectsOctets (Changing change)
-
-link_down_injects : (t : Members) → Gives Injects (link_down_of t)
-unfolding link_down_of
-link_down_injects t =
-    next Injects (clock (codes "clock") t) _ (λ name is. next Injects (natural (codes "port") 1 16 None t) _
-    (λ port here. given Injects (LinkDown name port) tt))
-
-link_up_injects : (t : Members) → Gives Injects (link_up_of t)
-unfolding link_up_of
-link_up_injects t =
-    next Injects (clock (codes "clock") t) _ (λ name is. next Injects (natural (codes "port") 1 16 None t) _
-    (λ port here. given Injects (LinkUp name port) tt))
-
-link_set_injects : (t : Members) → Gives Injects (link_set_of t)
-unfolding link_set_of
-link_set_injects t =
-    next Injects (clock (codes "clock") t) _ (λ name is. next Injects (natural (codes "port") 1 16 None t) _
-    (λ port here. next Injects (natural (codes "min") 1 16000000000 None t) _
-    (λ least min. next Injects (natural (codes "max") 1 16000000000 None t) _
-    (λ greatest max. next Injects (natural (codes "loss") 0 1000 None t) _
-    (λ loss share. given Injects (LinkSet name port least greatest loss) tt)))))
-
-fail_injects : (t : Members) → Gives Injects (fail_of t)
-unfolding fail_of
-fail_injects t = next Injects (clock (codes "clock") t) _ (λ name is. given Injects (Fail name) tt)
-
-recover_injects : (t : Members) → Gives Injects (recover_of t)
-unfolding recover_of
-recover_injects t = next Injects (clock (codes "clock") t) _ (λ name is. given Injects (Recover name) tt)
-
-priority1_injects : (t : Members) → Gives Injects (priority1_of t)
-unfolding priority1_of
-priority1_injects t =
-    next Injects (clock (codes "clock") t) _ (λ name is. next Injects (natural (codes "value") 0 255 None t) _
-    (λ value here. given Injects (Priority1 name value) tt))
-
-inject_injects : (t : Members) → Gives Injects (inject_of t)
-unfolding inject_of
-inject_injects t =
-    next Injects (clock (codes "clock") t) _ (λ name is. next Injects (natural (codes "port") 1 16 None t) _
-    (λ port here. next Injects (octets (codes "octets") t) _
-    (λ frame read. given Injects (Inject name port frame) (octets_frame (codes "octets") t frame read))))
-
-change_injects : (kind : List ℕ) (t : Members) → Gives Injects (change_of kind t)
-unfolding change_of
-change_injects kind t =
-    either Injects (bytes_eq kind (codes "link_down")) _ _ (link_down_injects t)
-    (either Injects (bytes_eq kind (codes "link_up")) _ _ (link_up_injects t)
-    (either Injects (bytes_eq kind (codes "link_set")) _ _ (link_set_injects t)
-    (either Injects (bytes_eq kind (codes "fail")) _ _ (fail_injects t)
-    (either Injects (bytes_eq kind (codes "recover")) _ _ (recover_injects t)
-    (either Injects (bytes_eq kind (codes "priority1")) _ _ (priority1_injects t)
-    (either Injects (bytes_eq kind (codes "inject")) _ _ (inject_injects t) (refused Injects OutOfRange)))))))
-
--- ---- events
-
-event_injects : (t : Members) (e : _) → event_of t ≡ Ok e → InjectsOctets (timed e).act
-unfolding event_of
-event_injects t =
-    next (λ e. InjectsOctets (timed e).act) (natural (codes "at") 0 800000000000000 None t) _ (λ at is.
-    next (λ e. InjectsOctets (timed e).act) (text (codes "kind") t) _ (λ kind of.
-    next (λ e. InjectsOctets (timed e).act) (change_of kind t) _ (λ change read.
-    given (λ e. InjectsOctets (timed e).act) (record { at = at; change = change })
-    (change_injects kind t change read))))
-
-inject_behind : (events : List Timed) (one : Timed) → AllInject events → InjectsOctets one.act
-    → AllInject (events ++ one ∷ [])
-inject_behind [] one all is = (is, tt)
-inject_behind (e ∷ events) one all is = (all.0, inject_behind events one all.1 is)
-
-with_event_injects : (n : NetworkState) (d : Data) (events : List Timed) → AllInject events
-    → Gives AllInject (with_event_of n d events)
-unfolding with_event_of
-with_event_injects n d events all =
-    next AllInject (kind_of (as_table d)) _ (λ t is. next AllInject (event_of t) _ (λ e read.
-    next AllInject (not_before (last_change events) e) _ (λ later in_order.
-    let injects : InjectsOctets (timed later).act =
-    either (λ e. InjectsOctets (timed e).act) (nat_lt e.at (last_change events)) (Err EventOrder) (Ok e)
-    (refused (λ e. InjectsOctets (timed e).act) EventOrder)
-    (given (λ e. InjectsOctets (timed e).act) e (event_injects t e read)) later in_order in
-    unless_faulty AllInject (change_fault n later.change) (events ++ timed later ∷ [])
-    (λ none. inject_behind events (timed later) all injects))))
-
-each_injects : (n : NetworkState) (ds : Items) (events : List Timed) → AllInject events
-    → Gives AllInject (each_of (with_event_of n) ds events)
-each_injects n no_items events all = given AllInject events all
-each_injects n (item d ds) events all =
-    next AllInject (with_event_of n d events) (each_of (with_event_of n) ds)
-    (λ more is. each_injects n ds more (with_event_injects n d events all more is))
-
-events_inject : (t : Members) (n : NetworkState) → Gives AllInject (events_of t n)
-unfolding events_of
-events_inject t n =
-    next AllInject (array_at (codes "event") t) _ (λ ds is. next AllInject (limited 4096 ds) _ (λ few short.
-    each_injects n few [] tt))
-
--- ---- documents
-
-abbrev DocumentInjects : DocumentState → Type 0
-DocumentInjects d = AllInject d.events
-
-document_injects : (t : Members) → Gives DocumentInjects (document_of t)
-unfolding document_of
-document_injects t =
-    next DocumentInjects (natural (codes "version") 1 2 None t) _ (λ version is.
-    next DocumentInjects (whole_network_of version t) _ (λ network of.
-    next DocumentInjects (events_of t network) _ (λ events read.
-    given DocumentInjects (record { network = network; events = events }) (events_inject t network events read))))
+all_inject : (events : List Timed) → AllByRecursion (λ (t : Timed). SetsOctets t.act) events → AllInject events
+all_inject [] all = tt
+all_inject (t ∷ events) all = (injects t.act all.0, all_inject events all.1)
 
 pub meant_injects : (input : List ℕ) (d : DocumentState) → Means input d → AllInject d.events
-meant_injects input d means = document_injects means.table d means.is
+meant_injects input d means = all_inject d.events (meant_octets input d means)

@@ -7,6 +7,7 @@ pub mod LineLemmas
 pub mod CompareLemmas
 pub mod LawLemmas
 pub mod VerdictLemmas
+mod OneAnswerLemmas
 pub mod OneRunLemmas
 pub mod OnePlaceLemmas
 pub mod SameActLemmas

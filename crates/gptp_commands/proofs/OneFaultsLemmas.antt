@@ -1,6 +1,5 @@
 -- A document and what is asked of its faults have one text, and one status.
-use Rattle.std.proofs.Common.{◌⊎◌, ◌≡◌, ℕ, Bool, true, false, nat_le, List, [], ◌∷◌, length, map, Option, refl, sym, ap, ap₂, subst, ◌∙◌, inl, inr}
-use Rattle.std.specs.Bool.{MatchBool}
+use Rattle.std.proofs.Common.{◌⊎◌, ◌≡◌, ℕ, Bool, false, List, [], ◌∷◌, map, Option, refl, sym, ap, ap₂, subst, ◌∙◌, inl, inr}
 use Rattle.gptp_acts.specs.Initial.{initial}
 use Rattle.gptp_acts.specs.Views.{rising_clocks}
 use Rattle.gptp_acts.specs.World.{WorldState}
@@ -8,7 +7,6 @@ use Rattle.gptp_links.specs.declared.bounds.Bounds.{Bounds}
 use Rattle.gptp_network.specs.Document.{DocumentState}
 use Rattle.gptp_network.specs.Snapshot.{events_by}
 use Rattle.gptp_network.specs.declared.fault.DocumentFault.{DocumentFault}
-use Rattle.gptp_network.specs.declared.fault.DocumentFault.TheVariants.{TooMany}
 use Rattle.gptp_network.proofs.LawLemmas as network_laws
 use Rattle.gptp_plan.specs.Network.{NetworkState}
 use Rattle.gptp_outcome.specs.Named.{AnswersOnce, IsNamed}
@@ -27,13 +25,14 @@ use Rattle.gptp_faults.specs.Refusals.{RefusesFaults}
 use Rattle.gptp_faults.specs.declared.options.FaultsOptions.{FaultsOptions}
 use Rattle.gptp_faults.proofs.OneLemmas.{never_refused, one_refusal, table_once}
 use Rattle.gptp_commands.specs.declared.failure.Status.{Status}
-use Rattle.gptp_commands.specs.Documents.{RefusesFault, document_limit}
+use Rattle.gptp_commands.specs.Documents.{RefusesFault}
 use Rattle.gptp_commands.specs.Failure.{status_by}
-use Rattle.gptp_commands.specs.FaultsText.{AnswersFaults, FaultsText, TellsFaults}
+use Rattle.gptp_commands.specs.FaultsText.{FaultsText, TellsFaults}
 use Rattle.gptp_commands.specs.RunText.{draws}
 use Rattle.gptp_commands.proofs.OneRunLemmas.{draws_once}
 use Rattle.gptp_commands.proofs.OneTimelineLemmas.{IsSamePassage, SamePassages, all_pass_once, each_named, same_stretch}
 use Rattle.gptp_commands.proofs.SameActLemmas.{same_waits}
+use Rattle.gptp_commands.proofs.OneAnswerLemmas.{one_answer}
 use Rattle.gptp_commands.proofs.VerdictLemmas.{AreSame, same_refusal}
 
 -- ---- a run
@@ -116,25 +115,9 @@ module _ (d : DocumentState) (options : FaultsOptions) where
 
 -- ---- the whole text
 
-answers_once : (options : FaultsOptions) (input : List ℕ) (a b : List (List ℕ)) (s t : Status)
-    → AnswersFaults options input a s → AnswersFaults options input b t → AreSame a s b t
-answers_once options input a b s t (inl (d, d-means, k)) (inl (e, e-means, l)) =
-    let same = network_laws.one_meaning input e d e-means d-means in
-    tells_once d options (each_named d (meant_names input d d-means)) (meant_named input d d-means) a b s t k
-    (subst (λ (x : DocumentState). TellsFaults x options b t) same l)
-answers_once options input a b s t (inl (d, means, _)) (inr (fault, fails, _)) =
-    absurd (network_laws.never_both input d fault means fails)
-answers_once options input a b s t (inr (fault, fails, _)) (inl (d, means, _)) =
-    absurd (network_laws.never_both input d fault means fails)
-answers_once options input a b s t (inr (f, f-fails, k)) (inr (g, g-fails, l)) =
-    same_refusal f g a b s t (network_laws.one_fault input f g f-fails g-fails) k l
-
-by_size : (options : FaultsOptions) (input : List ℕ) (a b : List (List ℕ)) (s t : Status) (fits : Bool)
-    → MatchBool fits (AnswersFaults options input a s) (RefusesFault TooMany a s)
-    → MatchBool fits (AnswersFaults options input b t) (RefusesFault TooMany b t) → AreSame a s b t
-by_size options input a b s t true k l = answers_once options input a b s t k l
-by_size options input a b s t false k l = same_refusal TooMany TooMany a b s t refl k l
-
 pub one_faults : (options : FaultsOptions) (input : List ℕ) (a b : List (List ℕ)) (s t : Status)
     → FaultsText options input a s → FaultsText options input b t → AreSame a s b t
-one_faults options input a b s t k l = by_size options input a b s t (nat_le (length input) document_limit) k l
+one_faults options input a b s t k l =
+    one_answer (λ d. TellsFaults d options) input (λ d x y u v means one other.
+    tells_once d options (each_named d (meant_names input d means)) (meant_named input d means) x y u v one other)
+    a b s t k l

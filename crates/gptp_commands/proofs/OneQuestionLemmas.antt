@@ -1,9 +1,8 @@
 -- An input has one text of its choice, of its accuracy and of what is explained of it, and one status.
-use Rattle.std.proofs.Common.{ℕ, Bool, true, false, nat_le, List, length, Option, refl, sym, ap, subst, ◌∙◌, inl, inr}
-use Rattle.std.specs.Bool.{MatchBool}
+use Rattle.std.proofs.Common.{ℕ, List, Option, refl, sym, ap, subst, ◌∙◌, inl, inr}
 use Rattle.gptp_graph.specs.SettledChoice.{IsSettledChoice}
 use Rattle.gptp_network.specs.Document.{DocumentState, Means}
-use Rattle.gptp_network.specs.declared.fault.DocumentFault.TheVariants.{NoSuchPort, TooMany}
+use Rattle.gptp_network.specs.declared.fault.DocumentFault.TheVariants.{NoSuchPort}
 use Rattle.gptp_network.proofs.LawLemmas as network_laws
 use Rattle.gptp_network.proofs.MeantLemmas.{meant_document}
 use Rattle.gptp_certificate_text.specs.CertificateText.{certificate_lines}
@@ -15,36 +14,11 @@ use Rattle.gptp_commands.specs.declared.question.Question.TheVariants.{Accuracy,
 use Rattle.gptp_commands.specs.AccuracyText.{TellsAccuracy}
 use Rattle.gptp_commands.specs.CheckText.{moment_of}
 use Rattle.gptp_commands.specs.ChoiceText.{ChoosesAt}
-use Rattle.gptp_commands.specs.Documents.{document_limit, Answers, AnswersInput, RefusesFault}
 use Rattle.gptp_commands.specs.ExplainText.{ExplainsAt}
 use Rattle.gptp_commands.specs.Failure.{status_by}
 use Rattle.gptp_commands.specs.QuestionText.{QuestionText}
+use Rattle.gptp_commands.proofs.OneAnswerLemmas.{one_answer}
 use Rattle.gptp_commands.proofs.VerdictLemmas.{same_refusal, AreSame}
-
--- ---- what is told of a document by one text alone
-
-module _ (Tells : DocumentState → List (List ℕ) → Status → Type 0) (input : List ℕ)
-    (once : (d : DocumentState) (a b : List (List ℕ)) (s t : Status) → Means input d → Tells d a s → Tells d b t
-    → AreSame a s b t)
-    (a b : List (List ℕ)) (s t : Status) where
-  answers_once : Answers Tells input a s → Answers Tells input b t → AreSame a s b t
-  answers_once (inl (d, d-means, k)) (inl (e, e-means, l)) =
-      let same = network_laws.one_meaning input e d e-means d-means in
-      once d a b s t d-means k (subst (λ (x : DocumentState). Tells x b t) same l)
-  answers_once (inl (d, means, _)) (inr (fault, fails, _)) =
-      absurd (network_laws.never_both input d fault means fails)
-  answers_once (inr (fault, fails, _)) (inl (d, means, _)) =
-      absurd (network_laws.never_both input d fault means fails)
-  answers_once (inr (f, f-fails, k)) (inr (g, g-fails, l)) =
-      same_refusal f g a b s t (network_laws.one_fault input f g f-fails g-fails) k l
-
-  by_size : (fits : Bool) → MatchBool fits (Answers Tells input a s) (RefusesFault TooMany a s)
-      → MatchBool fits (Answers Tells input b t) (RefusesFault TooMany b t) → AreSame a s b t
-  by_size true k l = answers_once k l
-  by_size false k l = same_refusal TooMany TooMany a b s t refl k l
-
-  pub one_answer : AnswersInput Tells input a s → AnswersInput Tells input b t → AreSame a s b t
-  one_answer k l = by_size (nat_le (length input) document_limit) k l
 
 -- ---- a choice
 

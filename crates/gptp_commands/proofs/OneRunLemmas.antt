@@ -1,12 +1,10 @@
 -- An input has one text of its run, and one status, and what a run that stopped has of it is a front.
-use Rattle.std.proofs.Common.{◌≡◌, ℕ, Bool, true, false, nat_le, List, [], ◌++◌, length, Option, refl, sym, ap, subst, ◌∙◌, inl, inr, append_assoc, append-nil}
-use Rattle.std.specs.Bool.{MatchBool}
+use Rattle.std.proofs.Common.{◌≡◌, ℕ, Bool, true, false, nat_le, List, [], ◌++◌, length, Option, sym, ap, subst, ◌∙◌, inl, inr, append_assoc, append-nil}
 use Rattle.std.proofs.lemmas.Bool.{le-leb}
 use Rattle.rand_pcg.specs.Lcg.{Lcg}
 use Rattle.gptp_acts.specs.Initial.{initial}
 use Rattle.gptp_acts.specs.World.{WorldState}
 use Rattle.gptp_network.specs.Document.{DocumentState}
-use Rattle.gptp_network.specs.declared.fault.DocumentFault.TheVariants.{TooMany}
 use Rattle.gptp_network.proofs.LawLemmas as network_laws
 use Rattle.gptp_report.specs.Report.{Reports}
 use Rattle.gptp_certificate_text.specs.CertificateText.{certificate_lines}
@@ -18,9 +16,10 @@ use Rattle.gptp_outcome.proofs.RunLemmas.{leads_once, played_named}
 use Rattle.gptp_outcome.proofs.SoFarLemmas.{leads_begin_so}
 use Rattle.gptp_commands.specs.declared.failure.Status.{Status}
 use Rattle.gptp_commands.specs.declared.run.RunOptions.{RunOptions}
-use Rattle.gptp_commands.specs.Documents.{document_limit, AnswersSoFar, RefusesFault}
-use Rattle.gptp_commands.specs.RunText.{draws, generator, until_of, AnswersDocument, BeginsRun, CertifiesIf, LeadsDocument, PlaysDocument, ReportsRun, RunText}
-use Rattle.gptp_commands.proofs.VerdictLemmas.{same_refusal, AreSame}
+use Rattle.gptp_commands.specs.Documents.{document_limit, AnswersSoFar}
+use Rattle.gptp_commands.specs.RunText.{draws, generator, until_of, BeginsRun, CertifiesIf, LeadsDocument, PlaysDocument, ReportsRun, RunText, RunsDocument}
+use Rattle.gptp_commands.proofs.OneAnswerLemmas.{one_answer}
+use Rattle.gptp_commands.proofs.VerdictLemmas.{AreSame}
 
 -- a generator gives one number
 pub draws_once : AnswersOnce draws
@@ -60,29 +59,11 @@ plays_document_once d options a b s t is k l =
       k.status_is ∙ sym l.status_is,
     )
 
--- an input is one document, or fails one test
-answers_once : (options : RunOptions) (input : List ℕ) (a b : List (List ℕ)) (s t : Status)
-    → AnswersDocument options input a s → AnswersDocument options input b t → AreSame a s b t
-answers_once options input a b s t (inl (d, d-means, (k, _))) (inl (e, e-means, (l, _))) =
-    let same = network_laws.one_meaning input e d e-means d-means in
-    plays_document_once d options a b s t (meant_named input d d-means) k
-    (subst (λ (x : DocumentState). PlaysDocument x options b t) same l)
-answers_once options input a b s t (inl (d, means, _)) (inr (fault, fails, _)) =
-    absurd (network_laws.never_both input d fault means fails)
-answers_once options input a b s t (inr (fault, fails, _)) (inl (d, means, _)) =
-    absurd (network_laws.never_both input d fault means fails)
-answers_once options input a b s t (inr (f, f-fails, k)) (inr (g, g-fails, l)) =
-    same_refusal f g a b s t (network_laws.one_fault input f g f-fails g-fails) k l
-
-by_size : (options : RunOptions) (input : List ℕ) (a b : List (List ℕ)) (s t : Status) (fits : Bool)
-    → MatchBool fits (AnswersDocument options input a s) (RefusesFault TooMany a s)
-    → MatchBool fits (AnswersDocument options input b t) (RefusesFault TooMany b t) → AreSame a s b t
-by_size options input a b s t true k l = answers_once options input a b s t k l
-by_size options input a b s t false k l = same_refusal TooMany TooMany a b s t refl k l
-
 pub one_run : (options : RunOptions) (input : List ℕ) (a b : List (List ℕ)) (s t : Status)
     → RunText options input a s → RunText options input b t → AreSame a s b t
-one_run options input a b s t k l = by_size options input a b s t (nat_le (length input) document_limit) k l
+one_run options input a b s t k l =
+    one_answer (RunsDocument options) input (λ d x y u v means one other.
+    plays_document_once d options x y u v (meant_named input d means) one.0 other.0) a b s t k l
 
 -- ---- what a text begins with
 

@@ -1,6 +1,6 @@
 -- A document and what is asked of its timeline have one text, and one status.
-use Rattle.std.proofs.Common.{◌≡◌, ℕ, Bool, true, false, nat_le, List, [], ◌∷◌, ◌++◌, length, map, Option, Some, None, refl, sym, ap, ap₂, subst, ◌∙◌, inl, inr}
-use Rattle.std.specs.Bool.{⊤, MatchBool}
+use Rattle.std.proofs.Common.{◌≡◌, ℕ, Bool, true, false, List, [], ◌∷◌, ◌++◌, map, Option, Some, None, refl, sym, ap, ap₂, subst, ◌∙◌}
+use Rattle.std.specs.Bool.{⊤}
 use Rattle.std.specs.List.{flat_map}
 use Rattle.gptp_links.specs.declared.bounds.Bounds.{Bounds}
 use Rattle.gptp_acts.specs.Initial.{initial}
@@ -11,7 +11,6 @@ use Rattle.gptp_graph.specs.Snapshot.{Snapshot}
 use Rattle.gptp_network.specs.Document.{DocumentState}
 use Rattle.gptp_network.specs.Snapshot.{events_by}
 use Rattle.gptp_network.specs.Span.{IsBound}
-use Rattle.gptp_network.specs.declared.fault.DocumentFault.TheVariants.{TooMany}
 use Rattle.gptp_network.proofs.LawLemmas as network_laws
 use Rattle.gptp_plan.specs.Calm.{last_change}
 use Rattle.gptp_plan.specs.Network.{pace_of}
@@ -40,12 +39,12 @@ use Rattle.gptp_timeline.specs.declared.timeline.TimelineOptions.{TimelineOption
 use Rattle.gptp_commands.specs.declared.failure.Status.{Status}
 use Rattle.gptp_commands.specs.declared.timeline.TimelineOrder.{TimelineOrder}
 use Rattle.gptp_commands.specs.Failure.{status_by}
-use Rattle.gptp_commands.specs.Documents.{Answers, document_limit, RefusesFault}
 use Rattle.gptp_commands.specs.RunText.{draws, generator}
 use Rattle.gptp_commands.specs.TimelineText.{EndsAt, PlaysTimeline, TellsTimeline, TimelineText}
 use Rattle.gptp_commands.proofs.OneRunLemmas.{draws_once}
 use Rattle.gptp_commands.proofs.SameActLemmas.{same_acts, same_errors_from, same_measures, same_waits}
-use Rattle.gptp_commands.proofs.VerdictLemmas.{AreSame, same_refusal}
+use Rattle.gptp_commands.proofs.OneAnswerLemmas.{one_answer}
+use Rattle.gptp_commands.proofs.VerdictLemmas.{AreSame}
 
 -- ---- what is known of a stretch by the document
 
@@ -286,25 +285,9 @@ plays_timeline_once d order a b s t names is k l =
     l.timeline in
     (texts, k.status_is ∙ ap status_by exceeded ∙ sym l.status_is)
 
-answers_once : (order : TimelineOrder) (input : List ℕ) (a b : List (List ℕ)) (s t : Status)
-    → Answers (TellsTimeline order) input a s → Answers (TellsTimeline order) input b t → AreSame a s b t
-answers_once order input a b s t (inl (d, d-means, k)) (inl (e, e-means, l)) =
-    let same = network_laws.one_meaning input e d e-means d-means in
-    plays_timeline_once d order a b s t (each_named d (meant_names input d d-means)) (meant_named input d d-means) k
-    (subst (λ (x : DocumentState). PlaysTimeline x order b t) same l)
-answers_once order input a b s t (inl (d, means, _)) (inr (fault, fails, _)) =
-    absurd (network_laws.never_both input d fault means fails)
-answers_once order input a b s t (inr (fault, fails, _)) (inl (d, means, _)) =
-    absurd (network_laws.never_both input d fault means fails)
-answers_once order input a b s t (inr (f, f-fails, k)) (inr (g, g-fails, l)) =
-    same_refusal f g a b s t (network_laws.one_fault input f g f-fails g-fails) k l
-
-by_size : (order : TimelineOrder) (input : List ℕ) (a b : List (List ℕ)) (s t : Status) (fits : Bool)
-    → MatchBool fits (Answers (TellsTimeline order) input a s) (RefusesFault TooMany a s)
-    → MatchBool fits (Answers (TellsTimeline order) input b t) (RefusesFault TooMany b t) → AreSame a s b t
-by_size order input a b s t true k l = answers_once order input a b s t k l
-by_size order input a b s t false k l = same_refusal TooMany TooMany a b s t refl k l
-
 pub one_timeline : (order : TimelineOrder) (input : List ℕ) (a b : List (List ℕ)) (s t : Status)
     → TimelineText order input a s → TimelineText order input b t → AreSame a s b t
-one_timeline order input a b s t k l = by_size order input a b s t (nat_le (length input) document_limit) k l
+one_timeline order input a b s t k l =
+    one_answer (TellsTimeline order) input (λ d x y u v means one other.
+    plays_timeline_once d order x y u v (each_named d (meant_names input d means)) (meant_named input d means) one
+    other) a b s t k l

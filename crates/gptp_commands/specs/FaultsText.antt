@@ -1,16 +1,14 @@
 -- What `faults` writes for a document, and its status (profile).
 use Rattle.std.specs.Prelude.{◌≡◌, ◌⊎◌, ℕ, Bool, List}
 use Rattle.gptp_network.specs.declared.fault.DocumentFault.{DocumentFault}
-use Rattle.gptp_network.specs.declared.fault.DocumentFault.TheVariants.{TooMany}
-use Rattle.gptp_network.specs.Document.{DocumentState, Fails, Means}
+use Rattle.gptp_network.specs.Document.{DocumentState}
 use Rattle.gptp_faults.specs.Faults.{FaultsOf}
 use Rattle.gptp_faults.specs.Laws.{FollowSettled}
 use Rattle.gptp_faults.specs.Refusals.{RefusesFaults}
 use Rattle.gptp_faults.specs.declared.options.FaultsOptions.{FaultsOptions}
 use Rattle.gptp_commands.specs.declared.failure.Status.{Status}
 use Rattle.gptp_commands.specs.Failure.{status_by}
-use Rattle.gptp_commands.specs.Limited.{Limited}
-use Rattle.gptp_commands.specs.Documents.{document_limit, RefusesFault}
+use Rattle.gptp_commands.specs.Documents.{Answers, AnswersInput, RefusesFault}
 
 -- The table of its cases, whose `follow` lines are those of the settled choice where faults stay by default and are
 -- bounded. It is refused where a limit is exceeded, and where it would be with the two events of some run.
@@ -22,9 +20,7 @@ TellsFaults d options output status =
 
 -- an input is a document, of which this is told, or fails a test
 abbrev pub AnswersFaults : FaultsOptions → List ℕ → List (List ℕ) → Status → Type 0
-AnswersFaults options input output status =
-    ((d : DocumentState) × Means input d × TellsFaults d options output status)
-    ⊎ ((fault : DocumentFault) × Fails input fault × RefusesFault fault output status)
+AnswersFaults options = Answers (λ d. TellsFaults d options)
 
 abbrev pub FaultsText : FaultsOptions → List ℕ → List (List ℕ) → Status → Type 0
-FaultsText options = Limited document_limit (AnswersFaults options) (RefusesFault TooMany)
+FaultsText options = AnswersInput (λ d. TellsFaults d options)

@@ -4,14 +4,16 @@ use Rattle.gptp_network.specs.Document.{DocumentState}
 use Rattle.gptp_network.specs.declared.fault.DocumentFault.{DocumentFault}
 use Rattle.gptp_lint.specs.Findings.{AreFound}
 use Rattle.gptp_lint.specs.LintText.{AreLines, refused_line}
+use Rattle.gptp_lint.specs.Refusal.{TellsPlace}
 use Rattle.gptp_lint.specs.declared.findings.Findings.{Findings}
 use Rattle.gptp_commands.specs.declared.failure.Status.{Status}
 use Rattle.gptp_commands.specs.declared.failure.Status.TheVariants.{Refused}
 use Rattle.gptp_commands.specs.Failure.{status_by}
 
--- the line of a document that is refused by this fault, with where that is and why it is one
-pub record RefusesAtPlace (fault : DocumentFault) (output : List (List ℕ)) (status : Status) : Type 0 where
+-- the line of an input that is refused by this fault, with where that is and why it is one
+pub record RefusesAtPlace (input : List ℕ) (fault : DocumentFault) (output : List (List ℕ)) (status : Status) : Type 0 where
   pub place : List ℕ
+  pub told : TellsPlace input place
   pub line : output ≡ refused_line fault place ∷ []
   pub status_is : status ≡ Refused
 

@@ -21,17 +21,17 @@ Answers (Explain clock until) input d output status = ExplainsAt d until clock o
 Answers (Lint strict) input d output status = TellsFindings input d strict output status
 
 -- the line of an input that is refused by this fault: `lint` also tells its place
-abbrev pub RefusesInput : Question → DocumentFault → List (List ℕ) → Status → Type 0
-RefusesInput (Choice until) fault output status = RefusesFault fault output status
-RefusesInput (Accuracy until max_error) fault output status = RefusesFault fault output status
-RefusesInput (Explain clock until) fault output status = RefusesFault fault output status
-RefusesInput (Lint strict) fault output status = RefusesAtPlace fault output status
+abbrev pub RefusesInput : Question → List ℕ → DocumentFault → List (List ℕ) → Status → Type 0
+RefusesInput (Choice until) input fault output status = RefusesFault fault output status
+RefusesInput (Accuracy until max_error) input fault output status = RefusesFault fault output status
+RefusesInput (Explain clock until) input fault output status = RefusesFault fault output status
+RefusesInput (Lint strict) input fault output status = RefusesAtPlace input fault output status
 
 -- an input is a document, of which the question is answered, or fails a test
 abbrev pub AnswersInput : Question → List ℕ → List (List ℕ) → Status → Type 0
 AnswersInput question input output status =
     ((d : DocumentState) × Means input d × Answers question input d output status)
-    ⊎ ((fault : DocumentFault) × Fails input fault × RefusesInput question fault output status)
+    ⊎ ((fault : DocumentFault) × Fails input fault × RefusesInput question input fault output status)
 
 abbrev pub QuestionText : Question → List ℕ → List (List ℕ) → Status → Type 0
 QuestionText question = Limited document_limit (AnswersInput question) (RefusesFault TooMany)

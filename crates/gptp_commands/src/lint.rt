@@ -16,7 +16,7 @@ pub(crate) fn refuse_at_place(
     input: &[u8],
     fault: DocumentFault,
 ) -> Result<Output, SimError>
-    ensures refuses { IfOk result (IsOutput (RefusesAtPlace fault)) }
+    ensures refuses { IfOk result (IsOutput (RefusesAtPlace input.now fault)) }
     ensures memory { IfErr result (λ e. e ≡ SimError.Memory) }
 {
     let mut text = String::new(alloc);

@@ -78,7 +78,7 @@ fn refuse_document(
     question: Question,
     fault: DocumentFault,
 ) -> Result<Output, SimError>
-    ensures refuses { IfOk result (IsOutput (RefusesInput question fault)) }
+    ensures refuses { IfOk result (IsOutput (RefusesInput question input.now fault)) }
     ensures memory { IfErr result (λ e. e ≡ SimError.Memory) }
 {
     match question {

@@ -1,7 +1,7 @@
 -- Each document has cases, times and what is planned of each case; and what isn't refused comes in time.
-use Rattle.std.proofs.Common.{◌≡◌, ◌≤◌, ◌<◌, ◌+◌, ◌-◌, ◌*◌, ◌/◌, ◌||◌, ℕ, zero, suc, Bool, true, false, nat_lt, List, [], ◌∷◌, ◌++◌, length, slice_get, Option, Some, None, IfSome, unwrap_or, refl, subst, inl, inr, arith}
+use Rattle.std.proofs.Common.{◌≡◌, ◌≤◌, ◌<◌, ◌+◌, ◌-◌, ◌*◌, ℕ, zero, suc, Bool, true, false, nat_lt, List, [], ◌∷◌, ◌++◌, length, slice_get, Option, Some, None, IfSome, unwrap_or, refl, subst, inl, inr, arith}
 use Rattle.std.proofs.lemmas.Bool.Decides.{nat_tests}
-use Rattle.std.proofs.lemmas.Nat.{div-add-mod', le-div, mul-le}
+use Rattle.std.proofs.lemmas.Nat.{mul-le}
 use Rattle.gptp_graph.specs.PathBound.{path_bound}
 use Rattle.gptp_lists.specs.Members.{In}
 use Rattle.gptp_network.specs.Adding.{with_event}
@@ -20,13 +20,15 @@ use Rattle.gptp_setup.specs.Pace.{Pace}
 use Rattle.gptp_setup.proofs.IntervalLemmas.{interval_positive}
 use Rattle.gptp_timeline.specs.Each.{Each}
 use Rattle.gptp_faults.specs.Cases.{AreCases, fault_of, link_cases, system_cases}
-use Rattle.gptp_faults.specs.Refusals.{any_late, fault_before, is_late, latest_end, latest_event}
+use Rattle.gptp_faults.specs.Refusals.{any_late, fault_before, latest_end, latest_event}
 use Rattle.gptp_faults.specs.Times.{ArePlanned, AreTimes, IsHold, IsPlanned, last_moment, moment}
 use Rattle.gptp_faults.specs.declared.cases.Case.{Case}
 use Rattle.gptp_faults.specs.declared.cases.Planned.{Planned}
 use Rattle.gptp_faults.specs.declared.options.FaultsOptions.{FaultsOptions}
 use Rattle.gptp_faults.specs.declared.options.Only.{Only}
 use Rattle.gptp_faults.specs.declared.times.Times.{Times}
+use Rattle.gptp_faults.proofs.RefusalLemmas.{neither, not_late}
+use Rattle.gptp_faults.proofs.TimesLemmas.{div_grows}
 
 -- ---- two lists, member by member
 
@@ -99,7 +101,8 @@ planned_exist d options t cases network =
 
 -- ---- a fault stays some time
 
-span_some : (p : Pace) (paths : SyncPaths) (n : ℕ) → IsLog p.largest → 0 < settling_span_with p paths n
+-- a network takes some time to settle
+pub span_some : (p : Pace) (paths : SyncPaths) (n : ℕ) → IsLog p.largest → 0 < settling_span_with p paths n
 span_some p paths n log =
     let interval = interval_positive p.largest log in
     let some : 1 * 1 ≤ settling_span p n =
@@ -118,17 +121,13 @@ hold_some d t c None hold network some is =
 
 -- ---- moments
 
-quotient_grows : (m n k : ℕ) → 0 < k → m ≤ n → m / k ≤ n / k
-quotient_grows m n k some more =
-    let parts = div-add-mod' m k in le-div (m / k) n k some (omega (arith, parts, more))
-
 -- each is no earlier than the first and no later than the last
 pub moment_within : (t : Times) (number : ℕ) → 1 ≤ t.moments → number < t.moments
     → (t.from ≤ moment t number) × (moment t number ≤ last_moment t)
 moment_within t number some below =
     let product : number * t.spread ≤ (t.moments - 1) * t.spread =
     mul-le number t.spread (t.moments - 1) t.spread (omega (arith, below)) (omega arith) in
-    let quotient = quotient_grows (number * t.spread) ((t.moments - 1) * t.spread) t.moments (omega (arith, some))
+    let quotient = div_grows (number * t.spread) ((t.moments - 1) * t.spread) t.moments (omega (arith, some))
     product in
     (omega arith, omega (arith, quotient))
 
@@ -148,20 +147,6 @@ from_behind d t (x ∷ xs) c member none =
     by false a true b early k = absurd (let no = rw (a, b) at none in cc)
     by false a false b true k = absurd (let no = rw (a, b, k) at none in cc)
     by false a false b false k = grind (arith, nat_tests)
-
-neither : (a b : Bool) → (a || b) ≡ false → (a ≡ false) × (b ≡ false)
-neither false false none = (refl, refl)
-neither false true none = absurd cc
-neither true b none = absurd cc
-
--- of several cases of which none is late none is
-not_late : (t : Times) (planned : List Planned) → any_late t planned ≡ false → (place : ℕ) (p : Planned)
-    → slice_get planned place ≡ Some p → is_late t p ≡ false
-not_late t [] none place p there = absurd cc
-not_late t (q ∷ qs) none zero p there =
-    let same : q ≡ p = cc in rw (← same) (neither (is_late t q) (any_late t qs) none).0
-not_late t (q ∷ qs) none (suc place) p there =
-    not_late t qs (neither (is_late t q) (any_late t qs) none).1 place p there
 
 -- such a case comes back no later than an event may be
 pub back_early : (t : Times) (planned : List Planned) → any_late t planned ≡ false → (place : ℕ) (p : Planned)

@@ -4,8 +4,7 @@ use Rattle.std.specs.Bool.{⊤}
 use Rattle.std.specs.Cmp.{IsStrictWeakOrder}
 use Rattle.std.specs.List.Sorted.{IsPermutation, IsSortedBy, ties}
 use Rattle.std.proofs.lemmas.Bool.{and_parts, not-true}
-use Rattle.std.proofs.lemmas.Cmp.{nat_list_cmp_total}
-use Rattle.std.proofs.lemmas.List.Sorted.{IsPermutation-cons, IsPermutation-middle, IsPermutation-refl, IsPermutation-trans, IsStrictWeakOrder-flip, ranks_by}
+use Rattle.std.proofs.lemmas.List.Sorted.{IsPermutation-cons, IsPermutation-middle, IsPermutation-refl, IsPermutation-trans}
 use native.Mathlib.Decide.{dec_lt}
 use Rattle.gptp_graph.specs.Order.{IsRising}
 use Rattle.gptp_lists.specs.Members.{In}
@@ -13,8 +12,9 @@ use Rattle.gptp_lists.proofs.MemberLemmas.{from_map}
 use Rattle.gptp_timeline.specs.Stretch.{times}
 use Rattle.gptp_faults.specs.Follows.{AreFollows, followed}
 use Rattle.gptp_faults.specs.Outcomes.{OutcomeState}
-use Rattle.gptp_faults.specs.Ranking.{AreRanked, is_worse, weight, worst_of}
+use Rattle.gptp_faults.specs.Ranking.{AreRanked, is_worse}
 use Rattle.gptp_faults.specs.declared.follows.Follow.{Follow}
+use Rattle.gptp_faults.proofs.OrderLemmas.{worse_orders}
 
 -- ---- members in order
 
@@ -115,9 +115,6 @@ module _ {X : Type 0} (lt : X → X → Bool) (o : IsStrictWeakOrder lt) where
       put_ties z x (sorted xs) ∙ ap (λ (kept : List X). cond (ties lt z x) (x ∷ kept) kept) (sorted_ties z xs)
 
 -- ---- outcomes
-
-worse_orders : IsStrictWeakOrder is_worse
-worse_orders = IsStrictWeakOrder-flip _ (ranks_by nat_list_cmp_total (λ (o : OutcomeState). weight (worst_of o)))
 
 pub each_is_ranked : (outcomes : List OutcomeState) → (told : List OutcomeState) × AreRanked outcomes told
 each_is_ranked outcomes = (

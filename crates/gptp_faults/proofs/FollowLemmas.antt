@@ -1,5 +1,5 @@
 -- The roots that are followed while a case is down are those of the settled choice.
-use Rattle.std.proofs.Common.{◌≡◌, ◌≢◌, ◌≤◌, ◌<◌, ◌+◌, ◌*◌, ◌/◌, ◌%◌, ℕ, zero, suc, Bool, true, false, nat_le, nat_lt, List, [], ◌∷◌, ◌++◌, Option, Some, None, length, slice_get, refl, sym, ap, subst, ◌∙◌, inl, inr, append-nil, arith}
+use Rattle.std.proofs.Common.{◌≡◌, ◌≤◌, ◌<◌, ◌+◌, ◌*◌, ◌/◌, ℕ, zero, suc, Bool, false, nat_le, List, [], ◌∷◌, ◌++◌, Some, None, refl, sym, ap, subst, ◌∙◌, inl, inr, append-nil, arith}
 use Rattle.std.specs.List.{range_with_len}
 use Rattle.std.proofs.lemmas.Bool.Decides.{nat_tests}
 use Rattle.gptp_acts.specs.Views.{rising_clocks}
@@ -9,13 +9,12 @@ use Rattle.gptp_lists.specs.Members.{In}
 use Rattle.gptp_network.specs.Adding.{with_event}
 use Rattle.gptp_network.specs.Document.{DocumentState}
 use Rattle.gptp_network.specs.Snapshot.{events_by, IsSnapshot, StandsAfter}
-use Rattle.gptp_network.specs.Span.{IsBound, IsSpan}
+use Rattle.gptp_network.specs.Span.{IsSpan}
 use Rattle.gptp_network.proofs.LawLemmas.{one_snapshot}
 use Rattle.gptp_plan.specs.Calm.{last_change}
 use Rattle.gptp_plan.specs.Network.{pace_of}
-use Rattle.gptp_plan.specs.SettlingTime.{settling_span, settling_span_with}
+use Rattle.gptp_plan.specs.SettlingTime.{settling_span_with}
 use Rattle.gptp_plan.specs.SyncWait.{sync_paths}
-use Rattle.gptp_plan.specs.declared.sync_wait.SyncPaths.{SyncPaths}
 use Rattle.gptp_plan.specs.declared.change.Act.TheVariants as acts
 use Rattle.gptp_plan.specs.declared.change.Timed.{Timed}
 use Rattle.gptp_reached.specs.PlayedLaws.{IsPlayable}
@@ -23,25 +22,19 @@ use Rattle.gptp_timeline.specs.Each.{Each}
 use Rattle.gptp_timeline.specs.Ends.{EndState}
 use Rattle.gptp_timeline.specs.LastTwo.{EndsOf}
 use Rattle.gptp_timeline.specs.Laws.{AreRoots}
-use Rattle.gptp_timeline.specs.Timeline.{none_waits, now_of}
+use Rattle.gptp_timeline.specs.Timeline.{none_waits}
 use Rattle.gptp_timeline.specs.declared.stretch.Stretch.{Stretch}
 use Rattle.gptp_timeline.proofs.FollowedLemmas.{follow_there}
-use Rattle.gptp_setup.specs.Intervals.{interval_of, IsLog}
-use Rattle.gptp_setup.specs.Pace.{Pace}
-use Rattle.gptp_setup.proofs.IntervalLemmas.{interval_positive}
 use Rattle.gptp_plan.proofs.LogLemmas.{largest_log}
-use Rattle.std.proofs.lemmas.Nat.{mul-le}
 use Rattle.gptp_timeline.proofs.PastLemmas.{all_past, by_past, past_later, PastBy}
 use Rattle.gptp_timeline.proofs.SettlingLemmas.{keeps_first}
 use Rattle.gptp_faults.specs.Cases.{fault_of, return_of}
 use Rattle.gptp_faults.specs.Extremes.{greatest_behind, joined, of_one}
 use Rattle.gptp_faults.specs.Faults.{FaultsOf}
 use Rattle.gptp_faults.specs.Laws.{FollowSettled}
-use Rattle.gptp_faults.specs.Outcomes.{AreOutcomes, downs, IsOutcome, IsOutcomeAt, OutcomeState}
-use Rattle.gptp_faults.specs.Refusals.{fault_before, first_fault, latest_event}
+use Rattle.gptp_faults.specs.Outcomes.{downs, IsOutcomeAt}
 use Rattle.gptp_faults.specs.Runs.{draws, generator, IsRun, moment_of, runs_of, seed_of, with_case}
-use Rattle.gptp_faults.specs.Times.{ArePlanned, IsHold, IsInTime, IsPlanned, last_moment, moment}
-use Rattle.gptp_faults.specs.declared.cases.Case.{Case}
+use Rattle.gptp_faults.specs.Times.{IsHold, IsPlanned, moment}
 use Rattle.gptp_faults.specs.declared.cases.Planned.{Planned}
 use Rattle.gptp_faults.specs.declared.extremes.Extremes.{Extremes}
 use Rattle.gptp_faults.specs.declared.options.FaultsOptions.{FaultsOptions}
@@ -49,6 +42,7 @@ use Rattle.gptp_faults.specs.declared.times.Times.{Times}
 use Rattle.gptp_faults.proofs.DownLemmas.{AreLast, last_but_one}
 use Rattle.gptp_faults.proofs.PlayableLemmas.{case_playable}
 use Rattle.gptp_faults.proofs.RefusalLemmas.{each_early}
+use Rattle.gptp_faults.proofs.EveryPlanLemmas.{each_at, from_behind, span_some}
 
 -- ---- two lists, member by member
 
@@ -61,16 +55,6 @@ each_for P (x ∷ xs) [] y each member = absurd each
 each_for P (x ∷ xs) (z ∷ zs) y each (inl same) = (x, inl refl, subst (P x) (sym same) each.0)
 each_for P (x ∷ xs) (z ∷ zs) y each (inr later) =
     let (w, member, is) = each_for P xs zs y each.1 later in (w, inr member, is)
-
--- and at each place of the other
-each_at : {X Y : Type 0} (P : X → Y → Type 0) (xs : List X) (ys : List Y) (place : ℕ) (y : Y) → Each P xs ys
-    → slice_get ys place ≡ Some y → (x : X) × In x xs × P x y
-each_at P [] [] place y each there = absurd cc
-each_at P [] (z ∷ zs) place y each there = absurd each
-each_at P (x ∷ xs) [] place y each there = absurd cc
-each_at P (x ∷ xs) (z ∷ zs) zero y each there = let same : z ≡ y = cc in (x, inl refl, subst (P x) same each.0)
-each_at P (x ∷ xs) (z ∷ zs) (suc place) y each there =
-    let (w, member, is) = each_at P xs zs place y each.1 there in (w, inr member, is)
 
 -- ---- events in order
 
@@ -118,14 +102,6 @@ bound_kept e [] = refl
 bound_kept e (s ∷ ss) = bound_kept (joined e (of_one s)) ss
 
 -- ---- a run of a case
-
--- a network takes some time to settle
-span_some : (p : Pace) (paths : SyncPaths) (n : ℕ) → IsLog p.largest → 0 < settling_span_with p paths n
-span_some p paths n log =
-    let interval = interval_positive p.largest log in
-    let some : 1 * 1 ≤ settling_span p n =
-    mul-le 1 1 ((p.params.timeout + 3) * n + p.params.lost + 5) (interval_of p.largest) (omega arith) interval in
-    omega (arith, some)
 
 module _ (d : DocumentState) (t : Times) (p : Planned) (playable : IsPlayable d)
     (last : last_change d.events ≤ t.from) (hold : IsHold d t p.failing None p.hold) where
@@ -219,21 +195,6 @@ module _ (d : DocumentState) (t : Times) (p : Planned) (playable : IsPlayable d)
 
 -- ---- the law
 
--- the first moment isn't refused
-not_refused : (d : DocumentState) (t : Times) (all : List Case) (c : Case) → In c all → fault_before d t all ≡ None
-    → last_change d.events ≤ t.from
-not_refused d t [] c member none = absurd member
-not_refused d t (x ∷ xs) c member none =
-    by (nat_lt 4094 (length d.events)) refl (nat_lt latest_event t.from) refl
-    (nat_lt t.from (last_change d.events)) refl
-  where
-    by : (many : Bool) → nat_lt 4094 (length d.events) ≡ many → (late : Bool) → nat_lt latest_event t.from ≡ late
-        → (early : Bool) → nat_lt t.from (last_change d.events) ≡ early → last_change d.events ≤ t.from
-    by true a late b early k = absurd (let no = rw a at none in cc)
-    by false a true b early k = absurd (let no = rw (a, b) at none in cc)
-    by false a false b true k = absurd (let no = rw (a, b, k) at none in cc)
-    by false a false b false k = grind (arith, nat_tests)
-
 pub follow_settles : (d : DocumentState) (options : FaultsOptions) (lines : List (List ℕ)) (exceeded : Bool)
     (f : FaultsOf d options lines exceeded) → IsPlayable d → FollowSettled d options f.times.from f.outcomes
 follow_settles d options lines exceeded f playable o bound g default member bounded stands =
@@ -245,7 +206,7 @@ follow_settles d options lines exceeded f playable o bound g default member boun
     let failing = outcome.failing in
     let hold : IsHold d t p.failing None p.hold =
     subst (λ x. IsHold d t x None p.hold) (sym is_case) (subst (λ asked. IsHold d t c asked p.hold) default hold_is) in
-    let last = not_refused d t f.cases c a_case f.before in
+    let last = from_behind d t f.cases c a_case f.before in
     let early = each_early t f.planned f.in_time number p there in
     let playable_whole = case_playable d options.only f.cases p.failing t.from (t.from + p.hold) playable f.are_cases
     (subst (λ x. In x f.cases) (sym is_case) a_case) last (omega arith) early in

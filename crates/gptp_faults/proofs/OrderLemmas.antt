@@ -83,7 +83,7 @@ module _ {X : Type 0} (lt : X → X → Bool) (o : IsStrictWeakOrder lt) where
       ap₂ (λ (w : X) (ws : List X). w ∷ ws) heads
       (same_order xs ys (sorted_behind x xs a) (sorted_behind y ys b) tails)
 
-worse_orders : IsStrictWeakOrder is_worse
+pub worse_orders : IsStrictWeakOrder is_worse
 worse_orders = IsStrictWeakOrder-flip _ (ranks_by nat_list_cmp_total (λ (o : OutcomeState). weight (worst_of o)))
 
 -- so outcomes are ranked in one order

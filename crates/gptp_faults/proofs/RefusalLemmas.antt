@@ -6,7 +6,7 @@ use Rattle.gptp_faults.specs.Times.{IsInTime, last_moment}
 use Rattle.gptp_faults.specs.declared.cases.Planned.{Planned}
 use Rattle.gptp_faults.specs.declared.times.Times.{Times}
 
-neither : (a b : Bool) → (a || b) ≡ false → (a ≡ false) × (b ≡ false)
+pub neither : (a b : Bool) → (a || b) ≡ false → (a ≡ false) × (b ≡ false)
 neither false false none = (refl, refl)
 neither false true none = absurd cc
 neither true b none = absurd cc
@@ -24,7 +24,8 @@ returns_early t p none =
     let most : last_moment t + p.hold ≤ latest_event = grind (arith, nat_tests) in
     omega (arith, most)
 
-not_late : (t : Times) (planned : List Planned) → any_late t planned ≡ false → (place : ℕ) (p : Planned)
+-- of several cases of which none is late none is
+pub not_late : (t : Times) (planned : List Planned) → any_late t planned ≡ false → (place : ℕ) (p : Planned)
     → slice_get planned place ≡ Some p → is_late t p ≡ false
 not_late t [] none place p there = absurd cc
 not_late t (q ∷ qs) none zero p there =

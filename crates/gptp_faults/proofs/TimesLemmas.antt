@@ -9,7 +9,7 @@ pub div_most : (n k : ℕ) → n / k ≤ n
 div_most n k = omega arith
 
 -- and grows with it
-div_grows : (m n k : ℕ) → 0 < k → m ≤ n → m / k ≤ n / k
+pub div_grows : (m n k : ℕ) → 0 < k → m ≤ n → m / k ≤ n / k
 div_grows m n k some more =
     let parts = div-add-mod' m k in le-div (m / k) n k some (omega (arith, parts, more))
 

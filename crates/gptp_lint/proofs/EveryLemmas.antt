@@ -1,40 +1,35 @@
 -- Each document has findings.
-use Rattle.std.proofs.Common.{◌≡◌, ◌<◌, ◌≤◌, ◌^◌, ◌==◌, ℕ, Bool, true, false, if◌then◌else◌, not, nat_le, List, [], ◌∷◌, length, map, flat_map, Option, Some, None, refl, sym, ap, ap₂, subst, ◌∙◌, inl, inr, arith}
+use Rattle.std.proofs.Common.{◌≡◌, ◌<◌, ◌≤◌, ◌^◌, ℕ, not, nat_le, List, [], ◌∷◌, length, map, flat_map, Some, None, refl, sym, ap, ap₂, subst, ◌∙◌, arith}
 use Rattle.std.specs.Global.{Vec}
 use Rattle.std.specs.List.{AllByRecursion}
 use Rattle.std.proofs.lemmas.List.{length-map}
 use Rattle.std.proofs.lemmas.List.Sorted.{length_permutation}
-use Rattle.std.proofs.lemmas.Nat.{mod_below}
 use denote.RawPtr.{null_ptr}
-use native.Mathlib.Decide.{ℕ_discrete, dec_le}
+use native.Mathlib.Decide.{dec_le}
 use Rattle.gptp_lists.specs.Members.{In}
 use Rattle.gptp_lists.proofs.MemberLemmas.{from_map, slice_get-In}
 use Rattle.gptp_roles.specs.Selection.{clock_of}
 use Rattle.gptp_graph.specs.PathBound.{path_bound}
 use Rattle.gptp_setup.specs.Pace.{lapse_span}
-use Rattle.gptp_plan.specs.Calm.{IsCalm, Rests, SyncsComeInTime}
-use Rattle.gptp_plan.specs.Change.{standing, system_acted, system_stands, with_live, with_priority1}
+use Rattle.gptp_plan.specs.Calm.{IsCalm}
+use Rattle.gptp_plan.specs.Change.{standing}
 use Rattle.gptp_plan.specs.Network.{IsNetwork, NetworkState, pace_of}
 use Rattle.gptp_plan.specs.SettlingTime.{settling_span_with}
 use Rattle.gptp_plan.specs.SyncWait.{sync_paths}
-use Rattle.gptp_plan.specs.declared.change.Act.{Act}
-use Rattle.gptp_plan.specs.declared.change.Act.TheVariants as acts
-use Rattle.gptp_plan.specs.declared.change.Change.TheVariants as changes
 use Rattle.gptp_plan.specs.declared.change.Timed.{Timed}
 use Rattle.gptp_plan.specs.declared.network.Wire.{Wire}
 use Rattle.gptp_network.specs.Document.{DocumentState}
 use Rattle.gptp_network.specs.Events.{AreEvents}
 use Rattle.gptp_network.specs.Snapshot.{events_by}
 use Rattle.gptp_network.proofs.ExistenceLemmas.{snapshot_exists}
-use Rattle.gptp_network.proofs.MeantLemmas.{SetsOctets, meant_document, meant_octets}
+use Rattle.gptp_network.proofs.MeantLemmas.{SetsOctets, meant_document, meant_octets, stands_below}
 use Rattle.gptp_network.proofs.SnapshotLemmas.{from_filter}
-use Rattle.gptp_topology.specs.Course.{cable_of, first, wire_of}
-use Rattle.gptp_topology.specs.Tables.{clocks_of, late_of}
+use Rattle.gptp_network.proofs.TakingLemmas.{in_all}
+use Rattle.gptp_topology.specs.Course.{cable_of, wire_of}
+use Rattle.gptp_topology.specs.Tables.{clocks_of}
 use Rattle.gptp_topology.specs.Times.{IsTime, late_at, times_of}
-use Rattle.gptp_topology.specs.Trouble.{is_long, loss_in_use}
 use Rattle.gptp_topology.specs.declared.times.CalmTime.{CalmTime}
-use Rattle.gptp_topology.proofs.CourseLemmas.{after}
-use Rattle.gptp_topology.proofs.RestLemmas.{all_in, in_all, in_time, not_late, rests_from, rests_to}
+use Rattle.gptp_time_error.proofs.CalmLemmas.{calm_dec}
 use Rattle.gptp_lint.specs.Components.{AreComponents, IsChance, IsMoment, apart_from, nobody_from}
 use Rattle.gptp_lint.specs.Findings.{AreFound}
 use Rattle.gptp_lint.specs.Graph.{HaveOctets}
@@ -67,103 +62,6 @@ held xs few = record {
   ok = (refl, omega arith);
   small = few;
 }
-
--- ---- identities have fourteen octets after events too
-
-acted_below : (act : Act) (own : ℕ) (s : _) → SetsOctets act → (with_live true s).identity < 2 ^ 112
-    → (system_acted act own s).identity < 2 ^ 112
-acted_below (acts.Deliver link direction) own s sets below = below
-acted_below (acts.Expire name timer) own s sets below = below
-acted_below (acts.Change (changes.LinkDown name port)) own s sets below = below
-acted_below (acts.Change (changes.LinkUp name port)) own s sets below = below
-acted_below (acts.Change (changes.LinkSet name port least greatest loss)) own s sets below = below
-acted_below (acts.Change (changes.Fail name)) own s sets below = by (name == own)
-  where
-    by : (test : Bool) → (if test then with_live false s else s).identity < 2 ^ 112
-    by true = below
-    by false = below
-acted_below (acts.Change (changes.Recover name)) own s sets below = by (name == own)
-  where
-    by : (test : Bool) → (if test then with_live true s else s).identity < 2 ^ 112
-    by true = below
-    by false = below
-acted_below (acts.Change (changes.Priority1 name value)) own s sets below = by (name == own)
-  where
-    by : (test : Bool) → (if test then with_priority1 value s else s).identity < 2 ^ 112
-    by true = let rest = mod_below s.identity (2 ^ 104) (omega arith) in omega (arith, rest, sets)
-    by false = below
-acted_below (acts.Change (changes.Inject name port frame)) own s sets below = below
-
-stands_below : (es : List Timed) → ((t : Timed) → In t es → SetsOctets t.act) → (own : ℕ) (s : _)
-    → (with_live true s).identity < 2 ^ 112 → (system_stands es own s).identity < 2 ^ 112
-stands_below [] sets own s below = below
-stands_below (t ∷ es) sets own s below =
-    stands_below es (λ u member. sets u (inr member)) own (system_acted t.act own s)
-    (acted_below t.act own s (sets t (inl refl)) below)
-
-each_sets : (es : List Timed) → AllByRecursion (λ (t : Timed). SetsOctets t.act) es → (t : Timed) → In t es
-    → SetsOctets t.act
-each_sets [] all t member = absurd member
-each_sets (e ∷ es) all t (inl same) = subst (λ (u : Timed). SetsOctets u.act) (sym same) all.0
-each_sets (e ∷ es) all t (inr member) = each_sets es all.1 t member
-
--- ---- whether a network is calm after events can be decided
-
-false_dec : (test : Bool) → Dec (test ≡ false)
-false_dec false = yes refl
-false_dec true = no (λ is. absurd cc)
-
-module _ (n : NetworkState) (network : IsNetwork n) (events : List Timed) where
-  abbrev RestsThen : Wire → Type 0
-  RestsThen = Rests n.params n.systems events
-
-  rests_dec : (w : Wire) → In w n.links → Dec (RestsThen w)
-  rests_dec w member =
-      by (false_dec (is_long n.params (after events (first w)))) (ℕ_discrete (loss_in_use (after events (first w))) 0)
-    where
-      stands_quiet : RestsThen w
-          → (is_long n.params (after events (first w)) ≡ false) × (loss_in_use (after events (first w)) ≡ 0)
-      stands_quiet rests =
-          let (place, there) = slice_get-In w n.links member in
-          let wire = network.links place w there in
-          rests_to n.params n.systems events w wire.a wire.b rests
-
-      by : Dec (is_long n.params (after events (first w)) ≡ false)
-          → Dec (loss_in_use (after events (first w)) ≡ 0) → Dec (RestsThen w)
-      by (no long) lossless = no (λ rests. long (stands_quiet rests).0)
-      by (yes short) (no lossy) = no (λ rests. lossy (stands_quiet rests).1)
-      by (yes short) (yes lossless) = yes (rests_from n.params n.systems events w short lossless)
-
-  each_rests : (ws : List Wire) → ((w : Wire) → In w ws → In w n.links)
-      → Dec ((w : Wire) → In w ws → RestsThen w)
-  each_rests [] among = yes (λ w member. absurd member)
-  each_rests (w ∷ ws) among =
-      by (rests_dec w (among w (inl refl))) (each_rests ws (λ v member. among v (inr member)))
-    where
-      one_more : RestsThen w → ((v : Wire) → In v ws → RestsThen v) → (v : Wire) → In v (w ∷ ws) → RestsThen v
-      one_more rests behind v (inl same) = subst RestsThen (sym same) rests
-      one_more rests behind v (inr later) = behind v later
-
-      by : Dec (RestsThen w) → Dec ((v : Wire) → In v ws → RestsThen v)
-          → Dec ((v : Wire) → In v (w ∷ ws) → RestsThen v)
-      by (no restless) rest = no (λ each. restless (each w (inl refl)))
-      by (yes rests) (no restless) = no (λ each. restless (λ v member. each v (inr member)))
-      by (yes rests) (yes behind) = yes (one_more rests behind)
-
-  in_time_by : (late : Option ℕ) → late_of n.params (sync_paths n events) ≡ late
-      → Dec (SyncsComeInTime n.params (sync_paths n events))
-  in_time_by None is = yes (in_time n.params (sync_paths n events) is)
-  in_time_by (Some wait) is = no (λ comes. absurd (let none = not_late n.params (sync_paths n events) comes in cc))
-
-  calm_dec : Dec (IsCalm n events)
-  calm_dec =
-      by (each_rests n.links (λ w member. member)) (in_time_by (late_of n.params (sync_paths n events)) refl)
-    where
-      by : Dec ((w : Wire) → In w n.links → RestsThen w) → Dec (SyncsComeInTime n.params (sync_paths n events))
-          → Dec (IsCalm n events)
-      by (no restless) comes = no (λ calm. restless (λ w member. all_in RestsThen w n.links calm.links member))
-      by (yes each) (no late) = no (λ calm. late calm.lapses)
-      by (yes each) (yes comes) = yes (record { links = in_all RestsThen n.links each; lapses = comes })
 
 -- ---- how a network stands after events, and the bests then
 
@@ -302,7 +200,7 @@ module _ (d : DocumentState) (network : IsNetwork d.network)
     at_is : time.at ≡ at
 
   time_exists : (at : ℕ) → HasTime at
-  time_exists at = by (calm_dec d.network network (events_by at d.events))
+  time_exists at = by (calm_dec d.network (events_by at d.events))
     where
       by : Dec (IsCalm d.network (events_by at d.events)) → HasTime at
       by (no restless) = record {
@@ -446,4 +344,5 @@ module _ (d : DocumentState) (network : IsNetwork d.network) (events : AreEvents
 pub each_is_found : EachIsFound
 each_is_found text d means =
     let (network, events) = meant_document text d means in
-    findings_exist d network events (few_meant text d means) (each_sets d.events (meant_octets text d means))
+    findings_exist d network events (few_meant text d means)
+    (λ t member. in_all (λ (u : Timed). SetsOctets u.act) t d.events (meant_octets text d means) member)

@@ -1,7 +1,7 @@
 -- The labels and links of a network that stands after events are those of its snapshot.
 use Rattle.std.proofs.Common.{◌≡◌, ◌==◌, ℕ, zero, suc, Bool, true, false, cond, List, [], ◌∷◌, map, Some, None, slice_get, refl, sym, ap, subst, ◌∙◌, inl, inr, arith}
 use Rattle.std.specs.List.{filter_map}
-use Rattle.std.proofs.lemmas.Bool.{and_from, and_parts, eq-eqb, eqb-true, ne_eqb}
+use Rattle.std.proofs.lemmas.Bool.{and_from, eq-eqb, eqb-true, ne_eqb}
 use Rattle.std.proofs.lemmas.List.Sorted.{IsPermutation-sym}
 use Rattle.std.proofs.lemmas.Option.{cond_some}
 use Rattle.gptp_lists.specs.Members.{In}
@@ -13,10 +13,10 @@ use Rattle.gptp_plan.specs.Change.{joined_after, link_after, live_after, system_
 use Rattle.gptp_plan.specs.Network.{IsNetwork, NetworkState}
 use Rattle.gptp_plan.specs.declared.change.Timed.{Timed}
 use Rattle.gptp_plan.specs.declared.network.Member.{Member}
-use Rattle.gptp_plan.specs.declared.network.Wire.{Wire}
 use Rattle.gptp_network.specs.Snapshot.{StandsAfter, has_clock, joins_two, link_of, live_systems, system_of}
+use Rattle.gptp_network.proofs.InUseLemmas.{runs}
 use Rattle.gptp_network.proofs.PassLemmas.{given, kept, passes_at}
-use Rattle.gptp_network.proofs.SnapshotLemmas.{In-permutation, clock_after, from_filter, from_filter_map, with_clock}
+use Rattle.gptp_network.proofs.SnapshotLemmas.{In-permutation, clock_after, from_filter_map, with_clock}
 use Rattle.gptp_lint.specs.Graph.{first_node, place_in}
 use Rattle.gptp_lint.specs.Labels.{alone}
 use Rattle.gptp_lint.specs.Moments.{edge_after, node_after, place_of}
@@ -189,42 +189,16 @@ module _ (n : NetworkState) (network : IsNetwork n) (events : List Timed) (g : S
       subst (λ v. Adjacent g v (own_clock y)) (sym a)
       (subst (Adjacent g w.a.clock) (sym b) (w.a.port, w.b.port, inl there))
 
-  -- a link of the snapshot
-  record Runs (l : Link) : Type 0 where
-    wire : Wire
-    among : In wire n.links
-    up : (link_after events wire).up ≡ true
-    is : link_of (wire.a, wire.b) ≡ l
-    from : has_clock g.systems wire.a.clock ≡ true
-    to : has_clock g.systems wire.b.clock ≡ true
-
-  runs : (l : Link) → In l g.links → Runs l
-  runs l member =
-      let (listed, both) =
-      from_filter (joins_two g.systems) l (map link_of (filter_map (joined_after events) n.links))
-      (subst (In l) stands.links member) in
-      let (pair, at, seen) = from_map link_of l (filter_map (joined_after events) n.links) listed in
-      let (w, among, up) = from_filter_map (joined_after events) pair n.links at in
-      let parts = cond_some (link_after events w).up (w.a, w.b) pair up in
-      let is : link_of (w.a, w.b) ≡ l = ap link_of parts.1 ∙ seen in
-      let ends = and_parts (has_clock g.systems l.a.clock) (has_clock g.systems l.b.clock) both in
-      record {
-        wire = w;
-        among = among;
-        up = parts.0;
-        is = is;
-        from = ap (λ (k : Link). has_clock g.systems k.a.clock) is ∙ ends.0;
-        to = ap (λ (k : Link). has_clock g.systems k.b.clock) is ∙ ends.1;
-      }
-
   joined_by_link : (l : Link) → In l g.links → Joining labels edges l.a.clock l.b.clock
   joined_by_link l member =
-      let r = runs l member in
-      let (x, x-lives, x-clock) = live_end r.wire.a.clock r.from in
-      let (y, y-lives, y-clock) = live_end r.wire.b.clock r.to in
+      let r = runs n network events g stands l member in
+      let (x, x-lives, x-clock) = live_end r.wire.a.clock
+      (ap (λ (k : Link). has_clock g.systems k.a.clock) r.is ∙ r.from) in
+      let (y, y-lives, y-clock) = live_end r.wire.b.clock
+      (ap (λ (k : Link). has_clock g.systems k.b.clock) r.is ∙ r.to) in
       record {
         edge = edge_after n events r.wire;
-        among = In-map (edge_after n events) r.wire n.links r.among;
+        among = In-map (edge_after n events) r.wire n.links r.member;
         x = x;
         y = y;
         links = record { up = r.up; from = x-lives; to = y-lives };

@@ -11,6 +11,7 @@ mod QuietLemmas
 mod TextLemmas
 mod FoundLemmas
 mod EscapedLemmas
+mod FeedLemmas
 mod OrderedLemmas
 mod OutlineLemmas
 mod KeyLemmas

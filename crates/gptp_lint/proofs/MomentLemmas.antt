@@ -1,8 +1,5 @@
 -- Each time of a document has its moment, as its events are passed.
-use Rattle.std.proofs.Common.{◌≡◌, ◌⊎◌, ◌≤◌, ◌<◌, ◌^◌, ℕ, cond, List, [], ◌∷◌, ◌++◌, map, append_assoc, refl, sym, ap, subst, ◌∙◌, inl, inr, arith}
-use Rattle.std.specs.List.{AllByRecursion}
-use Rattle.std.proofs.lemmas.Bool.{eq-eqb, ne_eqb}
-use Rattle.std.proofs.lemmas.List.{map-append}
+use Rattle.std.proofs.Common.{◌≡◌, ◌⊎◌, ◌<◌, ◌^◌, ℕ, List, [], ◌∷◌, ◌++◌, map, sym, ap, subst, ◌∙◌, inl, inr, arith}
 use Rattle.gptp_lists.specs.Members.{In}
 use Rattle.gptp_lists.proofs.MemberLemmas.{In-map}
 use Rattle.gptp_graph.specs.Snapshot.{IsWellFormed, Snapshot, System}
@@ -12,12 +9,10 @@ use Rattle.gptp_graph.proofs.SystemLemmas.{In-clocks}
 use Rattle.gptp_plan.specs.Network.{IsNetwork, NetworkState}
 use Rattle.gptp_plan.specs.declared.change.Timed.{Timed}
 use Rattle.gptp_network.specs.Document.{DocumentState}
-use Rattle.gptp_network.specs.Events.{AreInOrder}
 use Rattle.gptp_network.specs.Snapshot.{StandsAfter, events_by}
 use Rattle.gptp_network.proofs.ExistenceLemmas.{stands_after}
 use Rattle.gptp_network.proofs.SnapshotLemmas.{member_there, stands_well}
-use Rattle.gptp_topology.specs.Times.{times_from, times_of}
-use Rattle.gptp_topology.proofs.CourseLemmas.{all_from_0, behind, not_before, only_past, order_behind, past_by, past_more, still_past, until_now}
+use Rattle.gptp_topology.proofs.PassedLemmas.{Passed, passed_last, passed_next, passed_same}
 use Rattle.gptp_lint.specs.Components.{AreBests, AreChances, AreMoments, IsChance, IsMoment}
 use Rattle.gptp_lint.specs.Graph.{HaveOctets}
 use Rattle.gptp_lint.specs.Labels.{alone, joined_all, labels_in}
@@ -119,87 +114,28 @@ is_chance d network graph pairs stands are =
 abbrev at_of : Moment → ℕ
 at_of m = m.at
 
--- These events are done, and those are left; the last time so far is this one, and all times before it have moments.
-pub record Passed (d : DocumentState) (done left : List Timed) (at : ℕ) (moments : List Moment) : Type 0 where
-  pub split : done ++ left ≡ d.events
-  pub past : past_by at done
-  pub come : not_before at left
-  pub order : AreInOrder left
-  pub times_are : map at_of moments ++ times_from at left ≡ times_of d.events
-  pub each : AllByRecursion (IsMoment d) moments
-
-pub passed_none : (d : DocumentState) → AreInOrder d.events → Passed d [] d.events 0 []
-passed_none d order = record {
-  split = refl;
-  past = tt;
-  come = all_from_0 d.events;
-  order = order;
-  times_are = refl;
-  each = tt;
-}
-
-one_more_moment : (d : DocumentState) (moments : List Moment) (m : Moment) → AllByRecursion (IsMoment d) moments
-    → IsMoment d m → AllByRecursion (IsMoment d) (moments ++ m ∷ [])
-one_more_moment d [] m all one = (one, tt)
-one_more_moment d (k ∷ moments) m all one = (all.0, one_more_moment d moments m all.1 one)
+-- the times before this one have moments
+abbrev pub MomentsPassed : DocumentState → List Timed → List Timed → ℕ → List Moment → Type 0
+MomentsPassed d = Passed at_of (IsMoment d) d
 
 module _ (d : DocumentState) (network : IsNetwork d.network) (done : List Timed) (at : ℕ) (graph : Graph)
     (stands : Stands d.network done graph) (moments : List Moment) where
   -- at the next event
-  pub passed_more : (t : Timed) (left : List Timed) (after : List Moment) → Passed d done (t ∷ left) at moments
-      → IsTold graph at t.at moments after → Passed d (done ++ t ∷ []) left t.at after
-  passed_more t left after so_far told = by told
-    where
-      split : (done ++ t ∷ []) ++ left ≡ d.events
-      split = append_assoc done (t ∷ []) left ∙ so_far.split
+  pub passed_more : (t : Timed) (left : List Timed) (after : List Moment) → MomentsPassed d done (t ∷ left) at moments
+      → IsTold graph at t.at moments after → MomentsPassed d (done ++ t ∷ []) left t.at after
+  passed_more t left after so_far (inl (same, kept)) =
+      subst (MomentsPassed d (done ++ t ∷ []) left t.at) (sym kept)
+      (passed_same at_of (IsMoment d) d done at moments t left so_far same)
+  passed_more t left after so_far (inr (apart, (m, of, kept))) =
+      subst (MomentsPassed d (done ++ t ∷ []) left t.at) (sym kept)
+      (passed_next at_of (IsMoment d) d done at moments t left m so_far apart of.at_is
+      (is_moment d network done graph at m stands of))
 
-      earlier : at ≤ t.at
-      earlier = so_far.come.0
-
-      self : t.at ≤ t.at
-      self = omega arith
-
-      by : IsTold graph at t.at moments after → Passed d (done ++ t ∷ []) left t.at after
-      by (inl (same, kept)) =
-          let step : times_from at (t ∷ left) ≡ times_from at left =
-          ap (λ test. cond test (times_from at left) (at ∷ times_from t.at left)) (eq-eqb t.at at same) in
-          subst (Passed d (done ++ t ∷ []) left t.at) (sym kept) (record {
-            split = split;
-            past = past_more t.at done t (still_past at t.at done earlier so_far.past) self;
-            come = behind t left so_far.order;
-            order = order_behind t left so_far.order;
-            times_are =
-                ap (λ a. map at_of moments ++ times_from a left) same
-                ∙ ap (λ ts. map at_of moments ++ ts) (sym step) ∙ so_far.times_are;
-            each = so_far.each;
-          })
-      by (inr (apart, (m, of, kept))) =
-          let later : at < t.at = omega (arith, earlier, apart) in
-          let now : events_by at d.events ≡ done =
-          ap (events_by at) (sym so_far.split) ∙ until_now at done t left so_far.past later so_far.order in
-          let step : times_from at (t ∷ left) ≡ at ∷ times_from t.at left =
-          ap (λ test. cond test (times_from at left) (at ∷ times_from t.at left)) (ne_eqb t.at at apart) in
-          subst (Passed d (done ++ t ∷ []) left t.at) (sym kept) (record {
-            split = split;
-            past = past_more t.at done t (still_past at t.at done earlier so_far.past) self;
-            come = behind t left so_far.order;
-            order = order_behind t left so_far.order;
-            times_are =
-                ap (λ ts. ts ++ times_from t.at left) (map-append at_of moments (m ∷ []))
-                ∙ append_assoc (map at_of moments) (m.at ∷ []) (times_from t.at left)
-                ∙ ap (λ a. map at_of moments ++ a ∷ times_from t.at left) of.at_is
-                ∙ ap (λ ts. map at_of moments ++ ts) (sym step) ∙ so_far.times_are;
-            each = one_more_moment d moments m so_far.each (is_moment d network done graph at m stands of now);
-          })
-
-  -- behind the last
-  pub passed_all : (m : Moment) (after : List Moment) → Passed d done [] at moments → IsMomentOf graph at m
+  -- after the last event
+  pub passed_all : (m : Moment) (after : List Moment) → MomentsPassed d done [] at moments → IsMomentOf graph at m
       → after ≡ moments ++ m ∷ [] → AreMoments d after
   passed_all m after so_far of is =
-      let now : events_by at d.events ≡ done =
-      ap (events_by at) (sym so_far.split) ∙ only_past at done [] so_far.past tt in
-      subst (AreMoments d) (sym is) (record {
-        times_are = map-append at_of moments (m ∷ []) ∙ ap (λ a. map at_of moments ++ a ∷ []) of.at_is
-            ∙ so_far.times_are;
-        each = one_more_moment d moments m so_far.each (is_moment d network done graph at m stands of now);
-      })
+      let (times_are, each) =
+      passed_last at_of (IsMoment d) d done at moments m so_far of.at_is
+      (is_moment d network done graph at m stands of) in
+      subst (AreMoments d) (sym is) (record { times_are = times_are; each = each })

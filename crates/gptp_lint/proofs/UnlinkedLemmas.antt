@@ -1,17 +1,14 @@
 -- The clocks that none of the links names, sorted, are those of the systems that no link of the network names.
-use Rattle.std.proofs.Common.{◌≡◌, ◌≤◌, ◌<◌, ◌==◌, ◌+◌, ◌++◌, ◌∷◌, ℕ, zero, suc, Bool, true, false, not, List, [], filter, length, map, take, Option, Some, None, slice_get, refl, sym, ap, subst, ◌∙◌, inl, inr, arith}
-use Rattle.std.specs.Option.{option_map}
+use Rattle.std.proofs.Common.{◌≡◌, ◌≤◌, ◌<◌, ◌==◌, ◌+◌, ◌++◌, ◌∷◌, ℕ, zero, suc, Bool, true, false, not, List, [], filter, length, map, take, Some, slice_get, refl, sym, ap, subst, ◌∙◌, inl, inr, arith}
 use Rattle.std.specs.List.Sorted.{IsPermutation, IsSorted}
 use Rattle.std.specs.Ordering.{nat_cmp}
 use Rattle.std.proofs.lemmas.Bool.{eq-eqb, eqb-true, not-true, not_from_false, or_cases, or_left, or_right}
 use Rattle.std.proofs.lemmas.List.{map-append}
 use Rattle.std.proofs.lemmas.List.Elements.{filter-append}
 use Rattle.std.proofs.lemmas.List.Sorted.{IsPermutation-sym}
-use Rattle.std.proofs.lemmas.Option.{none-some, same_Some}
 use Rattle.gptp_lists.specs.Members.{Different, In}
 use Rattle.gptp_lists.proofs.MappedLemmas.{taken}
 use Rattle.gptp_lists.proofs.MemberLemmas.{In-map, from_map, slice_get-In}
-use Rattle.gptp_lists.proofs.PlaceLemmas.{member_there}
 use Rattle.gptp_roles.specs.Selection.{clock_of}
 use Rattle.gptp_plan.specs.Network.{IsNetwork, NetworkState}
 use Rattle.gptp_plan.specs.declared.network.Member.{Member}
@@ -27,29 +24,6 @@ abbrev pub own_clock : Member → ℕ
 own_clock m = clock_of m.identity
 
 -- ---- one system more
-
--- the system at a place
-pub record IsThere (members : List Member) (place identity : ℕ) : Type 0 where
-  pub system : Member
-  pub there : slice_get members place ≡ Some system
-  pub is : identity ≡ system.identity
-
-pub system_there : {X : Type 0} (f : Member → X) (identity_in : X → ℕ) (members : List Member) (place : ℕ) (told : X)
-    → ((m : Member) → identity_in (f m) ≡ m.identity) → Some told ≡ option_map f (slice_get members place)
-    → IsThere members place (identity_in told)
-system_there {X} f identity_in members place told fits is = by (slice_get members place) refl is
-  where
-    by : (o : Option Member) → slice_get members place ≡ o → Some told ≡ option_map f o
-        → IsThere members place (identity_in told)
-    by None there is = absurd cc
-    by (Some m) there is =
-        record { system = m; there = there; is = ap identity_in (same_Some told (f m) is) ∙ fits m }
-
-pub none_there : {X Y : Type 0} (f : Y → X) (ys : List Y) (place : ℕ) → place < length ys
-    → None ≡ option_map f (slice_get ys place) → ⊥
-none_there f ys place within is =
-    let (y, there) = member_there ys place within in
-    absurd (none-some (f y) (is ∙ ap (option_map f) there))
 
 pub unlinked_more : (cables : List Cable) (ms : List Member) (place : ℕ) (m : Member) → slice_get ms place ≡ Some m
     → unlinked_in cables (map own_clock (take place ms)) ++ unlinked_in cables (own_clock m ∷ [])

@@ -9,5 +9,7 @@ pub mod Outline
 pub mod Unread
 pub mod Keys
 pub mod UnreadKeys
+pub mod Why
+pub mod Refusal
 pub mod LintText
 pub mod Laws

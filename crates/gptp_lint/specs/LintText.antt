@@ -20,7 +20,7 @@ use Rattle.gptp_lint.specs.Outline.{header_line, outline_of_text}
 use Rattle.gptp_lint.specs.Unread.{UnreadKey, line_words, placed, unread_line}
 use Rattle.gptp_lint.specs.UnreadKeys.{NearIsRead, unread_keys}
 
--- the line of a document that is refused: the fault, and behind it where it is and why it is one
+-- the line of a document that is refused: the fault, and after it where it is and why it is one (`TellsPlace`)
 abbrev pub refused_line : DocumentFault → List ℕ → List ℕ
 refused_line fault place = codes "refused " ++ documents.fault_text fault ++ place
 

@@ -3,32 +3,11 @@
 ghost use Rattle.std.specs.Prelude.{◌≡◌};
 ghost use Rattle.gptp_lint.specs.Unread.{is_plain};
 
-use arrayvec::ArrayVec;
 use gptp_spelling::OctetDigits;
 use std::fmt;
 
 /// How many octets of a text are shown.
 const SHOWN: usize = 64;
-
-/// The front of a text of a document, and how many octets the text has.
-#[derive(Drop)]
-pub(crate) struct Front {
-    pub octets: ArrayVec<u8, 64>,
-    pub length: usize,
-}
-
-impl Front {
-    /// The front of a text.
-    pub(crate) fn of(text: &[u8]) -> Front {
-        let (front, _) = text.split_at(text.len().min(SHOWN));
-        let mut octets = ArrayVec::new();
-        let _ = octets.try_extend_from_slice(front);
-        Front {
-            octets,
-            length: text.len(),
-        }
-    }
-}
 
 /// The front of a text, shown in one word: octets that aren't printed, and `\`, as `\x` and two digits; an empty text
 /// as `\`.

@@ -3,7 +3,6 @@
 #![tactic(auto)]
 
 mod components;
-mod diagnosis;
 mod escaped;
 mod findings;
 mod graph;
@@ -14,13 +13,11 @@ mod nearest;
 mod outline;
 mod place;
 mod refusal;
-mod seen;
 mod source;
 mod text;
 mod trouble;
 mod unknown;
 mod unlinked;
-mod values;
 mod why;
 
 pub use findings::{Findings, find};

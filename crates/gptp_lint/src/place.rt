@@ -1,6 +1,7 @@
 //! Where something stands in a document.
 
 ghost use Rattle.std.specs.Prelude.{◌≡◌};
+ghost use Rattle.gptp_lint.specs.Refusal.{place_of, section_of};
 ghost use Rattle.gptp_lint.specs.Unread.{section_name};
 
 use std::fmt;
@@ -25,12 +26,14 @@ impl Section {
         }
     }
 
-    /// How many members it has at most.
-    pub(crate) fn most(self) -> usize {
-        match self {
-            Section::System => 512,
-            Section::Link => 2048,
-            Section::Event => 4096,
+    /// The section of a place at which a document is refused.
+    fn of(section: gptp_network::Section) -> Section
+        ensures { result ≡ section_of section }
+    {
+        match section {
+            gptp_network::Section::System => Section::System,
+            gptp_network::Section::Link => Section::Link,
+            gptp_network::Section::Event => Section::Event,
         }
     }
 
@@ -51,6 +54,21 @@ pub(crate) enum Place {
     Top,
     Network,
     Member(Section, usize),
+}
+
+impl Place {
+    /// The place at which a document is refused.
+    pub(crate) fn of(place: gptp_network::Place) -> Place
+        ensures { result ≡ place_of place }
+    {
+        match place {
+            gptp_network::Place::Top => Place::Top,
+            gptp_network::Place::Network => Place::Network,
+            gptp_network::Place::Member(section, number) => {
+                Place::Member(Section::of(section), number)
+            }
+        }
+    }
 }
 
 /// The line of a header, from 1, shown behind the number of its member; nothing where there is none.

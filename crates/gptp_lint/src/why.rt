@@ -1,101 +1,52 @@
-//! Why a document is refused.
+//! The words for why a document is refused.
 
-use crate::escaped::{Escaped, Front};
-use crate::place::Place;
+ghost use Rattle.std.specs.Prelude.{◌≡◌};
+ghost use Rattle.gptp_lint.specs.Why.{nanoseconds};
+
+use crate::escaped::Escaped;
+use gptp_network::{Name, Shape, Why};
 use gptp_plan::Params;
 use gptp_setup::interval_of;
 use gptp_spelling::ClockDigits;
-use gptp_vector::{ClockId, PortId};
+use gptp_vector::PortId;
 use std::fmt;
 
-/// The test that fails, with what it saw.
-#[derive(Drop)]
-pub(crate) enum Why {
-    /// A key is missing.
-    Missing {
-        key: &'static str,
-    },
-    /// What stands at a key is of this kind.
-    Kind {
-        key: &'static str,
-        kind: &'static str,
-    },
-    /// A number isn't in its range.
-    Number {
-        key: &'static str,
-        value: i64,
-        least: i64,
-        most: i64,
-    },
-    /// There are so many intervals, and so many ports.
-    Intervals {
-        count: usize,
-        ports: u8,
-    },
-    /// A text doesn't spell what it should.
-    Text {
-        key: &'static str,
-        front: Front,
-    },
-    /// The least delay is above the greatest.
-    Above {
-        min: u64,
-        max: u64,
-    },
-    /// There are too many members.
-    TooMany {
-        count: usize,
-        most: usize,
-    },
-    /// An earlier system has that clock.
-    Duplicate {
-        clock: ClockId,
-        system: usize,
-    },
-    /// A link would join a system with itself.
-    BothEnds {
-        clock: ClockId,
-    },
-    /// No system has that clock.
-    UnknownClock {
-        clock: ClockId,
-    },
-    /// The system has only so many ports.
-    Beyond {
-        port: PortId,
-        ports: u8,
-    },
-    /// No link is at that port.
-    Unlinked {
-        port: PortId,
-    },
-    /// An earlier link is at that port.
-    Taken {
-        port: PortId,
-        link: usize,
-    },
-    /// The greatest delay is above the least announce interval.
-    TooLong {
-        max: u64,
-        most: u64,
-    },
-    /// An event is earlier than the one before it.
-    Before {
-        at: u64,
-        before: u64,
-    },
-    /// The intervals don't go together, of which that of announcements is this, in ns.
-    Timing {
-        params: Params,
-        announce: u64,
-    },
+/// The word for what a value is.
+#[derive(Clone, Copy)]
+struct ShapeWord(Shape);
+
+impl fmt::Display for ShapeWord {
+    ghost use Rattle.std.specs.Prelude.{Some};
+    ghost use Rattle.gptp_lint.specs.Why.{shape_word};
+
+    ghost output = { λ word. Some (shape_word word.0) };
+
+    fn fmt<W: fmt::Write>(&self, f: &mut fmt::Formatter<W>) -> fmt::Result {
+        f.write_str(match self.0 {
+            Shape::Text => "text",
+            Shape::Whole => "whole",
+            Shape::Float => "float",
+            Shape::Flag => "true_or_false",
+            Shape::Date => "date",
+            Shape::Array => "array",
+            Shape::Table => "table",
+        })
+    }
 }
 
-/// A fault, and where it stands.
-#[derive(Drop)]
-pub(crate) struct Refusal {
-    pub place: Place,
-    pub why: Why,
+/// A key, as a document spells it.
+#[derive(Clone, Copy)]
+struct KeyWord(Name);
+
+impl fmt::Display for KeyWord {
+    ghost use Rattle.std.specs.Prelude.{Some};
+    ghost use Rattle.gptp_network.specs.Keys.{name_text};
+
+    ghost output = { λ word. Some (name_text word.0) };
+
+    fn fmt<W: fmt::Write>(&self, f: &mut fmt::Formatter<W>) -> fmt::Result {
+        f.write_str(self.0.text())
+    }
 }
 
 /// A port, as its clock and its number.
@@ -103,14 +54,21 @@ pub(crate) struct Refusal {
 struct PortWords(PortId);
 
 impl fmt::Display for PortWords {
+    ghost use Rattle.std.specs.Prelude.{Some};
+    ghost use Rattle.gptp_lint.specs.Why.{port_words};
+
+    ghost output = { λ words. Some (port_words words.0) };
+
     fn fmt<W: fmt::Write>(&self, f: &mut fmt::Formatter<W>) -> fmt::Result {
         let PortWords(port) = self;
         write!(f, "{} {}", ClockDigits(port.clock), port.port)
     }
 }
 
-/// An interval by its logarithm, in ns.
-fn nanoseconds(log_interval: i8) -> u64 {
+/// An interval by its logarithm, in ns; 0 where it is none of a port.
+fn nanoseconds(log_interval: i8) -> u64
+    ensures { result ≡ nanoseconds log_interval }
+{
     if -4 <= log_interval && log_interval <= 4 {
         interval_of(log_interval)
     } else {
@@ -118,50 +76,74 @@ fn nanoseconds(log_interval: i8) -> u64 {
     }
 }
 
-/// The words for intervals that don't go together.
-fn write_timing<W: fmt::Write>(
-    f: &mut fmt::Formatter<W>,
-    params: &Params,
-    announce: u64,
-) -> fmt::Result {
-    write!(
-        f,
-        "threshold {} turnaround {} pdelay {} announce {announce} residence {} sync {}",
-        params.threshold,
-        params.turnaround,
-        nanoseconds(params.pdelay),
-        params.residence,
-        nanoseconds(params.sync)
-    )
-}
+/// The intervals that don't go together, where those of announcements are at this interval.
+#[derive(Clone, Copy)]
+struct TimingWords(Params, i8);
 
-/// The words for a fault of one key.
-fn write_key<W: fmt::Write>(f: &mut fmt::Formatter<W>, why: &Why) -> fmt::Result {
-    match why {
-        Why::Missing { key } => write!(f, "key {key} missing"),
-        Why::Kind { key, kind } => write!(f, "key {key} kind {kind}"),
-        Why::Number {
-            key,
-            value,
-            least,
-            most,
-        } => write!(f, "key {key} value {value} least {least} most {most}"),
-        Why::Intervals { count, ports } => write!(f, "key announce count {count} of {ports}"),
-        Why::Text { key, front } => write!(
+impl fmt::Display for TimingWords {
+    ghost use Rattle.std.specs.Prelude.{Some};
+    ghost use Rattle.gptp_lint.specs.Why.{timing_words};
+
+    ghost output = { λ words. Some (timing_words words.0 words.1) };
+
+    fn fmt<W: fmt::Write>(&self, f: &mut fmt::Formatter<W>) -> fmt::Result {
+        let params = self.0;
+        let pdelay = nanoseconds(params.pdelay);
+        let announce = nanoseconds(self.1);
+        let sync = nanoseconds(params.sync);
+        write!(
             f,
-            "key {key} value {} length {}",
-            Escaped(front.octets.as_slice()),
-            front.length
-        ),
-        Why::Above { min, max } => write!(f, "key min value {min} above {max}"),
-        Why::TooLong { max, most } => write!(f, "key max value {max} most {most}"),
-        _ => Ok(()),
+            "threshold {} turnaround {} pdelay {pdelay} announce {announce} residence {} sync {sync}",
+            params.threshold, params.turnaround, params.residence
+        )
     }
 }
 
-impl fmt::Display for Why {
+/// Why a document is refused, in words.
+#[derive(Clone, Copy)]
+pub(crate) struct WhyWords<'a>(pub &'a Why);
+
+impl fmt::Display for WhyWords<'_> {
+    ghost use Rattle.std.specs.Prelude.{Some};
+    ghost use Rattle.gptp_lint.specs.Why.{why_words};
+
+    ghost output = { λ words. Some (why_words words.0.now) };
+
     fn fmt<W: fmt::Write>(&self, f: &mut fmt::Formatter<W>) -> fmt::Result {
-        match self {
+        match self.0 {
+            Why::Missing { key } => write!(f, "key {} missing", KeyWord(*key)),
+            Why::Kind { key, shape } => {
+                write!(f, "key {} kind {}", KeyWord(*key), ShapeWord(*shape))
+            }
+            Why::Natural {
+                key,
+                value,
+                least,
+                most,
+            } => write!(
+                f,
+                "key {} value {value} least {least} most {most}",
+                KeyWord(*key)
+            ),
+            Why::Whole {
+                key,
+                value,
+                least,
+                most,
+            } => write!(
+                f,
+                "key {} value {value} least {least} most {most}",
+                KeyWord(*key)
+            ),
+            Why::Intervals { count, ports } => write!(f, "key announce count {count} of {ports}"),
+            Why::Text { key, front } => write!(
+                f,
+                "key {} value {} length {}",
+                KeyWord(*key),
+                Escaped(front.octets.as_slice()),
+                front.count
+            ),
+            Why::Above { min, max } => write!(f, "key min value {min} above {max}"),
             Why::TooMany { count, most } => write!(f, "count {count} most {most}"),
             Why::Duplicate { clock, system } => {
                 write!(f, "clock {} as system {system}", ClockDigits(*clock))
@@ -171,9 +153,13 @@ impl fmt::Display for Why {
             Why::Beyond { port, ports } => write!(f, "port {} of {ports}", PortWords(*port)),
             Why::Unlinked { port } => write!(f, "port {} unlinked", PortWords(*port)),
             Why::Taken { port, link } => write!(f, "port {} as link {link}", PortWords(*port)),
+            Why::TooLong { max, most } => write!(f, "key max value {max} most {most}"),
             Why::Before { at, before } => write!(f, "at {at} before {before}"),
-            Why::Timing { params, announce } => write_timing(f, params, *announce),
-            _ => write_key(f, self),
+            Why::Timing { params, announce } => {
+                write!(f, "{}", TimingWords(*params, *announce))
+            }
+            Why::Other { fault } => write!(f, "fault {fault}"),
+            Why::Memory => f.write_str("memory"),
         }
     }
 }

@@ -133,15 +133,16 @@ module _ (n : NetworkState) (network : IsNetwork n) (events : List Timed) (g : S
       (subst (λ (p : PortId). lives n.systems events p.clock ≡ true) (sym ends.b) b)
 
   -- a link of the snapshot is one of the network that is in use
-  record Runs (l : Link) : Type 0 where
-    wire : Wire
-    member : In wire n.links
-    is : link_of (wire.a, wire.b) ≡ l
-    used : is_used_after wire ≡ true
-    to : has_clock g.systems l.b.clock ≡ true
-    from : has_clock g.systems l.a.clock ≡ true
+  pub record Runs (l : Link) : Type 0 where
+    pub wire : Wire
+    pub member : In wire n.links
+    pub is : link_of (wire.a, wire.b) ≡ l
+    pub up : (link_after events wire).up ≡ true
+    pub used : is_used n.systems events (link_after events wire) ≡ true
+    pub to : has_clock g.systems l.b.clock ≡ true
+    pub from : has_clock g.systems l.a.clock ≡ true
 
-  runs : (l : Link) → In l g.links → Runs l
+  pub runs : (l : Link) → In l g.links → Runs l
   runs l member =
       let (listed, both) =
       from_filter (joins_two g.systems) l (map link_of (filter_map (joined_after events) n.links))
@@ -155,6 +156,7 @@ module _ (n : NetworkState) (network : IsNetwork n) (events : List Timed) (g : S
         wire = w;
         member = among;
         is = is;
+        up = parts.0;
         used = used_by w parts.0
             (there_live w.a.clock (ap (λ (k : Link). has_clock g.systems k.a.clock) is ∙ from))
             (there_live w.b.clock (ap (λ (k : Link). has_clock g.systems k.b.clock) is ∙ to));

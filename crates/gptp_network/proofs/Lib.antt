@@ -14,3 +14,6 @@ pub mod SpanLemmas
 pub mod GivenLemmas
 pub mod FitLemmas
 pub mod MeantLemmas
+pub mod FoundLemmas
+pub mod WhyLemmas
+pub mod ForgetLemmas

@@ -1,8 +1,9 @@
 -- What a text means is a network with events of it.
-use Rattle.std.proofs.Common.{◌≡◌, ◌<◌, ◌≤◌, ◌^◌, ◌/◌, ◌==◌, ℕ, zero, suc, ℤ, Bool, true, false, codes, nat_le, List, [], ◌∷◌, ◌++◌, length, Option, Some, None, Result, Ok, Err, refl, sym, subst, inl, inr, arith}
+use Rattle.std.proofs.Common.{◌≡◌, ◌<◌, ◌≤◌, ◌*◌, ◌^◌, ◌/◌, ◌==◌, ℕ, zero, suc, ℤ, Bool, true, false, codes, nat_le, List, [], ◌∷◌, ◌++◌, length, Option, Some, None, Result, Ok, Err, refl, subst, inl, inr, arith}
 use Rattle.std.specs.Prelude.{⊤, bytes_eq, if◌then◌else◌, nat_lt, slice_index}
 use Rattle.std.specs.Int.{byte_at, bytes_high_first, int_max, int_min}
 use Rattle.std.specs.List.{AllByRecursion, reduce}
+use Rattle.std.proofs.lemmas.Bool.{and_parts, leb-true}
 use Rattle.std.proofs.lemmas.Bool.Decides.{nat_tests}
 use Rattle.std.proofs.lemmas.Nat.{mod_below}
 use Rattle.byteorder.specs.Numbers.{big_from-lt}
@@ -41,31 +42,43 @@ use Rattle.gptp_network.specs.declared.systems.System.{System}
 use Rattle.gptp_network.proofs.EventLemmas.{event_added}
 use Rattle.gptp_network.proofs.FitLemmas.{change_fits, link_fits, params_fit, system_fits}
 use Rattle.gptp_network.proofs.SnapshotLemmas.{from_filter, member_there, stands_well}
+use Rattle.gptp_network.proofs.TakingLemmas.{in_all}
 use Rattle.gptp_network.proofs.GivenLemmas.{either, given, next, refused, unless_faulty, value_within, Gives}
 
 -- ---- octets
 
--- digits spell octets
-spelled_read : (digits : List ℕ) → Gives (λ frame. (octet : ℕ) → In octet frame → octet < 256)
-    (spelled_octets (decode_of digits))
-spelled_read digits = by (decode_of digits) refl
-  where
-    by : (r : Result (List ℕ) FromHexError) → decode_of digits ≡ r
-        → Gives (λ frame. (octet : ℕ) → In octet frame → octet < 256) (spelled_octets r)
-    by (Ok frame) is = given _ frame (each_below frame (decode_of-ok digits frame is).3)
-    by (Err e) is = refused _ OutOfRange
+-- a frame that can be injected: each octet of it is one, and there are at most 2,116
+abbrev pub IsFrame : List ℕ → Type 0
+IsFrame frame = ((octet : ℕ) → In octet frame → octet < 256) × (length frame ≤ 2116)
 
-octets_read : (key : List ℕ) (t : Members)
-    → Gives (λ frame. (octet : ℕ) → In octet frame → octet < 256) (octets key t)
+-- so many digits spell a frame
+spelled_read : (digits : List ℕ) → length digits ≤ 4232 → Gives IsFrame (spelled_octets (decode_of digits))
+spelled_read digits few = by (decode_of digits) refl
+  where
+    by : (r : Result (List ℕ) FromHexError) → decode_of digits ≡ r → Gives IsFrame (spelled_octets r)
+    by (Ok frame) is =
+        let read = decode_of-ok digits frame is in
+        let twice : length digits ≡ 2 * length frame = read.2 in
+        given IsFrame frame (each_below frame read.3, omega (arith, few, twice))
+    by (Err e) is = refused IsFrame OutOfRange
+
+text_read : (digits : List ℕ) → Gives IsFrame (octets_of_text digits)
+text_read digits = by (is_between 1 4232 (length digits)) refl
+  where
+    by : (test : Bool) → is_between 1 4232 (length digits) ≡ test
+        → Gives IsFrame (if test then spelled_octets (decode_of digits) else Err OutOfRange)
+    by true is =
+        spelled_read digits
+        (leb-true (length digits) 4232 (and_parts (nat_le 1 (length digits)) (nat_le (length digits) 4232) is).1)
+    by false is = refused IsFrame OutOfRange
+
+octets_read : (key : List ℕ) (t : Members) → Gives IsFrame (octets key t)
 unfolding octets
 octets_read key t = by (get_member key t)
   where
-    by : (o : Option Data)
-        → Gives (λ frame. (octet : ℕ) → In octet frame → octet < 256) (key_in as_str octets_of_text None o)
-    by None = refused _ MissingKey
-    by (Some d) =
-        next _ (kind_of (as_str d)) octets_of_text
-        (λ digits is. either _ (is_between 1 4232 (length digits)) _ _ (spelled_read digits) (refused _ OutOfRange))
+    by : (o : Option Data) → Gives IsFrame (key_in as_str octets_of_text None o)
+    by None = refused IsFrame MissingKey
+    by (Some d) = next IsFrame (kind_of (as_str d)) octets_of_text (λ digits is. text_read digits)
 
 -- ---- identities
 
@@ -195,10 +208,10 @@ network_read version t =
 
 -- ---- events
 
--- a priority1 that is set is an octet, and each octet that is injected is one
+-- a priority1 that is set is an octet, and what is injected is a frame
 abbrev pub SetsOctets : Act → Type 0
 SetsOctets (acts.Change (changes.Priority1 name value)) = value < 256
-SetsOctets (acts.Change (changes.Inject name port frame)) = (octet : ℕ) → In octet frame → octet < 256
+SetsOctets (acts.Change (changes.Inject name port frame)) = IsFrame frame
 SetsOctets act = ⊤
 
 -- what is read of a change
@@ -365,7 +378,7 @@ meant_octets octets d means = (document_read means.table d means.is).events.octe
 
 -- ---- snapshots
 
--- an identity is of fourteen octets still
+-- an identity is of fourteen octets after events too
 acted_below : (act : Act) (own : ℕ) (s : _) → SetsOctets act
     → (with_live true s).identity < 2 ^ 112
     → (system_acted act own s).identity < 2 ^ 112
@@ -391,24 +404,18 @@ acted_below (acts.Change (changes.Priority1 name value)) own s sets below = by (
     by false = below
 acted_below (acts.Change (changes.Inject name port frame)) own s sets below = below
 
-stands_below : (es : List Timed) → ((t : Timed) → In t es → SetsOctets t.act) → (own : ℕ) (s : _)
+pub stands_below : (es : List Timed) → ((t : Timed) → In t es → SetsOctets t.act) → (own : ℕ) (s : _)
     → (with_live true s).identity < 2 ^ 112 → (system_stands es own s).identity < 2 ^ 112
 stands_below [] sets own s below = below
 stands_below (t ∷ es) sets own s below =
     stands_below es (λ u member. sets u (inr member)) own (system_acted t.act own s)
     (acted_below t.act own s (sets t (inl refl)) below)
 
-each_member : (es : List Timed) → AllByRecursion (λ (t : Timed). SetsOctets t.act) es → (t : Timed) → In t es
-    → SetsOctets t.act
-each_member [] all t member = absurd member
-each_member (e ∷ es) all t (inl same) = subst (λ (u : Timed). SetsOctets u.act) (sym same) all.0
-each_member (e ∷ es) all t (inr member) = each_member es all.1 t member
-
 pub meant_well : (octets : List ℕ) (d : DocumentState) (time : ℕ) (g : Snapshot) → Means octets d → IsSnapshot d time g
     → IsWellFormed g
 meant_well octets d time g means stands =
     let network = (meant_document octets d means).0 in
-    let sets = each_member d.events (meant_octets octets d means) in
+    let sets = λ t member. in_all (λ (u : Timed). SetsOctets u.act) t d.events (meant_octets octets d means) member in
     stands_well d.network network (events_by time d.events) g stands (λ s live.
     let (m, at, is) = member_there d.network network (events_by time d.events) g stands s live in
     let (place, there) = slice_get-In m d.network.systems at in

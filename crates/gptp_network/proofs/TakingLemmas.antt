@@ -197,11 +197,11 @@ live_once (m ∷ ms) events once =
     λ i j l k at there same. let e : suc i ≡ suc j = once (suc i) (suc j) l k at there same in omega arith in
     live_once_more m ms events once (live_after events m) refl (live_once ms events behind)
 
-all_in : {X : Type 0} (P : X → Type 0) (xs : List X) → ((x : X) → In x xs → P x) → AllByRecursion P xs
+pub all_in : {X : Type 0} (P : X → Type 0) (xs : List X) → ((x : X) → In x xs → P x) → AllByRecursion P xs
 all_in P [] h = tt
 all_in P (x ∷ xs) h = (h x (inl refl), all_in P xs (λ y member. h y (inr member)))
 
-in_all : {X : Type 0} (P : X → Type 0) (x : X) (xs : List X) → AllByRecursion P xs → In x xs → P x
+pub in_all : {X : Type 0} (P : X → Type 0) (x : X) (xs : List X) → AllByRecursion P xs → In x xs → P x
 in_all P x [] h member = absurd member
 in_all P x (y ∷ xs) h (inl e) = subst P (sym e) h.0
 in_all P x (y ∷ xs) h (inr member) = in_all P x xs h.1 member
@@ -212,10 +212,10 @@ differ a b h = grind (arith, nat_tests)
 apart : (a b : ℕ) → eqb a b ≡ false → a ≡ b → ⊥
 apart a b h e = grind (arith, nat_tests)
 
-flips : (a b : ℕ) → eqb a b ≡ eqb b a
+pub flips : (a b : ℕ) → eqb a b ≡ eqb b a
 flips a b = grind (arith, nat_tests)
 
-distinct : (ns : List ℕ) → Different ns → IsDistinct eqb ns
+pub distinct : (ns : List ℕ) → Different ns → IsDistinct eqb ns
 unfolding IsDistinct
 distinct [] h = tt
 distinct (n ∷ ns) h = (
@@ -224,7 +224,7 @@ distinct (n ∷ ns) h = (
 )
 
 -- keys that don't fall and differ rise
-rising_distinct : {X : Type 0} (key : X → ℕ) (xs : List X) → IsNonDecreasingBy key xs → IsDistinct eqb (map key xs)
+pub rising_distinct : {X : Type 0} (key : X → ℕ) (xs : List X) → IsNonDecreasingBy key xs → IsDistinct eqb (map key xs)
     → IsRising (map key xs)
 unfolding IsDistinct
 rising_distinct key [] up d = tt

@@ -7,7 +7,7 @@ use Rattle.gptp_network.specs.declared.fault.DocumentFault.TheVariants.{NotToml,
 
 -- the second step, if the first found no fault
 infixl 10 ◌>>=◌
-abbrev pub ◌>>=◌ : {A B : Type 0} → Result A DocumentFault → (A → Result B DocumentFault) → Result B DocumentFault
+abbrev pub ◌>>=◌ : {A B E : Type 0} → Result A E → (A → Result B E) → Result B E
 Ok x >>= f = f x
 Err e >>= f = Err e
 

@@ -12,3 +12,15 @@ pub mod Snapshot
 pub mod SnapshotTables
 pub mod PathBound
 pub mod Span
+pub mod Keys
+pub mod Place
+pub mod Why
+pub mod Reading
+pub mod ReadMembers
+pub mod ReadParams
+pub mod ReadIntervals
+pub mod Found
+pub mod ReadSystems
+pub mod ReadLinks
+pub mod ReadEvents
+pub mod ReadDocument

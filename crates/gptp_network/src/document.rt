@@ -12,15 +12,20 @@ ghost use Rattle.gptp_network.specs.Adding.{adding_fault, with_event, with_first
 ghost use Rattle.gptp_network.specs.Events.{AreEvents, IsInRange};
 ghost use Rattle.gptp_network.specs.Faults.{Refuses};
 ghost use Rattle.gptp_network.specs.Snapshot.{IsSnapshot};
-ghost use Rattle.gptp_network.specs.Document.{document_of, whole_network_of, Parses, Means, Fails, IsNoToml};
+ghost use Rattle.gptp_network.specs.Document.{Parses, Means, Fails, IsNoToml, document_of};
+ghost use Rattle.gptp_network.specs.ReadDocument.{read_document, read_version, read_whole_network};
+ghost use Rattle.gptp_network.specs.Why.{StopsAt};
 
 use crate::events::{Event, adding_fault, events_by, events_of, last_change, push_event};
 use crate::fault::DocumentFault;
+use crate::keys::VERSION;
 use crate::links::add_links;
 use crate::params::network_of;
+use crate::place::Place;
 use crate::snapshot::Snapshot;
 use crate::systems::add_systems;
 use crate::values::natural;
+use crate::why::Refusal;
 use gptp_plan::{Change, Network, Timed};
 use std::alloc::{AllocError, Global};
 use std::marker::Model;
@@ -64,6 +69,21 @@ impl Document {
         match table_of(alloc, text) {
             Ok(table) => document_of(alloc, &table),
             Err(fault) => Err(fault),
+        }
+    }
+
+    /// The document that a table describes, read as `read` reads that of a text. Where it is refused, also says where, and
+    /// what the test that fails saw.
+    #[tactic(auto, unfolding(crate::specs::ReadDocument::read_document))]
+    pub fn of_table(alloc: Global, table: &Table) -> Result<Self, Refusal>
+        ensures document { IfOk result (λ d. read_document (table_view table.now) ≡ Ok d) }
+        ensures refused { StopsAt (read_document (table_view table.now)) result }
+    {
+        let version = version_of(table)?;
+        let network = whole_network_of(alloc, version, table)?;
+        match events_of(alloc, table, &network) {
+            Ok(events) => Ok(Document { network, events }),
+            Err(refusal) => Err(refusal),
         }
     }
 
@@ -168,32 +188,43 @@ fn table_of(alloc: Global, text: &[u8]) -> Result<Table, DocumentFault>
     }
 }
 
+/// The version of a document.
+fn version_of(table: &Table) -> Result<u64, Refusal>
+    ensures { result ≡ read_version (table_view table.now) }
+{
+    match natural(table, VERSION) {
+        Ok(version) => Ok(version),
+        Err(why) => Err(Refusal {
+            place: Place::Top,
+            why,
+        }),
+    }
+}
+
 /// The network of a document of this version.
-#[tactic(auto, unfolding(crate::specs::Document::whole_network_of))]
-fn whole_network_of(alloc: Global, version: u64, table: &Table) -> Result<Network, DocumentFault>
-    ensures network { IfOk result (λ n. whole_network_of version (table_view table.now) ≡ Ok n) }
-    ensures refused { Refuses (whole_network_of version (table_view table.now)) result }
+#[tactic(auto, unfolding(crate::specs::ReadDocument::read_whole_network))]
+fn whole_network_of(alloc: Global, version: u64, table: &Table) -> Result<Network, Refusal>
+    ensures network { IfOk result (λ n. read_whole_network version (table_view table.now) ≡ Ok n) }
+    ensures refused { StopsAt (read_whole_network version (table_view table.now)) result }
 {
     let mut network = network_of(alloc, table)?;
     match add_systems(&mut network, version, table) {
         Ok(()) => match add_links(&mut network, table) {
             Ok(()) => Ok(network),
-            Err(fault) => Err(fault),
+            Err(refusal) => Err(refusal),
         },
-        Err(fault) => Err(fault),
+        Err(refusal) => Err(refusal),
     }
 }
 
-/// The document that a table describes.
-#[tactic(auto, unfolding(crate::specs::Document::document_of))]
+/// The document that a table describes; where it is refused, the fault alone.
+#[tactic(auto, using(crate::proofs::ForgetLemmas::read_is, crate::proofs::ForgetLemmas::refused_is))]
 fn document_of(alloc: Global, table: &Table) -> Result<Document, DocumentFault>
     ensures document { IfOk result (λ d. document_of (table_view table.now) ≡ Ok d) }
     ensures refused { Refuses (document_of (table_view table.now)) result }
 {
-    let version = natural(table, "version", 1, 2, None)?;
-    let network = whole_network_of(alloc, version, table)?;
-    match events_of(alloc, table, &network) {
-        Ok(events) => Ok(Document { network, events }),
-        Err(fault) => Err(fault),
+    match Document::of_table(alloc, table) {
+        Ok(document) => Ok(document),
+        Err(refusal) => Err(refusal.why.fault()),
     }
 }

@@ -3,17 +3,20 @@
 ghost use Rattle.std.specs.Prelude.{◌≡◌, ◌≤◌, ◌++◌, ◌∷◌, [], Ok, Some, None, OnErr, OnOk, IfOk, IfErr};
 ghost use Rattle.toml.specs.View.{view, items_view, table_view};
 ghost use Rattle.gptp_plan.specs.Calm.{last_change};
-ghost use Rattle.gptp_network.specs.Faults.{Refuses};
-ghost use Rattle.gptp_network.specs.Members.{each_of};
-ghost use Rattle.gptp_network.specs.Values.{natural};
-ghost use Rattle.gptp_network.specs.Events.{link_down_of, link_up_of, link_set_of, fail_of, recover_of, priority1_of, inject_of, change_of, event_of, link_fault_at, system_fault_at, change_fault, timed, with_event_of, events_of, AreEvents, AreInOrder, IsInRange, IsChange};
+ghost use Rattle.gptp_network.specs.Events.{link_fault_at, system_fault_at, change_fault, timed, AreEvents, AreInOrder, IsInRange, IsChange};
 ghost use Rattle.gptp_network.specs.Adding.{adding_fault};
+ghost use Rattle.gptp_network.specs.ReadEvents.{bounds_why, change_why, clock_why, port_why, put_event, read_change, read_event, read_events, read_fail, read_inject, read_link_down, read_link_set, read_link_up, read_priority1, read_recover, read_with_event, unlinked};
+ghost use Rattle.gptp_network.specs.ReadMembers.{read_each};
 ghost use Rattle.gptp_network.specs.Snapshot.{events_by};
+ghost use Rattle.gptp_network.specs.Why.{Stops, StopsAt};
 
 use crate::fault::DocumentFault;
-use crate::links::{delay, port_number};
-use crate::members::limited;
-use crate::values::{array_at, clock, natural, octets, text};
+use crate::keys::{AT, MAX, MIN, Name, PORT, SET_LOSS, VALUE};
+use crate::links::{is_there, no_port, port_number};
+use crate::members::{limited_in, section_in};
+use crate::place::{Place, Section};
+use crate::values::{clock, natural, octets, text};
+use crate::why::{Refusal, Why, misspelled, other_kind};
 use gptp_plan::{Act, Change, Network, NetworkFault, Timed};
 use gptp_vector::{ClockId, PortId};
 use std::alloc::Global;
@@ -27,38 +30,38 @@ pub(crate) struct Event {
 }
 
 /// The values of a link that goes down.
-#[tactic(auto, unfolding(crate::specs::Events::link_down_of))]
-fn link_down_of(table: &Table) -> Result<Change, DocumentFault>
-    ensures is { result ≡ link_down_of (table_view table.now) }
+#[tactic(auto, unfolding(crate::specs::ReadEvents::read_link_down))]
+fn link_down_of(table: &Table) -> Result<Change, Why>
+    ensures is { result ≡ read_link_down (table_view table.now) }
     ensures range { IfOk result IsInRange }
 {
-    let clock = clock(table, "clock")?;
-    let port = port_number(table, "port")?;
+    let clock = clock(table, Name::Clock)?;
+    let port = port_number(table, PORT)?;
     Ok(Change::LinkDown { clock, port })
 }
 
 /// The values of a link that comes up.
-#[tactic(auto, unfolding(crate::specs::Events::link_up_of))]
-fn link_up_of(table: &Table) -> Result<Change, DocumentFault>
-    ensures is { result ≡ link_up_of (table_view table.now) }
+#[tactic(auto, unfolding(crate::specs::ReadEvents::read_link_up))]
+fn link_up_of(table: &Table) -> Result<Change, Why>
+    ensures is { result ≡ read_link_up (table_view table.now) }
     ensures range { IfOk result IsInRange }
 {
-    let clock = clock(table, "clock")?;
-    let port = port_number(table, "port")?;
+    let clock = clock(table, Name::Clock)?;
+    let port = port_number(table, PORT)?;
     Ok(Change::LinkUp { clock, port })
 }
 
 /// The values of a link that gets other bounds.
-#[tactic(auto, unfolding(crate::specs::Events::link_set_of))]
-fn link_set_of(table: &Table) -> Result<Change, DocumentFault>
-    ensures is { result ≡ link_set_of (table_view table.now) }
+#[tactic(auto, unfolding(crate::specs::ReadEvents::read_link_set))]
+fn link_set_of(table: &Table) -> Result<Change, Why>
+    ensures is { result ≡ read_link_set (table_view table.now) }
     ensures range { IfOk result IsInRange }
 {
-    let clock = clock(table, "clock")?;
-    let port = port_number(table, "port")?;
-    let min = delay(table, "min")?;
-    let max = delay(table, "max")?;
-    let loss = natural(table, "loss", 0, 1000, None)? as u16;
+    let clock = clock(table, Name::Clock)?;
+    let port = port_number(table, PORT)?;
+    let min = natural(table, MIN)?;
+    let max = natural(table, MAX)?;
+    let loss = natural(table, SET_LOSS)? as u16;
     Ok(Change::LinkSet {
         clock,
         port,
@@ -69,46 +72,46 @@ fn link_set_of(table: &Table) -> Result<Change, DocumentFault>
 }
 
 /// The values of a system that fails.
-#[tactic(auto, unfolding(crate::specs::Events::fail_of))]
-fn fail_of(table: &Table) -> Result<Change, DocumentFault>
-    ensures is { result ≡ fail_of (table_view table.now) }
+#[tactic(auto, unfolding(crate::specs::ReadEvents::read_fail))]
+fn fail_of(table: &Table) -> Result<Change, Why>
+    ensures is { result ≡ read_fail (table_view table.now) }
     ensures range { IfOk result IsInRange }
 {
-    let clock = clock(table, "clock")?;
+    let clock = clock(table, Name::Clock)?;
     Ok(Change::Fail { clock })
 }
 
 /// The values of a system that recovers.
-#[tactic(auto, unfolding(crate::specs::Events::recover_of))]
-fn recover_of(table: &Table) -> Result<Change, DocumentFault>
-    ensures is { result ≡ recover_of (table_view table.now) }
+#[tactic(auto, unfolding(crate::specs::ReadEvents::read_recover))]
+fn recover_of(table: &Table) -> Result<Change, Why>
+    ensures is { result ≡ read_recover (table_view table.now) }
     ensures range { IfOk result IsInRange }
 {
-    let clock = clock(table, "clock")?;
+    let clock = clock(table, Name::Clock)?;
     Ok(Change::Recover { clock })
 }
 
 /// The values of a system that gets another priority1.
-#[tactic(auto, unfolding(crate::specs::Events::priority1_of))]
-fn priority1_of(table: &Table) -> Result<Change, DocumentFault>
-    ensures is { result ≡ priority1_of (table_view table.now) }
+#[tactic(auto, unfolding(crate::specs::ReadEvents::read_priority1))]
+fn priority1_of(table: &Table) -> Result<Change, Why>
+    ensures is { result ≡ read_priority1 (table_view table.now) }
     ensures range { IfOk result IsInRange }
 {
-    let clock = clock(table, "clock")?;
-    let value = natural(table, "value", 0, 255, None)? as u8;
+    let clock = clock(table, Name::Clock)?;
+    let value = natural(table, VALUE)? as u8;
     Ok(Change::Priority1 { clock, value })
 }
 
 /// The values of octets that enter a link.
-#[tactic(auto, unfolding(crate::specs::Events::inject_of))]
-fn inject_of(alloc: Global, table: &Table) -> Result<Change, DocumentFault>
-    ensures change { IfOk result (λ c. inject_of (table_view table.now) ≡ Ok c) }
-    ensures refused { Refuses (inject_of (table_view table.now)) result }
+#[tactic(auto, unfolding(crate::specs::ReadEvents::read_inject))]
+fn inject_of(alloc: Global, table: &Table) -> Result<Change, Why>
+    ensures change { IfOk result (λ c. read_inject (table_view table.now) ≡ Ok c) }
+    ensures refused { Stops (read_inject (table_view table.now)) result }
     ensures range { IfOk result IsInRange }
 {
-    let clock = clock(table, "clock")?;
-    let port = port_number(table, "port")?;
-    let octets = octets(alloc, table, "octets")?;
+    let clock = clock(table, Name::Clock)?;
+    let port = port_number(table, PORT)?;
+    let octets = octets(alloc, table, Name::Octets)?;
     Ok(Change::Inject {
         clock,
         port,
@@ -117,10 +120,10 @@ fn inject_of(alloc: Global, table: &Table) -> Result<Change, DocumentFault>
 }
 
 /// The values of an event of this kind.
-#[tactic(auto, unfolding(crate::specs::Events::change_of))]
-fn change_of(alloc: Global, kind: &str, table: &Table) -> Result<Change, DocumentFault>
-    ensures change { IfOk result (λ c. change_of kind.now (table_view table.now) ≡ Ok c) }
-    ensures refused { Refuses (change_of kind.now (table_view table.now)) result }
+#[tactic(auto, unfolding(crate::specs::ReadEvents::read_change))]
+fn change_of(alloc: Global, kind: &str, table: &Table) -> Result<Change, Why>
+    ensures change { IfOk result (λ c. read_change kind.now (table_view table.now) ≡ Ok c) }
+    ensures refused { Stops (read_change kind.now (table_view table.now)) result }
     ensures range { IfOk result IsInRange }
 {
     if kind == "link_down" {
@@ -138,20 +141,20 @@ fn change_of(alloc: Global, kind: &str, table: &Table) -> Result<Change, Documen
     } else if kind == "inject" {
         inject_of(alloc, table)
     } else {
-        Err(DocumentFault::OutOfRange)
+        Err(misspelled(Name::Kind, kind))
     }
 }
 
 /// The values of an event.
-#[tactic(auto, unfolding(crate::specs::Events::event_of))]
-fn event_of(alloc: Global, table: &Table) -> Result<Event, DocumentFault>
-    ensures event { IfOk result (λ e. event_of (table_view table.now) ≡ Ok e) }
-    ensures refused { Refuses (event_of (table_view table.now)) result }
+#[tactic(auto, unfolding(crate::specs::ReadEvents::read_event))]
+fn event_of(alloc: Global, table: &Table) -> Result<Event, Why>
+    ensures event { IfOk result (λ e. read_event (table_view table.now) ≡ Ok e) }
+    ensures refused { Stops (read_event (table_view table.now)) result }
     ensures early { IfOk result (λ e. e.at ≤ 800000000000000) }
     ensures range { IfOk result (λ e. IsInRange e.change) }
 {
-    let at = natural(table, "at", 0, 800_000_000_000_000, None)?;
-    let kind = text(table, "kind")?;
+    let at = natural(table, AT)?;
+    let kind = text(table, Name::Kind)?;
     let change = change_of(alloc, kind, table)?;
     Ok(Event { at, change })
 }
@@ -283,31 +286,124 @@ pub(crate) fn push_event(
     Ok(())
 }
 
+/// Why no link is at a port: its system isn't there, or has fewer ports, or nothing is joined to it.
+fn unlinked(network: &Network, port: PortId) -> Why
+    ensures { result ≡ unlinked network.now port }
+{
+    if is_there(network, port) {
+        Why::Unlinked { port }
+    } else {
+        no_port(network, port)
+    }
+}
+
+/// Why a change can't be made that names this port.
+fn port_why(network: &Network, port: PortId, fault: NetworkFault) -> Why
+    ensures { result ≡ port_why network.now port fault }
+{
+    match fault {
+        NetworkFault::NoSuchPort => unlinked(network, port),
+        NetworkFault::OutOfMemory => Why::Memory,
+        _ => Why::Other { fault },
+    }
+}
+
+/// Why a change can't be made that names this system.
+fn clock_why(clock: ClockId, fault: NetworkFault) -> Why
+    ensures { result ≡ clock_why clock fault }
+{
+    match fault {
+        NetworkFault::NoSuchPort => Why::UnknownClock { clock },
+        NetworkFault::OutOfMemory => Why::Memory,
+        _ => Why::Other { fault },
+    }
+}
+
+/// Why a change can't be made that sets these bounds of the link at this port.
+fn bounds_why(network: &Network, port: PortId, min: u64, max: u64, fault: NetworkFault) -> Why
+    ensures { result ≡ bounds_why network.now port min max fault }
+{
+    match fault {
+        NetworkFault::OutOfRange => Why::Above { min, max },
+        NetworkFault::DelayTooLong => Why::TooLong {
+            max,
+            most: network.least_interval(),
+        },
+        NetworkFault::NoSuchPort => unlinked(network, port),
+        NetworkFault::OutOfMemory => Why::Memory,
+        _ => Why::Other { fault },
+    }
+}
+
+/// Why a change can't be made.
+fn change_why(network: &Network, change: &Change, fault: NetworkFault) -> Why
+    ensures { result ≡ change_why network.now change.now fault }
+{
+    match *change {
+        Change::LinkDown { clock, port } => port_why(network, PortId { clock, port }, fault),
+        Change::LinkUp { clock, port } => port_why(network, PortId { clock, port }, fault),
+        Change::LinkSet {
+            clock,
+            port,
+            min,
+            max,
+            loss: _,
+        } => bounds_why(network, PortId { clock, port }, min, max, fault),
+        Change::Fail { clock } => clock_why(clock, fault),
+        Change::Recover { clock } => clock_why(clock, fault),
+        Change::Priority1 { clock, value: _ } => clock_why(clock, fault),
+        Change::Inject {
+            clock,
+            port,
+            octets: _,
+        } => port_why(network, PortId { clock, port }, fault),
+    }
+}
+
+/// Puts an event behind the others, where it can be made.
+fn put_event(events: &mut Vec<Timed>, network: &Network, event: Event) -> Result<(), Why>
+    requires are_events { AreEvents network.now events.old.items }
+    requires early { event.at ≤ 800000000000000 }
+    requires range { IsInRange event.change }
+    ensures are_events { OnOk result (AreEvents network.now events.new.items) }
+    ensures events { OnOk result (put_event network.now event events.old.items ≡ Ok events.new.items) }
+    ensures refused { Stops (put_event network.now event events.old.items) result }
+{
+    let before = last_change(events);
+    if event.at < before {
+        Err(Why::Before {
+            at: event.at,
+            before,
+        })
+    } else {
+        match change_fault(network, &event.change) {
+            Some(fault) => Err(change_why(network, &event.change, fault)),
+            None => match push_event(events, network, event) {
+                Ok(()) => Ok(()),
+                Err(_) => Err(Why::Memory),
+            },
+        }
+    }
+}
+
 /// Adds an event.
-#[tactic(auto, unfolding(crate::specs::Events::with_event_of))]
+#[tactic(auto, unfolding(crate::specs::ReadEvents::read_with_event))]
 fn add_event(
     alloc: Global,
     events: &mut Vec<Timed>,
     network: &Network,
     event: &Value,
-) -> Result<(), DocumentFault>
+) -> Result<(), Why>
     requires { AreEvents network.now events.old.items }
     ensures are_events { OnOk result (AreEvents network.now events.new.items) }
-    ensures events { OnOk result (with_event_of network.now (view event.now) events.old.items ≡ Ok events.new.items) }
-    ensures refused { Refuses (with_event_of network.now (view event.now) events.old.items) result }
+    ensures events { OnOk result (read_with_event network.now (view event.now) events.old.items ≡ Ok events.new.items) }
+    ensures refused { Stops (read_with_event network.now (view event.now) events.old.items) result }
 {
     match event.as_table() {
-        None => Err(DocumentFault::WrongKind),
+        None => Err(other_kind(Name::Event, event)),
         Some(table) => {
             let event = event_of(alloc, table)?;
-            if event.at < last_change(events) {
-                Err(DocumentFault::EventOrder)
-            } else {
-                match change_fault(network, &event.change) {
-                    Some(fault) => Err(DocumentFault::from(fault)),
-                    None => push_event(events, network, event),
-                }
-            }
+            put_event(events, network, event)
         }
     }
 }
@@ -318,34 +414,39 @@ fn add_each(
     events: &mut Vec<Timed>,
     network: &Network,
     values: &[Value],
-) -> Result<(), DocumentFault>
+) -> Result<(), Refusal>
     requires { AreEvents network.now events.old.items }
     ensures are_events { OnOk result (AreEvents network.now events.new.items) }
-    ensures events { OnOk result (each_of (with_event_of network.now) (items_view values.now) events.old.items ≡ Ok events.new.items) }
-    ensures refused { Refuses (each_of (with_event_of network.now) (items_view values.now) events.old.items) result }
+    ensures events { OnOk result (read_each Section.Event (read_with_event network.now) 0 (items_view values.now) events.old.items ≡ Ok events.new.items) }
+    ensures refused { StopsAt (read_each Section.Event (read_with_event network.now) 0 (items_view values.now) events.old.items) result }
 {
-    for value in values {
-        add_event(alloc, events, network, value)?;
+    for (number, value) in values.iter().enumerate() {
+        if let Err(why) = add_event(alloc, events, network, value) {
+            return Err(Refusal {
+                place: Place::Member(Section::Event, number),
+                why,
+            });
+        }
     }
     Ok(())
 }
 
 /// The events of a document.
-#[tactic(auto, unfolding(crate::specs::Events::events_of))]
+#[tactic(auto, unfolding(crate::specs::ReadEvents::read_events))]
 pub(crate) fn events_of(
     alloc: Global,
     document: &Table,
     network: &Network,
-) -> Result<Vec<Timed>, DocumentFault>
+) -> Result<Vec<Timed>, Refusal>
     ensures are_events { IfOk result (λ es. AreEvents network.now es.items) }
-    ensures events { IfOk result (λ es. events_of (table_view document.now) network.now ≡ Ok es.items) }
-    ensures refused { Refuses (events_of (table_view document.now) network.now) result }
+    ensures events { IfOk result (λ es. read_events (table_view document.now) network.now ≡ Ok es.items) }
+    ensures refused { StopsAt (read_events (table_view document.now) network.now) result }
 {
-    let values = array_at(document, "event")?;
-    let values = limited(4096, values)?;
+    let values = section_in(document, Section::Event)?;
+    let values = limited_in(Section::Event, values)?;
     let mut events = Vec::new(alloc);
     match add_each(alloc, &mut events, network, values) {
         Ok(()) => Ok(events),
-        Err(fault) => Err(fault),
+        Err(refusal) => Err(refusal),
     }
 }

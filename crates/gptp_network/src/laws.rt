@@ -1,11 +1,14 @@
 //! What documents promise beyond single calls.
 
 ghost use Rattle.std.specs.Prelude.{◌≡◌, ◌⊎◌, ℕ, List};
+ghost use Rattle.toml.specs.Data.{Members};
 ghost use Rattle.gptp_graph.specs.Snapshot.{IsWellFormed, Snapshot};
 ghost use Rattle.gptp_plan.specs.Network.{IsNetwork};
-ghost use Rattle.gptp_network.specs.Document.{DocumentState, Fails, Means};
+ghost use Rattle.gptp_network.specs.Document.{DocumentState, Fails, Means, document_of};
 ghost use Rattle.gptp_network.specs.Events.{AreEvents};
+ghost use Rattle.gptp_network.specs.ReadDocument.{read_document};
 ghost use Rattle.gptp_network.specs.Snapshot.{IsSnapshot, IsWithinLimits};
+ghost use Rattle.gptp_network.specs.Why.{forget_place};
 ghost use Rattle.gptp_network.specs.declared.fault.DocumentFault.{DocumentFault};
 
 /// A text means one document at most.
@@ -21,6 +24,11 @@ pub fn a_text_that_fails_means_no_document()
 /// A text fails in one way at most.
 pub fn a_text_fails_in_one_way()
     ensures { (text : List ℕ) (first second : DocumentFault) → Fails text first → Fails text second → first ≡ second }
+{}
+
+/// A table is refused at a place exactly where it means no document, and why it is refused names the fault.
+pub fn a_refusal_names_the_fault()
+    ensures { (t : Members) → forget_place (read_document t) ≡ document_of t }
 {}
 
 /// Every text means a document or fails.

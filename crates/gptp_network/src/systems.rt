@@ -1,18 +1,25 @@
 //! The sections `[[system]]`.
 
-ghost use Rattle.std.specs.Prelude.{◌≡◌, ◌≤ℤ◌, ◌≤◌, pos, neg_ℤ, Ok, Some, None, OnOk, IfOk};
+ghost use Rattle.std.specs.Prelude.{◌≡◌, ◌≤ℤ◌, ◌≤◌, pos, neg_ℤ, Ok, OnOk, IfOk, IfSome};
 ghost use Rattle.toml.specs.View.{view, items_view, table_view};
-ghost use Rattle.gptp_network.specs.Faults.{Refuses};
-ghost use Rattle.gptp_network.specs.Members.{each_of};
-ghost use Rattle.gptp_network.specs.Values.{natural, whole};
-ghost use Rattle.gptp_network.specs.Systems.{identity_of, system_of, with_system_of, with_systems};
+ghost use Rattle.gptp_network.specs.Found.{system_from};
+ghost use Rattle.gptp_network.specs.ReadMembers.{read_each};
+ghost use Rattle.gptp_network.specs.ReadSystems.{duplicate, first_shorter, put_system, read_system, read_with_system, read_with_systems, system_why};
+ghost use Rattle.gptp_network.specs.Reading.{natural_at, whole_at};
+ghost use Rattle.gptp_network.specs.Systems.{identity_of};
+ghost use Rattle.gptp_network.specs.Why.{Stops, StopsAt};
 
-use crate::fault::DocumentFault;
+use crate::found::system_with;
 use crate::intervals::intervals;
-use crate::members::{limited, needed};
-use crate::values::{array_at, clock, natural, whole};
+use crate::keys::{
+    ACCURACY, CLASS, DRIFT, Name, Natural, PHASE, PORTS, PRIORITY1, PRIORITY2, VARIANCE, Whole,
+};
+use crate::members::{limited_in, needed_in, section_in};
+use crate::place::{Place, Section};
+use crate::values::{clock, natural, whole};
+use crate::why::{Refusal, Why, other_kind};
 use arrayvec::ArrayVec;
-use gptp_plan::Network;
+use gptp_plan::{Network, NetworkFault};
 use gptp_vector::{ClockId, Identity};
 use toml::{Table, Value};
 
@@ -47,37 +54,43 @@ fn identity_of(
 }
 
 /// An octet, or the default where the key is absent.
-fn octet(table: &Table, key: &str, greatest: u8, default: u8) -> Result<u8, DocumentFault>
-    requires { default ≤ greatest }
-    ensures is { result ≡ natural key.now 0 greatest (Some default) (table_view table.now) }
-    ensures bound { IfOk result (λ n. n ≤ greatest) }
+fn octet(table: &Table, key: Natural) -> Result<u8, Why>
+    requires octet { key.2 ≤ 255 }
+    requires low { IfSome key.3 (λ n. key.1 ≤ n) }
+    requires high { IfSome key.3 (λ n. n ≤ key.2) }
+    ensures is { result ≡ natural_at key (table_view table.now) }
+    ensures bound { IfOk result (λ n. n ≤ key.2) }
 {
-    let number = natural(table, key, 0, u64::from(greatest), Some(u64::from(default)))?;
+    let number = natural(table, key)?;
     Ok(number as u8)
 }
 
 /// The drift of a clock.
-fn drift(table: &Table, key: &str) -> Result<i32, DocumentFault>
-    ensures { result ≡ whole key.now (neg_ℤ (pos 219902325)) (pos 219902325) (Some (pos 0)) (table_view table.now) }
+fn drift(table: &Table, key: Whole) -> Result<i32, Why>
+    requires least { neg_ℤ (pos 2147483648) ≤ℤ key.1 }
+    requires most { key.2 ≤ℤ pos 2147483647 }
+    requires low { key.1 ≤ℤ key.3 }
+    requires high { key.3 ≤ℤ key.2 }
+    ensures { result ≡ whole_at key (table_view table.now) }
 {
-    let number = whole(table, key, -219_902_325, 219_902_325, 0)?;
+    let number = whole(table, key)?;
     Ok(number as i32)
 }
 
 /// The values of a system of a document of this version, whose ports announce at this interval by default.
-#[tactic(auto, unfolding(crate::specs::Systems::system_of))]
-fn system_of(version: u64, announce: i8, table: &Table) -> Result<System, DocumentFault>
-    ensures { result ≡ system_of version announce (table_view table.now) }
+#[tactic(auto, unfolding(crate::specs::ReadSystems::read_system))]
+fn system_of(version: u64, announce: i8, table: &Table) -> Result<System, Why>
+    ensures { result ≡ read_system version announce (table_view table.now) }
 {
-    let name = clock(table, "clock")?;
-    let priority1 = octet(table, "priority1", 255, 246)?;
-    let class = octet(table, "class", 255, 248)?;
-    let accuracy = octet(table, "accuracy", 255, 254)?;
-    let variance = natural(table, "variance", 0, 65535, Some(17258))? as u16;
-    let priority2 = octet(table, "priority2", 255, 248)?;
-    let phase = natural(table, "phase", 0, 1_000_000_000_000_000_000, Some(0))?;
-    let drift = drift(table, "drift")?;
-    let ports = octet(table, "ports", 16, 1)?;
+    let name = clock(table, Name::Clock)?;
+    let priority1 = octet(table, PRIORITY1)?;
+    let class = octet(table, CLASS)?;
+    let accuracy = octet(table, ACCURACY)?;
+    let variance = natural(table, VARIANCE)? as u16;
+    let priority2 = octet(table, PRIORITY2)?;
+    let phase = natural(table, PHASE)?;
+    let drift = drift(table, DRIFT)?;
+    let ports = octet(table, PORTS)?;
     let intervals = intervals(version, ports, announce, table)?;
     let identity = identity_of(priority1, class, accuracy, variance, priority2, name);
     Ok(System {
@@ -89,51 +102,108 @@ fn system_of(version: u64, announce: i8, table: &Table) -> Result<System, Docume
     })
 }
 
+/// The first of these intervals that is shorter than this one; the other where none is.
+fn first_shorter(least: i8, intervals: &[i8], other: i8) -> i8
+    ensures { result ≡ first_shorter least intervals.now other }
+{
+    for interval in intervals {
+        if *interval < least {
+            return *interval;
+        }
+    }
+    other
+}
+
+/// An earlier system has the clock.
+fn duplicate(network: &Network, clock: ClockId) -> Why
+    ensures { result ≡ duplicate clock (system_from 0 network.now.systems clock) }
+{
+    match system_with(network, clock) {
+        Some((system, _)) => Why::Duplicate { clock, system },
+        None => Why::Other {
+            fault: NetworkFault::DuplicateClock,
+        },
+    }
+}
+
+/// Why a system with this clock, one of whose ports announces at this interval, can't be added.
+fn system_why(network: &Network, clock: ClockId, log: i8, fault: NetworkFault) -> Why
+    ensures { result ≡ system_why network.now clock log fault }
+{
+    match fault {
+        NetworkFault::Timing => Why::Timing {
+            params: network.params(),
+            announce: log,
+        },
+        NetworkFault::DuplicateClock => duplicate(network, clock),
+        NetworkFault::OutOfMemory => Why::Memory,
+        _ => Why::Other { fault },
+    }
+}
+
+/// Puts a system behind the others.
+fn put_system(network: &mut Network, system: System) -> Result<(), Why>
+    ensures network { OnOk result (put_system system network.old ≡ Ok network.new) }
+    ensures refused { Stops (put_system system network.old) result }
+{
+    let params = network.params();
+    let clock = system.identity.clock();
+    let log = first_shorter(params.pdelay, system.intervals.as_slice(), params.announce);
+    match network.add_system(
+        system.identity,
+        system.ports,
+        system.phase,
+        system.drift,
+        system.intervals,
+    ) {
+        Ok(()) => Ok(()),
+        Err(fault) => Err(system_why(network, clock, log, fault)),
+    }
+}
+
 /// Adds a system.
-#[tactic(auto, unfolding(crate::specs::Systems::with_system_of))]
-fn add_system(network: &mut Network, version: u64, system: &Value) -> Result<(), DocumentFault>
-    ensures network { OnOk result (with_system_of version (view system.now) network.old ≡ Ok network.new) }
-    ensures refused { Refuses (with_system_of version (view system.now) network.old) result }
+#[tactic(auto, unfolding(crate::specs::ReadSystems::read_with_system))]
+fn add_system(network: &mut Network, version: u64, system: &Value) -> Result<(), Why>
+    ensures network { OnOk result (read_with_system version (view system.now) network.old ≡ Ok network.new) }
+    ensures refused { Stops (read_with_system version (view system.now) network.old) result }
 {
     match system.as_table() {
-        None => Err(DocumentFault::WrongKind),
+        None => Err(other_kind(Name::System, system)),
         Some(table) => {
             let system = system_of(version, network.params().announce, table)?;
-            network.add_system(
-                system.identity,
-                system.ports,
-                system.phase,
-                system.drift,
-                system.intervals,
-            )?;
-            Ok(())
+            put_system(network, system)
         }
     }
 }
 
 /// Adds systems, one after another.
-fn add_each(network: &mut Network, version: u64, systems: &[Value]) -> Result<(), DocumentFault>
-    ensures network { OnOk result (each_of (with_system_of version) (items_view systems.now) network.old ≡ Ok network.new) }
-    ensures refused { Refuses (each_of (with_system_of version) (items_view systems.now) network.old) result }
+fn add_each(network: &mut Network, version: u64, systems: &[Value]) -> Result<(), Refusal>
+    ensures network { OnOk result (read_each Section.System (read_with_system version) 0 (items_view systems.now) network.old ≡ Ok network.new) }
+    ensures refused { StopsAt (read_each Section.System (read_with_system version) 0 (items_view systems.now) network.old) result }
 {
-    for system in systems {
-        add_system(network, version, system)?;
+    for (number, system) in systems.iter().enumerate() {
+        if let Err(why) = add_system(network, version, system) {
+            return Err(Refusal {
+                place: Place::Member(Section::System, number),
+                why,
+            });
+        }
     }
     Ok(())
 }
 
 /// Adds the systems of a document of this version.
-#[tactic(auto, unfolding(crate::specs::Systems::with_systems))]
+#[tactic(auto, unfolding(crate::specs::ReadSystems::read_with_systems))]
 pub(crate) fn add_systems(
     network: &mut Network,
     version: u64,
     document: &Table,
-) -> Result<(), DocumentFault>
-    ensures network { OnOk result (with_systems version (table_view document.now) network.old ≡ Ok network.new) }
-    ensures refused { Refuses (with_systems version (table_view document.now) network.old) result }
+) -> Result<(), Refusal>
+    ensures network { OnOk result (read_with_systems version (table_view document.now) network.old ≡ Ok network.new) }
+    ensures refused { StopsAt (read_with_systems version (table_view document.now) network.old) result }
 {
-    let systems = array_at(document, "system")?;
-    let systems = needed(systems)?;
-    let systems = limited(512, systems)?;
+    let systems = section_in(document, Section::System)?;
+    let systems = needed_in(systems)?;
+    let systems = limited_in(Section::System, systems)?;
     add_each(network, version, systems)
 }

@@ -22,9 +22,10 @@ use Rattle.gptp_report.specs.declared.frame_line.FrameType.{FrameType}
 use Rattle.gptp_report.specs.declared.frame_line.FrameType.TheVariants.{Unread}
 use Rattle.gptp_report.specs.FrameLine.{frame_line, type_of, IsOfType}
 use Rattle.gptp_report.specs.Report.{calm_line, restless_line, time_line, IsChangeLine, Reports, ShowsSystems}
-use Rattle.gptp_report.specs.Run.{Changed, Goes, ShowsDone, ShowsFrames, ShowsIf}
+use Rattle.gptp_report.specs.Run.{Goes, ShowsDone, ShowsFrames, ShowsIf}
 use Rattle.gptp_report.specs.SystemLines.{system_lines}
 use Rattle.gptp_report.specs.Transitions.{Courses, Makes, Transition, transition}
+use Rattle.gptp_report.proofs.FrameLemmas.{makes_changes}
 use Rattle.gptp_outcome.specs.ExistenceLaws.{DocumentsLead}
 use Rattle.gptp_outcome.proofs.DocumentExistLemmas.{has_unfolded}
 use Rattle.gptp_outcome.proofs.WayExistLemmas.{AllTellOctets, TellsOctets}
@@ -51,23 +52,6 @@ octets-parts [] us all = (tt, all)
 octets-parts (t ∷ ts) us all = let (front, back) = octets-parts ts us all.1 in ((all.0, front), back)
 
 module _ {F : Type 0} (answers : Bounds → ℕ → F → Option ℕ → F → Type 0) where
-  -- an event is made, and this is told of what is due by then
-  makes_change : (event : Timed) (ts : List Transition) (fate f : F) (w v : WorldState)
-      (k : Makes answers event ts fate f w v) → Changed answers event (all_told k.first) fate f w v
-  makes_change event ts fate f w v k = record {
-    drawn = k.drawn;
-    between = k.between;
-    advanced = record {
-      ahead = k.passes.ahead;
-      between = k.passes.between;
-      advances = passes_advances answers event.at k.first fate k.drawn w k.passes.between k.passes.passes;
-      nothing_left = k.passes.nothing_left;
-      is = k.passes.is;
-    };
-    done = k.done;
-    changed = k.made;
-  }
-
   -- of octets where all that happens meanwhile is
   before_event : (event : Timed) (ts : List Transition) (fate f : F) (w v : WorldState)
       (k : Makes answers event ts fate f w v) → AllTellOctets ts → AreTold (all_told k.first)
@@ -104,7 +88,7 @@ module _ {F : Type 0} (answers : Bounds → ℕ → F → Option ℕ → F → T
           more.told,
           drawn,
           between,
-          makes_change event first fate drawn w between makes,
+          makes_changes answers event first fate drawn w between makes,
           more.goes,
           refl,
         );

@@ -123,7 +123,7 @@ module _ {F : Type 0} (answers : Bounds → ℕ → F → Option ℕ → F → T
   made_quiet event fate fate_after w w' done (change, is) was =
       (subst (λ a. Acts a (at event.at w) was.draws done w') is was.acts).0
 
-  makes_changes : (event : Timed) (ts : List Transition) (fate fate_after : F) (w w' : WorldState)
+  pub makes_changes : (event : Timed) (ts : List Transition) (fate fate_after : F) (w w' : WorldState)
       (k : Makes answers event ts fate fate_after w w')
       → Changed answers event (all_told k.first) fate fate_after w w'
   makes_changes event ts fate fate_after w w' k = record {

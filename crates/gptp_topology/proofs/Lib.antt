@@ -1,9 +1,9 @@
-mod MemberLemmas
-mod PlaceLemmas
+pub mod MemberLemmas
+pub mod PlaceLemmas
 mod LivesLemmas
 pub mod NamedLemmas
 pub mod CourseLemmas
 pub mod RestLemmas
 mod StandingLemmas
 mod BoundLemmas
-mod PassedLemmas
+pub mod PassedLemmas

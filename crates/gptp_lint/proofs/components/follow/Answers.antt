@@ -4,7 +4,7 @@ use Rattle.std.proofs.lemmas.List.{drop_all, drop_more, take_all, take_more}
 use Rattle.gptp_plan.specs.Network.{IsNetwork}
 use Rattle.gptp_lint.specs.Moments.{Stands}
 use Rattle.gptp_lint.proofs.GraphLemmas.{stands_more}
-use Rattle.gptp_lint.proofs.MomentLemmas.{Passed, passed_all, passed_more}
+use Rattle.gptp_lint.proofs.MomentLemmas.{MomentsPassed, passed_all, passed_more}
 use Rattle.gptp_lint.proofs.components.follow.Goals as goal
 
 pub loop-event-preserved : goal.loop-event-preserved
@@ -21,13 +21,13 @@ loop-event-preserved c =
     take_more events i t c.loop-event-test.true ∙ ap (λ u. take i events ++ u ∷ []) (sym c.event-item.is) in
     let more = passed_more d network (take i events) c.loop-event.at graph c.loop-event.invariant.stands
     c.loop-event.moments.items t (drop (i + 1) events) c.tell.new.moments.items
-    (subst (λ ts. Passed d (take i events) ts c.loop-event.at c.loop-event.moments.items) left
+    (subst (λ ts. MomentsPassed d (take i events) ts c.loop-event.at c.loop-event.moments.items) left
     c.loop-event.invariant.passed)
     c.in_ok-tell.ensures in
     let stands = stands_more d.network (take i events) t graph c.act.new.self c.loop-event.invariant.stands
     c.act.ensures in
     record {
-      passed = subst (λ ts. Passed d ts (drop (i + 1) events) t.at c.tell.new.moments.items) (sym done) more;
+      passed = subst (λ ts. MomentsPassed d ts (drop (i + 1) events) t.at c.tell.new.moments.items) (sym done) more;
       stands = subst (λ ts. Stands d.network ts c.act.new.self) (sym done) stands;
     }
 
@@ -42,7 +42,7 @@ returns c =
       moments =
           passed_all d network (take i events) c.loop-event.at graph c.loop-event.invariant.stands
           c.loop-event.moments.items c.in_ok-moment.moment c.push.new.self.items
-          (subst (λ ts. Passed d (take i events) ts c.loop-event.at c.loop-event.moments.items)
+          (subst (λ ts. MomentsPassed d (take i events) ts c.loop-event.at c.loop-event.moments.items)
           (drop_all i events c.loop-event-test.false) c.loop-event.invariant.passed)
           c.in_ok-moment.ensures c.in_ok-push.ensures.items;
       graph = subst (λ ts. Stands d.network ts graph)

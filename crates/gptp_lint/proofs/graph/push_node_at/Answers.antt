@@ -3,8 +3,8 @@ use Rattle.std.proofs.Common.{◌++◌, ◌∷◌, [], ap, ◌∙◌, refl}
 use Rattle.std.proofs.lemmas.Result.{on_ok_weaker}
 use Rattle.gptp_plan.specs.declared.network.Member.{Member}
 use Rattle.gptp_lint.specs.Graph.{first_node}
-use Rattle.gptp_lint.proofs.GraphLemmas.{mapped_more}
-use Rattle.gptp_lint.proofs.UnlinkedLemmas.{none_there, system_there}
+use Rattle.gptp_topology.proofs.MemberLemmas.{mapped_more}
+use Rattle.gptp_topology.proofs.PlaceLemmas.{none_there, system_there}
 use Rattle.gptp_lint.proofs.graph.push_node_at.Goals as goal
 
 pub returns-in-Some : goal.returns-in-Some

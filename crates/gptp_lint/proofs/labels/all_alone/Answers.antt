@@ -5,7 +5,8 @@ use Rattle.std.proofs.lemmas.Option.{slice_get-get_or}
 use Rattle.gptp_lint.specs.Graph.{HaveOctets}
 use Rattle.gptp_lint.specs.Labels.{alone}
 use Rattle.gptp_lint.specs.declared.labels.Label.{Label}
-use Rattle.gptp_lint.proofs.GraphLemmas.{mapped_more, octets_more}
+use Rattle.gptp_topology.proofs.MemberLemmas.{mapped_more}
+use Rattle.gptp_lint.proofs.GraphLemmas.{octets_more}
 use Rattle.gptp_lint.proofs.labels.all_alone.Goals as goal
 
 pub loop-node-init : goal.loop-node-init

@@ -4,7 +4,8 @@ use Rattle.std.proofs.lemmas.Result.{on_ok_weaker}
 use Rattle.gptp_roles.specs.Selection.{clock_of}
 use Rattle.gptp_plan.specs.declared.network.Member.{Member}
 use Rattle.gptp_lint.specs.Unlinked.{unlinked_in}
-use Rattle.gptp_lint.proofs.UnlinkedLemmas.{none_there, system_there, unlinked_more}
+use Rattle.gptp_topology.proofs.PlaceLemmas.{none_there, system_there}
+use Rattle.gptp_lint.proofs.UnlinkedLemmas.{unlinked_more}
 use Rattle.gptp_lint.proofs.unlinked.push_unlinked_at.Goals as goal
 
 pub returns-in-Some : goal.returns-in-Some

@@ -1,10 +1,10 @@
 -- The values of `[network]` are read key by key, in the order of the keys.
 use Rattle.std.proofs.Common.{rules}
-use Rattle.gptp_network.specs.Params.{params_of}
+use Rattle.gptp_network.specs.ReadParams.{read_params}
 use Rattle.gptp_network.proofs.params.params_of.Goals as goal
 
 pub returns : goal.returns
-unfolding params_of
+unfolding read_params
 returns c =
     rw (
       ← c.in_ok-announce.ensures,

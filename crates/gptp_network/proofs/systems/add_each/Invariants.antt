@@ -1,11 +1,12 @@
--- What is left, added to what there is, is what all make of what there was.
+-- What is left, by its number, added to what there is, is what all make of what there was.
 use Rattle.std.proofs.Common.{◌≡◌, drop}
 use Rattle.toml.specs.View.{items_view}
-use Rattle.gptp_network.specs.Members.{each_of}
-use Rattle.gptp_network.specs.Systems.{with_system_of}
+use Rattle.gptp_network.specs.ReadMembers.{read_each}
+use Rattle.gptp_network.specs.ReadSystems.{read_with_system}
+use Rattle.gptp_network.specs.declared.place.Section.TheVariants.{System}
 use Rattle.gptp_network.proofs.systems.add_each.Given as goal
 
-abbrev pub invariant-loop-system : goal.invariant-loop-system
-invariant-loop-system l =
-    each_of (with_system_of l.version) (items_view (drop l.system-index l.systems)) l.network
-    ≡ each_of (with_system_of l.version) (items_view l.systems) l.initial.network
+abbrev pub invariant-loop-number : goal.invariant-loop-number
+invariant-loop-number l =
+    read_each System (read_with_system l.version) l.number (items_view (drop l.number l.systems)) l.network
+    ≡ read_each System (read_with_system l.version) 0 (items_view l.systems) l.initial.network

@@ -5,7 +5,7 @@ use Rattle.gptp_plan.specs.Network.{IsNetwork, NetworkState}
 use Rattle.gptp_topology.specs.Tables.{time_of}
 use Rattle.gptp_topology.specs.declared.times.CalmTime.{CalmTime}
 use Rattle.gptp_topology.proofs.BoundLemmas.{short_marks, time_is}
-use Rattle.gptp_topology.proofs.PassedLemmas.{Passed, allowed_before, passed_all, passed_more}
+use Rattle.gptp_topology.proofs.PassedLemmas.{CalmPassed, allowed_before, passed_all, passed_more}
 use Rattle.gptp_topology.proofs.StandingLemmas.{Stand, few_nodes, stand_more}
 use Rattle.gptp_topology.proofs.times.calm_times_over.Goals as goal
 
@@ -24,14 +24,14 @@ loop-event-preserved c =
     take_more events i t c.loop-event-test.true ∙ ap (λ u. take i events ++ u ∷ []) (sym c.event-item.is) in
     let more = passed_more d (take i events) time c.loop-event.calm.items t (drop (i + 1) events)
     c.tell.new.calm.items
-    (subst (λ ts. Passed d (take i events) ts c.loop-event.at c.loop-event.calm.items) left
+    (subst (λ ts. CalmPassed d (take i events) ts c.loop-event.at c.loop-event.calm.items) left
     c.loop-event.invariant.passed)
     (rw c.network-network.ensures at c.in_ok-tell.ensures)
     (time_is d c.loop-event.at network (take i events) tables c.loop-event.invariant.stand) in
     let stand = stand_more d.network network (take i events) t tables c.act.new.self c.loop-event.invariant.stand
     c.act.ensures in
     record {
-      passed = subst (λ ts. Passed d ts (drop (i + 1) events) t.at c.tell.new.calm.items) (sym done) more;
+      passed = subst (λ ts. CalmPassed d ts (drop (i + 1) events) t.at c.tell.new.calm.items) (sym done) more;
       stand = subst (λ ts. Stand d.network ts c.act.new.self) (sym done) stand;
     }
 
@@ -70,7 +70,7 @@ returns c =
     ∙ ap (λ (n : NetworkState). time_of n tables.marks.items tables.nodes.items c.loop-event.at)
     c.network-network.ensures in
     passed_all d (take i events) time c.loop-event.calm.items c.push.new.self.items
-    (subst (λ ts. Passed d (take i events) ts c.loop-event.at c.loop-event.calm.items)
+    (subst (λ ts. CalmPassed d (take i events) ts c.loop-event.at c.loop-event.calm.items)
     (drop_all i events c.loop-event-test.false) c.loop-event.invariant.passed)
     (c.in_ok-push.ensures.items ∙ ap (λ (b : CalmTime). c.loop-event.calm.items ++ b ∷ []) told)
     (time_is d c.loop-event.at network (take i events) tables c.loop-event.invariant.stand)

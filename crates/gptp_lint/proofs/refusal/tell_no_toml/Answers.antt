@@ -1,0 +1,5 @@
+-- The words of the place that the parser tells.
+use Rattle.gptp_lint.proofs.refusal.tell_no_toml.Goals as goal
+
+pub returns : goal.returns
+returns c = (c.at.result, c.in_ok-write.ensures.bytes)
