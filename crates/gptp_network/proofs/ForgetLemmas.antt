@@ -147,7 +147,8 @@ octets_same key digits =
 
 octets_is : (key : Name) (t : Members) → forget (octets_at key t) ≡ octets (name_text key) t
 unfolding octets_at octets
-octets_is key t = value_is key as_str (octets_in key) octets_of_text (octets_same key) None (get_member (name_text key) t)
+octets_is key t =
+    value_is key as_str (octets_in key) octets_of_text (octets_same key) None (get_member (name_text key) t)
 
 table_is : (key : Name) (t : Members) → forget (table_in key t) ≡ table_at (name_text key) t
 unfolding table_in table_at
@@ -175,7 +176,8 @@ needed_is : (ds : Items) → forget_place (needed_in ds) ≡ needed ds
 unfolding needed_in needed
 needed_is ds = either_at (count ds == 0) _ (Ok ds) (Err faults.MissingKey) (Ok ds) refl refl
 
-limited_is : (section : Section) (ds : Items) → forget_place (limited_in section ds) ≡ limited (section_limit section) ds
+limited_is : (section : Section) (ds : Items)
+    → forget_place (limited_in section ds) ≡ limited (section_limit section) ds
 unfolding limited_in limited
 limited_is section ds =
     either_at (nat_lt (section_limit section) (count ds)) _ (Ok ds) (Err faults.TooMany) (Ok ds) refl refl

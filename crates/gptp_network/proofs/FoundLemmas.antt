@@ -38,7 +38,8 @@ ports_told clock (Some m) s is =
     let same : s ≡ member_told m = cc in
     ap (λ (x : ℕ × ℕ × ℕ × ℤ × ArrayVec ℤ). ports_by clock x.0 x.1) same
 
-pub no_ports : (clock : ℕ) (o : Option Member) → None ≡ option_map member_told o → None ≡ option_and_then (ports_if clock) o
+pub no_ports : (clock : ℕ) (o : Option Member) → None ≡ option_map member_told o
+    → None ≡ option_and_then (ports_if clock) o
 no_ports clock None is = refl
 no_ports clock (Some m) is = absurd cc
 

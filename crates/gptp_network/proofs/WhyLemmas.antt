@@ -205,13 +205,17 @@ array_agrees ports ds = by (agree ds)
         ≡ (whole_numbers ds >>= one_for_each ports)
     by (inl (zs, read, none)) =
         let far : fault_of (intervals_why ports ds) ≡ faults.OutOfRange =
-        ap (λ (o : Option Why). fault_of (unwrap_or o (unwrap_or (far_member ds) (whys.Intervals (count ds) ports)))) none
+        ap (λ (o : Option Why). fault_of (unwrap_or o (unwrap_or (far_member ds) (whys.Intervals
+        (count ds) ports)))) none
         ∙ far_fault ds (whys.Intervals (count ds) ports) refl in
-        ap (λ (r : Result (List ℤ) DocumentFault). forget (because (intervals_why ports ds) (r >>= one_for_each ports))) read
+        ap (λ (r : Result (List ℤ) DocumentFault). forget (because (intervals_why ports ds)
+        (r >>= one_for_each ports))) read
         ∙ by_test zs ((length zs == ports) && list_all is_log zs) far
         ∙ sym (ap (λ (r : Result (List ℤ) DocumentFault). r >>= one_for_each ports) read)
     by (inr (why, read, some, is)) =
         let other : fault_of (intervals_why ports ds) ≡ faults.WrongKind =
-        ap (λ (o : Option Why). fault_of (unwrap_or o (unwrap_or (far_member ds) (whys.Intervals (count ds) ports)))) some ∙ is in
-        ap (λ (r : Result (List ℤ) DocumentFault). forget (because (intervals_why ports ds) (r >>= one_for_each ports))) read ∙ ap Err other
+        ap (λ (o : Option Why). fault_of (unwrap_or o (unwrap_or (far_member ds) (whys.Intervals
+        (count ds) ports)))) some ∙ is in
+        ap (λ (r : Result (List ℤ) DocumentFault). forget (because (intervals_why ports ds)
+        (r >>= one_for_each ports))) read ∙ ap Err other
         ∙ sym (ap (λ (r : Result (List ℤ) DocumentFault). r >>= one_for_each ports) read)
