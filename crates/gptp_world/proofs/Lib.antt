@@ -31,5 +31,6 @@ pub mod LaneLemmas
 pub mod SceneLemmas
 pub mod LaterLemmas
 pub mod ViewLemmas
-pub mod TakenLemmas
+pub mod NextLemmas
+pub mod PlacesLemmas
 pub mod UsedLemmas

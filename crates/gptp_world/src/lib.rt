@@ -25,6 +25,7 @@ mod observer;
 mod octets;
 mod pending;
 mod performing;
+mod places;
 mod pool;
 mod room;
 mod scene;
