@@ -162,7 +162,7 @@ among_heap (x ∷ heap) (suc i) d within is =
 total : IsTotalOrder due_first
 total = back_total (then_total (then_total
     (on_total (λ (d : Reverse Entry). d.0.time) nat_cmp_total) (on_total (λ (d : Reverse Entry). d.0.number)
-        nat_cmp_total))
+    nat_cmp_total))
     (on_total (λ (d : Reverse Entry). d.0.place) nat_cmp_total))
 
 -- what isn't below another in the heap isn't due after it

@@ -125,8 +125,10 @@ module _ (parts : List (List Entry)) (first : Option Entry) (at k : ℕ) (d : En
   pub ordered_before : precedes d first ≡ true → IsOrdered longer (Some d) k
   ordered_before h = record {
     there = rw (length-set parts k (part_at parts k ++ d ∷ [])) within;
-    is_first = rw is_longer (by (part_at parts k) rises (λ e there. below_first parts first d ordered.least h e (k,
-        there)) (λ e there. after_first parts first d ordered.least h e (k, there)));
+    is_first = rw is_longer (by (part_at parts k) rises (λ e there. below_first parts first d ordered.least h e (
+      k,
+      there,
+    )) (λ e there. after_first parts first d ordered.least h e (k, there)));
     least = record {
       member = adds.here;
       least = λ e there. elim (adds.from e there) [
@@ -140,13 +142,13 @@ module _ (parts : List (List Entry)) (first : Option Entry) (at k : ℕ) (d : En
     by [] rises below strict = refl
     by (x ∷ xs) rises below strict =
         absurd (strict x (0, omega arith, refl) (All-contains (IsNoLater x) (xs ++ d ∷ []) d rises.0 (Contains-push xs
-            d)))
+        d)))
 
   first_stays : (f : Entry) → Some f ≡ first_of (part_at parts at) → Some f ≡ first_of (part_at longer at)
   first_stays f is = elim (cases_eq at k) [
     | inl same ↦ subst (λ (j : ℕ). Some f ≡ first_of (part_at longer j)) (sym same)
         (rw is_longer (first_push (part_at parts k) d f (subst (λ (j : ℕ). Some f ≡ first_of (part_at parts j)) same
-            is)))
+        is)))
     | inr apart ↦ rw (get_or-set_other parts k at (part_at parts k ++ d ∷ []) [] apart) is
   ]
 
@@ -361,7 +363,7 @@ module _ (heap : List Entry) (runs : List (List Entry)) (kind : ℕ) (lent run :
     pushed_before h =
         let k : kind + 1 ≡ suc kind = omega arith in
         rw k (rw larger at (ordered_before (heap ∷ runs) first at (suc kind) d ordered (omega (arith, within))
-            all_rise h))
+        all_rise h))
 
     pub pushed_behind : precedes d first ≡ false → IsOrdered (heap ∷ set runs kind run) first at
     pushed_behind h =
@@ -434,7 +436,7 @@ module _ (heap : List Entry) (runs : List (List Entry)) (kind at : ℕ) (run : L
 module _ (heap : List Entry) (runs : List (List Entry)) (lent run : List Entry) where
   pub taken_at : (at : ℕ) → at ≢ 0 → at < length runs + 1 → lent ≡ get_or runs (at - 1) lent → run ≡ rest_of lent
       → Takes (part_at (heap ∷ runs) at) (part_at (heap ∷ set runs (at - 1) run) at) (first_of (part_at (heap ∷ runs)
-          at))
+      at))
   taken_at zero some few is rest = absurd (some refl)
   taken_at (suc k) some few is rest =
       let less : suc k - 1 ≡ k = omega arith in

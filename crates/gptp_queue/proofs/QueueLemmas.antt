@@ -47,12 +47,12 @@ stands_contained : (es : List Entry) (d : Entry) → stands es d ≡ true
 stands_contained [] d is = absurd (grind (arith, is))
 stands_contained (x ∷ es) d is = by (λ rest. stands_contained es d rest) ((x.number == d.number) && (x.place ==
     d.place)) refl where
-  by : (stands es d ≡ true → (e : Entry) × Contains es e × (e.number ≡ d.number)) → (t : Bool)
-      → ((x.number == d.number) && (x.place == d.place)) ≡ t → (e : Entry) × Contains (x ∷ es) e × (e.number ≡ d.number)
-  by ih true h = (x, (0, omega arith, refl), grind (arith, nat_tests))
-  by ih false h =
-      let rest : stands es d ≡ true = rw h at is in let found = ih rest in
-      (found.0, (suc found.1.0, omega (arith, found.1.1), found.1.2), found.2)
+      by : (stands es d ≡ true → (e : Entry) × Contains es e × (e.number ≡ d.number)) → (t : Bool)
+          → ((x.number == d.number) && (x.place == d.place)) ≡ t → (e : Entry) × Contains (x ∷ es) e × (e.number ≡ d.number)
+      by ih true h = (x, (0, omega arith, refl), grind (arith, nat_tests))
+      by ih false h =
+          let rest : stands es d ≡ true = rw h at is in let found = ih rest in
+          (found.0, (suc found.1.0, omega (arith, found.1.1), found.1.2), found.2)
 
 pub contained_stands : (es : List Entry) (d : Entry) → Contains es d → stands es d ≡ true
 contained_stands [] d there = absurd (omega (arith, there.1))
@@ -129,8 +129,11 @@ module _ (es : List Entry) (next : ℕ) (has : Entry → Type 0) (holds : Holds 
           alone = λ e among same. elim (Contains-push_cases es new e among) [
             | inl before ↦ (holds.put d old).alone e before same
             | inr is ↦ let less = (holds.put d old).given in
-                let number : next ≡ d.number = ap (λ (x : Entry). x.number) is ∙ same in absurd (omega (arith, less,
-                    number))
+                let number : next ≡ d.number = ap (λ (x : Entry). x.number) is ∙ same in absurd (omega (
+                  arith,
+                  less,
+                  number,
+                ))
           ];
         }
         | inr is ↦ record {
@@ -139,8 +142,12 @@ module _ (es : List Entry) (next : ℕ) (has : Entry → Type 0) (holds : Holds 
             | inl before ↦
                 let less : e.number < next = All-contains (λ (x : Entry). x.number < next) es e
                 (All-from_recursion (λ (x : Entry). x.number < next) es (below-next 0 es next holds.rising)) before in
-                let number : d.number ≡ next = ap (λ (x : Entry). x.number) is in absurd (omega (arith, less, number,
-                    same))
+                let number : d.number ≡ next = ap (λ (x : Entry). x.number) is in absurd (omega (
+                  arith,
+                  less,
+                  number,
+                  same,
+                ))
             | inr here ↦ sym here ∙ sym is
           ];
         }

@@ -65,8 +65,14 @@ module _ (low : ℕ) (queues : List (List Entry)) (near : IsNear low queues) whe
       let from = is.from in
       let at = time_ahead slot d mine from in
       elim (cases_lt j (low % 2048)) [
-        | inl behind ↦ let t = time_behind j e other behind in let w = is.within in omega (arith, at, t, from, w,
-            behind)
+        | inl behind ↦ let t = time_behind j e other behind in let w = is.within in omega (
+          arith,
+          at,
+          t,
+          from,
+          w,
+          behind,
+        )
         | inr ahead ↦ elim (cases_lt j slot) [
           | inl less ↦
               let none : part_at queues j ≡ [] = is.none j ahead less in
@@ -185,7 +191,7 @@ module _ (queues : List (List Entry)) (slot : ℕ) (within : slot < length queue
 -- an entry comes to the slot of its time
 module _ (base : ℕ) (queues : List (List Entry)) (first : Option Entry) (d : Entry) (ring : IsRing base queues first)
     (from : base ≤ d.time) (below : d.time < base + 2048) (highest : (e : Entry) → Within queues e → e.number ≤
-        d.number)
+    d.number)
   where
     abbrev slot : ℕ
     slot = d.time % 2048

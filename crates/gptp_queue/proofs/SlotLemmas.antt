@@ -32,7 +32,7 @@ pub queue_changed : (s t : Slab Node) (chains : List Chain) (place : ℕ) (after
     → ChangesOne (get s) (get t) (chain_at place chains) after
     → entries_in (get t) after ≡ change (entries_in (get s) (chain_at place chains))
     → queues_of t (set chains place after) ≡ set (queues_of s chains) place (change (part_at (queues_of s chains)
-        place))
+    place))
 queue_changed s t chains place after change are within changes entries =
     entries-changed s t chains place after are within changes
     ∙ ap (set (queues_of s chains) place) (entries ∙ ap change (sym (entries_there (get s) chains place)))
@@ -228,13 +228,13 @@ module _ (filled : List ℕ) (queues : List (List Entry)) (sound : AreFilled fil
       let at : low + (k - low) ≡ k = omega (arith, from) in
       let bit = slot_ahead (k - low) (omega (arith, from, here)) in
       let clear : slot_bit filled (low + (k - low)) ≡ 0 = bit ∙ ap (λ (n : ℕ). bit_at n (k - low)) none ∙ bit_at-zero
-          (k - low) in
+      (k - low) in
       sound.clear k (omega (arith, from, here, small)) (rw at at clear)
 
   module _ (fits : get_or filled (low / 64) 0 < 2 ^ 64) (some : 0 < get_or filled (low / 64) 0 / 2 ^ (low % 64)) where
     lowest : (trailing_zeros w64 (get_or filled (low / 64) 0 / 2 ^ (low % 64)) < 64)
         × (bit_at (get_or filled (low / 64) 0 / 2 ^ (low % 64)) (trailing_zeros w64 (get_or filled (low / 64) 0 / 2 ^
-            (low % 64))) ≡ 1)
+        (low % 64))) ≡ 1)
         × ((i : ℕ) → i < trailing_zeros w64 (get_or filled (low / 64) 0 / 2 ^ (low % 64))
         → bit_at (get_or filled (low / 64) 0 / 2 ^ (low % 64)) i ≡ 0)
     lowest = bit_at-trailing_zeros w64 (get_or filled (low / 64) 0 / 2 ^ (low % 64)) some
@@ -258,8 +258,11 @@ module _ (filled : List ℕ) (queues : List (List Entry)) (sound : AreFilled fil
       none = λ k from before.
           let h = inside in
           let at : low + (k - low) ≡ k = omega (arith, from) in
-          let clear = slot_ahead (k - low) (omega (arith, from, before, h)) ∙ lowest.2 (k - low) (omega (arith, from,
-              before)) in
+          let clear = slot_ahead (k - low) (omega (arith, from, before, h)) ∙ lowest.2 (k - low) (omega (
+            arith,
+            from,
+            before,
+          )) in
           sound.clear k (omega (arith, before, h, small)) (rw at at clear);
     }
 
@@ -305,9 +308,9 @@ rest_some (x ∷ xs) some = λ is. let lengths = ap length is in omega (arith, l
 
 module _ (s t : Slab Node) (filled : List ℕ) (chains : List Chain) (slot : ℕ) (lent after : Chain) (small : slot < 2048)
     (chained : AreChained s chains) (sound : AreFilled filled (queues_of s chains)) (lent_is : lent ≡ get_or chains
-        slot lent)
+    slot lent)
     (changes : ChangesOne (get s) (get t) lent after) (rest : entries_in (get t) after ≡ rest_of (entries_in (get s)
-        lent))
+    lent))
     (len : slab_len t + lent.count ≡ slab_len s + after.count) (fewer : slab_len t ≤ slab_len s)
     (capacity : t.capacity ≡ s.capacity) where
   in_chains : slot < length chains

@@ -348,24 +348,24 @@ module _ (next time : ℕ) (given : next ≢ NO_NUMBER) where
       (rises-from next (k + 1) cs (numbered-tail next c cs are))))
   put-from k (c ∷ cs) (suc i) are within =
       by (put-from (k + 1) cs i (numbered-tail next c cs are) (omega (arith, within))) (c.number == NO_NUMBER) refl
-          where
-        by : entries_from (k + 1) (set cs i new)
-            ≡ without_place (k + 1 + i) (entries_from (k + 1) cs) ++ entry time next (k + 1 + i) ∷ []
-            → (t : Bool) → (c.number == NO_NUMBER) ≡ t
-            → entries_from k (c ∷ set cs i new)
-            ≡ without_place (k + suc i) (entries_from k (c ∷ cs)) ++ entry time next (k + suc i) ∷ []
-        by ih true h =
-            let at : k + suc i ≡ k + 1 + i = omega arith in
-            rw (entries-free k c cs h, entries-free k c (set cs i new) h, at) ih
-        by ih false h =
-            let at : k + suc i ≡ k + 1 + i = omega arith in
-            let less : c.number < next = are.below 0 (λ is. grind (arith, nat_tests)) in
-            rw (entries-cell k c cs h, entries-cell k c (set cs i new) h, at)
-            (ap (insert (entry c.time c.number k)) ih
-            ∙ insert-push (entry c.time c.number k) (entry time next (k + 1 + i))
-            (without_place (k + 1 + i) (entries_from (k + 1) cs)) less
-            ∙ ap (λ (es : List Entry). es ++ entry time next (k + 1 + i) ∷ [])
-            (sym (tail-out next k i c cs h (numbered-tail next c cs are))))
+    where
+      by : entries_from (k + 1) (set cs i new)
+          ≡ without_place (k + 1 + i) (entries_from (k + 1) cs) ++ entry time next (k + 1 + i) ∷ []
+          → (t : Bool) → (c.number == NO_NUMBER) ≡ t
+          → entries_from k (c ∷ set cs i new)
+          ≡ without_place (k + suc i) (entries_from k (c ∷ cs)) ++ entry time next (k + suc i) ∷ []
+      by ih true h =
+          let at : k + suc i ≡ k + 1 + i = omega arith in
+          rw (entries-free k c cs h, entries-free k c (set cs i new) h, at) ih
+      by ih false h =
+          let at : k + suc i ≡ k + 1 + i = omega arith in
+          let less : c.number < next = are.below 0 (λ is. grind (arith, nat_tests)) in
+          rw (entries-cell k c cs h, entries-cell k c (set cs i new) h, at)
+          (ap (insert (entry c.time c.number k)) ih
+          ∙ insert-push (entry c.time c.number k) (entry time next (k + 1 + i))
+          (without_place (k + 1 + i) (entries_from (k + 1) cs)) less
+          ∙ ap (λ (es : List Entry). es ++ entry time next (k + 1 + i) ∷ [])
+          (sym (tail-out next k i c cs h (numbered-tail next c cs are))))
 
 -- nothing is there at the beginning
 pub all-free : (k n : ℕ) → entries_from k (replicate n free_cell) ≡ []

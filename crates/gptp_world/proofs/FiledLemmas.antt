@@ -452,7 +452,7 @@ module _ (systems links spare : ℕ) (places : PlacesState) (filed : FiledState)
     -- a timer is put
     pub pending-started : (time : ℕ) (after : WaitingState) → 0 < spare
         → after.entries ≡ without_place (timer_place at timer) es ++ placed time waiting.next (timer_place at timer) ∷
-            []
+        []
         → after.places ≡ waiting.places → waiting.room ≤ after.room + 1
         → IsPending systems links (spare - 1)
         (record places { items = slice_set places.items (timer_place at timer) (Expiry at timer) }) filed after
@@ -480,7 +480,7 @@ module _ (systems links spare : ℕ) (places : PlacesState) (filed : FiledState)
 
     pub plain-started : (time : ℕ) (after : WaitingState) → PlacesDiffer es
         → after.entries ≡ without_place (timer_place at timer) es ++ placed time waiting.next (timer_place at timer) ∷
-            []
+        []
         → plain (item_of (slice_set places.items (timer_place at timer) (Expiry at timer))) after.entries
         ≡ put time (Expiry at timer) (without_first (Expiry at timer) (plain (item_of places.items) es))
     plain-started time after differ entries =
@@ -517,8 +517,10 @@ module _ (systems links spare : ℕ) (places : PlacesState) (filed : FiledState)
     pub pending-arrived : (time : ℕ) (after : WaitingState)
         → after.entries ≡ without_place place es ++ placed time waiting.next place ∷ []
         → after.places ≡ waiting.places → waiting.room ≤ after.room + 1
-        → IsPending systems links (spare - 1) (record took { items = slice_set took.items place (Arrival link
-            direction) })
+        → IsPending systems links (spare - 1) (record took {
+          items = slice_set took.items place (Arrival link
+              direction);
+        })
         (with_queue (arrival_place link direction) (queue_at (arrival_place link direction) filed ++ place ∷ [])
         (filed.room - 1) filed) after
     pending-arrived time after entries same_places rooms =
@@ -591,7 +593,7 @@ module _ (systems links spare : ℕ) (places : PlacesState) (filed : FiledState)
             first room is.queues_len;
         are_free = free-again systems places.used places.free es is.are_free gave.free n
             (above-front systems links (item_of places.items) filed es is.is_filed differ link direction known n ns
-                first)
+            first)
             within apart free;
       } in
       subst (λ (s : PlacesState). IsPending systems links spare s

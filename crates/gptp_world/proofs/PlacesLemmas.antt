@@ -171,7 +171,7 @@ fresh systems old new es place timers are (inl again) =
 fresh systems old new es place timers are (inr next) =
     let is = next.0 in let free = next.1.0 in let used = next.1.1 in
     let each = subst (λ (ps : List ℕ). AllByRecursion (λ (p : ℕ). IsFree systems old.used es p) ps) (sym free)
-        are.each in
+    are.each in
     record {
       above = omega (arith, timers, is);
       before = omega (arith, is);
@@ -252,7 +252,7 @@ module _ (systems used : ℕ) (free : List ℕ) (es : List Placed) (are : AreFre
             (record { above = above; below = within; empty = without_place-apart place es });
         differ = differ-push free place are.differ
             (all-map (λ (p : ℕ). IsFree systems used es p) (λ (p : ℕ). p ≢ place) free (λ p f. apart p f.empty)
-                are.each);
+            are.each);
       } in
       subst (λ (ps : List ℕ). AreFree systems used ps (without_place place es)) (sym is) more
   free-again after place above within apart (inr is) =

@@ -157,7 +157,7 @@ module _ (item : Placed → Item) where
 
   cut_same-step : (slot : ℕ) (x : Placed) (es : List Placed) (e : Placed) (rest : List Placed)
       → in_slot item slot (x ∷ es) ≡ e ∷ rest → (in_slot item slot es ≡ e ∷ rest → in_slot item slot (cut slot es) ≡
-          rest)
+      rest)
       → (t : Bool) → (slot == slot_of (item x)) ≡ t → in_slot item slot (cut slot (x ∷ es)) ≡ rest
   cut_same-step slot x es e rest is ih true t =
       let heads : x ∷ in_slot item slot es ≡ e ∷ rest = rw t at is in rw t cc
@@ -197,7 +197,7 @@ module _ (item : Placed → Item) where
 
   all-slot_step : (P : Placed → Type 0) (slot : ℕ) (x : Placed) (es : List Placed) (e : Placed) (rest : List Placed)
       → (slot ≡ slot_of (item x) → P x) → in_slot item slot (x ∷ es) ≡ e ∷ rest → (in_slot item slot es ≡ e ∷ rest → P
-          e)
+      e)
       → (t : Bool) → (slot == slot_of (item x)) ≡ t → P e
   all-slot_step P slot x es e rest here is ih true t =
       let heads : x ∷ in_slot item slot es ≡ e ∷ rest = rw t at is in

@@ -25,7 +25,7 @@ returns-in_err-grow-clause-swept c =
     swept_all es c.args.heap.now.entries c.args.heap.now.entries c.args.runs.now.items _
     (swept_same es (among c.args.heap.now.entries))
     (swept_one es c.args.runs.now.items c.loop-kind.runs.items c.loop-kind.kind c.index_mut.result.now c.grow.new.self
-        within
+    within
     c.index_mut.ensures.value c.grow.ensures c.loop-kind.invariant.0)
 
 pub returns-clause-swept : goal.returns-clause-swept

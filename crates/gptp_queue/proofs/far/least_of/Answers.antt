@@ -6,9 +6,12 @@ use Rattle.gptp_queue.proofs.far.least_of.Goals.{then-comes_first, else-comes_fi
 
 pub loop-kind-init : goal.loop-kind-init
 loop-kind-init c =
-    let first = c.first-first.ensures in
-    (omega arith, first.first, least_start (c.args.heap.now.entries ∷ c.args.runs.now.items) c.first-first.result
-        first.least)
+    let first = c.first-first.ensures in (
+      omega arith,
+      first.first,
+      least_start (c.args.heap.now.entries ∷ c.args.runs.now.items) c.first-first.result
+          first.least,
+    )
 
 pub loop-kind-preserved : goal.loop-kind-preserved
 loop-kind-preserved c =
@@ -20,13 +23,13 @@ loop-kind-preserved c =
     elim c.if-comes_first.branch [
       | then-comes_first w ↦
           let h = ap (λ o. comes_first o c.loop-kind.first) (sym head.first) ∙ sym c.comes_first.ensures ∙
-              w.if-comes_first.true in
+          w.if-comes_first.true in
           let step = step_taken heap runs c.loop-kind.kind c.loop-kind.at c.run-item.result c.loop-kind.first within is
           head.rise before.2 h in
           rw (w.first-is, w.at-is, head.first) (omega arith, step.0, step.1)
       | else-comes_first w ↦
           let h = ap (λ o. comes_first o c.loop-kind.first) (sym head.first) ∙ sym c.comes_first.ensures ∙
-              w.if-comes_first.false in
+          w.if-comes_first.false in
           let low = before.0 in
           rw (w.first-is, w.at-is) (
             omega (arith, low),

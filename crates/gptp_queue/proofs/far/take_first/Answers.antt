@@ -9,5 +9,5 @@ returns-else-at-eq0-clause-taken c =
 pub returns-else-at-eq0-clause-changed : goal.returns-else-at-eq0-clause-changed
 returns-else-at-eq0-clause-changed c =
     changed_at c.args.heap.now.entries c.args.runs.now.items c.index_mut.result.now c.take-else-at-eq0.new.self
-        c.args.at
+    c.args.at
     c.if-at-eq0.false c.requires

@@ -10,7 +10,7 @@ pub returns-in-Some : goal.returns-in-Some
 returns-in-Some c =
     rw c.first.ensures
     (ordered_ahead c.args.low c.args.slots.now.queues c.requires c.are_many.ensures c.in-Some.slot
-        c.in-Some.ensures.some)
+    c.in-Some.ensures.some)
 
 pub returns-in-Some-first_from : goal.returns-in-Some-first_from
 returns-in-Some-first_from c =

@@ -6,4 +6,4 @@ returns-clause-swept c =
     let o = c.self.inside in
     rw (← c.self.view_is, c.grow-grown.ensures.ring)
     (sweeps_other c.args.table.now.entries o.ring.parts o.far.parts c.grow-grown.new.far.parts
-        c.grow-grown.ensures.swept)
+    c.grow-grown.ensures.swept)

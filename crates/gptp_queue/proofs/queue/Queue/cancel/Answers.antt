@@ -16,5 +16,5 @@ uncover_at-requires-clause-others c =
     let q = c.self.inside in
     rw c.clear.ensures
     (others_cancelled q.table.entries q.table.next (Within q.order.parts) c.self.invariant.holds c.args.place
-        q.order.first
+    q.order.first
     c.self.invariant.there)

@@ -21,7 +21,7 @@ pub invariant_of-self-2 : goal.invariant_of-self-2
 invariant_of-self-2 c =
     let q = c.self.inside in let old = c.self.invariant in let new = c.reserve.ensures in
     let numbers = c.numbers-numbers.ensures in let room = c.room.ensures in let least = c.min-self-inside.ensures in
-        record {
+    record {
       holds = holds_swept q.table.entries q.table.next (Within q.order.parts) old.holds (Within
           c.reserve.new.self.parts)
           new.swept;

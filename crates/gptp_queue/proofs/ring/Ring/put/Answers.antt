@@ -10,7 +10,7 @@ invariant_of-self c =
     let highest = rw (← c.self.view_is) at c.requires in
     rw (c.of-self-inside.ensures, c.push.ensures.queues, c.slot_of.ensures)
     (ring_before r.base r.slots.queues r.first c.args.entry c.self.invariant (omega (arith, from, time)) (omega
-        (arith, from, near, time))
+    (arith, from, near, time))
     highest (sym c.follows.ensures ∙ c.if-follows.true))
 
 pub invariant_of-self-else-follows : goal.invariant_of-self-else-follows
@@ -20,7 +20,7 @@ invariant_of-self-else-follows c =
     let highest = rw (← c.self.view_is) at c.requires in
     rw (c.push.ensures.queues, c.slot_of.ensures)
     (ring_behind r.base r.slots.queues r.first c.args.entry c.self.invariant (omega (arith, from, time)) (omega
-        (arith, from, near, time))
+    (arith, from, near, time))
     highest (sym c.follows.ensures ∙ c.if-follows.false))
 
 pub returns-then-follows-clause-put : goal.returns-then-follows-clause-put
@@ -29,8 +29,12 @@ returns-then-follows-clause-put c = λ yes.
     let time = ap (λ (e : Entry). e.time) c.entry.view_is in
     let highest = rw (← c.self.view_is) at c.requires in
     rw (c.push.ensures.queues, c.slot_of.ensures, ← c.self.view_is)
-    (ring_adds r.base r.slots.queues r.first c.args.entry c.self.invariant (omega (arith, from, time)) (omega (arith,
-        from, near, time))
+    (ring_adds r.base r.slots.queues r.first c.args.entry c.self.invariant (omega (arith, from, time)) (omega (
+      arith,
+      from,
+      near,
+      time,
+    ))
     highest)
 
 pub returns-else-follows-clause-put : goal.returns-else-follows-clause-put
@@ -39,6 +43,10 @@ returns-else-follows-clause-put c = λ yes.
     let time = ap (λ (e : Entry). e.time) c.entry.view_is in
     let highest = rw (← c.self.view_is) at c.requires in
     rw (c.push.ensures.queues, c.slot_of.ensures, ← c.self.view_is)
-    (ring_adds r.base r.slots.queues r.first c.args.entry c.self.invariant (omega (arith, from, time)) (omega (arith,
-        from, near, time))
+    (ring_adds r.base r.slots.queues r.first c.args.entry c.self.invariant (omega (arith, from, time)) (omega (
+      arith,
+      from,
+      near,
+      time,
+    ))
     highest)

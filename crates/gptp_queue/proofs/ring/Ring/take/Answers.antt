@@ -11,19 +11,19 @@ least_of-self-inside-requires c =
     let time = ap (λ (e : Entry). e.time) c.first.view_is in
     rw (c.pop.ensures.queues, c.slot_of.ensures, time)
     (near_taken r.base r.slots.queues r.first c.unwrap-first.result c.self.invariant (sym c.get.ensures ∙
-        c.unwrap-first.ensures))
+    c.unwrap-first.ensures))
 
 pub invariant_of-self : goal.invariant_of-self
 invariant_of-self c =
     let r = c.self.inside in
     let same = c.pop.ensures.queues ∙ ap (λ (k : ℕ). set r.slots.queues k (rest_of (part_at r.slots.queues k)))
-        c.slot_of.ensures in
+    c.slot_of.ensures in
     let P : List (List Entry) → Type 0 = λ qs. IsOrdered qs c.least_of-self-inside.result (slot_of
-        c.least_of-self-inside.result) in
+    c.least_of-self-inside.result) in
     let Q : List (List Entry) → Type 0 = λ qs. IsRing r.base qs c.least_of-self-inside.result in
     subst Q (sym same)
     (ring_taken r.base r.slots.queues r.first c.unwrap-first.result c.self.invariant (sym c.get.ensures ∙
-        c.unwrap-first.ensures)
+    c.unwrap-first.ensures)
     c.least_of-self-inside.result (subst P same c.least_of-self-inside.ensures))
 
 pub returns : goal.returns
@@ -33,5 +33,5 @@ returns c =
     let took : F (Some c.unwrap-first.result) =
     rw (c.pop.ensures.queues, c.slot_of.ensures)
     (took_least r.base r.slots.queues r.first c.unwrap-first.result c.self.invariant (sym c.get.ensures ∙
-        c.unwrap-first.ensures)) in
+    c.unwrap-first.ensures)) in
     record { taken = rw (← c.self.view_is) (subst F (sym (sym c.get.ensures ∙ c.unwrap-first.ensures)) took) }

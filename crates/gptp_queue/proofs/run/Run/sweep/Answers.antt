@@ -14,7 +14,7 @@ kept c =
 pub invariant_of-self : goal.invariant_of-self
 invariant_of-self c =
     rw (kept c) (run_filter (stands c.args.table.now.entries) c.self.inside.first c.self.inside.rest.items
-        c.self.invariant)
+    c.self.invariant)
 
 pub returns : goal.returns
 returns c =

@@ -9,14 +9,16 @@ returns-then-ahead-ne0-clause-some c =
     let s = c.self.inside in let some = c.if-ahead-ne0.true in
     rw (← c.self.view_is)
     (ahead_some s.filled (queues_of s.nodes s.queues.items) c.self.invariant.1 c.args.low c.requires (search rules)
-        (omega (arith, some)))
+    (omega (arith, some)))
 
 pub loop-word-init : goal.loop-word-init
 loop-word-init c =
     let s = c.self.inside in let none = c.if-ahead-ne0.false in
     rw (← c.self.view_is)
-    (ahead_none s.filled (queues_of s.nodes s.queues.items) c.self.invariant.1 c.args.low c.requires (omega (arith,
-        none)))
+    (ahead_none s.filled (queues_of s.nodes s.queues.items) c.self.invariant.1 c.args.low c.requires (omega (
+      arith,
+      none,
+    )))
 
 pub loop-word-preserved : goal.loop-word-preserved
 loop-word-preserved c = λ k from here.
@@ -25,8 +27,10 @@ loop-word-preserved c = λ k from here.
       | inl earlier ↦ c.loop-word.invariant k from earlier
       | inr not ↦
           let empty : part_at (queues_of s.nodes s.queues.items) k ≡ [] =
-          word-empty s.filled (queues_of s.nodes s.queues.items) c.self.invariant.1 c.loop-word.word (omega (arith,
-              test))
+          word-empty s.filled (queues_of s.nodes s.queues.items) c.self.invariant.1 c.loop-word.word (omega (
+            arith,
+            test,
+          ))
           c.if-filled-ne0.false k (omega (arith, not, here)) in
           rw (← c.self.view_is) empty
     ]

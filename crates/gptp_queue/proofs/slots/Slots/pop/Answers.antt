@@ -40,7 +40,7 @@ returns-then-is_empty-clause-queues c =
     rw (← c.self.view_is)
     (popped_queues s.nodes c.pop.new.nodes s.filled s.queues.items c.args.slot c.index_mut.result.now c.pop.new.self
     c.requires.slot c.self.invariant.0 c.self.invariant.1 c.index_mut.ensures.value e.others e.rest e.len e.fewer
-        e.capacity)
+    e.capacity)
 
 pub returns-else-is_empty-clause-queues : goal.returns-else-is_empty-clause-queues
 returns-else-is_empty-clause-queues c =
@@ -48,4 +48,4 @@ returns-else-is_empty-clause-queues c =
     rw (← c.self.view_is)
     (popped_queues s.nodes c.pop.new.nodes s.filled s.queues.items c.args.slot c.index_mut.result.now c.pop.new.self
     c.requires.slot c.self.invariant.0 c.self.invariant.1 c.index_mut.ensures.value e.others e.rest e.len e.fewer
-        e.capacity)
+    e.capacity)

@@ -14,7 +14,7 @@ changed c =
     let within : c.args.slot < length s.queues.items = omega (arith, many, small) in
     let is = chain_lent s.queues.items c.args.slot c.index_mut.result.now within c.index_mut.ensures.value in
     queue_changed s.nodes c.push.new.nodes s.queues.items c.args.slot c.push.new.self (λ entries. entries ++
-        c.args.entry ∷ [])
+    c.args.entry ∷ [])
     c.self.invariant.0 within (rw is e.others) (rw is e.entries)
 
 pub invariant_of-self : goal.invariant_of-self

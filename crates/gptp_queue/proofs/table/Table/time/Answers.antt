@@ -9,8 +9,11 @@ returns-then-cell c =
     let t = c.self.inside in
     let place : c.args.place < length t.cells.items = rw (← c.self.view_is) at c.requires in
     let free : (c.index-cell.result.now.number == NO_NUMBER) ≡ true = grind (arith, nat_tests) in
-    rw (← c.self.view_is, time_there t.cells.items c.args.place c.index-cell.result.now place c.index-cell.ensures,
-        free)
+    rw (
+      ← c.self.view_is,
+      time_there t.cells.items c.args.place c.index-cell.result.now place c.index-cell.ensures,
+      free,
+    )
     refl
 
 pub returns-else-cell : goal.returns-else-cell
@@ -18,6 +21,9 @@ returns-else-cell c =
     let t = c.self.inside in
     let place : c.args.place < length t.cells.items = rw (← c.self.view_is) at c.requires in
     let taken : (c.index-cell.result.now.number == NO_NUMBER) ≡ false = grind (arith, nat_tests) in
-    rw (← c.self.view_is, time_there t.cells.items c.args.place c.index-cell.result.now place c.index-cell.ensures,
-        taken)
+    rw (
+      ← c.self.view_is,
+      time_there t.cells.items c.args.place c.index-cell.result.now place c.index-cell.ensures,
+      taken,
+    )
     refl

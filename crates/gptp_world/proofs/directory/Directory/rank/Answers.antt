@@ -9,7 +9,8 @@ pub returns-clause-some : goal.returns-clause-some
 returns-clause-some c =
     let inside = c.self.inside in let order = c.self.invariant.order in
     let are = rising-is inside.clocks.items inside.rising.items order.all order.order in
-    subst (λ (d : DirectoryState). IfSome c.rank_of.result (λ rank. slice_get (rising d.clocks) rank ≡ Some c.args.clock))
+    subst (λ (d : DirectoryState). IfSome c.rank_of.result (λ rank.
+    slice_get (rising d.clocks) rank ≡ Some c.args.clock))
     c.self.view_is
     (subst (λ (v : List ℕ). IfSome c.rank_of.result (λ rank. slice_get v rank ≡ Some c.args.clock))
     (c.deref.ensures.value ∙ are) c.rank_of.ensures.some)

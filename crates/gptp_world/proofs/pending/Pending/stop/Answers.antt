@@ -17,7 +17,7 @@ invariant_of-self c =
     let known = rw (← c.self.view_is) at c.requires in
     rw (c.take.ensures, c.timer_place.ensures)
     (pending-stopped p.systems p.links p.spare p.places p.filed p.queue c.self.invariant c.args.place c.args.timer
-        known)
+    known)
 
 pub returns-clause-kept : goal.returns-clause-kept
 returns-clause-kept c =
