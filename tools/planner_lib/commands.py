@@ -247,7 +247,7 @@ def _merge(arguments: Arguments) -> int:
     for path in arguments.files:
         told = list(texts.read_lines(documents.read_text(path).splitlines(), path))
         if told and told[0].kind == "refused":
-            raise Refused(f"{path}: {told[0].text}")
+            raise Refused(f"{path}: line 1: {told[0].text}")
         parts.append((path, faults.read(told, path)))
     merged = faults.merge(parts, jobs.counts(arguments.files))
     _write(arguments, merged.text())

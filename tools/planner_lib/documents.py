@@ -40,6 +40,7 @@ RANGES: dict[str, dict[str, tuple[int, int]]] = {
 }
 MOST_SYSTEMS, MOST_LINKS, MOST_PORTS, MOST_EVENTS = 512, 2048, 16, 4096
 LAST_EVENT = 8 * 10**14  # ns
+LF = b"\n"
 # the keys that are times in ns
 TIMES = ("threshold", "turnaround", "residence", "phase", "min", "max")
 
@@ -195,19 +196,32 @@ def reading(path: str) -> Iterator[BinaryIO]:
 
 def read_text(path: str) -> str:
     """A file as UTF-8 text, without a byte order mark."""
+    return _decoded(read_file(path), path).removeprefix("\ufeff")
+
+
+def _decoded(octets: bytes, path: str) -> str:
+    """A file's octets as UTF-8 text."""
     try:
-        return read_file(path).decode("utf-8-sig")
+        return octets.decode()
     except UnicodeDecodeError as why:
-        raise Refused(f"{path}: isn't UTF-8: octet {why.start}") from why
+        raise Refused(f"{path}: line {octets.count(LF, 0, why.start) + 1}: isn't UTF-8") from why
+
+
+def read_toml(text: str, path: str) -> dict[str, Any]:
+    """A text of TOML 1.0; one that is none is refused at its line."""
+    try:
+        return tomllib.loads(text)
+    except (ValueError, RecursionError) as why:
+        told = str(why)
+        found = re.fullmatch(r"(.*) \(at (?:line (\d+), column \d+|end of document)\)", told, re.DOTALL)
+        line = found[2] or len(text.splitlines()) if found else 1
+        raise Refused(f"{path}: line {line}: isn't TOML 1.0: {found[1] if found else told}") from why
 
 
 def parse(octets: bytes, path: str) -> Document:
     """What the tools need of a document that the program reads."""
-    try:
-        text = octets.decode()
-        top = tomllib.loads(text)
-    except ValueError as why:
-        raise Refused(f"{path}: Python reads TOML 1.0: {why}") from why
+    text = _decoded(octets, path)
+    top = read_toml(text, path)
     comments = _port_comments(text)
     try:
         if len(comments) != len(top["system"]):
@@ -220,7 +234,7 @@ def parse(octets: bytes, path: str) -> Document:
             _first_comment(text),
         )
     except (KeyError, TypeError, AttributeError) as why:
-        raise Refused(f"{path}: isn't a document: {why}") from why
+        raise Refused(f"{path}: line 1: isn't a document: {why}") from why
 
 
 def _first_comment(text: str) -> str:

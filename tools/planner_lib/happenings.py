@@ -54,8 +54,14 @@ class Parts:
         return self._names.get(word, [word])
 
     def with_port(self, word: str) -> str:
-        """The part that has the port which `NAME:PORT` names; any other word stays."""
-        device, _, port = word.rpartition(":")
+        """The part that has the port which `NAME:PORT` names; any other word stays.
+
+        A port that such a device doesn't have is refused.
+        """
+        device, port = (word, "") if word in self._names else word.rpartition(":")[::2]
+        if device in self._names and (not port or (device, port) not in self._by_port):
+            ports = [name for owner, name in self._by_port if owner == device and name]
+            raise Refused(f"no port {word}: it has {', '.join(ports or self._names[device])}")
         return self._by_port.get((device, port), word)
 
 
