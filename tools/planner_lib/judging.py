@@ -249,7 +249,9 @@ class _Judge:
                 where = f"after {in_seconds(line['from'])}s {told}" if line["from"] else "start"
                 yield max(line["without"], line["roots"] + line["alone"] - components), where
         for case in self._cases():
-            yield self._parting.astray(case, spare="hold" not in self._asked), self._fault(case)
+            bound, hold = case.down["bound"], self._asked.get("hold")
+            settled = hold is None or bound is not None and bound <= hold
+            yield self._parting.astray(case, settled), self._fault(case)
 
     def _cut(self) -> Verdict:
         """How many systems a fault cuts off at most, by the document alone."""

@@ -71,14 +71,15 @@ class Parting:
             cut += own[1:]
         return Cut(len(parts), sum(map(len, cut)), sum(len(part) for part in cut if self._nobody(part)))
 
-    def astray(self, case: Case, spare: bool = True) -> int:
-        """At least how many systems that aren't cut off don't share one time, where the fault or its return ends.
+    def astray(self, case: Case, settled: bool = True) -> int:
+        """How many systems that aren't cut off may not share one time, where the fault or its return ends.
 
         The program doesn't tell it. It is those without time, and roots beyond one a component. Who is cut off from
-        all that can be grandmaster is spared, unless the fault is over so soon that somebody there may have time yet.
+        all that can be grandmaster is spared, where the fault lasts until all is settled: else somebody there may have
+        time yet.
         """
         cut, down, back = self.cut(case), case.down, case.back
-        return max(down["without"] - (cut.without if spare else 0), down["roots"] + down["alone"] - cut.components,
+        return max(down["without"] - (cut.without if settled else 0), down["roots"] + down["alone"] - cut.components,
                    back["without"], back["roots"] + back["alone"] - len(self.components), 0)
 
     def _nobody(self, part: Iterable[str]) -> bool:
