@@ -245,6 +245,8 @@ def _jobs(arguments: Arguments) -> None:
 def _merge(arguments: Arguments) -> int:
     parts = []
     for path in arguments.files:
+        if jobs.is_broken_off(path):
+            continue
         told = list(texts.read_lines(documents.read_text(path).splitlines(), path))
         if told and told[0].kind == "refused":
             raise Refused(f"{path}: line 1: {told[0].text}")

@@ -104,6 +104,8 @@ def merge(parts: Sequence[tuple[str, Faults]], counts: range) -> Faults:
     The counts are how many parts there may be.
     """
     heads = {_settings(part.head) for _, part in parts}
+    if not parts:
+        raise Refused("case 0 is missing")
     if len(heads) != 1:
         raise Refused("the parts differ in moments, seeds or where they begin: " + "; ".join(sorted(heads)))
     cases = tuple(sorted((case for _, part in parts for case in part.cases), key=Case.rank))
