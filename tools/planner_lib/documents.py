@@ -158,7 +158,7 @@ def _keys(section: str, keys: dict[str, int]) -> str:
 
 
 def _system_text(system: System) -> str:
-    comment = re.sub(r"[^\x20-\x7e]", "?", system.comment)
+    comment = "".join(letter if letter.isprintable() else "?" for letter in system.comment)
     return (
         "[[system]]\n"
         + (f"# {comment}\n" if comment else "")
@@ -220,7 +220,7 @@ def read_toml(text: str, path: str) -> dict[str, Any]:
 
 def parse(octets: bytes, path: str) -> Document:
     """What the tools need of a document that the program reads."""
-    text = _decoded(octets, path)
+    text = _decoded(octets, path).removeprefix("\ufeff")
     top = read_toml(text, path)
     comments = _port_comments(text)
     try:
@@ -239,7 +239,7 @@ def parse(octets: bytes, path: str) -> Document:
 
 def _first_comment(text: str) -> str:
     """The lines of comment that a document begins with."""
-    lines = takewhile(lambda line: line.startswith("#"), text.removeprefix("\ufeff").splitlines())
+    lines = takewhile(lambda line: line.startswith("#"), text.splitlines())
     return "\n".join(line[1:].strip() for line in lines)
 
 

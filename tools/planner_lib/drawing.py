@@ -6,7 +6,7 @@ from decimal import Decimal
 from typing import Mapping
 
 from . import folding
-from .documents import Document
+from .documents import Document, End
 from .folding import Box, Edge
 from .naming import Names, runs
 from .parting import Parting
@@ -143,7 +143,7 @@ class Drawing:
         passive = "passive" in (_role(view.standing[end.clock], end.port) for end in (a, b))
         return f"{between} [dir=none, {'style=dashed' if passive else 'color=gray60'}, {ports}]"
 
-    def _ports(self, box: Box, ends: tuple) -> str:
+    def _ports(self, box: Box, ends: tuple[End, ...]) -> str:
         """What stands at an end of an edge: its ports; of several stations nothing."""
         return "" if len(box.clocks) > 1 else ", ".join(runs([self._names.port(end.clock, end.port) for end in ends]))
 

@@ -285,7 +285,7 @@ class _Judge:
             for line, wanted in ((case.down, second), (case.back, first)):
                 followed = case.followed(line)
                 if wanted is not None and (followed or line is case.down):
-                    most = max(followed, key=lambda told: told["systems"], default=None)
+                    most = max(followed, key=lambda told: int(told["systems"]), default=None)
                     yield most["root_id"][12:] if most else None, wanted, self._fault(case)
 
     def _fault(self, case: Case) -> str:

@@ -12,7 +12,7 @@ from . import plots
 from .cases import Shown
 from .documents import Document, interval
 from .drawing import Drawing, Seen, View
-from .faults import Case, Faults
+from .faults import Case, Faults, size
 from .judging import Judgement
 from .naming import Names
 from .pictures import inline, width
@@ -135,7 +135,7 @@ class _Page:
         """The greatest of a measure, and whose and where it is."""
         if not lines:
             return _NONE, ""
-        line, where = max(lines, key=lambda it: it[0][name])
+        line, where = max(lines, key=lambda it: size(it[0], name))
         return _units(line[name]), f"{self._whose(line[f'{name}_clock'])} {where}".strip()
 
     def _settings(self) -> Table:

@@ -79,8 +79,9 @@ class Parting:
         time yet.
         """
         cut, down, back = self.cut(case), case.down, case.back
-        return max(down["without"] - (cut.without if settled else 0), down["roots"] + down["alone"] - cut.components,
-                   back["without"], back["roots"] + back["alone"] - len(self.components), 0)
+        of_down = down["without"] - (cut.without if settled else 0), down["roots"] + down["alone"] - cut.components
+        of_back = back["without"], back["roots"] + back["alone"] - len(self.components)
+        return int(max(*of_down, *of_back, 0))
 
     def _nobody(self, part: Iterable[str]) -> bool:
         """Whether nobody of a part can be grandmaster."""
