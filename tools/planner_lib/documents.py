@@ -102,6 +102,7 @@ class Document:
 
     @cached_property
     def _names(self) -> dict[str, str]:
+        """The name of each clock that has one."""
         return {system.clock: system.name for system in self.systems if system.name}
 
     def name(self, clock: str) -> str:
@@ -158,6 +159,7 @@ def _keys(section: str, keys: dict[str, int]) -> str:
 
 
 def _system_text(system: System) -> str:
+    """A system as a section of a document."""
     comment = "".join(letter if letter.isprintable() else "?" for letter in system.comment)
     return (
         "[[system]]\n"
@@ -169,6 +171,7 @@ def _system_text(system: System) -> str:
 
 
 def _link_text(link: Link) -> str:
+    """A link as a section of a document."""
     ends = f'a = "{link.a.clock}"\na_port = {link.a.port}\nb = "{link.b.clock}"\nb_port = {link.b.port}\n'
     return "[[link]]\n" + ends + _keys("link", link.keys) + ("" if link.up else "up = false\n")
 
@@ -262,15 +265,18 @@ def _whole(section: str, keys: dict[str, Any]) -> dict[str, int]:
 
 
 def _system(keys: dict[str, Any], comment: str) -> System:
+    """A system of its keys, and of the comment that names its ports."""
     name = keys.get("name")
     return System(keys["clock"].lower(), name if isinstance(name, str) else "", _whole("system", keys), comment)
 
 
 def _link(keys: dict[str, Any]) -> Link:
+    """A link of its keys."""
     a, b = (End(keys[end].lower(), keys[end + "_port"]) for end in "ab")
     return Link(a, b, _whole("link", keys), keys.get("up", True))
 
 
 def _event(keys: dict[str, Any]) -> Event:
+    """An event of its keys."""
     others = {key: keys[key] for key in ("value", "min", "max", "loss") if key in keys}
     return Event(keys["at"], keys["kind"], keys["clock"].lower(), keys.get("port"), others)

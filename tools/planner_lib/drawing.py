@@ -163,4 +163,5 @@ def _graph(lines: list[str]) -> str:
 
 
 def _ends(tail: str, head: str) -> str:
+    """What is written at both ends of an edge."""
     return f"taillabel={quoted(tail)}, headlabel={quoted(head)}"

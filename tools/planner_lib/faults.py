@@ -116,6 +116,7 @@ def merge(parts: Sequence[tuple[str, Faults]], counts: range) -> Faults:
 
 
 def _line(kind: str, text: str) -> Line:
+    """A line of its text."""
     return read_line(text) or Line(kind, {}, text)
 
 

@@ -196,6 +196,7 @@ class _Player:
         self._set(end, before | {"loss": 1000})
 
         def seen() -> None:
+            """What is done once the break is seen."""
             self.cables[place].held_by.clear()
             self._turn(end, False)
             self._set(end, before)
@@ -209,6 +210,7 @@ class _Player:
             return
 
         def later() -> None:
+            """What is done once the fault is seen."""
             del self._unseen[what]
             act()
 
@@ -225,16 +227,20 @@ class _Player:
         return keys
 
     def _set(self, end: End, keys: dict[str, int]) -> None:
+        """Gives a link delays, in ns, and a loss, from now on."""
         self.cables[self._places[end]].keys = keys
         self._event("link_set", end.clock, end.port, {key: keys[key] for key in ("min", "max", "loss")})
 
     def _turn(self, end: End, up: bool) -> None:
+        """Turns a link up or down."""
         self.cables[self._places[end]].up = up
         self._event("link_up" if up else "link_down", end.clock, end.port)
 
     def _turn_down(self, ends: Sequence[End]) -> None:
+        """Turns links down."""
         for end in ends:
             self._turn(end, False)
 
     def _event(self, kind: str, clock: str, port: int | None = None, keys: Mapping[str, int] | None = None) -> None:
+        """Adds an event of this moment."""
         self._events.append(Event(self._now, kind, clock, port, dict(keys or {})))

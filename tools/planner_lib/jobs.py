@@ -50,6 +50,7 @@ def is_broken_off(path: str) -> bool:
 
 
 def _said(path: Path) -> str:
+    """What a file says; nothing where there is none."""
     return path.read_text(errors="replace").strip() if path.is_file() else ""
 
 
@@ -79,4 +80,5 @@ def _part(program: str, copy: str, parts: int, part: str, words: Sequence[str]) 
 
 
 def _merge(folder: str) -> str:
+    """The comment that says how the parts are merged."""
     return f"# {CALL} merge {folder}/part.*\n"

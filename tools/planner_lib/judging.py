@@ -128,6 +128,7 @@ class Requirements:
 
     @staticmethod
     def _time(key: str, value: str) -> int:
+        """A time in ns of the range of its key."""
         time = nanoseconds(value)
         if not _TIMES[key] <= time <= _LONGEST:
             raise Refused(f"{key} {value} isn't {in_units(_TIMES[key])} to {in_units(_LONGEST)}")
@@ -135,6 +136,7 @@ class Requirements:
 
     @staticmethod
     def _count(key: str, value: int) -> int:
+        """A number of the range of its key."""
         least, most = _COUNTS[key]
         if not least <= value <= most:
             raise Refused(f"{key} {value} isn't {least} to {most}")
@@ -154,6 +156,7 @@ class Requirements:
 
     @staticmethod
     def _kept_by(kinds: list[str]) -> list[str]:
+        """The kinds of single faults that are tried."""
         for kind in kinds:
             if kind not in (*_KINDS, "power"):
                 raise Refused(f"kept_by {kind} isn't one of {', '.join((*_KINDS, 'power'))}")
@@ -215,6 +218,7 @@ class _Judge:
                 yield line, self._fault(case)
 
     def _cases(self) -> Iterable[Case]:
+        """The single faults that were tried."""
         return self._faults.cases if self._faults else ()
 
     def _worst(self, key: str, word: str) -> Verdict:
@@ -229,9 +233,11 @@ class _Judge:
                        self._name(clock) if isinstance(clock, str) else "")
 
     def _after_fault(self) -> Verdict:
+        """The longest wait for time, in ns, after a fault."""
         return self._worst("after_fault", "holdover")
 
     def _settle(self) -> Verdict:
+        """How long after a fault, in ns, the choice was still made."""
         return self._worst("settle", "choice")
 
     def _shared(self) -> Verdict:

@@ -169,11 +169,13 @@ class _Page:
         return Markup(inline(self._drawing.svg(View(stretch.ended, up, title, seen, self._colours.of_boxes()))))
 
     def _stretches(self) -> Table:
+        """The table of what happens, stretch by stretch."""
         head = ("from", "to", "events", "choice", "roles", "offsets", "bound", "longest wait", "greatest error",
                 "without time", "roots", "alone")
         return Table(head, [self._stretch_row(stretch) for stretch in self._told.stretches])
 
     def _stretch_row(self, stretch: Stretch) -> list[Cell]:
+        """The row of a stretch."""
         line = stretch.measures
         return [
             Cell(f"{in_seconds(stretch.begin)}s"),
@@ -264,6 +266,7 @@ class _Page:
             yield {"title": f"The network {at}"} | shown
 
     def _accuracy(self, lines: Iterable[tuple[Stretch, Line]]) -> Table:
+        """The table of bounds of errors."""
         return Table(("after", "system", "greatest error", "bound", "from"),
                      [[Cell(self._events(stretch), "text"), Cell(self._document.name(line["clock"]), "text"),
                        Cell(_units(line["error"])), Cell(_units(line["bound"])), Cell(f"{in_seconds(line['from'])}s")]
@@ -292,20 +295,25 @@ class _Page:
         return f"link {' '.join(self._names.number(clock, port) for clock, port in ends)}"
 
     def _whose(self, clock: str | None) -> str:
+        """What a system is called, where there is one."""
         return "" if clock is None else self._document.name(clock)
 
     def _root(self, root: str) -> str:
+        """A root by name, with its priority1."""
         return f"{self._root_name(root)}, priority1 {int(root[:2], 16)}"
 
     def _root_name(self, root: str) -> str:
+        """What the system of an identity is called."""
         return self._document.name(root[12:])
 
 
 def _units(value: int | Decimal | None) -> str:
+    """A number of ns with its unit."""
     return _NONE if value is None else in_units(value)
 
 
 def _picture(svg: bytes | None) -> Markup | None:
+    """An SVG file as an element of the page, where there is one."""
     return Markup(inline(svg)) if svg else None
 
 
