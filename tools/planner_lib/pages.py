@@ -23,7 +23,7 @@ from .texts import Line
 from .timelines import Stretch, joined
 
 _NONE = "\u2013"
-_MOST_EVENTS = 6  # of those of one time
+_MOST_EVENTS = 6  # that are told of a stretch
 _DEFAULTS = {"announce": 0, "sync": -3, "pdelay": 0, "timeout": 3, "lost": 9, "threshold": 800, "turnaround": 1000,
              "residence": 1000, "sync_timeout": 0}
 
