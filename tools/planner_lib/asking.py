@@ -64,6 +64,7 @@ class Answer:
         self._octets = octets
 
     def __iter__(self) -> Iterator[bytes]:
+        """The lines as they come; the status is known after the last."""
         with self._process as process:
             assert process.stdin and process.stdout
             try:

@@ -37,10 +37,12 @@ def _ethernet(octets: bytes) -> bytes:
 
 
 def _padded(octets: bytes) -> bytes:
+    """Octets with zeros up to a multiple of four."""
     return octets + bytes(-len(octets) % 4)
 
 
 def _option(code: int, value: bytes) -> bytes:
+    """An option of a block."""
     return struct.pack("<HH", code, len(value)) + _padded(value)
 
 

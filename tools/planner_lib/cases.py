@@ -6,6 +6,7 @@ from typing import Sequence
 
 from .documents import Document, Event
 from .faults import Case, Faults
+from .parting import Parting
 from .timelines import Stretch
 
 _MOST = 3
@@ -26,26 +27,19 @@ class Shown:
 def worst(document: Document, faults: Faults) -> list[tuple[Case, int]]:
     """The three worst kinds of faults in the order of the program: the first of each, and how many are alike.
 
-    A link to a system that has no other, and such a system, are left out: they cut off that system and no other.
+    Alike are faults of one kind that cut off as many, leave as many astray, and let wait as long in whole ms. A link
+    that cuts off one system and leaves nobody astray is left out, and so is a system that has one link.
     """
     links = Counter(end.clock for end in document.link_at)
+    parting = Parting(document)
     alike: dict[object, list[Case]] = {}
     for case in faults.cases:
-        if all(links[clock] > 1 for clock in clocks(case)):
-            alike.setdefault(_like(case), []).append(case)
+        line, cut, astray = case.lines[0], parting.cut(case).cut_off, parting.astray(case)
+        if (cut, astray) == (1, 0) if line.kind == "case link" else links[line["clock"]] == 1:
+            continue
+        waits = [case.down["holdover"] // 10**6, case.back["holdover"] // 10**6]
+        alike.setdefault((line.kind, cut, astray, *waits), []).append(case)
     return [(cases[0], len(cases)) for cases in list(alike.values())[:_MOST]]
-
-
-def clocks(case: Case) -> list[str]:
-    """The systems that a case names: the one that fails, or the two ends of the link."""
-    line = case.lines[0]
-    return [line["clock"]] if line.kind == "case system" else [line["a_clock"], line["b_clock"]]
-
-
-def _like(case: Case) -> object:
-    """What cases that are alike have in common: waits count in whole ms."""
-    counts = tuple(case.down[word] for word in ("without", "roots", "alone"))
-    return case.lines[0].kind, counts, case.down["holdover"] // 10**6, case.back["holdover"] // 10**6
 
 
 def events(case: Case, at: int) -> list[Event]:

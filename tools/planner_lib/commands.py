@@ -75,6 +75,7 @@ def _options(arguments: Arguments) -> list[str]:
 
 
 def _draw(arguments: Arguments) -> None:
+    """Draws the network: DOT, or SVG where the file of -o ends so."""
     octets = documents.read_file(arguments.doc)
     as_svg = (arguments.o or "").endswith(".svg")
     if arguments.plain:
@@ -105,6 +106,7 @@ def _bounds(arguments: Arguments, octets: bytes) -> dict[str, Decimal]:
 
 
 def _report(arguments: Arguments) -> None:
+    """Writes the page of a document."""
     need("report", {"jinja2": "python3-jinja2", "matplotlib": "python3-matplotlib"})
     from . import pages
     octets = documents.read_file(arguments.doc)
@@ -129,6 +131,7 @@ def _shown(arguments: Arguments, octets: bytes, table: faults.Faults, case: faul
 
 
 def _judge(arguments: Arguments) -> int:
+    """Says whether a document keeps what is asked of it; the status."""
     octets = documents.read_file(arguments.doc)
     judgement = _judged(arguments, octets, documents.parse(octets, arguments.doc))
     _write(arguments, judgement.text())
@@ -136,10 +139,12 @@ def _judge(arguments: Arguments) -> int:
 
 
 def _judged(arguments: Arguments, octets: bytes, document: Document) -> judging.Judgement:
+    """The verdict of a file of requirements on a document."""
     return judging.judge(arguments.require, document, partial(_asked, arguments, octets), arguments.jobs)
 
 
 def _plot(arguments: Arguments) -> None:
+    """Draws errors, in ns."""
     need("plot", {"matplotlib": "python3-matplotlib"})
     from . import plots
     octets = documents.read_file(arguments.doc)
@@ -156,24 +161,29 @@ def _plot(arguments: Arguments) -> None:
 
 
 def _capture(arguments: Arguments) -> None:
+    """Writes the frames of a run."""
     told = _asked(arguments, documents.read_file(arguments.doc), "run", "--frames", *_options(arguments))
     _write(arguments, captures.capture(line for line in told if line.kind == "frame"))
 
 
 def _shape(arguments: Arguments) -> None:
+    """Makes a document of a plain shape."""
     nodes, cables = arguments.shape(*(getattr(arguments, name) for name in arguments.sizes))
     _document(arguments, Plan(nodes, cables), plans.DEFAULT_DELAY)
 
 
 def _csv(arguments: Arguments) -> None:
+    """Makes a document of tables."""
     _document(arguments, tables.read(arguments.links, arguments.systems, arguments.events, arguments.jitter), None)
 
 
 def _graphml(arguments: Arguments) -> None:
+    """Makes a document of a graph."""
     _document(arguments, graphml.read(arguments.file, arguments.jitter), plans.DEFAULT_DELAY)
 
 
 def _lldp(arguments: Arguments) -> None:
+    """Makes a document of what devices say of their neighbours."""
     _document(arguments, lldp.read(arguments.files), plans.DEFAULT_DELAY)
 
 
@@ -190,12 +200,14 @@ def _document(arguments: Arguments, plan: Plan, delay: tuple[int, int] | None) -
 
 
 def _names(arguments: Arguments) -> None:
+    """Writes lines with names in place of clocks."""
     document = documents.parse(documents.read_file(arguments.doc), arguments.doc)
     with documents.reading(arguments.file) as lines:
         _pass_on(arguments, lines, Readable(document, arguments.units))
 
 
 def _ask(arguments: Arguments) -> int:
+    """Asks the program with names and units; the program's status."""
     octets = documents.read_file(arguments.doc)
     raw = arguments.raw or "--raw" in arguments.words
     try:
@@ -222,15 +234,18 @@ def _pass_on(arguments: Arguments, lines: Iterable[bytes], readable: Readable | 
 
 
 def _certificate(arguments: Arguments) -> None:
+    """Makes a certificate of a live network."""
     _write(arguments, certificates.certificate(certificates.read(arguments.files)))
 
 
 def _json(arguments: Arguments) -> None:
+    """Writes lines of a command as JSON lines."""
     told = documents.read_text(arguments.file).splitlines()
     _write(arguments, "".join(lines.json_lines(texts.read_lines(told, arguments.file))))
 
 
 def _jobs(arguments: Arguments) -> None:
+    """Writes a script for `faults` in parts, and makes the folder that it fills."""
     octets = documents.read_file(arguments.doc)
     documents.parse(octets, arguments.doc)
     name = _name(arguments.doc)
@@ -243,11 +258,14 @@ def _jobs(arguments: Arguments) -> None:
 
 
 def _merge(arguments: Arguments) -> int:
+    """Writes the parts of `faults` as one text; 1 where it says `exceeded`."""
     parts = []
     for path in arguments.files:
+        if jobs.is_broken_off(path):
+            continue
         told = list(texts.read_lines(documents.read_text(path).splitlines(), path))
         if told and told[0].kind == "refused":
-            raise Refused(f"{path}: {told[0].text}")
+            raise Refused(f"{path}: line 1: {told[0].text}")
         parts.append((path, faults.read(told, path)))
     merged = faults.merge(parts, jobs.counts(arguments.files))
     _write(arguments, merged.text())
@@ -343,6 +361,7 @@ def _add_networks(commands: _Command) -> None:
 
 
 def _add_csv(commands: _Command) -> argparse.ArgumentParser:
+    """The command that makes a document of tables."""
     parser = commands.add("csv", "make a document of a table of links", "network csv links.csv systems.csv", _csv)
     parser.add_argument("links", metavar="LINKS", help=f"columns {', '.join(tables.LINK_COLUMNS)}; a metre is 5 ns")
     parser.add_argument("systems", nargs="?", metavar="SYSTEMS", help=f"columns {', '.join(tables.SYSTEM_COLUMNS)}")
@@ -353,11 +372,13 @@ def _add_csv(commands: _Command) -> argparse.ArgumentParser:
 
 
 def _add_jitter(parser: argparse.ArgumentParser) -> None:
+    """The option for links whose jitter, in ns, isn't given."""
     parser.add_argument("--jitter", type=time(0, 10**9), metavar="TIME",
                         help=f"of links with metres or min alone; by default {plans.DEFAULT_JITTER} ns, which is told")
 
 
 def _add_file(commands: _Command) -> argparse.ArgumentParser:
+    """The command that makes a document of a graph."""
     parser = commands.add("graphml", "make a document of a graph by NetworkX or yEd", "network graphml plant.graphml",
                           _graphml)
     parser.add_argument("file", metavar="FILE", help="attributes are called as the columns of `network csv`")
@@ -366,6 +387,7 @@ def _add_file(commands: _Command) -> argparse.ArgumentParser:
 
 
 def _add_lldp(commands: _Command) -> argparse.ArgumentParser:
+    """The command that makes a document of what devices say of their neighbours."""
     parser = commands.add("lldp", "make a document of what devices say of their neighbours",
                           "network lldp sw1.json sw2.json", _lldp)
     parser.add_argument("files", nargs="+", metavar="FILE",

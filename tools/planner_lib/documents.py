@@ -40,6 +40,7 @@ RANGES: dict[str, dict[str, tuple[int, int]]] = {
 }
 MOST_SYSTEMS, MOST_LINKS, MOST_PORTS, MOST_EVENTS = 512, 2048, 16, 4096
 LAST_EVENT = 8 * 10**14  # ns
+LF = b"\n"
 # the keys that are times in ns
 TIMES = ("threshold", "turnaround", "residence", "phase", "min", "max")
 
@@ -101,6 +102,7 @@ class Document:
 
     @cached_property
     def _names(self) -> dict[str, str]:
+        """The name of each clock that has one."""
         return {system.clock: system.name for system in self.systems if system.name}
 
     def name(self, clock: str) -> str:
@@ -157,7 +159,8 @@ def _keys(section: str, keys: dict[str, int]) -> str:
 
 
 def _system_text(system: System) -> str:
-    comment = re.sub(r"[^\x20-\x7e]", "?", system.comment)
+    """A system as a section of a document."""
+    comment = "".join(letter if letter.isprintable() else "?" for letter in system.comment)
     return (
         "[[system]]\n"
         + (f"# {comment}\n" if comment else "")
@@ -168,6 +171,7 @@ def _system_text(system: System) -> str:
 
 
 def _link_text(link: Link) -> str:
+    """A link as a section of a document."""
     ends = f'a = "{link.a.clock}"\na_port = {link.a.port}\nb = "{link.b.clock}"\nb_port = {link.b.port}\n'
     return "[[link]]\n" + ends + _keys("link", link.keys) + ("" if link.up else "up = false\n")
 
@@ -195,19 +199,32 @@ def reading(path: str) -> Iterator[BinaryIO]:
 
 def read_text(path: str) -> str:
     """A file as UTF-8 text, without a byte order mark."""
+    return _decoded(read_file(path), path).removeprefix("\ufeff")
+
+
+def _decoded(octets: bytes, path: str) -> str:
+    """A file's octets as UTF-8 text."""
     try:
-        return read_file(path).decode("utf-8-sig")
+        return octets.decode()
     except UnicodeDecodeError as why:
-        raise Refused(f"{path}: isn't UTF-8: octet {why.start}") from why
+        raise Refused(f"{path}: line {octets.count(LF, 0, why.start) + 1}: isn't UTF-8") from why
+
+
+def read_toml(text: str, path: str) -> dict[str, Any]:
+    """A text of TOML 1.0; one that is none is refused at its line."""
+    try:
+        return tomllib.loads(text)
+    except (ValueError, RecursionError) as why:
+        told = str(why)
+        found = re.fullmatch(r"(.*) \(at (?:line (\d+), column \d+|end of document)\)", told, re.DOTALL)
+        line = found[2] or len(text.splitlines()) if found else 1
+        raise Refused(f"{path}: line {line}: isn't TOML 1.0: {found[1] if found else told}") from why
 
 
 def parse(octets: bytes, path: str) -> Document:
     """What the tools need of a document that the program reads."""
-    try:
-        text = octets.decode()
-        top = tomllib.loads(text)
-    except ValueError as why:
-        raise Refused(f"{path}: Python reads TOML 1.0: {why}") from why
+    text = _decoded(octets, path).removeprefix("\ufeff")
+    top = read_toml(text, path)
     comments = _port_comments(text)
     try:
         if len(comments) != len(top["system"]):
@@ -220,12 +237,12 @@ def parse(octets: bytes, path: str) -> Document:
             _first_comment(text),
         )
     except (KeyError, TypeError, AttributeError) as why:
-        raise Refused(f"{path}: isn't a document: {why}") from why
+        raise Refused(f"{path}: line 1: isn't a document: {why}") from why
 
 
 def _first_comment(text: str) -> str:
     """The lines of comment that a document begins with."""
-    lines = takewhile(lambda line: line.startswith("#"), text.removeprefix("\ufeff").splitlines())
+    lines = takewhile(lambda line: line.startswith("#"), text.splitlines())
     return "\n".join(line[1:].strip() for line in lines)
 
 
@@ -248,15 +265,18 @@ def _whole(section: str, keys: dict[str, Any]) -> dict[str, int]:
 
 
 def _system(keys: dict[str, Any], comment: str) -> System:
+    """A system of its keys, and of the comment that names its ports."""
     name = keys.get("name")
     return System(keys["clock"].lower(), name if isinstance(name, str) else "", _whole("system", keys), comment)
 
 
 def _link(keys: dict[str, Any]) -> Link:
+    """A link of its keys."""
     a, b = (End(keys[end].lower(), keys[end + "_port"]) for end in "ab")
     return Link(a, b, _whole("link", keys), keys.get("up", True))
 
 
 def _event(keys: dict[str, Any]) -> Event:
+    """An event of its keys."""
     others = {key: keys[key] for key in ("value", "min", "max", "loss") if key in keys}
     return Event(keys["at"], keys["kind"], keys["clock"].lower(), keys.get("port"), others)

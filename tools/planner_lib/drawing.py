@@ -6,7 +6,7 @@ from decimal import Decimal
 from typing import Mapping
 
 from . import folding
-from .documents import Document
+from .documents import Document, End
 from .folding import Box, Edge
 from .naming import Names, runs
 from .parting import Parting
@@ -19,6 +19,7 @@ from .standing import PortStanding, Standing, SystemStanding
 _DOWN = "style=dotted, color=red, fontcolor=red"
 _POINTS = 72  # an inch
 _LETTER, _LINE = 7.0, 13.5  # points at the size of 11
+_MOST_WORDS = 4  # the lines of a box
 
 
 @dataclass(frozen=True)
@@ -98,9 +99,9 @@ class Drawing:
         return self._document.name(box.identity) if len(box.clocks) == 1 else f"{len(box.clocks)} stations"
 
     def _size(self, box: Box) -> str:
-        """The size of a box, which has room for four lines."""
+        """The size of a box."""
         width = max(14, len(self._called(box)) + 2) * _LETTER / _POINTS
-        return f"width={width:.2f}, height={4.4 * _LINE / _POINTS:.2f}, fixedsize=true"
+        return f"width={width:.2f}, height={(_MOST_WORDS + 0.4) * _LINE / _POINTS:.2f}, fixedsize=true"
 
     def _at(self, box: Box) -> str:
         """The place of a box, where they are laid out."""
@@ -108,11 +109,13 @@ class Drawing:
 
     def _box(self, box: Box, view: View) -> str:
         """The attributes of a box: what it is called, its steps, the bound of its error and the greatest seen."""
-        systems = [view.standing[clock] for clock in box.clocks]
-        if systems[0].failed:
+        systems = [view.standing[clock] for clock in box.clocks if not view.standing[clock].failed]
+        if not systems:
             return f"label={quoted(self._called(box), 'failed')}, {_DOWN}"
-        alone = len(systems) > 1 and systems[0].slave is None
+        alone = len(box.clocks) > 1 and systems[0].slave is None
         words = [self._called(box), "each its own root" if alone else place(systems[0])]
+        if len(systems) < len(box.clocks):
+            words.append(f"{len(box.clocks) - len(systems)} failed")
         for sign, values in (("+-", view.seen.bounds), ("seen ", view.seen.errors)):
             known = [values[clock] for clock in box.clocks if clock in values]
             if known and any(system.slave is not None for system in systems):
@@ -120,22 +123,27 @@ class Drawing:
         leads = systems[0].slave is None and systems[0].grandmaster and not alone
         fill = view.colour.get(systems[0].root)
         style = f", style=filled, fillcolor={quoted(fill + '55')}" if fill else ""
-        return f"label={quoted(*words)}{style}{', penwidth=2.5' if leads else ''}"
+        return f"label={quoted(*words[:_MOST_WORDS])}{style}{', penwidth=2.5' if leads else ''}"
 
     def _edge(self, edge: Edge, view: View) -> str:
-        """The attributes of an edge: from parent to child where it is one's way to its root."""
+        """The attributes of an edge: from parent to child where it is one's way to its root.
+
+        Of several links it is the first that is in use, where one is.
+        """
         ports = _ends(self._ports(edge.a, edge.a_ends), self._ports(edge.b, edge.b_ends))
         between = f"{quoted(edge.a.identity)} -> {quoted(edge.b.identity)}"
-        ends = [view.standing[end.clock] for end in (edge.a_ends[0], edge.b_ends[0])]
-        if not view.up[edge.links[0]] or any(system.failed for system in ends):
+        used = ((a, b) for number, a, b in zip(edge.links, edge.a_ends, edge.b_ends)
+                if view.up[number] and not any(view.standing[end.clock].failed for end in (a, b)))
+        a, b = next(used, (None, None))
+        if a is None or b is None:
             return f"{between} [dir=none, {_DOWN}, {ports}]"
-        for direction, child in (("forward", edge.b_ends[0]), ("back", edge.a_ends[0])):
+        for direction, child in (("forward", b), ("back", a)):
             if view.standing[child.clock].slave == child.port:
                 return f"{between} [dir={direction}, penwidth=2.5, {ports}]"
-        passive = "passive" in (_role(ends[0], edge.a_ends[0].port), _role(ends[1], edge.b_ends[0].port))
+        passive = "passive" in (_role(view.standing[end.clock], end.port) for end in (a, b))
         return f"{between} [dir=none, {'style=dashed' if passive else 'color=gray60'}, {ports}]"
 
-    def _ports(self, box: Box, ends: tuple) -> str:
+    def _ports(self, box: Box, ends: tuple[End, ...]) -> str:
         """What stands at an end of an edge: its ports; of several stations nothing."""
         return "" if len(box.clocks) > 1 else ", ".join(runs([self._names.port(end.clock, end.port) for end in ends]))
 
@@ -155,4 +163,5 @@ def _graph(lines: list[str]) -> str:
 
 
 def _ends(tail: str, head: str) -> str:
+    """What is written at both ends of an edge."""
     return f"taillabel={quoted(tail)}, headlabel={quoted(head)}"

@@ -36,8 +36,7 @@ class Case:
 
     def rank(self) -> tuple[Any, ...]:
         """What cases are sorted by: the worst first, of equals by number."""
-        worst = [max(_size(self.down, word), _size(self.back, word)) for word in _ORDER]
-        return tuple((-size, not known) for size, known in worst) + (self.number,)
+        return (*(-max(size(self.down, word), size(self.back, word)) for word in _ORDER), self.number)
 
 
 @dataclass(frozen=True)
@@ -55,33 +54,37 @@ class Faults:
         return "".join(f"{line.text}\n" for line in lines)
 
 
-def _size(line: Line, word: str) -> tuple[int | Decimal, bool]:
-    """A measure for comparing: `none` is below 0, and `0 none` below 0 with a clock."""
-    value = line[word]
-    with_clock = word in ("holdover", "error") and f"{word}_clock" in line.fields
-    return (-1 if value is None else value, not with_clock or line[f"{word}_clock"] is not None)
+def measure(line: Line, word: str) -> int | Decimal | None:
+    """A measure of a line; None where there is none, as of `choice none` and of `holdover 0 none`."""
+    return None if line.fields.get(f"{word}_clock", "") is None else line[word]
+
+
+def size(line: Line, word: str) -> int | Decimal:
+    """A measure for comparing: none is below 0."""
+    value = measure(line, word)
+    return -1 if value is None else value
 
 
 def read(lines: Sequence[Line], source: str) -> Faults:
     """A text of `faults`."""
     kinds = [line.kind for line in lines]
-    if len(lines) < 3 or kinds[0] != "cases" or kinds[-2] != "worst" or kinds[-1] not in ("within", "exceeded"):
-        raise Refused(f"{source}: isn't the whole text of `faults`")
-    groups: list[list[Line]] = []
-    for line in lines[1:-2]:
-        if line.kind in ("case link", "case system"):
-            groups.append([])
-        if not groups:
-            raise Refused(f"{source}: `{line.text}` stands before any case")
-        groups[-1].append(line)
-    return Faults(lines[0], tuple(_case(group, source) for group in groups), lines[-2], lines[-1])
+    if kinds[:1] != ["cases"]:
+        raise Refused(f"{source}: line 1: isn't a text of `faults`")
+    if len(lines) < 3 or kinds[-2] != "worst" or kinds[-1] not in ("within", "exceeded"):
+        raise Refused(f"{source}: line {len(lines)}: isn't the end of a text of `faults`")
+    begins = [place for place, kind in enumerate(kinds) if kind in ("case link", "case system")]
+    if begins[:1] != [1] and len(lines) > 3:
+        raise Refused(f"{source}: line 2: `{lines[1].text}` is before any case")
+    cases = [_case(lines[begin:end], f"{source}: line {begin + 1}")
+             for begin, end in zip(begins, [*begins[1:], len(lines) - 2])]
+    return Faults(lines[0], tuple(cases), lines[-2], lines[-1])
 
 
-def _case(lines: list[Line], source: str) -> Case:
+def _case(lines: Sequence[Line], where: str) -> Case:
     """A case of its lines: its head, `down`, `follow` lines, `back`, `follow` lines."""
     kinds = [kind for kind, _ in groupby(line.kind for line in lines if line.kind != "follow")]
     if kinds[1:] != ["down", "back"]:
-        raise Refused(f"{source}: `{lines[0].text}` isn't followed by `down` and `back`")
+        raise Refused(f"{where}: `{lines[0].text}` isn't followed by `down` and `back`")
     down, back = (next(line for line in lines if line.kind == kind) for kind in ("down", "back"))
     return Case(tuple(lines), down, back)
 
@@ -101,6 +104,8 @@ def merge(parts: Sequence[tuple[str, Faults]], counts: range) -> Faults:
     The counts are how many parts there may be.
     """
     heads = {_settings(part.head) for _, part in parts}
+    if not parts:
+        raise Refused("case 0 is missing")
     if len(heads) != 1:
         raise Refused("the parts differ in moments, seeds or where they begin: " + "; ".join(sorted(heads)))
     cases = tuple(sorted((case for _, part in parts for case in part.cases), key=Case.rank))
@@ -111,6 +116,7 @@ def merge(parts: Sequence[tuple[str, Faults]], counts: range) -> Faults:
 
 
 def _line(kind: str, text: str) -> Line:
+    """A line of its text."""
     return read_line(text) or Line(kind, {}, text)
 
 
@@ -146,7 +152,7 @@ def _could_have(case: int, parts: Sequence[tuple[str, Faults]], counts: range) -
 
 def _worst(parts: Iterable[Faults], word: str) -> Value:
     """The greatest of a measure."""
-    value = max((_size(part.worst, word), part.worst[word]) for part in parts)[1]
+    value = max((part.worst for part in parts), key=lambda line: size(line, word))[word]
     return "none" if value is None else value
 
 

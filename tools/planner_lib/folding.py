@@ -34,7 +34,7 @@ class Edge:
 
 
 def boxes(document: Document, fold: bool) -> list[Box]:
-    """The boxes by rising clock. Leaves that an event names stay by themselves."""
+    """The boxes by rising clock. Leaves that an event names stay by themselves, but for when they boot."""
     links: dict[str, list[Link]] = {}
     for link in document.links:
         for end in (link.a, link.b):
@@ -56,13 +56,20 @@ def _leaf(system: System, link: Link) -> object:
 
 
 def _named(document: Document) -> Iterator[str]:
-    """The systems that events name, and those at the links that they name."""
+    """The systems that events name, and those at the links that they name, but for when they boot."""
+    booting = {event.clock for event in document.events if event.kind == "fail" and event.at == 0}
+    waiting = {number for number, link in enumerate(document.links) if not link.up}
     for event in document.events:
-        yield event.clock
         if event.port is not None:
-            link = document.links[document.link_at[End(event.clock, event.port)]]
-            yield link.a.clock
-            yield link.b.clock
+            number = document.link_at[End(event.clock, event.port)]
+            if event.kind != "link_up" or number not in waiting:
+                yield document.links[number].a.clock
+                yield document.links[number].b.clock
+            waiting.discard(number)
+        elif event.kind != "fail" or event.at > 0:
+            if event.kind != "recover" or event.clock not in booting:
+                yield event.clock
+            booting.discard(event.clock)
 
 
 def edges(document: Document, of: list[Box]) -> list[Edge]:

@@ -15,10 +15,7 @@ def read(path: str, jitter: int | None) -> Plan:
     A system is called by its attribute `name`, else by its label (yEd), else by its id. Groups of yEd aren't systems.
     The jitter, in ns, is as for tables.
     """
-    try:
-        top = xml.fromstring(read_file(path))
-    except xml.ParseError as why:
-        raise Refused(f"{path}: isn't XML: {why}") from why
+    top, lines = _parsed(path)
     attributes = {key.get("id", ""): key.get("attr.name", "") for key in _all(top, "key")}
     nodes: list[Node] = []
     cables: list[Cable] = []
@@ -27,12 +24,27 @@ def read(path: str, jitter: int | None) -> Plan:
         if next(_all(element, "graph"), None) is None:
             data, identity = _data(element, attributes), element.get("id", "")
             names[identity] = data.get("name") or _label(element) or identity
-            with told_at(where := f"{path}: {names[identity]}"):
+            with told_at(where := f"{path}: line {lines[element]}"):
                 nodes.append(node(data | {"name": names[identity]}, where))
     for element in _all(top, "edge"):
-        with told_at(where := f"{path}: an edge"):
+        with told_at(where := f"{path}: line {lines[element]}"):
             cables.append(cable(_row(element, names, attributes), where, jitter))
     return Plan(nodes, cables, told=told_of_jitter(cables))
+
+
+def _parsed(path: str) -> tuple[xml.Element, dict[xml.Element, int]]:
+    """The top of a file, and the line at which each element begins."""
+    parser = xml.XMLPullParser(("start",))
+    lines: dict[xml.Element, int] = {}
+    number = 1
+    try:
+        for number, octets in enumerate(read_file(path).splitlines(keepends=True), 1):
+            parser.feed(octets)
+            lines |= {element: number for _, element in parser.read_events()}
+        parser.close()
+    except xml.ParseError as why:
+        raise Refused(f"{path}: line {number}: isn't XML: {str(why).partition(':')[0]}") from why
+    return next(iter(lines)), lines
 
 
 def _all(element: xml.Element, tag: str) -> Iterator[xml.Element]:

@@ -54,8 +54,14 @@ class Parts:
         return self._names.get(word, [word])
 
     def with_port(self, word: str) -> str:
-        """The part that has the port which `NAME:PORT` names; any other word stays."""
-        device, _, port = word.rpartition(":")
+        """The part that has the port which `NAME:PORT` names; any other word stays.
+
+        A port that such a device doesn't have is refused.
+        """
+        device, port = (word, "") if word in self._names else word.rpartition(":")[::2]
+        if device in self._names and (not port or (device, port) not in self._by_port):
+            ports = [name for owner, name in self._by_port if owner == device and name]
+            raise Refused(f"no port {word}: it has {', '.join(ports or self._names[device])}")
         return self._by_port.get((device, port), word)
 
 
@@ -190,6 +196,7 @@ class _Player:
         self._set(end, before | {"loss": 1000})
 
         def seen() -> None:
+            """What is done once the break is seen."""
             self.cables[place].held_by.clear()
             self._turn(end, False)
             self._set(end, before)
@@ -203,6 +210,7 @@ class _Player:
             return
 
         def later() -> None:
+            """What is done once the fault is seen."""
             del self._unseen[what]
             act()
 
@@ -219,16 +227,20 @@ class _Player:
         return keys
 
     def _set(self, end: End, keys: dict[str, int]) -> None:
+        """Gives a link delays, in ns, and a loss, from now on."""
         self.cables[self._places[end]].keys = keys
         self._event("link_set", end.clock, end.port, {key: keys[key] for key in ("min", "max", "loss")})
 
     def _turn(self, end: End, up: bool) -> None:
+        """Turns a link up or down."""
         self.cables[self._places[end]].up = up
         self._event("link_up" if up else "link_down", end.clock, end.port)
 
     def _turn_down(self, ends: Sequence[End]) -> None:
+        """Turns links down."""
         for end in ends:
             self._turn(end, False)
 
     def _event(self, kind: str, clock: str, port: int | None = None, keys: Mapping[str, int] | None = None) -> None:
+        """Adds an event of this moment."""
         self._events.append(Event(self._now, kind, clock, port, dict(keys or {})))

@@ -10,6 +10,7 @@ from .refusal import Refused
 
 MOST_PARTS = 10000
 _PART = re.compile(r"part\.([1-9][0-9]*)")
+_NEW = ".new"  # after the name of a part until it is whole
 _COUNT = "parts"  # the file of a folder that says how many parts there are
 
 
@@ -43,7 +44,13 @@ def number(path: str) -> int:
     return int(found[1]) if found else 0
 
 
+def is_broken_off(path: str) -> bool:
+    """Whether a file is a part that isn't whole: a part has its name only when it is."""
+    return _PART.fullmatch(Path(path).name.removesuffix(_NEW)) is not None and path.endswith(_NEW)
+
+
 def _said(path: Path) -> str:
+    """What a file says; nothing where there is none."""
     return path.read_text(errors="replace").strip() if path.is_file() else ""
 
 
@@ -69,8 +76,9 @@ def _part(program: str, copy: str, parts: int, part: str, words: Sequence[str]) 
     made = f"{shlex.quote(str(Path(copy).parent))}/part.{part}"
     call = f"{program} faults --parts {parts} --part"
     options = "".join(f" {shlex.quote(word)}" for word in words)
-    return f"{call} {part}{options} < {shlex.quote(copy)} > {made}.new; test $? -le 1 && mv {made}.new {made}"
+    return f"{call} {part}{options} < {shlex.quote(copy)} > {made}{_NEW}; test $? -le 1 && mv {made}{_NEW} {made}"
 
 
 def _merge(folder: str) -> str:
+    """The comment that says how the parts are merged."""
     return f"# {CALL} merge {folder}/part.*\n"

@@ -1,13 +1,12 @@
 """Whether a document keeps what is asked of it: a file of requirements, and what the program says."""
 
 import re
-import tomllib
 from dataclasses import dataclass
 from decimal import Decimal
 from typing import Any, Callable, Iterable, Iterator, Sequence
 
 from . import faults, parting
-from .documents import Document, Event, read_text
+from .documents import Document, Event, read_text, read_toml
 from .faults import Case, Faults
 from .naming import Names, nearest
 from .quantities import in_seconds, in_units, nanoseconds
@@ -28,7 +27,8 @@ _LATER = {
     "detect": "faults --detect",
 }
 _KINDS = ("links", "systems")
-_TIMES = ("after_fault", "settle", "hold", "at")
+_TIMES = {"after_fault": 0, "settle": 0, "hold": 1, "at": 0}  # with the least of each, in ns
+_LONGEST = 10**15  # ns
 _COUNTS = {"cut": (0, 10**15), "moments": (1, 1000), "seeds": (1, 1000)}
 _AT = 60 * 10**9  # ns: by then timers that start in step have drifted apart
 
@@ -83,10 +83,7 @@ class Requirements:
     def __init__(self, path: str, document: Document) -> None:
         self._path = path
         self._text = read_text(path)
-        try:
-            top = tomllib.loads(self._text)
-        except ValueError as why:
-            raise Refused(f"{path}: {why}") from why
+        top = read_toml(self._text, path)
         for name in top:
             if name != "require":
                 raise self._at(name, f"{name} isn't the table [require]")
@@ -115,7 +112,7 @@ class Requirements:
             raise self._at(key, f"no key {key}" + (f": {near} is near" if near else ""))
         try:
             if key in _TIMES and isinstance(value, str | int) and not isinstance(value, bool):
-                return nanoseconds(str(value))
+                return self._time(key, str(value))
             if key in _COUNTS and isinstance(value, int) and not isinstance(value, bool):
                 return self._count(key, value)
             if key == "shared" and isinstance(value, bool):
@@ -130,7 +127,16 @@ class Requirements:
         raise self._at(key, f"{key} isn't {kind}")
 
     @staticmethod
+    def _time(key: str, value: str) -> int:
+        """A time in ns of the range of its key."""
+        time = nanoseconds(value)
+        if not _TIMES[key] <= time <= _LONGEST:
+            raise Refused(f"{key} {value} isn't {in_units(_TIMES[key])} to {in_units(_LONGEST)}")
+        return time
+
+    @staticmethod
     def _count(key: str, value: int) -> int:
+        """A number of the range of its key."""
         least, most = _COUNTS[key]
         if not least <= value <= most:
             raise Refused(f"{key} {value} isn't {least} to {most}")
@@ -150,6 +156,7 @@ class Requirements:
 
     @staticmethod
     def _kept_by(kinds: list[str]) -> list[str]:
+        """The kinds of single faults that are tried."""
         for kind in kinds:
             if kind not in (*_KINDS, "power"):
                 raise Refused(f"kept_by {kind} isn't one of {', '.join((*_KINDS, 'power'))}")
@@ -188,9 +195,16 @@ class _Judge:
         words += ["--only", kinds[0]] if len(set(kinds)) == 1 else []
         return faults.in_parts(ask, words, jobs)
 
-    def _exceeded(self, word: str) -> bool:
-        """Whether the program itself says that a limit is exceeded."""
-        verdicts = [self._timeline[-1], *([self._faults.verdict] if self._faults else [])]
+    def _exceeded(self, key: str, word: str) -> bool:
+        """Whether the program itself says that a limit in ns is exceeded after a fault.
+
+        It asks a limit of each stretch that begins with an event, so of one from 0 too. Where that is above it the
+        verdict says nothing of the others, and their lines decide: these times are whole.
+        """
+        limit = self._asked[key]
+        at_start = any(line[word] is not None and line[word] > limit for line in self._timeline
+                       if line.kind == "after" and line["from"] == 0)
+        verdicts = [*([] if at_start else [self._timeline[-1]]), *([self._faults.verdict] if self._faults else [])]
         return any(line.kind == "exceeded" and line["word"] == word for line in verdicts)
 
     def _measured(self) -> Iterator[tuple[Line, str]]:
@@ -204,22 +218,26 @@ class _Judge:
                 yield line, self._fault(case)
 
     def _cases(self) -> Iterable[Case]:
+        """The single faults that were tried."""
         return self._faults.cases if self._faults else ()
 
     def _worst(self, key: str, word: str) -> Verdict:
-        """The greatest of a measure in ns after faults."""
-        line, where = max(self._measured(), key=lambda it: -1 if it[0][word] is None else it[0][word],
-                          default=(None, "always"))
-        got = None if line is None else line[word]
-        clock = None if line is None else line.fields.get(f"{word}_clock")
-        met = (got is None or got <= self._asked[key]) and not self._exceeded(word)
-        return Verdict(key, met, "none" if got is None else in_units(got), in_units(self._asked[key]), where,
+        """The greatest of a measure in ns after faults, of equals the first."""
+        limit, within = self._asked[key], not self._exceeded(key, word)
+        known = [it for it in self._measured() if faults.measure(it[0], word) is not None]
+        if not known:
+            return Verdict(key, within, "none", in_units(limit), "always")
+        line, where = max(known, key=lambda it: faults.size(it[0], word))
+        clock = line.fields.get(f"{word}_clock")
+        return Verdict(key, within and line[word] <= limit, in_units(line[word]), in_units(limit), where,
                        self._name(clock) if isinstance(clock, str) else "")
 
     def _after_fault(self) -> Verdict:
+        """The longest wait for time, in ns, after a fault."""
         return self._worst("after_fault", "holdover")
 
     def _settle(self) -> Verdict:
+        """How long after a fault, in ns, the choice was still made."""
         return self._worst("settle", "choice")
 
     def _shared(self) -> Verdict:
@@ -229,12 +247,7 @@ class _Judge:
         return Verdict("shared", broken is None, f"{count} astray", "0", where)
 
     def _unshared(self) -> Iterator[tuple[int, str]]:
-        """At least how many systems are astray, where each stretch, down and back ends.
-
-        Without a word of the program for it: those without time beyond those who are cut off from all that can be
-        grandmaster, and roots beyond one a component. With a hold of one's own somebody who is cut off may still have
-        time then, so nobody is left out.
-        """
+        """At least how many systems are astray, where each stretch and each single fault ends."""
         for line in self._timeline:
             if line.kind == "after":
                 components = len(parting.Parting(self._document, line["from"]).components)
@@ -242,11 +255,9 @@ class _Judge:
                 where = f"after {in_seconds(line['from'])}s {told}" if line["from"] else "start"
                 yield max(line["without"], line["roots"] + line["alone"] - components), where
         for case in self._cases():
-            cut = self._parting.cut(case)
-            spared = 0 if "hold" in self._asked else cut.without
-            down, back = case.down, case.back
-            yield max(down["without"] - spared, down["roots"] + down["alone"] - cut.components,
-                      back["without"], back["roots"] + back["alone"] - len(self._parting.components)), self._fault(case)
+            bound, hold = case.down["bound"], self._asked.get("hold")
+            settled = hold is None or bound is not None and bound <= hold
+            yield self._parting.astray(case, settled), self._fault(case)
 
     def _cut(self) -> Verdict:
         """How many systems a fault cuts off at most, by the document alone."""
@@ -265,7 +276,10 @@ class _Judge:
         return Verdict("grandmaster", False, name(broken[0]) if broken[0] else "none", asked, broken[2])
 
     def _led(self) -> Iterator[tuple[str | None, str | None, str]]:
-        """Who leads, who ought to, and where: in the end, in each down, and in each back that tells who is followed."""
+        """Who leads, who ought to, and where: in the end, in each down, and in each back that tells who is followed.
+
+        Where none of the list is live nobody ought to.
+        """
         leaders = [clock for clock in self._asked["grandmaster"] if clock in self._parting.live]
         first = next(iter(leaders), None)
         root = next((line["root_id"][12:] for line in self._choice
@@ -276,8 +290,8 @@ class _Judge:
             second = next((clock for clock in leaders if clock != failed), None)
             for line, wanted in ((case.down, second), (case.back, first)):
                 followed = case.followed(line)
-                if followed or line is case.down:
-                    most = max(followed, key=lambda told: told["systems"], default=None)
+                if wanted is not None and (followed or line is case.down):
+                    most = max(followed, key=lambda told: int(told["systems"]), default=None)
                     yield most["root_id"][12:] if most else None, wanted, self._fault(case)
 
     def _fault(self, case: Case) -> str:

@@ -15,4 +15,5 @@ def json_lines(lines: Iterable[Line]) -> Iterator[str]:
 
 
 def _json(value: Value) -> str:
+    """A value as JSON has it."""
     return str(value) if isinstance(value, Decimal) else json.dumps(value)

@@ -17,7 +17,7 @@ def read(paths: list[str]) -> Plan:
     ends: dict[frozenset[End], tuple[End, End]] = {}
     for path in paths:
         for port, neighbour in _neighbours(path):
-            name, clock, peer_port = _peer(neighbour, path)
+            name, clock, peer_port = _peer(neighbour, f"{path}: the neighbour at {port}")
             clocks[name] = clocks.get(name) or clock
             pair = ((Path(path).stem, port), (name, peer_port))
             ends.setdefault(frozenset(pair), pair)
@@ -32,10 +32,11 @@ def _neighbours(path: str) -> Iterator[tuple[str, dict[str, Any]]]:
         for member in told if isinstance(told, list) else [told]:
             yield from member.items()
     except (ValueError, KeyError, TypeError, AttributeError) as why:
-        raise Refused(f"{path}: isn't what `lldpcli show neighbors -f json` writes") from why
+        line = why.lineno if isinstance(why, json.JSONDecodeError) else 1
+        raise Refused(f"{path}: line {line}: isn't what `lldpcli show neighbors -f json` writes") from why
 
 
-def _peer(neighbour: dict[str, Any], path: str) -> tuple[str, str | None, str]:
+def _peer(neighbour: dict[str, Any], where: str) -> tuple[str, str | None, str]:
     """A neighbour's name, its clock where it tells a MAC address, and its port."""
     try:
         chassis, port = neighbour["chassis"], neighbour["port"]
@@ -45,4 +46,4 @@ def _peer(neighbour: dict[str, Any], path: str) -> tuple[str, str | None, str]:
         called = port["id"]["value"]
         return name or identity["value"], clock, called if port["id"]["type"] == "ifname" else port.get("descr", called)
     except (KeyError, TypeError, StopIteration) as why:
-        raise Refused(f"{path}: a neighbour lacks its chassis or port") from why
+        raise Refused(f"{where} lacks its chassis or port") from why

@@ -23,6 +23,7 @@ def time(least: int, most: int) -> Callable[[str], int]:
 
 
 def _nanoseconds(text: str) -> int:
+    """A time in ns; one that is none is an error of usage."""
     try:
         return nanoseconds(text)
     except Refused as why:

@@ -12,7 +12,7 @@ from . import plots
 from .cases import Shown
 from .documents import Document, interval
 from .drawing import Drawing, Seen, View
-from .faults import Case, Faults
+from .faults import Case, Faults, size
 from .judging import Judgement
 from .naming import Names
 from .pictures import inline, width
@@ -20,9 +20,10 @@ from .quantities import in_seconds, in_units
 from .readable import Readable
 from .strips import Colours, strips
 from .texts import Line
-from .timelines import Stretch
+from .timelines import Stretch, joined
 
 _NONE = "\u2013"
+_MOST_EVENTS = 6  # that are told of a stretch
 _DEFAULTS = {"announce": 0, "sync": -3, "pdelay": 0, "timeout": 3, "lost": 9, "threshold": 800, "turnaround": 1000,
              "residence": 1000, "sync_timeout": 0}
 
@@ -73,6 +74,8 @@ class _Page:
         shown = [*told.stretches, *(stretch for case in told.cases for stretch in case.stretches)]
         self._colours = Colours(shown)
         self._drawing = Drawing(told.document, fold=False)
+        # what happens within two Sync intervals, as where devices boot, is one picture
+        self._joined = joined(told.stretches, 2 * told.document.sync)
 
     def parts(self) -> dict[str, object]:
         """What the template asks for."""
@@ -89,11 +92,11 @@ class _Page:
             "word_told": judgement.last_line if judgement else "",
             "settings": self._settings(),
             "calls": told.calls,
-            "network": self._network(told.stretches[0]),
+            "network": self._network(),
             "stretches": self._stretches(),
             "roots": [{"fill": _fill(look.colour, look.hatched), "name": self._root(root)}
                       for root, look in self._colours.roots.items()],
-            "strips": list(self._strips(told.stretches[1:])),
+            "strips": list(self._strips()),
             "worst": [self._case(case) for case in told.cases],
             "worst_told": "Faults that cut off one leaf alone aren't among them.",
             "over_steps": _picture(over),
@@ -111,7 +114,7 @@ class _Page:
     def _measured(self) -> Table:
         """Without requirements: when all have time, the worst wait for it, the worst error, and the worst bound."""
         first, later = self._told.stretches[0], self._told.stretches[1:]
-        rows = [("all have time", _units(first.measures["offsets"]), "after the start")]
+        rows = [("all have time", _units(self._first_time()), "after the start")]
         waits = [(stretch.measures, f"after {self._events(stretch)}") for stretch in later]
         tried = self._told.faults.cases if self._told.faults else ()
         waits += [(line, f"fault {self._what(case)}") for case in tried for line in (case.down, case.back)]
@@ -122,11 +125,17 @@ class _Page:
         rows.append(("greatest bound of an error as it comes", _units(bound[1]), self._whose(bound[0] or None)))
         return Table((), [[Cell(what, "text"), Cell(value), Cell(where, "text")] for what, value, where in rows])
 
+    def _first_time(self) -> int | None:
+        """When the last system has got time, in ns, in the first stretch and in those that are one with it."""
+        got = ((stretch.begin, stretch.measures["offsets"]) for stretch in self._told.stretches
+               if stretch.begin < self._joined[0].end)
+        return max((begin + offsets for begin, offsets in got if offsets is not None), default=None)
+
     def _greatest(self, lines: Sequence[tuple[Line, str]], name: str) -> tuple[str, str]:
         """The greatest of a measure, and whose and where it is."""
         if not lines:
             return _NONE, ""
-        line, where = max(lines, key=lambda it: it[0][name])
+        line, where = max(lines, key=lambda it: size(it[0], name))
         return _units(line[name]), f"{self._whose(line[f'{name}_clock'])} {where}".strip()
 
     def _settings(self) -> Table:
@@ -149,19 +158,24 @@ class _Page:
         pairs = zip(rows[:half], [*rows[half:], ("", "")])
         return Table((), [[Cell(a, "text"), Cell(b), Cell(c, "text"), Cell(d)] for (a, b), (c, d) in pairs])
 
-    def _network(self, stretch: Stretch) -> Markup:
-        """The network at the end of a stretch."""
-        up = self._document.links_up(stretch.begin)
+    def _network(self) -> Markup:
+        """The network at the end of the first stretch at which it is whole, else of the first."""
+        whole = (stretch for stretch in self._joined if all(self._document.links_up(stretch.last_moment))
+                 and not any(system.failed for system in stretch.ended.values()))
+        stretch = next(whole, self._joined[0])
+        up = self._document.links_up(stretch.last_moment)
         title = f"at {in_seconds(stretch.end)} s"
         seen = Seen(self._told.bounds, stretch.errors())
         return Markup(inline(self._drawing.svg(View(stretch.ended, up, title, seen, self._colours.of_boxes()))))
 
     def _stretches(self) -> Table:
+        """The table of what happens, stretch by stretch."""
         head = ("from", "to", "events", "choice", "roles", "offsets", "bound", "longest wait", "greatest error",
                 "without time", "roots", "alone")
         return Table(head, [self._stretch_row(stretch) for stretch in self._told.stretches])
 
     def _stretch_row(self, stretch: Stretch) -> list[Cell]:
+        """The row of a stretch."""
         line = stretch.measures
         return [
             Cell(f"{in_seconds(stretch.begin)}s"),
@@ -179,8 +193,10 @@ class _Page:
             yield Cell(str(line[name]))
 
     def _events(self, stretch: Stretch) -> str:
-        """The events that begin a stretch."""
-        return "; ".join(self._event(event["kind"], event["words"]) for event in stretch.events) or "start"
+        """The events that begin a stretch; many are cut short."""
+        told = [self._event(event["kind"], event["words"]) for event in stretch.events[:_MOST_EVENTS]]
+        more = len(stretch.events) - len(told)
+        return "; ".join([*told, *([f".. {more} more"] if more else [])]) or "start"
 
     def _event(self, kind: str, words: Sequence[str]) -> str:
         """An event with names; long words, such as frames, are cut."""
@@ -188,9 +204,11 @@ class _Page:
         what = self._names.number(words[0], int(words[1])) if has_port else self._document.name(words[0])
         return " ".join([kind, what, *(word[:40] for word in words[2 if has_port else 1:])])
 
-    def _strips(self, stretches: Iterable[Stretch]) -> Iterator[dict[str, object]]:
-        """The strips of stretches in which something changes."""
-        for stretch in stretches:
+    def _strips(self) -> Iterator[dict[str, object]]:
+        """The strips of stretches that have an event later than 0, and in which something changes."""
+        for stretch in self._joined:
+            if not any(event["at"] > 0 for event in stretch.events):
+                continue
             if picture := strips(self._document, stretch, self._colours, self._document.sync):
                 yield {"title": f"{in_seconds(stretch.begin)} s: {self._events(stretch)}",
                        "picture": _picture(picture)}
@@ -210,7 +228,7 @@ class _Page:
 
     def _case_picture(self, stretch: Stretch, shown: Shown) -> dict[str, object]:
         """The network at the end of a stretch of a case, and how wide it is."""
-        up = shown.document.links_up(stretch.begin)
+        up = shown.document.links_up(stretch.last_moment)
         title = "before" if stretch.end == shown.at else "while it is down"
         svg = self._drawing.svg(View(stretch.ended, up, title, colour=self._colours.of_boxes()))
         return {"svg": Markup(inline(svg)), "width": width(svg)}
@@ -235,10 +253,20 @@ class _Page:
         lines = [(stretch, line) for stretch in self._told.stretches for line in stretch.accuracy]
         if lines:
             yield {"title": f"All {len(lines)} bounds of errors as they come", "table": self._accuracy(lines)}
-        for stretch in self._told.stretches:
-            yield {"title": f"The network at {in_seconds(stretch.end)} s", "picture": self._network(stretch)}
+        yield from self._trees()
+
+    def _trees(self) -> Iterator[dict[str, object]]:
+        """The tree at the end of each stretch; one that was there before is drawn once."""
+        drawn: dict[str, str] = {}
+        for stretch in self._joined:
+            at, up = f"at {in_seconds(stretch.end)} s", self._document.links_up(stretch.last_moment)
+            view = View(stretch.ended, up, "", colour=self._colours.of_boxes())
+            before = drawn.setdefault(self._drawing.dot(view), at)
+            shown = {"told": f"As {before}."} if before != at else {"picture": Markup(inline(self._drawing.svg(view)))}
+            yield {"title": f"The network {at}"} | shown
 
     def _accuracy(self, lines: Iterable[tuple[Stretch, Line]]) -> Table:
+        """The table of bounds of errors."""
         return Table(("after", "system", "greatest error", "bound", "from"),
                      [[Cell(self._events(stretch), "text"), Cell(self._document.name(line["clock"]), "text"),
                        Cell(_units(line["error"])), Cell(_units(line["bound"])), Cell(f"{in_seconds(line['from'])}s")]
@@ -267,20 +295,25 @@ class _Page:
         return f"link {' '.join(self._names.number(clock, port) for clock, port in ends)}"
 
     def _whose(self, clock: str | None) -> str:
+        """What a system is called, where there is one."""
         return "" if clock is None else self._document.name(clock)
 
     def _root(self, root: str) -> str:
+        """A root by name, with its priority1."""
         return f"{self._root_name(root)}, priority1 {int(root[:2], 16)}"
 
     def _root_name(self, root: str) -> str:
+        """What the system of an identity is called."""
         return self._document.name(root[12:])
 
 
 def _units(value: int | Decimal | None) -> str:
+    """A number of ns with its unit."""
     return _NONE if value is None else in_units(value)
 
 
 def _picture(svg: bytes | None) -> Markup | None:
+    """An SVG file as an element of the page, where there is one."""
     return Markup(inline(svg)) if svg else None
 
 

@@ -71,6 +71,18 @@ class Parting:
             cut += own[1:]
         return Cut(len(parts), sum(map(len, cut)), sum(len(part) for part in cut if self._nobody(part)))
 
+    def astray(self, case: Case, settled: bool = True) -> int:
+        """How many systems that aren't cut off may not share one time, where the fault or its return ends.
+
+        The program doesn't tell it. It is those without time, and roots beyond one a component. Who is cut off from
+        all that can be grandmaster is spared, where the fault lasts until all is settled: else somebody there may have
+        time yet.
+        """
+        cut, down, back = self.cut(case), case.down, case.back
+        of_down = down["without"] - (cut.without if settled else 0), down["roots"] + down["alone"] - cut.components
+        of_back = back["without"], back["roots"] + back["alone"] - len(self.components)
+        return int(max(*of_down, *of_back, 0))
+
     def _nobody(self, part: Iterable[str]) -> bool:
         """Whether nobody of a part can be grandmaster."""
         return min(self.identity[clock] for clock in part)[0] == NEVER

@@ -6,6 +6,7 @@ import subprocess
 
 from .refusal import MissingPackage, Refused
 
+_SHARED = ('text-anchor="middle"', 'font-family="Helvetica,sans-Serif"')  # what Graphviz says of each text
 _PACKAGES = {"dot": "graphviz", "neato": "graphviz"}
 
 
@@ -23,13 +24,19 @@ def draw(command: list[str], text: str) -> bytes:
 def inline(svg: bytes) -> str:
     """An SVG file as an element of an HTML page: as wide as there is room, at most as wide as it was made.
 
-    Its head and the names of namespaces are left out.
+    Its head, comments, tooltips, names of groups and of namespaces are left out, and what all its texts have in common
+    is said once.
     """
     text = svg.decode()
     element = re.sub(r"""\s+xmlns(:\w+)?=(?:"[^"]*"|'[^']*')""", "", text[text.index("<svg"):])
+    element = re.sub(r"<!--.*?-->\s*|<title>.*?</title>\s*", "", element, flags=re.DOTALL)
+    element = re.sub(r'<g id="[^"]*"(?: class="[^"]*")?', "<g", element)
     head, _, rest = element.partition(">")
     head = re.sub(r' (width|height)="[0-9.]+pt"', "", head)
-    return f'{head} width="100%" style="max-width: {width(svg)}px">{rest}'
+    shared = "".join(f" {name}" for name in _SHARED if name in rest)
+    for name in _SHARED:
+        rest = rest.replace(f"<text {name}", "<text").replace(f" {name}", "")
+    return f'{head}{shared} width="100%" style="max-width: {width(svg)}px">{rest}'
 
 
 def width(svg: bytes) -> int:

@@ -69,5 +69,6 @@ def _role(standing: Standing, end: End) -> str:
 
 
 def _line(tail: End, head: End, attributes: str) -> str:
+    """An edge between two ports."""
     ports = f"taillabel={quoted(str(tail.port))}, headlabel={quoted(str(head.port))}"
     return f"{quoted(tail.clock)} -> {quoted(head.clock)} [{attributes}, {ports}]"

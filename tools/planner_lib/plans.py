@@ -97,9 +97,8 @@ def in_range(section: str, key: str, value: int, name: str = "") -> int:
 
 def document(plan: Plan, settings: Settings, comment: str) -> Document:
     """The document of a network. Systems that only cables name come after the others, in order of first appearance."""
+    _distinct(plan.nodes)
     named = {node.name: node for node in plan.nodes}
-    if len(named) != len(plan.nodes):
-        raise Refused(f"the system {_twice([node.name for node in plan.nodes])} is there twice")
     for cable in plan.cables:
         for name in (cable.a, cable.b):
             named.setdefault(name, Node(name))
@@ -107,10 +106,10 @@ def document(plan: Plan, settings: Settings, comment: str) -> Document:
     booted = [_booted(node, settings) for node in named.values()]
     nodes, cables, parts = _parted(booted, plan.cables)
     few(len(nodes))
-    if len({node.name for node in nodes}) != len(nodes):
-        raise Refused(f"the system {_twice([node.name for node in nodes])} is there twice")
+    _distinct(nodes)
     clocks = _clocks(nodes)
     labels = _labels(cables)
+    _fitting(cables, labels)
     ports = {node.name: _ports(node, labels.get(node.name, [])) for node in nodes}
     systems = [_system(node, clocks[node.name], ports[node.name], settings) for node in nodes]
     links = []
@@ -147,11 +146,11 @@ def _parted(nodes: list[Node], cables: list[Cable]) -> tuple[list[Node], list[Ca
         if node.relays or len(labels) < 2:
             made.append(node)
             continue
-        _once(node.name, labels)
         for part, label in enumerate(labels, 1):
             name = name_of[node.name, label] = f"{node.name}/{part}"
-            made.append(replace(node, name=name, clock=_part_clock(node, part), part=part,
-                                keys=node.keys | {"ports": 1}))
+            with told_at(node.where):
+                clock = _part_clock(node, part)
+            made.append(replace(node, name=name, clock=clock, part=part, keys=node.keys | {"ports": 1}))
             parts.add(node.name, "" if label.startswith(_UNNAMED) else label, name)
     return made, [replace(cable, a=name_of.get((cable.a, _label(cable.a_port, place)), cable.a),
                           b=name_of.get((cable.b, _label(cable.b_port, place)), cable.b))
@@ -169,9 +168,14 @@ def _part_clock(node: Node, part: int) -> str | None:
     return f"{number:016x}"
 
 
-def _twice(words: list[str]) -> str:
-    """The first word that is there twice."""
-    return next(word for place, word in enumerate(words) if word in words[:place])
+def _distinct(nodes: list[Node]) -> None:
+    """Refuses a system that is there twice."""
+    seen: set[str] = set()
+    for node in nodes:
+        if node.name in seen:
+            with told_at(node.where):
+                raise Refused(f"the system {node.name} is there twice")
+        seen.add(node.name)
 
 
 def few(systems: int) -> None:
@@ -181,28 +185,33 @@ def few(systems: int) -> None:
 
 
 def _sound(cables: list[Cable]) -> None:
-    """Refuses too many cables, and one that ends where it begins."""
+    """Refuses too many cables, one that ends where it begins, and one at a port that has one."""
     if len(cables) > MOST_LINKS:
         raise Refused(f"{len(cables)} links: a document has at most {MOST_LINKS}")
+    taken: set[tuple[str, str]] = set()
     for cable in cables:
         with told_at(cable.where):
             if cable.a == cable.b:
                 raise Refused(f"a link leads from {cable.a} to itself")
+            for name, port in ((cable.a, cable.a_port), (cable.b, cable.b_port)):
+                if port and (name, port) in taken:
+                    raise Refused(f"port {port} of {name} has two links")
+                taken.add((name, port))
 
 
 def _clocks(nodes: list[Node]) -> dict[str, str]:
     """The clock of each system: the one given, the one that its name spells, or a local one by its place."""
     given = {node.name: node.clock or clock_of(node.name) for node in nodes}
     clocks: dict[str, str] = {}
-    holder: dict[str, str] = {}
+    holder: dict[str, Node] = {}
     # what is given goes before what is counted on from it, and both before what is made up
     for place, node in sorted(enumerate(nodes, 1), key=lambda it: (not given[it[1].name], (it[1].part or 1) > 1)):
         clock = given[node.name] or f"020000fffe{place:06x}"
-        with told_at(node.where):
-            if clock in holder:
-                raise Refused(f"{node.name} has the clock {clock}, which {holder[clock]} has")
+        if clock in holder:
+            with told_at(node.where or holder[clock].where):
+                raise Refused(f"{node.name} has the clock {clock}, which {holder[clock].name} has")
         clocks[node.name] = clock
-        holder[clock] = node.name
+        holder[clock] = node
     return clocks
 
 
@@ -231,19 +240,10 @@ def _ordered(labels: list[str]) -> list[str]:
         label for label in labels if label.startswith(_UNNAMED)]
 
 
-def _once(name: str, labels: list[str]) -> None:
-    """Refuses a port that has two links."""
-    if len(set(labels)) != len(labels):
-        raise Refused(f"port {_twice(labels)} of {name} has two links")
-
-
 def _ports(node: Node, labels: list[str]) -> dict[str, int]:
     """The number of each port: its own where all are 1 to 16, else by their order; those without a name come last."""
     if node.part:
         return {labels[0]: 1}
-    _once(node.name, labels)
-    if len(labels) > MOST_PORTS:
-        raise Refused(_too_many(node.name, labels))
     called = _ordered([label for label in labels if not label.startswith(_UNNAMED)])
     free = [label for label in labels if label.startswith(_UNNAMED)]
     own = {label: int(label) for label in called if re.fullmatch(r"[1-9]|1[0-6]", label)}
@@ -252,8 +252,16 @@ def _ports(node: Node, labels: list[str]) -> dict[str, int]:
     return numbers | dict(zip(free, left))
 
 
+def _fitting(cables: list[Cable], labels: dict[str, list[str]]) -> None:
+    """Refuses a system with more links than a system has ports, at the first that is too many."""
+    for name, own in labels.items():
+        if len(own) > MOST_PORTS:
+            with told_at([cable.where for cable in cables if name in (cable.a, cable.b)][MOST_PORTS]):
+                raise Refused(_too_many(name, own))
+
+
 def _too_many(name: str, labels: list[str]) -> str:
-    """What a system with too many links is told; its ports stand in the order of the table."""
+    """What is told of a system with too many links; its ports are in the order of the table."""
     names = [label for label in labels if not label.startswith(_UNNAMED)]
     which = f" ({', '.join(runs(names))})" if names else ""
     spare = len(labels) - MOST_PORTS

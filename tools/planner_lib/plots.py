@@ -87,16 +87,19 @@ def over_time(document: Document, stretches: Sequence[Stretch], clocks: Sequence
     else:
         times, least, most = envelope(samples, sync)
         axes.fill_between(times, least, most, color="#56B4E9", edgecolor="#0072B2", linewidth=0.8)
-    for stretch in stretches:
-        if stretch.events:
-            axes.axvline(stretch.begin / 1e9, color="red", linewidth=0.8)
+    events = [stretch.begin / 1e9 for stretch in stretches if stretch.events]
+    axes.vlines(events, 0, 1, transform=axes.get_xaxis_transform(), color="red", linewidth=0.8,
+                rasterized=len(events) > POINTS)
     axes.set_xlabel("time in s")
     axes.set_ylabel("error in ns")
     return as_svg(figure)
 
 
 def envelope(samples: Sequence[Sample], sync: int) -> tuple[list[float], list[float], list[float]]:
-    """The least and the greatest error of each of 1,000 columns of time; NaN ends what would lead over a gap."""
+    """The times in s of 1,000 columns, and the least and the greatest error of each in ns.
+
+    NaN ends what would lead over a gap of more than two Sync intervals, which are in ns.
+    """
     begin, end = samples[0].at, samples[-1].at
     width = max((end - begin) / POINTS, 1)
     columns: dict[int, list[Sample]] = {}
@@ -117,10 +120,12 @@ def envelope(samples: Sequence[Sample], sync: int) -> tuple[list[float], list[fl
 
 
 def _put(times: list[float], least: list[float], most: list[float], time: float, low: float, high: float) -> None:
+    """Adds a column: its time in s, and its errors in ns."""
     times.append(time)
     least.append(low)
     most.append(high)
 
 
 def _names(document: Document, clocks: Iterable[str]) -> str:
+    """What systems are called, as one text."""
     return ", ".join(document.name(clock) for clock in clocks)

@@ -1,6 +1,7 @@
 """The program that is asked: the launcher at the top of the repository, or what GPTP_SIM names."""
 
 import os
+import re
 import subprocess
 from functools import cache
 from pathlib import Path
@@ -30,6 +31,14 @@ def _call(command: list[str], octets: bytes) -> subprocess.CompletedProcess[byte
     return ended
 
 
+def _refusal(program: str, document: bytes, told: str) -> str:
+    """Why a document is refused: `lint` tells the place of the same fault, of which the line comes first."""
+    lines = _call([program, "lint"], document).stdout.decode("ascii", errors="replace").splitlines()
+    whole = lines[0] if lines and lines[0].startswith(told) else told
+    found = re.match(r"refused .*? line (\d+)", whole)
+    return f"line {found[1]}: {whole}" if found else whole
+
+
 def ask(words: list[str], document: bytes, source: str) -> list[str]:
     """The lines that the program writes for a document. A refusal is told with the name of the document's file."""
     program = os.environ.get("GPTP_SIM") or _built()
@@ -40,7 +49,7 @@ def ask(words: list[str], document: bytes, source: str) -> list[str]:
     told = ended.stderr.decode(errors="replace").strip().partition("\n")[0]
     lines = ended.stdout.decode("ascii", errors="replace").splitlines()
     if ended.returncode == 1 and lines and lines[0].startswith("refused "):
-        raise Refused(f"{source}: {lines[0]}")
+        raise Refused(f"{source}: {_refusal(program, document, lines[0])}")
     if ended.returncode == 2:
         raise Refused(f"gptp_sim doesn't read `{' '.join(words)}`: {told}")
     if ended.returncode not in (0, 1):

@@ -2,20 +2,21 @@
 
 import re
 from decimal import ROUND_HALF_UP, Decimal
+from fractions import Fraction
 
 from .refusal import Refused
 
 _NS = {"ns": 1, "us": 10**3, "ms": 10**6, "s": 10**9}
-_TIME = re.compile(r"(\d+(?:\.\d+)?) ?(ns|us|ms|s)?", re.ASCII)
+_TIME = re.compile(r"(\d{1,30}(?:\.\d{1,30})?) ?(ns|us|ms|s)?", re.ASCII)
 
 
 def nanoseconds(text: str) -> int:
     """The whole number of ns, 0 or more, that a text spells: `62.5 ms`, `1s`, `40`; without a unit it is in ns."""
     found = _TIME.fullmatch(text)
-    time = Decimal(found[1]) * _NS[found[2] or "ns"] if found else None
-    if time is None or time != int(time):
+    time = Fraction(found[1]) * _NS[found[2] or "ns"] if found else None
+    if time is None or time.denominator != 1:
         raise Refused(f"{text} isn't a time")
-    return int(time)
+    return time.numerator
 
 
 def in_units(time: int | Decimal) -> str:

@@ -6,6 +6,7 @@ Shape = tuple[list[Node], list[Cable]]
 
 
 def _nodes(names: list[str]) -> list[Node]:
+    """Systems of these names, of which the first is to lead."""
     return [Node(name, {"priority1": 100} if place == 0 else {}) for place, name in enumerate(names)]
 
 

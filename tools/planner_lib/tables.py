@@ -3,6 +3,7 @@
 import csv
 import io
 import math
+import re
 from fractions import Fraction
 from functools import partial
 from typing import Callable, Iterator, Mapping, TypeVar
@@ -140,7 +141,7 @@ def _delay(row: Row) -> dict[str, int]:
     medium = row.get("medium") or "copper"
     if medium not in NS_A_METRE:
         raise Refused(f"medium {medium} isn't {' or '.join(NS_A_METRE)}")
-    delay = _number(row, "metres", Fraction) * NS_A_METRE[medium]
+    delay = _decimal(row, "metres") * NS_A_METRE[medium]
     return {"min": in_range("link", "min", max(1, math.floor(delay))), "max": in_range("link", "max", math.ceil(delay))}
 
 
@@ -151,18 +152,21 @@ def _key(section: str, row: Row, key: str) -> int:
 
 def _drift(row: Row) -> int:
     """Parts per million in units of 2^-41, toward 0: 20 are 43980465, and 100 the greatest drift."""
-    return int(_number(row, "ppm", Fraction) * 2**41 / 10**6)
+    return int(_decimal(row, "ppm") * 2**41 / 10**6)
 
 
 def _whole(row: Row, key: str) -> int:
-    return _number(row, key, int)
+    """A cell that is a whole number."""
+    if not re.fullmatch(r"[-+]?[0-9]{1,30}", row[key]):
+        raise Refused(f"{key} {row[key]} isn't a whole number")
+    return int(row[key])
 
 
-def _number(row: Row, key: str, kind: Callable[[str], T]) -> T:
-    try:
-        return kind(row[key])
-    except (ValueError, ZeroDivisionError):
-        raise Refused(f"{key} {row[key]} isn't a {'whole ' if kind is int else ''}number") from None
+def _decimal(row: Row, key: str) -> Fraction:
+    """A cell that is a decimal number, exactly."""
+    if not re.fullmatch(r"[-+]?(?:[0-9]{1,30}(?:\.[0-9]{0,30})?|\.[0-9]{1,30})", row[key]):
+        raise Refused(f"{key} {row[key]} isn't a number")
+    return Fraction(row[key])
 
 
 def _each(path: str, columns: tuple[str, ...], required: tuple[str, ...], member: Callable[[Row, str], T]) -> list[T]:
@@ -201,6 +205,8 @@ def _columns(path: str, found: list[str], columns: tuple[str, ...], required: tu
     for name in required:
         if name not in found:
             raise Refused(f"{path}: line 1: there is no column `{name}`")
-    for name in found:
+    for place, name in enumerate(found):
+        if name in columns and name in found[:place]:
+            raise Refused(f"{path}: line 1: the column `{name}` is there twice")
         if name not in columns and not name.startswith("#"):
             raise Refused(f"{path}: line 1: the column `{name}` isn't one of {', '.join(columns)}")

@@ -178,5 +178,5 @@ def read_lines(lines: Iterable[str], source: str) -> Iterator[Line]:
     for number, text in enumerate(lines, 1):
         line = read_line(text)
         if line is None:
-            raise Refused(f"{source}: line {number} is no line of a command: {text[:60]}")
+            raise Refused(f"{source}: line {number}: no line of a command: {text[:60]}")
         yield line

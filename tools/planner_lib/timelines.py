@@ -3,7 +3,7 @@
 from dataclasses import dataclass, field
 from decimal import Decimal
 from functools import cached_property
-from typing import Iterable
+from typing import Iterable, Sequence
 
 from .standing import Standing, SystemStanding, apply
 from .texts import Line
@@ -57,6 +57,11 @@ class Stretch:
         """When it ends, in ns."""
         return int(self.measures["to"])
 
+    @property
+    def last_moment(self) -> int:
+        """The last time that is its own, in ns: events at its end begin the next."""
+        return max(self.begin, self.end - 1)
+
     def errors(self) -> dict[str, Decimal]:
         """The greatest absolute error of each system in ns: since its bound holds where that is known, else of all."""
         greatest: dict[str, Decimal] = {}
@@ -86,3 +91,28 @@ def read(lines: Iterable[Line]) -> list[Stretch]:
         elif line.kind == "accuracy":
             stretches[-1].accuracy.append(line)
     return stretches
+
+
+def joined(stretches: Sequence[Stretch], apart: int) -> list[Stretch]:
+    """Stretches of which those that begin less than some ns after the one before are one with it."""
+    groups: list[list[Stretch]] = []
+    for stretch in stretches:
+        if groups and stretch.begin - groups[-1][-1].begin < apart:
+            groups[-1].append(stretch)
+        else:
+            groups.append([stretch])
+    return [group[0] if len(group) == 1 else _joined(group) for group in groups]
+
+
+def _joined(group: Sequence[Stretch]) -> Stretch:
+    """Stretches as one, of which only the times are measured."""
+    measures = Line("after", {"from": group[0].begin, "to": group[-1].end}, "")
+    return Stretch(
+        group[0].began,
+        [event for stretch in group for event in stretch.events],
+        [change for stretch in group for change in stretch.changes],
+        [sample for stretch in group for sample in stretch.samples],
+        measures,
+        group[-1].ended,
+        group[-1].accuracy,
+    )
