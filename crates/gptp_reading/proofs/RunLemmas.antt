@@ -1,0 +1,166 @@
+-- Each act of a run of a document is done in a world that keeps what every world keeps, and so leaves exact readings.
+use Rattle.std.proofs.Common.{◌≡◌, ◌≤◌, ◌+◌, ◌^◌, ℕ, List, [], ◌∷◌, ◌++◌, Option, sym, subst, inl, inr, arith}
+use Rattle.std.specs.List.{AllByRecursion}
+use Rattle.gptp_lists.specs.Members.{In}
+use Rattle.gptp_lists.proofs.MemberLemmas.{In-parts}
+use Rattle.gptp_links.specs.declared.bounds.Bounds.{Bounds}
+use Rattle.gptp_plan.specs.declared.change.Timed.{Timed}
+use Rattle.gptp_plan.specs.Allowed.{IsFitAct}
+use Rattle.gptp_acts.specs.Acts.{at}
+use Rattle.gptp_acts.specs.Course.{WasDone}
+use Rattle.gptp_acts.specs.declared.done.Done.{Done}
+use Rattle.gptp_acts.specs.Prompt.{IsPromptIn, NoneFaster}
+use Rattle.gptp_acts.specs.World.{WorldState}
+use Rattle.gptp_acts.proofs.AdvanceLemmas.{leaves_less, next_fits, nothing_sooner}
+use Rattle.gptp_acts.proofs.PromptLemmas.{begun_none_faster, next_prompt, prompt_within, stays_none_faster}
+use Rattle.gptp_acts.proofs.SoundLemmas.{later_sound}
+use Rattle.gptp_acts.proofs.StayLemmas.{done_stays}
+use Rattle.gptp_world.proofs.ClaimedLemmas.{next_octet}
+use Rattle.gptp_world.proofs.InitialLemmas.{initial_sound}
+use Rattle.gptp_network.specs.Document.{DocumentState}
+use Rattle.gptp_network.specs.Snapshot.{events_by}
+use Rattle.gptp_report.specs.Transitions.{Courses, Makes, Passes, PassesTo, Transition, Unfolds, transition}
+use Rattle.gptp_kept.specs.LegibleLaws.{SetsAnOctet}
+use Rattle.gptp_kept.specs.TimedClaim.{AllClaimed}
+use Rattle.gptp_kept.proofs.ExactLemmas.{all_begins, all_kept, all_later}
+use Rattle.gptp_reached.specs.PlayedLaws.{IsPlayable}
+use Rattle.gptp_reached.proofs.ClaimedLemmas.{IsFitEvent, events_fit, least_of}
+use Rattle.gptp_reading.specs.Readings.{RunsReadExactly}
+use Rattle.gptp_reading.proofs.ExactLemmas.{worlds_read_exactly}
+
+module _ {F : Type 0} (answers : Bounds → ℕ → F → Option ℕ → F → Type 0) (least : ℕ) where
+  -- ---- one act
+
+  -- it was done in a world of which all is claimed, at a time that clocks can show
+  pub record IsKeptAct (timed : Timed) (done : Done) (w w' : WorldState) : Type 0 where
+    pub fate : F
+    pub fate_after : F
+    pub all : AllClaimed w
+    pub was : WasDone answers timed fate fate_after w w' done
+    pub moment : timed.at ≤ 10 ^ 18
+
+  abbrev pub AreKept : List Transition → Type 0
+  AreKept ts = (t : Transition) → In t ts → IsKeptAct t.told.timed t.told.done t.before t.after
+
+  both_kept : (ts us vs : List Transition) → vs ≡ ts ++ us → AreKept ts → AreKept us → AreKept vs
+  both_kept ts us vs are first rest t member = elim (In-parts t ts us (subst (In t) are member)) [
+    | inl before ↦ first t before
+    | inr behind ↦ rest t behind
+  ]
+
+  -- ---- one after another
+
+  -- a world of which all is claimed, none of whose ports announces at an interval below the least
+  record IsKept (w : WorldState) : Type 0 where
+    all : AllClaimed w
+    slow : NoneFaster least w
+
+  kept_act : (timed : Timed) (fate fate_after : F) (w w' : WorldState) (done : Done) → IsFitAct timed.act
+      → IsPromptIn w timed.act → SetsAnOctet timed.act → WasDone answers timed fate fate_after w w' done → IsKept w
+      → IsKept w'
+  kept_act timed fate fate_after w w' done fit prompt octet was kept = record {
+    all = all_kept answers timed fate fate_after w w' done fit prompt octet was kept.all;
+    slow = stays_none_faster least w w'
+        (done_stays answers timed fate fate_after w w' done kept.all.is.world.sound.wired.setups was) kept.slow;
+  }
+
+  -- what happens by itself up to a time
+  record IsKeptUntil (until : ℕ) (ts : List Transition) (w' : WorldState) : Type 0 where
+    each : AreKept ts
+    kept : IsKept w'
+    early : w'.time ≤ until
+
+  passes_kept : (until : ℕ) (ts : List Transition) (fate fate_after : F) (w w' : WorldState)
+      → until ≤ 10 ^ 18 → Passes answers until ts fate fate_after w w' → IsKept w → w.time ≤ until
+      → IsKeptUntil until ts w'
+  passes_kept until [] fate fate_after w w' moment (same, is) kept early = record {
+    each = λ t member. absurd member;
+    kept = subst IsKept (sym is) kept;
+    early = subst (λ (v : WorldState). v.time ≤ until) (sym is) early;
+  }
+  passes_kept until (t ∷ ts) fate fate_after w w' moment (drawn, before, happens, rest) kept early =
+      let timed = t.told.timed in let next = happens.next in let was = happens.was_done in
+      let in_time = happens.early in
+      let sound = later_sound w timed.at w.last_change kept.all.is.world.sound was.ready.timely.first in
+      let then = (leaves_less next.item timed.at timed.act w was.draws t.told.done t.after sound next.act
+      was.acts).is_time in
+      let later = passes_kept until ts drawn fate_after t.after w' moment rest
+      (kept_act timed fate drawn w t.after t.told.done (next_fits w timed next) (next_prompt w timed next)
+      (next_octet next.item timed.act w next.act) was kept) (omega (arith, then, in_time)) in
+      let here : IsKeptAct timed t.told.done w t.after = record {
+        fate = fate;
+        fate_after = drawn;
+        all = kept.all;
+        was = was;
+        moment = omega (arith, moment, in_time);
+      } in
+      let one : IsKeptAct timed t.told.done t.before t.after =
+      subst (λ v. IsKeptAct timed t.told.done v t.after) (sym before) here in
+      record {
+        each = λ u member. elim member [
+          | inl same ↦ subst (λ (v : Transition). IsKeptAct v.told.timed v.told.done v.before v.after) (sym same) one
+          | inr behind ↦ later.each u behind
+        ];
+        kept = later.kept;
+        early = later.early;
+      }
+
+  passes_to_kept : (until : ℕ) (ts : List Transition) (fate fate_after : F) (w w' : WorldState)
+      → until ≤ 10 ^ 18 → PassesTo answers until ts fate fate_after w w' → IsKept w
+      → AreKept ts × IsKept w'
+  passes_to_kept until ts fate fate_after w w' moment k kept =
+      let on = passes_kept until ts fate fate_after w k.between moment k.passes kept k.ahead in
+      let first = nothing_sooner until (until + 1) k.between.net.pending (omega arith) k.nothing_left in
+      let later : IsKept (at until k.between) =
+      record { all = all_later k.between until on.early first on.kept.all; slow = on.kept.slow } in
+      (on.each, subst IsKept (sym k.is) later)
+
+  -- an event is made
+  makes_kept : (event : Timed) (ts : List Transition) (fate fate_after : F) (w w' : WorldState)
+      → IsFitEvent least event → Makes answers event ts fate fate_after w w' → IsKept w → AreKept ts × IsKept w'
+  makes_kept event ts fate fate_after w w' fit k kept =
+      let moment = fit.moment in
+      let early : event.at ≤ 10 ^ 18 = omega (arith, moment) in
+      let on = passes_to_kept event.at k.first fate k.drawn w k.between early k.passes kept in
+      let made = transition event k.done k.between w' in
+      let here : IsKeptAct event k.done k.between w' =
+      record { fate = k.drawn; fate_after = fate_after; all = on.1.all; was = k.made; moment = early } in
+      let one : AreKept (made ∷ []) = λ t member. elim member [
+        | inl same ↦ subst (λ (v : Transition). IsKeptAct v.told.timed v.told.done v.before v.after) (sym same) here
+        | inr none ↦ absurd none
+      ] in (
+        both_kept k.first (made ∷ []) ts k.are on.0 one,
+        kept_act event k.drawn fate_after k.between w' k.done fit.fit
+            (prompt_within least event.act k.between on.1.slow fit.prompt) fit.octet k.made on.1,
+      )
+
+  courses_kept : (until : ℕ) (events : List Timed) (ts : List Transition) (fate fate_after : F) (w w' : WorldState)
+      → until ≤ 10 ^ 18 → AllByRecursion (IsFitEvent least) events
+      → Courses answers until events ts fate fate_after w w' → IsKept w → AreKept ts
+  courses_kept until [] ts fate fate_after w w' moment fit k kept =
+      (passes_to_kept until ts fate fate_after w w' moment k kept).0
+  courses_kept until (event ∷ events) ts fate fate_after w w' moment fit
+      (first, rest, drawn, between, makes, k, are) kept =
+      let made = makes_kept event first fate drawn w between fit.0 makes kept in
+      both_kept first rest ts are made.0
+      (courses_kept until events rest drawn fate_after between w' moment fit.1 k made.1)
+
+-- ---- a run
+
+pub acts_are_kept : {F : Type 0} (answers : Bounds → ℕ → F → Option ℕ → F → Type 0) (d : DocumentState) (until : ℕ)
+    (fate : F) (start w : WorldState) (ts : List Transition) → IsPlayable d → until ≤ 10 ^ 18
+    → Unfolds answers d until fate start ts w → AreKept answers (least_of d) ts
+acts_are_kept answers d until fate start w ts playable moment k =
+    let sound = initial_sound d.network playable.network in
+    courses_kept answers (least_of d) until (events_by until d.events) ts k.started k.drawn start w moment
+    (events_fit d until playable) k.courses
+    (record {
+      all = all_begins answers d.network fate k.started start playable.network sound k.begun;
+      slow = begun_none_faster answers d.network fate k.started start sound.wired.setups k.begun;
+    })
+
+pub runs_read_exactly : {F : Type 0} (answers : Bounds → ℕ → F → Option ℕ → F → Type 0) → RunsReadExactly answers
+runs_read_exactly answers d until fate start w ts t playable moment k member =
+    let kept = acts_are_kept answers d until fate start w ts playable moment k t member in
+    worlds_read_exactly answers t.told.timed kept.fate kept.fate_after t.before t.after t.told.done kept.all kept.was
+    kept.moment
