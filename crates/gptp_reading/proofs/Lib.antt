@@ -4,3 +4,4 @@ pub mod TellingLemmas
 pub mod UsedLemmas
 pub mod ExactLemmas
 pub mod RunLemmas
+pub mod AgeLemmas
