@@ -34,6 +34,7 @@ use Rattle.gptp_acts.specs.declared.done.Done.TheVariants.{Quiet, Heard}
 use Rattle.gptp_acts.specs.declared.station.Station.{Station}
 use Rattle.gptp_acts.specs.Prompt.{HavePace}
 use Rattle.gptp_acts.specs.Sound.{IsSound}
+use Rattle.gptp_acts.specs.Views.{ShowsLive}
 use Rattle.gptp_acts.specs.World.{Channel, WorldState, queue, receiver}
 use Rattle.gptp_timing.specs.Follower.{from}
 use Rattle.gptp_timing.specs.Tree.{IsWayTo}
@@ -63,8 +64,8 @@ use Rattle.gptp_kept.proofs.WayLemmas.{one_way}
 use Rattle.gptp_reached.specs.Headline.{HasComeDown, IsCalm, UsesFollowUp}
 use Rattle.gptp_reached.proofs.HeadlineLemmas.{quiet_as}
 use Rattle.gptp_reading.specs.Reading.{IsBestsTime, IsReadingErrorOf, reading, reading_error_at}
-use Rattle.gptp_reading.specs.Readings.{LeavesReading, WorldsReadExactly}
-use Rattle.gptp_reading.proofs.UsedLemmas.{IsUsedBy, used_by, used_exactly}
+use Rattle.gptp_reading.specs.Readings.{LeavesReading, LeavesTime, WorldsLeaveTime, WorldsReadExactly}
+use Rattle.gptp_reading.proofs.UsedLemmas.{IsUsedBy, leaves_time, used_by, used_exactly}
 
 -- ---- who uses a Follow_Up
 
@@ -145,6 +146,18 @@ stood link direction w draws done w' sound k place place' station station' here 
     ∙ ap (place_of w'.stations) same ∙ keeps.places (clock station.system)
     ∙ sym (place_is w sound.wired.clocks place station here)
 
+-- so what the system shows after the act is what the Follow_Up made of it
+left_is : (link : ℕ) (direction : Direction) (w w' : WorldState) (draws : List Draw) (number : ℕ) (done : Done)
+    → IsSound w → Acts (Deliver link direction) w draws done w' → (u : HasUser direction link w w' number)
+    → (s : SystemState) → ShowsLive number w' s → s ≡ u.after
+left_is link direction w w' draws number done sound k u s shows =
+    let same = stood link direction w draws done w' sound k u.place shows.place u.station shows.station u.there
+    shows.is.here (shows.is.named ∙ sym u.named) in
+    shows.state
+    ∙ ap (λ (y : Station). y.system)
+    (same_there w'.stations u.place shows.station (in_state u.after u.station)
+    (ap (slice_get w'.stations) (sym same) ∙ shows.is.here) u.becomes)
+
 -- ---- at the system that follows there
 
 -- the Follow_Up is the oldest frame on the lane to the system, which uses it
@@ -152,7 +165,7 @@ record IsUsedHere (w : WorldState) (place : LinkPlace) (f : IsFollower place w) 
     (after : SystemState) : Type 0 where
   rest : List Frame
   front : queue place.direction f.channel ≡ frame w.time octets ∷ rest
-  used : IsUsedBy (receiver place.direction f.channel).port m (state_of place w f) after
+  used : IsUsedBy (receiver place.direction f.channel).port m w.time (state_of place w f) after
 
 module _ (p : Pace) (settled longest : ℕ) (w : WorldState) (is : IsSettledFrom p settled longest w) (place : LinkPlace)
     (f : IsFollower place w) (link : ℕ) (direction : Direction) (w' : WorldState) (number : ℕ)
@@ -161,9 +174,9 @@ module _ (p : Pace) (settled longest : ℕ) (w : WorldState) (is : IsSettledFrom
   abbrev port : ℕ
   port = (receiver direction u.channel).port
 
-  used : IsUsedBy port u.message (state_of place w f) u.after
+  used : IsUsedBy port u.message w.time (state_of place w f) u.after
   used =
-      subst (λ (y : Station). IsUsedBy port u.message y.system u.after) (sym own)
+      subst (λ (y : Station). IsUsedBy port u.message w.time y.system u.after) (sym own)
       (used_by port u.message u.octets w.time u.station.system u.after u.sends u.reads u.steps)
 
   ports : (receiver place.direction f.channel).port ≡ port
@@ -186,7 +199,7 @@ module _ (p : Pace) (settled longest : ℕ) (w : WorldState) (is : IsSettledFrom
         front = ap (queue place.direction) (sym lane.same_channel)
             ∙ ap (λ way. queue way u.channel) (sym (opposite_same direction place.direction lane.same_way))
             ∙ u.front;
-        used = subst (λ q. IsUsedBy q u.message (state_of place w f) u.after) (sym ports) used;
+        used = subst (λ q. IsUsedBy q u.message w.time (state_of place w f) u.after) (sym ports) used;
       }
 
 -- ---- in a calm world
@@ -266,17 +279,6 @@ module _ (link : ℕ) (direction : Direction) (w w' : WorldState) (draws : List 
       way.phase way.leads).2 in
       subst (λ r. settled + suc steps * (p.params.threshold + r) ≤ w.time) (sym residence) late
 
-  -- the state that is left
-  after_is : leaves.system ≡ by_whom.after
-  after_is =
-      let shows = leaves.shows in
-      let same = stood link direction w draws done w' claimed.world.sound k by_whom.place shows.place by_whom.station
-      shows.station by_whom.there shows.is.here (shows.is.named ∙ sym by_whom.named) in
-      shows.state
-      ∙ ap (λ (y : Station). y.system)
-      (same_there w'.stations by_whom.place shows.station (in_state by_whom.after by_whom.station)
-      (ap (slice_get w'.stations) (sym same) ∙ shows.is.here) by_whom.becomes)
-
   pub reads_exactly : AreWithin error read shown
   reads_exactly =
       let here = used_here p settled p.params.threshold w is_settled followed.at followed.follower link direction w'
@@ -284,7 +286,9 @@ module _ (link : ℕ) (direction : Direction) (w w' : WorldState) (draws : List 
       let exact = used_exactly p settled p.params.threshold w is_settled right
       (carries m settled calm_by already early) followed.at followed.follower steps has_way by_whom.octets here.rest
       here.front by_whom.message by_whom.reads by_whom.after here.used from_then later best.shows.station root read
-      (subst (λ (y : SystemState). reading y (w.time + later) ≡ Some read) after_is leaves.is) in
+      (subst (λ (y : SystemState). reading y (w.time + later) ≡ Some read)
+      (left_is link direction w w' draws number done claimed.world.sound k by_whom leaves.system leaves.shows)
+      leaves.is) in
       let root_time : local_time best.shows.station.system (w.time + later) ≡ shown =
       sym (best.is ∙ ap (λ (y : SystemState). local_time y (w.time + later)) best.shows.state) in
       subst (λ e. AreWithin e read shown) (sym way.is)
@@ -322,6 +326,21 @@ best_then w time number moment shown is = record {
 
 calm_then : (p : Pace) (w : WorldState) (time : ℕ) → IsCalm p w → IsCalm p (at time w)
 calm_then p w time calm = record { of = calm.of; links = calm.links; lapses = calm.lapses }
+
+pub worlds_leave_time : {F : Type 0} (answers : Bounds → ℕ → F → Option ℕ → F → Type 0) → WorldsLeaveTime answers
+worlds_leave_time answers timed fate fate_after w w' done number s all k uses shows = by timed.act k.acts
+  where
+    by : (act : Act) → Acts act (at timed.at w) k.draws done w' → LeavesTime timed.at s
+    by (Deliver link direction) acts =
+        let now = all_later w timed.at k.ready.timely.now k.ready.timely.first all in
+        let u = user link direction (at timed.at w) w' k.draws number done acts uses in
+        subst (LeavesTime timed.at)
+        (sym (left_is link direction (at timed.at w) w' k.draws number done now.is.world.sound acts u s shows))
+        (leaves_time (receiver direction u.channel).port u.message timed.at u.station.system u.after
+        (used_by (receiver direction u.channel).port u.message u.octets timed.at u.station.system u.after u.sends
+        u.reads u.steps))
+    by (Expire name timer) (quiet, rest) = absurd (subst (UsesFollowUp number) quiet uses)
+    by (Changing change) (quiet, rest) = absurd (subst (UsesFollowUp number) quiet uses)
 
 pub worlds_read_exactly : {F : Type 0} (answers : Bounds → ℕ → F → Option ℕ → F → Type 0) → WorldsReadExactly answers
 worlds_read_exactly answers timed fate fate_after w w' done all k moment p m steps number later error read shown calm

@@ -1,7 +1,7 @@
 -- What a Follow_Up that a system uses leaves it.
 use Rattle.std.proofs.Common.{◌≡◌, ◌≢◌, ◌≤◌, ◌+◌, ◌*◌, ℕ, suc, ℤ, pos, ◌+ℤ◌, ◌-ℤ◌, ◌*ℤ◌, ◌≤ℤ◌, negsuc, Bool, true, false, List, ◌∷◌, map, Option, Some, None, refl, sym, ap, subst, ◌∙◌, inl, inr, arith}
 use Rattle.std.specs.Option.{option_and_then, option_map, option_map_or}
-use Rattle.std.specs.Prelude.{if◌then◌else◌}
+use Rattle.std.specs.Prelude.{◌<◌, IsSome, if◌then◌else◌}
 use Rattle.std.proofs.lemmas.Bool.Decides.{nat_tests}
 use Rattle.std.proofs.lemmas.Int.{ints, clamps}
 use Rattle.std.proofs.lemmas.Option.{none-some, same_Some}
@@ -16,12 +16,13 @@ use Rattle.gptp_links.specs.Queue.{Frame, frame}
 use Rattle.gptp_correction.specs.declared.sync_in.SyncInfo.{SyncInfo}
 use Rattle.gptp_correction.specs.Correction.{held_sum, link_time, nearest_rate, received}
 use Rattle.gptp_correction.specs.SyncIn.{KeptSync, belongs, information, together}
+use Rattle.gptp_setup.specs.declared.setup.Params.{Params}
 use Rattle.gptp_setup.specs.Pace.{Pace, has_sync_timeout}
 use Rattle.gptp_system.specs.declared.answer.Answer.{Answer}
 use Rattle.gptp_system.specs.declared.answer.Answer.TheVariants as answers
 use Rattle.gptp_system.specs.declared.sending.Sending.{Sending}
 use Rattle.gptp_system.specs.Input.{Frame as FrameHeard, Steps}
-use Rattle.gptp_system.specs.State.{SystemState, is_capable_at, local_time}
+use Rattle.gptp_system.specs.State.{SystemState, is_capable_at, lapse_of, local_time}
 use Rattle.gptp_system.specs.Syncing.{HearsFollowUpIf, IsOffset, KnowsBy, KnowsIf, delay_at, is_slave_at, offset_of, rate_at, said_on, slave_delay, slave_rate}
 use Rattle.gptp_accuracy.specs.TimeError.{jitter_at, time_error_at}
 use Rattle.gptp_acts.specs.declared.station.Station.{Station}
@@ -45,7 +46,9 @@ use Rattle.gptp_kept.proofs.FollowSettingLemmas.{is_setting, own_shown}
 use Rattle.gptp_kept.proofs.FollowTreeLemmas.{slave_is, well_formed}
 use Rattle.gptp_kept.proofs.FollowWayLemmas.{documented, few, long}
 use Rattle.gptp_kept.proofs.SyncHeardLemmas.{heard_as}
+use Rattle.gptp_kept.proofs.TimeStepLemmas.{can_lapse}
 use Rattle.gptp_reading.specs.Reading.{held_rates_error_at, read_after, read_from, reading, reading_error_at}
+use Rattle.gptp_reading.specs.Readings.{LeavesTime}
 use Rattle.gptp_reading.proofs.TellingLemmas.{reading_is_exact}
 use Rattle.gptp_reading.proofs.WayLemmas.{in_units}
 
@@ -68,20 +71,24 @@ offset_held info delay rate fits =
 -- ---- what is left
 
 -- What the Follow_Up and its Sync say is known; the offset, if there is one, is that by the rate that is held; and what
--- the port measured, and the clock, are as they were.
-pub record IsLeft (info : SyncInfo) (delay rate : ℤ) (s s' : SystemState) : Type 0 where
+-- the port measured, and the clock, are as they were. Where nothing can lapse there is an offset, and else the Lapse
+-- timer begins.
+pub record IsLeft (lapses : Bool) (info : SyncInfo) (delay rate : ℤ) (now : ℕ) (s s' : SystemState) : Type 0 where
   pub known : s'.known ≡ Some info
   pub offset : (offset : ℤ) → s'.offset ≡ Some offset → offset ≡ offset_of (held_sum info rate) delay rate
   pub measured : slave_rate s' ≡ slave_rate s
   pub clock : (t : ℕ) → local_time s' t ≡ local_time s t
+  pub params : s'.params ≡ s.params
+  pub some : lapses ≡ false → (offset : ℤ) × (s'.offset ≡ Some offset)
+  pub starts : lapses ≡ true → s'.lapse ≡ lapse_of s'.params s'.root s'.slave now
 
 -- where it is at the Slave port, and belongs to the Sync that is kept
-pub record IsUsedBy (p : ℕ) (m : FollowUpFields) (s s' : SystemState) : Type 0 where
+pub record IsUsedBy (p : ℕ) (m : FollowUpFields) (now : ℕ) (s s' : SystemState) : Type 0 where
   pub kept : KeptSync
   pub keeps : s.sync_in ≡ Some kept
   pub belongs_to : belongs m kept ≡ true
   pub slave : is_slave_at s p ≡ true
-  pub left : IsLeft (together m kept) (delay_at s p) (rate_at s p) s s'
+  pub left : IsLeft (has_sync_timeout s.params) (together m kept) (delay_at s p) (rate_at s p) now s s'
 
 module _ (p : ℕ) (m : FollowUpFields) (octets : List ℕ) (now : ℕ) (s s' : SystemState) (sends : List Sending)
     (reads : Reads octets (messages.FollowUp m)) where
@@ -95,13 +102,18 @@ module _ (p : ℕ) (m : FollowUpFields) (octets : List ℕ) (now : ℕ) (s s' : 
   not_used other differs is = differs (sym is)
 
   left_by : (b : Bool) (info : SyncInfo) → KnowsBy b info delay rate now s s' sends answers.Used
-      → IsLeft info delay rate s s'
+      → IsLeft b info delay rate now s s'
   left_by true info k = record {
     known = ap (λ (y : SystemState). y.known) k.becomes.state;
     offset = λ offset is.
         by offset (sym (ap (λ (y : SystemState). y.offset) k.becomes.state) ∙ is) k.offset_is;
     measured = ap (λ (y : SystemState). slave_rate y) k.becomes.state;
     clock = λ t. ap (λ (y : SystemState). local_time y t) k.becomes.state;
+    params = ap (λ (y : SystemState). y.params) k.becomes.state;
+    some = λ off. absurd cc;
+    starts = λ on.
+        ap (λ (y : SystemState). y.lapse) k.becomes.state
+        ∙ sym (ap (λ (y : SystemState). lapse_of y.params y.root y.slave now) k.becomes.state);
   }
     where
       by : (offset : ℤ) → k.offset ≡ Some offset → IsOffset (held_sum info rate) delay rate k.offset
@@ -117,6 +129,9 @@ module _ (p : ℕ) (m : FollowUpFields) (octets : List ℕ) (now : ℕ) (s s' : 
         ∙ offset_held info delay rate k.fits.receipt.rate;
     measured = ap (λ (y : SystemState). slave_rate y) k.becomes.state;
     clock = λ t. ap (λ (y : SystemState). local_time y t) k.becomes.state;
+    params = ap (λ (y : SystemState). y.params) k.becomes.state;
+    some = λ off. (offset_of info delay rate, ap (λ (y : SystemState). y.offset) k.becomes.state);
+    starts = λ on. absurd cc;
   }
   left_by false info (inr k) = absurd (not_used answers.Ignored (λ e. cc) k.answer_is)
 
@@ -127,7 +142,7 @@ module _ (p : ℕ) (m : FollowUpFields) (octets : List ℕ) (now : ℕ) (s s' : 
       ∙ ap (λ o. information o m) u.keeps
       ∙ ap (λ b. if b then Some (together m u.kept) else None) u.belongs_to
 
-  pub used_by : Steps (FrameHeard p octets) now s s' sends answers.Used → IsUsedBy p m s s'
+  pub used_by : Steps (FrameHeard p octets) now s s' sends answers.Used → IsUsedBy p m now s s'
   used_by k =
       let u = is_used p m octets now s s' sends answers.Used refl reads k in
       record {
@@ -145,6 +160,32 @@ module _ (p : ℕ) (m : FollowUpFields) (octets : List ℕ) (now : ℕ) (s s' : 
       by true h = h
       by false h = absurd (not_used answers.Disabled (λ e. cc) h.answer_is)
 
+-- ---- what that comes to
+
+timeout_off : (q : Params) → q.sync_timeout ≡ 0 → has_sync_timeout q ≡ false
+timeout_off q off = rw off refl
+
+pub leaves_time : (p : ℕ) (m : FollowUpFields) (now : ℕ) (s s' : SystemState) → IsUsedBy p m now s s'
+    → LeavesTime now s'
+leaves_time p m now s s' used = record {
+  known = subst IsSome (sym used.left.known) refl;
+  reads = λ off moment. reads moment
+      (used.left.some (timeout_off s.params (ap (λ (q : Params). q.sync_timeout) (sym used.left.params) ∙ off)));
+  starts = λ on.
+      used.left.starts
+      (can_lapse s.params (subst (λ (q : Params). 0 < q.sync_timeout) used.left.params on));
+}
+  where
+    reads : (moment : ℕ) → (offset : ℤ) × (s'.offset ≡ Some offset) → IsSome (reading s' moment)
+    reads moment (offset, is_offset) =
+        let r : reading s' moment
+            ≡ Some (read_from (together m used.kept) offset (slave_rate s') (local_time s' moment)) =
+        ap (option_and_then (λ (known : SyncInfo). option_map
+        (λ o. read_from known o (slave_rate s') (local_time s' moment)) s'.offset)) used.left.known
+        ∙ ap (option_map (λ o. read_from (together m used.kept) o (slave_rate s') (local_time s' moment))) is_offset
+        in
+        subst IsSome (sym r) refl
+
 -- ---- at a system that follows
 
 -- what is less than another by so much
@@ -159,7 +200,7 @@ module _ (p : Pace) (settled longest : ℕ) (w : WorldState) (is : IsSettledFrom
     (f : IsFollower place w) (steps : ℕ) (h : HasWay p.params place w f steps) (octets : List ℕ) (rest : List Frame)
     (front : queue place.direction f.channel ≡ frame w.time octets ∷ rest) (m : FollowUpFields)
     (reads : Reads octets (messages.FollowUp m)) (s' : SystemState)
-    (used : IsUsedBy (receiver place.direction f.channel).port m (state_of place w f) s')
+    (used : IsUsedBy (receiver place.direction f.channel).port m w.time (state_of place w f) s')
     (late : from (follower_setting p.params settled longest place w f steps h) ≤ w.time) where
   abbrev x : SystemState
   x = state_of place w f

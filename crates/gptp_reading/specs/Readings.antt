@@ -5,7 +5,7 @@
 -- what passes on the own clock, at the rate of the root's clock against it. It is kept until the next one is used. So
 -- what is read depends on the state that the Follow_Up left and on the own clock alone, and on nothing that happens
 -- later.
-use Rattle.std.specs.Prelude.{◌≡◌, ◌≤◌, ◌+◌, ◌^◌, ℕ, suc, ℤ, List, Option, Some}
+use Rattle.std.specs.Prelude.{◌≡◌, ◌<◌, ◌≤◌, ◌+◌, ◌^◌, ℕ, suc, ℤ, List, Option, Some, IsSome}
 use Rattle.gptp_lists.specs.Members.{In}
 use Rattle.gptp_graph.specs.Distance.{IsNear}
 use Rattle.gptp_graph.specs.PathBound.{BoundsPaths}
@@ -13,7 +13,7 @@ use Rattle.gptp_links.specs.declared.bounds.Bounds.{Bounds}
 use Rattle.gptp_scaled.specs.Counts.{AreWithin}
 use Rattle.gptp_setup.specs.Pace.{Pace}
 use Rattle.gptp_plan.specs.declared.change.Timed.{Timed}
-use Rattle.gptp_system.specs.State.{SystemState}
+use Rattle.gptp_system.specs.State.{SystemState, lapse_of}
 use Rattle.gptp_acts.specs.Course.{WasDone}
 use Rattle.gptp_acts.specs.declared.done.Done.{Done}
 use Rattle.gptp_acts.specs.Views.{ShowsLive}
@@ -34,6 +34,14 @@ pub record LeavesReading (number : ℕ) (w' : WorldState) (done : Done) (time : 
   pub shows : ShowsLive number w' system
   pub is : reading system time ≡ Some read
 
+-- What a Follow_Up that is used leaves in any world: the time that it told is known; where nothing can lapse for want of
+-- Sync there is a reading at every time; and where something can, the Lapse timer begins, if the root may lead (IEEE
+-- 802.1AS-2020, 10.3.12).
+pub record LeavesTime (time : ℕ) (s : SystemState) : Type 0 where
+  pub known : IsSome s.known
+  pub reads : s.params.sync_timeout ≡ 0 → (moment : ℕ) → IsSome (reading s moment)
+  pub starts : 0 < s.params.sync_timeout → s.lapse ≡ lapse_of s.params s.root s.slave time
+
 -- The theorem on time at any moment: where an act is done in a calm world once so long has passed, and a near system
 -- other than its component's best uses a Follow_Up by it, what the system reads from then on, at any time, is within
 -- its reading error of what the clock of the best then shows. The reading error (`reading_error_at`) is the time error
@@ -53,7 +61,14 @@ WorldsReadExactly {F} answers = (timed : Timed) (fate fate_after : F) (w w' : Wo
     → AllClaimed w → WasDone answers timed fate fate_after w w' done → timed.at ≤ 10 ^ 18
     → HeadlineOnReadings w timed.at w' done
 
--- so does each act of a run of a document, whatever is drawn for the frames meanwhile
+-- and so it leaves time, wherever a Follow_Up is used by it
+abbrev pub WorldsLeaveTime : {F : Type 0} → (Bounds → ℕ → F → Option ℕ → F → Type 0) → Type 0
+WorldsLeaveTime {F} answers = (timed : Timed) (fate fate_after : F) (w w' : WorldState) (done : Done) (number : ℕ)
+    (s : SystemState)
+    → AllClaimed w → WasDone answers timed fate fate_after w w' done → UsesFollowUp number done → ShowsLive number w' s
+    → LeavesTime timed.at s
+
+-- each act of a run of a document leaves exact readings too, whatever is drawn for the frames meanwhile
 abbrev pub RunsReadExactly : {F : Type 0} → (Bounds → ℕ → F → Option ℕ → F → Type 0) → Type 0
 RunsReadExactly {F} answers = (d : DocumentState) (until : ℕ) (fate : F) (start w : WorldState) (ts : List Transition)
     (t : Transition) → IsPlayable d → until ≤ 10 ^ 18 → Unfolds answers d until fate start ts w → In t ts

@@ -14,4 +14,4 @@ mod readings;
 
 pub use age::worlds_are_recent;
 pub use laws::{reading_is_exact, reading_is_right, reading_is_within};
-pub use readings::{runs_read_exactly, worlds_read_exactly};
+pub use readings::{runs_read_exactly, worlds_leave_time, worlds_read_exactly};

@@ -1,6 +1,6 @@
 //! The theorem on time at any moment.
 
-ghost use Rattle.gptp_reading.specs.Readings.{RunsReadExactly, WorldsReadExactly};
+ghost use Rattle.gptp_reading.specs.Readings.{RunsReadExactly, WorldsLeaveTime, WorldsReadExactly};
 
 use gptp_links::Fate;
 
@@ -11,7 +11,13 @@ pub fn worlds_read_exactly<F: Fate>()
     ensures { WorldsReadExactly F.answers }
 {}
 
-/// So it is with each act of every run of a document.
+/// Each Follow_Up that is used leaves what it told known, and a reading at every time, or where something can lapse for
+/// want of Sync a Lapse timer that begins then.
+pub fn worlds_leave_time<F: Fate>()
+    ensures { WorldsLeaveTime F.answers }
+{}
+
+/// Each act of every run of a document leaves exact readings, too.
 pub fn runs_read_exactly<F: Fate>()
     ensures { RunsReadExactly F.answers }
 {}
