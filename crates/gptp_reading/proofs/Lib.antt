@@ -5,3 +5,6 @@ pub mod UsedLemmas
 pub mod ExactLemmas
 pub mod RunLemmas
 pub mod AgeLemmas
+pub mod LapseLemmas
+pub mod EachLemmas
+pub mod HeardLemmas

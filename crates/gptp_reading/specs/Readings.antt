@@ -34,8 +34,8 @@ pub record LeavesReading (number : ℕ) (w' : WorldState) (done : Done) (time : 
   pub shows : ShowsLive number w' system
   pub is : reading system time ≡ Some read
 
--- What a Follow_Up that is used leaves in any world: the time that it told is known; where nothing can lapse for want of
--- Sync there is a reading at every time; and where something can, the Lapse timer begins, if the root may lead (IEEE
+-- What a Follow_Up that is used leaves in any world: the time that it told is known; where nothing can lapse for want
+-- of Sync there is a reading at every time; and where something can, the Lapse timer begins, if the root may lead (IEEE
 -- 802.1AS-2020, 10.3.12).
 pub record LeavesTime (time : ℕ) (s : SystemState) : Type 0 where
   pub known : IsSome s.known
