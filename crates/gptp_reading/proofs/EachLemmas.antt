@@ -24,9 +24,11 @@ use Rattle.gptp_acts.specs.World.{Channel, WorldState, port_id, receiver}
 use Rattle.gptp_vector.specs.declared.port.PortId.{PortId}
 use Rattle.gptp_reading.proofs.LapseLemmas.{HasLapse, lapse_kept, lapse_starts}
 
-abbrev IsIn : Station → Type 0
+-- a live system is so
+abbrev pub IsIn : Station → Type 0
 IsIn station = station.live ≡ true → HasLapse station.system
 
+-- all of them are
 abbrev pub Each : WorldState → Type 0
 Each w = (place : ℕ) (station : Station) → slice_get w.stations place ≡ Some station → IsIn station
 

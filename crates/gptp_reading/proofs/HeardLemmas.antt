@@ -290,13 +290,12 @@ module _ {F : Type 0} (answers' : Bounds → ℕ → F → Option ℕ → F → 
 
     -- the system that is called
     calls_timed : (place : ℕ) (input : Input) (v : WorldState) (answer : Answer)
-        → v.stations ≡ then.stations → v.time ≡ timed.at
-        → (c : Calls place input v k.was.draws answer w')
+        → v.stations ≡ then.stations → (c : Calls place input v k.was.draws answer w')
         → ((due : ℕ) → UsesOne input answer v.time c.station.system c.after → due ≡ v.time + span
         → HeardAt more (clock c.station.system) due span)
         → (other : ℕ) (station : Station) → slice_get w'.stations other ≡ Some station
         → IsTimedBy g more settled span station
-    calls_timed place input v answer stations now c uses other station there =
+    calls_timed place input v answer stations c uses other station there =
         get-set_all (IsTimedBy g more settled span) v.stations place c.station (in_state c.after c.station) c.here
         after (λ i x here. old i x (subst (λ (ss : List Station). slice_get ss i ≡ Some x) stations here)) other station
         (subst (λ (x : WorldState). slice_get x.stations other ≡ Some station) c.is there)
@@ -342,7 +341,7 @@ module _ {F : Type 0} (answers' : Bounds → ℕ → F → Option ℕ → F → 
                 old place station (subst (λ (x : WorldState). slice_get x.stations place ≡ Some station) is there)
             hears (Some answer) told c =
                 calls_timed d.delivers.place (FrameHeard (receiver direction d.delivers.channel).port d.octets)
-                (record then { net = d.delivers.net }) answer refl refl c
+                (record then { net = d.delivers.net }) answer refl c
                 (λ due u moment. record {
                   act = one;
                   member = In-right one acts (one ∷ []) (inl refl);
@@ -366,8 +365,8 @@ module _ {F : Type 0} (answers' : Bounds → ℕ → F → Option ℕ → F → 
                     ap (λ x. (receiver direction x).clock) channels ∙ sym d.delivers.is_end
                     ∙ ap (λ (x : Station). clock x.system) stations
         by (Expire number timer) (told, e) none place station there =
-            calls_timed e.place (TimerExpires timer) (stopped e.place timer then) e.so.answer refl refl e.so.calls
-            (λ due u moment. absurd (let is = u.heard in cc)) place station there
+            calls_timed e.place (TimerExpires timer) (stopped e.place timer then) e.so.answer refl e.so.calls
+            (λ due u moment. let is = u.heard in absurd cc) place station there
         by (Changing change) d none place station there = absurd none
 
   timed_after : (m settled : ℕ) → IsCalmBy p m settled w' → settled ≤ w'.time → (place : ℕ) (station : Station)
@@ -432,7 +431,7 @@ module _ (p : Pace) (acts : List Transition) (w : WorldState) (are : AreTimed p 
   x = shows.station.system
 
   by_earlier : settled ≤ earlier
-  by_earlier = omega (arith, passed)
+  by_earlier = passed
 
   already : settled ≤ w.time
   already = let early = by_earlier in omega (arith, early, waited)

@@ -42,10 +42,9 @@ pub record HeardWithin (acts : List Transition) (number span time : ℕ) : Type 
   pub uses : UsesFollowUp number act.told.done
   pub lately : time ≤ act.told.timed.at + span
 
--- So time comes: in a network that has a syncReceiptTimeout, each run of a document that ends in a calm world, whose
--- network had settled earlier and has waited for a Sync since. Each near system there that has a Slave port, and follows
--- a root that may be grandmaster, used a Follow_Up no longer ago than it waits for the next Sync. So what it reads is no
--- older.
+-- So time comes. In a network that has a syncReceiptTimeout a run of a document ends in a calm world, which had settled
+-- earlier and has waited for a Sync since. Then each near system that has a Slave port, and follows a root that may be
+-- grandmaster, used a Follow_Up no longer ago than such a system waits for the next Sync. What it reads is no older.
 abbrev pub RunsHearInTime : {F : Type 0} → (Bounds → ℕ → F → Option ℕ → F → Type 0) → Type 0
 RunsHearInTime {F} answers = (d : DocumentState) (until : ℕ) (fate : F) (start w : WorldState) (acts : List Transition)
     (p : Pace) (earlier number port : ℕ) (s : SystemState)
