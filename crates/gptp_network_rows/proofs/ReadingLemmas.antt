@@ -1,5 +1,5 @@
 -- What the second of two systems reads 100 ms after a Follow_Up, by the theorem on time at any moment.
-use Rattle.std.proofs.Common.{◌≡◌, ◌≤◌, ◌+◌, ℕ, ℤ, pos, List, Option, refl, sym, ap, subst, ◌∙◌, arith}
+use Rattle.std.proofs.Common.{◌≡◌, ◌≤◌, ◌+◌, ℕ, ℤ, pos, Option, refl, sym, ap, subst, ◌∙◌, arith}
 use Rattle.gptp_accuracy.specs.TimeError.{Way}
 use Rattle.gptp_acts.specs.declared.done.Done.{Done}
 use Rattle.gptp_acts.specs.Sound.{IsSound}
