@@ -358,7 +358,7 @@ no_run_out input now s s' steady n slave k = by (follows s' steady.held steady.r
     by (inr f) =
         let was : s.slave ≡ Some (suc f.place) = sym k.slave ∙ f.slave in
         let there : slice_get (each_port (held_after k.vector (clock (lapsed s))) (lapsed s).held) f.place
-            ≡ Some f.held =
+        ≡ Some f.held =
         sym (ap (λ (x : SystemState). slice_get x.held f.place) k.state) ∙ f.there in
         let (mid, stands, made) =
         each_port-get (held_after k.vector (clock (lapsed s))) (lapsed s).held f.place f.held there in

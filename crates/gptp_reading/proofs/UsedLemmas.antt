@@ -125,7 +125,7 @@ module _ (p : ℕ) (m : FollowUpFields) (octets : List ℕ) (now : ℕ) (s s' : 
     known = ap (λ (y : SystemState). y.known) k.becomes.state;
     offset = λ offset is.
         sym (same_Some (offset_of info delay rate) offset
-            (sym (ap (λ (y : SystemState). y.offset) k.becomes.state) ∙ is))
+        (sym (ap (λ (y : SystemState). y.offset) k.becomes.state) ∙ is))
         ∙ offset_held info delay rate k.fits.receipt.rate;
     measured = ap (λ (y : SystemState). slave_rate y) k.becomes.state;
     clock = λ t. ap (λ (y : SystemState). local_time y t) k.becomes.state;
@@ -179,7 +179,7 @@ leaves_time p m now s s' used = record {
     reads : (moment : ℕ) → (offset : ℤ) × (s'.offset ≡ Some offset) → IsSome (reading s' moment)
     reads moment (offset, is_offset) =
         let r : reading s' moment
-            ≡ Some (read_from (together m used.kept) offset (slave_rate s') (local_time s' moment)) =
+        ≡ Some (read_from (together m used.kept) offset (slave_rate s') (local_time s' moment)) =
         ap (option_and_then (λ (known : SyncInfo). option_map
         (λ o. read_from known o (slave_rate s') (local_time s' moment)) s'.offset)) used.left.known
         ∙ ap (option_map (λ o. read_from (together m used.kept) o (slave_rate s') (local_time s' moment))) is_offset
