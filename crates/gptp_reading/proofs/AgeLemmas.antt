@@ -201,7 +201,7 @@ module _ (p : Pace) (w : WorldState) (claimed : IsClaimed p w) (quiet : IsQuietW
         by (inr short) = started_lately short
 
 -- a world with a system has the parameters and the largest interval that its systems start with
-claimed_alike : (w : WorldState) (claimed : Claimed w) (p : Pace) → IsCalm p w → (place : ℕ) (station : Station)
+pub claimed_alike : (w : WorldState) (claimed : Claimed w) (p : Pace) → IsCalm p w → (place : ℕ) (station : Station)
     → slice_get w.stations place ≡ Some station → IsClaimed p w
 claimed_alike w claimed p calm place station here =
     let known = (claimed.is.world.known.set place station here).starts in

@@ -297,7 +297,7 @@ module _ (link : ℕ) (direction : Direction) (w w' : WorldState) (draws : List 
 -- ---- every act
 
 -- a world with a system has the parameters and the largest interval that its systems start with
-all_alike : (w : WorldState) → AllClaimed w → (p : Pace) → HavePace p w → (place : ℕ) (station : Station)
+pub all_alike : (w : WorldState) → AllClaimed w → (p : Pace) → HavePace p w → (place : ℕ) (station : Station)
     → slice_get w.stations place ≡ Some station → IsClaimed p w × CarriesWhereCalm p w
 all_alike w all p have place station here =
     let known = (all.is.world.known.set place station here).starts in

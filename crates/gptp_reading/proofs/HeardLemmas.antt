@@ -200,7 +200,7 @@ at_once p w claimed now m settled calm late =
     absurd (omega (arith, passed, late, now, some))
 
 -- a network that is kept was kept, and is as calm as it was
-keeps_back : (w w' : WorldState) → KeepsNetwork w w' → KeepsNetwork w' w
+pub keeps_back : (w w' : WorldState) → KeepsNetwork w w' → KeepsNetwork w' w
 keeps_back w w' k = record {
   systems = sym k.systems;
   places = λ number. sym (k.places number);

@@ -8,3 +8,4 @@ pub mod AgeLemmas
 pub mod LapseLemmas
 pub mod EachLemmas
 pub mod HeardLemmas
+pub mod LastingLemmas

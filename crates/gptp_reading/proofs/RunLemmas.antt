@@ -179,10 +179,10 @@ runs_keep answers Q act_keeps later_keeps d until fate start w ts playable momen
     (begun_none_faster answers d.network fate k.started start sound.wired.setups k.begun) so
 
 -- each of these acts was done so
-abbrev AreKept : {F : Type 0} → (Bounds → ℕ → F → Option ℕ → F → Type 0) → List Transition → Type 0
+abbrev pub AreKept : {F : Type 0} → (Bounds → ℕ → F → Option ℕ → F → Type 0) → List Transition → Type 0
 AreKept answers ts = (t : Transition) → In t ts → IsKeptAct answers t.told.timed t.told.done t.before t.after
 
-one_more : {F : Type 0} (answers : Bounds → ℕ → F → Option ℕ → F → Type 0) (ts : List Transition) (timed : Timed)
+pub one_more : {F : Type 0} (answers : Bounds → ℕ → F → Option ℕ → F → Type 0) (ts : List Transition) (timed : Timed)
     (done : Done) (w w' : WorldState) → IsKeptAct answers timed done w w' → AreKept answers ts
     → AreKept answers (ts ++ transition timed done w w' ∷ [])
 one_more answers ts timed done w w' act kept t member =

@@ -73,3 +73,17 @@ abbrev pub RunsReadExactly : {F : Type 0} → (Bounds → ℕ → F → Option �
 RunsReadExactly {F} answers = (d : DocumentState) (until : ℕ) (fate : F) (start w : WorldState) (ts : List Transition)
     (t : Transition) → IsPlayable d → until ≤ 10 ^ 18 → Unfolds answers d until fate start ts w → In t ts
     → HeadlineOnReadings t.before t.told.timed.at t.after t.told.done
+
+-- A run may end at any time. Where it ends in a calm world, what a near system reads there is exact by each Follow_Up
+-- that it used once a Sync had had the time to come down from when the network was settled. For one that was used no
+-- longer ago than a span it is within the reading error for that span of what the clock of the best shows.
+abbrev pub RunsReadInTime : {F : Type 0} → (Bounds → ℕ → F → Option ℕ → F → Type 0) → Type 0
+RunsReadInTime {F} answers = (d : DocumentState) (until : ℕ) (fate : F) (start w : WorldState) (acts : List Transition)
+    (act : Transition) (p : Pace) (m steps number earlier later error : ℕ) (read shown : ℤ)
+    → IsPlayable d → until ≤ 10 ^ 18 → Unfolds answers d until fate start acts w → In act acts
+    → IsCalm p w → BoundsPaths (snapshot_of w) m → HasComeDown p m (suc steps) earlier w
+    → earlier ≤ act.told.timed.at → w.time ≤ act.told.timed.at + later
+    → LeavesReading number act.after act.told.done w.time read
+    → IsNear (snapshot_of w) number → IsReadingErrorOf p.params w number steps later error
+    → IsBestsTime w number w.time shown
+    → AreWithin error read shown

@@ -1,6 +1,6 @@
 //! The theorem on time at any moment.
 
-ghost use Rattle.gptp_reading.specs.Readings.{RunsReadExactly, WorldsLeaveTime, WorldsReadExactly};
+ghost use Rattle.gptp_reading.specs.Readings.{RunsReadExactly, RunsReadInTime, WorldsLeaveTime, WorldsReadExactly};
 
 use gptp_links::Fate;
 
@@ -20,4 +20,10 @@ pub fn worlds_leave_time<F: Fate>()
 /// Each act of every run of a document leaves exact readings, too.
 pub fn runs_read_exactly<F: Fate>()
     ensures { RunsReadExactly F.answers }
+{}
+
+/// Where a run ends in a calm world, what a system reads by a Follow_Up that it used no longer ago than a span is exact by
+/// that span and by the network as it is then.
+pub fn runs_read_in_time<F: Fate>()
+    ensures { RunsReadInTime F.answers }
 {}
