@@ -169,10 +169,10 @@ uses_it : (number : ℕ) (reached : PortId) (answer : Answer) (octets : List ℕ
     → Tells reached (Some answer) octets done → reached.clock ≡ number → answer ≡ answers.Used
     → Reads octets (messages.FollowUp m) → UsesFollowUp number done
 uses_it number reached answer octets m Quiet told named used reads = absurd told
-uses_it number reached answer octets m (Heard name port said frame) (clocks, ports, answered, frames) named used reads = (
-  clocks ∙ named,
-  answered ∙ ap (λ (a : Answer). Some a) used,
-  (m, subst (λ o. Reads o (messages.FollowUp m)) (sym frames) reads),
+uses_it number reached answer octets m (Heard name port said frame) told named used reads = (
+  told.0 ∙ named,
+  told.2 ∙ ap (λ (a : Answer). Some a) used,
+  (m, subst (λ o. Reads o (messages.FollowUp m)) (sym told.3) reads),
 )
 
 -- one frame is another

@@ -156,7 +156,7 @@ grows : (way : Way) (steps soon late : ℕ) → soon ≤ late
     → reading_error_at way steps soon ≤ reading_error_at way steps late
 grows way steps soon late less =
     let product : (soon + jitter_at way steps) * held_rates_error_at way steps
-        ≤ (late + jitter_at way steps) * held_rates_error_at way steps =
+    ≤ (late + jitter_at way steps) * held_rates_error_at way steps =
     mul-le-mul_right (held_rates_error_at way steps) (omega (arith, less)) in
     adds (time_error_at way (suc steps)) _ _ (ceil_more _ _ product)
   where
