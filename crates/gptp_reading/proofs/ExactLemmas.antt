@@ -1,7 +1,7 @@
 -- What is read is exact in every world of a network, once it has been calm for long enough.
 use Rattle.std.proofs.Common.{◌≡◌, ◌≤◌, ◌+◌, ◌*◌, ◌^◌, ℕ, suc, ℤ, true, false, List, ◌∷◌, Option, Some, None, slice_get, sym, ap, subst, ◌∙◌, arith, eqb-true}
 use Rattle.std.specs.Option.{option_map_or}
-use Rattle.std.specs.Prelude.{◌==◌}
+use Rattle.std.specs.Prelude.{◌==◌, ◌<◌, IsSome}
 use Rattle.std.proofs.lemmas.Option.{none-some, same_Some}
 use Rattle.gptp_graph.specs.Best.{IsBest}
 use Rattle.gptp_graph.specs.Distance.{IsNear}
@@ -10,6 +10,8 @@ use Rattle.gptp_graph.specs.PathBound.{BoundsPaths}
 use Rattle.gptp_lists.proofs.MappedLemmas.{same_there}
 use Rattle.gptp_lists.proofs.PlaceLemmas.{get-set_same}
 use Rattle.gptp_scaled.specs.Counts.{AreWithin}
+use Rattle.gptp_correction.specs.SyncIn.{together}
+use Rattle.gptp_accuracy.specs.TimeError.{Way}
 use Rattle.gptp_messages.specs.declared.follow_up.FollowUp.{FollowUp}
 use Rattle.gptp_messages.specs.declared.message.Message.TheVariants as messages
 use Rattle.gptp_messages.specs.Grammar.{Reads}
@@ -60,12 +62,13 @@ use Rattle.gptp_kept.proofs.FollowWayLemmas.{Follows, follows_parent}
 use Rattle.gptp_kept.proofs.FoundLemmas.{place_is}
 use Rattle.gptp_kept.proofs.LinkLemmas.{sender_opposite}
 use Rattle.gptp_kept.proofs.MeasuredLinkLemmas.{claimed_measured}
+use Rattle.gptp_kept.proofs.TimeStepLemmas.{knows_on}
 use Rattle.gptp_kept.proofs.WayLemmas.{one_way}
 use Rattle.gptp_reached.specs.Headline.{HasComeDown, IsCalm, UsesFollowUp}
 use Rattle.gptp_reached.proofs.HeadlineLemmas.{quiet_as}
-use Rattle.gptp_reading.specs.Reading.{IsBestsTime, IsReadingErrorOf, reading, reading_error_at}
-use Rattle.gptp_reading.specs.Readings.{LeavesReading, LeavesTime, WorldsLeaveTime, WorldsReadExactly}
-use Rattle.gptp_reading.proofs.UsedLemmas.{IsUsedBy, leaves_time, used_by, used_exactly}
+use Rattle.gptp_reading.specs.Reading.{IsBestsTime, reading, reading_error_at}
+use Rattle.gptp_reading.specs.Readings.{LeavesTime, WorldsHaveReadings, WorldsLeaveTime, WorldsReadExactly}
+use Rattle.gptp_reading.proofs.UsedLemmas.{IsUsedBy, has_reading, leaves_time, used_by, used_exactly}
 
 -- ---- who uses a Follow_Up
 
@@ -205,12 +208,12 @@ module _ (p : Pace) (settled longest : ℕ) (w : WorldState) (is : IsSettledFrom
 -- ---- in a calm world
 
 module _ (link : ℕ) (direction : Direction) (w w' : WorldState) (draws : List Draw) (number : ℕ) (done : Done)
-    (p : Pace) (m steps later error : ℕ) (read shown : ℤ) (k : Acts (Deliver link direction) w draws done w')
-    (leaves : LeavesReading number w' done (w.time + later) read) (claimed : IsClaimed p w)
-    (carries : CarriesWhereCalm p w) (calm : IsCalm p w) (bounded : BoundsPaths (snapshot_of w) m)
-    (come : HasComeDown p m (suc steps) w.time w) (early : w.time ≤ 10 ^ 18) (near : IsNear (snapshot_of w) number)
-    (way : IsReadingErrorOf p.params w number steps later error)
-    (best : IsBestsTime w number (w.time + later) shown) where
+    (p : Pace) (m steps : ℕ) (system : SystemState) (way : Way) (phase : ℕ → ℕ)
+    (k : Acts (Deliver link direction) w draws done w') (uses : UsesFollowUp number done)
+    (shows : ShowsLive number w' system) (claimed : IsClaimed p w) (carries : CarriesWhereCalm p w) (calm : IsCalm p w)
+    (bounded : BoundsPaths (snapshot_of w) m) (come : HasComeDown p m (suc steps) w.time w)
+    (early : w.time ≤ 10 ^ 18) (near : IsNear (snapshot_of w) number)
+    (leads : IsWayTo (parts_of p.params w) (snapshot_of w) (suc steps) number way phase) where
   abbrev settled : ℕ
   settled = w.last_change + settling_span_with p (sync_paths_of w) m
 
@@ -242,57 +245,78 @@ module _ (link : ℕ) (direction : Direction) (w w' : WorldState) (draws : List 
       (claimed_measured w (record { pace = p; is = claimed }) (over_capable m w set))
 
   by_whom : HasUser direction link w w' number
-  by_whom = user link direction w w' draws number done k leaves.uses
+  by_whom = user link direction w w' draws number done k uses
 
   followed : Follows w by_whom.place by_whom.station
   followed =
-      let parent = way.leads.0 in
+      let parent = leads.0 in
       let named = sym by_whom.named in
       follows_parent p settled p.params.threshold w is_settled by_whom.place by_whom.station by_whom.there by_whom.live
       (subst (IsNear (snapshot_of w)) named near) parent
-      (subst (λ n. IsParent (snapshot_of w) n parent) named way.leads.2)
+      (subst (λ n. IsParent (snapshot_of w) n parent) named leads.2)
 
   named_so : follower_clock followed.at w followed.follower ≡ number
   named_so = followed.named ∙ by_whom.named
 
   abbrev has_way : HasWay p.params followed.at w followed.follower steps
   has_way = record {
-    way = way.way;
-    phase = way.phase;
-    is = subst (λ n. IsWayTo (parts_of p.params w) (snapshot_of w) (suc steps) n way.way way.phase) (sym named_so)
-        way.leads;
-  }
-
-  root : IsRootOf w (follower_clock followed.at w followed.follower) best.shows.station
-  root = record {
-    place = best.shows.place;
-    here = best.shows.is.here;
-    best = best.best;
-    is_best = subst (λ n. IsBest (snapshot_of w) n best.best) (sym named_so) best.is_best;
-    named = best.shows.is.named;
+    way = way;
+    phase = phase;
+    is = subst (λ n. IsWayTo (parts_of p.params w) (snapshot_of w) (suc steps) n way phase) (sym named_so) leads;
   }
 
   from_then : from (follower_setting p.params settled p.params.threshold followed.at w followed.follower steps has_way)
       ≤ w.time
   from_then =
-      let residence = (way_ends_at_parent.common (parts_of p.params w) (snapshot_of w) (suc steps) number way.way
-      way.phase way.leads).2 in
+      let residence = (way_ends_at_parent.common (parts_of p.params w) (snapshot_of w) (suc steps) number way
+      phase leads).2 in
       subst (λ r. settled + suc steps * (p.params.threshold + r) ≤ w.time) (sym residence) late
 
-  pub reads_exactly : AreWithin error read shown
-  reads_exactly =
-      let here = used_here p settled p.params.threshold w is_settled followed.at followed.follower link direction w'
-      number by_whom followed.own_is named_so in
-      let exact = used_exactly p settled p.params.threshold w is_settled right
-      (carries m settled calm_by already early) followed.at followed.follower steps has_way by_whom.octets here.rest
-      here.front by_whom.message by_whom.reads by_whom.after here.used from_then later best.shows.station root read
-      (subst (λ (y : SystemState). reading y (w.time + later) ≡ Some read)
-      (left_is link direction w w' draws number done claimed.world.sound k by_whom leaves.system leaves.shows)
-      leaves.is) in
-      let root_time : local_time best.shows.station.system (w.time + later) ≡ shown =
-      sym (best.is ∙ ap (λ (y : SystemState). local_time y (w.time + later)) best.shows.state) in
-      subst (λ e. AreWithin e read shown) (sym way.is)
-      (subst (AreWithin (reading_error_at way.way steps later) read) root_time exact)
+  here : IsUsedHere w followed.at followed.follower by_whom.octets by_whom.message by_whom.after
+  here =
+      used_here p settled p.params.threshold w is_settled followed.at followed.follower link direction w' number by_whom
+      followed.own_is named_so
+
+  left : system ≡ by_whom.after
+  left = left_is link direction w w' draws number done claimed.world.sound k by_whom system shows
+
+  -- the timestamp that is known has nanoseconds
+  small : by_whom.message.origin.nanos < 1000000000
+  small =
+      let knows = claimed.world.known.time by_whom.place by_whom.station by_whom.there by_whom.live in
+      let port = (receiver direction by_whom.channel).port in
+      let after = knows_on (FrameHeard port by_whom.octets) w.time by_whom.station.system by_whom.after by_whom.sends
+      answers.Used by_whom.steps knows in
+      after.stamped (together by_whom.message here.used.kept) here.used.left.known
+
+  pub has_reading_here : (moment : ℕ) → IsSome (reading system moment)
+  has_reading_here moment =
+      subst (λ (y : SystemState). IsSome (reading y moment)) (sym left)
+      (has_reading p settled p.params.threshold w is_settled right (carries m settled calm_by already early) followed.at
+      followed.follower steps has_way by_whom.octets here.rest here.front by_whom.message by_whom.reads by_whom.after
+      here.used from_then small moment)
+
+  module _ (later error : ℕ) (read shown : ℤ) (reads_it : reading system (w.time + later) ≡ Some read)
+      (error_is : error ≡ reading_error_at way steps later) (best : IsBestsTime w number (w.time + later) shown) where
+    root : IsRootOf w (follower_clock followed.at w followed.follower) best.shows.station
+    root = record {
+      place = best.shows.place;
+      here = best.shows.is.here;
+      best = best.best;
+      is_best = subst (λ n. IsBest (snapshot_of w) n best.best) (sym named_so) best.is_best;
+      named = best.shows.is.named;
+    }
+
+    pub reads_exactly : AreWithin error read shown
+    reads_exactly =
+        let exact = used_exactly p settled p.params.threshold w is_settled right
+        (carries m settled calm_by already early) followed.at followed.follower steps has_way by_whom.octets here.rest
+        here.front by_whom.message by_whom.reads by_whom.after here.used from_then later best.shows.station root read
+        (subst (λ (y : SystemState). reading y (w.time + later) ≡ Some read) left reads_it) in
+        let root_time : local_time best.shows.station.system (w.time + later) ≡ shown =
+        sym (best.is ∙ ap (λ (y : SystemState). local_time y (w.time + later)) best.shows.state) in
+        subst (λ e. AreWithin e read shown) (sym error_is)
+        (subst (AreWithin (reading_error_at way steps later) read) root_time exact)
 
 -- ---- every act
 
@@ -352,9 +376,24 @@ worlds_read_exactly answers timed fate fate_after w w' done all k moment p m ste
         let now = all_later w timed.at k.ready.timely.now k.ready.timely.first all in
         let (claimed, carries) = all_alike (at timed.at w) now p calm.of best.shows.place best.shows.station
         best.shows.is.here in
-        reads_exactly link direction (at timed.at w) w' k.draws number done p m steps later error read shown acts
-        leaves claimed carries (calm_then p w timed.at calm) bounded come (omega (arith, moment)) near
-        (record { way = way.way; phase = way.phase; leads = way.leads; is = way.is })
+        reads_exactly link direction (at timed.at w) w' k.draws number done p m steps leaves.system way.way way.phase
+        acts leaves.uses leaves.shows claimed carries (calm_then p w timed.at calm) bounded come (omega (arith, moment))
+        near way.leads later error read shown leaves.is way.is
         (best_then w timed.at number (timed.at + later) shown best)
     by (Expire name timer) (quiet, rest) = absurd (subst (UsesFollowUp number) quiet leaves.uses)
     by (Changing change) (quiet, rest) = absurd (subst (UsesFollowUp number) quiet leaves.uses)
+
+pub worlds_have_readings : {F : Type 0} (answers : Bounds → ℕ → F → Option ℕ → F → Type 0) → WorldsHaveReadings answers
+worlds_have_readings answers timed fate fate_after w w' done all k moment p m steps number s way phase calm bounded come
+    uses shows near leads time =
+    by timed.act k.acts
+  where
+    by : (act : Act) → Acts act (at timed.at w) k.draws done w' → IsSome (reading s time)
+    by (Deliver link direction) acts =
+        let now = all_later w timed.at k.ready.timely.now k.ready.timely.first all in
+        let u = user link direction (at timed.at w) w' k.draws number done acts uses in
+        let (claimed, carries) = all_alike (at timed.at w) now p calm.of u.place u.station u.there in
+        has_reading_here link direction (at timed.at w) w' k.draws number done p m steps s way phase acts uses shows
+        claimed carries (calm_then p w timed.at calm) bounded come (omega (arith, moment)) near leads time
+    by (Expire name timer) (quiet, rest) = absurd (subst (UsesFollowUp number) quiet uses)
+    by (Changing change) (quiet, rest) = absurd (subst (UsesFollowUp number) quiet uses)

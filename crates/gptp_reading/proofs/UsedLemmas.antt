@@ -23,7 +23,7 @@ use Rattle.gptp_system.specs.declared.answer.Answer.TheVariants as answers
 use Rattle.gptp_system.specs.declared.sending.Sending.{Sending}
 use Rattle.gptp_system.specs.Input.{Frame as FrameHeard, Steps}
 use Rattle.gptp_system.specs.State.{SystemState, is_capable_at, lapse_of, local_time}
-use Rattle.gptp_system.specs.Syncing.{HearsFollowUpIf, IsOffset, KnowsBy, KnowsIf, delay_at, is_slave_at, offset_of, rate_at, said_on, slave_delay, slave_rate}
+use Rattle.gptp_system.specs.Syncing.{HearsFollowUpIf, IsOffset, OffsetFits, KnowsBy, KnowsIf, delay_at, is_slave_at, offset_of, rate_at, said_on, slave_delay, slave_rate}
 use Rattle.gptp_accuracy.specs.TimeError.{jitter_at, time_error_at}
 use Rattle.gptp_acts.specs.declared.station.Station.{Station}
 use Rattle.gptp_acts.specs.World.{WorldState, queue, receiver}
@@ -43,13 +43,14 @@ use Rattle.gptp_kept.proofs.FollowOctetLemmas.{told_alone}
 use Rattle.gptp_kept.proofs.FollowOffsetLemmas.{IsUsed, is_used}
 use Rattle.gptp_kept.proofs.FollowPartLemmas.{clock_shown}
 use Rattle.gptp_kept.proofs.FollowSettingLemmas.{is_setting, own_shown}
+use Rattle.gptp_kept.proofs.FollowSizeLemmas.{origin_fits}
 use Rattle.gptp_kept.proofs.FollowTreeLemmas.{slave_is, well_formed}
-use Rattle.gptp_kept.proofs.FollowWayLemmas.{documented, few, long}
+use Rattle.gptp_kept.proofs.FollowWayLemmas.{correction_small, documented, few, long, own_time_fits, root_time_fits, short_way}
 use Rattle.gptp_kept.proofs.SyncHeardLemmas.{heard_as}
 use Rattle.gptp_kept.proofs.TimeStepLemmas.{can_lapse}
 use Rattle.gptp_reading.specs.Reading.{held_rates_error_at, read_after, read_from, reading, reading_error_at}
 use Rattle.gptp_reading.specs.Readings.{LeavesTime}
-use Rattle.gptp_reading.proofs.TellingLemmas.{reading_is_exact}
+use Rattle.gptp_reading.proofs.TellingLemmas.{IsAsSent, offset_fits, reading_is_exact, told_as_sent}
 use Rattle.gptp_reading.proofs.WayLemmas.{in_units}
 
 -- ---- rates that are held
@@ -80,6 +81,7 @@ pub record IsLeft (lapses : Bool) (info : SyncInfo) (delay rate : ℤ) (now : �
   pub clock : (t : ℕ) → local_time s' t ≡ local_time s t
   pub params : s'.params ≡ s.params
   pub some : lapses ≡ false → (offset : ℤ) × (s'.offset ≡ Some offset)
+  pub fits : lapses ≡ true → OffsetFits (held_sum info rate) delay rate → (offset : ℤ) × (s'.offset ≡ Some offset)
   pub starts : lapses ≡ true → s'.lapse ≡ lapse_of s'.params s'.root s'.slave now
 
 -- where it is at the Slave port, and belongs to the Sync that is kept
@@ -111,6 +113,7 @@ module _ (p : ℕ) (m : FollowUpFields) (octets : List ℕ) (now : ℕ) (s s' : 
     clock = λ t. ap (λ (y : SystemState). local_time y t) k.becomes.state;
     params = ap (λ (y : SystemState). y.params) k.becomes.state;
     some = λ off. absurd cc;
+    fits = λ on numbers. fits numbers k.offset_is;
     starts = λ on.
         ap (λ (y : SystemState). y.lapse) k.becomes.state
         ∙ sym (ap (λ (y : SystemState). lapse_of y.params y.root y.slave now) k.becomes.state);
@@ -121,6 +124,12 @@ module _ (p : ℕ) (m : FollowUpFields) (octets : List ℕ) (now : ℕ) (s s' : 
       by offset left (inl (fits, same)) =
           sym (same_Some (offset_of (held_sum info rate) delay rate) offset (sym same ∙ left))
       by offset left (inr (unfit, none)) = absurd (none-some offset (sym none ∙ left))
+
+      fits : OffsetFits (held_sum info rate) delay rate → IsOffset (held_sum info rate) delay rate k.offset
+          → (offset : ℤ) × (s'.offset ≡ Some offset)
+      fits numbers (inl (same_numbers, same)) =
+          (offset_of (held_sum info rate) delay rate, ap (λ (y : SystemState). y.offset) k.becomes.state ∙ same)
+      fits numbers (inr (unfit, none)) = absurd (unfit numbers)
   left_by false info (inl k) = record {
     known = ap (λ (y : SystemState). y.known) k.becomes.state;
     offset = λ offset is.
@@ -131,6 +140,7 @@ module _ (p : ℕ) (m : FollowUpFields) (octets : List ℕ) (now : ℕ) (s s' : 
     clock = λ t. ap (λ (y : SystemState). local_time y t) k.becomes.state;
     params = ap (λ (y : SystemState). y.params) k.becomes.state;
     some = λ off. (offset_of info delay rate, ap (λ (y : SystemState). y.offset) k.becomes.state);
+    fits = λ on numbers. absurd cc;
     starts = λ on. absurd cc;
   }
   left_by false info (inr k) = absurd (not_used answers.Ignored (λ e. cc) k.answer_is)
@@ -165,26 +175,27 @@ module _ (p : ℕ) (m : FollowUpFields) (octets : List ℕ) (now : ℕ) (s s' : 
 timeout_off : (q : Params) → q.sync_timeout ≡ 0 → has_sync_timeout q ≡ false
 timeout_off q off = rw off refl
 
+-- with an offset there is a reading
+reads_by : (info : SyncInfo) (s : SystemState) → s.known ≡ Some info → (moment : ℕ)
+    → (offset : ℤ) × (s.offset ≡ Some offset) → IsSome (reading s moment)
+reads_by info s known moment (offset, is_offset) =
+    let r : reading s moment ≡ Some (read_from info offset (slave_rate s) (local_time s moment)) =
+    ap (option_and_then (λ (it : SyncInfo). option_map
+    (λ o. read_from it o (slave_rate s) (local_time s moment)) s.offset)) known
+    ∙ ap (option_map (λ o. read_from info o (slave_rate s) (local_time s moment))) is_offset
+    in
+    subst IsSome (sym r) refl
+
 pub leaves_time : (p : ℕ) (m : FollowUpFields) (now : ℕ) (s s' : SystemState) → IsUsedBy p m now s s'
     → LeavesTime now s'
 leaves_time p m now s s' used = record {
   known = subst IsSome (sym used.left.known) refl;
-  reads = λ off moment. reads moment
+  reads = λ off moment. reads_by (together m used.kept) s' used.left.known moment
       (used.left.some (timeout_off s.params (ap (λ (q : Params). q.sync_timeout) (sym used.left.params) ∙ off)));
   starts = λ on.
       used.left.starts
       (can_lapse s.params (subst (λ (q : Params). 0 < q.sync_timeout) used.left.params on));
 }
-  where
-    reads : (moment : ℕ) → (offset : ℤ) × (s'.offset ≡ Some offset) → IsSome (reading s' moment)
-    reads moment (offset, is_offset) =
-        let r : reading s' moment
-        ≡ Some (read_from (together m used.kept) offset (slave_rate s') (local_time s' moment)) =
-        ap (option_and_then (λ (known : SyncInfo). option_map
-        (λ o. read_from known o (slave_rate s') (local_time s' moment)) s'.offset)) used.left.known
-        ∙ ap (option_map (λ o. read_from (together m used.kept) o (slave_rate s') (local_time s' moment))) is_offset
-        in
-        subst IsSome (sym r) refl
 
 -- ---- at a system that follows
 
@@ -250,6 +261,38 @@ module _ (p : Pace) (settled longest : ℕ) (w : WorldState) (is : IsSettledFrom
       (ways_are_modest h.way steps (documented p settled longest w is place f steps h)
       (let same_length = long p settled longest w is place f steps h in omega (arith, same_length))
       (let less = few p settled longest w is place f steps h in omega (arith, less)))
+
+  -- ---- that there is a reading
+
+  sent_as : IsAsSent k (told_in m) sync.ingress w.time
+  sent_as =
+      told_as_sent k tells (follower place w f) (frame_view (frame w.time octets)) (map frame_view rest)
+      (identity_of sync.source) sync.sequence (told_in m) sync.ingress (carries.follow place f steps h)
+      (ap (map frame_view) front) refl late one (ap (option_map kept_sync) used.keeps)
+
+  numbers_fit : m.origin.nanos < 1000000000 → OffsetFits (held_sum said (rate_at x n)) (delay_at x n) (rate_at x n)
+  numbers_fit small =
+      let carried = sent_as.carried in
+      let before = carried.behind in
+      let span = carried.long in
+      let shown = is.shown in
+      let length_is = long p settled longest w is place f steps h in
+      let root_time = root_time_fits p settled longest w is place f steps h sent_as.sent
+      (omega (arith, before, span, shown)) in
+      let stamp = origin_fits h.way (short_way p settled longest w is place f steps h) h.phase steps (told_in m)
+      sent_as.sent (omega (arith, length_is)) root_time small sent_as.right in
+      offset_fits k (told_in m) sync.ingress (rate_at x n) (delay_at x n) held w.time
+      (is_setting p settled longest w is place f steps h) sent_as measured allowed
+      (correction_small p settled longest w is place f steps h)
+      (own_time_fits p settled longest w is place f steps h sent_as.came before) stamp
+
+  pub has_reading : m.origin.nanos < 1000000000 → (t : ℕ) → IsSome (reading s' t)
+  has_reading small t =
+      reads_by said s' used.left.known t (by (has_sync_timeout x.params) refl)
+    where
+      by : (b : Bool) → has_sync_timeout x.params ≡ b → (offset : ℤ) × (s'.offset ≡ Some offset)
+      by true on = used.left.fits on (numbers_fit small)
+      by false off = used.left.some off
 
   -- ---- what is read
 

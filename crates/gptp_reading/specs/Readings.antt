@@ -12,6 +12,9 @@ use Rattle.gptp_graph.specs.PathBound.{BoundsPaths}
 use Rattle.gptp_links.specs.declared.bounds.Bounds.{Bounds}
 use Rattle.gptp_scaled.specs.Counts.{AreWithin}
 use Rattle.gptp_setup.specs.Pace.{Pace}
+use Rattle.gptp_accuracy.specs.TimeError.{Way}
+use Rattle.gptp_timing.specs.Tree.{IsWayTo}
+use Rattle.gptp_kept.specs.Followers.{parts_of}
 use Rattle.gptp_plan.specs.declared.change.Timed.{Timed}
 use Rattle.gptp_system.specs.State.{SystemState, lapse_of}
 use Rattle.gptp_acts.specs.Course.{WasDone}
@@ -67,6 +70,17 @@ WorldsLeaveTime {F} answers = (timed : Timed) (fate fate_after : F) (w w' : Worl
     (s : SystemState)
     → AllClaimed w → WasDone answers timed fate fate_after w w' done → UsesFollowUp number done → ShowsLive number w' s
     → LeavesTime timed.at s
+
+-- In such a world each Follow_Up that is used leaves a reading, also where something can lapse: the numbers of the
+-- offset fit. Here way and phase are those of the system's way.
+abbrev pub WorldsHaveReadings : {F : Type 0} → (Bounds → ℕ → F → Option ℕ → F → Type 0) → Type 0
+WorldsHaveReadings {F} answers = (timed : Timed) (fate fate_after : F) (w w' : WorldState) (done : Done)
+    → AllClaimed w → WasDone answers timed fate fate_after w w' done → timed.at ≤ 10 ^ 18
+    → (p : Pace) (m steps number : ℕ) (s : SystemState) (way : Way) (phase : ℕ → ℕ)
+    → IsCalm p w → BoundsPaths (snapshot_of w) m → HasComeDown p m (suc steps) timed.at w
+    → UsesFollowUp number done → ShowsLive number w' s
+    → IsNear (snapshot_of w) number → IsWayTo (parts_of p.params w) (snapshot_of w) (suc steps) number way phase
+    → (moment : ℕ) → IsSome (reading s moment)
 
 -- each act of a run of a document leaves exact readings too, whatever is drawn for the frames meanwhile
 abbrev pub RunsReadExactly : {F : Type 0} → (Bounds → ℕ → F → Option ℕ → F → Type 0) → Type 0

@@ -1,6 +1,6 @@
 //! The theorem on time at any moment.
 
-ghost use Rattle.gptp_reading.specs.Readings.{RunsReadExactly, RunsReadInTime, WorldsLeaveTime, WorldsReadExactly};
+ghost use Rattle.gptp_reading.specs.Readings.{RunsReadExactly, RunsReadInTime, WorldsHaveReadings, WorldsLeaveTime, WorldsReadExactly};
 
 use gptp_links::Fate;
 
@@ -15,6 +15,12 @@ pub fn worlds_read_exactly<F: Fate>()
 /// want of Sync a Lapse timer that begins then.
 pub fn worlds_leave_time<F: Fate>()
     ensures { WorldsLeaveTime F.answers }
+{}
+
+/// In a calm world that is settled for so long, each Follow_Up that such a system uses leaves a reading at every time,
+/// also where something can lapse.
+pub fn worlds_have_readings<F: Fate>()
+    ensures { WorldsHaveReadings F.answers }
 {}
 
 /// Each act of every run of a document leaves exact readings, too.
