@@ -39,7 +39,7 @@ use Rattle.gptp_plan.specs.Change.{link_after}
 use Rattle.gptp_plan.specs.Network.{IsNetwork, pace_of, wire}
 use Rattle.gptp_plan.specs.declared.change.Timed.{Timed}
 use Rattle.gptp_plan.specs.declared.network.Wire.{Wire}
-use Rattle.gptp_reached.specs.Headline.{HeadlineOnTime, LeavesOffset}
+use Rattle.gptp_reached.specs.Headline.{HeadlineOnTime, IsCalm, LeavesOffset}
 use Rattle.gptp_reached.specs.HeadlineLaws.{RunsAreExact, WorldsAreExact}
 use Rattle.gptp_reached.specs.PlayedLaws.{IsPlayable}
 use Rattle.gptp_reached.specs.Reached.{Shape, shape, shape_after, wire_of}
@@ -69,7 +69,7 @@ only_link zero v there = sym (same_Some pair_wire v there)
 only_link (suc place) v there = absurd (none-some v there)
 
 -- the way over one link that takes 500 ns, between two clocks that run exactly
-abbrev short_way : Way
+abbrev pub short_way : Way
 short_way = record {
   drift = pos 0;
   links = record { least = 500; most = 500; drift = pos 0 } ∷ [];
@@ -105,22 +105,22 @@ goes_on answers time timed fate fate_after w w' done k sound next was =
 
 module _ (w : WorldState) (time : ℕ) (k : IsPairSince 27000000000 w) (sound : IsSound w) (claimed : Claimed w)
     (passed : w.time ≤ time) where
-  abbrev x : Parts
+  abbrev pub x : Parts
   x = parts_of params w
 
-  abbrev there : ParentLink
+  abbrev pub there : ParentLink
   there = record { own_port = 1; clock = 1; port = 1 }
 
   snapshot : snapshot_of w ≡ pair_snapshot
   snapshot = snapshot_is w k.stands sound
 
-  of_pair : (P : Snapshot → Type 0) → P pair_snapshot → P (snapshot_of w)
+  pub of_pair : (P : Snapshot → Type 0) → P pair_snapshot → P (snapshot_of w)
   of_pair P = subst P (sym snapshot)
 
   quiet : IsQuietWorld params w
   quiet = quiet_stands pair_network [] w k.network k.stands sound is_calm
 
-  late : w.last_change + exact_span 2 1 pair_pace (sync_paths_of w) (length (snapshot_of w).systems) ≤ time
+  pub late : w.last_change + exact_span 2 1 pair_pace (sync_paths_of w) (length (snapshot_of w).systems) ≤ time
   late =
       let since : 27000000000 ≤ w.time = k.late in
       subst (λ paths. w.last_change + exact_span 2 1 pair_pace paths (length (snapshot_of w).systems) ≤ time)
@@ -138,7 +138,7 @@ module _ (w : WorldState) (time : ℕ) (k : IsPairSince 27000000000 w) (sound : 
     late = late;
   }
 
-  few : BoundsPaths (snapshot_of w) 2
+  pub few : BoundsPaths (snapshot_of w) 2
   few = of_pair (λ g. BoundsPaths g 2) bounded
 
   parent : IsParent (snapshot_of w) 2 there
@@ -148,7 +148,7 @@ module _ (w : WorldState) (time : ℕ) (k : IsPairSince 27000000000 w) (sound : 
 
   module _ (place number identity : ℕ) (stands : slice_get pair_network.systems place ≡ Some (end_station identity))
       (is : clock_of identity ≡ number) where
-    found : (station : Station) × (slice_get w.stations place ≡ Some station)
+    pub found : (station : Station) × (slice_get w.stations place ≡ Some station)
         × (shape station ≡ shape_after (pace_of pair_network) [] (end_station identity))
     found = alike shape (shape_after (pace_of pair_network) []) w.stations pair_network.systems k.stands.systems place
         (end_station identity) stands
@@ -158,7 +158,7 @@ module _ (w : WorldState) (time : ℕ) (k : IsPairSince 27000000000 w) (sound : 
         sym (sound.wired.setups place found.0 found.1).named
         ∙ ap (λ (s : Shape). clock_of s.setup.identity) found.2 ∙ is
 
-    shows : ShowsLive number w found.0.system
+    pub shows : ShowsLive number w found.0.system
     shows = record {
       place = place;
       station = found.0;
@@ -179,11 +179,11 @@ module _ (w : WorldState) (time : ℕ) (k : IsPairSince 27000000000 w) (sound : 
         ∙ set_up_is (λ setup. setup.phase) 0 w sound.wired.clocks place found.0 found.1
         ∙ ap (λ (s : Shape). s.setup.phase) found.2
 
-    time_is : local_time found.0.system time ≡ local_clock 0 (pos 0) time
-    time_is =
-        clock_shown params w sound claimed.is.measured place found.0 found.1 time
-        ∙ ap (λ c. local_clock (x.phase c) (x.drift c) time) named
-        ∙ (λ i. local_clock (phase_is i) (drift_is i) time)
+    pub time_is : (t : ℕ) → local_time found.0.system t ≡ local_clock 0 (pos 0) t
+    time_is t =
+        clock_shown params w sound claimed.is.measured place found.0 found.1 t
+        ∙ ap (λ c. local_clock (x.phase c) (x.drift c) t) named
+        ∙ (λ i. local_clock (phase_is i) (drift_is i) t)
 
   bound_there : (f : Bounds → ℕ)
       → bound_at f (live_systems w.stations) w.net.channels (port_of 2 1) ≡ f pair_wire.bounds
@@ -198,18 +198,18 @@ module _ (w : WorldState) (time : ℕ) (k : IsPairSince 27000000000 w) (sound : 
 
   -- ---- its way
 
-  abbrev way : Way
+  abbrev pub way : Way
   way = longer (root_way x 1) (last_link x 2 there)
 
-  phases : ℕ → ℕ
+  pub phases : ℕ → ℕ
   phases zero = x.phase 1
   phases (suc i) = x.phase 2
 
-  leads : IsWayTo x (snapshot_of w) 1 2 way phases
+  pub leads : IsWayTo x (snapshot_of w) 1 2 way phases
   unfolding phases
   leads = (there, root_way x 1, parent, (of_pair (λ g. IsDistance g 1 0) led.steps, refl, refl), refl, refl)
 
-  way_is : way ≡ short_way
+  pub way_is : way ≡ short_way
   way_is =
       let root = drift_is 0 1 first refl refl in
       let own = drift_is 1 2 second refl refl in
@@ -228,7 +228,7 @@ module _ (w : WorldState) (time : ℕ) (k : IsPairSince 27000000000 w) (sound : 
 
   -- ---- its clocks
 
-  first_is : (best : System) → In best pair_snapshot.systems → first ≡ best.identity → 1 ≡ best.clock
+  pub first_is : (best : System) → In best pair_snapshot.systems → first ≡ best.identity → 1 ≡ best.clock
   first_is best (inl same) is = sym (ap (λ (s : System). s.clock) same)
   first_is best (inr (inl same)) is =
       let other : first ≡ second = is ∙ ap (λ (s : System). s.identity) same in absurd (omega (arith, other))
@@ -248,7 +248,7 @@ module _ (w : WorldState) (time : ℕ) (k : IsPairSince 27000000000 w) (sound : 
         shows_root = subst (λ c. ShowsLive c w root.0.system) (first_is best is_best.live is)
             (shows 0 1 first refl refl);
         is = none_ahead (local_time own.0.system time) (local_time root.0.system time) (local_clock 0 (pos 0) time)
-            (time_is 1 2 second refl refl) (time_is 0 1 first refl refl);
+            (time_is 1 2 second refl refl time) (time_is 0 1 first refl refl time);
       }
 
   -- ---- its offset
@@ -256,17 +256,22 @@ module _ (w : WorldState) (time : ℕ) (k : IsPairSince 27000000000 w) (sound : 
   exact : (offset : ℤ) → IsExactInTime 2 w time offset → AreWithin 19 offset (pos 0)
   exact offset promised = promised 2 0 19 (pos 0) calm few (of_pair (λ g. IsNear g 2) near) error ahead
 
+  -- what the theorem asks
+  pub calm_pair : IsCalm pair_pace w
+  calm_pair = record {
+    of = calm.set;
+    links = λ link member used.
+        let (place, there) = slice_get-In link w.net.channels member in
+        let is = quiet.links place link there used in (is.lossless, is.good);
+    lapses = quiet.lapses;
+  }
+
   -- so it is by what the theorem says of an act
   exact_by_theorem : (w' : WorldState) (done : Done) (offset : ℤ) → HeadlineOnTime w time w' done
       → LeavesOffset 2 offset w' done → AreWithin 19 offset (pos 0)
   exact_by_theorem w' done offset promised left =
-      promised pair_pace 2 0 2 19 offset (pos 0) (record {
-        of = calm.set;
-        links = λ link member used.
-            let (place, there) = slice_get-In link w.net.channels member in
-            let is = quiet.links place link there used in (is.lossless, is.good);
-        lapses = quiet.lapses;
-      }) few (omega (arith, late)) left (of_pair (λ g. IsNear g 2) near) error ahead
+      promised pair_pace 2 0 2 19 offset (pos 0) calm_pair few (omega (arith, late)) left
+      (of_pair (λ g. IsNear g 2) near) error ahead
 
 pub worlds_exact : {F : Type 0} (answers : Bounds → ℕ → F → Option ℕ → F → Type 0) → WorldsAreExact answers
     → WorldsOfTwoAreExact answers
@@ -275,7 +280,7 @@ worlds_exact answers theorem timed fate fate_after w w' done offset k all was ea
     done offset (theorem timed fate fate_after w w' done all was (omega (arith, early))) left
 
 -- the document of the pair can be played
-playable : IsNetwork pair_network → IsPlayable pair_document
+pub playable : IsNetwork pair_network → IsPlayable pair_document
 playable network = record {
   network = network;
   events = record { in_order = tt; each = tt };

@@ -1,3 +1,4 @@
 mod ExactLemmas
+mod ReadingLemmas
 mod HeardLemmas
 mod PairLemmas

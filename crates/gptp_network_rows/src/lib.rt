@@ -1,8 +1,8 @@
 //! Worked rows of networks and documents, as an outside caller sees them: also that whatever the order of acts and the
 //! fate of frames, a calm network settles in time.
 //!
-//! What they expect was written down before the code. What is in `drawn` is no test: its contracts follow from those of
-//! the crates below.
+//! What they expect was written down before the code. What is in `drawn` and `readings` is no test: their contracts
+//! follow from those of the crates below.
 #![tactic(auto)]
 
 #[cfg(test)]
@@ -18,6 +18,7 @@ pub mod drawn;
 mod paths;
 #[cfg(test)]
 mod printed;
+pub mod readings;
 #[cfg(test)]
 mod ring;
 #[cfg(test)]

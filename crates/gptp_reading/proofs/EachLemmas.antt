@@ -1,0 +1,164 @@
+-- In every world of a network the Lapse timer of each live system runs wherever it may.
+use Rattle.std.proofs.Common.{◌≡◌, ℕ, Bool, true, false, List, [], ◌∷◌, map, Option, Some, None, slice_get, sym, ap, subst, ◌∙◌, inl, inr}
+use Rattle.gptp_lists.proofs.MappedLemmas.{mapped}
+use Rattle.gptp_lists.proofs.PlaceLemmas.{get-set_all, get-set_same}
+use Rattle.gptp_links.specs.Fate.{Draw}
+use Rattle.gptp_setup.specs.declared.timer.Timer.TheVariants as timers
+use Rattle.gptp_system.specs.declared.answer.Answer.{Answer}
+use Rattle.gptp_system.specs.Input.{Input, PortUp, PortDown, Frame as FrameHeard, Expires as TimerExpires, Priority}
+use Rattle.gptp_plan.specs.declared.change.Act.{Act}
+use Rattle.gptp_plan.specs.declared.change.Act.TheVariants.{Deliver, Expire, Change as Changing}
+use Rattle.gptp_plan.specs.declared.change.Change.{Change}
+use Rattle.gptp_plan.specs.declared.change.Change.TheVariants.{LinkDown, LinkUp, LinkSet, Fail, Recover, Priority1, Inject}
+use Rattle.gptp_plan.specs.Network.{NetworkState, pace_of}
+use Rattle.gptp_acts.specs.Act.{Calls, Hears, all_timers, in_state}
+use Rattle.gptp_acts.specs.Acts.{Acts, Changes}
+use Rattle.gptp_acts.specs.Agrees.{stopped}
+use Rattle.gptp_acts.specs.Ahead.{IsSteady}
+use Rattle.gptp_acts.specs.Changing.{CallsAll, CallsIfLive, ComesUpIf, FailsIf, GoesDownIf, InjectsIf, RecoversIf, Starts, StartsAll, TellsEnds, brought_up, fresh, taken_down, up_ports, with_setup, with_station}
+use Rattle.gptp_acts.specs.declared.done.Done.{Done}
+use Rattle.gptp_acts.specs.declared.station.Station.{Station}
+use Rattle.gptp_acts.specs.Initial.{initial, station_of}
+use Rattle.gptp_acts.specs.Sound.{IsSound}
+use Rattle.gptp_acts.specs.World.{Channel, WorldState, port_id, receiver}
+use Rattle.gptp_vector.specs.declared.port.PortId.{PortId}
+use Rattle.gptp_reading.proofs.LapseLemmas.{HasLapse, lapse_kept, lapse_starts}
+
+-- a live system is so
+abbrev pub IsIn : Station → Type 0
+IsIn station = station.live ≡ true → HasLapse station.system
+
+-- all of them are
+abbrev pub Each : WorldState → Type 0
+Each w = (place : ℕ) (station : Station) → slice_get w.stations place ≡ Some station → IsIn station
+
+-- the world stays, but for what is between the systems
+same_world : (w w' : WorldState) → w' ≡ w → Each w → Each w'
+same_world w w' same each = subst Each (sym same) each
+
+-- ---- calls
+
+calls_keep : (place : ℕ) (input : Input) (w : WorldState) (draws : List Draw) (answer : Answer) (w' : WorldState)
+    → (k : Calls place input w draws answer w') → (input ≡ TimerExpires timers.Lapse → IsSteady k.after) → Each w
+    → Each w'
+calls_keep place input w draws answer w' k steady each =
+    subst Each (sym k.is)
+    (get-set_all IsIn w.stations place k.station (in_state k.after k.station) k.here
+    (λ live.
+    lapse_kept input w.time k.station.system k.after k.sends answer k.steps steady
+    (each place k.station k.here k.live)) each)
+
+if_live_keep : (place : ℕ) (input : Input) (w : WorldState) (draws : List Draw) (w' : WorldState)
+    → (input ≡ TimerExpires timers.Lapse → ⊥) → CallsIfLive place input w draws w' → Each w → Each w'
+if_live_keep place input w draws w' other (inl (answer, k)) each =
+    calls_keep place input w draws answer w' k (λ is. absurd (other is)) each
+if_live_keep place input w draws w' other (inr (failed, none, same)) each = same_world w w' same each
+
+ends_keep : (input : ℕ → Input) (channel : Channel) (w : WorldState) (draws : List Draw) (w' : WorldState)
+    → ((port : ℕ) → input port ≡ TimerExpires timers.Lapse → ⊥) → TellsEnds input channel w draws w' → Each w
+    → Each w'
+ends_keep input channel w draws w' other k each =
+    if_live_keep k.place_b (input channel.b.port) k.between k.second w' (other channel.b.port) k.at_b
+    (if_live_keep k.place_a (input channel.a.port) w k.first k.between (other channel.a.port) k.at_a each)
+
+-- ---- starts
+
+ups_keep : (place : ℕ) (ports : List ℕ) (w : WorldState) (draws : List Draw) (w' : WorldState)
+    → CallsAll place (map PortUp ports) w draws w' → Each w → Each w'
+ups_keep place [] w draws w' (none, same) each = same_world w w' same each
+ups_keep place (port ∷ ports) w draws w' (first, rest, between, answer, are, k, more) each =
+    ups_keep place ports between rest w' more
+    (calls_keep place (PortUp port) w first answer between k (λ is. absurd cc) each)
+
+starts_keep : (place : ℕ) (w : WorldState) (draws : List Draw) (w' : WorldState) → Starts place w draws w' → Each w
+    → Each w'
+starts_keep place w draws w' k each =
+    ups_keep place (up_ports (fresh w.time k.station) w.net)
+    (record (with_station place (fresh w.time k.station) w) { net = all_timers place (fresh w.time k.station) w.net })
+    draws w' k.calls
+    (get-set_all IsIn w.stations place k.station (fresh w.time k.station) k.here
+    (λ live. lapse_starts k.station.setup w.time) each)
+
+pub all_start : (places : List ℕ) (w : WorldState) (draws : List Draw) (w' : WorldState)
+    → StartsAll places w draws w' → Each w → Each w'
+all_start [] w draws w' (none, same) each = same_world w w' same each
+all_start (place ∷ places) w draws w' (first, rest, between, are, k, more) each =
+    all_start places between rest w' more (starts_keep place w first between k each)
+
+-- no system lives before that
+pub none_lives : (n : NetworkState) → Each (initial n)
+none_lives n place station here live =
+    let (member, there, same) = mapped (station_of (pace_of n)) n.systems place station here in
+    let off : false ≡ true = ap (λ (x : Station). x.live) same ∙ live in absurd cc
+
+-- ---- changes
+
+goes_down_keeps : (up : Bool) (place : ℕ) (channel : Channel) (w : WorldState) (draws : List Draw) (w' : WorldState)
+    → GoesDownIf up place channel w draws w' → Each w → Each w'
+goes_down_keeps true place channel w draws w' k each =
+    ends_keep PortDown channel (record w { net = taken_down place channel w.net }) draws w' (λ port is. cc) k each
+goes_down_keeps false place channel w draws w' (none, same) each = same_world w w' same each
+
+comes_up_keeps : (up : Bool) (place : ℕ) (channel : Channel) (w : WorldState) (draws : List Draw) (w' : WorldState)
+    → ComesUpIf up place channel w draws w' → Each w → Each w'
+comes_up_keeps false place channel w draws w' k each =
+    ends_keep PortUp channel (record w { net = brought_up place channel w.net }) draws w' (λ port is. cc) k each
+comes_up_keeps true place channel w draws w' (none, same) each = same_world w w' same each
+
+fails_keep : (live : Bool) (place : ℕ) (station : Station) (w : WorldState) (draws : List Draw) (w' : WorldState)
+    → slice_get w.stations place ≡ Some station → FailsIf live place station w draws w' → Each w → Each w'
+fails_keep true place station w draws w' here (none, same) each =
+    subst Each (sym same)
+    (get-set_all IsIn w.stations place station (record station { live = false }) here (λ live. absurd cc) each)
+fails_keep false place station w draws w' here (none, same) each = same_world w w' same each
+
+recovers_keep : (live : Bool) (place : ℕ) (w : WorldState) (draws : List Draw) (w' : WorldState)
+    → RecoversIf live place w draws w' → Each w → Each w'
+recovers_keep true place w draws w' (none, same) each = same_world w w' same each
+recovers_keep false place w draws w' k each = starts_keep place w draws w' k each
+
+injects_keep : (up : Bool) (from : PortId) (octets : List ℕ) (w : WorldState) (draws : List Draw) (w' : WorldState)
+    → InjectsIf up from octets w draws w' → Each w → Each w'
+injects_keep true from octets w draws w' k each = subst Each (sym k.is) each
+injects_keep false from octets w draws w' (none, same) each = same_world w w' same each
+
+changes_keep : (change : Change) (w : WorldState) (draws : List Draw) (w' : WorldState) → Changes change w draws w'
+    → Each w → Each w'
+changes_keep (LinkDown number port) w draws w' k each =
+    goes_down_keeps k.channel.up k.place k.channel w draws w' k.so each
+changes_keep (LinkUp number port) w draws w' k each =
+    comes_up_keeps k.channel.up k.place k.channel w draws w' k.so each
+changes_keep (LinkSet number port min max loss) w draws w' k each = subst Each (sym k.so.1) each
+changes_keep (Fail number) w draws w' k each =
+    fails_keep k.station.live k.place k.station w draws w' k.is.here k.so each
+changes_keep (Recover number) w draws w' k each = recovers_keep k.station.live k.place w draws w' k.so each
+changes_keep (Priority1 number value) w draws w' k each =
+    if_live_keep k.place (Priority value) (with_station k.place (with_setup value k.station) w) draws w'
+    (λ is. cc) k.so
+    (get-set_all IsIn w.stations k.place k.station (with_setup value k.station) k.is.here
+    (each k.place k.station k.is.here) each)
+changes_keep (Inject number port octets) w draws w' k each =
+    injects_keep k.channel.up (port_id number port) octets w draws w' k.so each
+
+-- ---- every act
+
+pub acts_each : (act : Act) (w : WorldState) (draws : List Draw) (done : Done) (w' : WorldState) → IsSound w'
+    → Acts act w draws done w' → Each w → Each w'
+acts_each (Deliver link direction) w draws done w' sound k each = by k.answer k.delivers.hears
+  where
+    by : (o : Option Answer)
+        → Hears k.delivers.place (receiver direction k.delivers.channel).port k.octets
+        (record w { net = k.delivers.net }) draws o w' → Each w'
+    by (Some told) c =
+        calls_keep k.delivers.place (FrameHeard (receiver direction k.delivers.channel).port k.octets)
+        (record w { net = k.delivers.net }) draws told w' c (λ is. absurd cc) each
+    by None (failed, none, same) = subst Each (sym same) each
+acts_each (Expire number timer) w draws done w' sound (told, k) each =
+    let c = k.so.calls in
+    calls_keep k.place (TimerExpires timer) (stopped k.place timer w) draws k.so.answer w' c
+    (λ is.
+    (sound.on_time.stations k.place (in_state c.after c.station)
+    (subst (λ (v : WorldState). slice_get v.stations k.place ≡ Some (in_state c.after c.station)) (sym c.is)
+    (get-set_same w.stations k.place c.station (in_state c.after c.station) c.here))).steady) each
+acts_each (Changing change) w draws done w' sound (quiet, k) each =
+    changes_keep change (record w { last_change = w.time }) draws w' k each

@@ -1,0 +1,399 @@
+-- What is read is exact in every world of a network, once it has been calm for long enough.
+use Rattle.std.proofs.Common.{◌≡◌, ◌≤◌, ◌+◌, ◌*◌, ◌^◌, ℕ, suc, ℤ, true, false, List, ◌∷◌, Option, Some, None, slice_get, sym, ap, subst, ◌∙◌, arith, eqb-true}
+use Rattle.std.specs.Option.{option_map_or}
+use Rattle.std.specs.Prelude.{◌==◌, ◌<◌, IsSome}
+use Rattle.std.proofs.lemmas.Option.{none-some, same_Some}
+use Rattle.gptp_graph.specs.Best.{IsBest}
+use Rattle.gptp_graph.specs.Distance.{IsNear}
+use Rattle.gptp_graph.specs.Parent.{IsParent}
+use Rattle.gptp_graph.specs.PathBound.{BoundsPaths}
+use Rattle.gptp_lists.proofs.MappedLemmas.{same_there}
+use Rattle.gptp_lists.proofs.PlaceLemmas.{get-set_same}
+use Rattle.gptp_scaled.specs.Counts.{AreWithin}
+use Rattle.gptp_correction.specs.SyncIn.{together}
+use Rattle.gptp_accuracy.specs.TimeError.{Way}
+use Rattle.gptp_messages.specs.declared.follow_up.FollowUp.{FollowUp}
+use Rattle.gptp_messages.specs.declared.message.Message.TheVariants as messages
+use Rattle.gptp_messages.specs.Grammar.{Reads}
+use Rattle.gptp_links.specs.declared.bounds.Bounds.{Bounds}
+use Rattle.gptp_links.specs.declared.link.Direction.{Direction}
+use Rattle.gptp_links.specs.Fate.{Draw}
+use Rattle.gptp_links.specs.Queue.{Frame, frame}
+use Rattle.gptp_setup.specs.Pace.{Pace}
+use Rattle.gptp_plan.specs.SettlingTime.{settling_span_with}
+use Rattle.gptp_plan.specs.declared.change.Act.{Act}
+use Rattle.gptp_plan.specs.declared.change.Act.TheVariants.{Deliver, Expire, Change as Changing}
+use Rattle.gptp_system.specs.declared.answer.Answer.{Answer}
+use Rattle.gptp_system.specs.declared.answer.Answer.TheVariants as answers
+use Rattle.gptp_system.specs.declared.sending.Sending.{Sending}
+use Rattle.gptp_system.specs.Input.{Frame as FrameHeard, Steps}
+use Rattle.gptp_system.specs.State.{SystemState, clock, local_time}
+use Rattle.gptp_acts.proofs.SoundLemmas.{acts_sound}
+use Rattle.gptp_acts.specs.Act.{Hears, in_state}
+use Rattle.gptp_acts.specs.Acts.{Acts, at}
+use Rattle.gptp_acts.specs.declared.done.Done.{Done}
+use Rattle.gptp_acts.specs.declared.done.Done.TheVariants.{Quiet, Heard}
+use Rattle.gptp_acts.specs.declared.station.Station.{Station}
+use Rattle.gptp_acts.specs.Prompt.{HavePace}
+use Rattle.gptp_acts.specs.Sound.{IsSound}
+use Rattle.gptp_acts.specs.Views.{ShowsLive}
+use Rattle.gptp_acts.specs.World.{Channel, WorldState, queue, receiver}
+use Rattle.gptp_timing.specs.Follower.{from}
+use Rattle.gptp_timing.specs.Tree.{IsWayTo}
+use Rattle.gptp_timing.proofs.TreeLemmas.{way_ends_at_parent}
+use Rattle.gptp_kept.specs.Calm.{place_of, sync_paths_of}
+use Rattle.gptp_kept.specs.CalmFor.{IsCalmFor, span_over}
+use Rattle.gptp_kept.specs.Claimed.{IsClaimed}
+use Rattle.gptp_kept.specs.Followers.{HasWay, IsFollower, follower_clock, follower_setting, parts_of, state_of}
+use Rattle.gptp_kept.specs.LinkView.{LinkPlace, opposite}
+use Rattle.gptp_kept.specs.Standing.{snapshot_of}
+use Rattle.gptp_kept.specs.Timed.{AllMeasureRight, IsSettledFrom}
+use Rattle.gptp_kept.specs.TimedClaim.{AllClaimed, CarriesWhereCalm, IsCalmBy}
+use Rattle.gptp_kept.specs.TimedLaws.{IsRootOf}
+use Rattle.gptp_kept.specs.View.{identity_of}
+use Rattle.gptp_kept.proofs.CalmKeptLemmas.{acts_keep}
+use Rattle.gptp_kept.proofs.ClaimedLemmas.{over_capable}
+use Rattle.gptp_kept.proofs.ExactLemmas.{all_later}
+use Rattle.gptp_kept.proofs.FollowClaimLemmas.{settled_from}
+use Rattle.gptp_kept.proofs.FollowDeliveryLemmas.{opposite_same}
+use Rattle.gptp_kept.proofs.FollowMeasureLemmas.{measured_right}
+use Rattle.gptp_kept.proofs.FollowTreeLemmas.{slave_is}
+use Rattle.gptp_kept.proofs.FollowWayLemmas.{Follows, follows_parent}
+use Rattle.gptp_kept.proofs.FoundLemmas.{place_is}
+use Rattle.gptp_kept.proofs.LinkLemmas.{sender_opposite}
+use Rattle.gptp_kept.proofs.MeasuredLinkLemmas.{claimed_measured}
+use Rattle.gptp_kept.proofs.TimeStepLemmas.{knows_on}
+use Rattle.gptp_kept.proofs.WayLemmas.{one_way}
+use Rattle.gptp_reached.specs.Headline.{HasComeDown, IsCalm, UsesFollowUp}
+use Rattle.gptp_reached.proofs.HeadlineLemmas.{quiet_as}
+use Rattle.gptp_reading.specs.Reading.{IsBestsTime, reading, reading_error_at}
+use Rattle.gptp_reading.specs.Readings.{LeavesTime, WorldsHaveReadings, WorldsLeaveTime, WorldsReadExactly}
+use Rattle.gptp_reading.proofs.UsedLemmas.{IsUsedBy, has_reading, leaves_time, used_by, used_exactly}
+
+-- ---- who uses a Follow_Up
+
+-- The live system with this clock uses a Follow_Up, which is the oldest frame of a link and is due; what it makes of it
+-- is one step of it.
+record HasUser (direction : Direction) (link : ℕ) (w w' : WorldState) (number : ℕ) : Type 0 where
+  channel : Channel
+  here : slice_get w.net.channels link ≡ Some channel
+  octets : List ℕ
+  rest : List Frame
+  front : queue direction channel ≡ frame w.time octets ∷ rest
+  message : FollowUp
+  reads : Reads octets (messages.FollowUp message)
+  place : ℕ
+  station : Station
+  there : slice_get w.stations place ≡ Some station
+  live : station.live ≡ true
+  is_end : (receiver direction channel).clock ≡ number
+  named : clock station.system ≡ number
+  after : SystemState
+  sends : List Sending
+  steps : Steps (FrameHeard (receiver direction channel).port octets) w.time station.system after sends answers.Used
+  becomes : slice_get w'.stations place ≡ Some (in_state after station)
+
+user : (link : ℕ) (direction : Direction) (w w' : WorldState) (draws : List Draw) (number : ℕ) (done : Done)
+    → Acts (Deliver link direction) w draws done w' → UsesFollowUp number done → HasUser direction link w w' number
+user link direction w w' draws number Quiet k uses = absurd uses
+user link direction w w' draws number (Heard name port answer heard) k (same, used, (m, reads)) =
+    by k.answer (sym k.told.2 ∙ used) k.delivers.hears
+  where
+    channels : k.channel ≡ k.delivers.channel
+    channels =
+        same_there w.net.channels link k.channel k.delivers.channel k.here k.delivers.takes.here
+
+    is_end : (receiver direction k.delivers.channel).clock ≡ number
+    is_end = ap (λ c. (receiver direction c).clock) (sym channels) ∙ sym k.told.0 ∙ same
+
+    by : (o : Option Answer) → o ≡ Some answers.Used
+        → Hears k.delivers.place (receiver direction k.delivers.channel).port k.octets
+        (record w { net = k.delivers.net }) draws o w'
+        → HasUser direction link w w' number
+    by None none failed = absurd (none-some answers.Used none)
+    by (Some told) is c =
+        let d = k.delivers in
+        let one : c.station ≡ d.station = same_there w.stations d.place c.station d.station c.here d.there in
+        let told_is = same_Some told answers.Used is in
+        record {
+          channel = d.channel;
+          here = d.takes.here;
+          octets = k.octets;
+          rest = d.takes.rest;
+          front = d.takes.front;
+          message = m;
+          reads = subst (λ o. Reads o (messages.FollowUp m)) k.told.3 reads;
+          place = d.place;
+          station = c.station;
+          there = c.here;
+          live = c.live;
+          is_end = is_end;
+          named = ap (λ (y : Station). clock y.system) one ∙ d.is_end ∙ is_end;
+          after = c.after;
+          sends = c.sends;
+          steps = subst (λ a. Steps (FrameHeard (receiver direction d.channel).port k.octets) w.time c.station.system
+              c.after c.sends a) told_is c.steps;
+          becomes = ap (λ (v : WorldState). slice_get v.stations d.place) c.is
+              ∙ get-set_same w.stations d.place c.station (in_state c.after c.station) c.here;
+        }
+
+-- where a system stands after a delivery it stood before
+stood : (link : ℕ) (direction : Direction) (w : WorldState) (draws : List Draw) (done : Done) (w' : WorldState)
+    → IsSound w → Acts (Deliver link direction) w draws done w' → (place place' : ℕ) (station station' : Station)
+    → slice_get w.stations place ≡ Some station → slice_get w'.stations place' ≡ Some station'
+    → clock station'.system ≡ clock station.system → place' ≡ place
+stood link direction w draws done w' sound k place place' station station' here there same =
+    let act = Deliver link direction in
+    let keeps = acts_keep act w draws done w' tt k in
+    place_is w' (acts_sound act w draws done w' sound tt k).wired.clocks place' station' there
+    ∙ ap (place_of w'.stations) same ∙ keeps.places (clock station.system)
+    ∙ sym (place_is w sound.wired.clocks place station here)
+
+-- so what the system shows after the act is what the Follow_Up made of it
+left_is : (link : ℕ) (direction : Direction) (w w' : WorldState) (draws : List Draw) (number : ℕ) (done : Done)
+    → IsSound w → Acts (Deliver link direction) w draws done w' → (u : HasUser direction link w w' number)
+    → (s : SystemState) → ShowsLive number w' s → s ≡ u.after
+left_is link direction w w' draws number done sound k u s shows =
+    let same = stood link direction w draws done w' sound k u.place shows.place u.station shows.station u.there
+    shows.is.here (shows.is.named ∙ sym u.named) in
+    shows.state
+    ∙ ap (λ (y : Station). y.system)
+    (same_there w'.stations u.place shows.station (in_state u.after u.station)
+    (ap (slice_get w'.stations) (sym same) ∙ shows.is.here) u.becomes)
+
+-- ---- at the system that follows there
+
+-- the Follow_Up is the oldest frame on the lane to the system, which uses it
+record IsUsedHere (w : WorldState) (place : LinkPlace) (f : IsFollower place w) (octets : List ℕ) (m : FollowUp)
+    (after : SystemState) : Type 0 where
+  rest : List Frame
+  front : queue place.direction f.channel ≡ frame w.time octets ∷ rest
+  used : IsUsedBy (receiver place.direction f.channel).port m w.time (state_of place w f) after
+
+module _ (p : Pace) (settled longest : ℕ) (w : WorldState) (is : IsSettledFrom p settled longest w) (place : LinkPlace)
+    (f : IsFollower place w) (link : ℕ) (direction : Direction) (w' : WorldState) (number : ℕ)
+    (u : HasUser direction link w w' number) (own : f.own.station ≡ u.station)
+    (named : follower_clock place w f ≡ number) where
+  abbrev port : ℕ
+  port = (receiver direction u.channel).port
+
+  used : IsUsedBy port u.message w.time (state_of place w f) u.after
+  used =
+      subst (λ (y : Station). IsUsedBy port u.message w.time y.system u.after) (sym own)
+      (used_by port u.message u.octets w.time u.station.system u.after u.sends u.reads u.steps)
+
+  ports : (receiver place.direction f.channel).port ≡ port
+  ports =
+      eqb-true (receiver place.direction f.channel).port port
+      (sym (ap (λ o. option_map_or (λ q. q == port) o false) (slave_is p settled longest w is place f)) ∙ used.slave)
+
+  used_here : IsUsedHere w place f u.octets u.message u.after
+  used_here =
+      let clocks = u.is_end ∙ sym named in
+      let same = ports in
+      let ends : receiver direction u.channel ≡ receiver place.direction f.channel =
+      λ i. record { clock = clocks i; port = sym same i } in
+      let lane = one_way w is.world.sound is.world.legible link place.link (opposite direction)
+      (opposite place.direction) u.channel f.channel u.here f.here
+      (ap identity_of (sender_opposite direction u.channel ∙ ends ∙ sym (sender_opposite place.direction f.channel)))
+      in
+      record {
+        rest = u.rest;
+        front = ap (queue place.direction) (sym lane.same_channel)
+            ∙ ap (λ way. queue way u.channel) (sym (opposite_same direction place.direction lane.same_way))
+            ∙ u.front;
+        used = subst (λ q. IsUsedBy q u.message w.time (state_of place w f) u.after) (sym ports) used;
+      }
+
+-- ---- in a calm world
+
+module _ (link : ℕ) (direction : Direction) (w w' : WorldState) (draws : List Draw) (number : ℕ) (done : Done)
+    (p : Pace) (m steps : ℕ) (system : SystemState) (way : Way) (phase : ℕ → ℕ)
+    (k : Acts (Deliver link direction) w draws done w') (uses : UsesFollowUp number done)
+    (shows : ShowsLive number w' system) (claimed : IsClaimed p w) (carries : CarriesWhereCalm p w) (calm : IsCalm p w)
+    (bounded : BoundsPaths (snapshot_of w) m) (come : HasComeDown p m (suc steps) w.time w)
+    (early : w.time ≤ 10 ^ 18) (near : IsNear (snapshot_of w) number)
+    (leads : IsWayTo (parts_of p.params w) (snapshot_of w) (suc steps) number way phase) where
+  abbrev settled : ℕ
+  settled = w.last_change + settling_span_with p (sync_paths_of w) m
+
+  late : settled + suc steps * (p.params.threshold + p.params.residence) ≤ w.time
+  late = omega (arith, come)
+
+  already : settled ≤ w.time
+  already = let passed = late in omega (arith, passed)
+
+  calm_by : IsCalmBy p m settled w
+  calm_by = record {
+    quiet = quiet_as p w calm;
+    bounded = bounded;
+    passed = let same : settled ≤ settled = omega arith in same;
+  }
+
+  is_settled : IsSettledFrom p settled p.params.threshold w
+  is_settled = settled_from p m settled w claimed calm_by already early
+
+  right : AllMeasureRight p.params w
+  right =
+      let set : IsCalmFor (span_over m) w = record {
+        pace = p;
+        set = calm.of;
+        quiet = quiet_as p w calm;
+        late = already;
+      } in
+      measured_right p settled p.params.threshold w is_settled
+      (claimed_measured w (record { pace = p; is = claimed }) (over_capable m w set))
+
+  by_whom : HasUser direction link w w' number
+  by_whom = user link direction w w' draws number done k uses
+
+  followed : Follows w by_whom.place by_whom.station
+  followed =
+      let parent = leads.0 in
+      let named = sym by_whom.named in
+      follows_parent p settled p.params.threshold w is_settled by_whom.place by_whom.station by_whom.there by_whom.live
+      (subst (IsNear (snapshot_of w)) named near) parent
+      (subst (λ n. IsParent (snapshot_of w) n parent) named leads.2)
+
+  named_so : follower_clock followed.at w followed.follower ≡ number
+  named_so = followed.named ∙ by_whom.named
+
+  abbrev has_way : HasWay p.params followed.at w followed.follower steps
+  has_way = record {
+    way = way;
+    phase = phase;
+    is = subst (λ n. IsWayTo (parts_of p.params w) (snapshot_of w) (suc steps) n way phase) (sym named_so) leads;
+  }
+
+  from_then : from (follower_setting p.params settled p.params.threshold followed.at w followed.follower steps has_way)
+      ≤ w.time
+  from_then =
+      let residence = (way_ends_at_parent.common (parts_of p.params w) (snapshot_of w) (suc steps) number way
+      phase leads).2 in
+      subst (λ r. settled + suc steps * (p.params.threshold + r) ≤ w.time) (sym residence) late
+
+  here : IsUsedHere w followed.at followed.follower by_whom.octets by_whom.message by_whom.after
+  here =
+      used_here p settled p.params.threshold w is_settled followed.at followed.follower link direction w' number by_whom
+      followed.own_is named_so
+
+  left : system ≡ by_whom.after
+  left = left_is link direction w w' draws number done claimed.world.sound k by_whom system shows
+
+  -- the timestamp that is known has nanoseconds
+  small : by_whom.message.origin.nanos < 1000000000
+  small =
+      let knows = claimed.world.known.time by_whom.place by_whom.station by_whom.there by_whom.live in
+      let port = (receiver direction by_whom.channel).port in
+      let after = knows_on (FrameHeard port by_whom.octets) w.time by_whom.station.system by_whom.after by_whom.sends
+      answers.Used by_whom.steps knows in
+      after.stamped (together by_whom.message here.used.kept) here.used.left.known
+
+  pub has_reading_here : (moment : ℕ) → IsSome (reading system moment)
+  has_reading_here moment =
+      subst (λ (y : SystemState). IsSome (reading y moment)) (sym left)
+      (has_reading p settled p.params.threshold w is_settled right (carries m settled calm_by already early) followed.at
+      followed.follower steps has_way by_whom.octets here.rest here.front by_whom.message by_whom.reads by_whom.after
+      here.used from_then small moment)
+
+  module _ (later error : ℕ) (read shown : ℤ) (reads_it : reading system (w.time + later) ≡ Some read)
+      (error_is : error ≡ reading_error_at way steps later) (best : IsBestsTime w number (w.time + later) shown) where
+    root : IsRootOf w (follower_clock followed.at w followed.follower) best.shows.station
+    root = record {
+      place = best.shows.place;
+      here = best.shows.is.here;
+      best = best.best;
+      is_best = subst (λ n. IsBest (snapshot_of w) n best.best) (sym named_so) best.is_best;
+      named = best.shows.is.named;
+    }
+
+    pub reads_exactly : AreWithin error read shown
+    reads_exactly =
+        let exact = used_exactly p settled p.params.threshold w is_settled right
+        (carries m settled calm_by already early) followed.at followed.follower steps has_way by_whom.octets here.rest
+        here.front by_whom.message by_whom.reads by_whom.after here.used from_then later best.shows.station root read
+        (subst (λ (y : SystemState). reading y (w.time + later) ≡ Some read) left reads_it) in
+        let root_time : local_time best.shows.station.system (w.time + later) ≡ shown =
+        sym (best.is ∙ ap (λ (y : SystemState). local_time y (w.time + later)) best.shows.state) in
+        subst (λ e. AreWithin e read shown) (sym error_is)
+        (subst (AreWithin (reading_error_at way steps later) read) root_time exact)
+
+-- ---- every act
+
+-- a world with a system has the parameters and the largest interval that its systems start with
+pub all_alike : (w : WorldState) → AllClaimed w → (p : Pace) → HavePace p w → (place : ℕ) (station : Station)
+    → slice_get w.stations place ≡ Some station → IsClaimed p w × CarriesWhereCalm p w
+all_alike w all p have place station here =
+    let known = (all.is.world.known.set place station here).starts in
+    let is = have place station here in
+    let params = sym known.params ∙ is.params in
+    let largest = sym known.largest ∙ is.largest in
+    subst (λ q. IsClaimed q w × CarriesWhereCalm q w)
+    (λ i. record { params = params i; largest = largest i }) (all.is, all.carries)
+
+-- what shows at one time of a world shows at another
+best_then : (w : WorldState) (time number moment : ℕ) (shown : ℤ) → IsBestsTime w number moment shown
+    → IsBestsTime (at time w) number moment shown
+best_then w time number moment shown is = record {
+  best = is.best;
+  is_best = is.is_best;
+  root = is.root;
+  shows = record {
+    place = is.shows.place;
+    station = is.shows.station;
+    is = record { here = is.shows.is.here; named = is.shows.is.named };
+    live = is.shows.live;
+    state = is.shows.state;
+  };
+  is = is.is;
+}
+
+calm_then : (p : Pace) (w : WorldState) (time : ℕ) → IsCalm p w → IsCalm p (at time w)
+calm_then p w time calm = record { of = calm.of; links = calm.links; lapses = calm.lapses }
+
+pub worlds_leave_time : {F : Type 0} (answers : Bounds → ℕ → F → Option ℕ → F → Type 0) → WorldsLeaveTime answers
+worlds_leave_time answers timed fate fate_after w w' done number s all k uses shows = by timed.act k.acts
+  where
+    by : (act : Act) → Acts act (at timed.at w) k.draws done w' → LeavesTime timed.at s
+    by (Deliver link direction) acts =
+        let now = all_later w timed.at k.ready.timely.now k.ready.timely.first all in
+        let u = user link direction (at timed.at w) w' k.draws number done acts uses in
+        subst (LeavesTime timed.at)
+        (sym (left_is link direction (at timed.at w) w' k.draws number done now.is.world.sound acts u s shows))
+        (leaves_time (receiver direction u.channel).port u.message timed.at u.station.system u.after
+        (used_by (receiver direction u.channel).port u.message u.octets timed.at u.station.system u.after u.sends
+        u.reads u.steps))
+    by (Expire name timer) (quiet, rest) = absurd (subst (UsesFollowUp number) quiet uses)
+    by (Changing change) (quiet, rest) = absurd (subst (UsesFollowUp number) quiet uses)
+
+pub worlds_read_exactly : {F : Type 0} (answers : Bounds → ℕ → F → Option ℕ → F → Type 0) → WorldsReadExactly answers
+worlds_read_exactly answers timed fate fate_after w w' done all k moment p m steps number later error read shown calm
+    bounded come leaves near way best =
+    by timed.act k.acts
+  where
+    by : (act : Act) → Acts act (at timed.at w) k.draws done w' → AreWithin error read shown
+    by (Deliver link direction) acts =
+        let now = all_later w timed.at k.ready.timely.now k.ready.timely.first all in
+        let (claimed, carries) = all_alike (at timed.at w) now p calm.of best.shows.place best.shows.station
+        best.shows.is.here in
+        reads_exactly link direction (at timed.at w) w' k.draws number done p m steps leaves.system way.way way.phase
+        acts leaves.uses leaves.shows claimed carries (calm_then p w timed.at calm) bounded come (omega (arith, moment))
+        near way.leads later error read shown leaves.is way.is
+        (best_then w timed.at number (timed.at + later) shown best)
+    by (Expire name timer) (quiet, rest) = absurd (subst (UsesFollowUp number) quiet leaves.uses)
+    by (Changing change) (quiet, rest) = absurd (subst (UsesFollowUp number) quiet leaves.uses)
+
+pub worlds_have_readings : {F : Type 0} (answers : Bounds → ℕ → F → Option ℕ → F → Type 0) → WorldsHaveReadings answers
+worlds_have_readings answers timed fate fate_after w w' done all k moment p m steps number s way phase calm bounded come
+    uses shows near leads time =
+    by timed.act k.acts
+  where
+    by : (act : Act) → Acts act (at timed.at w) k.draws done w' → IsSome (reading s time)
+    by (Deliver link direction) acts =
+        let now = all_later w timed.at k.ready.timely.now k.ready.timely.first all in
+        let u = user link direction (at timed.at w) w' k.draws number done acts uses in
+        let (claimed, carries) = all_alike (at timed.at w) now p calm.of u.place u.station u.there in
+        has_reading_here link direction (at timed.at w) w' k.draws number done p m steps s way phase acts uses shows
+        claimed carries (calm_then p w timed.at calm) bounded come (omega (arith, moment)) near leads time
+    by (Expire name timer) (quiet, rest) = absurd (subst (UsesFollowUp number) quiet uses)
+    by (Changing change) (quiet, rest) = absurd (subst (UsesFollowUp number) quiet uses)

@@ -1,0 +1,494 @@
+-- In a settled world a Lapse timer that was started since was started by a Follow_Up, and so one came lately.
+use Rattle.std.proofs.Common.{◌≡◌, ◌⊎◌, ◌<◌, ◌≤◌, ◌+◌, ◌*◌, ℕ, true, List, [], ◌∷◌, ◌++◌, Option, Some, None, slice_get, refl, sym, ap, subst, ◌∙◌, inl, inr, arith}
+use Rattle.std.specs.List.{range_with_len}
+use Rattle.std.specs.Prelude.{IsSome, length}
+use Rattle.std.proofs.lemmas.Bool.{cases_lt}
+use Rattle.std.proofs.lemmas.Option.{none-some}
+use Rattle.gptp_graph.specs.Best.{IsBest}
+use Rattle.gptp_graph.specs.Distance.{IsNear}
+use Rattle.gptp_graph.specs.Parent.{ParentLink}
+use Rattle.gptp_graph.specs.PathBound.{BoundsPaths, path_bound}
+use Rattle.gptp_graph.specs.Snapshot.{IsWellFormed, Snapshot, System}
+use Rattle.gptp_graph.proofs.BestLemmas.{IsBest-unique}
+use Rattle.gptp_graph.proofs.ParentLemmas.{IsParent-unique}
+use Rattle.gptp_lists.specs.Members.{In}
+use Rattle.gptp_lists.proofs.MappedLemmas.{same_there}
+use Rattle.gptp_lists.proofs.MemberLemmas.{In-left, In-right}
+use Rattle.gptp_lists.proofs.PlaceLemmas.{get-set_all, get-set_same}
+use Rattle.gptp_vector.specs.declared.port.PortId.{PortId}
+use Rattle.gptp_messages.specs.declared.follow_up.FollowUp.{FollowUp}
+use Rattle.gptp_messages.specs.declared.message.Message.TheVariants as messages
+use Rattle.gptp_messages.specs.Grammar.{Reads}
+use Rattle.gptp_links.specs.declared.bounds.Bounds.{Bounds}
+use Rattle.gptp_setup.specs.declared.setup.Params.{Params}
+use Rattle.gptp_setup.specs.Pace.{Pace, lapse_span}
+use Rattle.gptp_setup.proofs.IntervalLemmas.{interval_positive}
+use Rattle.gptp_plan.specs.declared.change.Act.{Act}
+use Rattle.gptp_plan.specs.declared.change.Act.TheVariants.{Deliver, Expire, Change as Changing}
+use Rattle.gptp_plan.specs.declared.change.Timed.{Timed}
+use Rattle.gptp_plan.specs.Network.{IsNetwork, NetworkState, pace_of}
+use Rattle.gptp_plan.specs.SettlingTime.{settling_span_with}
+use Rattle.gptp_plan.specs.SyncWait.{step_more, sync_wait}
+use Rattle.gptp_system.specs.declared.answer.Answer.{Answer}
+use Rattle.gptp_system.specs.declared.answer.Answer.TheVariants as answers
+use Rattle.gptp_system.specs.Input.{Input, Frame as FrameHeard, Expires as TimerExpires}
+use Rattle.gptp_system.specs.State.{SystemState, can_lead, clock}
+use Rattle.gptp_system.proofs.LapseLemmas.{lapse_begins}
+use Rattle.gptp_acts.proofs.SteadyLemmas.{same_clock}
+use Rattle.gptp_acts.specs.Act.{Calls, Hears, in_state}
+use Rattle.gptp_acts.specs.Acts.{Acts, Tells, at}
+use Rattle.gptp_acts.specs.Agrees.{stopped}
+use Rattle.gptp_acts.specs.Course.{Begun}
+use Rattle.gptp_acts.specs.declared.done.Done.{Done}
+use Rattle.gptp_acts.specs.declared.done.Done.TheVariants.{Quiet, Heard}
+use Rattle.gptp_acts.specs.declared.station.Station.{Station}
+use Rattle.gptp_acts.specs.Initial.{initial}
+use Rattle.gptp_acts.specs.Pending.{NothingBefore}
+use Rattle.gptp_acts.specs.Views.{ShowsLive}
+use Rattle.gptp_acts.specs.World.{WorldState, receiver}
+use Rattle.gptp_world.proofs.InitialLemmas.{initial_sound}
+use Rattle.gptp_report.specs.Transitions.{Transition, transition}
+use Rattle.gptp_settling.specs.Settled.{IsSlaveOf}
+use Rattle.gptp_kept.specs.Calm.{sync_paths_of}
+use Rattle.gptp_kept.specs.CalmFor.{IsCalmFor, span_over}
+use Rattle.gptp_kept.specs.Claimed.{IsClaimed}
+use Rattle.gptp_kept.specs.SeenLaws.{IsNoChange}
+use Rattle.gptp_kept.specs.Settled.{IsSettledSystem, Settled}
+use Rattle.gptp_kept.specs.Standing.{snapshot_of}
+use Rattle.gptp_kept.specs.TimedClaim.{IsCalmBy}
+use Rattle.gptp_kept.proofs.CalmKeptLemmas.{KeepsNetwork, acts_keep, earlier_quiet, same_paths, same_snapshot, stays_quiet}
+use Rattle.gptp_kept.proofs.ClaimedLemmas.{settled_by_paths}
+use Rattle.gptp_kept.proofs.ClaimLemmas.{claim_begins, claim_kept, claim_later}
+use Rattle.gptp_kept.proofs.FollowClaimLemmas.{acts_time}
+use Rattle.gptp_kept.proofs.HoldsLemmas.{paths_bound}
+use Rattle.gptp_kept.proofs.OutlineLemmas.{change_is_last, starts_are_last}
+use Rattle.gptp_kept.proofs.StandsLemmas.{stands_well}
+use Rattle.gptp_reached.specs.Headline.{HasPassed, IsCalm, UsesFollowUp}
+use Rattle.gptp_reached.proofs.HeadlineLemmas.{quiet_as}
+use Rattle.gptp_reading.specs.Age.{HeardWithin, RunsHearInTime}
+use Rattle.gptp_reading.proofs.AgeLemmas.{lapse_lately}
+use Rattle.gptp_reading.proofs.EachLemmas.{Each, acts_each, all_start, none_lives}
+use Rattle.gptp_reading.proofs.LapseLemmas.{LapseStep, UsesOne, lapse_steps}
+use Rattle.gptp_reading.proofs.RunLemmas.{IsKeptAct, runs_keep}
+
+-- ---- two settled states
+
+-- a settled system has one root and one Slave port
+same_slaves : (g : Snapshot) (v : ℕ) (a b : Option ℕ) → IsSlaveOf g v a → IsSlaveOf g v b → b ≡ a
+same_slaves g v None None is also = refl
+same_slaves g v None (Some n) none (l, follows, own) = absurd (none l follows)
+same_slaves g v (Some m) None (l, follows, own) none = absurd (none l follows)
+same_slaves g v (Some m) (Some n) (l, follows, own) (k, also, other) =
+    ap (λ (x : ℕ). Some x)
+    (sym other ∙ ap (λ (x : ParentLink). x.own_port) (IsParent-unique g v k l also follows) ∙ own)
+
+same_roots : (g : Snapshot) (s s' : SystemState) → IsWellFormed g → clock s' ≡ clock s → IsSettledSystem g s
+    → IsSettledSystem g s' → s'.root ≡ s.root
+same_roots g s s' wf clocks choice choice' =
+    let (a, is_a, is) = choice.root in
+    let (b, is_b, is') = choice'.root in
+    let same = IsBest-unique g (clock s) b a wf (subst (λ n. IsBest g n b) clocks is_b) is_a in
+    is' ∙ ap (λ (x : System). x.identity) same ∙ sym is
+
+-- ---- who was heard
+
+-- by one of these acts a system used a Follow_Up, and its Lapse timer is due a span later
+record HeardAt (acts : List Transition) (number due span : ℕ) : Type 0 where
+  act : Transition
+  member : In act acts
+  uses : UsesFollowUp number act.told.done
+  moment : due ≡ act.told.timed.at + span
+
+-- A Lapse timer of a near live system was started by the time from which the network is settled, or by a Follow_Up.
+abbrev IsStarted : List Transition → ℕ → ℕ → ℕ → ℕ → Type 0
+IsStarted acts settled span number due = (due ≤ settled + span) ⊎ HeardAt acts number due span
+
+abbrev IsTimedBy : Snapshot → List Transition → ℕ → ℕ → Station → Type 0
+IsTimedBy g acts settled span station = station.live ≡ true → IsNear g (clock station.system) → (due : ℕ)
+    → station.system.lapse ≡ Some due → IsStarted acts settled span (clock station.system) due
+
+record AreTimed (p : Pace) (acts : List Transition) (w : WorldState) : Type 0 where
+  claimed : IsClaimed p w
+  each : Each w
+  timed : (m settled : ℕ) → IsCalmBy p m settled w → settled ≤ w.time → (place : ℕ) (station : Station)
+      → slice_get w.stations place ≡ Some station
+      → IsTimedBy (snapshot_of w) acts settled (lapse_span p.params) station
+
+-- ---- as time passes
+
+calm_earlier : (p : Pace) (m settled : ℕ) (w : WorldState) (time : ℕ) → IsCalmBy p m settled (at time w)
+    → IsCalmBy p m settled w
+calm_earlier p m settled w time calm = record {
+  quiet = earlier_quiet p.params (path_bound (snapshot_of w)) w time calm.quiet;
+  bounded = calm.bounded;
+  passed = calm.passed;
+}
+
+timed_later : (p : Pace) (acts : List Transition) (w : WorldState) (time : ℕ) → w.time ≤ time
+    → NothingBefore time w.net.pending → AreTimed p acts w → AreTimed p acts (at time w)
+timed_later p acts w time later first are = record {
+  claimed = claim_later p w time later first are.claimed;
+  each = are.each;
+  timed = λ m settled calm late place station here. by m settled calm place station here (cases_lt w.time settled);
+}
+  where
+    by : (m settled : ℕ) → IsCalmBy p m settled (at time w) → (place : ℕ) (station : Station)
+        → slice_get w.stations place ≡ Some station → (w.time < settled) ⊎ (settled ≤ w.time)
+        → IsTimedBy (snapshot_of w) acts settled (lapse_span p.params) station
+    by m settled calm place station here (inl early) = λ live near due lapse.
+        let soon = (are.claimed.world.known.in_time place station here live).lapse due lapse in
+        let within : due ≤ w.time + lapse_span p.params =
+        subst (λ (q : Params). due ≤ w.time + lapse_span q) (are.claimed.world.known.set place station here).params
+        soon in
+        inl (omega (arith, within, early))
+    by m settled calm place station here (inr already) =
+        are.timed m settled (calm_earlier p m settled w time calm) already place station here
+
+-- ---- one act
+
+-- what a call makes of the timer
+module _ (g : Snapshot) (wf : IsWellFormed g) (acts : List Transition) (settled span now : ℕ) (input : Input)
+    (answer : Answer) (s s' : SystemState) (clocks : clock s' ≡ clock s) (spans : lapse_span s.params ≡ span)
+    (choice : IsSettledSystem g s) (choice' : IsSettledSystem g s')
+    (old : (due : ℕ) → s.lapse ≡ Some due → IsStarted acts settled span (clock s) due)
+    (uses : (due : ℕ) → UsesOne input answer now s s' → due ≡ now + span → HeardAt acts (clock s) due span) where
+  called : LapseStep input answer now s s' → (due : ℕ) → s'.lapse ≡ Some due
+      → IsStarted acts settled span (clock s) due
+  called (inl r) due lapse = old due (sym r.lapse ∙ lapse)
+  called (inr (inl o)) due lapse =
+      absurd (o.other (same_roots g s s' wf clocks choice choice')
+      (same_slaves g (clock s) s.slave s'.slave choice.slave
+      (subst (λ n. IsSlaveOf g n s'.slave) clocks choice'.slave)))
+  called (inr (inr (inl u))) due lapse =
+      inr (uses due u
+      ((lapse_begins s s'.root s'.slave now due (sym u.begins ∙ lapse)).moment ∙ ap (λ x. now + x) spans))
+  called (inr (inr (inr e))) due lapse = absurd (none-some due (sym e.lapse ∙ lapse))
+
+-- it is told of what is used
+uses_it : (number : ℕ) (reached : PortId) (answer : Answer) (octets : List ℕ) (m : FollowUp) (done : Done)
+    → Tells reached (Some answer) octets done → reached.clock ≡ number → answer ≡ answers.Used
+    → Reads octets (messages.FollowUp m) → UsesFollowUp number done
+uses_it number reached answer octets m Quiet told named used reads = absurd told
+uses_it number reached answer octets m (Heard name port said frame) told named used reads = (
+  told.0 ∙ named,
+  told.2 ∙ ap (λ (a : Answer). Some a) used,
+  (m, subst (λ o. Reads o (messages.FollowUp m)) (sym told.3) reads),
+)
+
+-- one frame is another
+same_octets : (n p : ℕ) (x y : List ℕ) → FrameHeard n x ≡ FrameHeard p y → x ≡ y
+same_octets n p x y e = cc
+
+-- the network has settled
+settled_choice : (p : Pace) (m settled : ℕ) (w : WorldState) → IsClaimed p w → IsCalmBy p m settled w
+    → settled ≤ w.time → Settled w
+settled_choice p m settled w claimed calm late =
+    let is : IsCalmFor (span_over m) w = record {
+      pace = p;
+      set = λ place station here. (claimed.world.known.set place station here).starts;
+      quiet = calm.quiet;
+      late = let passed = calm.passed in omega (arith, passed, late);
+    } in
+    settled_by_paths m w (record { pace = p; is = claimed }) calm.bounded is
+
+-- no world has settled at its last change
+at_once : (p : Pace) (w : WorldState) → IsClaimed p w → w.last_change ≡ w.time → (m settled : ℕ)
+    → IsCalmBy p m settled w → settled ≤ w.time → ⊥
+at_once p w claimed now m settled calm late =
+    let passed = calm.passed in
+    let some = interval_positive p.largest claimed.pace.largest in
+    absurd (omega (arith, passed, late, now, some))
+
+-- a network that is kept was kept, and is as calm as it was
+pub keeps_back : (w w' : WorldState) → KeepsNetwork w w' → KeepsNetwork w' w
+keeps_back w w' k = record {
+  systems = sym k.systems;
+  places = λ number. sym (k.places number);
+  setups = sym k.setups;
+  links = sym k.links;
+  change = sym k.change;
+}
+
+calm_before : (p : Pace) (m settled : ℕ) (w w' : WorldState) → KeepsNetwork w w' → IsCalmBy p m settled w'
+    → IsCalmBy p m settled w
+calm_before p m settled w w' k calm = record {
+  quiet = stays_quiet w' w (keeps_back w w' k) p.params calm.quiet;
+  bounded = subst (λ g. BoundsPaths g m) (same_snapshot w w' k) calm.bounded;
+  passed = let passed = calm.passed in let same = k.change in
+      let more : m * step_more p (sync_paths_of w') ≡ m * step_more p (sync_paths_of w) =
+      ap (λ paths. m * step_more p paths) (same_paths w w' k) in
+      omega (arith, passed, same, more);
+}
+
+module _ {F : Type 0} (answers' : Bounds → ℕ → F → Option ℕ → F → Type 0) (p : Pace) (acts : List Transition)
+    (timed : Timed) (done : Done) (w w' : WorldState) (k : IsKeptAct answers' timed done w w')
+    (are : AreTimed p acts w) where
+  abbrev then : WorldState
+  then = at timed.at w
+
+  abbrev one : Transition
+  one = transition timed done w w'
+
+  abbrev more : List Transition
+  more = acts ++ one ∷ []
+
+  abbrev span : ℕ
+  span = lapse_span p.params
+
+  before : AreTimed p acts then
+  before = timed_later p acts w timed.at k.was.ready.timely.now k.was.ready.timely.first are
+
+  claimed' : IsClaimed p w'
+  claimed' = claim_kept answers' p timed k.fate k.fate_after w w' done k.fit k.prompt k.octet k.was are.claimed
+
+  -- what was so is so with one act more
+  grows : (g : Snapshot) (settled : ℕ) (station : Station) → IsTimedBy g acts settled span station
+      → IsTimedBy g more settled span station
+  grows g settled station is live near due lapse = by (is live near due lapse)
+    where
+      by : IsStarted acts settled span (clock station.system) due
+          → IsStarted more settled span (clock station.system) due
+      by (inl early) = inl early
+      by (inr heard) =
+          inr (record {
+            act = heard.act;
+            member = In-left heard.act acts (one ∷ []) heard.member;
+            uses = heard.uses;
+            moment = heard.moment;
+          })
+
+  module _ (m settled : ℕ) (keeps : KeepsNetwork then w') (calm : IsCalmBy p m settled w') (late : settled ≤ w'.time)
+      (moment : w'.time ≡ timed.at) where
+    abbrev g : Snapshot
+    g = snapshot_of then
+
+    calm_then : IsCalmBy p m settled then
+    calm_then = calm_before p m settled then w' keeps calm
+
+    late_then : settled ≤ timed.at
+    late_then = omega (arith, late, moment)
+
+    wf : IsWellFormed g
+    wf =
+        let is = before.claimed.world in
+        stands_well then is.sound is.between is.legible
+
+    choice : Settled then
+    choice = settled_choice p m settled then before.claimed calm_then late_then
+
+    choice' : Settled w'
+    choice' = settled_choice p m settled w' claimed' calm late
+
+    same : snapshot_of w' ≡ g
+    same = same_snapshot then w' keeps
+
+    old : (place : ℕ) (station : Station) → slice_get then.stations place ≡ Some station
+        → IsTimedBy g more settled span station
+    old place station here =
+        grows g settled station (before.timed m settled calm_then late_then place station here)
+
+    -- the system that is called
+    calls_timed : (place : ℕ) (input : Input) (v : WorldState) (answer : Answer)
+        → v.stations ≡ then.stations → (c : Calls place input v k.was.draws answer w')
+        → ((due : ℕ) → UsesOne input answer v.time c.station.system c.after → due ≡ v.time + span
+        → HeardAt more (clock c.station.system) due span)
+        → (other : ℕ) (station : Station) → slice_get w'.stations other ≡ Some station
+        → IsTimedBy g more settled span station
+    calls_timed place input v answer stations c uses other station there =
+        get-set_all (IsTimedBy g more settled span) v.stations place c.station (in_state c.after c.station) c.here
+        after (λ i x here. old i x (subst (λ (ss : List Station). slice_get ss i ≡ Some x) stations here)) other station
+        (subst (λ (x : WorldState). slice_get x.stations other ≡ Some station) c.is there)
+      where
+        here_then : slice_get then.stations place ≡ Some c.station
+        here_then = subst (λ (ss : List Station). slice_get ss place ≡ Some c.station) stations c.here
+
+        clocks : clock c.after ≡ clock c.station.system
+        clocks = same_clock input v.time c.station.system c.after c.sends answer c.steps
+
+        here_after : slice_get w'.stations place ≡ Some (in_state c.after c.station)
+        here_after =
+            ap (λ (x : WorldState). slice_get x.stations place) c.is
+            ∙ get-set_same v.stations place c.station (in_state c.after c.station) c.here
+
+        after : IsTimedBy g more settled span (in_state c.after c.station)
+        after live near due lapse =
+            let near_then : IsNear g (clock c.station.system) = subst (IsNear g) clocks near in
+            let settles = choice place c.station here_then live near_then in
+            let settles' : IsSettledSystem g c.after =
+            subst (λ x. IsSettledSystem x c.after) same
+            (choice' place (in_state c.after c.station) here_after live
+            (subst (λ x. IsNear x (clock c.after)) (sym same) near)) in
+            let spans = ap lapse_span (before.claimed.world.known.set place c.station here_then).params in
+            subst (λ n. IsStarted more settled span n due) (sym clocks)
+            (called g wf more settled span v.time input answer c.station.system c.after clocks spans settles settles'
+            (λ before_due runs. old place c.station here_then live near_then before_due runs) uses
+            (lapse_steps input v.time c.station.system c.after c.sends answer c.steps) due lapse)
+
+    acts_timed : Acts timed.act then k.was.draws done w' → IsNoChange timed.act → (place : ℕ) (station : Station)
+        → slice_get w'.stations place ≡ Some station → IsTimedBy g more settled span station
+    acts_timed = by timed.act
+      where
+        by : (act : Act) → Acts act then k.was.draws done w' → IsNoChange act → (place : ℕ) (station : Station)
+            → slice_get w'.stations place ≡ Some station → IsTimedBy g more settled span station
+        by (Deliver link direction) d none place station there = hears d.answer d.told d.delivers.hears
+          where
+            hears : (o : Option Answer) → Tells (receiver direction d.channel) o d.octets done
+                → Hears d.delivers.place (receiver direction d.delivers.channel).port d.octets
+                (record then { net = d.delivers.net }) k.was.draws o w'
+                → IsTimedBy g more settled span station
+            hears None told (failed, nothing, is) =
+                old place station (subst (λ (x : WorldState). slice_get x.stations place ≡ Some station) is there)
+            hears (Some answer) told c =
+                calls_timed d.delivers.place (FrameHeard (receiver direction d.delivers.channel).port d.octets)
+                (record then { net = d.delivers.net }) answer refl c
+                (λ due u moment. record {
+                  act = one;
+                  member = In-right one acts (one ∷ []) (inl refl);
+                  uses = uses_it (clock c.station.system) (receiver direction d.channel) answer d.octets u.message done
+                      told (named c) u.used
+                      (subst (λ o. Reads o (messages.FollowUp u.message))
+                      (sym (same_octets (receiver direction d.delivers.channel).port u.port d.octets u.octets u.heard))
+                      u.reads);
+                  moment = moment;
+                }) place station there
+              where
+                named : (c : Calls d.delivers.place
+                    (FrameHeard (receiver direction d.delivers.channel).port d.octets)
+                    (record then { net = d.delivers.net }) k.was.draws answer w')
+                    → (receiver direction d.channel).clock ≡ clock c.station.system
+                named c =
+                    let channels = same_there then.net.channels link d.channel d.delivers.channel d.here
+                    d.delivers.takes.here in
+                    let stations = same_there then.stations d.delivers.place d.delivers.station c.station
+                    d.delivers.there c.here in
+                    ap (λ x. (receiver direction x).clock) channels ∙ sym d.delivers.is_end
+                    ∙ ap (λ (x : Station). clock x.system) stations
+        by (Expire number timer) (told, e) none place station there =
+            calls_timed e.place (TimerExpires timer) (stopped e.place timer then) e.so.answer refl e.so.calls
+            (λ due u moment. let is = u.heard in absurd cc) place station there
+        by (Changing change) d none place station there = absurd none
+
+  timed_after : (m settled : ℕ) → IsCalmBy p m settled w' → settled ≤ w'.time → (place : ℕ) (station : Station)
+      → slice_get w'.stations place ≡ Some station → IsTimedBy (snapshot_of w') more settled span station
+  timed_after m settled calm late place station there = by timed.act refl
+    where
+      on : IsNoChange timed.act → IsTimedBy (snapshot_of w') more settled span station
+      on none =
+          let keeps = acts_keep timed.act then k.was.draws done w' none k.was.acts in
+          let moment = acts_time timed.act then k.was.draws done w' none k.was.acts in
+          subst (λ x. IsTimedBy x more settled span station) (sym (same_snapshot then w' keeps))
+          (acts_timed m settled keeps calm late moment k.was.acts none place station there)
+
+      by : (act : Act) → timed.act ≡ act → IsTimedBy (snapshot_of w') more settled span station
+      by (Deliver link direction) is = on (subst IsNoChange (sym is) tt)
+      by (Expire number timer) is = on (subst IsNoChange (sym is) tt)
+      by (Changing change) is =
+          absurd (at_once p w' claimed' (change_is_last change then k.was.draws done w'
+          (subst (λ act. Acts act then k.was.draws done w') is k.was.acts)) m settled calm late)
+
+  timed_act : AreTimed p more w'
+  timed_act = record {
+    claimed = claimed';
+    each = acts_each timed.act then k.was.draws done w' claimed'.world.sound k.was.acts before.each;
+    timed = timed_after;
+  }
+
+-- ---- a run
+
+-- a time that is there
+due_of : (o : Option ℕ) → IsSome o → (due : ℕ) × (o ≡ Some due)
+due_of None some = absurd cc
+due_of (Some due) some = (due, refl)
+
+-- as a network begins it is at its last change
+timed_begins : {F : Type 0} (answers' : Bounds → ℕ → F → Option ℕ → F → Type 0) (n : NetworkState)
+    (fate fate_after : F) (w : WorldState) → IsNetwork n → Begun answers' n fate fate_after w
+    → AreTimed (pace_of n) [] w
+timed_begins answers' n fate fate_after w network k =
+    let claimed = claim_begins answers' n fate fate_after w network (initial_sound n network) k in
+    record {
+      claimed = claimed;
+      each = all_start (range_with_len 0 (length n.systems)) (initial n) k.draws w k.starts (none_lives n);
+      timed = λ m settled calm late place station here.
+          absurd (at_once (pace_of n) w claimed
+          (starts_are_last (range_with_len 0 (length n.systems)) (initial n) k.draws w refl k.starts) m settled calm
+          late);
+    }
+
+module _ (p : Pace) (acts : List Transition) (w : WorldState) (are : AreTimed p acts w) (calm : IsCalm p w)
+    (earlier number port : ℕ) (s : SystemState) (above : 0 < p.params.sync_timeout)
+    (passed : HasPassed p (path_bound (snapshot_of w)) (at earlier w))
+    (waited : earlier + sync_wait p.params (sync_paths_of w) < w.time) (near : IsNear (snapshot_of w) number)
+    (shows : ShowsLive number w s) (slave : s.slave ≡ Some port) (can : can_lead s.root ≡ true) where
+  abbrev m : ℕ
+  m = path_bound (snapshot_of w)
+
+  abbrev settled : ℕ
+  settled = w.last_change + settling_span_with p (sync_paths_of w) m
+
+  abbrev x : SystemState
+  x = shows.station.system
+
+  by_earlier : settled ≤ earlier
+  by_earlier = passed
+
+  already : settled ≤ w.time
+  already = let early = by_earlier in omega (arith, early, waited)
+
+  calm_by : IsCalmBy p m settled w
+  calm_by = record {
+    quiet = quiet_as p w calm;
+    bounded = paths_bound p w are.claimed.world;
+    passed = let same : settled ≤ settled = omega arith in same;
+  }
+
+  near_so : IsNear (snapshot_of w) (clock x)
+  near_so = subst (IsNear (snapshot_of w)) (sym shows.is.named) near
+
+  slave_so : x.slave ≡ Some port
+  slave_so = ap (λ (y : SystemState). y.slave) (sym shows.state) ∙ slave
+
+  runs : IsSome x.lapse
+  runs =
+      are.each shows.place shows.station shows.is.here shows.live port slave_so
+      (subst (λ (y : SystemState). can_lead y.root ≡ true) shows.state can)
+      (subst (λ (q : Params). 0 < q.sync_timeout)
+      (sym (are.claimed.world.known.set shows.place shows.station shows.is.here).params) above)
+
+  heard_lately : HeardWithin acts number (sync_wait p.params (sync_paths_of w)) w.time
+  heard_lately = from_due (due_of x.lapse runs)
+    where
+      by : (due : ℕ) → w.time + lapse_span p.params ≤ due + sync_wait p.params (sync_paths_of w)
+          → IsStarted acts settled (lapse_span p.params) (clock x) due
+          → HeardWithin acts number (sync_wait p.params (sync_paths_of w)) w.time
+      by due lately (inl early) = let before = by_earlier in absurd (omega (arith, lately, early, before, waited))
+      by due lately (inr heard) = record {
+        act = heard.act;
+        member = heard.member;
+        uses = subst (λ n. UsesFollowUp n heard.act.told.done) shows.is.named heard.uses;
+        lately = let moment = heard.moment in omega (arith, lately, moment);
+      }
+
+      from_due : (due : ℕ) × (x.lapse ≡ Some due)
+          → HeardWithin acts number (sync_wait p.params (sync_paths_of w)) w.time
+      from_due (due, lapse) =
+          by due
+          (lapse_lately p w are.claimed (quiet_as p w calm) already shows.place port due shows.station shows.is.here
+          shows.live near_so slave_so lapse)
+          (are.timed m settled calm_by already shows.place shows.station shows.is.here shows.live near_so due lapse)
+
+pub runs_hear_in_time : {F : Type 0} (answers' : Bounds → ℕ → F → Option ℕ → F → Type 0) → RunsHearInTime answers'
+runs_hear_in_time answers' d until fate start w ts p earlier number port s playable moment k calm above passed waited
+    near shows slave can =
+    let n = d.network in
+    let (all, are) = runs_keep answers' (AreTimed (pace_of n))
+    (λ acts timed done v v' act so. timed_act answers' (pace_of n) acts timed done v v' act so)
+    (λ acts v time later first so. timed_later (pace_of n) acts v time later first so) d until fate start w ts playable
+    moment k (timed_begins answers' n fate k.started start playable.network k.begun) in
+    let known = (are.claimed.world.known.set shows.place shows.station shows.is.here).starts in
+    let starts = calm.of shows.place shows.station shows.is.here in
+    let params = sym known.params ∙ starts.params in
+    let largest = sym known.largest ∙ starts.largest in
+    let pace : pace_of n ≡ p = λ i. record { params = params i; largest = largest i } in
+    heard_lately p ts w (subst (λ (q : Pace). AreTimed q ts w) pace are) calm earlier number port s above passed waited
+    near shows slave can

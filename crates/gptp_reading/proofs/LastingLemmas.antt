@@ -1,0 +1,271 @@
+-- What a system reads where a run ends, by a Follow_Up that it used since the last change.
+use Rattle.std.proofs.Common.{◌≡◌, ◌⊎◌, ◌<◌, ◌≤◌, ◌+◌, ◌-◌, ◌*◌, ℕ, suc, ℤ, List, [], ◌∷◌, ◌++◌, Option, refl, sym, ap, subst, ◌∙◌, inl, inr, arith}
+use Rattle.std.proofs.lemmas.Int.{ints}
+use Rattle.std.proofs.Math.Nat.{mul-le-mul_right}
+use Rattle.gptp_graph.specs.Best.{IsBest}
+use Rattle.gptp_graph.specs.Distance.{IsNear}
+use Rattle.gptp_graph.specs.PathBound.{BoundsPaths}
+use Rattle.gptp_graph.specs.Snapshot.{System}
+use Rattle.gptp_lists.specs.Members.{In}
+use Rattle.gptp_lists.proofs.MappedLemmas.{alike}
+use Rattle.gptp_lists.proofs.MemberLemmas.{In-parts, slice_get-In}
+use Rattle.gptp_links.specs.declared.bounds.Bounds.{Bounds}
+use Rattle.gptp_scaled.specs.Counts.{AreWithin}
+use Rattle.gptp_pdelay.specs.Clock.{local_clock}
+use Rattle.gptp_pdelay.specs.GoodLink.{ceil_div}
+use Rattle.gptp_setup.specs.declared.setup.Setup.{Setup}
+use Rattle.gptp_setup.specs.Pace.{Pace}
+use Rattle.gptp_setup.proofs.IntervalLemmas.{interval_positive}
+use Rattle.gptp_plan.specs.declared.change.Act.{Act}
+use Rattle.gptp_plan.specs.declared.change.Act.TheVariants.{Deliver, Expire, Change as Changing}
+use Rattle.gptp_plan.specs.declared.change.Timed.{Timed}
+use Rattle.gptp_plan.specs.SyncWait.{step_more}
+use Rattle.gptp_system.specs.State.{SystemState, clock, local_time}
+use Rattle.gptp_accuracy.specs.TimeError.{Way, jitter_at, time_error_at}
+use Rattle.gptp_acts.specs.Acts.{Acts, at}
+use Rattle.gptp_acts.specs.declared.done.Done.{Done}
+use Rattle.gptp_acts.specs.declared.station.Station.{Station}
+use Rattle.gptp_acts.specs.Prompt.{HavePace}
+use Rattle.gptp_acts.specs.World.{WorldState}
+use Rattle.gptp_report.specs.Transitions.{Transition, transition}
+use Rattle.gptp_timing.specs.Tree.{IsWayTo}
+use Rattle.gptp_kept.specs.Calm.{IsQuietWorld, sync_paths_of}
+use Rattle.gptp_kept.specs.Claimed.{IsClaimed}
+use Rattle.gptp_kept.specs.Followers.{parts_of}
+use Rattle.gptp_kept.specs.Standing.{snapshot_of}
+use Rattle.gptp_kept.proofs.CalmKeptLemmas.{KeepsNetwork, acts_keep, keeps_on, same_paths, same_snapshot, stays_quiet}
+use Rattle.gptp_kept.proofs.ExactLemmas.{claimed_of}
+use Rattle.gptp_kept.proofs.FollowClaimLemmas.{acts_time}
+use Rattle.gptp_kept.proofs.FollowPartLemmas.{clock_shown, same_parts}
+use Rattle.gptp_kept.proofs.OutlineLemmas.{change_is_last, change_time}
+use Rattle.gptp_kept.proofs.SystemLemmas.{live_from}
+use Rattle.gptp_reached.specs.Headline.{HasComeDown, IsCalm}
+use Rattle.gptp_reached.proofs.HeadlineLemmas.{quiet_as}
+use Rattle.gptp_reading.specs.Reading.{IsBestsTime, held_rates_error_at, reading_error_at}
+use Rattle.gptp_reading.specs.Readings.{LeavesReading, RunsReadInTime}
+use Rattle.gptp_reading.proofs.AgeLemmas.{claimed_alike}
+use Rattle.gptp_reading.proofs.HeardLemmas.{keeps_back}
+use Rattle.gptp_reading.proofs.RunLemmas.{AreKept, IsKeptAct, one_more, runs_keep, runs_read_exactly}
+
+-- ---- what lasts
+
+-- no act is later than the world, and from each act since the last change the network lasts
+record Lasts (acts : List Transition) (w : WorldState) : Type 0 where
+  early : (t : Transition) → In t acts → t.told.timed.at ≤ w.time
+  kept : (t : Transition) → In t acts → w.last_change < t.told.timed.at → KeepsNetwork t.before w
+
+-- whatever the time of either world is
+still : (v w : WorldState) (time : ℕ) → KeepsNetwork v w → KeepsNetwork v (at time w)
+still v w time k = record {
+  systems = k.systems;
+  places = k.places;
+  setups = k.setups;
+  links = k.links;
+  change = k.change;
+}
+
+since_then : (v w : WorldState) (time : ℕ) → KeepsNetwork (at time v) w → KeepsNetwork v w
+since_then v w time k = record {
+  systems = k.systems;
+  places = k.places;
+  setups = k.setups;
+  links = k.links;
+  change = k.change;
+}
+
+lasts_later : (acts : List Transition) (w : WorldState) (time : ℕ) → w.time ≤ time → Lasts acts w
+    → Lasts acts (at time w)
+lasts_later acts w time later so = record {
+  early = λ t member. let before = so.early t member in omega (arith, before, later);
+  kept = λ t member since. still t.before w time (so.kept t member since);
+}
+
+module _ {F : Type 0} (answers : Bounds → ℕ → F → Option ℕ → F → Type 0) (acts : List Transition) (timed : Timed)
+    (done : Done) (w w' : WorldState) (k : IsKeptAct answers timed done w w') (so : Lasts acts w) where
+  abbrev then : WorldState
+  then = at timed.at w
+
+  abbrev one : Transition
+  one = transition timed done w w'
+
+  abbrev more : List Transition
+  more = acts ++ one ∷ []
+
+  before : Lasts acts then
+  before = lasts_later acts w timed.at k.was.ready.timely.now so
+
+  moment : w'.time ≡ timed.at
+  moment = by timed.act k.was.acts
+    where
+      by : (act : Act) → Acts act then k.was.draws done w' → w'.time ≡ timed.at
+      by (Deliver link direction) acts = acts_time (Deliver link direction) then k.was.draws done w' tt acts
+      by (Expire number timer) acts = acts_time (Expire number timer) then k.was.draws done w' tt acts
+      by (Changing change) acts = change_time change then k.was.draws done w' acts
+
+  early_more : (t : Transition) → In t more → t.told.timed.at ≤ w'.time
+  early_more t member = by (In-parts t acts (one ∷ []) member)
+    where
+      by : In t acts ⊎ In t (one ∷ []) → t.told.timed.at ≤ w'.time
+      by (inl old) = let it = before.early t old in let now = moment in omega (arith, it, now)
+      by (inr (inl same)) =
+          let now = moment in
+          subst (λ (x : Transition). x.told.timed.at ≤ w'.time) (sym same) (omega (arith, now))
+      by (inr (inr none)) = absurd none
+
+  -- an act that changes nothing
+  kept_still : KeepsNetwork then w' → (t : Transition) → In t more → w'.last_change < t.told.timed.at
+      → KeepsNetwork t.before w'
+  kept_still keeps t member since = by (In-parts t acts (one ∷ []) member)
+    where
+      by : In t acts ⊎ In t (one ∷ []) → KeepsNetwork t.before w'
+      by (inl old) =
+          let same = keeps.change in
+          keeps_on t.before then w' (before.kept t old (omega (arith, since, same))) keeps
+      by (inr (inl same)) =
+          subst (λ (x : Transition). KeepsNetwork x.before w') (sym same) (since_then w w' timed.at keeps)
+      by (inr (inr none)) = absurd none
+
+  kept_more : (t : Transition) → In t more → w'.last_change < t.told.timed.at
+      → KeepsNetwork t.before w'
+  kept_more t member since = by timed.act k.was.acts
+    where
+      by : (act : Act) → Acts act then k.was.draws done w' → KeepsNetwork t.before w'
+      by (Deliver link direction) acts =
+          kept_still (acts_keep (Deliver link direction) then k.was.draws done w' tt acts) t member since
+      by (Expire number timer) acts =
+          kept_still (acts_keep (Expire number timer) then k.was.draws done w' tt acts) t member since
+      by (Changing change) acts =
+          let last = change_is_last change then k.was.draws done w' acts in
+          let early = early_more t member in
+          absurd (omega (arith, last, early, since))
+
+  lasts_act : Lasts more w'
+  lasts_act = record { early = early_more; kept = kept_more }
+
+-- ---- the world before the act
+
+-- a quotient that is rounded up is no less of more
+ceil_more : (x y : ℕ) → x ≤ y → ceil_div x 33550000 ≤ ceil_div y 33550000
+ceil_more x y less = omega (arith, less)
+
+wider : (error more : ℕ) (x y : ℤ) → error ≤ more → AreWithin error x y → AreWithin more x y
+wider error more x y less within =
+    record { low = omega (arith, ints, less, within.low); high = omega (arith, ints, less, within.high) }
+
+grows : (way : Way) (steps soon late : ℕ) → soon ≤ late
+    → reading_error_at way steps soon ≤ reading_error_at way steps late
+grows way steps soon late less =
+    let product : (soon + jitter_at way steps) * held_rates_error_at way steps
+    ≤ (late + jitter_at way steps) * held_rates_error_at way steps =
+    mul-le-mul_right (held_rates_error_at way steps) (omega (arith, less)) in
+    adds (time_error_at way (suc steps)) _ _ (ceil_more _ _ product)
+  where
+    adds : (a x y : ℕ) → x ≤ y → a + x ≤ a + y
+    adds a x y h = omega (arith, h)
+
+module _ (p : Pace) (v w : WorldState) (keeps : KeepsNetwork v w) (calm : IsCalm p w) where
+  -- it was calm
+  pace_before : HavePace p v
+  pace_before place station here =
+      let (x, there, same) = alike (λ (s : Station). s.setup) (λ (s : Station). s.setup) w.stations v.stations
+      keeps.setups place station here in
+      let is = calm.of place x there in
+      record {
+        params = ap (λ (s : Setup). s.params) (sym same) ∙ is.params;
+        largest = ap (λ (s : Setup). s.largest) (sym same) ∙ is.largest;
+      }
+
+  quiet_before : IsQuietWorld p.params v
+  quiet_before = stays_quiet w v (keeps_back v w keeps) p.params (quiet_as p w calm)
+
+  calm_before : IsCalm p v
+  calm_before = record {
+    of = pace_before;
+    links = λ link member used.
+        let (place, there) = slice_get-In link v.net.channels member in
+        let is = quiet_before.links place link there used in (is.lossless, is.good);
+    lapses = quiet_before.lapses;
+  }
+
+  come_before : (m steps earlier time : ℕ) → HasComeDown p m steps earlier w → earlier ≤ time
+      → HasComeDown p m steps time v
+  come_before m steps earlier time come late =
+      let same = keeps.change in
+      let more : m * step_more p (sync_paths_of w) ≡ m * step_more p (sync_paths_of v) =
+      ap (λ paths. m * step_more p paths) (same_paths v w keeps) in
+      omega (arith, come, late, same, more)
+
+  leads_before : (steps number : ℕ) (way : Way) (phase : ℕ → ℕ)
+      → IsWayTo (parts_of p.params w) (snapshot_of w) steps number way phase
+      → IsWayTo (parts_of p.params v) (snapshot_of v) steps number way phase
+  leads_before steps number way phase leads =
+      subst (λ g. IsWayTo (parts_of p.params v) g steps number way phase) (same_snapshot v w keeps)
+      (subst (λ x. IsWayTo x (snapshot_of w) steps number way phase) (same_parts p.params v w keeps) leads)
+
+  -- and the clock of the best showed the same
+  best_before : (number time : ℕ) (shown : ℤ) → IsClaimed p v → IsClaimed p w → IsBestsTime w number time shown
+      → IsBestsTime v number time shown
+  best_before number time shown claimed_v claimed_w best =
+      let is_best = subst (λ g. IsBest g number best.best) (same_snapshot v w keeps) best.is_best in
+      let there = live_from v.stations best.best is_best.live in
+      let named : clock there.station.system ≡ best.best.clock = sym (ap (λ (x : System). x.clock) there.is) in
+      let parts = same_parts p.params v w keeps in
+      let clocks : clock best.shows.station.system ≡ clock there.station.system = best.shows.is.named ∙ sym named in
+      record {
+        best = best.best;
+        is_best = is_best;
+        root = there.station.system;
+        shows = record {
+          place = there.place;
+          station = there.station;
+          is = record { here = there.here; named = named };
+          live = there.live;
+          state = refl;
+        };
+        is = best.is ∙ ap (λ (y : SystemState). local_time y time) best.shows.state
+            ∙ clock_shown p.params w claimed_w.world.sound claimed_w.measured best.shows.place best.shows.station
+            best.shows.is.here time
+            ∙ (λ i. local_clock ((parts i).phase (clocks i)) ((parts i).drift (clocks i)) time)
+            ∙ sym (clock_shown p.params v claimed_v.world.sound claimed_v.measured there.place there.station there.here
+            time);
+      }
+
+-- ---- a run
+
+pub runs_read_in_time : {F : Type 0} (answers : Bounds → ℕ → F → Option ℕ → F → Type 0) → RunsReadInTime answers
+runs_read_in_time answers d until fate start w acts act p m steps number earlier later error read shown playable moment
+    unfolds member calm bounded come since lately leaves near way best =
+    let (all, lasts) = runs_keep answers Lasts
+    (λ us timed done x y k so. lasts_act answers us timed done x y k so)
+    (λ us x time later first so. lasts_later us x time later so) d until fate start w acts playable moment unfolds
+    (record { early = λ t none. absurd none; kept = λ t none after. absurd none }) in
+    let (also, kept) = runs_keep answers (λ us x. AreKept answers us) (one_more answers)
+    (λ us x time later first so. so) d until fate start w acts playable moment unfolds (λ u none. absurd none) in
+    let claimed_w = claimed_alike w (claimed_of w all) p calm best.shows.place best.shows.station best.shows.is.here in
+    let some = interval_positive p.largest claimed_w.pace.largest in
+    let v = act.before in
+    let keeps : KeepsNetwork v w = lasts.kept act member (omega (arith, come, since, some)) in
+    let (x, there, same) = alike (λ (s : Station). s.setup) (λ (s : Station). s.setup) v.stations w.stations
+    (sym keeps.setups) best.shows.place best.shows.station best.shows.is.here in
+    let calm_v : IsCalm p v = calm_before p v w keeps calm in
+    let claimed_v = claimed_alike v (claimed_of v (kept act member).all) p calm_v best.shows.place x there in
+    let early = lasts.early act member in
+    let age : ℕ = w.time - act.told.timed.at in
+    let sum : act.told.timed.at + age ≡ w.time = omega (arith, early) in
+    let exact = runs_read_exactly answers d until fate start w acts act playable moment unfolds member p m steps number
+    age (reading_error_at way.way steps age) read shown calm_v
+    (subst (λ g. BoundsPaths g m) (same_snapshot v w keeps) bounded)
+    (come_before p v w keeps calm m (suc steps) earlier act.told.timed.at come since)
+    (subst (λ time. LeavesReading number act.after act.told.done time read) (sym sum) leaves)
+    (subst (λ g. IsNear g number) (same_snapshot v w keeps) near)
+    (record {
+      way = way.way;
+      phase = way.phase;
+      leads = leads_before p v w keeps calm (suc steps) number way.way way.phase way.leads;
+      is = refl;
+    })
+    (subst (λ time. IsBestsTime v number time shown) (sym sum)
+    (best_before p v w keeps calm number w.time shown claimed_v claimed_w best)) in
+    subst (λ e. AreWithin e read shown) (sym way.is)
+    (wider (reading_error_at way.way steps age) (reading_error_at way.way steps later) read shown
+    (grows way.way steps age later (omega (arith, lately))) exact)

@@ -1,0 +1,11 @@
+pub mod HopLemmas
+pub mod WayLemmas
+pub mod TellingLemmas
+pub mod UsedLemmas
+pub mod ExactLemmas
+pub mod RunLemmas
+pub mod AgeLemmas
+pub mod LapseLemmas
+pub mod EachLemmas
+pub mod HeardLemmas
+pub mod LastingLemmas

@@ -1,0 +1,55 @@
+-- How old what is known of time is, where something may lapse for want of Sync (syncReceiptTimeout, IEEE 802.1AS-2020,
+-- 10.3.12).
+--
+-- The Lapse timer of a system runs out a span later than it was started. Each Follow_Up that the system uses starts it
+-- anew, and else only another root or another Slave port does.
+use Rattle.std.specs.Prelude.{◌≡◌, ◌<◌, ◌≤◌, ◌+◌, ◌^◌, ℕ, true, List, Option, Some}
+use Rattle.gptp_lists.specs.Members.{In}
+use Rattle.gptp_graph.specs.Distance.{IsNear}
+use Rattle.gptp_graph.specs.PathBound.{path_bound}
+use Rattle.gptp_links.specs.declared.bounds.Bounds.{Bounds}
+use Rattle.gptp_setup.specs.Pace.{Pace, lapse_span}
+use Rattle.gptp_plan.specs.SyncWait.{sync_wait}
+use Rattle.gptp_system.specs.State.{SystemState, can_lead}
+use Rattle.gptp_acts.specs.Acts.{at}
+use Rattle.gptp_acts.specs.Views.{ShowsLive}
+use Rattle.gptp_acts.specs.World.{WorldState}
+use Rattle.gptp_network.specs.Document.{DocumentState}
+use Rattle.gptp_report.specs.Transitions.{Transition, Unfolds}
+use Rattle.gptp_kept.specs.Calm.{sync_paths_of}
+use Rattle.gptp_kept.specs.Claimed.{Claimed}
+use Rattle.gptp_kept.specs.Standing.{snapshot_of}
+use Rattle.gptp_reached.specs.Headline.{HasPassed, IsCalm, UsesFollowUp}
+use Rattle.gptp_reached.specs.PlayedLaws.{IsPlayable}
+
+-- In a calm world, once so long has passed since its last change, a Lapse timer of a near system that has a Slave port
+-- was started no longer ago than such a system waits for the next Sync: a sync interval, and for each link of a path a
+-- residence and the greatest delay.
+abbrev pub HeadlineOnAge : WorldState → Type 0
+HeadlineOnAge w = (p : Pace) (number port due : ℕ) (s : SystemState)
+    → IsCalm p w → HasPassed p (path_bound (snapshot_of w)) w
+    → IsNear (snapshot_of w) number → ShowsLive number w s → s.slave ≡ Some port → s.lapse ≡ Some due
+    → w.time + lapse_span p.params ≤ due + sync_wait p.params (sync_paths_of w)
+
+-- so it is in every world
+abbrev pub WorldsAreRecent : Type 0
+WorldsAreRecent = (w : WorldState) → Claimed w → HeadlineOnAge w
+
+-- by one of these acts the system with this clock used a Follow_Up, no more than a span before a time
+pub record HeardWithin (acts : List Transition) (number span time : ℕ) : Type 0 where
+  pub act : Transition
+  pub member : In act acts
+  pub uses : UsesFollowUp number act.told.done
+  pub lately : time ≤ act.told.timed.at + span
+
+-- So time comes. In a network that has a syncReceiptTimeout a run of a document ends in a calm world, which had settled
+-- earlier and has waited for a Sync since. Then each near system that has a Slave port, and follows a root that may be
+-- grandmaster, used a Follow_Up no longer ago than such a system waits for the next Sync. What it reads is no older.
+abbrev pub RunsHearInTime : {F : Type 0} → (Bounds → ℕ → F → Option ℕ → F → Type 0) → Type 0
+RunsHearInTime {F} answers = (d : DocumentState) (until : ℕ) (fate : F) (start w : WorldState) (acts : List Transition)
+    (p : Pace) (earlier number port : ℕ) (s : SystemState)
+    → IsPlayable d → until ≤ 10 ^ 18 → Unfolds answers d until fate start acts w
+    → IsCalm p w → 0 < p.params.sync_timeout → HasPassed p (path_bound (snapshot_of w)) (at earlier w)
+    → earlier + sync_wait p.params (sync_paths_of w) < w.time
+    → IsNear (snapshot_of w) number → ShowsLive number w s → s.slave ≡ Some port → can_lead s.root ≡ true
+    → HeardWithin acts number (sync_wait p.params (sync_paths_of w)) w.time

@@ -1,0 +1,67 @@
+-- What a system reads of the time of its root between two Follow_Ups, and how far that may be off. Times of clocks are
+-- in units of 2^-16 ns, rates in units of 2^-41, and all other times in ns.
+use Rattle.std.specs.Prelude.{◌≡◌, ◌+◌, ◌*◌, ℕ, suc, min, ℤ, ◌+ℤ◌, ◌-ℤ◌, Option}
+use Rattle.std.specs.Option.{option_and_then, option_map}
+use Rattle.gptp_graph.specs.Best.{IsBest}
+use Rattle.gptp_graph.specs.Snapshot.{System}
+use Rattle.gptp_scaled.specs.Rate.{scaled_by}
+use Rattle.gptp_pdelay.specs.GoodLink.{ceil_div}
+use Rattle.gptp_correction.specs.declared.sync_in.SyncInfo.{SyncInfo}
+use Rattle.gptp_correction.specs.Correction.{nearest_rate, received}
+use Rattle.gptp_setup.specs.declared.setup.Params.{Params}
+use Rattle.gptp_system.specs.State.{SystemState, local_time}
+use Rattle.gptp_system.specs.Syncing.{slave_rate}
+use Rattle.gptp_accuracy.specs.TimeError.{Way, jitter_at, rates_error_at, time_error_at}
+use Rattle.gptp_acts.specs.Views.{ShowsLive}
+use Rattle.gptp_acts.specs.World.{WorldState}
+use Rattle.gptp_timing.specs.Tree.{IsWayTo}
+use Rattle.gptp_kept.specs.Followers.{parts_of}
+use Rattle.gptp_kept.specs.Standing.{snapshot_of}
+
+-- ---- what is read
+
+-- What is read where so much has passed on the own clock since the Sync came: the root's time as it came, and what
+-- passed since, at the rate of the root's clock against the own one (IEEE 802.1AS-2020, 10.2.13, clockSlaveTime).
+abbrev pub read_after : SyncInfo → ℤ → ℤ → ℤ → ℤ
+read_after s link_delay neighbour passed =
+    received s link_delay neighbour +ℤ scaled_by (s.rate +ℤ neighbour) passed
+
+-- The same by what a Follow_Up leaves, where the own clock shows this: the root's time as the Sync came is its ingress
+-- less the offset, and the rate is the sum of the one received and the neighbour's, held at the limits of Integer32.
+abbrev pub read_from : SyncInfo → ℤ → ℤ → ℤ → ℤ
+read_from known offset neighbour shown =
+    (known.ingress -ℤ offset) +ℤ scaled_by (nearest_rate (known.rate +ℤ neighbour)) (shown -ℤ known.ingress)
+
+-- What is read at a time by the state that a Follow_Up left: nothing where no offset is known. It is read so until the
+-- next one is used, whatever becomes of the system and of the network meanwhile: the own clock counts on.
+abbrev pub reading : SystemState → ℕ → Option ℤ
+reading s time =
+    option_and_then (λ known. option_map (λ offset. read_from known offset (slave_rate s) (local_time s time)) s.offset)
+    s.known
+
+-- What the clock of the best of a system's component shows at a time. It counts on too, whatever becomes of the best.
+pub record IsBestsTime (w : WorldState) (number time : ℕ) (shown : ℤ) : Type 0 where
+  pub best : System
+  pub is_best : IsBest (snapshot_of w) number best
+  pub root : SystemState
+  pub shows : ShowsLive best.clock w root
+  pub is : shown ≡ local_time root time
+
+-- ---- how far that may be off
+
+-- The error of the rate so far; no rate of 32 bits misses that of two clocks by more than 2587332284 units.
+abbrev pub held_rates_error_at : Way → ℕ → ℕ
+held_rates_error_at w i = min (rates_error_at w i) 2587332284
+
+-- The error of what is read behind the link at a place, so long after the Follow_Up: the time error there; and what the
+-- error of the rate makes of that span, and of the link's jitter, by which the Follow_Up may come after its Sync.
+abbrev pub reading_error_at : Way → ℕ → ℕ → ℕ
+reading_error_at w i later =
+    time_error_at w (suc i) + ceil_div ((later + jitter_at w i) * held_rates_error_at w i) 33550000
+
+-- The same of a system with so many links and one more on its way, over its parent and the parents of that.
+pub record IsReadingErrorOf (p : Params) (w : WorldState) (number steps later error : ℕ) : Type 0 where
+  pub way : Way
+  pub phase : ℕ → ℕ
+  pub leads : IsWayTo (parts_of p w) (snapshot_of w) (suc steps) number way phase
+  pub is : error ≡ reading_error_at way steps later

@@ -1,0 +1,59 @@
+-- How exact what is read is: over one link, on a way, and at a system that follows its parent.
+use Rattle.std.specs.Prelude.{◌≡◌, ℕ, suc, ◌+◌, ◌-◌, ◌*◌, ◌≤◌, ℤ, pos, ◌+ℤ◌, ◌-ℤ◌, ◌*ℤ◌, List, ◌∷◌, Some}
+use Rattle.gptp_graph.specs.Snapshot.{PortIdentity}
+use Rattle.gptp_scaled.specs.Counts.{AreWithin, IsClockRate, IsCounted}
+use Rattle.gptp_scaled.specs.Stamp.{scaled_of}
+use Rattle.gptp_correction.specs.declared.correction.Relayed.{Relayed}
+use Rattle.gptp_correction.specs.declared.sync_in.SyncInfo.{SyncInfo}
+use Rattle.gptp_measuring.specs.Lanes.{Frame}
+use Rattle.gptp_accuracy.specs.HopLaws.{IsOverLink, IsRateBehind}
+use Rattle.gptp_accuracy.specs.TimeError.{Way, hop_error, jitter_at, time_error_at}
+use Rattle.gptp_accuracy.specs.WayLaws.{shown_at}
+use Rattle.gptp_timing.specs.Acts.{kept}
+use Rattle.gptp_timing.specs.Follower.{Follower, IsSetting, Setting, from, own_clock, root_clock}
+use Rattle.gptp_timing.specs.Invariant.{Inv}
+use Rattle.gptp_timing.specs.Messages.{Message, FollowUp, IsOneMessage}
+use Rattle.gptp_timing.specs.Right.{IsHeldAt, IsMeasuredAt, at_rate, info_of}
+use Rattle.gptp_timing.specs.RightLaws.{IsOnWay}
+use Rattle.gptp_reading.specs.Reading.{held_rates_error_at, read_after}
+
+-- What is read so long after a Sync came over a link is the root's time then: within the link's part of the time error,
+-- the error of the rate from above times the greatest delay, and the error of the rate behind the link times that span,
+-- the last two in parts of 33550000 ns to a unit. The span may be of any length.
+abbrev pub ReadingIsWithin : Type 0
+ReadingIsWithin = (least most turnaround root up own above behind delay span count passed : ℕ) (s : SyncInfo)
+    (link_delay neighbour : ℤ) → IsOverLink least most turnaround root up above s.rate neighbour link_delay
+    → IsRateBehind root own behind (s.rate +ℤ neighbour) → IsClockRate own → least ≤ delay → delay ≤ most
+    → IsCounted own span count → IsCounted root (delay + span) passed
+    → AreWithin (33550000 * hop_error (most - least) most turnaround + above * most + behind * span)
+    (pos 33550000 *ℤ (read_after s link_delay neighbour (pos count) -ℤ (scaled_of s.origin +ℤ s.correction)))
+    (pos (33550000 * passed))
+
+-- Where what was told on a way was right, what is read so long after the Sync came is within the time error there, and
+-- within the error of the rate so far times that span.
+abbrev pub ReadingIsRight : Type 0
+ReadingIsRight = (w : Way) (phase : ℕ → ℕ) (i : ℕ) (told : Relayed) (sent came now : ℕ)
+    (rate delay held : ℤ)
+    → IsOnWay w phase i told sent came → IsMeasuredAt w i rate delay → IsHeldAt w i told.rate rate held → came ≤ now
+    → let ingress = shown_at w phase (suc i) came in
+    AreWithin (33550000 * time_error_at w (suc i) + held_rates_error_at w i * (now - came))
+    (pos 33550000
+    *ℤ read_after (info_of (at_rate told held) ingress) delay rate (shown_at w phase (suc i) now -ℤ ingress))
+    (pos 33550000 *ℤ shown_at w phase 0 now)
+
+-- At each Follow_Up that belongs to the Sync that is kept, from when on what comes is right: what is read from it at
+-- any later time is within the time error, and within the error of the rate so far times the span since, to which the
+-- jitter of the link is added.
+abbrev pub ReadingIsExact : (List ℕ → Message → Type 0) → Type 0
+ReadingIsExact says = (k : Setting) (s : Follower) (front : Frame) (rest : List Frame) (source : PortIdentity)
+    (sequence : ℕ) (told : Relayed) (ingress rate delay held : ℤ) (later : ℕ)
+    → IsSetting k → Inv k says s
+    → s.lane ≡ front ∷ rest → front.due ≡ s.time → from k ≤ s.time
+    → IsOneMessage says front.octets (FollowUp source sequence told)
+    → s.kept ≡ Some (kept source sequence ingress) → IsMeasuredAt k.way k.place rate delay
+    → IsHeldAt k.way k.place told.rate rate held
+    → AreWithin (33550000 * time_error_at k.way (suc k.place)
+    + held_rates_error_at k.way k.place * (later + jitter_at k.way k.place))
+    (pos 33550000
+    *ℤ read_after (info_of (at_rate told held) ingress) delay rate (own_clock k (s.time + later) -ℤ ingress))
+    (pos 33550000 *ℤ root_clock k (s.time + later))

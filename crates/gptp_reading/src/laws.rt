@@ -1,0 +1,21 @@
+//! Laws on what is read: over one link, on a way, and at a system that follows its parent.
+
+ghost use Rattle.gptp_reading.specs.ReadingLaws.{ReadingIsExact, ReadingIsRight, ReadingIsWithin};
+
+use gptp_timing::Coding;
+
+/// What is read so long after a Sync came over a link is the root's time, but for the error of the link and what the
+/// errors of the rates make of delay and span.
+pub fn reading_is_within()
+    ensures { ReadingIsWithin }
+{}
+
+/// On a way it is within the time error, and the error of the rate so far times the span.
+pub fn reading_is_right()
+    ensures { ReadingIsRight }
+{}
+
+/// So it is at each Follow_Up that a system uses which follows its parent.
+pub fn reading_is_exact<C: Coding>()
+    ensures { ReadingIsExact C.says }
+{}
