@@ -1,3 +1,4 @@
 mod ExactLemmas
 mod HeardLemmas
 mod PairLemmas
+mod SoonLemmas

@@ -1,8 +1,8 @@
 //! Worked rows of networks and documents, as an outside caller sees them: also that whatever the order of acts and the
 //! fate of frames, a calm network settles in time.
 //!
-//! What they expect was written down before the code. What is in `drawn` is no test: its contracts follow from those of
-//! the crates below.
+//! What they expect was written down before the code. What is in `drawn` and `soon` is no test: its contracts follow from
+//! those of the crates below.
 #![tactic(auto)]
 
 #[cfg(test)]
@@ -22,3 +22,4 @@ mod printed;
 mod ring;
 #[cfg(test)]
 mod same;
+pub mod soon;

@@ -1,0 +1,3 @@
+pub mod Exactly
+pub mod Gains
+pub mod Documents
