@@ -1,7 +1,7 @@
 -- What takes nothing away from a network takes nothing away from a world that stands so.
 use Rattle.std.proofs.Common.{◌≡◌, ◌∙◌, ◌≤◌, ◌+◌, ◌*◌, ◌^◌, ◌%◌, ℕ, Bool, true, false, List, map, Some, slice_get, refl, sym, ap, subst}
 use Rattle.std.specs.Prelude.{if◌then◌else◌}
-use Rattle.gptp_lists.proofs.MappedLemmas.{alike}
+use Rattle.gptp_lists.proofs.MappedLemmas.{alike, same_there}
 use Rattle.gptp_vector.specs.declared.port.PortId.{PortId}
 use Rattle.gptp_roles.specs.Selection.{clock_of}
 use Rattle.gptp_plan.specs.Calm.{IsLive}
@@ -73,6 +73,22 @@ module _ (n : NetworkState) (events : List Timed) (w : WorldState) (so : StandsA
         ∙ ap (λ (x : Shape). clock_of x.identity) of.is
         ∙ clock_shape station (sound.wired.setups place station k.here)
         ∙ k.named
+
+    -- a system that lives in the network lives in the world
+    pub lives_so : (number : ℕ) → IsLive n.systems events number → (place : ℕ) (station : Station)
+        → IsStation number place w station → station.live ≡ true
+    lives_so number lives place station k =
+        let (other, here, same) = alike shape (shape_after (pace_of n) events) w.stations n.systems so.systems lives.place
+        lives.system lives.there in
+        let named : clock other.system ≡ number =
+        sym (clock_shape other (sound.wired.setups lives.place other here))
+        ∙ ap (λ (x : Shape). clock_of x.identity) same
+        ∙ clock_after events lives.system
+        ∙ lives.clock in
+        let one = sound.wired.clocks place lives.place station other k.here here (k.named ∙ sym named) in
+        let is = same_there w.stations lives.place station other
+        (subst (λ i. slice_get w.stations i ≡ Some station) one k.here) here in
+        ap (λ (x : Station). x.live) is ∙ ap (λ (x : Shape). x.live) same ∙ lives.live
 
     -- so has a system failed
     failed_so : (number : ℕ) → (IsLive n.systems events number → ⊥) → (place : ℕ) (station : Station)

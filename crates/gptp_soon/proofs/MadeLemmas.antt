@@ -1,29 +1,35 @@
 -- An event of a document is made: what the world keeps, and from when on it is one since news.
-use Rattle.std.proofs.Common.{◌≡◌, ◌∙◌, ◌<◌, ◌≤◌, ◌+◌, ◌*◌, ℕ, List, [], ◌∷◌, ◌++◌, Option, refl, inl, inr, sym, ap, subst, arith}
+use Rattle.std.proofs.Common.{◌≡◌, ◌≢◌, ◌∙◌, ◌<◌, ◌≤◌, ◌+◌, ◌*◌, ℕ, List, [], ◌∷◌, ◌++◌, Option, Some, slice_get, refl, inl, inr, sym, ap, subst, arith}
+use Rattle.gptp_lists.proofs.MappedLemmas.{alike, same_there}
 use Rattle.gptp_links.specs.declared.bounds.Bounds.{Bounds}
+use Rattle.gptp_links.specs.declared.link.Direction.{Direction}
+use Rattle.gptp_links.specs.declared.link.Direction.TheVariants.{FromA, FromB}
 use Rattle.gptp_setup.specs.Intervals.{interval_of}
 use Rattle.gptp_setup.specs.Pace.{Pace, largest_interval}
 use Rattle.gptp_setup.proofs.IntervalLemmas.{interval_positive}
-use Rattle.gptp_plan.specs.Calm.{last_change}
-use Rattle.gptp_plan.specs.Network.{NetworkState, pace_of}
+use Rattle.gptp_plan.specs.Calm.{IsLive, last_change}
+use Rattle.gptp_plan.specs.Change.{link_after}
+use Rattle.gptp_plan.specs.Network.{IsEnd, NetworkState, pace_of}
 use Rattle.gptp_plan.specs.SyncWait.{sync_paths}
 use Rattle.gptp_plan.specs.declared.change.Act.TheVariants.{Change as Changing}
 use Rattle.gptp_plan.specs.declared.change.Change.{Change}
 use Rattle.gptp_plan.specs.declared.change.Change.TheVariants.{LinkDown, LinkUp, LinkSet, Fail, Recover, Priority1, Inject}
 use Rattle.gptp_plan.specs.declared.change.Timed.{Timed}
+use Rattle.gptp_plan.specs.declared.network.Wire.{Wire}
 use Rattle.gptp_plan.specs.declared.sync_wait.SyncPaths.{SyncPaths}
 use Rattle.gptp_acts.specs.Acts.{Acts, at}
+use Rattle.gptp_acts.specs.Changing.{IsChannel}
 use Rattle.gptp_acts.specs.Course.{WasDone}
 use Rattle.gptp_acts.specs.declared.done.Done.{Done}
-use Rattle.gptp_acts.specs.World.{WorldState}
+use Rattle.gptp_acts.specs.World.{Channel, WorldState, port_id, receiver}
 use Rattle.gptp_acts.proofs.PromptLemmas.{prompt_within, stays_none_faster}
-use Rattle.gptp_acts.proofs.StayLemmas.{done_stays}
+use Rattle.gptp_acts.proofs.StayLemmas.{acts_stay, done_stays}
 use Rattle.gptp_network.specs.Document.{DocumentState}
 use Rattle.gptp_kept.specs.Calm.{delay_in}
 use Rattle.gptp_kept.specs.Claimed.{IsClaimed}
 use Rattle.gptp_kept.specs.LegibleLaws.{SetsAnOctet}
 use Rattle.gptp_kept.specs.LinkView.{LinkPlace}
-use Rattle.gptp_kept.specs.NewsWorld.{AllLive, AreReadyBy, AreSilentBy, IsNews}
+use Rattle.gptp_kept.specs.NewsWorld.{AreReadyBy, AreSilentBy, IsNews}
 use Rattle.gptp_kept.specs.SoundWorld.{IsGain, IsSoundWorld}
 use Rattle.gptp_kept.specs.Unanswered.{StandsUnanswered}
 use Rattle.gptp_kept.proofs.ClaimLemmas.{claim_kept, claim_later}
@@ -33,21 +39,20 @@ use Rattle.gptp_kept.proofs.NewsWorldLemmas.{news_go_on, none_silent}
 use Rattle.gptp_kept.proofs.OutlineLemmas.{change_is_last, change_time}
 use Rattle.gptp_kept.proofs.SoundWorldLemmas.{sound_later}
 use Rattle.gptp_reached.specs.PlayedLaws.{IsMade, IsPlayable}
-use Rattle.gptp_reached.specs.Reached.{StandsAs}
+use Rattle.gptp_reached.specs.Reached.{StandsAs, wire_of}
 use Rattle.gptp_reached.proofs.ChangeLemmas.{changes_stand}
 use Rattle.gptp_reached.proofs.ClaimedLemmas.{IsFitEvent, least_of}
 use Rattle.gptp_reached.proofs.KeptLemmas.{time_stands}
 use Rattle.gptp_reached.proofs.SyncPathLemmas.{paths_stand}
-use Rattle.gptp_soon.specs.Gains.{AreCapableAnyway, AreCapableNext, LeavesCapable, TakesNothing}
-use Rattle.gptp_soon.proofs.GainLemmas.{all_live, gain_so}
+use Rattle.gptp_soon.specs.Gains.{AreCapableAnyway, AreCapableNext, JoinsLive, LeavesCapable, TakesNothing}
+use Rattle.gptp_soon.proofs.GainLemmas.{all_live, gain_so, lives_so}
 use Rattle.gptp_soon.proofs.KeptToLemmas.{IsNewsTo, KeepsTo}
 
--- where all live no port is at a failed system
-none_unanswered : (w : WorldState) → AllLive w → (place : LinkPlace) → StandsUnanswered place w → ⊥
-none_unanswered w live place s =
-    let lives = live place.answering s.answering.station s.answering.here in
-    let both = sym lives ∙ s.answering.failed in
-    cc
+-- what is so at both ends of a link is so where it leads to
+end_so : (So : ℕ → Type 0) (direction : Direction) (channel : Channel) → So channel.a.clock → So channel.b.clock
+    → So (receiver direction channel).clock
+end_so So FromA channel a b = b
+end_so So FromB channel a b = a
 
 -- ---- from when ports are capable by what every world keeps
 
@@ -143,6 +148,33 @@ module _ {F : Type 0} (answers : Bounds → ℕ → F → Option ℕ → F → T
     gain : IsGain is.change then
     gain = gain_so n made then stands_then claim_then.world.sound is.change (subst (TakesNothing n made) is.act nothing)
 
+    -- a link between live systems isn't one that leads to a failed one
+    apart : (number port : ℕ) → JoinsLive n more (port_id number port) → (place : LinkPlace)
+        → StandsUnanswered place w' → (link : ℕ) (channel : Channel)
+        → IsChannel (port_id number port) link then.net channel → link ≢ place.link
+    apart number port live place s link channel at_port = λ same.
+        let stays = acts_stay event.act then k.draws done w' claim_then.world.sound.wired.setups k.acts in
+        let near = stays.links place.link s.channel s.here in
+        let one : channel ≡ near.old =
+        same_there then.net.channels place.link channel near.old
+        (subst (λ i. slice_get then.net.channels i ≡ Some channel) same at_port.here) near.here in
+        let joined : IsEnd (port_id number port) (wire_of s.channel) = elim at_port.joined [
+          | inl a ↦ inl (near.a ∙ sym (ap (λ (c : Channel). c.a) one) ∙ a)
+          | inr b ↦ inr (near.b ∙ sym (ap (λ (c : Channel). c.b) one) ∙ b)
+        ] in
+        let (v, there, wire) = alike (link_after more) wire_of n.links w'.net.channels (sym after.stands.links) place.link
+        s.channel s.here in
+        let ends = live place.link v there (subst (IsEnd (port_id number port)) (sym wire) joined) in
+        let lives : IsLive n.systems more (receiver place.direction s.channel).clock =
+        end_so (IsLive n.systems more) place.direction s.channel
+        (subst (λ (x : Wire). IsLive n.systems more x.a.clock) wire ends.0)
+        (subst (λ (x : Wire). IsLive n.systems more x.b.clock) wire ends.1) in
+        let on = lives_so n more w' after.stands after.claim.world.sound (receiver place.direction s.channel).clock lives
+        place.answering s.answering.station
+        (record { here = s.answering.here; named = s.answering.named }) in
+        let both = sym on ∙ s.answering.failed in
+        cc
+
     -- by what every world keeps
     made_anyway : (next : ℕ) → AreCapableAnyway n more next → IsNewsFrom next
     made_anyway next anyway =
@@ -173,11 +205,11 @@ module _ {F : Type 0} (answers : Bounds → ℕ → F → Option ℕ → F → T
           let delay : (sync_paths n more).delay ≡ delay_in w' =
           ap (λ (x : SyncPaths). x.delay)
           (paths_stand n more w' playable.network after.stands after.claim.world.sound) in
-          let lives = all_live n more w' after.stands live in
           let now = made_time in (
             link_up_news p next number port then k.draws done w' claim_then.pace claim_then.world after.claim.world
                 claim_then.measured silent sound_then ready
-                (λ place s. absurd (none_unanswered w' lives place s)) (omega (arith, late, delay)) came,
+                (λ place s link channel at_port. apart number port live place s link channel at_port)
+                (omega (arith, late, delay)) came,
             omega (arith, late, now),
           )
       by_change (Priority1 number value) same (live, late) =

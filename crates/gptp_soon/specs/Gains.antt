@@ -90,11 +90,16 @@ abbrev pub exchanged_from : Pace → SyncPaths → ℕ → ℕ
 exchanged_from p paths time =
     time + interval_of p.params.pdelay + (paths.delay + p.params.turnaround + paths.delay) + 1
 
--- These changes leave other ports as capable as they are: where all systems live, a link that comes up, whose own two
--- ports ask then; and a priority1 that gets no worse.
+-- both ends of the link at the port live after these events
+abbrev pub JoinsLive : NetworkState → List Timed → PortId → Type 0
+JoinsLive n events port = (place : ℕ) (v : Wire) → slice_get n.links place ≡ Some v → IsEnd port (link_after events v)
+    → IsLive n.systems events (link_after events v).a.clock × IsLive n.systems events (link_after events v).b.clock
+
+-- These changes leave other ports as capable as they are: a link between live systems that comes up, whose own two ports
+-- ask then; and a priority1 that gets no worse, where all systems live.
 abbrev pub LeavesCapable : NetworkState → List Timed → Timed → ℕ → Act → Type 0
 LeavesCapable n before event next (Changing (LinkUp number port)) =
-    AllLiveAfter n (before ++ event ∷ [])
+    JoinsLive n (before ++ event ∷ []) (port_id number port)
     × (exchanged_from (pace_of n) (sync_paths n (before ++ event ∷ [])) event.at ≤ next)
 LeavesCapable n before event next (Changing (Priority1 number value)) =
     AllLiveAfter n before × (event.at < next)
