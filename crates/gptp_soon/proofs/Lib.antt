@@ -2,6 +2,7 @@ pub mod NewsMeasuredLemmas
 pub mod TimedNewsLemmas
 pub mod SoonOffsetLemmas
 pub mod ExactlyLemmas
+pub mod IdleLemmas
 pub mod GainLemmas
 pub mod PassLemmas
 pub mod KeptToLemmas

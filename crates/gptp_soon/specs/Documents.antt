@@ -1,11 +1,11 @@
 -- How soon, and how exactly, over runs of documents: a network that only gains, from its start or from rest.
 --
 -- The events of a document up to a time take nothing away, all of them or those since the network had rested: a link
--- comes up or gets other bounds, a system recovers, a priority1 gets no worse. Such events may follow one another at any
--- distance. The *start* is a time from which on each port at a link is capable after the last of them
+-- comes up or gets other bounds, a system recovers, a priority1 gets no worse. Such events may follow one another at
+-- any distance. The *start* is a time from which on each port at a link is capable after the last of them
 -- (`AreCapableFrom`). By `SettlesBy` of that the network has settled: sooner than after a change that takes something
--- away, since nothing that is held names what isn't there any more. So a document that begins, or that comes to rest and
--- then gains, settles again by the same few numbers.
+-- away, since nothing that is held names what isn't there any more. So a document that begins, or that comes to rest
+-- and then gains, settles again by the same few numbers.
 use Rattle.std.specs.Prelude.{◌≤◌, ◌⊎◌, ◌+◌, ◌^◌, ℕ, List, Option}
 use Rattle.gptp_lists.specs.Members.{In}
 use Rattle.gptp_links.specs.declared.bounds.Bounds.{Bounds}
@@ -24,8 +24,8 @@ use Rattle.gptp_reached.specs.PlayedLaws.{IsPlayable}
 use Rattle.gptp_soon.specs.Exactly.{AreExactFrom, SettlesBy}
 use Rattle.gptp_soon.specs.Gains.{GainsFromRest, GainsFromStart}
 
--- A document settles by a time after its events up to another: its network is calm after them, and has only gained since
--- it began or since it had rested; its ports are capable from a start on, and from that it settles by then.
+-- A document settles by a time after its events up to another: its network is calm after them, and has only gained
+-- since it began or since it had rested; its ports are capable from a start on, and from that it settles by then.
 pub record SettlesSoon (d : DocumentState) (until start settled : ℕ) : Type 0 where
   pub calm : IsCalm d.network (events_by until d.events)
   pub gained : GainsFromStart d.network (events_by until d.events) start

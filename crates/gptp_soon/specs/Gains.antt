@@ -95,8 +95,8 @@ abbrev pub JoinsLive : NetworkState → List Timed → PortId → Type 0
 JoinsLive n events port = (place : ℕ) (v : Wire) → slice_get n.links place ≡ Some v → IsEnd port (link_after events v)
     → IsLive n.systems events (link_after events v).a.clock × IsLive n.systems events (link_after events v).b.clock
 
--- These changes leave other ports as capable as they are: a link between live systems that comes up, whose own two ports
--- ask then; and a priority1 that gets no worse, where all systems live.
+-- These changes leave other ports as capable as they are: a link between live systems that comes up, whose own two
+-- ports ask then; and a priority1 that gets no worse, where all systems live.
 abbrev pub LeavesCapable : NetworkState → List Timed → Timed → ℕ → Act → Type 0
 LeavesCapable n before event next (Changing (LinkUp number port)) =
     JoinsLive n (before ++ event ∷ []) (port_id number port)
@@ -127,8 +127,8 @@ pub record GainsFromStart (n : NetworkState) (events : List Timed) (start : ℕ)
   pub first : exchanged_from (pace_of n) (sync_paths n []) 0 ≤ begun
   pub capable : AreCapableFrom n [] begun events start
 
--- Or since it had rested: there are the events before some event, which comes when the network has rested from them, and
--- that and those after it, each of which takes nothing away.
+-- Or since it had rested: there are the events before some event, which comes when the network has rested from them,
+-- and that and those after it, each of which takes nothing away.
 pub record GainsFromRest (n : NetworkState) (events : List Timed) (start : ℕ) : Type 0 where
   pub before : List Timed
   pub first : Timed

@@ -4,10 +4,10 @@ ghost use Rattle.gptp_soon.specs.Documents.{ActsFindSettled, DocumentsSettleSoon
 
 use gptp_links::Fate;
 
-/// Where a document has only gained since it began, or since it had rested, the world that it leads to is settled as soon
-/// as its ports have had the time to become capable, an announce interval has passed, and the greatest delay for each
-/// system of a path but one, whatever is drawn for its frames. All that it holds is sound. So is the world after each act
-/// of a run from then on, counted from the events up to the time of the act.
+/// Where a document has only gained since it began, or since it had rested, the world that it leads to is settled as
+/// soon as its ports have had the time to become capable, an announce interval has passed, and the greatest delay for
+/// each system of a path but one, whatever is drawn for its frames. All that it holds is sound. So is the world after
+/// each act of a run from then on, counted from the events up to the time of the act.
 pub fn documents_settle_soon<F: Fate>()
     ensures documents { DocumentsSettleSoon F.answers }
     ensures acts { ActsFindSettled F.answers }
