@@ -275,7 +275,7 @@ worlds_exact answers theorem timed fate fate_after w w' done offset k all was ea
     done offset (theorem timed fate fate_after w w' done all was (omega (arith, early))) left
 
 -- the document of the pair can be played
-playable : IsNetwork pair_network → IsPlayable pair_document
+pub playable : IsNetwork pair_network → IsPlayable pair_document
 playable network = record {
   network = network;
   events = record { in_order = tt; each = tt };

@@ -16,15 +16,21 @@ use Rattle.gptp_kept.specs.Standing.{snapshot_of}
 use Rattle.gptp_links.specs.declared.bounds.Bounds.{Bounds}
 use Rattle.gptp_lists.proofs.MemberLemmas.{slice_get-In}
 use Rattle.gptp_plan.specs.Network.{pace_of}
+use Rattle.gptp_plan.specs.SyncWait.{sync_paths}
 use Rattle.gptp_plan.specs.declared.sync_wait.SyncPaths.{SyncPaths}
 use Rattle.gptp_reached.specs.Headline.{IsCalm}
 use Rattle.gptp_reached.specs.Soon.{StartsSettle}
 use Rattle.gptp_reached.proofs.CalmLemmas.{pace_stands, quiet_stands}
 use Rattle.gptp_reached.proofs.SyncPathLemmas.{paths_stand}
 use Rattle.gptp_settling.specs.Settled.{IsSlaveOf}
+use Rattle.gptp_setup.specs.Pace.{Pace}
+use Rattle.gptp_soon.specs.Documents.{ActsFindSettled, SettlesSoon}
+use Rattle.gptp_soon.specs.Exactly.{SettlesBy}
+use Rattle.gptp_soon.specs.Gains.{exchanged_from}
 use Rattle.gptp_system.specs.State.{clock}
-use Rattle.gptp_network_rows.specs.Pair.{HasBegun, IsPairAt, first, pair_network, pair_pace, pair_snapshot}
-use Rattle.gptp_network_rows.specs.Soon.{IsPairSoon}
+use Rattle.gptp_network_rows.specs.Pair.{HasBegun, IsPairAt, first, pair_document, pair_network, pair_pace, pair_snapshot}
+use Rattle.gptp_network_rows.specs.Soon.{IsPairSoon, RunsOfTwoSettleSoon}
+use Rattle.gptp_network_rows.proofs.ExactLemmas.{playable}
 use Rattle.gptp_network_rows.proofs.PairLemmas.{bounded, calm as is_calm, comes_to, lives, near, pace_is, paths_are, root_is, slave_is, steps_are}
 
 module _ {F : Type 0} (answers : Bounds → ℕ → F → Option ℕ → F → Type 0) (theorem : StartsSettle answers)
@@ -90,3 +96,25 @@ followed_soon w number (Some (root, steps, port)) named k some none =
     (subst (λ n. IsSlaveOf pair_snapshot n some.station.system.slave) own
     (subst (λ g. IsSlaveOf g (clock some.station.system) some.station.system.slave) k.at.snapshot is.slave)) in
     rw (root_same, steps_same, port_same) refl
+
+-- ---- a run of their document
+
+-- it settles by then at each time
+settles : (time : ℕ) → SettlesSoon pair_document time 1000002001 2000002501
+settles time = record {
+  calm = is_calm;
+  gained = inl (record { nothing = tt; begun = 1000002001; first = first_by; capable = refl });
+  settles = subst (λ (p : Pace). SettlesBy p (sync_paths pair_network []) 1000002001 2000002501) (sym pace_is)
+      (subst (λ paths. SettlesBy pair_pace paths 1000002001 2000002501) (sym paths_are) (inl (refl, omega arith)));
+}
+  where
+    first_by : exchanged_from (pace_of pair_network) (sync_paths pair_network []) 0 ≤ 1000002001
+    first_by =
+        subst (λ (p : Pace). exchanged_from p (sync_paths pair_network []) 0 ≤ 1000002001) (sym pace_is)
+        (subst (λ paths. exchanged_from pair_pace paths 0 ≤ 1000002001) (sym paths_are) (omega arith))
+
+pub runs_settle_soon : {F : Type 0} (answers : Bounds → ℕ → F → Option ℕ → F → Type 0) → ActsFindSettled answers
+    → RunsOfTwoSettleSoon answers
+runs_settle_soon answers theorem until fate start w ts t network unfolds member on =
+    (theorem pair_document until 1000002001 2000002501 fate start w ts t (playable network) unfolds member
+    (settles t.told.timed.at) on).settled

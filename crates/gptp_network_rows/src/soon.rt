@@ -3,11 +3,12 @@
 
 ghost use Rattle.std.specs.Prelude.{IfOk, OnOk, Some};
 ghost use Rattle.gptp_network_rows.specs.Pair.{HasBegun, first};
-ghost use Rattle.gptp_network_rows.specs.Soon.{IsPairSoon};
+ghost use Rattle.gptp_network_rows.specs.Soon.{IsPairSoon, RunsOfTwoSettleSoon};
 
 use crate::drawn::begun;
 use gptp_links::Fate;
 use gptp_reached::starts_settle;
+use gptp_soon::documents_settle_soon;
 use gptp_vector::{ClockId, Identity};
 use gptp_world::{NetworkFault, World};
 use std::alloc::Global;
@@ -50,4 +51,11 @@ pub fn follow_soon<F: Fate + Drop>(
     let mut world = begun(alloc, fate)?;
     go_on(&mut world)?;
     Ok(second_follows(&world))
+}
+
+/// And so each act of a run of their document finds them settled from then on.
+pub fn runs_of_two_settle_soon<F: Fate>()
+    ensures { RunsOfTwoSettleSoon F.answers }
+{
+    documents_settle_soon::<F>();
 }

@@ -7,6 +7,8 @@
 //! (`specs/Documents.antt`). `specs/Gains.antt` says what takes nothing away, when a network has rested, and from when
 //! on ports are capable.
 //!
+//! A change that finds all as it would make it leaves all that is claimed (`specs/Idle.antt`).
+//!
 //! Each function of this crate is a law: it does nothing, and its contract is a theorem about the definitions.
 #![tactic(auto)]
 
