@@ -1,7 +1,7 @@
 //! What two systems follow soon after they begin, as functions whose contracts follow from the law of a start. Times are
 //! in ns.
 
-ghost use Rattle.std.specs.Prelude.{IfOk, OnOk, Some};
+ghost use Rattle.std.specs.Prelude.{◌≡◌, IfOk, OnOk, Some};
 ghost use Rattle.gptp_network_rows.specs.Pair.{HasBegun, first};
 ghost use Rattle.gptp_network_rows.specs.Soon.{IsPairSoon, RunsOfTwoSettleSoon};
 

@@ -63,8 +63,8 @@ module _ {F : Type 0} (answers : Bounds → ℕ → F → Option ℕ → F → T
   -- ---- times
 
   -- an act is done at its time
-  done_at : (until : ℕ) (t : Transition) (fate drawn : F) (w : WorldState) → Happens answers until t.told fate drawn w t.after
-      → t.after.time ≡ t.told.timed.at
+  done_at : (until : ℕ) (t : Transition) (fate drawn : F) (w : WorldState)
+      → Happens answers until t.told fate drawn w t.after → t.after.time ≡ t.told.timed.at
   done_at until t fate drawn w happens =
       let timed = t.told.timed in let was = happens.was_done in
       acts_time timed.act (at timed.at w) was.draws t.told.done t.after
