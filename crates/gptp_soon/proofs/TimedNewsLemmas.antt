@@ -1,5 +1,5 @@
 -- Time is carried right in a world since news from when it has settled.
-use Rattle.std.proofs.Common.{◌≡◌, ◌⊎◌, inl, inr, ◌<◌, ◌≤◌, ◌+◌, ◌*◌, ◌^◌, ℕ, zero, suc, true, pred, max, Bool, List, [], ◌∷◌, Option, Some, slice_get, refl, sym, ap, subst, arith}
+use Rattle.std.proofs.Common.{◌≡◌, ◌⊎◌, inl, inr, ◌<◌, ◌≤◌, ◌+◌, ◌*◌, ◌^◌, ℕ, zero, suc, true, false, pred, max, Bool, List, [], ◌∷◌, Option, Some, slice_get, refl, sym, ap, subst, arith}
 use Rattle.std.proofs.lemmas.Bool.{cases_lt}
 use Rattle.std.specs.Prelude.{if◌then◌else◌}
 use Rattle.gptp_graph.specs.PathBound.{BoundsPaths}
@@ -172,10 +172,10 @@ module _ (p : Pace) (m start settled : ℕ) where
   module _ {F : Type 0} (answers : Bounds → ℕ → F → Option ℕ → F → Type 0) (timed : Timed) (fate fate_after : F)
       (w w' : WorldState) (done : Done) (none : IsNoChange timed.act) (octet : SetsAnOctet timed.act)
       (k : WasDone answers timed fate fate_after w w' done) (is : IsTimed w) where
-    abbrev then : WorldState
-    then = at timed.at w
+    abbrev moved : WorldState
+    moved = at timed.at w
 
-    news_then : IsNews p start then
+    news_then : IsNews p start moved
     news_then = news_go_on p start timed.at w k.ready.timely.now k.ready.timely.first is.news
 
     news_after : IsNews p start w'
@@ -184,17 +184,17 @@ module _ (p : Pace) (m start settled : ℕ) where
     carries_after : CanSettle p m start settled w' → IsOldBy p settled w' → settled ≤ w'.time → w'.time ≤ 10 ^ 18
         → CarriesTime p.params settled p.params.threshold w'
     carries_after can old on shown =
-        let keeps = acts_keep timed.act then k.draws done w' none k.acts in
-        let time = acts_time timed.act then k.draws done w' none k.acts in
-        let can_then : CanSettle p m start settled then = can_back p m start settled then w' keeps can in
+        let keeps = acts_keep timed.act moved k.draws done w' none k.acts in
+        let time = acts_time timed.act moved k.draws done w' none k.acts in
+        let can_then : CanSettle p m start settled moved = can_back p m start settled moved w' keeps can in
         let change = keeps.change in
-        let old_then : IsOldBy p settled then = omega (arith, old, change) in
+        let old_then : IsOldBy p settled moved = omega (arith, old, change) in
         let on_then : settled ≤ timed.at = omega (arith, on, time) in
         let shown_then : timed.at ≤ 10 ^ 18 = omega (arith, shown, time) in
         let now = k.ready.timely.now in
         done_carries answers p settled p.params.threshold timed fate fate_after w w' done none k is.news.world.known
-        (settled_from then news_then can_then old_then on_then shown_then)
-        (right_from then news_then can_then old_then on_then shown_then)
+        (settled_from moved news_then can_then old_then on_then shown_then)
+        (right_from moved news_then can_then old_then on_then shown_then)
         (settled_from w' news_after can old on shown)
         (λ already. is.carries (can_earlier p m start settled w timed.at can_then) old_then already
         (omega (arith, now, shown_then)))
